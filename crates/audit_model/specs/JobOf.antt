@@ -1,0 +1,81 @@
+-- The job of a graph and a setting, or the first reason to refuse the start plan.
+use Rattle.std.specs.Prelude.{ℕ, ◌==◌, ◌&&◌, Bool, true, false, IsFalse, not, cond, [], ◌∷◌, length, Option, Some, None, option_map, unwrap_or, Result, Ok, Err}
+use Rattle.std.specs.List.{list_any}
+use Rattle.audit_model.specs.declared.fault.PlanFault.{PlanFault}
+use Rattle.audit_model.specs.declared.fault.PlanFault.TheVariants.{NoVotes, OutOfBounds, Disconnected}
+use Rattle.audit_model.specs.declared.setting.Score.{Score}
+use Rattle.audit_model.specs.declared.setting.Score.TheVariants.{Seats, MeanMedian, Gap, CutEdges}
+use Rattle.audit_model.specs.declared.setting.Setting.{Setting}
+use Rattle.audit_model.specs.First.{first_some, first_below}
+use Rattle.audit_model.specs.Graph.{has}
+use Rattle.audit_model.specs.Job.{Job, total_votes}
+use Rattle.audit_model.specs.Limits.{IsWithinLimits}
+use Rattle.audit_model.specs.Parsed.{Parsed}
+use Rattle.audit_model.specs.Path.{is_connected, reached}
+use Rattle.audit_model.specs.Plan.{IsLegal, in_district, district_sum, is_balanced, least_population, greatest_population}
+
+abbrev pub is_gap : Score → Bool
+is_gap Seats = false
+is_gap MeanMedian = false
+is_gap Gap = true
+is_gap CutEdges = false
+
+-- the least unit of a district
+abbrev pub least_unit : Job → ℕ → ℕ
+least_unit job d = unwrap_or (first_below job.graph.units (in_district job.start d)) 0
+
+-- the least unit of a district to which no path within it leads from its least unit
+abbrev pub parted_unit : Job → ℕ → ℕ
+parted_unit job d = unwrap_or
+    (first_below job.graph.units (λ u. in_district job.start d u && not (has (reached job.graph (in_district job.start d) (least_unit job d)) u))) 0
+
+-- the gap is asked for, and there are no votes
+abbrev pub lacks_votes : Job → Bool
+lacks_votes job = list_any (λ ask. is_gap ask.score) job.setting.asks && (total_votes job == 0)
+
+-- a district's population is outside the bounds
+abbrev pub is_unbalanced : Job → ℕ → Bool
+is_unbalanced job d = not (is_balanced job (district_sum job.counts.population job.start d))
+
+-- a district is not connected
+abbrev pub is_parted : Job → ℕ → Bool
+is_parted job d = not (is_connected job.graph (in_district job.start d))
+
+-- each refusal, at its least district
+abbrev pub votes_fault : Job → Option PlanFault
+votes_fault job = cond (lacks_votes job) (Some NoVotes) None
+
+abbrev pub out_of_bounds : Job → ℕ → PlanFault
+out_of_bounds job d = OutOfBounds d (district_sum job.counts.population job.start d) (least_population job) (greatest_population job)
+
+abbrev pub bounds_fault : Job → Option PlanFault
+bounds_fault job = option_map (out_of_bounds job) (first_below job.districts (is_unbalanced job))
+
+abbrev pub disconnected : Job → ℕ → PlanFault
+disconnected job d = Disconnected d (least_unit job d) (parted_unit job d)
+
+abbrev pub path_fault : Job → Option PlanFault
+path_fault job = option_map (disconnected job) (first_below job.districts (is_parted job))
+
+-- the first reason to refuse the start plan
+abbrev pub plan_fault : Job → Option PlanFault
+plan_fault job = first_some (votes_fault job ∷ bounds_fault job ∷ path_fault job ∷ [])
+
+abbrev pub job_or : Job → Option PlanFault → Result Job PlanFault
+job_or job None = Ok job
+job_or job (Some f) = Err f
+
+-- the record of what was read and a setting, which is a job where its start plan is not refused
+abbrev pub job_from : Parsed → Setting → Job
+job_from parsed setting =
+    record { graph = parsed.graph; counts = parsed.counts; start = parsed.start; districts = length parsed.labels; setting = setting }
+
+-- the job, or the first reason to refuse its start plan
+unfoldable pub job_of : Parsed → Setting → Result Job PlanFault
+job_of parsed setting = job_or (job_from parsed setting) (plan_fault (job_from parsed setting))
+
+-- all is within the limits, there are votes where the gap is asked for, and the plan to start from is legal
+pub record IsJob (job : Job) : Type 0 where
+  pub within : IsWithinLimits job
+  pub votes : IsFalse (lacks_votes job)
+  pub legal : IsLegal job job.start

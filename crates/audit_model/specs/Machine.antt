@@ -1,0 +1,92 @@
+-- The run of several workers as a machine: claims, posts, saves and halts, one at a time.
+use Rattle.std.specs.Prelude.{◌≡◌, ◌<◌, ◌≤◌, ◌⊎◌, IsTrue, IsFalse, ℕ, ◌+◌, not, List, [], ◌∷◌, ◌++◌, length, take, replicate, slice_get, slice_set, Option, Some, None}
+use Rattle.audit_model.specs.declared.outcome.Did.{Did}
+use Rattle.audit_model.specs.declared.outcome.Did.TheVariants.{Claimed, Empty, Posted, Idle, Saved, Halted}
+use Rattle.audit_model.specs.declared.outcome.Event.{Event}
+use Rattle.audit_model.specs.declared.outcome.Event.TheVariants.{Claim, Post, Save, Halt}
+use Rattle.audit_model.specs.Apart.{AllApart}
+use Rattle.audit_model.specs.Below.{filter_below}
+use Rattle.audit_model.specs.Graph.{has}
+
+-- how many ids there are, and how many of these a run may take; what was done when the run started, when it was last saved, and now;
+-- how many were claimed in this run; and which id each worker has open
+pub record Machine : Type 0 where
+  pub total : ℕ
+  pub budget : ℕ
+  pub start : List ℕ
+  pub saved : List ℕ
+  pub done : List ℕ
+  pub next : ℕ
+  pub held : List (Option ℕ)
+
+-- the ids that the run is to do, in rising order
+abbrev pub todo : Machine → List ℕ
+todo m = take m.budget (filter_below m.total (λ id. not (has m.start id)))
+
+-- the worker claims the id, or there was none
+abbrev pub claimed : Machine → ℕ → Option ℕ → Machine × Did
+claimed m worker None = (m, Empty)
+claimed m worker (Some id) = (record m { next = m.next + 1; held = slice_set m.held worker (Some id) }, Claimed id)
+
+-- what a worker's entry in held lets it do: there is no such worker, it has an open id, or it has none
+abbrev pub claim : Machine → ℕ → Option (Option ℕ) → Machine × Did
+claim m worker None = (m, Idle)
+claim m worker (Some (Some id)) = (m, Idle)
+claim m worker (Some None) = claimed m worker (slice_get (todo m) m.next)
+
+abbrev pub post : Machine → ℕ → Option (Option ℕ) → Machine × Did
+post m worker None = (m, Idle)
+post m worker (Some None) = (m, Idle)
+post m worker (Some (Some id)) = (record m { done = m.done ++ id ∷ []; held = slice_set m.held worker None }, Posted id)
+
+-- one event
+abbrev pub step : Machine → Event → Machine × Did
+step m (Claim worker) = claim m worker (slice_get m.held worker)
+step m (Post worker) = post m worker (slice_get m.held worker)
+step m Save = (record m { saved = m.done }, Saved (length m.done))
+step m Halt = (record m { start = m.saved; done = m.saved; next = 0; held = replicate (length m.held) None }, Halted)
+
+-- a run that starts with these ids done and saved, and takes at most budget others
+abbrev pub started : ℕ → ℕ → ℕ → List ℕ → Machine
+started total budget workers ids =
+    record { total = total; budget = budget; start = ids; saved = ids; done = ids; next = 0; held = replicate workers None }
+
+-- a run from nothing
+abbrev pub new_machine : ℕ → ℕ → Machine
+new_machine total workers = started total total workers []
+
+-- the state after all events, and the answer to each
+abbrev pub state_after : Machine → List Event → Machine
+state_after m [] = m
+state_after m (event ∷ events) = state_after (step m event).0 events
+
+abbrev pub answers_to : Machine → List Event → List Did
+answers_to m [] = []
+answers_to m (event ∷ events) = (step m event).1 ∷ answers_to (step m event).0 events
+
+-- ---- what holds after any events
+
+-- the second list goes on from the first
+abbrev pub IsFront : List ℕ → List ℕ → Type 0
+IsFront front whole = (rest : List ℕ) × (whole ≡ front ++ rest)
+
+-- the worker has the id open
+abbrev pub IsOpen : Machine → ℕ → ℕ → Type 0
+IsOpen m worker id = slice_get m.held worker ≡ Some (Some id)
+
+-- the id is the one at this place of those to do
+abbrev pub IsAt : Machine → ℕ → ℕ → Type 0
+IsAt m place id = slice_get (todo m) place ≡ Some id
+
+-- the ids that are done differ and are below the total; what is saved, and what was done at the start, come first among them;
+-- each id that was claimed is open under one worker or done, and not both; and no other id is open
+pub record IsRun (m : Machine) : Type 0 where
+  pub apart : AllApart m.done
+  pub below : (id : ℕ) → IsTrue (has m.done id) → id < m.total
+  pub start_front : IsFront m.start m.done
+  pub saved_front : IsFront m.saved m.done
+  pub claimed : (k id : ℕ) → k < m.next → IsAt m k id → IsTrue (has m.done id) ⊎ ((worker : ℕ) × IsOpen m worker id)
+  pub opened : (worker id : ℕ) → IsOpen m worker id → (k : ℕ) × (k < m.next) × IsAt m k id
+  pub not_both : (worker id : ℕ) → IsOpen m worker id → IsFalse (has m.done id)
+  pub one_worker : (v w id : ℕ) → IsOpen m v id → IsOpen m w id → v ≡ w
+  pub ahead : (k id : ℕ) → m.next ≤ k → IsAt m k id → IsFalse (has m.done id)

@@ -1,0 +1,123 @@
+-- What the two slots of a keeper hold, which is the newest, and where the next checkpoint goes.
+use Rattle.std.specs.Prelude.{◌≡◌, ℕ, zero, suc, ◌+◌, ◌-◌, ◌*◌, ◌%◌, ◌==◌, Bool, true, false, not, cond, nat_lt, List, [], ◌∷◌, length, bytes_eq, slice_range, Option, Some, None}
+use Rattle.std.specs.Int.{w32, w64, cast_signed}
+use Rattle.audit_model.specs.declared.fault.CkptFault.{CkptFault}
+use Rattle.audit_model.specs.declared.fault.CkptFault.TheVariants.{TooLong, Unfit}
+use Rattle.audit_model.specs.declared.outcome.Outcome.{Outcome}
+use Rattle.audit_model.specs.Below.{map_below}
+use Rattle.audit_model.specs.First.{first_below}
+use Rattle.audit_model.specs.Job.{Job}
+use Rattle.audit_model.specs.Run.{IsRight, fits}
+use Rattle.audit_model.specs.Trajectory.{Draws}
+use Rattle.checkpoint_definitions.specs.Checkpoint.{number_at, stated_count, checkpoint_fault}
+
+-- the most bytes of a checkpoint
+abbrev pub checkpoint_limit : ℕ
+checkpoint_limit = 4400084
+
+-- what a slot holds
+pub data Slot : Type 0 where
+  absent : Slot
+  broken : CkptFault → Slot
+  other : List ℕ → ℕ → Slot
+  ours : ℕ → List Outcome → Slot
+
+-- the outcome whose bytes begin at a place
+abbrev pub outcome_at : List ℕ → ℕ → Outcome
+outcome_at bytes at = record {
+  id = number_at w32 at bytes;
+  moved = number_at w64 (at + 4) bytes;
+  values =
+      cast_signed w64 (number_at w64 (at + 12) bytes) ∷ cast_signed w64 (number_at w64 (at + 20) bytes)
+      ∷ cast_signed w64 (number_at w64 (at + 28) bytes) ∷ cast_signed w64 (number_at w64 (at + 36) bytes) ∷ [];
+}
+
+-- the outcomes of a checkpoint
+abbrev pub outcomes_in : List ℕ → List Outcome
+outcomes_in bytes = map_below (stated_count bytes) (λ k. outcome_at bytes (52 + 44 * k))
+
+-- of a checkpoint of the job's digest
+abbrev pub slot_of_ours : List ℕ → Option ℕ → Slot
+slot_of_ours bytes None = ours (number_at w32 44 bytes) (outcomes_in bytes)
+slot_of_ours bytes (Some place) = broken (Unfit place)
+
+abbrev pub slot_of_digest : Job → List ℕ → Bool → Slot
+slot_of_digest job bytes false = other (slice_range bytes 12 44) (number_at w32 44 bytes)
+slot_of_digest job bytes true =
+    slot_of_ours bytes (first_below (stated_count bytes) (λ k. not (fits job (outcome_at bytes (52 + 44 * k)))))
+
+abbrev pub slot_of_checkpoint : Job → List ℕ → List ℕ → Option CkptFault → Slot
+slot_of_checkpoint job digest bytes (Some f) = broken f
+slot_of_checkpoint job digest bytes None = slot_of_digest job bytes (bytes_eq (slice_range bytes 12 44) digest)
+
+abbrev pub slot_of_bytes : Job → List ℕ → List ℕ → Bool → Slot
+slot_of_bytes job digest bytes true = broken (TooLong checkpoint_limit)
+slot_of_bytes job digest bytes false = slot_of_checkpoint job digest bytes (checkpoint_fault bytes)
+
+-- what a stored slot is for a job
+abbrev pub slot_of : Job → List ℕ → Option (List ℕ) → Slot
+slot_of job digest None = absent
+slot_of job digest (Some bytes) = slot_of_bytes job digest bytes (nat_lt checkpoint_limit (length bytes))
+
+-- the generation of an intact slot
+abbrev pub generation_of : Slot → Option ℕ
+generation_of absent = None
+generation_of (broken f) = None
+generation_of (other digest generation) = Some generation
+generation_of (ours generation outcomes) = Some generation
+
+abbrev pub newest_of : Option ℕ → Option ℕ → Option ℕ
+newest_of None None = None
+newest_of None (Some g) = Some 1
+newest_of (Some g) None = Some 0
+newest_of (Some g) (Some h) = cond (h == (g + 1) % 3) (Some 1) (Some 0)
+
+-- the number of the newest slot: of two intact ones the second where its generation follows the first's
+abbrev pub newest : Slot → Slot → Option ℕ
+newest first second = newest_of (generation_of first) (generation_of second)
+
+-- the slot with a number
+abbrev pub slot_at : Slot → Slot → ℕ → Slot
+slot_at first second zero = first
+slot_at first second (suc n) = second
+
+abbrev pub generation_after : Option ℕ → ℕ
+generation_after None = 0
+generation_after (Some g) = (g + 1) % 3
+
+abbrev pub place_beside : Slot → Slot → Option ℕ → ℕ × ℕ
+place_beside first second None = (0, 0)
+place_beside first second (Some n) = (1 - n, generation_after (generation_of (slot_at first second n)))
+
+-- where the next checkpoint goes: the slot that is not the newest, and the generation after the newest's
+abbrev pub place : Slot → Slot → ℕ × ℕ
+place first second = place_beside first second (newest first second)
+
+abbrev pub outcomes_of_slot : Slot → Option (List Outcome)
+outcomes_of_slot absent = Some []
+outcomes_of_slot (broken f) = None
+outcomes_of_slot (other digest generation) = None
+outcomes_of_slot (ours generation outcomes) = Some outcomes
+
+abbrev pub opening_of : Slot → Slot → Option ℕ → Option (List Outcome)
+opening_of first second (Some n) = outcomes_of_slot (slot_at first second n)
+opening_of absent absent None = Some []
+opening_of absent second None = None
+opening_of first second None = None
+
+-- the outcomes with which a run starts, where it may start
+abbrev pub opening : Bool → Slot → Slot → Option (List Outcome)
+opening false first second = Some []
+opening true first second = opening_of first second (newest first second)
+
+-- what the slot holds of the job was found by its trajectories
+abbrev pub IsHonestSlot : Job → Draws → Slot → Type 0
+IsHonestSlot job draws absent = Unit {0}
+IsHonestSlot job draws (broken f) = Unit {0}
+IsHonestSlot job draws (other digest generation) = Unit {0}
+IsHonestSlot job draws (ours generation outcomes) = IsRight job draws outcomes
+
+-- after a stop within a save, the other slot is as before
+abbrev pub IsAfterStop : ℕ → Option (List ℕ) → Option (List ℕ) → Option (List ℕ) → Option (List ℕ) → Type 0
+IsAfterStop zero first second first_after second_after = second_after ≡ second
+IsAfterStop (suc n) first second first_after second_after = first_after ≡ first

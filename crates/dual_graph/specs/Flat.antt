@@ -1,0 +1,20 @@
+-- A graph kept in two lists: all neighbours, and the places where each unit's neighbours begin.
+use Rattle.std.specs.Prelude.{◌≡◌, ℕ, ◌+◌, ◌<◌, ◌≤◌, List, length, slice_index, slice_range}
+use Rattle.audit_model.specs.Below.{map_below}
+use Rattle.audit_model.specs.Graph.{Graph}
+
+-- the neighbours of a unit
+abbrev pub row : List ℕ → List ℕ → ℕ → List ℕ
+row begins near u = slice_range near (slice_index begins u) (slice_index begins (u + 1))
+
+-- the graph of n units that the two lists stand for
+abbrev pub graph_of : ℕ → List ℕ → List ℕ → Graph
+graph_of n begins near = record { units = n; neighbours = map_below n (row begins near) }
+
+-- each unit's neighbours are a part of the list
+pub record HasRows (n : ℕ) (begins near : List ℕ) : Type 0 where
+  pub places : length begins ≡ n + 1
+  pub few : n ≤ 100000
+  pub rising : (u : ℕ) → u < n → slice_index begins u ≤ slice_index begins (u + 1)
+  pub within : (u : ℕ) → u ≤ n → slice_index begins u ≤ length near
+  pub below : (k : ℕ) → k < length near → slice_index near k < n

@@ -1,0 +1,84 @@
+//! The graph.
+
+ghost use Rattle.std.specs.Prelude.{◌≡◌, ◌<◌, ◌≤◌, ◌↔◌, ℕ, [], length, slice_index, All, IfOk, IsTrue};
+ghost use Rattle.dual_graph.specs.Pairs.{ArePairs, Joins};
+ghost use Rattle.std.specs.List.{slice_index_or};
+ghost use Rattle.audit_model.specs.Graph.{adjacent};
+
+use crate::pairs::{begins_of, codes_of, put_in_order, seconds_of};
+use audit_model::memory::Memory;
+use std::alloc::Global;
+use std::marker::Model;
+
+/// Units and their neighbours.
+#[derive(Drop)]
+pub struct Graph {
+    units: u32,
+    begins: Vec<u32>,
+    near: Vec<u32>,
+}
+
+impl Model for Graph {
+    ghost use Rattle.audit_model.specs.Graph.{Graph as GraphValue};
+    ghost use Rattle.audit_model.specs.Graph.{IsGraph};
+    ghost use Rattle.dual_graph.specs.Flat.{graph_of, HasRows};
+
+    ghost Value = { GraphValue };
+
+    ghost view = { λ g. graph_of g.units g.begins.items g.near.items };
+
+    ghost invariant = { λ g. HasRows g.units g.begins.items g.near.items × IsGraph (graph_of g.units g.begins.items g.near.items) };
+}
+
+impl Graph {
+    ghost use Rattle.audit_model.specs.Graph.{IsGraph};
+
+    /// The graph of n units whose edges are the pairs.
+    pub fn from_pairs(alloc: Global, n: u32, pairs: &[(u32, u32)]) -> Result<Graph, Memory>
+        requires few { (n ≤ 100000) × (length pairs.now ≤ 400000) }
+        requires pairs { ArePairs n pairs.now }
+        ensures units { IfOk result (λ g. g.units ≡ n) }
+        ensures edges { IfOk result (λ g. (u v : ℕ) → IsTrue (adjacent g u v) ↔ Joins pairs.now u v) }
+        ensures sound { IfOk result (λ g. IsGraph g) }
+    {
+        let mut codes = codes_of(alloc, pairs)?;
+        put_in_order(&mut codes);
+        let begins = begins_of(alloc, n, &codes)?;
+        let near = seconds_of(alloc, &codes)?;
+        Ok(Graph {
+            units: n,
+            begins,
+            near,
+        })
+    }
+
+    /// How many units there are.
+    #[inline]
+    pub fn units(&self) -> u32
+        ensures units { result ≡ self.now.units }
+        ensures sound { IsGraph self.now }
+    {
+        let _ = &self.near;
+        self.units
+    }
+
+    /// The neighbours of a unit, in rising order.
+    #[inline]
+    pub fn neighbours(&self, u: u32) -> &[u32]
+        requires { u < self.now.units }
+        ensures list { result.now ≡ slice_index_or self.now.neighbours u [] }
+        ensures below { All (λ v. v < self.now.units) result.now }
+    {
+        let begin = self.begins[u as usize] as usize;
+        let end = self.begins[u as usize + 1] as usize;
+        &self.near[begin..end]
+    }
+
+    /// Whether two units are adjacent.
+    pub fn adjacent(&self, u: u32, v: u32) -> bool
+        requires { u < self.now.units }
+        ensures { result ≡ adjacent self.now u v }
+    {
+        self.neighbours(u).contains(&v)
+    }
+}

@@ -1,0 +1,4 @@
+//! What is read of networkx's adjacency data: the graph, its counts and its start plan, or the first reason to refuse them.
+#![tactic(auto)]
+
+pub mod laws;

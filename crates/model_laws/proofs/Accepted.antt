@@ -1,0 +1,117 @@
+-- The population bounds as two numbers, and which start plans are accepted.
+use Rattle.std.proofs.Common.{◌≡◌, ℕ, zero, suc, ◌+◌, ◌-◌, ◌*◌, ◌/◌, ◌<◌, ◌≤◌, Bool, true, false, cond, [], ◌∷◌, length, Option, Some, None, refl, sym, ap, ◌∙◌, subst, inl, inr, arith}
+use Rattle.std.specs.Prelude.{◌↔◌, slice_index, option_map}
+use Rattle.std.specs.Option.{option_or}
+use Rattle.std.proofs.Math.Nat.{mul_comm}
+use Rattle.std.proofs.lemmas.Bool.{cases_eq, cond-false, leb-true, le-leb, not-false, not_from_true}
+use Rattle.std.proofs.lemmas.Nat.{mul-le, div-add-mod', le-div}
+use Rattle.audit_model.specs.First.{first_some, first_below}
+use Rattle.audit_model.specs.Job.{Job, total_population}
+use Rattle.audit_model.specs.JobOf.{lacks_votes, is_unbalanced, is_parted, votes_fault, bounds_fault, path_fault, out_of_bounds, disconnected, plan_fault}
+use Rattle.audit_model.specs.declared.fault.PlanFault.TheVariants.{NoVotes}
+use Rattle.audit_model.specs.Path.{is_connected}
+use Rattle.audit_model.specs.Plan.{in_district, district_sum, IsBalanced, IsLegal, is_balanced, least_population, greatest_population}
+use Rattle.audit_model.specs.Rounded.{quotient_up}
+use Rattle.model_laws.proofs.Connected.{connected_passes, passes_connected}
+use Rattle.model_laws.proofs.Least.{quotient_up_is_least}
+use Rattle.model_laws.proofs.Legal.{balanced_passes, passes_balanced}
+
+-- ---- the bounds
+
+-- a product is enough exactly from the rounded quotient on
+enough_from : (a b p : ℕ) → 0 < b → (a ≤ b * p) ↔ (quotient_up a b ≤ p)
+enough_from a b p above =
+    let least = quotient_up_is_least a b above in (
+      λ h. least.least p (le-leb a (p * b) (omega (arith, h, mul_comm b p))),
+      λ h.
+          let reached : a ≤ quotient_up a b * b = leb-true a (quotient_up a b * b) least.passes in
+          let more : quotient_up a b * b ≤ p * b = mul-le (quotient_up a b) b p b h (omega arith) in
+          omega (arith, reached, more, mul_comm b p),
+    )
+
+-- a product is small enough exactly up to the quotient
+small_up_to : (b c p : ℕ) → 0 < b → (b * p ≤ c) ↔ (p ≤ c / b)
+small_up_to b c p above = (
+  λ h. le-div p c b above (omega (arith, h, mul_comm b p)),
+  λ h.
+      let more : p * b ≤ c / b * b = mul-le p b (c / b) b h (omega arith) in
+      omega (arith, more, mul_comm b p, div-add-mod' c b),
+)
+
+pub balanced_between : (job : Job) (population : ℕ) → 0 < job.districts
+    → IsBalanced job population ↔ ((least_population job ≤ population) × (population ≤ greatest_population job))
+balanced_between job population above =
+    let low = enough_from ((10000 - job.setting.slack) * total_population job) (10000 * job.districts) population (omega arith) in
+    let high = small_up_to (10000 * job.districts) ((10000 + job.setting.slack) * total_population job) population (omega arith) in
+    (λ h. (low.0 h.0, high.0 h.1), λ h. (low.1 h.0, high.1 h.1))
+
+-- ---- the first of several
+
+some_is_not_none : {A : Type 0} (x : A) → Some x ≡ None → ⊥
+some_is_not_none x h = cc
+
+option_or_none : {A : Type 0} (a b : Option A) → option_or a b ≡ None → (a ≡ None) × (b ≡ None)
+option_or_none None b h = (refl, h)
+option_or_none (Some x) b h = absurd (some_is_not_none x h)
+
+option_map_none : {A B : Type 0} (f : A → B) (o : Option A) → option_map f o ≡ None → o ≡ None
+option_map_none f None h = refl
+option_map_none f (Some x) h = absurd (some_is_not_none (f x) h)
+
+cond_some_none : {A : Type 0} (b : Bool) (x : A) → cond b (Some x) None ≡ None → b ≡ false
+cond_some_none true x h = absurd (some_is_not_none x h)
+cond_some_none false x h = refl
+
+first_below_none : (n : ℕ) (test : ℕ → Bool) (k : ℕ) → first_below n test ≡ None → k < n → test k ≡ false
+first_below_none zero test k h l = absurd (omega arith)
+first_below_none (suc n) test k h l =
+    let parts = option_or_none (first_below n test) (cond (test n) (Some n) None) h in
+    elim (cases_eq k n) [
+      | inl e ↦ subst (λ m. test m ≡ false) (sym e) (cond_some_none (test n) n parts.1)
+      | inr off ↦ first_below_none n test k parts.0 (omega arith)
+    ]
+
+none_first_below : (n : ℕ) (test : ℕ → Bool) → ((k : ℕ) → k < n → test k ≡ false) → first_below n test ≡ None
+none_first_below zero test each = refl
+none_first_below (suc n) test each =
+    ap (λ o. option_or o (cond (test n) (Some n) None)) (none_first_below n test (λ k l. each k (omega arith)))
+    ∙ ap (λ b. cond b (Some n) None) (each n (omega arith))
+
+-- ---- which start plans are accepted
+
+no_fault_parts : (job : Job) → plan_fault job ≡ None → (votes_fault job ≡ None) × (bounds_fault job ≡ None) × (path_fault job ≡ None)
+no_fault_parts job h =
+    let first = option_or_none (votes_fault job) (first_some (bounds_fault job ∷ path_fault job ∷ [])) h in
+    let second = option_or_none (bounds_fault job) (first_some (path_fault job ∷ [])) first.1 in
+    let third = option_or_none (path_fault job) (first_some []) second.1 in
+    (first.0, second.0, third.0)
+
+-- with no fault there are votes where they are asked for, and the start plan is legal
+pub accepted_is_legal : (job : Job) → length job.start ≡ job.graph.units
+    → ((u : ℕ) → u < job.graph.units → slice_index job.start u < job.districts)
+    → plan_fault job ≡ None → (lacks_votes job ≡ false) × IsLegal job job.start
+accepted_is_legal job complete in_range h =
+    let parts = no_fault_parts job h in (
+      cond_some_none (lacks_votes job) NoVotes parts.0,
+      record {
+        complete = complete;
+        in_range = in_range;
+        connected = λ d l. passes_connected job.graph (in_district job.start d)
+            (not-false (is_connected job.graph (in_district job.start d))
+            (first_below_none job.districts (is_parted job) d (option_map_none (disconnected job) (first_below job.districts (is_parted job)) parts.2) l));
+        balanced = λ d l. passes_balanced job (district_sum job.counts.population job.start d)
+            (not-false (is_balanced job (district_sum job.counts.population job.start d))
+            (first_below_none job.districts (is_unbalanced job) d (option_map_none (out_of_bounds job) (first_below job.districts (is_unbalanced job)) parts.1) l));
+      },
+    )
+
+-- and the other way round
+pub legal_is_accepted : (job : Job) → lacks_votes job ≡ false → IsLegal job job.start → plan_fault job ≡ None
+legal_is_accepted job votes legal =
+    ap (λ o. option_or o (first_some (bounds_fault job ∷ path_fault job ∷ []))) (cond-false (lacks_votes job) (Some NoVotes) None votes)
+    ∙ ap (λ o. option_or (option_map (out_of_bounds job) o) (first_some (path_fault job ∷ [])))
+    (none_first_below job.districts (is_unbalanced job) (λ d l. not_from_true (is_balanced job (district_sum job.counts.population job.start d))
+    (balanced_passes job (district_sum job.counts.population job.start d) (legal.balanced d l))))
+    ∙ ap (λ o. option_or (option_map (disconnected job) o) (first_some []))
+    (none_first_below job.districts (is_parted job) (λ d l. not_from_true (is_connected job.graph (in_district job.start d))
+    (connected_passes job.graph (in_district job.start d) (legal.connected d l))))

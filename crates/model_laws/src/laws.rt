@@ -1,0 +1,93 @@
+//! Laws of the definitions, each the contract of a function that does nothing.
+
+ghost use Rattle.std.specs.Prelude.{◌||◌, ◌≡◌, None, slice_index, length, IsFalse, ℕ, ◌*◌, ◌/◌, ◌^◌, ◌<◌, ◌≤◌, nat_le, Bool, List, ◌↔◌, IsTrue};
+ghost use Rattle.audit_model.specs.Apart.{AllApart};
+ghost use Rattle.audit_model.specs.Graph.{Graph};
+ghost use Rattle.audit_model.specs.Job.{Job};
+ghost use Rattle.audit_model.specs.JobOf.{lacks_votes, plan_fault};
+ghost use Rattle.audit_model.specs.Least.{IsLeast};
+ghost use Rattle.audit_model.specs.Local.{IsLocal, IsSimple, MayLeave};
+ghost use Rattle.audit_model.specs.Machine.{Machine, IsRun, started, state_after};
+ghost use Rattle.audit_model.specs.declared.outcome.Event.{Event};
+ghost use Rattle.audit_model.specs.Path.{IsConnected, is_connected};
+ghost use Rattle.audit_model.specs.Plan.{in_district, IsBalanced, IsLegal, is_legal, least_population, greatest_population};
+ghost use Rattle.audit_model.specs.declared.outcome.Outcome.{Outcome};
+ghost use Rattle.audit_model.specs.Graph.{has};
+ghost use Rattle.audit_model.specs.Run.{total, has_id, run_ids, full, IsRight};
+ghost use Rattle.audit_model.specs.Step.{next, ways, mirrored};
+ghost use Rattle.audit_model.specs.Test.{bound, p_value};
+ghost use Rattle.audit_model.specs.Trajectory.{Draws, sequence, visit};
+
+/// The test of connectedness answers whether any two units of the set have a path.
+pub fn is_connected_decides()
+    ensures { (g : Graph) (inside : ℕ → Bool) → IsTrue (is_connected g inside) ↔ IsConnected g inside }
+{}
+
+/// The test of legality answers whether the plan is legal.
+pub fn is_legal_decides()
+    ensures { (job : Job) (plan : List ℕ) → IsTrue (is_legal job plan) ↔ IsLegal job plan }
+{}
+
+/// A step from a legal plan leads to a legal plan.
+pub fn next_stays_legal()
+    ensures { (job : Job) (plan : List ℕ) (draw : ℕ) → IsLegal job plan → IsLegal job (next job plan draw) }
+{}
+
+/// The mirrored draw leads back, mirrored again it is the draw, and both are in one block of draws.
+pub fn mirrored_leads_back()
+    ensures back { (job : Job) (plan : List ℕ) (draw : ℕ) → IsLegal job plan →
+        next job (next job plan draw) (mirrored job plan draw) ≡ plan }
+    ensures again { (job : Job) (plan : List ℕ) (draw : ℕ) → IsLegal job plan →
+        mirrored job (next job plan draw) (mirrored job plan draw) ≡ draw }
+    ensures block { (job : Job) (plan : List ℕ) (draw : ℕ) → IsLegal job plan →
+        mirrored job plan draw / (job.graph.units * job.districts) ≡ draw / (job.graph.units * job.districts) }
+    ensures bound { (job : Job) (plan : List ℕ) (draw : ℕ) → IsLegal job plan → draw < 2 ^ 64 → mirrored job plan draw < 2 ^ 64 }
+{}
+
+/// As many draws lead from one legal plan to another as lead back.
+pub fn ways_are_symmetric()
+    ensures { (job : Job) (from to : List ℕ) → IsLegal job from → IsLegal job to → ways job from to ≡ ways job to from }
+{}
+
+/// The bound and the p-value are the least numbers of billionths that are enough.
+pub fn printed_numbers_are_least()
+    ensures bound { (count all : ℕ) → count ≤ all → IsLeast (λ r. nat_le (2 * count * 10 ^ 18) (r * r * all)) (bound count all) }
+    ensures p_value { (rank all : ℕ) → 0 < all → IsLeast (λ z. nat_le (rank * 10 ^ 9) (z * all)) (p_value rank all) }
+{}
+
+/// Each plan that is visited from a legal plan is legal.
+pub fn visits_stay_legal()
+    ensures { (job : Job) (draws : ℕ → ℕ) (plan : List ℕ) (i : ℕ) → IsLegal job plan → IsLegal job (visit job draws plan i) }
+{}
+
+/// A population is within the bounds exactly from the least to the greatest.
+pub fn bounds_are_two_numbers()
+    ensures { (job : Job) (population : ℕ) → 0 < job.districts →
+        IsBalanced job population ↔ ((least_population job ≤ population) × (population ≤ greatest_population job)) }
+{}
+
+/// A start plan is refused for no other reasons than missing votes and that it is not legal.
+pub fn accepted_plans_are_legal()
+    ensures { (job : Job) → length job.start ≡ job.graph.units → ((u : ℕ) → u < job.graph.units → slice_index job.start u < job.districts) →
+        (plan_fault job ≡ None) ↔ (IsFalse (lacks_votes job) × IsLegal job job.start) }
+{}
+
+/// Where a unit's neighbours in its district are connected among themselves, the district stays connected without it.
+pub fn local_units_may_leave()
+    ensures { (g : Graph) (plan : List ℕ) (u : ℕ) → IsSimple g → IsLocal g plan u →
+        IsConnected g (in_district plan (slice_index plan u)) → MayLeave g plan u }
+{}
+
+/// A run from a right opening that takes every id that the opening lacks leaves what one thread finds.
+pub fn resumed_runs_add_up()
+    ensures { (job : Job) (draws : Draws) (opening : List Outcome) (budget : ℕ) → IsRight job draws opening →
+        ((id : ℕ) → id < total job → IsTrue (has_id opening id || has (run_ids job opening budget) id)) →
+        full job draws opening budget ≡ sequence job draws }
+{}
+
+/// After any events, halts among them, the ids of a run are as they should be.
+pub fn runs_stay_right()
+    ensures start { (total budget workers : ℕ) (ids : List ℕ) → AllApart ids → ((id : ℕ) → IsTrue (has ids id) → id < total) →
+        IsRun (started total budget workers ids) }
+    ensures events { (m : Machine) (events : List Event) → IsRun m → IsRun (state_after m events) }
+{}

@@ -1,0 +1,2 @@
+//! The line that tells why a run ended without a whole report.
+#![tactic(auto)]
