@@ -1,0 +1,63 @@
+-- Mates that are beside each other are joined.
+use Rattle.std.proofs.Common.{◌≡◌, ℕ, ◌+◌, ◌<◌, ◌≤◌, true, List, [], length, get_or, sym, ap, ◌∙◌, subst, inl, inr, arith}
+use Rattle.std.proofs.lemmas.Bool.{cases_eq}
+use Rattle.audit_model.specs.Graph.{Graph, adjacent, IsIn}
+use Rattle.audit_model.specs.Local.{is_mate, stays_behind, IsLocal}
+use Rattle.audit_model.specs.Graph.{IsGraph}
+use Rattle.dual_graph.specs.Marked.{Marked}
+use Rattle.dual_graph.proofs.Marking.{has_at}
+use Rattle.contig.specs.Parts.{part, IsJoined, AllOne, NotOne, IsSpread, IsSeeded, IsLinking}
+use Rattle.contig.proofs.Paths.{path_stays, path_within}
+use Rattle.contig.proofs.Growing.{joined_all, mate_stays}
+
+module _ (g : Graph) (plan : List ℕ) (u last : ℕ) (m : Marked) (s : IsSeeded g plan u last m) where
+  pub linking_begins : (roots : List ℕ) → IsJoined g (is_mate g plan u) m.labels roots → length roots ≡ 9 → IsLinking g plan u m roots 0
+  linking_begins roots joined long = record { joined = joined; closed = λ k l. absurd (omega arith); width = long }
+
+  pub linking_more : (roots now : List ℕ) (place unit : ℕ) → last ≤ 8 → place < length m.items → unit ≡ get_or m.items place 0 → IsLinking g plan u m roots place
+      → IsSpread g (is_mate g plan u) (get_or g.neighbours unit []) (get_or m.labels unit 0) m m roots now → IsLinking g plan u m now (place + 1)
+  linking_more roots now place unit few lt is l spread = record {
+    joined = spread.joined;
+    closed = λ k below v i a. elim (cases_eq k place) [
+      | inl at ↦
+          let ku : get_or m.items k 0 ≡ unit = ap (λ t. get_or m.items t 0) at ∙ sym is in
+          (spread.each v i (subst (λ t. adjacent g t v ≡ true) ku a)).1 ∙ sym (ap (λ t. part m.labels now t) ku)
+      | inr off ↦ spread.coarser (get_or m.labels v 0) (get_or m.labels (get_or m.items k 0) 0) (inside v) (inside (get_or m.items k 0)) (l.closed k (omega arith) v i a)
+    ];
+    width = spread.width ∙ l.width;
+  }
+    where
+      inside : (v : ℕ) → get_or m.labels v 0 < length roots
+      inside v = omega (arith, s.small v, l.width, few)
+
+  module _ (roots : List ℕ) (place : ℕ) (l : IsLinking g plan u m roots place) where
+    pub linked_stays : IsGraph g → IsJoined g (stays_behind plan u) m.labels roots
+    linked_stays graph = record { path = λ v w pv pw e. path_within g (is_mate g plan u) (stays_behind plan u) (λ t i. mate_stays g plan u t graph i) v w (l.joined.path v w pv pw e) }
+
+    pub linked_one : 0 < last → AllOne roots last → IsLocal g plan u
+    linked_one some one =
+        let seed = s.seeds 1 (omega arith) (omega (arith, some)) in
+        record {
+          inhabited = (seed.0, s.mates seed.0 (omega (arith, seed.1)));
+          joined = λ x y ix iy. joined_all g (is_mate g plan u) m.labels roots last l.joined one s.small x y (s.complete x ix) (s.complete y iy);
+        }
+
+    pub linked_parted : length m.items ≤ place → 0 < last → NotOne roots last → IsLocal g plan u → ⊥
+    linked_parted all some parted local =
+        let one = s.seeds 1 (omega arith) (omega (arith, some)) in
+        let other = s.seeds parted.0 parted.1 parted.2 in
+        let p1 : 0 < get_or m.labels one.0 0 = omega (arith, one.1) in
+        let p2 : 0 < get_or m.labels other.0 0 = subst (λ t. 0 < t) (sym other.1) parted.1 in
+        let path = local.joined one.0 other.0 (s.mates one.0 p1) (s.mates other.0 p2) in
+        let here = path_stays g (is_mate g plan u) (IsHere) step one.0 other.0 path (p1, ap (λ t. get_or roots t 0) one.1) in
+        parted.3 (ap (λ t. get_or roots t 0) (sym other.1) ∙ here.1)
+      where
+        IsHere : ℕ → Type 0
+        IsHere v = (0 < get_or m.labels v 0) × (part m.labels roots v ≡ get_or roots 1 0)
+
+        step : (v w : ℕ) → IsHere v → IsIn g (is_mate g plan u) w → adjacent g v w ≡ true → IsHere w
+        step v w here i a =
+            let at = has_at m.items v (s.marked.listed v here.0) in (
+              s.complete w i,
+              l.closed at.0 (omega (arith, at.1, all)) w i (subst (λ t. adjacent g t w ≡ true) (sym at.2) a) ∙ ap (λ t. part m.labels roots t) at.2 ∙ here.1,
+            )

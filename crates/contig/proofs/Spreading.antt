@@ -1,0 +1,209 @@
+-- The neighbours of one unit are found.
+use Rattle.std.proofs.Common.{◌≡◌, ℕ, zero, suc, ◌<◌, Bool, true, cond, List, [], ◌∷◌, ◌++◌, length, get_or, set, refl, sym, ap, ◌∙◌, subst, inl, inr, arith, length-append, get_or-set_same, get_or-set_other}
+use Rattle.std.specs.Prelude.{◌==◌}
+use Rattle.std.proofs.lemmas.Bool.{cases_eq, eq-eqb, ne_eqb, false≢true, cond-true, cond-false}
+use Rattle.std.proofs.lemmas.List.{get_or_append_left, get_or_push}
+use Rattle.audit_model.specs.Graph.{Graph, adjacent, IsIn}
+use Rattle.audit_model.specs.Path.{HasPath}
+use Rattle.model_laws.proofs.Connected.{has-append_parts}
+use Rattle.dual_graph.specs.Marked.{Marked, IsMarked}
+use Rattle.dual_graph.proofs.Marking.{has_one}
+use Rattle.contig.specs.Parts.{part, IsJoined, IsSpread, Replaced}
+use Rattle.contig.proofs.Paths.{path_one, path_before, path_after, path_joined, path_end}
+
+-- the root of one label in the place of that of another
+abbrev moved : List ℕ → ℕ → ℕ → ℕ → ℕ
+moved roots from into x = cond (x == get_or roots from 0) (get_or roots into 0) x
+
+moved_at : (roots : List ℕ) (from into x : ℕ) → x ≡ get_or roots from 0 → moved roots from into x ≡ get_or roots into 0
+moved_at roots from into x e = cond-true {A = ℕ} (x == get_or roots from 0) (get_or roots into 0) x (eq-eqb x (get_or roots from 0) e)
+
+moved_off : (roots : List ℕ) (from into x : ℕ) → (x ≡ get_or roots from 0 → ⊥) → moved roots from into x ≡ x
+moved_off roots from into x e = cond-false {A = ℕ} (x == get_or roots from 0) (get_or roots into 0) x (ne_eqb x (get_or roots from 0) e)
+
+pub spread_none : (g : Graph) (inside : ℕ → Bool) (label : ℕ) (m : Marked) (roots : List ℕ) → IsMarked m → IsJoined g inside m.labels roots
+    → IsSpread g inside [] label m m roots roots
+spread_none g inside label m roots marked joined = record {
+  units = refl;
+  marked = marked;
+  longer = omega arith;
+  front = λ k l. refl;
+  kept = λ v h. refl;
+  fresh = λ v. inl refl;
+  added = λ k l h. absurd (omega arith);
+  each = λ v i h. absurd (false≢true h);
+  coarser = λ a b la lb e. e;
+  joined = joined;
+  width = refl;
+}
+
+module _ (g : Graph) (inside : ℕ → Bool) (row : List ℕ) (label : ℕ) (old new : Marked) (before after : List ℕ) (v : ℕ) (s : IsSpread g inside row label old new before after) where
+  -- one more of the row, which is not in the set, or is of the part already
+  pub spread_passed : (IsIn g inside v → (0 < get_or new.labels v 0) × (part new.labels after v ≡ get_or after label 0))
+      → IsSpread g inside (row ++ v ∷ []) label old new before after
+  spread_passed there = record {
+    units = s.units;
+    marked = s.marked;
+    longer = s.longer;
+    front = s.front;
+    kept = s.kept;
+    fresh = s.fresh;
+    added = s.added;
+    each = λ w i h. elim (has-append_parts row (v ∷ []) w h) [
+      | inl e ↦ s.each w i e
+      | inr e ↦ subst (λ t. (0 < get_or new.labels t 0) × (part new.labels after t ≡ get_or after label 0)) (has_one v w e)
+          (there (subst (λ t. IsIn g inside t) (sym (has_one v w e)) i))
+    ];
+    coarser = s.coarser;
+    joined = s.joined;
+    width = s.width;
+  }
+
+  module _ (unit : ℕ) (found : get_or new.labels unit 0 ≡ label) (pos : 0 < label) (i : IsIn g inside v) (uv : adjacent g unit v ≡ true) (vu : adjacent g v unit ≡ true) where
+    unit_found : 0 < get_or new.labels unit 0
+    unit_found = subst (λ t. 0 < t) (sym found) pos
+
+    unit_in : IsIn g inside unit
+    unit_in = path_end g inside unit unit (s.joined.path unit unit unit_found unit_found refl)
+
+    -- one more of the row, which gets the label
+    pub spread_marked : (grown : Marked) → get_or new.labels v 0 ≡ 0 → v < new.units
+        → grown.units ≡ new.units → grown.items ≡ new.items ++ v ∷ [] → grown.labels ≡ set new.labels v label → IsMarked grown
+        → IsSpread g inside (row ++ v ∷ []) label old grown before after
+    spread_marked grown none lt eu ei el marked = record {
+      units = eu ∙ s.units;
+      marked = marked;
+      longer = omega (arith, s.longer, ap length ei, length-append new.items (v ∷ []));
+      front = λ k l. ap (λ (t : List ℕ). get_or t k 0) ei ∙ get_or_append_left new.items (v ∷ []) 0 k (omega (arith, s.longer)) ∙ s.front k l;
+      kept = λ w h. off w (differs w (subst (λ t. 0 < t) (sym (s.kept w h)) h)) ∙ s.kept w h;
+      fresh = λ w. elim (cases_eq w v) [
+        | inl e ↦ inr (subst (λ t. get_or grown.labels t 0 ≡ label) (sym e) at_v)
+        | inr e ↦ elim (s.fresh w) [ inl f ↦ inl (off w e ∙ f) | inr f ↦ inr (off w e ∙ f) ]
+      ];
+      added = λ k l h. elim (cases_eq k (length new.items)) [
+        | inl e ↦
+            let item : get_or grown.items k 0 ≡ v = ap (λ (t : List ℕ). get_or t k 0) ei ∙ get_or_push new.items v 0 k (sym e) in
+            ap (λ t. get_or grown.labels t 0) item ∙ at_v
+        | inr e ↦
+            let before_it : k < length new.items = omega (arith, ap length ei, length-append new.items (v ∷ [])) in
+            let item : get_or grown.items k 0 ≡ get_or new.items k 0 = ap (λ (t : List ℕ). get_or t k 0) ei ∙ get_or_append_left new.items (v ∷ []) 0 k before_it in
+            let was : get_or new.labels (get_or new.items k 0) 0 ≡ label = s.added k l before_it in
+            ap (λ t. get_or grown.labels t 0) item ∙ off (get_or new.items k 0) (differs (get_or new.items k 0) (subst (λ t. 0 < t) (sym was) pos)) ∙ was
+      ];
+      each = λ w j h. elim (has-append_parts row (v ∷ []) w h) [
+        | inl e ↦
+            let was = s.each w j e in
+            let same : get_or grown.labels w 0 ≡ get_or new.labels w 0 = off w (differs w was.0) in
+            (subst (λ t. 0 < t) (sym same) was.0, ap (λ t. get_or after t 0) same ∙ was.1)
+        | inr e ↦
+            let is : get_or grown.labels w 0 ≡ label = subst (λ t. get_or grown.labels t 0 ≡ label) (has_one v w e) at_v in
+            (subst (λ t. 0 < t) (sym is) pos, ap (λ t. get_or after t 0) is)
+      ];
+      coarser = s.coarser;
+      joined = record {
+        path = λ a b pa pb same. elim (cases_eq a v) [
+          | inl ea ↦ elim (cases_eq b v) [
+            | inl eb ↦ subst (λ t. HasPath g inside a t) (sym eb) (subst (λ t. HasPath g inside t v) (sym ea) (path_one g inside v i))
+            | inr eb ↦ subst (λ t. HasPath g inside t b) (sym ea) (path_before g inside v unit b i vu
+                (s.joined.path unit b unit_found (subst (λ t. 0 < t) (off b eb) pb) (root_v ∙ sym (part_at a ea) ∙ same ∙ part_off b eb)))
+          ]
+          | inr ea ↦ elim (cases_eq b v) [
+            | inl eb ↦ subst (λ t. HasPath g inside a t) (sym eb) (path_after g inside a unit v
+                (s.joined.path a unit (subst (λ t. 0 < t) (off a ea) pa) unit_found (sym (part_off a ea) ∙ same ∙ part_at b eb ∙ sym root_v)) i uv)
+            | inr eb ↦ s.joined.path a b (subst (λ t. 0 < t) (off a ea) pa) (subst (λ t. 0 < t) (off b eb) pb) (sym (part_off a ea) ∙ same ∙ part_off b eb)
+          ]
+        ];
+      };
+      width = s.width;
+    }
+      where
+        inside_labels : v < length new.labels
+        inside_labels = subst (λ t. v < t) (sym s.marked.width) lt
+
+        at_v : get_or grown.labels v 0 ≡ label
+        at_v = ap (λ (t : List ℕ). get_or t v 0) el ∙ get_or-set_same new.labels v label 0 inside_labels
+
+        off : (w : ℕ) → (w ≡ v → ⊥) → get_or grown.labels w 0 ≡ get_or new.labels w 0
+        off w e = ap (λ (t : List ℕ). get_or t w 0) el ∙ get_or-set_other new.labels v w label 0 e
+
+        differs : (w : ℕ) → 0 < get_or new.labels w 0 → w ≡ v → ⊥
+        differs w h e = let q : 0 < get_or new.labels v 0 = subst (λ t. 0 < get_or new.labels t 0) e h in omega (arith, q, none)
+
+        root_v : part new.labels after unit ≡ get_or after label 0
+        root_v = ap (λ t. get_or after t 0) found
+
+        part_at : (w : ℕ) → w ≡ v → part grown.labels after w ≡ get_or after label 0
+        part_at w e = ap (λ t. get_or after t 0) (subst (λ t. get_or grown.labels t 0 ≡ label) (sym e) at_v)
+
+        part_off : (w : ℕ) → (w ≡ v → ⊥) → part grown.labels after w ≡ part new.labels after w
+        part_off w e = ap (λ t. get_or after t 0) (off w e)
+
+    -- one more of the row, which is of another part
+    pub spread_joined : (roots : List ℕ) → 0 < get_or new.labels v 0 → ((w : ℕ) → get_or new.labels w 0 < length after)
+        → Replaced after roots (get_or new.labels v 0) label → length roots ≡ length after
+        → IsSpread g inside (row ++ v ∷ []) label old new before roots
+    spread_joined roots there small replaced long = record {
+      units = s.units;
+      marked = s.marked;
+      longer = s.longer;
+      front = s.front;
+      kept = s.kept;
+      fresh = s.fresh;
+      added = s.added;
+      each = λ w j h. elim (has-append_parts row (v ∷ []) w h) [
+        | inl e ↦ let was = s.each w j e in (was.0, follows (get_or new.labels w 0) label (small w) label_small was.1)
+        | inr e ↦ subst (λ t. (0 < get_or new.labels t 0) × (part new.labels roots t ≡ get_or roots label 0)) (has_one v w e)
+            (there, replaced (get_or new.labels v 0) (small v) ∙ at_v ∙ sym at_label ∙ sym (replaced label label_small))
+      ];
+      coarser = λ a b la lb e. follows a b (subst (λ t. a < t) (sym s.width) la) (subst (λ t. b < t) (sym s.width) lb) (s.coarser a b la lb e);
+      joined = record {
+        path = λ a b pa pb same.
+            let equal : moved after (get_or new.labels v 0) label (part new.labels after a) ≡ moved after (get_or new.labels v 0) label (part new.labels after b) = sym (replaced (get_or new.labels a 0) (small a)) ∙ same ∙ replaced (get_or new.labels b 0) (small b) in
+            elim (cases_eq (part new.labels after a) (get_or after (get_or new.labels v 0) 0)) [
+              | inl ea ↦ elim (cases_eq (part new.labels after b) (get_or after (get_or new.labels v 0) 0)) [
+                | inl eb ↦ s.joined.path a b pa pb (ea ∙ sym eb)
+                | inr eb ↦
+                    let rest : part new.labels after unit ≡ part new.labels after b = ap (λ t. get_or after t 0) found ∙ sym (F_at (part new.labels after a) ea) ∙ equal ∙ F_off (part new.labels after b) eb in
+                    path_joined g inside a v b (s.joined.path a v pa there ea) (path_before g inside v unit b i vu (s.joined.path unit b unit_found pb rest))
+              ]
+              | inr ea ↦ elim (cases_eq (part new.labels after b) (get_or after (get_or new.labels v 0) 0)) [
+                | inl eb ↦
+                    let first : part new.labels after a ≡ part new.labels after unit = sym (F_off (part new.labels after a) ea) ∙ equal ∙ F_at (part new.labels after b) eb ∙ sym (ap (λ t. get_or after t 0) found) in
+                    path_joined g inside a unit b (s.joined.path a unit pa unit_found first) (path_before g inside unit v b unit_in uv (s.joined.path v b there pb (sym eb)))
+                | inr eb ↦ s.joined.path a b pa pb (sym (F_off (part new.labels after a) ea) ∙ equal ∙ F_off (part new.labels after b) eb)
+              ]
+            ];
+      };
+      width = long ∙ s.width;
+    }
+      where
+        label_small : label < length after
+        label_small = subst (λ t. t < length after) found (small unit)
+
+        follows : (a b : ℕ) → a < length after → b < length after → get_or after a 0 ≡ get_or after b 0 → get_or roots a 0 ≡ get_or roots b 0
+        follows a b la lb e = replaced a la ∙ ap (λ x. moved after (get_or new.labels v 0) label x) e ∙ sym (replaced b lb)
+
+        F_at : (x : ℕ) → x ≡ get_or after (get_or new.labels v 0) 0 → moved after (get_or new.labels v 0) label x ≡ get_or after label 0
+        F_at x e = moved_at after (get_or new.labels v 0) label x e
+
+        F_off : (x : ℕ) → (x ≡ get_or after (get_or new.labels v 0) 0 → ⊥) → moved after (get_or new.labels v 0) label x ≡ x
+        F_off x e = moved_off after (get_or new.labels v 0) label x e
+
+        at_v : moved after (get_or new.labels v 0) label (get_or after (get_or new.labels v 0) 0) ≡ get_or after label 0
+        at_v = F_at (get_or after (get_or new.labels v 0) 0) refl
+
+        at_label : moved after (get_or new.labels v 0) label (get_or after label 0) ≡ get_or after label 0
+        at_label = elim (cases_eq (get_or after label 0) (get_or after (get_or new.labels v 0) 0)) [ inl e ↦ F_at (get_or after label 0) e | inr e ↦ F_off (get_or after label 0) e ]
+
+-- labels stay within the list of roots
+pub labels_stay_small : (g : Graph) (inside : ℕ → Bool) (row : List ℕ) (label : ℕ) (old new : Marked) (before after : List ℕ)
+    → IsSpread g inside row label old new before after → ((v : ℕ) → get_or old.labels v 0 < length before)
+    → (unit : ℕ) → get_or old.labels unit 0 ≡ label → (w : ℕ) → get_or new.labels w 0 < length after
+labels_stay_small g inside row label old new before after s small unit is w = elim (s.fresh w) [
+  | inl e ↦ subst (λ t. get_or new.labels w 0 < t) (sym s.width) (subst (λ t. t < length before) (sym e) (small w))
+  | inr e ↦ subst (λ t. get_or new.labels w 0 < t) (sym s.width) (subst (λ t. t < length before) (is ∙ sym e) (small unit))
+]
+
+pub above_zero : (n m : ℕ) → n ≡ m → (n ≡ 0 → ⊥) → 0 < m
+above_zero zero m e h = absurd (h refl)
+above_zero (suc n) m e h = omega (arith, e)

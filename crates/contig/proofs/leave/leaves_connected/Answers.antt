@@ -1,0 +1,39 @@
+use Rattle.std.proofs.Common.{◌≤◌, refl, arith}
+use Rattle.audit_model.specs.Local.{IsSimple, IsLocal}
+use Rattle.audit_model.specs.Graph.{Graph}
+use Rattle.model_laws.proofs.Local.{may_leave}
+use Rattle.audit_model.specs.Graph.{IsGraph}
+use Rattle.contig.proofs.Growing.{seeds_joined}
+use Rattle.contig.proofs.Ending.{one_leaves}
+use Rattle.contig.proofs.Places.{nine, nine_at}
+use Rattle.contig.proofs.leave.leaves_connected.Goals as goal
+
+simple : (g : Graph) → IsGraph g → IsSimple g
+simple g graph = record { symmetric = graph.symmetric; loopless = graph.loopless }
+
+pub returns-then-mates-eq1-clause-leaves : goal.returns-then-mates-eq1-clause-leaves
+returns-then-mates-eq1-clause-leaves g c connected =
+    let few : c.mark_mates-mates.result ≤ 8 = omega (arith, c.if-mates-eq1.true) in (
+      λ _. one_leaves c.args.g.now c.args.plan.now c.args.u c.units-units.ensures.sound c.requires.unit connected c.mark_mates-mates.result c.mark_mates-mates.new.marks
+          (c.mark_mates-mates.ensures.seeded few) c.if-mates-eq1.true,
+      λ _. refl,
+    )
+
+pub returns-then-is_whole-clause-leaves : goal.returns-then-is_whole-clause-leaves
+returns-then-is_whole-clause-leaves g c connected =
+    let local : IsLocal c.args.g.now c.args.plan.now c.args.u = c.is_whole.ensures.whole.0 c.if-is_whole.true in (
+      λ _. may_leave c.args.g.now c.args.plan.now c.args.u (simple c.args.g.now c.units-units.ensures.sound) local connected,
+      λ _. c.if-is_whole.true,
+    )
+
+pub are_linked-requires-clause-joined : goal.are_linked-requires-clause-joined
+are_linked-requires-clause-joined g c =
+    let few : c.mark_mates-mates.result ≤ 8 = omega (arith, c.if-mates-gt-MOST.false) in
+    seeds_joined c.args.g.now c.args.plan.now c.args.u c.mark_mates-mates.result c.mark_mates-mates.new.marks nine (c.mark_mates-mates.ensures.seeded few) few nine_at
+
+pub returns-then-are_linked-clause-leaves : goal.returns-then-are_linked-clause-leaves
+returns-then-are_linked-clause-leaves g c connected =
+    let local : IsLocal c.args.g.now c.args.plan.now c.args.u = c.are_linked.ensures.local.0 c.if-are_linked.true in (
+      λ _. may_leave c.args.g.now c.args.plan.now c.args.u (simple c.args.g.now c.units-units.ensures.sound) local connected,
+      λ _. refl,
+    )

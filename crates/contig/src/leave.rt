@@ -1,0 +1,100 @@
+//! May a unit leave its district?
+
+ghost use Rattle.std.specs.Prelude.{◌≡◌, ◌+◌, ◌<◌, ◌≤◌, ◌↔◌, length, slice_index, IsTrue};
+ghost use Rattle.audit_model.specs.Local.{IsLocal, MayLeave};
+ghost use Rattle.audit_model.specs.Path.{IsConnected};
+ghost use Rattle.audit_model.specs.Plan.{in_district};
+
+use crate::flood::is_whole;
+use crate::parts::{MOST, are_linked, mark_mates, meet};
+use audit_model::steps::Steps;
+use dual_graph::graph::Graph;
+use dual_graph::marks::Marks;
+use std::sync::ledger::Ledger;
+
+/// Whether the neighbours of a unit in its district are connected among themselves.
+pub fn local_holds(g: &Graph, plan: &[u32], u: u32, marks: &mut Marks) -> bool
+    requires plan { length plan.now ≡ g.now.units }
+    requires unit { u < g.now.units }
+    requires marks { marks.old.units ≡ g.now.units }
+    ensures marks { marks.new.units ≡ marks.old.units }
+    ensures local { IsTrue result ↔ IsLocal g.now plan.now u }
+{
+    let mates = mark_mates(g, plan, u, marks);
+    if mates == 0 || mates > MOST {
+        return is_whole(g, plan, u, true, marks);
+    }
+    let mut roots: [u8; 9] = [0, 1, 2, 3, 4, 5, 6, 7, 8];
+    are_linked(g, plan, u, marks, &mut roots, mates)
+}
+
+/// Whether a unit's district without it has a unit and is connected, by a search.
+pub fn search_holds<L: Ledger>(
+    g: &Graph,
+    plan: &[u32],
+    u: u32,
+    marks: &mut Marks,
+    steps: &mut Steps<L>,
+) -> bool
+    requires plan { length plan.now ≡ g.now.units }
+    requires unit { u < g.now.units }
+    requires marks { marks.old.units ≡ g.now.units }
+    ensures marks { marks.new.units ≡ marks.old.units }
+    ensures leaves { IsTrue result ↔ MayLeave g.now plan.now u }
+    ensures cost { steps.new ≡ steps.old + 1 }
+{
+    steps.tick();
+    is_whole(g, plan, u, false, marks)
+}
+
+/// Whether a unit's district stays connected without it, where it is connected. It searches only where the unit's neighbours there are not connected among themselves.
+pub fn leaves_connected<L: Ledger>(
+    g: &Graph,
+    plan: &[u32],
+    u: u32,
+    marks: &mut Marks,
+    steps: &mut Steps<L>,
+) -> bool
+    requires plan { length plan.now ≡ g.now.units }
+    requires unit { u < g.now.units }
+    requires marks { marks.old.units ≡ g.now.units }
+    ensures marks { marks.new.units ≡ marks.old.units }
+    ensures leaves { IsConnected g.now (in_district plan.now (slice_index plan.now u)) → (IsTrue result ↔ MayLeave g.now plan.now u) }
+    ensures local { IsLocal g.now plan.now u → steps.new ≡ steps.old }
+    ensures most { steps.new ≤ steps.old + 1 }
+{
+    let _units = g.units();
+    let mates = mark_mates(g, plan, u, marks);
+    if mates == 1 {
+        return true;
+    }
+    if mates == 0 || mates > MOST {
+        return is_whole(g, plan, u, true, marks) || search_holds(g, plan, u, marks, steps);
+    }
+    let mut roots: [u8; 9] = [0, 1, 2, 3, 4, 5, 6, 7, 8];
+    if are_linked(g, plan, u, marks, &mut roots, mates) {
+        return true;
+    }
+    steps.tick();
+    meet(g, plan, u, marks, &mut roots, mates)
+}
+
+/// Whether a unit's district, which is connected, stays so without it. It searches only where the unit's neighbours there are not connected among themselves.
+pub fn may_leave<L: Ledger>(
+    g: &Graph,
+    plan: &[u32],
+    u: u32,
+    marks: &mut Marks,
+    steps: &mut Steps<L>,
+) -> bool
+    requires plan { length plan.now ≡ g.now.units }
+    requires unit { u < g.now.units }
+    requires marks { marks.old.units ≡ g.now.units }
+    requires connected { IsConnected g.now (in_district plan.now (slice_index plan.now u)) }
+    ensures marks { marks.new.units ≡ marks.old.units }
+    ensures leaves { IsTrue result ↔ MayLeave g.now plan.now u }
+    ensures local { IsLocal g.now plan.now u → steps.new ≡ steps.old }
+    ensures most { steps.new ≤ steps.old + 1 }
+{
+    leaves_connected(g, plan, u, marks, steps)
+}

@@ -1,0 +1,8 @@
+//! May a unit leave its district without disconnecting it?
+#![tactic(auto)]
+
+pub mod flood;
+pub mod leave;
+pub mod parts;
+#[cfg(test)]
+mod tests;
