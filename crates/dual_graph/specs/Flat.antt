@@ -1,7 +1,7 @@
 -- A graph kept in two lists: all neighbours, and the places where each unit's neighbours begin.
-use Rattle.std.specs.Prelude.{◌≡◌, ℕ, ◌+◌, ◌<◌, ◌≤◌, List, length, slice_index, slice_range}
+use Rattle.std.specs.Prelude.{◌≡◌, ℕ, ◌+◌, ◌<◌, ◌≤◌, true, List, length, slice_index, slice_range}
 use Rattle.audit_model.specs.Below.{map_below}
-use Rattle.audit_model.specs.Graph.{Graph}
+use Rattle.audit_model.specs.Graph.{Graph, count_edges}
 
 -- the neighbours of a unit
 abbrev pub row : List ℕ → List ℕ → ℕ → List ℕ
@@ -18,3 +18,8 @@ pub record HasRows (n : ℕ) (begins near : List ℕ) : Type 0 where
   pub rising : (u : ℕ) → u < n → slice_index begins u ≤ slice_index begins (u + 1)
   pub within : (u : ℕ) → u ≤ n → slice_index begins u ≤ length near
   pub below : (k : ℕ) → k < length near → slice_index near k < n
+
+-- the graph has so many edges
+pub record HasEdges (g : Graph) (edges : ℕ) : Type 0 where
+  pub counted : edges ≡ count_edges g (λ u v. true)
+  pub few : edges ≤ 400000

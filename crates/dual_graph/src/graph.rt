@@ -1,9 +1,9 @@
 //! The graph.
 
-ghost use Rattle.std.specs.Prelude.{◌≡◌, ◌<◌, ◌≤◌, ◌↔◌, ℕ, [], length, slice_index, All, IfOk, IsTrue};
+ghost use Rattle.std.specs.Prelude.{◌≡◌, ◌<◌, ◌≤◌, ◌↔◌, ℕ, true, [], length, slice_index, All, IfOk, IsTrue};
 ghost use Rattle.dual_graph.specs.Pairs.{ArePairs, Joins};
 ghost use Rattle.std.specs.List.{slice_index_or};
-ghost use Rattle.audit_model.specs.Graph.{adjacent};
+ghost use Rattle.audit_model.specs.Graph.{adjacent, count_edges};
 
 use crate::pairs::{begins_of, codes_of, put_in_order, seconds_of};
 use audit_model::memory::Memory;
@@ -14,6 +14,7 @@ use std::marker::Model;
 #[derive(Drop)]
 pub struct Graph {
     units: u32,
+    edges: u32,
     begins: Vec<u32>,
     near: Vec<u32>,
 }
@@ -21,13 +22,14 @@ pub struct Graph {
 impl Model for Graph {
     ghost use Rattle.audit_model.specs.Graph.{Graph as GraphValue};
     ghost use Rattle.audit_model.specs.Graph.{IsGraph};
-    ghost use Rattle.dual_graph.specs.Flat.{graph_of, HasRows};
+    ghost use Rattle.dual_graph.specs.Flat.{graph_of, HasRows, HasEdges};
 
     ghost Value = { GraphValue };
 
     ghost view = { λ g. graph_of g.units g.begins.items g.near.items };
 
-    ghost invariant = { λ g. HasRows g.units g.begins.items g.near.items × IsGraph (graph_of g.units g.begins.items g.near.items) };
+    ghost invariant = { λ g. HasRows g.units g.begins.items g.near.items × IsGraph (graph_of g.units g.begins.items g.near.items)
+        × HasEdges (graph_of g.units g.begins.items g.near.items) g.edges };
 }
 
 impl Graph {
@@ -39,6 +41,7 @@ impl Graph {
         requires pairs { ArePairs n pairs.now }
         ensures units { IfOk result (λ g. g.units ≡ n) }
         ensures edges { IfOk result (λ g. (u v : ℕ) → IsTrue (adjacent g u v) ↔ Joins pairs.now u v) }
+        ensures amount { IfOk result (λ g. count_edges g (λ u v. true) ≡ length pairs.now) }
         ensures sound { IfOk result (λ g. IsGraph g) }
     {
         let mut codes = codes_of(alloc, pairs)?;
@@ -47,6 +50,7 @@ impl Graph {
         let near = seconds_of(alloc, &codes)?;
         Ok(Graph {
             units: n,
+            edges: pairs.len() as u32,
             begins,
             near,
         })
@@ -56,10 +60,21 @@ impl Graph {
     #[inline]
     pub fn units(&self) -> u32
         ensures units { result ≡ self.now.units }
+        ensures few { self.now.units ≤ 100000 }
         ensures sound { IsGraph self.now }
     {
         let _ = &self.near;
         self.units
+    }
+
+    /// How many edges there are, each counted once.
+    #[inline]
+    pub fn edges(&self) -> u32
+        ensures edges { result ≡ count_edges self.now (λ u v. true) }
+        ensures few { count_edges self.now (λ u v. true) ≤ 400000 }
+    {
+        let _ = &self.near;
+        self.edges
     }
 
     /// The neighbours of a unit, in rising order.
@@ -80,5 +95,20 @@ impl Graph {
         ensures { result ≡ adjacent self.now u v }
     {
         self.neighbours(u).contains(&v)
+    }
+}
+
+#[cfg(test)]
+mod tests {
+    use super::*;
+
+    #[test]
+    fn a_triangle_with_a_tail(rt: HostRuntime) -> Result<(), Memory> {
+        let graph = Graph::from_pairs(rt.alloc(), 4, &[(0, 1), (0, 2), (1, 2), (2, 3)])?;
+        assert_eq!(rt; graph.units(), 4);
+        assert_eq!(rt; graph.edges(), 4);
+        assert_eq!(rt; graph.neighbours(2), [0, 1, 3].as_slice());
+        assert!(rt; graph.adjacent(3, 2) && !graph.adjacent(0, 3));
+        Ok(())
     }
 }

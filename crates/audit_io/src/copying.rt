@@ -1,0 +1,18 @@
+//! Bytes handed out of a list.
+
+ghost use Rattle.std.specs.Prelude.{◌≡◌, ◌+◌, ◌-◌, ◌<◌, ◌≤◌, [], min, ◌++◌, length, take, drop};
+
+// Puts some of the bytes from `at` on at the front of `into`, at most so many.
+pub(crate) fn give(bytes: &[u8], at: usize, most: usize, into: &mut [u8]) -> usize
+    requires at { at ≤ length bytes.now }
+    requires most { 0 < most }
+    ensures amount { result ≤ length into.new }
+    ensures within { at + result ≤ length bytes.now }
+    ensures given { drop at bytes.now ≡ take result into.new ++ drop (at + result) bytes.now }
+    ensures end { result ≡ 0 → 0 < length into.new → drop at bytes.now ≡ [] }
+    ensures count { result ≡ min (min (length bytes.now - at) (length into.old)) most }
+{
+    let count = (bytes.len() - at).min(into.len()).min(most);
+    into[..count].copy_from_slice(&bytes[at..at + count]);
+    count
+}

@@ -1,0 +1,17 @@
+//! The outside of an audit: where it reads, writes and keeps checkpoints, with counts of faults.
+#![tactic(auto)]
+
+mod copying;
+pub mod gate;
+pub mod keeper;
+pub mod mem_keeper;
+pub mod mem_sink;
+pub mod mem_slot;
+pub mod mem_source;
+pub mod sink;
+pub mod source;
+pub mod std_adapters;
+pub mod sure;
+pub mod sure_keeper;
+#[cfg(test)]
+mod tests;

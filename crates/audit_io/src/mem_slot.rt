@@ -1,0 +1,94 @@
+//! One slot in memory.
+
+ghost use Rattle.std.specs.Prelude.{◌≡◌, ◌≤◌, length, IfOk, Some, option_map};
+ghost use Rattle.audit_io.specs.Slots.{Loads, LoadsWithin, IsFaultless};
+
+use crate::keeper::LoadError;
+use audit_model::buffers::Bytes;
+use audit_model::memory::Memory;
+use std::alloc::Global;
+use std::marker::Model;
+
+/// The most bytes of a save.
+pub const MOST_SAVED: usize = 4_400_084;
+
+/// A slot, absent or a list of bytes, with room for every save.
+#[derive(Drop)]
+pub struct MemSlot {
+    there: bool,
+    bytes: Bytes,
+}
+
+impl Model for MemSlot {
+    ghost use Rattle.std.specs.Prelude.{◌+◌, ◌≤◌, length};
+    ghost use Rattle.audit_io.specs.Slots.{Stored, stored_if};
+
+    ghost Value = { Stored };
+
+    ghost view = { λ s. stored_if s.there s.bytes.items };
+
+    ghost invariant = { λ s. 4400084 ≤ length s.bytes.items + s.bytes.spare };
+}
+
+impl MemSlot {
+    /// Takes what the slot holds at first.
+    pub fn new(alloc: Global, given: Option<Bytes>) -> Result<MemSlot, Memory>
+        ensures { IfOk result (λ s. s ≡ option_map (λ b. b.items) given) }
+    {
+        match given {
+            None => Ok(MemSlot {
+                there: false,
+                bytes: Bytes::with_room(alloc, MOST_SAVED)?,
+            }),
+            Some(given) => {
+                let mut bytes = Bytes::with_room(alloc, given.len().max(MOST_SAVED))?;
+                bytes.append(given.as_slice())?;
+                Ok(MemSlot { there: true, bytes })
+            }
+        }
+    }
+
+    /// What the slot holds.
+    pub fn bytes(&self) -> Option<&[u8]>
+        ensures { option_map (λ b. b.now) result ≡ self.now }
+    {
+        if self.there {
+            Some(self.bytes.as_slice())
+        } else {
+            None
+        }
+    }
+
+    /// Clears the room and puts the slot's bytes there.
+    pub fn load(&self, limit: u64, room: &mut Bytes) -> Result<bool, LoadError>
+        ensures found { Loads self.now limit room.new.items result }
+        ensures within { LoadsWithin limit room.new.items result }
+        ensures faultless { IsFaultless result }
+    {
+        room.clear();
+        if !self.there {
+            return Ok(false);
+        }
+        let bytes = self.bytes.as_slice();
+        if bytes.len() as u64 > limit {
+            return Err(LoadError::Long(limit));
+        }
+        match room.append(bytes) {
+            Ok(()) => Ok(true),
+            Err(_) => Err(LoadError::Memory),
+        }
+    }
+
+    /// Makes the slot hold these bytes.
+    pub fn save(&mut self, bytes: &[u8])
+        requires { length bytes.now ≤ 4400084 }
+        ensures { self.new ≡ Some bytes.now }
+    {
+        self.there = true;
+        self.bytes.clear();
+        match self.bytes.append(bytes) {
+            Ok(()) => {}
+            Err(_) => unreachable!(),
+        }
+    }
+}

@@ -1,0 +1,145 @@
+//! The counter.
+ghost use Rattle.std.specs.Prelude.{◌≡◌, ◌≤◌};
+
+use crate::pass::Pass;
+use crate::record::{Size, View};
+use crate::rule::{Draw, EachOnce, Look, OnePass};
+use atomic_table::Table;
+use audit_model::memory::Memory;
+use std::alloc::Global;
+
+/// Gives out the numbers below a limit, each to one pass, in whatever order the passes ask. No call waits for another.
+#[derive(Drop)]
+pub struct Claims {
+    pub(crate) table: Table<(), View, Size, EachOnce, Global>,
+    limit: u32,
+    ghost one_word: { table.shared.table_id.words ≡ 1 },
+    ghost no_slots: { table.shared.table_id.slots ≡ 0 },
+    ghost limit_is: { table.shared.key.limit ≡ limit },
+    ghost small: { (limit ≤ 100000) × (table.shared.key.seats ≤ 33) },
+}
+
+/// What a counter gave out.
+#[derive(Clone, Copy, Debug, PartialEq, Eq)]
+pub struct Closed {
+    /// How many numbers were given out: those below it.
+    pub drawn: u32,
+}
+
+impl Claims {
+    ghost use Rattle.std.specs.Prelude.{◌≡◌, ◌-◌, ◌<◌, ◌≤◌, true, false, length, IfOk, IfSome, IfNone};
+    ghost use Rattle.claim_counter.specs.Records.{fresh, with_claim, at_end, with_less_spare, joined, times, AreDifferentBelow, AreAllBelow};
+    ghost use Rattle.claim_counter.specs.Views.{HasAllSeats};
+    ghost use Rattle.claim_counter.specs.Passes.{own, size_of, BelongsTo};
+
+    /// A counter of the numbers below `limit`, for at most `seats` passes, and the first of these. The only error is want of memory.
+    pub fn new(alloc: Global, limit: u32, seats: u32) -> Result<(Claims, Pass), Memory>
+        requires limit { limit ≤ 100000 }
+        requires seats { (1 ≤ seats) × (seats ≤ 33) }
+        ensures size { IfOk result (λ c. size_of c.0 ≡ record { limit = limit; seats = seats }) }
+        ensures pass { IfOk result (λ c. BelongsTo c.0 c.1 × (own c.1 ≡ fresh (seats - 1))) }
+    {
+        let size = Size { limit, seats };
+        let (table, seat) = Table::of_words(alloc, &[0], &size)?;
+        Ok((
+            Claims { table, limit },
+            Pass {
+                seat,
+                spare: seats - 1,
+                ended: false,
+            },
+        ))
+    }
+
+    /// One more pass, which has drawn nothing. `pass` can then be split once less.
+    pub fn split(&self, pass: &mut Pass) -> Pass
+        requires pass { BelongsTo self.now pass.old }
+        requires spare { 0 < (own pass.old).spare }
+        ensures rest { BelongsTo self.now pass.new × (own pass.new ≡ with_less_spare (own pass.old)) }
+        ensures new { BelongsTo self.now result × (own result ≡ fresh 0) }
+    {
+        let seat = self.table.shared.split_seat::<OnePass>(&mut pass.seat);
+        pass.spare -= 1;
+        Pass {
+            seat,
+            spare: 0,
+            ended: false,
+        }
+    }
+
+    /// Draws the next number, in one atomic step. No other pass of this counter has it, or ever gets it.
+    /// `None` says that no number was left, and the pass has ended.
+    pub fn claim(&self, pass: &mut Pass) -> Option<u32>
+        requires pass { BelongsTo self.now pass.old }
+        requires before_end { (own pass.old).ended ≡ false }
+        ensures pass { BelongsTo self.now pass.new }
+        ensures below { IfSome result (λ n. n < (size_of self.now).limit) }
+        ensures unclaimed { IfSome result (λ n. times n (own pass.old).claims ≡ 0) }
+        ensures number { IfSome result (λ n. own pass.new ≡ with_claim n (own pass.old)) }
+        ensures end { IfNone result (own pass.new ≡ at_end (own pass.old)) }
+        ensures different { AreDifferentBelow (size_of self.now).limit (own pass.new).claims }
+        ensures few { length (own pass.new).claims ≤ (size_of self.now).limit }
+        ensures all { IfNone result (HasAllSeats (size_of self.now) (own pass.old) → AreAllBelow (size_of self.now).limit (own pass.new).claims) }
+    {
+        let drawn = self.table.shared.fetch_add::<Draw>(&mut pass.seat, 0, 1);
+        if drawn < u64::from(self.limit) {
+            Some(drawn as u32)
+        } else {
+            pass.ended = true;
+            None
+        }
+    }
+
+    /// One pass for two, with the numbers of both. It has ended where both have.
+    pub fn join(&self, a: Pass, b: Pass) -> Pass
+        requires first { BelongsTo self.now a }
+        requires second { BelongsTo self.now b }
+        ensures pass { BelongsTo self.now result }
+        ensures both { own result ≡ joined (own a) (own b) }
+        ensures different { AreDifferentBelow (size_of self.now).limit (own result).claims }
+        ensures all { HasAllSeats (size_of self.now) (own result) → (own result).ended ≡ true → AreAllBelow (size_of self.now).limit (own result).claims }
+    {
+        let Pass {
+            mut seat,
+            spare,
+            ended,
+        } = a;
+        let Pass {
+            seat: other_seat,
+            spare: other_spare,
+            ended: other_ended,
+        } = b;
+        self.table
+            .shared
+            .join_seat::<OnePass>(&mut seat, other_seat);
+        // The step tells nothing of both together: a look does.
+        self.table.shared.load::<Look>(&mut seat, 0);
+        Pass {
+            seat,
+            spare: spare + other_spare,
+            ended: ended && other_ended,
+        }
+    }
+
+    /// Ends the counter, with the pass that has all seats: whatever was split off has been joined again.
+    pub fn close(self, pass: Pass) -> Closed
+        requires pass { BelongsTo self pass }
+        requires only { HasAllSeats (size_of self) (own pass) }
+        ensures drawn { AreAllBelow result.drawn (own pass).claims }
+        ensures below { result.drawn ≤ (size_of self).limit }
+        ensures all { (own pass).ended ≡ true → result.drawn ≡ (size_of self).limit }
+    {
+        let Claims { table, limit } = self;
+        let Pass {
+            seat,
+            spare: _,
+            ended: _,
+        } = pass;
+        let closed = table.close_with(seat);
+        let word = closed.word(0);
+        closed.free();
+        Closed {
+            drawn: word.min(u64::from(limit)) as u32,
+        }
+    }
+}

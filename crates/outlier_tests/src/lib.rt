@@ -1,0 +1,103 @@
+//! The numbers that the outlier tests print: tails, bounds, ranks and p-values.
+#![tactic(auto)]
+
+ghost use Rattle.std.specs.Prelude.{◌≡◌, ◌*◌, ◌^◌, ◌<◌, ◌≤◌, nat_le};
+ghost use Rattle.audit_model.specs.Least.{IsLeast};
+ghost use Rattle.audit_model.specs.Test as test;
+ghost use Rattle.audit_model.specs.Trajectory as trajectory;
+
+use audit_model::outcome::Outcome;
+use audit_model::setting::Tail;
+
+const BILLION: u64 = 1_000_000_000;
+
+const BILLION_SQUARED: u128 = 1_000_000_000_000_000_000;
+
+/// Whether a value is at least as extreme as the start's: at most it in the low tail, at least it in the high one.
+#[inline]
+pub fn in_tail(tail: Tail, value: i64, start: i64) -> bool
+    ensures { result ≡ trajectory.in_tail tail value start }
+{
+    match tail {
+        Tail::Low => value <= start,
+        Tail::High => value >= start,
+    }
+}
+
+/// The bound on how likely a start is of which `count` of `of` visits are in the tail, in billionths and rounded up:
+/// the square root of twice their part, as Chikina, Frieze and Pegden have it.
+pub fn bound(count: u64, of: u64) -> u64
+    requires count { (1 ≤ count) × (count ≤ of) }
+    requires few { of ≤ 1000000001 }
+    ensures value { result ≡ test.bound count of }
+    ensures least { IsLeast (λ r. nat_le (2 * count * 10 ^ 18) (r * r * of)) result }
+{
+    // The greatest number that falls short where it stands for the square.
+    let short = (2 * u128::from(count) * BILLION_SQUARED - 1) / u128::from(of);
+    (short as u64).isqrt() + 1
+}
+
+/// The start's rank among the ends of the parallel test: one plus the number of those whose value for the ask at this
+/// place is in the tail.
+pub fn rank(tail: Tail, start: i64, ask: u32, ends: &[Outcome]) -> u64
+    requires { ask < 4 }
+    ensures { result ≡ trajectory.rank_among tail start ask ends.now }
+{
+    let mut rank = 1;
+    for end in ends {
+        if in_tail(tail, end.values[ask as usize], start) {
+            rank += 1;
+        }
+    }
+    rank
+}
+
+/// The p-value of a rank among `of` values, the start's among them, in billionths and rounded up, as Besag and Clifford
+/// have it.
+pub fn p_value(rank: u64, of: u64) -> u64
+    requires rank { (1 ≤ rank) × (rank ≤ of) }
+    requires few { of ≤ 1000000001 }
+    ensures value { result ≡ test.p_value rank of }
+    ensures least { IsLeast (λ z. nat_le (rank * 10 ^ 9) (z * of)) result }
+{
+    (rank * BILLION + of - 1) / of
+}
+
+#[cfg(test)]
+mod tests {
+    use super::*;
+
+    #[test]
+    fn bounds_are_rounded_up(rt: HostRuntime) {
+        let cases = [
+            (1, 1_000_000, 1_414_214),
+            (2, 4, 1_000_000_000),
+            (2, 9, 666_666_667),
+            (4, 9, 942_809_042),
+            (8, 9, 1_333_333_334),
+            (9, 9, 1_414_213_563),
+            (74, 200_001, 27_202_874),
+        ];
+        for (count, of, wanted) in cases {
+            assert!(rt; 1 <= count && count <= of && of <= 1_000_000_001);
+            assert_eq!(rt; bound(count, of), wanted, "at {count} of {of}");
+        }
+    }
+
+    #[test]
+    fn ranks_and_p_values(rt: HostRuntime) {
+        let ends = [end_with(-7), end_with(5), end_with(-1)];
+        assert_eq!(rt; rank(Tail::Low, -1, 0, &ends), 3);
+        assert_eq!(rt; rank(Tail::High, -1, 0, &ends), 3);
+        assert_eq!(rt; p_value(1, 3), 333_333_334);
+        assert_eq!(rt; p_value(3, 3), 1_000_000_000);
+    }
+
+    fn end_with(value: i64) -> Outcome {
+        Outcome {
+            id: 0,
+            moved: 0,
+            values: [value, 0, 0, 0],
+        }
+    }
+}

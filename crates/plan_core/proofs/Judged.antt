@@ -1,0 +1,156 @@
+-- What the refusals of a plan say of it.
+use Rattle.std.proofs.Common.{◌≡◌, ℕ, ◌<◌, Bool, true, false, not, ◌&&◌, List, length, get_or, Option, Some, None, refl, sym, ap, ◌∙◌, inl, inr}
+use Rattle.std.specs.Prelude.{◌↔◌, is_none, is_some, option_map, unwrap_or, Ok, Err}
+use Rattle.std.proofs.lemmas.Bool.{and_parts, and_from, cases_Bool, cond-true, cond-false, not-false, not_from_true, not_from_false}
+use Rattle.audit_model.specs.declared.fault.PlanFault.{PlanFault}
+use Rattle.audit_model.specs.declared.fault.PlanFault.TheVariants.{Disconnected}
+use Rattle.audit_model.specs.declared.setting.Setting.{Setting}
+use Rattle.audit_model.specs.First.{first_below}
+use Rattle.audit_model.specs.Graph.{Graph}
+use Rattle.audit_model.specs.Job.{Job}
+use Rattle.audit_model.specs.JobOf.{IsJob, job_from, job_of, job_or, is_unbalanced, is_parted, out_of_bounds, disconnected, bounds_fault, path_fault, plan_fault}
+use Rattle.audit_model.specs.Limits.{IsWithinLimits}
+use Rattle.audit_model.specs.Parsed.{Parsed}
+use Rattle.audit_model.specs.Path.{is_connected}
+use Rattle.audit_model.specs.Plan.{IsLegal, is_legal, in_district, district_sum, is_balanced}
+use Rattle.model_laws.proofs.Accepted.{accepted_is_legal}
+use Rattle.model_laws.proofs.Connected.{connected_passes, passes_connected}
+use Rattle.model_laws.proofs.Legal.{balanced_passes, passes_balanced, legal_passes, passes_legal}
+use Rattle.plan_core.specs.Input.{with_start}
+use Rattle.plan_core.specs.Parting.{least_in, parted_in, parting_of}
+use Rattle.plan_core.proofs.Firsts.{first_below_here, first_below_none, none_first_below}
+use Rattle.plan_core.proofs.Parted.{same_bool}
+
+-- ---- the refusal of a parted district
+
+none_is_not_some : {A : Type 0} (x : A) → Some x ≡ None → ⊥
+none_is_not_some x h = cc
+
+pub parting_parts : (g : Graph) (inside : ℕ → Bool) (one other : ℕ) → Some (one, other) ≡ parting_of g inside
+    → (is_connected g inside ≡ false) × (one ≡ least_in g inside) × (other ≡ parted_in g inside)
+parting_parts g inside one other h = elim (cases_Bool (is_connected g inside)) [
+  | inl yes-connected ↦ absurd (none_is_not_some (one, other) (h ∙ cond-true (is_connected g inside) None (Some (least_in g inside, parted_in g inside)) yes-connected))
+  | inr off ↦
+      let same : Some (one, other) ≡ Some (least_in g inside, parted_in g inside) =
+      h ∙ cond-false (is_connected g inside) None (Some (least_in g inside, parted_in g inside)) off in
+      (off, ap (λ (o : Option (ℕ × ℕ)). (unwrap_or o (0, 0)).0) same, ap (λ (o : Option (ℕ × ℕ)). (unwrap_or o (0, 0)).1) same)
+]
+
+pub parted_is_fault : (job : Job) (d one other : ℕ) → first_below d (is_parted job) ≡ None → d < job.districts
+    → Some (one, other) ≡ parting_of job.graph (in_district job.start d) → Some (Disconnected d one other) ≡ path_fault job
+parted_is_fault job d one other none l h =
+    let parts = parting_parts job.graph (in_district job.start d) one other h in
+    let here : first_below job.districts (is_parted job) ≡ Some d =
+    first_below_here job.districts d (is_parted job) none l (not_from_false (is_connected job.graph (in_district job.start d)) parts.0) in
+    ap (λ (k : ℕ). Some (Disconnected d k other)) parts.1
+    ∙ ap (λ (k : ℕ). Some (Disconnected d (least_in job.graph (in_district job.start d)) k)) parts.2
+    ∙ ap (option_map (disconnected job)) (sym here)
+
+-- ---- a plan that is not refused is legal
+
+option_map_none : {A B : Type 0} (f : A → B) (o : Option A) → option_map f o ≡ None → o ≡ None
+option_map_none f None h = refl
+option_map_none f (Some x) h = absurd (none_is_not_some (f x) h)
+
+none_passes : {A : Type 0} (o : Option A) → is_none o ≡ true → o ≡ None
+none_passes None h = refl
+none_passes (Some x) h = cc
+
+passes_none : {A : Type 0} (o : Option A) → o ≡ None → is_none o ≡ true
+passes_none None h = refl
+passes_none (Some x) h = cc
+
+turned : (b r : Bool) → b ≡ not r → r ≡ not b
+turned b true h = sym (ap not h)
+turned b false h = sym (ap not h)
+
+and_first : (a b : Bool) → a ≡ false → (a && b) ≡ false
+and_first false b h = refl
+and_first true b h = cc
+
+and_second : (a b : Bool) → a ≡ true → (a && b) ≡ b
+and_second true b h = refl
+and_second false b h = cc
+
+module _ (job : Job) (plan : List ℕ) (complete : length plan ≡ job.graph.units) (in_range : (u : ℕ) → u < job.graph.units → get_or plan u 0 < job.districts) where
+  accepted : bounds_fault (with_start job plan) ≡ None → path_fault (with_start job plan) ≡ None → IsLegal job plan
+  accepted bounds paths = record {
+    complete = complete;
+    in_range = in_range;
+    connected = λ d l. passes_connected job.graph (in_district plan d)
+        (not-false (is_connected job.graph (in_district plan d))
+        (first_below_none job.districts (is_parted (with_start job plan)) d
+        (option_map_none (disconnected (with_start job plan)) (first_below job.districts (is_parted (with_start job plan))) paths) l));
+    balanced = λ d l. passes_balanced job (district_sum job.counts.population plan d)
+        (not-false (is_balanced job (district_sum job.counts.population plan d))
+        (first_below_none job.districts (is_unbalanced (with_start job plan)) d
+        (option_map_none (out_of_bounds (with_start job plan)) (first_below job.districts (is_unbalanced (with_start job plan))) bounds) l));
+  }
+
+  unrefused : IsLegal job plan → (bounds_fault (with_start job plan) ≡ None) × (path_fault (with_start job plan) ≡ None)
+  unrefused legal = (
+    ap (option_map (out_of_bounds (with_start job plan)))
+        (none_first_below job.districts (is_unbalanced (with_start job plan)) (λ d l. not_from_true (is_balanced job (district_sum job.counts.population plan d))
+        (balanced_passes job (district_sum job.counts.population plan d) (legal.balanced d l)))),
+    ap (option_map (disconnected (with_start job plan)))
+        (none_first_below job.districts (is_parted (with_start job plan)) (λ d l. not_from_true (is_connected job.graph (in_district plan d))
+        (connected_passes job.graph (in_district plan d) (legal.connected d l)))),
+  )
+
+  judged : (r : Bool) → r ≡ (is_none (bounds_fault (with_start job plan)) && is_none (path_fault (with_start job plan))) → (r ≡ true) ↔ IsLegal job plan
+  judged r is = (
+    λ h.
+        let parts = and_parts (is_none (bounds_fault (with_start job plan))) (is_none (path_fault (with_start job plan))) (sym is ∙ h) in
+        accepted (none_passes (bounds_fault (with_start job plan)) parts.0) (none_passes (path_fault (with_start job plan)) parts.1),
+    λ legal.
+        let parts = unrefused legal in
+        is ∙ and_from (is_none (bounds_fault (with_start job plan))) (is_none (path_fault (with_start job plan)))
+        (passes_none (bounds_fault (with_start job plan)) parts.0) (passes_none (path_fault (with_start job plan)) parts.1),
+  )
+
+  judged_same : (r : Bool) → r ≡ (is_none (bounds_fault (with_start job plan)) && is_none (path_fault (with_start job plan))) → r ≡ is_legal job plan
+  judged_same r is =
+      same_bool r (is_legal job plan) (λ h. legal_passes job plan ((judged r is).0 h)) (λ h. (judged r is).1 (passes_legal job plan h))
+
+  -- the first refusal is there
+  module _ (bounds : Option PlanFault) (bounds_is : bounds ≡ bounds_fault (with_start job plan)) (r : Bool) (some : is_some bounds ≡ not r) where
+    module _ (off : r ≡ false) where
+      refused : r ≡ (is_none (bounds_fault (with_start job plan)) && is_none (path_fault (with_start job plan)))
+      refused =
+          let none : is_none (bounds_fault (with_start job plan)) ≡ false = sym (ap is_none bounds_is) ∙ sym (turned (is_some bounds) r some) ∙ off in
+          off ∙ sym (and_first (is_none (bounds_fault (with_start job plan))) (is_none (path_fault (with_start job plan))) none)
+
+      pub refused_decides : (r ≡ true) ↔ IsLegal job plan
+      refused_decides = judged r refused
+
+      pub refused_same : r ≡ is_legal job plan
+      refused_same = judged_same r refused
+
+    -- there is none, and the second decides
+    module _ (on : r ≡ true) (paths : Option PlanFault) (paths_is : paths ≡ path_fault (with_start job plan)) (q : Bool) (other : is_some paths ≡ not q) where
+      tried : q ≡ (is_none (bounds_fault (with_start job plan)) && is_none (path_fault (with_start job plan)))
+      tried =
+          let none : is_none (bounds_fault (with_start job plan)) ≡ true = sym (ap is_none bounds_is) ∙ sym (turned (is_some bounds) r some) ∙ on in
+          turned (is_some paths) q other ∙ ap is_none paths_is
+          ∙ sym (and_second (is_none (bounds_fault (with_start job plan))) (is_none (path_fault (with_start job plan))) none)
+
+      pub tried_decides : (q ≡ true) ↔ IsLegal job plan
+      tried_decides = judged q tried
+
+      pub tried_same : q ≡ is_legal job plan
+      tried_same = judged_same q tried
+
+-- ---- the job
+
+pub accepted_is_job : (job : Job) → IsWithinLimits job → plan_fault job ≡ None → IsJob job
+accepted_is_job job within none =
+    let parts = accepted_is_legal job within.input.complete within.input.in_range none in
+    record { within = within; votes = parts.0; legal = parts.1 }
+
+pub job_of_none : (parsed : Parsed) (setting : Setting) → plan_fault (job_from parsed setting) ≡ None → job_of parsed setting ≡ Ok (job_from parsed setting)
+unfolding job_of
+job_of_none parsed setting none = ap (job_or (job_from parsed setting)) none
+
+pub job_of_some : (parsed : Parsed) (setting : Setting) (fault : PlanFault) → plan_fault (job_from parsed setting) ≡ Some fault → job_of parsed setting ≡ Err fault
+unfolding job_of
+job_of_some parsed setting fault some = ap (job_or (job_from parsed setting)) some

@@ -1,0 +1,38 @@
+use Rattle.std.proofs.Common.{◌≡◌, ℕ, List, subst}
+use Rattle.audit_model.specs.Job.{Job}
+use Rattle.audit_model.specs.JobOf.{bounds_fault, path_fault}
+use Rattle.plan_core.specs.Input.{with_start}
+use Rattle.plan_core.proofs.Judged.{refused_decides, refused_same, tried_decides, tried_same}
+use Rattle.plan_core.proofs.job.Job.legal.Goals as goal
+
+pub returns-then-is_none-clause-value : goal.returns-then-is_none-clause-value
+returns-then-is_none-clause-value c =
+    let job : Job = c.args.self.now in
+    let plan : List ℕ = c.args.plan.now in
+    let bounds : c.bounds_fault.result ≡ bounds_fault (with_start job plan) = subst (λ (j : Job). c.bounds_fault.result ≡ bounds_fault (with_start j plan)) c.self.view_is c.bounds_fault.ensures in
+    let paths : c.path_fault.result ≡ path_fault (with_start job plan) = subst (λ (j : Job). c.path_fault.result ≡ path_fault (with_start j plan)) c.self.view_is c.path_fault.ensures.fault in
+    tried_same job plan c.requires.complete c.requires.in_range c.bounds_fault.result bounds c.is_none.result c.is_none.ensures c.if-is_none.true
+    c.path_fault.result paths c.is_none-then-is_none.result c.is_none-then-is_none.ensures
+
+pub returns-then-is_none-clause-decides : goal.returns-then-is_none-clause-decides
+returns-then-is_none-clause-decides c =
+    let job : Job = c.args.self.now in
+    let plan : List ℕ = c.args.plan.now in
+    let bounds : c.bounds_fault.result ≡ bounds_fault (with_start job plan) = subst (λ (j : Job). c.bounds_fault.result ≡ bounds_fault (with_start j plan)) c.self.view_is c.bounds_fault.ensures in
+    let paths : c.path_fault.result ≡ path_fault (with_start job plan) = subst (λ (j : Job). c.path_fault.result ≡ path_fault (with_start j plan)) c.self.view_is c.path_fault.ensures.fault in
+    tried_decides job plan c.requires.complete c.requires.in_range c.bounds_fault.result bounds c.is_none.result c.is_none.ensures c.if-is_none.true
+    c.path_fault.result paths c.is_none-then-is_none.result c.is_none-then-is_none.ensures
+
+pub returns-else-is_none-clause-value : goal.returns-else-is_none-clause-value
+returns-else-is_none-clause-value c =
+    let job : Job = c.args.self.now in
+    let plan : List ℕ = c.args.plan.now in
+    let bounds : c.bounds_fault.result ≡ bounds_fault (with_start job plan) = subst (λ (j : Job). c.bounds_fault.result ≡ bounds_fault (with_start j plan)) c.self.view_is c.bounds_fault.ensures in
+    refused_same job plan c.requires.complete c.requires.in_range c.bounds_fault.result bounds c.is_none.result c.is_none.ensures c.if-is_none.false
+
+pub returns-else-is_none-clause-decides : goal.returns-else-is_none-clause-decides
+returns-else-is_none-clause-decides c =
+    let job : Job = c.args.self.now in
+    let plan : List ℕ = c.args.plan.now in
+    let bounds : c.bounds_fault.result ≡ bounds_fault (with_start job plan) = subst (λ (j : Job). c.bounds_fault.result ≡ bounds_fault (with_start j plan)) c.self.view_is c.bounds_fault.ensures in
+    refused_decides job plan c.requires.complete c.requires.in_range c.bounds_fault.result bounds c.is_none.result c.is_none.ensures c.if-is_none.false

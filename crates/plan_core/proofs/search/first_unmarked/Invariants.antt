@@ -1,0 +1,8 @@
+use Rattle.std.proofs.Common.{◌≡◌, None, not, ◌&&◌}
+use Rattle.audit_model.specs.First.{first_below}
+use Rattle.audit_model.specs.Graph.{has}
+use Rattle.audit_model.specs.Plan.{in_district}
+use Rattle.plan_core.proofs.search.first_unmarked.Given as goal
+
+abbrev pub invariant-loop-unit : goal.invariant-loop-unit
+invariant-loop-unit l = first_below l.unit (λ u. in_district l.plan l.district u && not (has l.marks.items u)) ≡ None

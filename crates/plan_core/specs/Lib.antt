@@ -1,0 +1,4 @@
+pub mod Input
+pub mod Outside
+pub mod Parting
+pub mod Search

@@ -1,0 +1,40 @@
+//! The population bounds.
+
+ghost use Rattle.std.specs.Prelude.{◌≡◌, ◌+◌, ◌-◌, ◌*◌, ◌/◌, ◌^◌, ◌<◌, ◌≤◌, length};
+ghost use Rattle.audit_model.specs.Rounded.{quotient_up};
+ghost use Rattle.plan_core.specs.Outside.{first_outside};
+
+use audit_model::fault::PlanFault;
+
+/// The least and the greatest population of a district that lie within the allowed part of the ideal.
+pub fn limits_of(total: u64, slack: u32, districts: u32) -> (u64, u64)
+    requires total { total ≤ 10 ^ 14 }
+    requires slack { slack ≤ 10000 }
+    requires districts { (0 < districts) × (districts ≤ 200) }
+    ensures low { result.0 ≡ quotient_up ((10000 - slack) * total) (10000 * districts) }
+    ensures high { result.1 ≡ (10000 + slack) * total / (10000 * districts) }
+{
+    let parts = 10_000 * u64::from(districts);
+    let low = u64::from(10_000 - slack) * total;
+    let high = u64::from(10_000 + slack) * total;
+    ((low + parts - 1) / parts, high / parts)
+}
+
+/// The refusal of the least district whose population is outside the bounds.
+pub fn first_outside(populations: &[u64], districts: u32, low: u64, high: u64) -> Option<PlanFault>
+    requires { districts ≤ length populations.now }
+    ensures { result ≡ first_outside populations.now districts low high }
+{
+    for district in 0..districts {
+        let population = populations[district as usize];
+        if population < low || high < population {
+            return Some(PlanFault::OutOfBounds {
+                district,
+                population,
+                low,
+                high,
+            });
+        }
+    }
+    None
+}

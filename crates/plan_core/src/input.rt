@@ -1,0 +1,196 @@
+//! What a job holds, before its start plan is judged.
+
+ghost use Rattle.std.specs.Prelude.{◌≡◌, ◌<◌, ℕ, length, slice_index, IfOk};
+ghost use Rattle.std.specs.List.{list_any};
+ghost use Rattle.audit_model.specs.Job.{total_population, total_votes};
+ghost use Rattle.audit_model.specs.JobOf.{is_gap, lacks_votes, bounds_fault, path_fault, plan_fault, job_from};
+ghost use Rattle.audit_model.specs.Limits.{IsWithinLimits};
+ghost use Rattle.audit_model.specs.Plan.{least_population, greatest_population};
+ghost use Rattle.dual_graph.specs.Read.{parsed_of};
+
+use crate::bounds::{first_outside, limits_of};
+use crate::search::parting;
+use crate::sums::{district_sums, sum_of};
+use audit_model::fault::PlanFault;
+use audit_model::lists::UnitList;
+use audit_model::memory::Memory;
+use audit_model::outcome::Counts;
+use audit_model::setting::{Ask, Score, Setting};
+use dual_graph::graph::Graph;
+use dual_graph::marks::Marks;
+use dual_graph::parsed::Parsed;
+use std::alloc::Global;
+use std::marker::Model;
+
+/// A graph with its counts, a plan to start from that need not be legal, and a setting.
+#[derive(Drop)]
+pub struct Input {
+    graph: Graph,
+    counts: Counts,
+    start: UnitList,
+    districts: u32,
+    setting: Setting,
+    population: u64,
+    votes: u64,
+}
+
+impl Model for Input {
+    ghost use Rattle.audit_model.specs.Job.{Job};
+
+    ghost Value = { Job };
+
+    ghost use Rattle.plan_core.specs.Input.{IsInput};
+
+    ghost view = { λ i. record { graph = i.graph; counts = i.counts; start = i.start; districts = i.districts; setting = i.setting } };
+
+    ghost invariant = { λ i. IsInput
+        (record { graph = i.graph; counts = i.counts; start = i.start; districts = i.districts; setting = i.setting }) i.population i.votes };
+}
+
+/// Whether the score is the gap.
+fn is_gap(score: Score) -> bool
+    ensures { result ≡ is_gap score }
+{
+    match score {
+        Score::Gap => true,
+        Score::Seats | Score::MeanMedian | Score::CutEdges => false,
+    }
+}
+
+/// Whether the gap is among the scores that are asked for.
+fn asks_gap(asks: &[Ask]) -> bool
+    ensures { result ≡ list_any (λ ask. is_gap ask.score) asks.now }
+{
+    asks.iter().any(|ask| is_gap(ask.score))
+}
+
+impl Input {
+    ghost use Rattle.plan_core.specs.Input.{with_start};
+
+    /// What was read of a graph, with a setting.
+    pub fn new(parsed: Parsed, setting: Setting) -> Input
+        requires { IsWithinLimits (job_from (parsed_of parsed) setting) }
+        ensures { result ≡ job_from (parsed_of parsed) setting }
+    {
+        let population = sum_of(parsed.counts.population.as_slice());
+        let votes = sum_of(parsed.counts.first.as_slice())
+            + sum_of(parsed.counts.second.as_slice());
+        Input {
+            graph: parsed.graph,
+            counts: parsed.counts,
+            start: parsed.start,
+            districts: parsed.labels.len() as u32,
+            setting,
+            population,
+            votes,
+        }
+    }
+
+    /// The graph.
+    pub fn graph(&self) -> &Graph
+        ensures { result.now ≡ self.now.graph }
+    {
+        &self.graph
+    }
+
+    /// The population and the votes of each unit.
+    pub fn counts(&self) -> &Counts
+        ensures { result.now ≡ self.now.counts }
+    {
+        &self.counts
+    }
+
+    /// The plan to start from.
+    pub fn start(&self) -> &UnitList
+        ensures { result.now ≡ self.now.start }
+    {
+        &self.start
+    }
+
+    /// How many districts there are.
+    pub fn districts(&self) -> u32
+        ensures { result ≡ self.now.districts }
+    {
+        self.districts
+    }
+
+    /// The setting.
+    pub fn setting(&self) -> &Setting
+        ensures { result.now ≡ self.now.setting }
+    {
+        &self.setting
+    }
+
+    /// The population of all units.
+    pub fn population(&self) -> u64
+        ensures { result ≡ total_population self.now }
+    {
+        self.population
+    }
+
+    /// The votes of both parties in all units.
+    pub fn votes(&self) -> u64
+        ensures { result ≡ total_votes self.now }
+    {
+        self.votes
+    }
+
+    /// The least and the greatest population of a district that is within the bounds.
+    pub fn limits(&self) -> (u64, u64)
+        ensures { result ≡ (least_population self.now, greatest_population self.now) }
+    {
+        limits_of(self.population, self.setting.slack, self.districts)
+    }
+
+    /// Whether the gap is asked for, and there are no votes.
+    fn lacks_votes(&self) -> bool
+        ensures { result ≡ lacks_votes self.now }
+    {
+        asks_gap(self.setting.asks.as_slice()) && self.votes == 0
+    }
+
+    /// The refusal of a plan whose populations are not all within the bounds.
+    pub fn bounds_fault(&self, plan: &[u32]) -> Option<PlanFault>
+        requires complete { length plan.now ≡ self.now.graph.units }
+        requires in_range { (u : ℕ) → u < self.now.graph.units → slice_index plan.now u < self.now.districts }
+        ensures { result ≡ bounds_fault (with_start self.now plan.now) }
+    {
+        let (low, high) = self.limits();
+        let populations = district_sums(self.counts.population.as_slice(), plan);
+        first_outside(&populations, self.districts, low, high)
+    }
+
+    /// The refusal of a plan whose districts are not all connected.
+    pub fn path_fault(&self, plan: &[u32], marks: &mut Marks) -> Option<PlanFault>
+        requires complete { length plan.now ≡ self.now.graph.units }
+        requires marks { marks.old.units ≡ self.now.graph.units }
+        ensures units { marks.new.units ≡ self.now.graph.units }
+        ensures fault { result ≡ path_fault (with_start self.now plan.now) }
+    {
+        for district in 0..self.districts {
+            if let Some((one, other)) = parting(&self.graph, plan, district, marks) {
+                return Some(PlanFault::Disconnected {
+                    district,
+                    one,
+                    other,
+                });
+            }
+        }
+        None
+    }
+
+    /// The first reason to refuse the plan to start from.
+    pub fn plan_fault(&self, alloc: Global) -> Result<Option<PlanFault>, Memory>
+        ensures { IfOk result (λ fault. fault ≡ plan_fault self.now) }
+    {
+        if self.lacks_votes() {
+            return Ok(Some(PlanFault::NoVotes));
+        }
+        let plan = self.start.as_slice();
+        if let Some(fault) = self.bounds_fault(plan) {
+            return Ok(Some(fault));
+        }
+        let mut marks = Marks::new(alloc, self.graph.units())?;
+        Ok(self.path_fault(plan, &mut marks))
+    }
+}

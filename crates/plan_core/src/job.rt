@@ -1,0 +1,150 @@
+//! The job of a run.
+
+ghost use Rattle.std.specs.Prelude.{◌≡◌, ◌+◌, ◌<◌, ◌↔◌, ◌⊎◌, ℕ, Ok, Err, length, slice_index, IsTrue, IfOk, MatchResult};
+ghost use Rattle.audit_model.specs.declared.fault.PlanFault.TheVariants as plan;
+ghost use Rattle.audit_model.specs.Job.{total_population, total_votes};
+ghost use Rattle.audit_model.specs.JobOf.{IsJob, job_from, job_of};
+ghost use Rattle.audit_model.specs.Limits.{IsWithinLimits};
+ghost use Rattle.audit_model.specs.Plan.{IsLegal, is_legal, least_population, greatest_population};
+ghost use Rattle.dual_graph.specs.Read.{parsed_of};
+
+use crate::input::Input;
+use audit_model::fault::PlanFault;
+use audit_model::lists::UnitList;
+use audit_model::outcome::Counts;
+use audit_model::setting::Setting;
+use dual_graph::graph::Graph;
+use dual_graph::marks::Marks;
+use dual_graph::parsed::Parsed;
+use std::alloc::Global;
+use std::marker::Model;
+
+/// A graph with the counts of its units, a legal plan to start from, and a setting.
+#[derive(Drop)]
+pub struct Job {
+    input: Input,
+}
+
+impl Model for Job {
+    ghost use Rattle.audit_model.specs.Job.{Job as JobValue};
+
+    ghost Value = { JobValue };
+
+    ghost use Rattle.audit_model.specs.JobOf.{IsJob as IsJobValue};
+
+    ghost view = { λ j. j.input };
+
+    ghost invariant = { λ j. IsJobValue j.input };
+}
+
+impl Job {
+    /// The job of what was read of a graph and a setting.
+    ///
+    /// # Errors
+    ///
+    /// - `NoVotes`: the gap is asked for, and no unit has a vote.
+    /// - `OutOfBounds`: the least district whose population is outside the bounds.
+    /// - `Disconnected`: the least district that is not connected, with its least unit and the least one
+    ///   to which no path within the district leads from there.
+    /// - `Memory`: there was no memory for the search.
+    pub fn new(alloc: Global, parsed: Parsed, setting: Setting) -> Result<Job, PlanFault>
+        requires within { IsWithinLimits (job_from (parsed_of parsed) setting) }
+        ensures job { MatchResult result (λ job. job_of (parsed_of parsed) setting ≡ Ok job)
+            (λ fault. (fault ≡ plan.Memory) ⊎ (job_of (parsed_of parsed) setting ≡ Err fault)) }
+        ensures sound { IfOk result (λ job. IsJob job) }
+    {
+        let input = Input::new(parsed, setting);
+        match input.plan_fault(alloc) {
+            Err(_) => Err(PlanFault::Memory),
+            Ok(Some(fault)) => Err(fault),
+            Ok(None) => Ok(Job { input }),
+        }
+    }
+
+    /// The least and the greatest population of a district that is within the bounds. Where none is, the
+    /// least that is large enough is above the greatest that is small enough.
+    pub fn limits(&self) -> (u64, u64)
+        ensures { result ≡ (least_population self.now, greatest_population self.now) }
+    {
+        self.input.limits()
+    }
+
+    /// Whether a plan is legal: each district has a unit, is connected and has a population within the
+    /// bounds. It takes no memory; the marks are left with what was marked last.
+    pub fn legal(&self, plan: &[u32], marks: &mut Marks) -> bool
+        requires complete { length plan.now ≡ self.now.graph.units }
+        requires in_range { (u : ℕ) → u < self.now.graph.units → slice_index plan.now u < self.now.districts }
+        requires marks { marks.old.units ≡ self.now.graph.units }
+        ensures value { result ≡ is_legal self.now plan.now }
+        ensures decides { IsTrue result ↔ IsLegal self.now plan.now }
+        ensures marks { marks.new.units ≡ marks.old.units }
+    {
+        self.input.bounds_fault(plan).is_none() && self.input.path_fault(plan, marks).is_none()
+    }
+
+    /// The graph.
+    pub fn graph(&self) -> &Graph
+        ensures { result.now ≡ self.now.graph }
+    {
+        self.input.graph()
+    }
+
+    /// The population and the votes of each unit.
+    pub fn counts(&self) -> &Counts
+        ensures { result.now ≡ self.now.counts }
+    {
+        self.input.counts()
+    }
+
+    /// The plan to start from.
+    pub fn start(&self) -> &UnitList
+        ensures value { result.now ≡ self.now.start }
+        ensures legal { IsLegal self.now result.now }
+    {
+        self.input.start()
+    }
+
+    /// The setting.
+    pub fn setting(&self) -> &Setting
+        ensures { result.now ≡ self.now.setting }
+    {
+        self.input.setting()
+    }
+
+    /// How many units there are.
+    pub fn units(&self) -> u32
+        ensures units { result ≡ self.now.graph.units }
+        ensures sound { IsJob self.now }
+    {
+        self.input.graph().units()
+    }
+
+    /// How many districts there are.
+    pub fn districts(&self) -> u32
+        ensures { result ≡ self.now.districts }
+    {
+        self.input.districts()
+    }
+
+    /// The population of all units.
+    pub fn population(&self) -> u64
+        ensures { result ≡ total_population self.now }
+    {
+        self.input.population()
+    }
+
+    /// The votes of both parties in all units.
+    pub fn votes(&self) -> u64
+        ensures { result ≡ total_votes self.now }
+    {
+        self.input.votes()
+    }
+
+    /// How many trajectories there are.
+    pub fn total(&self) -> u32
+        ensures { result ≡ self.now.setting.walks + self.now.setting.ends }
+    {
+        let setting = self.input.setting();
+        setting.walks + setting.ends
+    }
+}

@@ -1,0 +1,150 @@
+//! The four scores of a plan, from the sums of its districts.
+#![tactic(auto)]
+
+ghost use Rattle.std.specs.Prelude.{◌≡◌, ◌*◌, ◌+◌, ◌^◌, ◌-◌, ◌/◌, ◌<◌, ◌≤◌, pos, length, sum, All};
+ghost use Rattle.audit_model.specs.Score as definition;
+ghost use Rattle.scores.specs.Votes.{AreVotes};
+
+use audit_model::outcome::SumsView;
+use audit_model::setting::Score;
+
+const BILLION: u64 = 1_000_000_000;
+
+/// The numerator of a score. What the room holds afterwards is open.
+pub fn value(score: Score, sums: &SumsView, room: &mut [u64]) -> i64
+    requires votes { AreVotes sums.now.first sums.now.second }
+    requires room { length sums.now.first ≤ length room.old }
+    ensures { result ≡ definition.value score sums.now }
+{
+    match score {
+        Score::Seats => i64::from(seats(sums)),
+        Score::MeanMedian => {
+            let shares = &mut room[..sums.first.len()];
+            write_shares(sums, shares);
+            mean_median(shares)
+        }
+        Score::Gap => efficiency_gap(sums),
+        Score::CutEdges => i64::from(sums.cut),
+    }
+}
+
+/// The denominator of a score, from the number of districts and the votes of both parties in all units.
+pub fn denominator(score: Score, districts: u32, votes: u64) -> u64
+    requires { votes ≤ 2 * 10 ^ 14 }
+    ensures value { result ≡ definition.denominator score districts votes }
+    ensures signed { result < 2 ^ 63 }
+{
+    match score {
+        Score::Seats => 1,
+        Score::MeanMedian => 2 * u64::from(districts) * BILLION,
+        Score::Gap => 2 * votes,
+        Score::CutEdges => 1,
+    }
+}
+
+/// How many districts the first party wins. A tie is the second party's.
+#[tactic(auto, using(crate::proofs::Below::count_below_yes, crate::proofs::Below::count_below_no, crate::proofs::Below::count_below_none, crate::proofs::Below::count_below_le))]
+fn seats(sums: &SumsView) -> u32
+    requires { AreVotes sums.now.first sums.now.second }
+    ensures { result ≡ definition.seats sums.now }
+{
+    let first = sums.first.as_slice();
+    let second = sums.second.as_slice();
+    let mut seats = 0;
+    for district in 0..first.len() {
+        if first[district] > second[district] {
+            seats += 1;
+        }
+    }
+    seats
+}
+
+/// The second party's wasted votes less the first party's, doubled.
+#[tactic(auto, using(crate::proofs::Below::sum_below_more))]
+fn efficiency_gap(sums: &SumsView) -> i64
+    requires { AreVotes sums.now.first sums.now.second }
+    ensures { result ≡ definition.efficiency_gap sums.now }
+{
+    let first = sums.first.as_slice();
+    let second = sums.second.as_slice();
+    let mut first_wasted = 0;
+    let mut second_wasted = 0;
+    for district in 0..first.len() {
+        if first[district] > second[district] {
+            first_wasted += first[district] - second[district];
+            second_wasted += 2 * second[district];
+        } else {
+            first_wasted += 2 * first[district];
+            second_wasted += second[district] - first[district];
+        }
+    }
+    second_wasted as i64 - first_wasted as i64
+}
+
+/// Writes the first party's share in each district.
+#[tactic(auto, using(crate::proofs::Below::map_below_more))]
+fn write_shares(sums: &SumsView, shares: &mut [u64])
+    requires votes { AreVotes sums.now.first sums.now.second }
+    requires room { length shares.old ≡ length sums.now.first }
+    ensures { shares.new ≡ definition.shares sums.now }
+{
+    let first = sums.first.as_slice();
+    let second = sums.second.as_slice();
+    for district in 0..first.len() {
+        shares[district] = share(first[district], second[district]);
+    }
+}
+
+/// The first party's share of the votes in billionths, rounded down, and one half where there are none.
+fn share(first: u64, second: u64) -> u64
+    requires { first + second < 2 ^ 64 }
+    ensures { result ≡ definition.share first second }
+{
+    let all = first + second;
+    if all == 0 {
+        BILLION / 2
+    } else {
+        (u128::from(first) * u128::from(BILLION) / u128::from(all)) as u64
+    }
+}
+
+/// The median share less the mean share, times twice the number of districts. It puts the shares into rising order.
+fn mean_median(shares: &mut [u64]) -> i64
+    requires some { 1 ≤ length shares.old }
+    requires few { length shares.old ≤ 200 }
+    requires small { All (λ n. n ≤ 10 ^ 9) shares.old }
+    ensures { result ≡ definition.mean_median shares.old }
+{
+    let all = total(shares);
+    let districts = shares.len() as u64;
+    (districts * twice_median(shares)) as i64 - (2 * all) as i64
+}
+
+/// The sum of the two numbers in the middle of the rising order, or twice the one in the middle. It puts the numbers
+/// into rising order.
+fn twice_median(numbers: &mut [u64]) -> u64
+    requires some { 1 ≤ length numbers.old }
+    requires small { All (λ n. n ≤ 10 ^ 9) numbers.old }
+    ensures value { result ≡ definition.ranked numbers.old ((length numbers.old - 1) / 2) + definition.ranked numbers.old (length numbers.old / 2) }
+    ensures small { result ≤ 2 * 10 ^ 9 }
+{
+    numbers.sort_unstable();
+    numbers[(numbers.len() - 1) / 2] + numbers[numbers.len() / 2]
+}
+
+/// The sum of the shares.
+fn total(shares: &[u64]) -> u64
+    requires few { length shares.now ≤ 200 }
+    requires small { All (λ n. n ≤ 10 ^ 9) shares.now }
+    ensures value { result ≡ sum shares.now }
+    ensures small { result ≤ 200 * 10 ^ 9 }
+{
+    let mut total = 0;
+    for share in shares {
+        total += share;
+    }
+    total
+}
+
+#[cfg(test)]
+mod tests;
