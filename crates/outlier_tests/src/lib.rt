@@ -24,21 +24,21 @@ pub fn in_tail(tail: Tail, value: i64, start: i64) -> bool
     }
 }
 
-/// The bound on how likely a start is of which `count` of `of` visits are in the tail, in billionths and rounded up:
-/// the square root of twice their part, as Chikina, Frieze and Pegden have it.
+/// The significance of a start where `count` of the `of` visits of a trajectory are in its tail, the start among them:
+/// the square root of twice that part, which Chikina, Frieze and Pegden prove, in billionths and rounded up.
 pub fn bound(count: u64, of: u64) -> u64
     requires count { (1 ≤ count) × (count ≤ of) }
     requires few { of ≤ 1000000001 }
     ensures value { result ≡ test.bound count of }
     ensures least { IsLeast (λ r. nat_le (2 * count * 10 ^ 18) (r * r * of)) result }
 {
-    // The greatest number that falls short where it stands for the square.
+    // A number is large enough exactly where its square is above this.
     let short = (2 * u128::from(count) * BILLION_SQUARED - 1) / u128::from(of);
     (short as u64).isqrt() + 1
 }
 
-/// The start's rank among the ends of the parallel test: one plus the number of those whose value for the ask at this
-/// place is in the tail.
+/// The start's rank among the ends of the parallel test: one plus the number of ends whose value at the place `ask` is
+/// in the tail.
 pub fn rank(tail: Tail, start: i64, ask: u32, ends: &[Outcome]) -> u64
     requires { ask < 4 }
     ensures { result ≡ trajectory.rank_among tail start ask ends.now }
@@ -52,8 +52,8 @@ pub fn rank(tail: Tail, start: i64, ask: u32, ends: &[Outcome]) -> u64
     rank
 }
 
-/// The p-value of a rank among `of` values, the start's among them, in billionths and rounded up, as Besag and Clifford
-/// have it.
+/// The p-value of Besag and Clifford's parallel test for the start's rank among `of` values, its own among them, in
+/// billionths and rounded up.
 pub fn p_value(rank: u64, of: u64) -> u64
     requires rank { (1 ≤ rank) × (rank ≤ of) }
     requires few { of ≤ 1000000001 }

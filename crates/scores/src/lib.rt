@@ -10,7 +10,8 @@ use audit_model::setting::Score;
 
 const BILLION: u64 = 1_000_000_000;
 
-/// The numerator of a score. What the room holds afterwards is open.
+/// The numerator of a score, from the votes of the districts and the number of cut edges. The room needs a place for each
+/// district; what it holds afterwards is open.
 pub fn value(score: Score, sums: &SumsView, room: &mut [u64]) -> i64
     requires votes { AreVotes sums.now.first sums.now.second }
     requires room { length sums.now.first ≤ length room.old }
@@ -28,7 +29,7 @@ pub fn value(score: Score, sums: &SumsView, room: &mut [u64]) -> i64
     }
 }
 
-/// The denominator of a score, from the number of districts and the votes of both parties in all units.
+/// The denominator of a score, from the number of districts and the votes of both parties together.
 pub fn denominator(score: Score, districts: u32, votes: u64) -> u64
     requires { votes ≤ 2 * 10 ^ 14 }
     ensures value { result ≡ definition.denominator score districts votes }

@@ -1,0 +1,42 @@
+-- Searches from the front that pass over what they do not want.
+use Rattle.std.proofs.Common.{◌≡◌, ℕ, zero, suc, ◌<◌, ◌≤◌, Bool, true, false, List, [], ◌∷◌, length, get_or, drop, refl, subst, inl, inr, arith, Option, Some, None}
+use Rattle.std.proofs.lemmas.Bool.{or_left, or_right, cases_eq}
+use Rattle.std.specs.Prelude.{find}
+use Rattle.audit_model.specs.Below.{any_below}
+use Rattle.audit_model.specs.First.{first_some_below}
+
+-- the search goes on behind what does not pass, and ends at what does
+pub find-skips : {X : Type 0} (p : X → Bool) (xs : List X) (i : ℕ) (d : X) → i < length xs → p (get_or xs i d) ≡ false → find p (drop i xs) ≡ find p (drop (suc i) xs)
+find-skips p [] i d h e = absurd (omega arith)
+find-skips p (x ∷ xs) zero d h e = rw e refl
+find-skips p (x ∷ xs) (suc i) d h e = find-skips p xs i d (omega arith) e
+
+pub find-stops : {X : Type 0} (p : X → Bool) (xs : List X) (i : ℕ) (d : X) → i < length xs → p (get_or xs i d) ≡ true → find p (drop i xs) ≡ Some (get_or xs i d)
+find-stops p [] i d h e = absurd (omega arith)
+find-stops p (x ∷ xs) zero d h e = rw e refl
+find-stops p (x ∷ xs) (suc i) d h e = find-stops p xs i d (omega arith) e
+
+pub find-end : {X : Type 0} (p : X → Bool) (xs : List X) (i : ℕ) → length xs ≤ i → find p (drop i xs) ≡ None
+find-end p [] zero h = refl
+find-end p [] (suc i) h = refl
+find-end p (x ∷ xs) zero h = absurd (omega arith)
+find-end p (x ∷ xs) (suc i) h = find-end p xs i (omega arith)
+
+-- one that passes is enough
+pub any_below-has : (n k : ℕ) (test : ℕ → Bool) → k < n → test k ≡ true → any_below n test ≡ true
+any_below-has zero k test l h = absurd (omega arith)
+any_below-has (suc n) k test l h = elim (cases_eq k n) [
+  | inl e ↦ or_right (any_below n test) (test n) (subst (λ m. test m ≡ true) e h)
+  | inr e ↦ or_left (any_below n test) (test n) (any_below-has n k test (omega arith) h)
+]
+
+-- what follows the first thing that is there is passed over
+pub first_some_below-stops : {A : Type 0} (n k : ℕ) (f : ℕ → Option A) (x : A) → k < n → first_some_below k f ≡ None → f k ≡ Some x → first_some_below n f ≡ Some x
+first_some_below-stops zero k f x l none some = absurd (omega arith)
+first_some_below-stops (suc n) k f x l none some = elim (cases_eq k n) [
+  | inl e ↦ rw (subst (λ m. first_some_below m f ≡ None) e none) (subst (λ m. f m ≡ Some x) e some)
+  | inr e ↦ rw (first_some_below-stops n k f x (omega arith) none some) refl
+]
+
+pub first_some_below-none : {A : Type 0} (k m : ℕ) (f : ℕ → Option A) → m ≡ suc k → first_some_below k f ≡ None → f k ≡ None → first_some_below m f ≡ None
+first_some_below-none k m f e none here = rw (e, none, here) refl

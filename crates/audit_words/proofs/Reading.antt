@@ -1,0 +1,71 @@
+-- The setting of words, by the places where a fault is looked for.
+use Rattle.std.proofs.Common.{◌≡◌, ◌∙◌, ℕ, Bool, true, false, cond, not, arith, is_none, find, List, [], ◌∷◌, length, refl, ap, sym, String, Option, Some, None, option_map, Ok, Err}
+use Rattle.audit_model.specs.First.{first_some, first_some_below}
+use Rattle.audit_model.specs.declared.fault.WordFault.{WordFault}
+use Rattle.audit_model.specs.declared.fault.WordFault.TheVariants.{NoCommand, UnknownCommand, MissingName, BadValue}
+use Rattle.audit_model.specs.declared.setting.Command.{Command}
+use Rattle.audit_model.specs.declared.setting.Command.TheVariants.{Check}
+use Rattle.audit_words.specs.Spoken.{spoken}
+use Rattle.text_definitions.specs.Words.{Pair, pairs, command_of, pair_fault, value_of, is_good, names_of, fault_of, of_command, setting_for, setting_or, setting_of}
+
+-- the three places
+abbrev pub fault_of_pairs : Command → List Pair → Option WordFault
+fault_of_pairs command words = first_some_below (length words) (pair_fault command words)
+
+abbrev pub fault_of_names : Command → List Pair → Option WordFault
+fault_of_names command words = option_map MissingName (find (λ name. is_none (value_of command words name)) (names_of command))
+
+abbrev pub fault_of_values : Command → List Pair → Option WordFault
+fault_of_values command words = option_map BadValue (find (λ name. not (is_good command words name)) (names_of command))
+
+-- which of three is the first that is there
+first_of : {A : Type 0} (a b c : Option A) (x : A) → a ≡ Some x → first_some (a ∷ b ∷ c ∷ []) ≡ Some x
+first_of a b c x h = rw h refl
+
+second_of : {A : Type 0} (a b c : Option A) (x : A) → a ≡ None → b ≡ Some x → first_some (a ∷ b ∷ c ∷ []) ≡ Some x
+second_of a b c x none h = rw (none, h) refl
+
+third_of : {A : Type 0} (a b c : Option A) (o : Option A) → a ≡ None → b ≡ None → c ≡ o → first_some (a ∷ b ∷ c ∷ []) ≡ o
+third_of a b c None none nor h = rw (none, nor, h) refl
+third_of a b c (Some x) none nor h = rw (none, nor, h) refl
+
+-- the only command
+chosen : (b : Bool) (command : Command) → cond b (Some Check) None ≡ Some command → command ≡ Check
+chosen true command h = cc
+chosen false command h = cc
+
+pub command_of-check : (word : List ℕ) (command : Command) → Some command ≡ command_of word → command ≡ Check
+command_of-check word command h = chosen _ command (sym h)
+
+pub spoken-empty : {A : Type 0} (words : List (String A)) → length words ≡ 0 → spoken words ≡ []
+spoken-empty [] h = refl
+spoken-empty (word ∷ words) h = absurd (omega arith)
+
+pub setting_of-no_words : (words : List (List ℕ)) → words ≡ [] → setting_of words ≡ Err NoCommand
+unfolding setting_of
+setting_of-no_words words h = ap setting_of h
+
+pub setting_of-other_word : (words : List (List ℕ)) (word : List ℕ) (rest : List (List ℕ)) → words ≡ word ∷ rest → None ≡ command_of word → setting_of words ≡ Err (UnknownCommand word)
+unfolding setting_of
+setting_of-other_word words word rest h e = ap setting_of h ∙ ap (of_command word (pairs rest)) (sym e)
+
+-- the words of a command
+pub setting_of-command : (words : List (List ℕ)) (word : List ℕ) (rest : List (List ℕ)) (command : Command) → words ≡ word ∷ rest → Some command ≡ command_of word
+    → setting_of words ≡ setting_or command (pairs rest) (fault_of command (pairs rest))
+unfolding setting_of
+setting_of-command words word rest command h e = ap setting_of h ∙ ap (of_command word (pairs rest)) (sym e)
+
+module _ (command : Command) (words : List Pair) where
+  pub refused_by_pairs : (fault : WordFault) → fault_of_pairs command words ≡ Some fault → setting_or command words (fault_of command words) ≡ Err fault
+  refused_by_pairs fault h = ap (setting_or command words) (first_of (fault_of_pairs command words) (fault_of_names command words) (fault_of_values command words) fault h)
+
+  pub refused_by_names : (fault : WordFault) → fault_of_pairs command words ≡ None → fault_of_names command words ≡ Some fault → setting_or command words (fault_of command words) ≡ Err fault
+  refused_by_names fault none h = ap (setting_or command words) (second_of (fault_of_pairs command words) (fault_of_names command words) (fault_of_values command words) fault none h)
+
+  pub refused_by_values : (fault : WordFault) → fault_of_pairs command words ≡ None → fault_of_names command words ≡ None → fault_of_values command words ≡ Some fault
+      → setting_or command words (fault_of command words) ≡ Err fault
+  refused_by_values fault none nor h = ap (setting_or command words) (third_of (fault_of_pairs command words) (fault_of_names command words) (fault_of_values command words) (Some fault) none nor h)
+
+  pub taken : fault_of_pairs command words ≡ None → fault_of_names command words ≡ None → fault_of_values command words ≡ None
+      → setting_or command words (fault_of command words) ≡ Ok (setting_for command words)
+  taken none nor neither = ap (setting_or command words) (third_of (fault_of_pairs command words) (fault_of_names command words) (fault_of_values command words) None none nor neither)

@@ -1,0 +1,61 @@
+use Rattle.std.proofs.Common.{◌≡◌, ◌∙◌, Some, None, Ok, Err, ap, sym, subst, inl, inr, string_bytes}
+use Rattle.std.proofs.lemmas.Result.{err_from_is_err_and}
+use Rattle.audit_model.specs.declared.fault.WordFault.TheVariants as fault
+use Rattle.audit_words.specs.Spoken.{spoken}
+use Rattle.audit_words.proofs.Reading.{command_of-check, spoken-empty, setting_of-no_words, setting_of-other_word, setting_of-command, refused_by_pairs, refused_by_names, refused_by_values, taken, fault_of_values}
+use Rattle.text_definitions.specs.Words as definition
+use Rattle.audit_words.proofs.words.read.Goals as goal
+
+pub returns-in_default-clause-exact : goal.returns-in_default-clause-exact
+returns-in_default-clause-exact c = inr (setting_of-no_words (spoken c.args.words.now) (spoken-empty c.args.words.now c.in_default.ensures.cases))
+
+pub returns-in_default-command_of-clause-exact : goal.returns-in_default-command_of-clause-exact
+returns-in_default-command_of-clause-exact c =
+    let other : None ≡ definition.command_of (string_bytes c.in-Some.word.now) = subst (λ t. None ≡ definition.command_of t) c.as_str.ensures.value c.in_default-command_of.ensures in
+    let whole = setting_of-other_word (spoken c.args.words.now) (string_bytes c.in-Some.word.now) (spoken c.in-Some.rest.now) (ap spoken c.in-Some.ensures.cases.0) other in
+    elim c.unknown_command.ensures [
+      | inl memory ↦ inl memory
+      | inr found ↦ inr (whole ∙ ap (λ t. Err (fault.UnknownCommand t)) (sym c.as_str-in_default-command_of.ensures.value) ∙ ap (λ f. Err f) (sym found))
+    ]
+
+pub returns-in_err-judge_pairs-clause-exact : goal.returns-in_err-judge_pairs-clause-exact
+returns-in_err-judge_pairs-clause-exact c =
+    let p = err_from_is_err_and c.from_residual.result c.from_residual.ensures.1 in
+    let known : Some c.in-Some-command_of.command ≡ definition.command_of (string_bytes c.in-Some.word.now) = subst (λ t. Some c.in-Some-command_of.command ≡ definition.command_of t) c.as_str.ensures.value c.in-Some-command_of.ensures in
+    let whole = setting_of-command (spoken c.args.words.now) (string_bytes c.in-Some.word.now) (spoken c.in-Some.rest.now) c.in-Some-command_of.command (ap spoken c.in-Some.ensures.cases.0) known in
+    rw (p.1, p.2) (elim c.in_err-judge_pairs.ensures [
+      | inl memory ↦ inl memory
+      | inr found ↦ inr (whole ∙ refused_by_pairs c.in-Some-command_of.command (definition.pairs (spoken c.in-Some.rest.now)) c.in_err-judge_pairs.field-0.0 found)
+    ])
+
+pub returns-in_err-judge_missing-clause-exact : goal.returns-in_err-judge_missing-clause-exact
+returns-in_err-judge_missing-clause-exact c =
+    let p = err_from_is_err_and c.from_residual-in_err-judge_missing.result c.from_residual-in_err-judge_missing.ensures.1 in
+    let known : Some c.in-Some-command_of.command ≡ definition.command_of (string_bytes c.in-Some.word.now) = subst (λ t. Some c.in-Some-command_of.command ≡ definition.command_of t) c.as_str.ensures.value c.in-Some-command_of.ensures in
+    let whole = setting_of-command (spoken c.args.words.now) (string_bytes c.in-Some.word.now) (spoken c.in-Some.rest.now) c.in-Some-command_of.command (ap spoken c.in-Some.ensures.cases.0) known in
+    rw (p.1, p.2) (elim c.in_err-judge_missing.ensures [
+      | inl memory ↦ inl memory
+      | inr found ↦ inr (whole ∙ refused_by_names c.in-Some-command_of.command (definition.pairs (spoken c.in-Some.rest.now)) c.in_err-judge_missing.field-0.0 c.in_ok-judge_pairs.ensures found)
+    ])
+
+pub returns-in_err-slack-clause-exact : goal.returns-in_err-slack-clause-exact
+returns-in_err-slack-clause-exact c =
+    let p = err_from_is_err_and c.from_residual-in_err-slack.result c.from_residual-in_err-slack.ensures.1 in
+    let known : Some c.in-Some-command_of.command ≡ definition.command_of (string_bytes c.in-Some.word.now) = subst (λ t. Some c.in-Some-command_of.command ≡ definition.command_of t) c.as_str.ensures.value c.in-Some-command_of.ensures in
+    let whole = setting_of-command (spoken c.args.words.now) (string_bytes c.in-Some.word.now) (spoken c.in-Some.rest.now) c.in-Some-command_of.command (ap spoken c.in-Some.ensures.cases.0) known in
+    let check = command_of-check (string_bytes c.in-Some.word.now) c.in-Some-command_of.command known in
+    rw (p.1, p.2) (elim c.in_err-slack.ensures.fault [
+      | inl memory ↦ inl memory
+      | inr found ↦ inr (whole ∙ refused_by_values c.in-Some-command_of.command (definition.pairs (spoken c.in-Some.rest.now)) c.in_err-slack.field-0.0 c.in_ok-judge_pairs.ensures c.in_ok-judge_missing.ensures
+          (subst (λ m. fault_of_values m (definition.pairs (spoken c.in-Some.rest.now)) ≡ Some c.in_err-slack.field-0.0) (sym check) found))
+    ])
+
+pub returns-in-Ok-clause-exact : goal.returns-in-Ok-clause-exact
+returns-in-Ok-clause-exact c =
+    let known : Some c.in-Some-command_of.command ≡ definition.command_of (string_bytes c.in-Some.word.now) = subst (λ t. Some c.in-Some-command_of.command ≡ definition.command_of t) c.as_str.ensures.value c.in-Some-command_of.ensures in
+    let whole = setting_of-command (spoken c.args.words.now) (string_bytes c.in-Some.word.now) (spoken c.in-Some.rest.now) c.in-Some-command_of.command (ap spoken c.in-Some.ensures.cases.0) known in
+    let check = command_of-check (string_bytes c.in-Some.word.now) c.in-Some-command_of.command known in
+    whole ∙ taken c.in-Some-command_of.command (definition.pairs (spoken c.in-Some.rest.now)) c.in_ok-judge_pairs.ensures c.in_ok-judge_missing.ensures
+    (subst (λ m. fault_of_values m (definition.pairs (spoken c.in-Some.rest.now)) ≡ None) (sym check) c.in_ok-slack.ensures.fault)
+    ∙ ap (λ m. Ok (definition.setting_for m (definition.pairs (spoken c.in-Some.rest.now)))) check
+    ∙ ap (λ s. Ok s) (sym c.in-Ok.ensures.value)

@@ -1,0 +1,13 @@
+-- The words of a command line as lists of bytes, and what a look at them for faults answers.
+use Rattle.std.specs.Prelude.{◌≡◌, ◌⊎◌, ℕ, List, String, map, string_bytes, Option, Some, None, Result}
+use Rattle.std.specs.Result.{MatchResult}
+use Rattle.audit_model.specs.declared.fault.WordFault.{WordFault}
+use Rattle.audit_model.specs.declared.fault.WordFault.TheVariants.{Memory}
+
+-- the bytes of each word
+abbrev pub spoken : {A : Type 0} → List (String A) → List (List ℕ)
+spoken words = map string_bytes words
+
+-- the answer is the fault, where there is one, or want of memory
+abbrev pub Tells : {A : Type 0} → Result A WordFault → Option WordFault → Type 0
+Tells result fault = MatchResult result (λ _. fault ≡ None) (λ f. (f ≡ Memory) ⊎ (fault ≡ Some f))

@@ -1,0 +1,14 @@
+//! Reads the words of a command line: a command, and after it pairs of a name and a value.
+#![tactic(auto)]
+
+pub mod names;
+pub mod pairs;
+#[cfg(test)]
+mod tests;
+pub mod values;
+pub mod words;
+
+pub use audit_model::fault::{Name, WordFault};
+pub use audit_model::setting::Setting;
+pub use names::name_text;
+pub use words::read;

@@ -1,0 +1,122 @@
+//! The table of names.
+
+ghost use Rattle.std.specs.Prelude.{◌≡◌, [], option_map};
+ghost use Rattle.text_definitions.specs.Words as definition;
+
+use audit_model::fault::Name;
+use audit_model::setting::Command;
+
+const OF_CHECK: [Name; 5] = [
+    Name::Pop,
+    Name::First,
+    Name::Second,
+    Name::District,
+    Name::Slack,
+];
+
+const OF_RUN: [Name; 15] = [
+    Name::Pop,
+    Name::First,
+    Name::Second,
+    Name::District,
+    Name::Slack,
+    Name::Key,
+    Name::Walks,
+    Name::Steps,
+    Name::Ends,
+    Name::HubSteps,
+    Name::Ask,
+    Name::Workers,
+    Name::Budget,
+    Name::Save,
+    Name::Resume,
+];
+
+const OF_MAKE: [Name; 12] = [
+    Name::Size,
+    Name::Slack,
+    Name::Key,
+    Name::Walks,
+    Name::Steps,
+    Name::Ends,
+    Name::HubSteps,
+    Name::Ask,
+    Name::Workers,
+    Name::Budget,
+    Name::Save,
+    Name::Resume,
+];
+
+/// The word that sets a name.
+pub fn name_text(name: Name) -> &'static str
+    ensures { result.now ≡ definition.name_text name }
+{
+    match name {
+        Name::Pop => "--pop",
+        Name::First => "--first",
+        Name::Second => "--second",
+        Name::District => "--district",
+        Name::Size => "--size",
+        Name::Slack => "--slack",
+        Name::Key => "--key",
+        Name::Walks => "--walks",
+        Name::Steps => "--steps",
+        Name::Ends => "--ends",
+        Name::HubSteps => "--hub-steps",
+        Name::Ask => "--ask",
+        Name::Workers => "--workers",
+        Name::Budget => "--budget",
+        Name::Save => "--save",
+        Name::Resume => "--resume",
+    }
+}
+
+/// The value of a name that is not given, where the name may be left out.
+pub fn default_of(name: Name) -> Option<&'static str>
+    ensures { option_map (λ s. s.now) result ≡ definition.default_of name }
+{
+    match name {
+        Name::Slack => Some("500"),
+        Name::Walks | Name::Workers => Some("1"),
+        Name::Steps | Name::HubSteps => Some("1000"),
+        Name::Budget => Some("100000"),
+        Name::Ends | Name::Save => Some("0"),
+        Name::Resume => Some("no"),
+        Name::Pop | Name::First | Name::Second | Name::District => None,
+        Name::Size | Name::Key | Name::Ask => None,
+    }
+}
+
+/// The names of a command, in the order of the table.
+pub fn names_of(command: Command) -> &'static [Name]
+    ensures { result.now ≡ definition.names_of command }
+{
+    match command {
+        Command::Check => &OF_CHECK,
+        Command::Run => &OF_RUN,
+        Command::Make => &OF_MAKE,
+    }
+}
+
+/// The command that the word spells, where one is built.
+pub fn command_of(word: &str) -> Option<Command>
+    ensures { result ≡ definition.command_of word.now }
+{
+    if word == "check" {
+        Some(Command::Check)
+    } else {
+        None
+    }
+}
+
+/// The name of the command that the word spells.
+pub fn name_of(command: Command, word: &str) -> Option<Name>
+    ensures { result ≡ definition.name_of command [] word.now }
+{
+    for name in names_of(command) {
+        if name_text(*name) == word {
+            return Some(*name);
+        }
+    }
+    None
+}

@@ -1,0 +1,80 @@
+//! The words after the command, in pairs of a name and a value.
+
+ghost use Rattle.std.specs.Prelude.{◌≡◌, ◌<◌, [], None, length, option_map, find, bytes_eq};
+ghost use Rattle.std.specs.List.{slice_index_or};
+ghost use Rattle.audit_model.specs.Below.{any_below};
+ghost use Rattle.audit_model.specs.declared.setting.Command.TheVariants as command;
+ghost use Rattle.audit_words.specs.Spoken.{spoken};
+ghost use Rattle.text_definitions.specs.Words as definition;
+
+use crate::names::{default_of, name_text};
+use audit_model::fault::Name;
+
+/// How many pairs there are. The last may lack its value.
+pub fn count(words: &[String]) -> usize
+    ensures { result ≡ length (definition.pairs (spoken words.now)) }
+{
+    words.len().div_ceil(2)
+}
+
+/// The first word of the pair at a place.
+pub fn name_at(words: &[String], k: usize) -> &str
+    requires { k < length (definition.pairs (spoken words.now)) }
+    ensures { result.now ≡ (slice_index_or (definition.pairs (spoken words.now)) k ([], None)).0 }
+{
+    words[2 * k].as_str()
+}
+
+/// The second word of the pair at a place, which the last may lack.
+pub fn value_at(words: &[String], k: usize) -> Option<&str>
+    requires { k < length (definition.pairs (spoken words.now)) }
+    ensures { option_map (λ s. s.now) result ≡ (slice_index_or (definition.pairs (spoken words.now)) k ([], None)).1 }
+{
+    if 2 * k + 1 < words.len() {
+        Some(words[2 * k + 1].as_str())
+    } else {
+        None
+    }
+}
+
+/// Whether the first word of the pair at a place is that of an earlier pair.
+pub fn is_repeated(words: &[String], k: usize) -> bool
+    requires { k < length (definition.pairs (spoken words.now)) }
+    ensures { result ≡ definition.is_repeated command.Check (definition.pairs (spoken words.now)) k }
+{
+    for j in 0..k {
+        if name_at(words, j) == name_at(words, k) {
+            return true;
+        }
+    }
+    false
+}
+
+/// The value of the name in the first pair that has it.
+pub fn given(words: &[String], name: Name) -> Option<&str>
+    ensures { option_map (λ s. s.now) result ≡ definition.given command.Check (definition.pairs (spoken words.now)) name }
+{
+    for k in 0..count(words) {
+        if name_at(words, k) == name_text(name) {
+            return value_at(words, k);
+        }
+    }
+    None
+}
+
+/// The value given for the name, or its default.
+pub fn value_of(words: &[String], name: Name) -> Option<&str>
+    ensures { option_map (λ s. s.now) result ≡ definition.value_of command.Check (definition.pairs (spoken words.now)) name }
+{
+    match given(words, name) {
+        Some(value) => Some(value),
+        None => default_of(name),
+    }
+}
+
+/// The value given for the name, or its default, or the empty text where it has none.
+pub fn text_of(words: &[String], name: Name) -> &str
+    ensures { result.now ≡ definition.text_of command.Check (definition.pairs (spoken words.now)) name }
+{
+    value_of(words, name).unwrap_or("")
+}
