@@ -1,0 +1,4 @@
+pub mod Few
+pub mod Marking
+pub mod Stepping
+pub mod Complete

@@ -1,0 +1,250 @@
+-- What is kept at each event.
+use Rattle.std.proofs.Common.{◌≡◌, ℕ, zero, suc, ◌+◌, ◌-◌, ◌<◌, ◌≤◌, Bool, true, false, not, ◌||◌, List, [], ◌∷◌, ◌++◌, length, take, drop, get_or, set, replicate, Option, Some, None, All, refl, sym, ap, ◌∙◌, subst, arith, length-append, length-set}
+use Rattle.std.specs.Prelude.{◌==◌, slice_get}
+use Rattle.std.proofs.lemmas.Bool.{false≢true}
+use Rattle.std.proofs.lemmas.List.{append-nil, length-take-le, length-replicate, get_or-replicate}
+use Rattle.std.proofs.lemmas.List.Folds.{list_any-append}
+use Rattle.std.proofs.lemmas.Option.{slice_get-get_or, slice_get_past}
+use Rattle.audit_model.specs.declared.outcome.Did.{Did}
+use Rattle.audit_model.specs.declared.outcome.Did.TheVariants.{Claimed, Empty, Posted, Saved, Halted}
+use Rattle.audit_model.specs.declared.outcome.Event.{Event}
+use Rattle.audit_model.specs.declared.outcome.Event.TheVariants.{Claim, Post, Save, Halt}
+use Rattle.audit_model.specs.Apart.{AllApart}
+use Rattle.audit_model.specs.Below.{filter_below}
+use Rattle.audit_model.specs.Graph.{has}
+use Rattle.audit_model.specs.Machine.{Machine, todo, claimed, claim, post, step, IsRun, new_machine}
+use Rattle.model_laws.proofs.Running.{events_keep, fresh_run, at_is_new}
+use Rattle.run_core.specs.Kept.{machine, IsKept}
+use Rattle.run_core.specs.Opening.{IsOpening}
+use Rattle.run_core.proofs.Few.{apart_le}
+use Rattle.run_core.proofs.Marking.{length-filter_below, filter_below_same, take_whole, take_front, take_split, all_from_has, has-take, has-drop, IsMarked}
+
+none_is_not_some : {A : Type 0} (x : A) → None ≡ Some x → ⊥
+none_is_not_some x h = cc
+
+same_some : {A : Type 0} (x y : A) → Some x ≡ Some y → x ≡ y
+same_some x y h = cc
+
+-- ---- openings
+
+held_none : (n k id : ℕ) → slice_get (replicate {A = Option ℕ} n None) k ≡ Some (Some id) → ⊥
+held_none zero k id h = none_is_not_some (Some id) h
+held_none (suc n) zero id h = none_is_not_some id (same_some None (Some id) h)
+held_none (suc n) (suc k) id h = held_none n k id h
+
+pub opening_is_run : (m : Machine) → IsOpening m → IsRun m
+opening_is_run m o = record {
+  apart = subst AllApart (sym o.done) o.apart;
+  below = λ id h. o.below id (subst (λ xs. has xs id ≡ true) o.done h);
+  start_front = ([], o.done ∙ sym (append-nil m.start));
+  saved_front = ([], o.done ∙ sym o.saved ∙ sym (append-nil m.saved));
+  claimed = λ k id l h. absurd (omega (arith, l, o.next));
+  opened = λ w id h. absurd (none_open w id h);
+  not_both = λ w id h. absurd (none_open w id h);
+  one_worker = λ v w id h g. absurd (none_open v id h);
+  ahead = λ k id l h. subst (λ xs. has xs id ≡ false) (sym o.done) (at_is_new m k id h).1;
+}
+  where
+    none_open : (w id : ℕ) → slice_get m.held w ≡ Some (Some id) → ⊥
+    none_open w id h = held_none (length m.held) w id (subst (λ xs. slice_get xs w ≡ Some (Some id)) o.held h)
+
+pub fresh_is_run : (total workers : ℕ) → IsRun (new_machine total workers)
+fresh_is_run total workers = fresh_run total total workers [] tt (λ id h. absurd (false≢true h))
+
+pub step_is_run : (m : Machine) (event : Event) → IsRun m → IsRun (step m event).0
+step_is_run m event run = events_keep m (event ∷ []) run
+
+-- ---- answers
+
+pub claim_by : (m : Machine) (w : ℕ) (o : Option (Option ℕ)) → slice_get m.held w ≡ o → claim m w o ≡ step m (Claim w)
+claim_by m w o e = ap (claim m w) (sym e)
+
+pub claim_takes : (m : Machine) (w : ℕ) (o : Option ℕ) → slice_get m.held w ≡ Some None → slice_get (todo m) m.next ≡ o → claimed m w o ≡ step m (Claim w)
+claim_takes m w o free at = ap (claimed m w) (sym at) ∙ claim_by m w (Some None) free
+
+pub post_by : (m : Machine) (w : ℕ) (o : Option (Option ℕ)) → slice_get m.held w ≡ o → post m w o ≡ step m (Post w)
+post_by m w o e = ap (post m w) (sym e)
+
+-- ---- what is to do
+
+todo_is : (m : Machine) → m.budget ≡ m.total → todo m ≡ filter_below m.total (λ id. not (has m.start id))
+todo_is m same = take_whole m.budget (filter_below m.total (λ id. not (has m.start id)))
+    (omega (arith, same, length-filter_below m.total (λ id. not (has m.start id))))
+
+-- no more ids are done than there are
+pub done_le : (m : Machine) → IsRun m → length m.done ≤ m.total
+done_le m run = apart_le m.total m.done run.apart run.below
+
+module _ (total started saved : ℕ) (done : List ℕ) (next : ℕ) (held : List (Option ℕ)) (ids : List ℕ) (marks : List Bool)
+    (kept : IsKept (machine total started saved done next held) started saved ids marks) where
+  before : Machine
+  before = machine total started saved done next held
+
+  -- ---- a claim
+
+  pub claim_is_empty : (w : ℕ) → slice_get held w ≡ Some None → length ids ≤ next → (machine total started saved done next held, Empty) ≡ step (machine total started saved done next held) (Claim w)
+  claim_is_empty w free past = claim_takes (machine total started saved done next held) w None free
+      (ap (λ xs. slice_get xs next) (sym kept.ids) ∙ slice_get_past ids next past)
+
+  pub claim_is : (w id : ℕ) → slice_get held w ≡ Some None → next < length ids → id ≡ get_or ids next 0
+      → (machine total started saved done (next + 1) (set held w (Some id)), Claimed id) ≡ step (machine total started saved done next held) (Claim w)
+  claim_is w id free within is = claim_takes (machine total started saved done next held) w (Some id) free
+      (ap (λ xs. slice_get xs next) (sym kept.ids) ∙ slice_get-get_or ids next 0 within ∙ ap Some (sym is))
+
+  pub kept_claim : (w id : ℕ) → slice_get held w ≡ Some None → next < length ids → id ≡ get_or ids next 0
+      → IsKept (machine total started saved done (next + 1) (set held w (Some id))) started saved ids marks
+  kept_claim w id free within is = record {
+    run = subst (λ (r : Machine × Did). IsRun r.0) (sym (claim_is w id free within is)) (step_is_run (machine total started saved done next held) (Claim w) kept.run);
+    small = kept.small;
+    workers = length-set held w (Some id) ∙ kept.workers;
+    start_saved = kept.start_saved;
+    saved_done = kept.saved_done;
+    ids = kept.ids;
+    width = kept.width;
+    marks = kept.marks;
+  }
+
+  -- ---- a post
+
+  module _ (w id : ℕ) (open_id : slice_get held w ≡ Some (Some id)) where
+    fronts : machine total started saved (done ++ id ∷ []) next (set held w None)
+        ≡ record { total = total; budget = total; start = take started done; saved = take saved done; done = done ++ id ∷ []; next = next; held = set held w None }
+    fronts =
+        ap (λ s. record { total = total; budget = total; start = s; saved = take saved (done ++ id ∷ []); done = done ++ id ∷ []; next = next; held = set held w None })
+        (take_front started done (id ∷ []) (omega (arith, kept.start_saved, kept.saved_done)))
+        ∙ ap (λ s. record { total = total; budget = total; start = take started done; saved = s; done = done ++ id ∷ []; next = next; held = set held w None })
+        (take_front saved done (id ∷ []) kept.saved_done)
+
+    pub post_is : (machine total started saved (done ++ id ∷ []) next (set held w None), Posted id) ≡ step (machine total started saved done next held) (Post w)
+    post_is = ap (λ (m : Machine). (m, Posted id)) fronts ∙ post_by (machine total started saved done next held) w (Some (Some id)) open_id
+
+    run_after : IsRun (machine total started saved (done ++ id ∷ []) next (set held w None))
+    run_after = subst (λ (r : Machine × Did). IsRun r.0) (sym post_is) (step_is_run (machine total started saved done next held) (Post w) kept.run)
+
+    pub done_room : length done < total
+    done_room = omega (arith, done_le (machine total started saved (done ++ id ∷ []) next (set held w None)) run_after, length-append done (id ∷ []))
+
+    pub kept_post : IsKept (machine total started saved (done ++ id ∷ []) next (set held w None)) started saved ids marks
+    kept_post = record {
+      run = run_after;
+      small = kept.small;
+      workers = length-set held w None ∙ kept.workers;
+      start_saved = kept.start_saved;
+      saved_done = omega (arith, kept.saved_done, length-append done (id ∷ []));
+      ids = kept.ids ∙ ap todo (sym fronts);
+      width = kept.width;
+      marks = λ k l. kept.marks k l ∙ ap (λ (m : Machine). has m.start k) (sym fronts);
+    }
+
+  -- ---- a save
+
+  pub save_is : (count : ℕ) → count ≡ length done → (machine total started count done next held, Saved count) ≡ step (machine total started saved done next held) Save
+  save_is count is =
+      ap (λ s. (record { total = total; budget = total; start = take started done; saved = s; done = done; next = next; held = held }, Saved count))
+      (take_whole count done (omega (arith, is)))
+      ∙ ap (λ c. (record { total = total; budget = total; start = take started done; saved = done; done = done; next = next; held = held }, Saved c)) is
+
+  pub kept_save : (count : ℕ) → count ≡ length done → IsKept (machine total started count done next held) started count ids marks
+  kept_save count is = record {
+    run = subst (λ (r : Machine × Did). IsRun r.0) (sym (save_is count is)) (step_is_run (machine total started saved done next held) Save kept.run);
+    small = kept.small;
+    workers = kept.workers;
+    start_saved = omega (arith, is, kept.start_saved, kept.saved_done);
+    saved_done = omega (arith, is);
+    ids = kept.ids;
+    width = kept.width;
+    marks = kept.marks;
+  }
+
+  -- ---- a halt
+
+  module _ (nobody : List (Option ℕ)) (none : nobody ≡ replicate 32 None) where
+    again : take saved (take saved done) ≡ take saved done
+    again = take_whole saved (take saved done) (omega (arith, length-take-le saved done kept.saved_done))
+
+    pub halt_is : (machine total saved saved (take saved done) 0 nobody, Halted) ≡ step (machine total started saved done next held) Halt
+    halt_is =
+        ap (λ s. (record { total = total; budget = total; start = s; saved = s; done = take saved done; next = 0; held = nobody }, Halted)) again
+        ∙ ap (λ h. (record { total = total; budget = total; start = take saved done; saved = take saved done; done = take saved done; next = 0; held = h }, Halted))
+        (none ∙ ap (λ n. replicate n None) (sym kept.workers))
+
+    pub kept_halt : (new_ids : List ℕ) (new_marks : List Bool) → length new_marks ≡ total
+        → ((id : ℕ) → id < total → get_or new_marks id false ≡ has (take saved done) id)
+        → new_ids ≡ filter_below total (λ id. not (get_or new_marks id false))
+        → IsKept (machine total saved saved (take saved done) 0 nobody) saved saved new_ids new_marks
+    kept_halt new_ids new_marks width marked listed = record {
+      run = subst (λ (r : Machine × Did). IsRun r.0) (sym halt_is) (step_is_run (machine total started saved done next held) Halt kept.run);
+      small = kept.small;
+      workers = ap length none ∙ length-replicate {A = Option ℕ} 32 None;
+      start_saved = omega arith;
+      saved_done = omega (arith, length-take-le saved done kept.saved_done);
+      ids =
+          listed ∙ filter_below_same total (λ id. not (get_or new_marks id false)) (λ id. not (has (take saved (take saved done)) id))
+          (λ id l. ap not (marked id l ∙ ap (λ xs. has xs id) (sym again)))
+          ∙ sym (todo_is (machine total saved saved (take saved done) 0 nobody) refl);
+      width = width;
+      marks = λ id l. marked id l ∙ ap (λ xs. has xs id) (sym again);
+    }
+
+    module _ (count : ℕ) (kept_ids : List ℕ) (same : count ≡ total) (front : kept_ids ≡ take saved done) where
+      pub halted : machine count saved saved kept_ids 0 nobody ≡ machine total saved saved (take saved done) 0 nobody
+      halted =
+          ap (λ n. machine n saved saved kept_ids 0 nobody) same
+          ∙ ap (λ ds. machine total saved saved ds 0 nobody) front
+
+      pub halt_steps : (machine count saved saved kept_ids 0 nobody, Halted) ≡ step (machine total started saved done next held) Halt
+      halt_steps = ap (λ (m : Machine). (m, Halted)) halted ∙ halt_is
+
+      pub kept_halted : (new_ids : List ℕ) (new_marks : List Bool) → length new_marks ≡ total
+          → IsMarked marks new_marks (take (saved - started) (drop started done))
+          → new_ids ≡ filter_below (length new_marks) (λ id. not (get_or new_marks id false))
+          → IsKept (machine count saved saved kept_ids 0 nobody) saved saved new_ids new_marks
+      kept_halted new_ids new_marks width marked listed =
+          subst (λ (m : Machine). IsKept m saved saved new_ids new_marks) (sym halted)
+          (kept_halt new_ids new_marks width each (listed ∙ ap (λ n. filter_below n (λ id. not (get_or new_marks id false))) width))
+        where
+          each : (id : ℕ) → id < total → get_or new_marks id false ≡ has (take saved done) id
+          each id l =
+              marked id (omega (arith, l, kept.width))
+              ∙ ap (λ b. b || has (take (saved - started) (drop started done)) id) (kept.marks id l)
+              ∙ sym (ap (λ xs. has xs id) (take_split started saved done kept.start_saved)
+              ∙ list_any-append (λ m. m == id) (take started done) (take (saved - started) (drop started done)))
+
+  -- the ids that are newly saved are below the total
+  pub newly_below : (count : ℕ) → count ≡ total → All (λ id. id < count) (take (saved - started) (drop started done))
+  newly_below count same = all_from_has count (take (saved - started) (drop started done))
+      (λ id h. subst (λ n. id < n) (sym same) (kept.run.below id (has-drop started done id (has-take (saved - started) (drop started done) id h))))
+
+-- ---- the first machine
+
+pub kept_new : (total : ℕ) (done : List ℕ) (held : List (Option ℕ)) (ids : List ℕ) (marks : List Bool) → total ≤ 100000 → done ≡ [] → held ≡ replicate 32 None
+    → marks ≡ replicate total false → ids ≡ filter_below (length marks) (λ id. not (get_or marks id false))
+    → IsKept (machine (length marks) 0 0 done 0 held) 0 0 ids marks × (machine (length marks) 0 0 done 0 held ≡ new_machine total 32)
+kept_new total done held ids marks small empty none unmarked listed = (
+  record {
+    run = subst IsRun (sym fresh) (fresh_is_run total 32);
+    small = omega (arith, width, small);
+    workers = ap length none ∙ length-replicate {A = Option ℕ} 32 None;
+    start_saved = omega arith;
+    saved_done = omega arith;
+    ids =
+        listed
+        ∙ filter_below_same (length marks) (λ id. not (get_or marks id false)) (λ id. true) (λ id l. ap not (no_mark id (omega (arith, l, width))))
+        ∙ sym (todo_is (machine (length marks) 0 0 done 0 held) refl);
+    width = refl;
+    marks = λ id l. no_mark id (omega (arith, l, width));
+  },
+  fresh,
+)
+  where
+    width : length marks ≡ total
+    width = ap length unmarked ∙ length-replicate total false
+
+    no_mark : (id : ℕ) → id < total → get_or marks id false ≡ false
+    no_mark id l = ap (λ xs. get_or xs id false) unmarked ∙ get_or-replicate total id false false l
+
+    fresh : machine (length marks) 0 0 done 0 held ≡ new_machine total 32
+    fresh =
+        ap (λ n. record { total = n; budget = n; start = []; saved = []; done = done; next = 0; held = held }) width
+        ∙ ap (λ d. record { total = total; budget = total; start = []; saved = []; done = d; next = 0; held = held }) empty
+        ∙ ap (λ h. record { total = total; budget = total; start = []; saved = []; done = []; next = 0; held = h }) none

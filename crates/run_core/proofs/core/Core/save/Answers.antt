@@ -1,0 +1,8 @@
+use Rattle.std.proofs.Common.{arith}
+use Rattle.run_core.proofs.Stepping.{done_le}
+use Rattle.run_core.proofs.core.Core.save.Goals as goal
+
+pub overflow_cast-result : goal.overflow_cast-result
+overflow_cast-result c =
+    let kept = c.self.invariant.0 in
+    omega (arith, done_le _ kept.run, kept.small, c.self.inside.done.ok.0)

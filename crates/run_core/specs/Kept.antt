@@ -1,0 +1,26 @@
+-- What the code of the machine keeps.
+use Rattle.std.specs.Prelude.{◌≡◌, ℕ, ◌<◌, ◌≤◌, Bool, false, List, length, take, Option}
+use Rattle.std.specs.List.{slice_index_or}
+use Rattle.audit_model.specs.Graph.{has}
+use Rattle.audit_model.specs.Machine.{Machine, IsRun, todo}
+
+-- the machine of these ids: what was done at the start and what was saved are as many of the first ids that are done
+abbrev pub machine : ℕ → ℕ → ℕ → List ℕ → ℕ → List (Option ℕ) → Machine
+machine total started saved done next held =
+    record { total = total; budget = total; start = take started done; saved = take saved done; done = done; next = next; held = held }
+
+-- the machine is one of a run of 32 workers; the ids to do are listed, and the ids that were done at the start are marked
+pub record IsKept (m : Machine) (started saved : ℕ) (listed : List ℕ) (marked : List Bool) : Type 0 where
+  pub run : IsRun m
+  pub small : m.total ≤ 100000
+  pub workers : length m.held ≡ 32
+  pub start_saved : started ≤ saved
+  pub saved_done : saved ≤ length m.done
+  pub ids : listed ≡ todo m
+  pub width : length marked ≡ m.total
+  pub marks : (id : ℕ) → id < m.total → slice_index_or marked id false ≡ has m.start id
+
+-- there is room for all ids in both lists
+pub record HasRoom (total done_room ids_room : ℕ) : Type 0 where
+  pub done : total ≤ done_room
+  pub ids : total ≤ ids_room

@@ -1,0 +1,158 @@
+//! The machine over ids.
+
+ghost use Rattle.std.specs.Prelude.{◌≡◌, ◌≤◌, IfOk, slice_get};
+ghost use Rattle.audit_model.specs.declared.outcome.Event.TheVariants.{Claim, Post, Save, Halt};
+ghost use Rattle.audit_model.specs.Machine.{IsRun, new_machine, step};
+
+use crate::marks::{list_unmarked, mark};
+use audit_model::memory::Memory;
+use audit_model::outcome::{Did, Event};
+use std::alloc::Global;
+use std::marker::Model;
+
+/// A run of 32 workers over the ids below a total.
+#[derive(Drop)]
+pub struct Core {
+    done: Vec<u32>,
+    started: usize,
+    saved: usize,
+    marks: Vec<bool>,
+    ids: Vec<u32>,
+    next: usize,
+    held: [Option<u32>; 32],
+}
+
+impl Model for Core {
+    ghost use Rattle.std.specs.Prelude.{length, vec_capacity};
+    ghost use Rattle.audit_model.specs.Machine.{Machine};
+    ghost use Rattle.run_core.specs.Kept.{machine, IsKept, HasRoom};
+
+    ghost Value = { Machine };
+
+    ghost view = { λ c. machine (length c.marks.items) c.started c.saved c.done.items c.next c.held };
+
+    ghost invariant = { λ c. IsKept (machine (length c.marks.items) c.started c.saved c.done.items c.next c.held) c.started c.saved c.ids.items c.marks.items
+        × HasRoom (length c.marks.items) (vec_capacity c.done) (vec_capacity c.ids) };
+}
+
+impl Core {
+    /// The run of the ids below `total`, with nothing done.
+    pub fn new(alloc: Global, total: u32) -> Result<Core, Memory>
+        requires { total ≤ 100000 }
+        ensures machine { IfOk result (λ m. m ≡ new_machine total 32) }
+        ensures sound { IfOk result IsRun }
+    {
+        let done = Vec::with_capacity(alloc, total as usize)?;
+        let marks = vec![in alloc; false; total as usize]?;
+        let mut ids = Vec::with_capacity(alloc, total as usize)?;
+        list_unmarked(&mut ids, &marks);
+        Ok(Core {
+            done,
+            started: 0,
+            saved: 0,
+            marks,
+            ids,
+            next: 0,
+            held: [None; 32],
+        })
+    }
+
+    /// Takes one event, and tells what it did.
+    pub fn step(&mut self, event: Event) -> Did
+        ensures answer { result ≡ (step self.old event).1 }
+        ensures machine { self.new ≡ (step self.old event).0 }
+        ensures sound { IsRun self.new }
+    {
+        match event {
+            Event::Claim(worker) => self.claim(worker),
+            Event::Post(worker) => self.post(worker),
+            Event::Save => self.save(),
+            Event::Halt => self.halt(),
+        }
+    }
+
+    // Gives the worker the next id.
+    fn claim(&mut self, worker: u32) -> Did
+        ensures step { (self.new, result) ≡ step self.old (Claim worker) }
+        ensures sound { IsRun self.new }
+    {
+        match open_id(&self.held, worker) {
+            None => Did::Idle,
+            Some(Some(_)) => Did::Idle,
+            Some(None) => {
+                if self.next >= self.ids.len() {
+                    return Did::Empty;
+                }
+                let id = self.ids[self.next];
+                self.held[worker as usize] = Some(id);
+                self.next += 1;
+                Did::Claimed(id)
+            }
+        }
+    }
+
+    // Appends the worker's open id to what is done.
+    fn post(&mut self, worker: u32) -> Did
+        ensures step { (self.new, result) ≡ step self.old (Post worker) }
+        ensures sound { IsRun self.new }
+    {
+        match open_id(&self.held, worker) {
+            None => Did::Idle,
+            Some(None) => Did::Idle,
+            Some(Some(id)) => {
+                self.held[worker as usize] = None;
+                self.done.push_reserved(id);
+                Did::Posted(id)
+            }
+        }
+    }
+
+    // Saves all that is done.
+    fn save(&mut self) -> Did
+        ensures step { (self.new, result) ≡ step self.old Save }
+        ensures sound { IsRun self.new }
+    {
+        self.saved = self.done.len();
+        Did::Saved(self.saved as u32)
+    }
+
+    // Drops what was not saved, and starts again.
+    fn halt(&mut self) -> Did
+        ensures step { (self.new, result) ≡ step self.old Halt }
+        ensures sound { IsRun self.new }
+    {
+        mark(&mut self.marks, &self.done[self.started..self.saved]);
+        list_unmarked(&mut self.ids, &self.marks);
+        self.done.truncate(self.saved);
+        self.started = self.saved;
+        self.next = 0;
+        self.held = [None; 32];
+        Did::Halted
+    }
+
+    /// The ids that are done, in the order of their posts.
+    pub fn done(&self) -> &[u32]
+        ensures done { result.now ≡ self.now.done }
+        ensures sound { IsRun self.now }
+    {
+        self.done.as_slice()
+    }
+
+    /// The ids that were saved, in the order of their posts.
+    pub fn saved(&self) -> &[u32]
+        ensures saved { result.now ≡ self.now.saved }
+        ensures sound { IsRun self.now }
+    {
+        &self.done[..self.saved]
+    }
+}
+
+// The worker's open id, if it has one, or nothing where there is no such worker.
+fn open_id(held: &[Option<u32>], worker: u32) -> Option<Option<u32>>
+    ensures { result ≡ slice_get held.now worker }
+{
+    held.get(worker as usize).copied()
+}
+
+#[cfg(test)]
+mod tests;

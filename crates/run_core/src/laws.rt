@@ -1,0 +1,30 @@
+//! What holds of a run after any events, halts among them.
+
+ghost use Rattle.std.specs.Prelude.{◌≡◌, ℕ, ◌<◌, IsTrue, List, map};
+ghost use Rattle.audit_model.specs.declared.outcome.Event.{Event};
+ghost use Rattle.audit_model.specs.Graph.{has};
+ghost use Rattle.audit_model.specs.Job.{Job};
+ghost use Rattle.audit_model.specs.Machine.{Machine, IsRun, new_machine, step, state_after};
+ghost use Rattle.audit_model.specs.Run.{total};
+ghost use Rattle.audit_model.specs.Trajectory.{Draws, outcome, sequence};
+ghost use Rattle.outcome_book.specs.Booked.{by_id};
+ghost use Rattle.run_core.specs.Opening.{IsOpening};
+
+use outcome_book::laws::outcomes_by_id_are_mapped;
+
+/// After any events the ids that are done differ and are below the total, what was saved and what was done at the start come first
+/// among them, and each id that was claimed is either done or open under one worker, and no other id is open.
+pub fn runs_stay_right()
+    ensures fresh { (total workers : ℕ) (events : List Event) → IsRun (state_after (new_machine total workers) events) }
+    ensures resumed { (m : Machine) (events : List Event) → IsOpening m → IsRun (state_after m events) }
+    ensures step { (m : Machine) (event : Event) → IsRun m → IsRun (step m event).0 }
+    ensures events { (m : Machine) (events : List Event) → IsRun m → IsRun (state_after m events) }
+{}
+
+/// Where every id is done, the outcomes of what is done are by rising id what one thread finds.
+pub fn complete_runs_add_up()
+    ensures { (job : Job) (draws : Draws) (m : Machine) → IsRun m → m.total ≡ total job → ((id : ℕ) → id < m.total → IsTrue (has m.done id)) →
+        by_id (total job) (map (outcome job draws) m.done) ≡ sequence job draws }
+{
+    outcomes_by_id_are_mapped();
+}
