@@ -1,6 +1,6 @@
 use Rattle.std.proofs.Common.{arith}
 use Rattle.run_core.proofs.Stepping.{done_le}
-use Rattle.run_core.proofs.core.Core.save.Goals as goal
+use Rattle.run_core.proofs.machine.Core.save.Goals as goal
 
 pub overflow_cast-result : goal.overflow_cast-result
 overflow_cast-result c =

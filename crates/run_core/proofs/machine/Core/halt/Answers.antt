@@ -4,7 +4,7 @@ use Rattle.audit_model.specs.Below.{filter_below}
 use Rattle.audit_model.specs.Graph.{has}
 use Rattle.run_core.proofs.Marking.{IsMarked, written}
 use Rattle.run_core.proofs.Stepping.{newly_below, kept_halted}
-use Rattle.run_core.proofs.core.Core.halt.Goals as goal
+use Rattle.run_core.proofs.machine.Core.halt.Goals as goal
 
 pub mark-requires : goal.mark-requires
 mark-requires c =

@@ -4,7 +4,7 @@ use Rattle.std.proofs.lemmas.List.{get_or_read}
 use Rattle.audit_model.specs.declared.outcome.Event.TheVariants.{Claim}
 use Rattle.audit_model.specs.Machine.{Machine, step}
 use Rattle.run_core.proofs.Stepping.{claim_is, kept_claim}
-use Rattle.run_core.proofs.core.Core.claim.Goals as goal
+use Rattle.run_core.proofs.machine.Core.claim.Goals as goal
 
 pub invariant_of-self : goal.invariant_of-self
 invariant_of-self c =

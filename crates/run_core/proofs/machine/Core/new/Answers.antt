@@ -2,7 +2,7 @@ use Rattle.std.proofs.Common.{◌≡◌, Bool, false, not, List, None, length, r
 use Rattle.std.proofs.lemmas.List.{length-replicate}
 use Rattle.audit_model.specs.Below.{filter_below}
 use Rattle.run_core.proofs.Stepping.{kept_new}
-use Rattle.run_core.proofs.core.Core.new.Goals as goal
+use Rattle.run_core.proofs.machine.Core.new.Goals as goal
 
 pub invariant_of-result : goal.invariant_of-result
 invariant_of-result c =

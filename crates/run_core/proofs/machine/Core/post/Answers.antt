@@ -3,7 +3,7 @@ use Rattle.std.specs.Prelude.{slice_get}
 use Rattle.audit_model.specs.Machine.{IsRun}
 use Rattle.run_core.specs.Kept.{machine, IsKept}
 use Rattle.run_core.proofs.Stepping.{done_room, kept_post}
-use Rattle.run_core.proofs.core.Core.post.Goals as goal
+use Rattle.run_core.proofs.machine.Core.post.Goals as goal
 
 pub push_reserved-requires : goal.push_reserved-requires
 push_reserved-requires c =

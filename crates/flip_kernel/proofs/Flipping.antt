@@ -1,0 +1,134 @@
+-- The plan after a draw, and the draw that leads back, by what the draw proposes.
+use Rattle.std.proofs.Common.{◌≡◌, ℕ, ◌+◌, ◌-◌, ◌*◌, ◌/◌, ◌%◌, ◌<◌, ◌≤◌, Bool, true, false, cond, List, length, get_or, set, Option, Some, None, refl, sym, ap, ◌∙◌, subst, inl, inr, arith}
+use Rattle.std.specs.Prelude.{◌↔◌, nat_lt, bytes_eq, IsTrue, IsFalse}
+use Rattle.std.proofs.Math.Nat.{mod-le, mul-le-mul}
+use Rattle.std.proofs.lemmas.Bool.{cases_Bool, cases_eq, cond-true, cond-false, false_from_ne_true, both_ways}
+use Rattle.std.proofs.lemmas.List.{set-get_or, get_or-set_same}
+use Rattle.std.proofs.lemmas.Nat.{div-add-mod', div_below, mod_below}
+use Rattle.std.proofs.lemmas.Slice.Eq.{bytes_eq-Decides}
+use Rattle.audit_model.specs.Job.{Job}
+use Rattle.audit_model.specs.JobOf.{IsJob}
+use Rattle.audit_model.specs.Plan.{is_legal}
+use Rattle.audit_model.specs.Proposal.{counted_draws, proposal}
+use Rattle.audit_model.specs.Step.{changed, next, turned_back, mirrored}
+use Rattle.model_laws.proofs.Legal.{legal_passes, passes_legal}
+use Rattle.flip_kernel.specs.Held.{Held, IsMove}
+
+both_same : (b : Bool) (plan : List ℕ) → cond b plan plan ≡ plan
+both_same true plan = refl
+both_same false plan = refl
+
+-- what is proposed, by the draw's place in its block
+record IsPlace (units districts draw unit district : ℕ) : Type 0 where
+  same_unit : draw % (units * districts) / districts ≡ unit
+  same_district : draw % (units * districts) % districts ≡ district
+
+is_place : (units districts draw unit district : ℕ) → proposal units districts draw ≡ Some (unit, district) → IsPlace units districts draw unit district
+is_place units districts draw unit district is = elim (cases_Bool (nat_lt draw (counted_draws units districts))) [
+  | inl counted ↦
+      let other : Some (draw % (units * districts) / districts, draw % (units * districts) % districts) ≡ Some (unit, district) =
+      sym (cond-true _ _ _ counted) ∙ is in
+      let same : ◌≡◌ {A = ℕ × ℕ} (draw % (units * districts) / districts, draw % (units * districts) % districts) (unit, district) = cc in
+      record { same_unit = ap (λ (p : ℕ × ℕ). p.0) same; same_district = ap (λ (p : ℕ × ℕ). p.1) same }
+  | inr held ↦ let other : ◌≡◌ {A = Option (ℕ × ℕ)} None (Some (unit, district)) = sym (cond-false _ _ _ held) ∙ is in absurd (cc)
+]
+
+-- the pair of what is proposed is the draw's place in its block
+proposed_place : (units districts draw unit district : ℕ) → proposal units districts draw ≡ Some (unit, district)
+    → unit * districts + district ≡ draw % (units * districts)
+proposed_place units districts draw unit district is =
+    let place = is_place units districts draw unit district is in
+    ap (λ (u : ℕ). u * districts + district) (sym place.same_unit) ∙ ap (λ (d : ℕ). draw % (units * districts) / districts * districts + d) (sym place.same_district)
+    ∙ div-add-mod' (draw % (units * districts)) districts
+
+-- what was proposed, of the job's own numbers
+pub proposed : (job : Job) (units districts draw : ℕ) (o : Option (ℕ × ℕ)) → units ≡ job.graph.units → districts ≡ job.districts
+    → o ≡ proposal units districts draw → proposal job.graph.units job.districts draw ≡ o
+proposed job units districts draw o u d is =
+    ap (λ (n : ℕ). proposal n job.districts draw) (sym u) ∙ ap (λ (n : ℕ). proposal units n draw) (sym d) ∙ sym is
+
+-- the proposed unit is one of the job's
+pub proposed_unit : (job : Job) (draw unit district : ℕ) → IsJob job → proposal job.graph.units job.districts draw ≡ Some (unit, district) → unit < job.graph.units
+proposed_unit job draw unit district sound is =
+    let place = is_place job.graph.units job.districts draw unit district is in
+    let two : 2 ≤ job.districts = sound.within.input.two in
+    let first = (sound.legal.connected 0 (omega (arith, two))).inhabited in
+    let units : 1 ≤ job.graph.units = omega (arith, first.1.0) in
+    let pairs : 0 < job.graph.units * job.districts = omega (arith, mul-le-mul {n₁ = 1} {m₁ = 1} {n₂ = job.graph.units} {m₂ = job.districts} units (omega (arith, two))) in
+    subst (λ (u : ℕ). u < job.graph.units) place.same_unit
+    (div_below (draw % (job.graph.units * job.districts)) job.districts job.graph.units (omega (arith, two)) (mod_below draw (job.graph.units * job.districts) pairs))
+
+module _ (job : Job) (plan : List ℕ) (draw : ℕ) where
+  next_at : (o : Option (ℕ × ℕ)) → proposal job.graph.units job.districts draw ≡ o
+      → next job plan draw ≡ cond (is_legal job (changed plan o)) (changed plan o) plan
+  unfolding next
+  next_at o is = ap (λ p. cond (is_legal job (changed plan p)) (changed plan p) plan) is
+
+  -- nothing is proposed
+  pub next_held : proposal job.graph.units job.districts draw ≡ None → next job plan draw ≡ plan
+  next_held is = next_at None is ∙ both_same (is_legal job plan) plan
+
+  -- a move is proposed
+  pub next_moved : (unit district : ℕ) → proposal job.graph.units job.districts draw ≡ Some (unit, district) → IsMove job plan unit district
+      → next job plan draw ≡ set plan unit district
+  next_moved unit district is move =
+      next_at (Some (unit, district)) is ∙ cond-true _ _ _ (legal_passes job (set plan unit district) move.legal)
+
+  -- what is proposed is no move
+  pub next_stays : (unit district : ℕ) → proposal job.graph.units job.districts draw ≡ Some (unit, district) → (IsMove job plan unit district → ⊥)
+      → next job plan draw ≡ plan
+  next_stays unit district is still = elim (cases_eq (get_or plan unit 0) district) [
+    | inl here ↦
+        let same : set plan unit district ≡ plan = ap (λ (d : ℕ). set plan unit d) (sym here) ∙ set-get_or plan unit 0 in
+        next_at (Some (unit, district)) is ∙ ap (λ (p : List ℕ). cond (is_legal job p) p plan) same ∙ both_same (is_legal job plan) plan
+    | inr elsewhere ↦
+        next_at (Some (unit, district)) is
+        ∙ cond-false _ _ _ (false_from_ne_true (is_legal job (set plan unit district))
+        (λ passes. still (record { elsewhere = elsewhere; legal = passes_legal job (set plan unit district) passes })))
+  ]
+
+  -- a move changes the plan
+  pub move_differs : (unit district : ℕ) → unit < length plan → IsMove job plan unit district → set plan unit district ≡ plan → ⊥
+  move_differs unit district l move same =
+      move.elsewhere (sym (ap (λ (p : List ℕ). get_or p unit 0) same) ∙ get_or-set_same plan unit district 0 l)
+
+  pub mirrored_held : next job plan draw ≡ plan → mirrored job plan draw ≡ draw
+  unfolding mirrored
+  mirrored_held same = cond-true _ _ _ ((bytes_eq-Decides (next job plan draw) plan).1 same)
+
+  pub mirrored_moved : (unit district : ℕ) → proposal job.graph.units job.districts draw ≡ Some (unit, district) → (next job plan draw ≡ plan → ⊥)
+      → mirrored job plan draw ≡ draw - draw % (job.graph.units * job.districts) + (unit * job.districts + get_or plan unit 0)
+  unfolding mirrored
+  mirrored_moved unit district is differs =
+      cond-false _ _ _ (false_from_ne_true (bytes_eq (next job plan draw) plan) (λ same. differs ((bytes_eq-Decides (next job plan draw) plan).0 same)))
+      ∙ ap (λ o. turned_back job.graph.units job.districts plan draw o) is
+
+  -- the same draw by the two districts alone
+  pub mirrored_turned : (unit district : ℕ) → proposal job.graph.units job.districts draw ≡ Some (unit, district) → (next job plan draw ≡ plan → ⊥)
+      → mirrored job plan draw ≡ draw - district + get_or plan unit 0
+  mirrored_turned unit district is differs =
+      let place = proposed_place job.graph.units job.districts draw unit district is in
+      omega (arith, mirrored_moved unit district is differs, place, mod-le draw (job.graph.units * job.districts))
+
+-- what is left where the unit is moved exactly where that is a move
+module _ (job : Job) (old new : Held) (draw unit district : ℕ) (result : Bool)
+    (is : proposal job.graph.units job.districts draw ≡ Some (unit, district)) (inside : unit < length old.plan)
+    (moves : IsTrue result ↔ IsMove job old.plan unit district)
+    (moved : IsTrue result → new ≡ record { job = old.job; plan = set old.plan unit district }) (held : IsFalse result → new ≡ old) where
+  pub flip_next : new ≡ record { job = old.job; plan = next job old.plan draw }
+  flip_next = elim (cases_Bool result) [
+    | inl yes-moved ↦
+        moved yes-moved
+        ∙ ap (λ (p : List ℕ). (let h : Held = record { job = old.job; plan = p } in h)) (sym (next_moved job old.plan draw unit district is (moves.0 yes-moved)))
+    | inr not-moved ↦
+        held not-moved
+        ∙ ap (λ (p : List ℕ). (let h : Held = record { job = old.job; plan = p } in h))
+        (sym (next_stays job old.plan draw unit district is (λ move. both_ways result not-moved (moves.1 move))))
+  ]
+
+  pub flip_held : IsFalse result ↔ (new.plan ≡ old.plan)
+  flip_held = (
+    λ not-moved. ap (λ (h : Held). h.plan) (held not-moved),
+    λ same. false_from_ne_true result (λ yes-moved. move_differs job old.plan draw unit district inside (moves.0 yes-moved)
+        (sym (ap (λ (h : Held). h.plan) (moved yes-moved)) ∙ same)),
+  )

@@ -1,0 +1,5 @@
+pub mod Counting
+pub mod Flipping
+pub mod Holding
+pub mod Proposing
+pub mod Summing

@@ -1,0 +1,70 @@
+//! One step of the chain of plans, and the draw that leads back.
+
+ghost use Rattle.std.specs.Prelude.{◌≡◌, ℕ, ◌+◌, ◌-◌, ◌*◌, ◌%◌, ◌≤◌, ◌↔◌, Some, slice_index, IsTrue, IsFalse};
+ghost use Rattle.audit_model.specs.Local.{IsLocal};
+ghost use Rattle.audit_model.specs.Proposal.{proposal};
+ghost use Rattle.audit_model.specs.Plan.{IsLegal};
+ghost use Rattle.audit_model.specs.Step.{next, mirrored};
+
+use crate::proposal::propose;
+use crate::state::State;
+use audit_model::steps::Steps;
+use plan_core::job::Job;
+use std::sync::ledger::Ledger;
+
+/// Makes the plan the one after the draw, and tells whether it changed. The counter is that of the
+/// searches: none where the unit's neighbours in its district are connected among themselves, and at
+/// most one elsewhere.
+#[inline]
+pub fn try_flip<L: Ledger>(job: &Job, state: &mut State, draw: u64, steps: &mut Steps<L>) -> bool
+    requires { state.old.job ≡ job.now }
+    ensures next { state.new ≡ record state.old { plan = next job.now state.old.plan draw } }
+    ensures held { IsFalse result ↔ (state.new.plan ≡ state.old.plan) }
+
+    ensures searches { (steps.old ≤ steps.new) × (steps.new ≤ steps.old + 1) }
+    ensures local { (unit district : ℕ) → proposal job.now.graph.units job.now.districts draw ≡ Some (unit, district) →
+        IsLocal job.now.graph state.old.plan unit → steps.new ≡ steps.old }
+{
+    match propose(draw, job.units(), job.districts()) {
+        None => false,
+        Some((unit, district)) => state.move_to(job, unit, district),
+    }
+}
+
+// The draw itself where it moves no unit. Elsewhere the place in its block is that of the unit's old district.
+fn led_back(job: &Job, state: &mut State, draw: u64) -> u64
+    requires { state.old.job ≡ job.now }
+    ensures value { result ≡ mirrored job.now state.old.plan draw }
+    ensures same { state.new ≡ state.old }
+    ensures legal { IsLegal job.now state.old.plan }
+{
+    let plan = state.plan();
+    match propose(draw, job.units(), job.districts()) {
+        None => draw,
+        Some((unit, district)) => {
+            let home = plan.as_slice()[unit as usize];
+            if state.may_move(job, unit, district) {
+                draw - u64::from(district) + u64::from(home)
+            } else {
+                draw
+            }
+        }
+    }
+}
+
+/// The draw itself where it moves no unit, and elsewhere the draw of the same block that leads back. The
+/// state is as before, and no memory is taken.
+pub fn mirror(job: &Job, state: &mut State, draw: u64) -> u64
+    requires { state.old.job ≡ job.now }
+    ensures value { result ≡ mirrored job.now state.old.plan draw }
+    ensures same { state.new ≡ state.old }
+
+    ensures held { next job.now state.old.plan draw ≡ state.old.plan → result ≡ draw }
+    ensures moved { (unit district : ℕ) → proposal job.now.graph.units job.now.districts draw ≡ Some (unit, district) →
+        ¬ (next job.now state.old.plan draw ≡ state.old.plan) →
+        result ≡ draw - draw % (job.now.graph.units * job.now.districts) + (unit * job.now.districts + slice_index state.old.plan unit) }
+    ensures back { next job.now (next job.now state.old.plan draw) result ≡ state.old.plan }
+    ensures again { mirrored job.now (next job.now state.old.plan draw) result ≡ draw }
+{
+    led_back(job, state, draw)
+}

@@ -1,0 +1,13 @@
+//! Laws of the chain of plans, each the contract of a function that does nothing.
+
+ghost use Rattle.std.specs.Prelude.{◌≡◌, ℕ, List};
+ghost use Rattle.audit_model.specs.Job.{Job};
+ghost use Rattle.audit_model.specs.Plan.{IsLegal};
+ghost use Rattle.audit_model.specs.Step.{ways};
+
+/// As many draws lead from one legal plan to another as lead back.
+pub fn ways_are_symmetric()
+    ensures { (job : Job) (from to : List ℕ) → IsLegal job from → IsLegal job to → ways job from to ≡ ways job to from }
+{
+    model_laws::laws::ways_are_symmetric();
+}

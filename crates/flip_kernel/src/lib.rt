@@ -1,0 +1,8 @@
+//! The single flip: what a draw proposes, the plan after it, and the draw that leads back.
+#![tactic(auto)]
+
+pub mod flip;
+pub mod laws;
+pub mod proposal;
+pub mod state;
+mod sums;
