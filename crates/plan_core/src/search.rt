@@ -68,9 +68,9 @@ fn first_unmarked(graph: &Graph, plan: &[u32], district: u32, marks: &Marks) -> 
     requires units { marks.now.units ≡ graph.now.units }
     ensures { result ≡ first_below graph.now.units (λ u. in_district plan.now district u && not (has marks.now.items u)) }
 {
-    for unit in 0..graph.units() {
-        if plan[unit as usize] == district && !marks.has(unit) {
-            return Some(unit);
+    for other in 0..graph.units() {
+        if plan[other as usize] == district && !marks.has(other) {
+            return Some(other);
         }
     }
     None

@@ -7,8 +7,8 @@ use Rattle.plan_core.proofs.search.first_unmarked.Goals as goal
 
 pub returns-then-not-has : goal.returns-then-not-has
 returns-then-not-has c =
-    let absent : has c.args.marks.now.items c.loop-unit.unit ≡ false =
-    false_from_ne_true (has c.args.marks.now.items c.loop-unit.unit) (λ h. both_ways c.has.result c.if-not-has.true (c.has.ensures.1 h)) in
-    sym (first_below_here c.args.graph.now.units c.loop-unit.unit (λ u. in_district c.args.plan.now c.args.district u && not (has c.args.marks.now.items u)) c.loop-unit.invariant (omega arith)
-    (and_from (in_district c.args.plan.now c.args.district c.loop-unit.unit) (not (has c.args.marks.now.items c.loop-unit.unit))
-    (eq-eqb (get_or c.args.plan.now c.loop-unit.unit 0) c.args.district c.if-plan-unit.true) (not_from_false (has c.args.marks.now.items c.loop-unit.unit) absent)))
+    let absent : has c.args.marks.now.items c.loop-other.other ≡ false =
+    false_from_ne_true (has c.args.marks.now.items c.loop-other.other) (λ h. both_ways c.has.result c.if-not-has.true (c.has.ensures.1 h)) in
+    sym (first_below_here c.args.graph.now.units c.loop-other.other (λ u. in_district c.args.plan.now c.args.district u && not (has c.args.marks.now.items u)) c.loop-other.invariant (omega arith)
+    (and_from (in_district c.args.plan.now c.args.district c.loop-other.other) (not (has c.args.marks.now.items c.loop-other.other))
+    (eq-eqb (get_or c.args.plan.now c.loop-other.other 0) c.args.district c.if-plan-other.true) (not_from_false (has c.args.marks.now.items c.loop-other.other) absent)))

@@ -4,5 +4,5 @@ use Rattle.audit_model.specs.Graph.{has}
 use Rattle.audit_model.specs.Plan.{in_district}
 use Rattle.plan_core.proofs.search.first_unmarked.Given as goal
 
-abbrev pub invariant-loop-unit : goal.invariant-loop-unit
-invariant-loop-unit l = first_below l.unit (λ u. in_district l.plan l.district u && not (has l.marks.items u)) ≡ None
+abbrev pub invariant-loop-other : goal.invariant-loop-other
+invariant-loop-other l = first_below l.other (λ u. in_district l.plan l.district u && not (has l.marks.items u)) ≡ None

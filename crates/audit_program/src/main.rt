@@ -1,0 +1,59 @@
+//! The auditor as a program: the words are its arguments, the graph is on standard input, the text goes to standard output, and
+//! the reason of each status but 0 to standard error.
+#![tactic(auto)]
+
+use audit_io::gate::FreeGate;
+use audit_io::std_adapters::{ReadSource, WriteSink};
+use audit_io::sure_keeper::SureKeeper;
+use audit_run::audit::audit;
+use std::env;
+use std::io;
+use std::process::ExitCode;
+use std::rt::Env;
+
+// The words after the program's own name.
+fn words_of<R: Env + AllocGlobal>(rt: &R) -> io::Result<Vec<String>> {
+    let mut words = Vec::new(rt.alloc());
+    for word in env::args(rt)?.skip(1) {
+        words.push(word)?;
+    }
+    Ok(words)
+}
+
+// Ends with a note that no call wrote.
+fn end_with<R: Eprint>(rt: &R, note: &str, status: u8) -> ExitCode {
+    match rt.eprintln(note) {
+        Ok(()) => {}
+        Err(_) => {}
+    }
+    ExitCode::from(status)
+}
+
+fn main(rt: HostRuntime) -> ExitCode {
+    let words = match words_of(&rt) {
+        Ok(words) => words,
+        Err(error) => {
+            return match error.kind() {
+                io::ErrorKind::OutOfMemory => end_with(&rt, "memory", 3),
+                _ => end_with(&rt, "words: not text", 1),
+            };
+        }
+    };
+    let Ok(keeper) = SureKeeper::new(rt.alloc(), None, None) else {
+        return end_with(&rt, "memory", 3);
+    };
+    let mut graph = ReadSource::new(rt.stdin());
+    let mut out = WriteSink::new(rt.stdout());
+    let mut note = WriteSink::new(rt.stderr());
+    let (status, _keeper) = audit(
+        &rt,
+        rt.alloc(),
+        words.as_slice(),
+        &mut graph,
+        &mut out,
+        &mut note,
+        keeper,
+        &FreeGate::new(),
+    );
+    ExitCode::from(status)
+}

@@ -1,0 +1,10 @@
+pub mod Alone
+pub mod Causing
+pub mod Ending
+pub mod Judging
+pub mod Lines
+pub mod OneThread
+pub mod Preparing
+pub mod Statuses
+pub mod Streams
+pub mod Words

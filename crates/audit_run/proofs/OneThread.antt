@@ -1,0 +1,91 @@
+-- From how a call ended to the report of one thread.
+use Rattle.std.proofs.Common.{◌≡◌, ℕ, ◌<◌, ◌||◌, not, Bool, true, false, List, Option, Some, refl, sym, subst, ap, arith}
+use Rattle.std.proofs.lemmas.Bool.{ltb-false}
+use Rattle.std.proofs.lemmas.List.{take_all}
+use Rattle.std.specs.Io.KnownBytes.{Appends}
+use Rattle.audit_model.specs.declared.outcome.Outcome.{Outcome}
+use Rattle.audit_model.specs.declared.setting.Command.{Command}
+use Rattle.audit_model.specs.declared.setting.Command.TheVariants.{Check}
+use Rattle.audit_model.specs.Below.{filter_below}
+use Rattle.audit_model.specs.Graph.{has}
+use Rattle.audit_model.specs.Job.{Job}
+use Rattle.audit_model.specs.Run.{total, has_id, run_ids, IsRight}
+use Rattle.audit_model.specs.Trajectory.{sequence}
+use Rattle.model_laws.proofs.Connected.{filter_below-has}
+use Rattle.model_laws.proofs.Resumed.{full_is_sequence}
+use Rattle.draw_definitions.specs.Draw.{draw}
+use Rattle.note_definitions.specs.Note.{Ending, save_fault}
+use Rattle.text_definitions.specs.Report.{report, check_text}
+use Rattle.audit_run.specs.Causes.{IsTheJob}
+use Rattle.audit_run.specs.Ended.{status_of}
+use Rattle.audit_run.specs.Ends.{Cause, EndsFor, WritesReport, WritesText, WritesOrStops, leaves_work, lacking, full_of}
+use Rattle.audit_run.specs.Headline.{WritesOneThreads, StartsWith, WritesWhole}
+use Rattle.audit_run.specs.World.{Stream, World}
+use Rattle.audit_run.proofs.Statuses.{zero_only, job_is, report_of, opening_is, opening_at}
+
+pub or_else : (a b : Bool) → (a ≡ false → b ≡ true) → (a || b) ≡ true
+or_else true b f = refl
+or_else false b f = f refl
+
+-- where no work is left, each id is of the opening or is taken by the run
+pub every_id : (job : Job) (outcomes : List Outcome) → leaves_work job outcomes ≡ false → (id : ℕ) → id < total job
+    → (has_id outcomes id || has (run_ids job outcomes job.setting.budget) id) ≡ true
+every_id job outcomes none id below =
+    let ids : run_ids job outcomes job.setting.budget ≡ filter_below (total job) (λ i. not (has_id outcomes i)) = take_all _ _ (ltb-false job.setting.budget (lacking job outcomes) none) in
+    or_else (has_id outcomes id) (has (run_ids job outcomes job.setting.budget) id)
+    (λ e. subst (λ (xs : List ℕ). has xs id ≡ true) (sym ids) (filter_below-has (total job) (λ i. not (has_id outcomes i)) id below (ap not e)))
+
+module _ (words : List (List ℕ)) (before after : World) where
+  pub full_report : (job : Job) (outcomes : List Outcome) → StartsWith words before job outcomes → (r : WritesReport true job before after)
+      → Appends before.out.bytes after.out.bytes (report job (full_of job outcomes))
+  full_report job outcomes s r =
+      let e : Some outcomes ≡ Some r.outcomes = opening_is words before after job (Some outcomes) r.outcomes s.opened r.opened in
+      let same : r.outcomes ≡ outcomes = cc in
+      subst (λ (os : List Outcome). Appends before.out.bytes after.out.bytes (report job (full_of job os))) same r.written
+
+  pub one_report : (job : Job) (outcomes : List Outcome) → StartsWith words before job outcomes → IsRight job (draw job.setting.key) outcomes
+      → (r : WritesReport true job before after) → WritesOneThreads job before after
+  one_report job outcomes s right r =
+      let e : Some outcomes ≡ Some r.outcomes = opening_is words before after job (Some outcomes) r.outcomes s.opened r.opened in
+      let same : outcomes ≡ r.outcomes = cc in
+      let right' : IsRight job (draw job.setting.key) r.outcomes = subst (λ (os : List Outcome). IsRight job (draw job.setting.key) os) same right in
+      let all : full_of job r.outcomes ≡ sequence job (draw job.setting.key) =
+      full_is_sequence job (draw job.setting.key) r.outcomes right' job.setting.budget (every_id job r.outcomes r.nothing_left) in
+      subst (λ (os : List Outcome). Appends before.out.bytes after.out.bytes (report job os)) all r.written
+
+  pub done_report : (job : Job) (outcomes : List Outcome) → StartsWith words before job outcomes → (r : Option Ending) → Cause words before after r → status_of r ≡ 0
+      → WritesReport true job before after
+  done_report job outcomes s r c z =
+      let d = zero_only words before after r c z in
+      report_of words before after true job d.job s.walking (job_is words before after job d.job s.the_job d.prepared) d.written
+
+  pub done_check : (job : Job) → IsTheJob words before job → job.setting.command ≡ Check → (r : Option Ending) → Cause words before after r → status_of r ≡ 0
+      → Appends before.out.bytes after.out.bytes (check_text job)
+  done_check job t check r c z =
+      let d = zero_only words before after r c z in
+      let text : WritesText job.setting.command true job before after =
+      subst (λ (j : Job). WritesText j.setting.command true j before after) (job_is words before after job d.job t d.prepared) d.written in
+      subst (λ (k : Command). WritesText k true job before after) check text
+
+  pub whole_report : (whole : Bool) (job other : Job) (outcomes : List Outcome) → StartsWith words before job outcomes → other ≡ job
+      → leaves_work job outcomes ≡ false → WritesOrStops whole other before after → WritesReport true job before after
+  whole_report true job other outcomes s same none w = subst (λ (j : Job). WritesReport true j before after) same w
+  whole_report false job other outcomes s same none w =
+      let e : Some outcomes ≡ Some w.outcomes = opening_is words before after job (Some outcomes) w.outcomes s.opened (opening_at words before after job other w.outcomes same w.opened) in
+      let left : leaves_work job w.outcomes ≡ true = subst (λ (j : Job). leaves_work j w.outcomes ≡ true) same w.work_left in
+      cc
+
+  pub nine_report : (job : Job) (outcomes : List Outcome) → StartsWith words before job outcomes → leaves_work job outcomes ≡ false
+      → (r : Option Ending) → Cause words before after r → status_of r ≡ 9 → WritesReport true job before after
+  nine_report job outcomes s none (Some save_fault) c z =
+      whole_report c.whole job c.job outcomes s (job_is words before after job c.job s.the_job c.prepared) none c.written
+  nine_report job outcomes s none r c z = absurd (omega arith)
+
+pub writes_whole : (words : List (List ℕ)) (before after : World) (n m : Stream) (status : ℕ) → EndsFor words before after n m status → WritesWhole words before after status
+writes_whole words before after n m status e =
+    subst (λ (s : ℕ). WritesWhole words before after s) (sym e.status_is) (record {
+      check = λ job t check z. done_check words before after job t check e.reason e.cause z;
+      run = λ job outcomes s z. full_report words before after job outcomes s (done_report words before after job outcomes s e.reason e.cause z);
+      one_thread = λ job outcomes s right z. one_report words before after job outcomes s right (done_report words before after job outcomes s e.reason e.cause z);
+      save_failed = λ job outcomes s right z none. one_report words before after job outcomes s right (nine_report words before after job outcomes s none e.reason e.cause z);
+    })

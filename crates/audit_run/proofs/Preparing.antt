@@ -1,0 +1,53 @@
+-- From what the words and the source gave to how the call goes on.
+use Rattle.std.proofs.Common.{◌≡◌, ℕ, List, Result, Ok, refl, sym, subst}
+use Rattle.audit_model.specs.declared.fault.WordFault.{WordFault}
+use Rattle.audit_model.specs.declared.setting.Command.{Command}
+use Rattle.audit_model.specs.declared.setting.Command.TheVariants.{Check}
+use Rattle.audit_model.specs.declared.setting.Setting.{Setting}
+use Rattle.text_definitions.specs.Words.{setting_of}
+use Rattle.audit_run.specs.declared.ended.Ended.TheVariants as ended
+use Rattle.audit_run.specs.Accepted.{input_by}
+use Rattle.audit_run.specs.Ends.{LeavesUntouched, SameUnless, TakesTooMany, no_marks, passes, is_reading}
+use Rattle.audit_run.specs.Steps.{ReadsTooMany, RunsTo}
+use Rattle.audit_run.specs.World.{Stream, Kept, IfKnown, world}
+use Rattle.audit_run.proofs.Judging.{judged_many}
+
+-- the source may have been read, as the words ask
+pub source_by : (words : List (List ℕ)) (setting : Setting) (before after : Stream) → setting_of words ≡ Ok setting → SameUnless (is_reading setting.command) before after
+    → SameUnless (passes (λ s. is_reading s.command) (setting_of words)) before after
+source_by words setting before after e same =
+    subst (λ (r : Result Setting WordFault). SameUnless (passes (λ s. is_reading s.command) r) before after) (sym e) same
+
+-- a check may read the source
+pub check_reads : (setting : Setting) (before after : Stream) → setting.command ≡ Check → SameUnless (is_reading setting.command) before after
+check_reads setting before after check = subst (λ (c : Command). SameUnless (is_reading c) before after) (sym check) tt
+
+module _ (words : List (List ℕ)) (setting : Setting) (before after : Stream) (accepted : setting_of words ≡ Ok setting) (out : Stream) (keeper : Kept) where
+  -- nothing but the source was touched
+  pub only_source : SameUnless (is_reading setting.command) before after → after.faults ≡ before.faults
+      → LeavesUntouched words (world before out keeper) (world after out keeper) no_marks
+  only_source same count = record {
+    source = source_by words setting before after accepted same;
+    out = refl;
+    slots = refl;
+    read_faults = count;
+    write_faults = refl;
+    load_faults = refl;
+    save_faults = refl;
+  }
+
+  pub too_many_runs : setting.command ≡ Check → ReadsTooMany before after → RunsTo words (world before out keeper) (world after out keeper) ended.TooManyBytes
+  too_many_runs check r = record {
+    cause = record {
+      refused = record {
+        setting = setting;
+        words_are = accepted;
+        bytes = r.bytes;
+        given = subst (λ (c : Command). IfKnown (input_by c setting before.bytes) (λ input. input ≡ r.bytes)) (sym check) r.given;
+        judged_so = judged_many setting r.bytes r.many;
+      };
+      taken = subst (λ (c : Command). TakesTooMany (is_reading c) before.bytes after.bytes) (sym check) r.taken;
+    };
+    untouched = only_source (check_reads setting before after check) r.faults;
+    line_is = refl;
+  }

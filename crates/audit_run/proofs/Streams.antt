@@ -1,0 +1,98 @@
+-- Bytes read and written in turns.
+use Rattle.std.proofs.Common.{◌≡◌, ℕ, suc, true, ◌+◌, ◌<◌, ◌≤◌, List, [], ◌++◌, length, take, drop, Option, Some, None, refl, ap, sym, subst, ◌-◌, ◌∙◌, append_assoc, length-append, arith}
+use Rattle.std.proofs.lemmas.List.{append-nil, take-take, take-append-le}
+use Rattle.std.proofs.Math.Seq.{take-add, take-append-add}
+use Rattle.std.specs.Io.KnownBytes.{Appends, Consumes, Keeps, IsAtEnd}
+use Rattle.audit_run.specs.Accepted.{most_bytes}
+use Rattle.audit_run.specs.Ends.{AppendsPart, TakesTooMany}
+use Rattle.audit_run.specs.Steps.{ReadsTooMany}
+use Rattle.audit_run.specs.World.{Stream, IfKnown}
+
+pub consumes_then : (a b c : Option (List ℕ)) (xs ys : List ℕ) → Consumes a b xs → Consumes b c ys → Consumes a c (xs ++ ys)
+consumes_then None b c xs ys p q = tt
+consumes_then (Some u) None c xs ys p q = absurd p
+consumes_then (Some u) (Some v) None xs ys p q = absurd q
+consumes_then (Some u) (Some v) (Some w) xs ys p q = p ∙ ap (λ r. xs ++ r) q ∙ sym (append_assoc xs ys w)
+
+-- at the end, what was consumed is all that was left
+pub consumed_all : (a c : Option (List ℕ)) (xs : List ℕ) → Consumes a c xs → IsAtEnd c → IfKnown a (λ left. left ≡ xs)
+consumed_all None c xs p e = tt
+consumed_all (Some u) None xs p e = absurd p
+consumed_all (Some u) (Some v) xs p e = p ∙ ap (λ r. xs ++ r) e ∙ append-nil xs
+
+-- what was left: the told bytes, or else what was consumed
+abbrev pub left_or : Option (List ℕ) → List ℕ → List ℕ
+left_or None xs = xs
+left_or (Some left) xs = left
+
+pub left_is : (a : Option (List ℕ)) (xs : List ℕ) → IfKnown a (λ left. left ≡ left_or a xs)
+left_is None xs = tt
+left_is (Some left) xs = refl
+
+pub left_many : (a c : Option (List ℕ)) (xs : List ℕ) (n : ℕ) → Consumes a c xs → n < length xs → n < length (left_or a xs)
+left_many None c xs n p h = h
+left_many (Some u) None xs n p h = absurd p
+left_many (Some u) (Some v) xs n p h = omega (arith, ap length p, length-append xs v)
+
+-- so many were taken
+pub left_taken : (a c : Option (List ℕ)) (xs : List ℕ) → Consumes a c xs → length xs ≡ suc most_bytes → TakesTooMany true a c
+left_taken None c xs p h = tt
+left_taken (Some u) None xs p h = absurd p
+left_taken (Some u) (Some v) xs p h = omega (arith, ap length p, length-append xs v)
+
+-- more than the limit was left, and one byte more than the limit was taken
+pub reads_too_many : (before after : Stream) (xs : List ℕ) → Consumes before.bytes after.bytes xs → length xs ≡ suc most_bytes
+    → after.faults ≡ before.faults → ReadsTooMany before after
+reads_too_many before after xs p h same = record {
+  bytes = left_or before.bytes xs;
+  given = left_is before.bytes xs;
+  many = left_many before.bytes after.bytes xs most_bytes p (omega arith);
+  taken = left_taken before.bytes after.bytes xs p h;
+  faults = same;
+}
+
+pub appends_then : (a b c : Option (List ℕ)) (text : List ℕ) (at n : ℕ) → Appends a b (take at text) → Appends b c (take n (drop at text)) → Appends a c (take (at + n) text)
+appends_then None b c text at n p q = tt
+appends_then (Some u) None c text at n p q = absurd p
+appends_then (Some u) (Some v) None text at n p q = absurd q
+appends_then (Some u) (Some v) (Some w) text at n p q =
+    rw take-add (q ∙ ap (λ r. r ++ take n (drop at text)) p ∙ append_assoc u (take at text) (take n (drop at text)))
+
+pub appends_kept : (a b c : Option (List ℕ)) (xs : List ℕ) → Appends a b xs → Keeps b c → Appends a c xs
+appends_kept None b c xs p q = tt
+appends_kept (Some u) None c xs p q = absurd p
+appends_kept (Some u) (Some v) None xs p q = absurd q
+appends_kept (Some u) (Some v) (Some w) xs p q = q ∙ p
+
+pub appends_nothing : (a : Option (List ℕ)) → Appends a a []
+appends_nothing None = tt
+appends_nothing (Some u) = sym (append-nil u)
+
+pub consumes_nothing : (a : Option (List ℕ)) → Consumes a a []
+consumes_nothing None = tt
+consumes_nothing (Some u) = refl
+
+-- a write of the rest of a text goes on from its front
+pub appends_rest : (a b c : Option (List ℕ)) (text : List ℕ) (at n : ℕ) → Appends a b (take at text) → n ≤ length text - at
+    → Appends b c (take n (take (length text - at) (drop at text))) → Appends a c (take (at + n) text)
+appends_rest a b c text at n p few q =
+    appends_then a b c text at n p (subst (λ (xs : List ℕ). Appends b c xs) (take-take n (length text - at) (drop at text) few) q)
+
+pub appends_more : (a b c : Option (List ℕ)) (xs ys : List ℕ) → Appends a b xs → Appends b c ys → Appends a c (xs ++ ys)
+appends_more None b c xs ys p q = tt
+appends_more (Some u) None c xs ys p q = absurd p
+appends_more (Some u) (Some v) None xs ys p q = absurd q
+appends_more (Some u) (Some v) (Some w) xs ys p q = q ∙ ap (λ r. r ++ ys) p ∙ append_assoc u xs ys
+
+-- a part of a text is a part of a longer one
+pub part_of_more : (a b : Option (List ℕ)) (xs ys : List ℕ) → AppendsPart a b xs → AppendsPart a b (xs ++ ys)
+part_of_more a b xs ys (n, few, p) =
+    (n, omega (arith, length-append xs ys, few), subst (λ (zs : List ℕ). Appends a b zs) (sym (take-append-le n xs ys few)) p)
+
+-- a whole text and a part of the next are a part of both
+pub part_after : (a b c : Option (List ℕ)) (xs ys : List ℕ) → Appends a b xs → AppendsPart b c ys → AppendsPart a c (xs ++ ys)
+part_after a b c xs ys p (n, few, q) = (
+  length xs + n,
+  omega (arith, length-append xs ys, few),
+  subst (λ (zs : List ℕ). Appends a c zs) (sym (take-append-add xs ys n)) (appends_more a b c xs (take n ys) p q),
+)

@@ -1,0 +1,359 @@
+-- How a call may end: for each reason, what caused it, what it wrote, and what it left untouched.
+use Rattle.std.specs.Prelude.{◌≡◌, ◌⊎◌, ℕ, zero, suc, ◌+◌, ◌-◌, ◌*◌, ◌/◌, ◌%◌, ◌<◌, ◌≤◌, ◌==◌, ◌&&◌, ◌||◌, Bool, true, false, not, cond, IsTrue, IsFalse, nat_lt, List, [], length, map, take, ⊤, Option, Some, None, option_map, Result, Ok, Err}
+use Rattle.std.specs.List.{list_all, All, Contains}
+use Rattle.std.specs.Io.KnownBytes.{Appends, IsAtEnd}
+use Rattle.audit_model.specs.declared.fault.WordFault.{WordFault}
+use Rattle.audit_model.specs.declared.outcome.Outcome.{Outcome}
+use Rattle.audit_model.specs.declared.setting.Columns.{Columns}
+use Rattle.audit_model.specs.declared.setting.Command.{Command}
+use Rattle.audit_model.specs.declared.setting.Command.TheVariants.{Check, Run, Make}
+use Rattle.audit_model.specs.declared.setting.Setting.{Setting}
+use Rattle.audit_model.specs.Below.{filter_below}
+use Rattle.audit_model.specs.Job.{Job}
+use Rattle.audit_model.specs.JobOf.{IsJob}
+use Rattle.audit_model.specs.Apart.{AllApart}
+use Rattle.audit_model.specs.Run.{total, has_id, run_ids, full, fits}
+use Rattle.audit_model.specs.Trajectory.{outcome}
+use Rattle.checkpoint_definitions.specs.Checkpoint.{checkpoint, job_digest}
+use Rattle.draw_definitions.specs.Draw.{draw}
+use Rattle.note_definitions.specs.Note.{Ending, bad_words, too_many_bytes, bad_graph, bad_plan, no_memory, read_fault, write_fault, load_fault, stopped, damaged, other_job, save_fault, note}
+use Rattle.text_definitions.specs.Report.{report, check_text}
+use Rattle.checkpoint_definitions.specs.Slots.{Slot, other, slot_of, opening, newest, place, slot_at}
+use Rattle.text_definitions.specs.Words.{setting_of}
+use Rattle.audit_io.specs.Faults.{Rose}
+use Rattle.audit_io.specs.Slots.{Pair, stored}
+use Rattle.audit_run.specs.Accepted.{IsAccepted, IsRefused, columns_of, most_bytes}
+use Rattle.audit_run.specs.Ended.{status_of}
+use Rattle.audit_run.specs.World.{Stream, World, IfKnown}
+
+-- ---- what the words ask for
+
+-- the command reads the source
+abbrev pub is_reading : Command → Bool
+is_reading Check = true
+is_reading Run = true
+is_reading Make = false
+
+-- the command walks
+abbrev pub is_walking : Command → Bool
+is_walking Check = false
+is_walking Run = true
+is_walking Make = true
+
+-- a run of this setting saves, and loads
+abbrev pub saves : Setting → Bool
+saves setting = is_walking setting.command && not (setting.save_every == 0)
+
+abbrev pub loads : Setting → Bool
+loads setting = is_walking setting.command && (setting.resume || not (setting.save_every == 0))
+
+-- the words are accepted and pass the test
+abbrev pub passes : (Setting → Bool) → Result Setting WordFault → Bool
+passes test (Ok setting) = test setting
+passes test (Err f) = false
+
+-- ---- the opening, as far as the keeper tells
+
+-- not told; told, and undefined; or told
+abbrev pub opening_by : Bool → Job → Option Pair → Option (Option (List Outcome))
+opening_by false job slots = Some (Some [])
+opening_by true job slots = option_map (λ p. opening true (slot_of job (job_digest job) p.zero_slot) (slot_of job (job_digest job) p.one_slot)) slots
+
+abbrev pub told_opening : Job → Option Pair → Option (Option (List Outcome))
+told_opening job slots = opening_by job.setting.resume job slots
+
+-- these are outcomes with which a run may start, and where the keeper tells, they are those with which it starts
+pub record IsOpening (job : Job) (slots : Option Pair) (outcomes : List Outcome) : Type 0 where
+  pub told : IfKnown (told_opening job slots) (λ o. o ≡ Some outcomes)
+  pub apart : AllApart (map (λ o. o.id) outcomes)
+  pub fitting : IsTrue (list_all (fits job) outcomes)
+
+-- how many ids the opening lacks
+abbrev pub lacking : Job → List Outcome → ℕ
+lacking job outcomes = length (filter_below (total job) (λ id. not (has_id outcomes id)))
+
+-- the budget is below that number
+abbrev pub leaves_work : Job → List Outcome → Bool
+leaves_work job outcomes = nat_lt job.setting.budget (lacking job outcomes)
+
+-- the outcomes of the opening, and of the first ids that it lacks
+abbrev pub full_of : Job → List Outcome → List Outcome
+full_of job outcomes = full job (draw job.setting.key) outcomes job.setting.budget
+
+-- ---- what was read
+
+-- the source was read to its end, or not at all
+abbrev pub IsReadBy : Bool → Stream → Stream → Type 0
+IsReadBy true before after = IsAtEnd after.bytes × (after.faults ≡ before.faults)
+IsReadBy false before after = after ≡ before
+
+-- the job was accepted, all that it holds is within the limits, its plan is legal, and the source was read for it
+pub record IsPrepared (words : List (List ℕ)) (before after : Stream) (job : Job) : Type 0 where
+  pub accepted : IsAccepted words before.bytes job
+  pub sound : IsJob job
+  pub read : IsReadBy (is_reading job.setting.command) before after
+
+-- ---- what was written
+
+-- some of the text's first bytes were taken
+abbrev pub AppendsPart : Option (List ℕ) → Option (List ℕ) → List ℕ → Type 0
+AppendsPart before after text = (n : ℕ) × (n ≤ length text) × Appends before after (take n text)
+
+-- a text was taken whole, or in part
+abbrev pub Writes : Bool → Option (List ℕ) → Option (List ℕ) → List ℕ → Type 0
+Writes true before after text = Appends before after text
+Writes false before after text = AppendsPart before after text
+
+-- nothing is left to be walked, and the report on all outcomes was written
+pub record WritesReport (whole : Bool) (job : Job) (before after : World) : Type 0 where
+  pub outcomes : List Outcome
+  pub opened : IsOpening job before.keeper.slots outcomes
+  pub nothing_left : IsFalse (leaves_work job outcomes)
+  pub written : Writes whole before.out.bytes after.out.bytes (report job (full_of job outcomes))
+
+-- what a command writes
+abbrev pub WritesText : Command → Bool → Job → World → World → Type 0
+WritesText Check whole job before after = Writes whole before.out.bytes after.out.bytes (check_text job)
+WritesText Run whole job before after = WritesReport whole job before after
+WritesText Make whole job before after = WritesReport whole job before after
+
+-- work is left, and nothing was written
+pub record StopsEarly (job : Job) (before after : World) : Type 0 where
+  pub outcomes : List Outcome
+  pub opened : IsOpening job before.keeper.slots outcomes
+  pub work_left : IsTrue (leaves_work job outcomes)
+  pub unwritten : after.out.bytes ≡ before.out.bytes
+
+-- ---- what was saved
+
+-- where the keeper tells, the newest slot is the checkpoint of the opening and of what was walked
+abbrev pub IsNewest : Job → List Outcome → Pair → Type 0
+IsNewest job outcomes p =
+    (n : ℕ) × (newest (slot_of job (job_digest job) p.zero_slot) (slot_of job (job_digest job) p.one_slot) ≡ Some n)
+    × ((g : ℕ) × (g < 3) × (stored p n ≡ Some (checkpoint (job_digest job) g outcomes)))
+
+-- an outcome of the opening, or what the trajectory of an id finds that the opening lacks
+abbrev pub IsOpeningOrFound : Job → List Outcome → Outcome → Type 0
+IsOpeningOrFound job outcomes o =
+    Contains outcomes o ⊎ (IsFalse (has_id outcomes o.id) × (o.id < total job) × (o ≡ outcome job (draw job.setting.key) o.id))
+
+-- the slot is a checkpoint of the job with this generation, of the opening and of so many ids that the opening lacks
+pub record IsPartly (job : Job) (outcomes : List Outcome) (count generation : ℕ) (slot : Option (List ℕ)) : Type 0 where
+  pub saved : List Outcome
+  pub bytes_are : slot ≡ Some (checkpoint (job_digest job) generation saved)
+  pub each : All (IsOpeningOrFound job outcomes) saved
+  pub opening_kept : All (Contains saved) outcomes
+  pub counted : length saved ≡ length outcomes + count
+
+-- of two slots of which one was intact, one is the newest slot as it was, or a checkpoint of the opening and of ids that it lacks
+abbrev pub KeepsASlot : Job → List Outcome → Pair → Pair → Type 0
+KeepsASlot job outcomes p q =
+    (n : ℕ) → newest (slot_of job (job_digest job) p.zero_slot) (slot_of job (job_digest job) p.one_slot) ≡ Some n
+    → (m : ℕ) × ((stored q m ≡ stored p n) ⊎ ((count : ℕ) × ((g : ℕ) × IsPartly job outcomes count g (stored q m))))
+
+-- how many saves are made in a run of so many ids: one for each full group, and a last one
+abbrev pub saves_of : ℕ → ℕ → ℕ
+saves_of ids every = ids / every + cond {A = ℕ} ((ids == 0) || not (ids % every == 0)) 1 0
+
+-- a slot and a generation, moved so often to the other slot and the next generation
+abbrev pub moved_place : ℕ → ℕ × ℕ → ℕ × ℕ
+moved_place zero at = at
+moved_place (suc n) at = moved_place n (1 - at.0, (at.1 + 1) % 3)
+
+-- the place of the last save
+abbrev pub last_place : Job → List Outcome → Pair → ℕ × ℕ
+last_place job outcomes p =
+    moved_place (saves_of (length (run_ids job outcomes job.setting.budget)) job.setting.save_every - 1)
+    (place (slot_of job (job_digest job) p.zero_slot) (slot_of job (job_digest job) p.one_slot))
+
+-- where no save failed: the last save is at its place and whole, and the other slot is as it was or is the save before
+pub record SavesInTurn (job : Job) (outcomes : List Outcome) (p q : Pair) : Type 0 where
+  pub last : stored q (last_place job outcomes p).0 ≡ Some (checkpoint (job_digest job) (last_place job outcomes p).1 (full_of job outcomes))
+  pub only : saves_of (length (run_ids job outcomes job.setting.budget)) job.setting.save_every ≡ 1
+      → stored q (1 - (last_place job outcomes p).0) ≡ stored p (1 - (last_place job outcomes p).0)
+  pub before_last : 1 < saves_of (length (run_ids job outcomes job.setting.budget)) job.setting.save_every
+      → IsPartly job outcomes ((saves_of (length (run_ids job outcomes job.setting.budget)) job.setting.save_every - 1) * job.setting.save_every)
+      (((last_place job outcomes p).1 + 2) % 3) (stored q (1 - (last_place job outcomes p).0))
+
+-- what is known of both, where both are told
+abbrev pub IfBothKnown : {A : Type 0} → Option A → Option A → (A → A → Type 0) → Type 0
+IfBothKnown None y P = ⊤
+IfBothKnown (Some x) None P = ⊥
+IfBothKnown (Some x) (Some y) P = P x y
+
+pub record SavesAll (job : Job) (before after : World) : Type 0 where
+  pub outcomes : List Outcome
+  pub opened : IsOpening job before.keeper.slots outcomes
+  pub kept : IfBothKnown before.keeper.slots after.keeper.slots (KeepsASlot job outcomes)
+  pub newest_is : after.keeper.save_faults ≡ before.keeper.save_faults → IfKnown after.keeper.slots (IsNewest job (full_of job outcomes))
+  pub in_turn : after.keeper.save_faults ≡ before.keeper.save_faults → IfBothKnown before.keeper.slots after.keeper.slots (SavesInTurn job outcomes)
+
+abbrev pub SavesWhere : Bool → Job → World → World → Type 0
+SavesWhere false job before after = after.keeper.slots ≡ before.keeper.slots
+SavesWhere true job before after = SavesAll job before after
+
+-- ---- each reason
+
+-- one byte more than the limit was taken, where the source is read and tells
+abbrev pub TakesTooMany : Bool → Option (List ℕ) → Option (List ℕ) → Type 0
+TakesTooMany true before after = IfBothKnown before after (λ left rest. length left ≡ suc (most_bytes + length rest))
+TakesTooMany false before after = ⊤
+
+-- the bytes are more than the limit, and the source was read no further than that
+pub record IsTooMany (words : List (List ℕ)) (before after : World) : Type 0 where
+  pub refused : IsRefused words before.source.bytes too_many_bytes
+  pub taken : TakesTooMany (is_reading refused.setting.command) before.source.bytes after.source.bytes
+
+pub record IsDone (words : List (List ℕ)) (before after : World) : Type 0 where
+  pub job : Job
+  pub prepared : IsPrepared words before.source after.source job
+  pub written : WritesText job.setting.command true job before after
+  pub saved : SavesWhere (saves job.setting) job before after
+
+pub record IsReadFault (words : List (List ℕ)) (before after : World) : Type 0 where
+  pub setting : Setting
+  pub words_are : setting_of words ≡ Ok setting
+  pub reading : IsTrue (is_reading setting.command)
+  pub rose : Rose before.source.faults after.source.faults
+
+pub record IsWriteFault (words : List (List ℕ)) (before after : World) : Type 0 where
+  pub job : Job
+  pub prepared : IsPrepared words before.source after.source job
+  pub written : WritesText job.setting.command false job before after
+  pub saved : SavesWhere (saves job.setting) job before after
+  pub rose : Rose before.out.faults after.out.faults
+
+pub record IsLoadFault (words : List (List ℕ)) (before after : World) : Type 0 where
+  pub job : Job
+  pub prepared : IsPrepared words before.source after.source job
+  pub loading : IsTrue (loads job.setting)
+  pub rose : Rose before.keeper.load_faults after.keeper.load_faults
+
+pub record IsStopped (words : List (List ℕ)) (before after : World) (done all : ℕ) : Type 0 where
+  pub job : Job
+  pub prepared : IsPrepared words before.source after.source job
+  pub saving : IsTrue (saves job.setting)
+  pub stopped : StopsEarly job before after
+  pub done_is : done ≡ length stopped.outcomes + job.setting.budget
+  pub all_is : all ≡ total job
+  pub saved : SavesAll job before after
+
+-- resuming was asked, and the slots do not say how a run may start
+pub record IsSlotsFault (words : List (List ℕ)) (before after : World) (told : Job → Pair → Type 0) : Type 0 where
+  pub job : Job
+  pub prepared : IsPrepared words before.source after.source job
+  pub resuming : IsTrue (is_walking job.setting.command && job.setting.resume)
+  pub undefined : IfKnown (told_opening job before.keeper.slots) (λ o. o ≡ None)
+  pub told_so : IfKnown before.keeper.slots (told job)
+
+-- both slots as they are, of which none is intact
+pub record AreDamaged (zero one : Slot) (job : Job) (p : Pair) : Type 0 where
+  pub zero_is : slot_of job (job_digest job) p.zero_slot ≡ zero
+  pub one_is : slot_of job (job_digest job) p.one_slot ≡ one
+  pub no_newest : newest zero one ≡ None
+
+-- the newest slot is another job's
+pub record IsOtherJob (found wanted : List ℕ) (job : Job) (p : Pair) : Type 0 where
+  pub wanted_is : wanted ≡ job_digest job
+  pub generation : ℕ
+  pub number : ℕ
+  pub newest_is : newest (slot_of job (job_digest job) p.zero_slot) (slot_of job (job_digest job) p.one_slot) ≡ Some number
+  pub found_is : slot_at (slot_of job (job_digest job) p.zero_slot) (slot_of job (job_digest job) p.one_slot) number ≡ other found generation
+
+-- a save failed; all else is done as without it
+abbrev pub WritesOrStops : Bool → Job → World → World → Type 0
+WritesOrStops true job before after = WritesReport true job before after
+WritesOrStops false job before after = StopsEarly job before after
+
+pub record IsSaveFault (words : List (List ℕ)) (before after : World) : Type 0 where
+  pub job : Job
+  pub prepared : IsPrepared words before.source after.source job
+  pub saving : IsTrue (saves job.setting)
+  pub whole : Bool
+  pub written : WritesOrStops whole job before after
+  pub outcomes : List Outcome
+  pub opened : IsOpening job before.keeper.slots outcomes
+  pub kept : IfBothKnown before.keeper.slots after.keeper.slots (KeepsASlot job outcomes)
+  pub rose : Rose before.keeper.save_faults after.keeper.save_faults
+
+-- why a call ended
+abbrev pub Cause : List (List ℕ) → World → World → Option Ending → Type 0
+Cause words before after None = IsDone words before after
+Cause words before after (Some (bad_words f)) = setting_of words ≡ Err f
+Cause words before after (Some too_many_bytes) = IsTooMany words before after
+Cause words before after (Some (bad_graph f)) = IsRefused words before.source.bytes (bad_graph f)
+Cause words before after (Some (bad_plan f)) = IsRefused words before.source.bytes (bad_plan f)
+Cause words before after (Some no_memory) = ⊤
+Cause words before after (Some read_fault) = IsReadFault words before after
+Cause words before after (Some write_fault) = IsWriteFault words before after
+Cause words before after (Some load_fault) = IsLoadFault words before after
+Cause words before after (Some (stopped done all)) = IsStopped words before after done all
+Cause words before after (Some (damaged first second)) = IsSlotsFault words before after (AreDamaged first second)
+Cause words before after (Some (other_job found wanted)) = IsSlotsFault words before after (IsOtherJob found wanted)
+Cause words before after (Some save_fault) = IsSaveFault words before after
+
+-- ---- what is left as it was
+
+-- the value is as before, unless the test passed
+abbrev pub SameUnless : {A : Type 0} → Bool → A → A → Type 0
+SameUnless true before after = ⊤
+SameUnless false before after = after ≡ before
+
+-- which endings may have written, saved, and seen which call fail
+pub record Marks : Type 0 where
+  pub wrote : Bool
+  pub saved : Bool
+  pub read_failed : Bool
+  pub write_failed : Bool
+  pub load_failed : Bool
+  pub save_failed : Bool
+
+abbrev pub no_marks : Marks
+no_marks = record { wrote = false; saved = false; read_failed = false; write_failed = false; load_failed = false; save_failed = false }
+
+abbrev pub marks_of : Option Ending → Marks
+marks_of None = record no_marks { wrote = true; saved = true }
+marks_of (Some (bad_words f)) = no_marks
+marks_of (Some too_many_bytes) = no_marks
+marks_of (Some (bad_graph f)) = no_marks
+marks_of (Some (bad_plan f)) = no_marks
+marks_of (Some no_memory) = no_marks
+marks_of (Some read_fault) = record no_marks { read_failed = true }
+marks_of (Some write_fault) = record no_marks { wrote = true; saved = true; write_failed = true; save_failed = true }
+marks_of (Some load_fault) = record no_marks { load_failed = true }
+marks_of (Some (stopped done all)) = record no_marks { saved = true }
+marks_of (Some (damaged first second)) = no_marks
+marks_of (Some (other_job found wanted)) = no_marks
+marks_of (Some save_fault) = record no_marks { wrote = true; saved = true; save_failed = true }
+
+-- the source is touched only where it is read, the slots only where the run saves, `out` only where a text was to be written;
+-- and no failed call is passed over: each count is as before, but that of the call whose fault is told, or of a save before a write fault
+pub record LeavesUntouched (words : List (List ℕ)) (before after : World) (marks : Marks) : Type 0 where
+  pub source : SameUnless (passes (λ s. is_reading s.command) (setting_of words)) before.source after.source
+  pub out : SameUnless marks.wrote before.out.bytes after.out.bytes
+  pub slots : SameUnless (marks.saved && passes saves (setting_of words)) before.keeper.slots after.keeper.slots
+  pub read_faults : SameUnless marks.read_failed before.source.faults after.source.faults
+  pub write_faults : SameUnless marks.write_failed before.out.faults after.out.faults
+  pub load_faults : SameUnless marks.load_failed before.keeper.load_faults after.keeper.load_faults
+  pub save_faults : SameUnless (marks.save_failed && passes saves (setting_of words)) before.keeper.save_faults after.keeper.save_faults
+
+-- ---- the note
+
+-- the line was added whole, or in part where the note's count rose
+pub record AddsLine (before after : Stream) (line : List ℕ) : Type 0 where
+  pub added : (Appends before.bytes after.bytes line × (after.faults ≡ before.faults))
+      ⊎ (AppendsPart before.bytes after.bytes line × Rose before.faults after.faults)
+
+abbrev pub TellsWhy : Columns → Stream → Stream → Option Ending → Type 0
+TellsWhy columns before after None = after ≡ before
+TellsWhy columns before after (Some ending) = AddsLine before after (note columns ending)
+
+-- ---- the whole
+
+-- there is a reason: the status says it, it has its cause, it leaves untouched what it is to, and the note tells it
+pub record EndsFor (words : List (List ℕ)) (before after : World) (note_before note_after : Stream) (status : ℕ) : Type 0 where
+  pub reason : Option Ending
+  pub status_is : status ≡ status_of reason
+  pub cause : Cause words before after reason
+  pub untouched : LeavesUntouched words before after (marks_of reason)
+  pub told : TellsWhy (columns_of words) note_before note_after reason

@@ -1,0 +1,9 @@
+pub mod Accepted
+pub mod Causes
+pub mod Ended
+pub mod Ends
+pub mod Headline
+pub mod Left
+pub mod Said
+pub mod Steps
+pub mod World

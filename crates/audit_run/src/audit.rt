@@ -1,0 +1,88 @@
+//! The call that does all that the program does.
+
+ghost use Rattle.std.specs.Prelude.{◌≡◌};
+ghost use Rattle.audit_model.specs.declared.setting.Command.TheVariants.{Check};
+ghost use Rattle.audit_run.specs.Causes.{HasCauses, IsComplete};
+ghost use Rattle.audit_run.specs.Ends.{EndsFor};
+ghost use Rattle.audit_run.specs.Headline.{WritesWhole};
+ghost use Rattle.audit_run.specs.Left.{LeavesAlone};
+ghost use Rattle.audit_run.specs.Steps.{Finishes};
+ghost use Rattle.audit_run.specs.World.{Kept, stream, kept, world};
+ghost use Rattle.audit_words.specs.Spoken.{spoken};
+
+use crate::ended::Ended;
+use crate::note::tell;
+use crate::prepare::prepare;
+use crate::writing::write_all;
+use audit_io::gate::Gate;
+use audit_io::keeper::Keeper;
+use audit_io::sink::Sink;
+use audit_io::source::Source;
+use audit_model::buffers::Bytes;
+use plan_core::job::Job;
+use report::check_text;
+use std::alloc::Global;
+use std::sync::Wait;
+use std::thread::Threads;
+
+// Writes the text of a check.
+fn finish_check<K: Sink>(alloc: Global, job: &Job, out: &mut K) -> Ended
+    requires { job.now.setting.command ≡ Check }
+    ensures { (keeper : Kept) → Finishes job.now (stream K.taken K.faults out.old) (stream K.taken K.faults out.new) keeper keeper result }
+{
+    let mut text = Bytes::new(alloc);
+    match check_text(alloc, job, &mut text) {
+        Err(_) => Ended::NoMemory,
+        Ok(()) => match write_all(out, text.as_slice()) {
+            Ok(()) => Ended::Done,
+            Err(_) => Ended::WriteFault,
+        },
+    }
+}
+
+/// Does what the words ask for, and answers the status and the keeper.
+///
+/// The graph is read to its end, or to one byte more than 67,108,864. The text goes to `out`, and the reason of each status but 0 to
+/// `note`: 1 for refused words, 2 for a refused graph or plan, 3 for want of memory, 4 for a failed read, 5 for a failed write.
+pub fn audit<
+    R: Threads + Wait + Sync,
+    S: Source,
+    K: Sink,
+    N: Sink,
+    C: Keeper + Send,
+    G: Gate + Sync,
+>(
+    _rt: &R,
+    alloc: Global,
+    words: &[String],
+    graph: &mut S,
+    out: &mut K,
+    note: &mut N,
+    keeper: C,
+    _gate: &G,
+) -> (u8, C)
+    ensures ends { EndsFor (spoken words.now)
+        (world (stream S.left S.faults graph.old) (stream K.taken K.faults out.old) (kept C.slots C.load_faults C.save_faults keeper))
+        (world (stream S.left S.faults graph.new) (stream K.taken K.faults out.new) (kept C.slots C.load_faults C.save_faults result.1))
+        (stream N.taken N.faults note.old) (stream N.taken N.faults note.new) result.0 }
+    ensures written { WritesWhole (spoken words.now)
+        (world (stream S.left S.faults graph.old) (stream K.taken K.faults out.old) (kept C.slots C.load_faults C.save_faults keeper))
+        (world (stream S.left S.faults graph.new) (stream K.taken K.faults out.new) (kept C.slots C.load_faults C.save_faults result.1)) result.0 }
+    ensures causes { HasCauses (spoken words.now)
+        (world (stream S.left S.faults graph.old) (stream K.taken K.faults out.old) (kept C.slots C.load_faults C.save_faults keeper))
+        (world (stream S.left S.faults graph.new) (stream K.taken K.faults out.new) (kept C.slots C.load_faults C.save_faults result.1)) result.0 }
+    ensures complete { IsComplete (spoken words.now)
+        (world (stream S.left S.faults graph.old) (stream K.taken K.faults out.old) (kept C.slots C.load_faults C.save_faults keeper))
+        (world (stream S.left S.faults graph.new) (stream K.taken K.faults out.new) (kept C.slots C.load_faults C.save_faults result.1)) result.0 }
+    ensures left_alone { LeavesAlone (spoken words.now)
+        (world (stream S.left S.faults graph.old) (stream K.taken K.faults out.old) (kept C.slots C.load_faults C.save_faults keeper))
+        (world (stream S.left S.faults graph.new) (stream K.taken K.faults out.new) (kept C.slots C.load_faults C.save_faults result.1)) result.0 }
+{
+    match prepare(alloc, words, graph) {
+        Ok(job) => {
+            let why = finish_check(alloc, &job, out);
+            (tell(&why, note), keeper)
+        }
+        Err(why) => (tell(&why, note), keeper),
+    }
+}

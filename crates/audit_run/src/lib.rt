@@ -1,0 +1,11 @@
+//! The audit as one call.
+#![tactic(auto)]
+
+pub mod audit;
+pub mod ended;
+pub mod note;
+pub mod prepare;
+pub mod reading;
+#[cfg(test)]
+mod tests;
+pub mod writing;

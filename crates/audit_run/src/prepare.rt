@@ -1,0 +1,86 @@
+//! From the words and the source to a job.
+
+ghost use Rattle.std.specs.Prelude.{◌≡◌, ◌≤◌, length};
+ghost use Rattle.audit_model.specs.Limits.{IsSetting};
+ghost use Rattle.audit_model.specs.declared.setting.Command.TheVariants.{Check};
+ghost use Rattle.audit_run.specs.Accepted.{most_bytes};
+ghost use Rattle.audit_run.specs.Ended.{word_ended, graph_ended, plan_ended};
+ghost use Rattle.audit_run.specs.Steps.{Prepares, PreparesFor, Judges};
+ghost use Rattle.audit_run.specs.World.{stream};
+ghost use Rattle.audit_words.specs.Spoken.{spoken};
+
+use crate::ended::Ended;
+use crate::reading::{ReadEnd, read_source};
+use audit_io::source::Source;
+use audit_model::fault::{GraphFault, PlanFault, WordFault};
+use audit_model::setting::{Columns, Setting};
+use audit_words::read;
+use dual_json::read_graph;
+use plan_core::job::Job;
+use std::alloc::Global;
+
+fn word_end(fault: WordFault) -> Ended
+    ensures { result ≡ word_ended fault }
+{
+    match fault {
+        WordFault::Memory => Ended::NoMemory,
+        fault => Ended::BadWords(fault),
+    }
+}
+
+fn graph_end(fault: GraphFault, columns: Columns) -> Ended
+    ensures { result ≡ graph_ended columns fault }
+{
+    match fault {
+        GraphFault::Memory => Ended::NoMemory,
+        fault => Ended::BadGraph(fault, columns),
+    }
+}
+
+fn plan_end(fault: PlanFault) -> Ended
+    ensures { result ≡ plan_ended fault }
+{
+    match fault {
+        PlanFault::Memory => Ended::NoMemory,
+        fault => Ended::BadPlan(fault),
+    }
+}
+
+// The job of these bytes, or why there is none.
+fn judge(alloc: Global, setting: Setting, bytes: &[u8]) -> Result<Job, Ended>
+    requires few { length bytes.now ≤ most_bytes }
+    requires within { IsSetting setting }
+    ensures { Judges setting bytes.now result }
+{
+    match read_graph(alloc, bytes, &setting.columns) {
+        Ok(parsed) => match Job::new(alloc, parsed, setting) {
+            Ok(job) => Ok(job),
+            Err(fault) => Err(plan_end(fault)),
+        },
+        Err(fault) => Err(graph_end(fault, setting.columns)),
+    }
+}
+
+// The job of what the source has, or why there is none.
+fn prepare_for<S: Source>(alloc: Global, setting: Setting, source: &mut S) -> Result<Job, Ended>
+    requires reads { setting.command ≡ Check }
+    requires within { IsSetting setting }
+    ensures { PreparesFor setting (stream S.left S.faults source.old) (stream S.left S.faults source.new) result }
+{
+    match read_source(alloc, source) {
+        Ok(bytes) => judge(alloc, setting, bytes.as_slice()),
+        Err(ReadEnd::Failed) => Err(Ended::ReadFault),
+        Err(ReadEnd::TooMany) => Err(Ended::TooManyBytes),
+        Err(ReadEnd::Memory) => Err(Ended::NoMemory),
+    }
+}
+
+/// The job that the words and the source give, or why there is none.
+pub fn prepare<S: Source>(alloc: Global, words: &[String], source: &mut S) -> Result<Job, Ended>
+    ensures { Prepares (spoken words.now) (stream S.left S.faults source.old) (stream S.left S.faults source.new) result }
+{
+    match read(alloc, words) {
+        Ok(setting) => prepare_for(alloc, setting, source),
+        Err(fault) => Err(word_end(fault)),
+    }
+}
