@@ -1,0 +1,88 @@
+-- A text that is appended piece by piece.
+use Rattle.std.proofs.Common.{◌≡◌, ◌∙◌, ℕ, zero, suc, ◌+◌, ◌≤◌, ◌<◌, map, drop, get_or, drop-cons, add-one, subst, append-nil, List, [], ◌∷◌, ◌++◌, length, refl, ap, sym, arith, append_assoc, Result, Ok, Err}
+use Rattle.std.proofs.lemmas.Bool.{false≢true}
+use Rattle.std.proofs.lemmas.List.{length-append}
+use Rattle.audit_model.specs.Room.{RoomyBytes}
+use Rattle.audit_model.specs.declared.memory.Memory.{Memory}
+use Rattle.report.specs.Lines.{Appends, tail_of, word_text}
+use Rattle.report.specs.declared.lines.Word.{Word}
+use Rattle.text_definitions.specs.Report.{line}
+
+-- a line is its first word and what stands after it
+pub line-cons : (word : List ℕ) (words : List (List ℕ)) → line (word ∷ words) ≡ word ++ tail_of words
+line-cons word [] = refl
+line-cons word (next ∷ words) = ap (λ t. word ++ 32 ∷ t) (line-cons next words)
+
+-- of the whole text all but what is left is appended, and where there was room for it the bytes and the room add up as before
+pub record IsWritten (old now : RoomyBytes) (whole left : List ℕ) : Type 0 where
+  pub items : now.items ++ left ≡ old.items ++ whole
+  pub room : length whole ≤ old.spare → now.spare + length now.items ≡ old.spare + length old.items
+
+pub written-none : (old : RoomyBytes) (whole left : List ℕ) → whole ≡ left → IsWritten old old whole left
+written-none old whole left e = record { items = ap (λ t. old.items ++ t) (sym e); room = λ _. refl }
+
+-- there is room for the next piece
+has_room : (old now : RoomyBytes) (whole piece left : List ℕ) → IsWritten old now whole (piece ++ left) → length whole ≤ old.spare → length piece ≤ now.spare
+has_room old now whole piece left w enough =
+    let sum : now.spare + length now.items ≡ old.spare + length old.items = w.room enough in
+    let count : length now.items + (length piece + length left) ≡ length old.items + length whole = simp length-append at (ap length w.items) in
+    omega arith
+
+pub written-more : (old now new : RoomyBytes) (whole piece left : List ℕ) → IsWritten old now whole (piece ++ left) → Appends now new piece (Ok tt) → IsWritten old new whole left
+written-more old now new whole piece left w more = record {
+  items = ap (λ t. t ++ left) more.ok ∙ append_assoc now.items piece left ∙ w.items;
+  room = λ enough.
+      let sum : now.spare + length now.items ≡ old.spare + length old.items = w.room enough in
+      let spent = more.room (has_room old now whole piece left w enough) in
+      let longer : length new.items ≡ length now.items + length piece = ap length more.ok ∙ length-append now.items piece in
+      omega (arith, spent.1);
+}
+
+pub written-err : (old now new : RoomyBytes) (whole piece left : List ℕ) (e : Memory) → IsWritten old now whole (piece ++ left) → Appends now new piece (Err e) → Appends old new whole (Err e)
+written-err old now new whole piece left e w more = record {
+  ok = tt;
+  room = λ enough. absurd (false≢true (more.room (has_room old now whole piece left w enough)).0);
+}
+
+pub written-last : (old now new : RoomyBytes) (whole piece : List ℕ) (r : Result (Unit {0}) Memory) → IsWritten old now whole piece → Appends now new piece r → Appends old new whole r
+written-last old now new whole piece (Ok u) w more =
+    let done = written-more old now new whole piece [] (subst (λ t. IsWritten old now whole t) (sym (append-nil piece)) w) more in
+    let items : new.items ≡ old.items ++ whole = sym (append-nil new.items) ∙ done.items in
+    record {
+      ok = items;
+      room = λ enough.
+          let sum : new.spare + length new.items ≡ old.spare + length old.items = done.room enough in
+          let count : length new.items ≡ length old.items + length whole = ap length items ∙ length-append old.items whole in
+          (refl, omega arith);
+    }
+written-last old now new whole piece (Err e) w more = written-err old now new whole piece [] e (subst (λ t. IsWritten old now whole t) (sym (append-nil piece)) w) more
+
+-- one word more of the tail of a line
+pub tail-step : (words : List Word) (i : ℕ) (d : Word) → i < length words
+    → tail_of (map word_text (drop i words)) ≡ 32 ∷ (word_text (get_or words i d) ++ tail_of (map word_text (drop (i + 1) words)))
+tail-step words i d h = rw (add-one, drop-cons words i d) refl
+
+pub tail-end : (words : List Word) (i : ℕ) → length words ≤ i → tail_of (map word_text (drop i words)) ≡ 10 ∷ []
+tail-end [] zero h = refl
+tail-end [] (suc i) h = refl
+tail-end (word ∷ words) zero h = absurd (omega arith)
+tail-end (word ∷ words) (suc i) h = tail-end words i (omega arith)
+
+-- one text after another
+pub appends-two : (old mid new : RoomyBytes) (a b : List ℕ) (r : Result (Unit {0}) Memory) → Appends old mid a (Ok tt) → Appends mid new b r → Appends old new (a ++ b) r
+appends-two old mid new a b r first second = written-last old mid new (a ++ b) b r (written-more old old mid (a ++ b) a b (written-none old (a ++ b) (a ++ b) refl) first) second
+
+pub appends-err : (old new : RoomyBytes) (a b : List ℕ) (e : Memory) → Appends old new a (Err e) → Appends old new (a ++ b) (Err e)
+appends-err old new a b e first = written-err old old new (a ++ b) a b e (written-none old (a ++ b) (a ++ b) refl) first
+
+pub empty : (words : List Word) → length words ≡ 0 → words ≡ []
+empty [] h = refl
+empty (word ∷ words) h = absurd (omega arith)
+
+-- four texts in turn, appended at once
+pub appended-four : (start one two three last out new a b c d : List ℕ) → start ≡ [] → one ≡ start ++ a → two ≡ one ++ b → three ≡ two ++ c → last ≡ three ++ d → new ≡ out ++ last
+    → new ≡ out ++ (((a ++ b) ++ c) ++ d)
+appended-four start one two three last out new a b c d hs h1 h2 h3 h4 h =
+    let whole : last ≡ (((start ++ a) ++ b) ++ c) ++ d = cc in
+    let all : (((start ++ a) ++ b) ++ c) ++ d ≡ ((a ++ b) ++ c) ++ d = rw hs refl in
+    h ∙ ap (λ t. out ++ t) (whole ∙ all)

@@ -1,0 +1,21 @@
+-- The words of a line, and what appending a text to a list with room does.
+use Rattle.std.specs.Prelude.{◌≡◌, ◌≤◌, ℕ, ◌+◌, List, [], ◌∷◌, ◌++◌, length, decimal, Result, OnOk, IsOk}
+use Rattle.audit_model.specs.Room.{RoomyBytes}
+use Rattle.audit_model.specs.declared.memory.Memory.{Memory}
+use Rattle.report.specs.declared.lines.Word.{Word}
+use Rattle.report.specs.declared.lines.Word.TheVariants.{Text, Number}
+
+-- how a word is written
+abbrev pub word_text : Word → List ℕ
+word_text (Text text) = text.now
+word_text (Number n) = decimal n
+
+-- what stands in a line after its first word
+abbrev pub tail_of : List (List ℕ) → List ℕ
+tail_of [] = 10 ∷ []
+tail_of (word ∷ words) = 32 ∷ (word ++ tail_of words)
+
+-- the text is appended; where there is room for it, it takes no memory
+pub record Appends (old new : RoomyBytes) (text : List ℕ) (result : Result (Unit {0}) Memory) : Type 0 where
+  pub ok : OnOk result (new.items ≡ old.items ++ text)
+  pub room : length text ≤ old.spare → IsOk result × (new.spare + length text ≡ old.spare)

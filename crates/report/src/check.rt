@@ -1,0 +1,61 @@
+//! The text of a check.
+
+ghost use Rattle.std.specs.Prelude.{◌≡◌, ◌++◌, OnOk, OnErr};
+ghost use Rattle.report.specs.Lines.{Appends};
+ghost use Rattle.text_definitions.specs.Report as definition;
+
+use crate::lines::{Word, push_line};
+use audit_model::buffers::Bytes;
+use audit_model::memory::Memory;
+use plan_core::job::Job;
+use std::alloc::Global;
+
+/// Appends the text of a check: four lines. After want of memory `out` is as before.
+pub fn check_text(alloc: Global, job: &Job, out: &mut Bytes) -> Result<(), Memory>
+    ensures ok { OnOk result (out.new.items ≡ out.old.items ++ definition.check_text job.now) }
+    ensures err { OnErr result (out.new ≡ out.old) }
+{
+    let mut text = Bytes::new(alloc);
+    push_line(&mut text, &[Word::Text("plan-check 1")])?;
+    push_graph_line(job, &mut text)?;
+    push_population_line(job, &mut text)?;
+    push_line(&mut text, &[Word::Text("end")])?;
+    out.append(text.as_slice())
+}
+
+/// Appends the line with the numbers of units, edges and districts.
+pub fn push_graph_line(job: &Job, out: &mut Bytes) -> Result<(), Memory>
+    ensures { Appends out.old out.new (definition.graph_line job.now) result }
+{
+    push_line(
+        out,
+        &[
+            Word::Text("units"),
+            Word::Number(u64::from(job.units())),
+            Word::Text("edges"),
+            Word::Number(u64::from(job.graph().edges())),
+            Word::Text("districts"),
+            Word::Number(u64::from(job.districts())),
+        ],
+    )
+}
+
+/// Appends the line with the whole population, the slack, and the bounds of a district's population.
+pub fn push_population_line(job: &Job, out: &mut Bytes) -> Result<(), Memory>
+    ensures { Appends out.old out.new (definition.population_line job.now) result }
+{
+    let (low, high) = job.limits();
+    push_line(
+        out,
+        &[
+            Word::Text("population"),
+            Word::Number(job.population()),
+            Word::Text("slack"),
+            Word::Number(u64::from(job.setting().slack)),
+            Word::Text("low"),
+            Word::Number(low),
+            Word::Text("high"),
+            Word::Number(high),
+        ],
+    )
+}

@@ -1,0 +1,5 @@
+//! The texts that an audit writes.
+#![tactic(auto)]
+
+pub mod check;
+pub mod lines;

@@ -1,0 +1,55 @@
+//! Lines of words.
+
+ghost use Rattle.std.specs.Prelude.{◌≡◌, ◌∷◌, map};
+ghost use Rattle.report.specs.Lines.{Appends, tail_of, word_text};
+ghost use Rattle.text_definitions.specs.Report.{line};
+
+use audit_model::buffers::Bytes;
+use audit_model::memory::Memory;
+use itoa::Buffer;
+
+/// A word of a line.
+#[derive(Clone, Copy)]
+pub enum Word<'a> {
+    Text(&'a str),
+    Number(u64),
+}
+
+/// Appends a word.
+pub fn push_word(out: &mut Bytes, word: &Word) -> Result<(), Memory>
+    ensures { Appends out.old out.new (word_text word.now) result }
+{
+    match word {
+        Word::Text(text) => out.append(text.as_bytes()),
+        Word::Number(number) => out.append(Buffer::new().format(*number).as_bytes()),
+    }
+}
+
+/// Appends the words with a space between each two, and a line feed.
+pub fn push_line(out: &mut Bytes, words: &[Word]) -> Result<(), Memory>
+    ensures { Appends out.old out.new (line (map word_text words.now)) result }
+{
+    let Some((first, rest)) = words.split_first() else {
+        return out.push(b'\n');
+    };
+    push_word(out, first)?;
+    push_tail(out, rest)
+}
+
+/// Appends the words with a space before each, and a line feed.
+fn push_tail(out: &mut Bytes, words: &[Word]) -> Result<(), Memory>
+    ensures { Appends out.old out.new (tail_of (map word_text words.now)) result }
+{
+    for word in words {
+        push_next(out, word)?;
+    }
+    out.push(b'\n')
+}
+
+/// Appends a space and the word.
+fn push_next(out: &mut Bytes, word: &Word) -> Result<(), Memory>
+    ensures { Appends out.old out.new (32 ∷ word_text word.now) result }
+{
+    out.push(b' ')?;
+    push_word(out, word)
+}
