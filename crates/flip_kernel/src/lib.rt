@@ -6,3 +6,5 @@ pub mod laws;
 pub mod proposal;
 pub mod state;
 mod sums;
+#[cfg(test)]
+mod tests;

@@ -19,6 +19,9 @@ use dual_graph::parsed::Parsed;
 use std::alloc::Global;
 use std::marker::Model;
 
+#[cfg(test)]
+mod tests;
+
 /// A graph with the counts of its units, a legal plan to start from, and a setting.
 #[derive(Drop)]
 pub struct Job {

@@ -3,3 +3,7 @@
 
 pub mod check;
 pub mod lines;
+#[cfg(test)]
+mod tests;
+
+pub use check::check_text;

@@ -1,0 +1,134 @@
+//! Worked rows: proposals near the last draw, and steps on a path of four units.
+
+ghost use Rattle.std.specs.Prelude.{◌≡◌, ◌<◌, ◌∷◌, [], IfOk, length};
+ghost use Rattle.audit_model.specs.Limits.{IsSetting};
+
+use crate::flip::{mirror, try_flip};
+use crate::proposal::propose;
+use crate::state::State;
+use audit_model::lists::{AskList, LabelList, NumList, UnitList};
+use audit_model::memory::Memory;
+use audit_model::outcome::Counts;
+use audit_model::setting::{Columns, Command, Label, Setting};
+use audit_model::steps::Steps;
+use audit_model::text::Text;
+use dual_graph::graph::Graph;
+use dual_graph::parsed::Parsed;
+use plan_core::job::Job;
+use std::alloc::Global;
+use std::marker::Brand;
+use std::sync::ledger::{Blank, Ledger};
+
+fn ones(alloc: Global) -> Result<NumList, Memory>
+    ensures { IfOk result (λ l. l ≡ 1 ∷ 1 ∷ 1 ∷ 1 ∷ []) }
+{
+    let mut numbers = NumList::new(alloc);
+    numbers.push(1)?;
+    numbers.push(1)?;
+    numbers.push(1)?;
+    numbers.push(1)?;
+    Ok(numbers)
+}
+
+fn halves(alloc: Global) -> Result<UnitList, Memory>
+    ensures { IfOk result (λ l. l ≡ 0 ∷ 0 ∷ 1 ∷ 1 ∷ []) }
+{
+    let mut plan = UnitList::new(alloc);
+    plan.push(0)?;
+    plan.push(0)?;
+    plan.push(1)?;
+    plan.push(1)?;
+    Ok(plan)
+}
+
+fn two_labels(alloc: Global) -> Result<LabelList, Memory>
+    ensures { IfOk result (λ l. length l ≡ 2) }
+{
+    let mut labels = LabelList::new(alloc);
+    labels.push(Label::Whole(0))?;
+    labels.push(Label::Whole(1))?;
+    Ok(labels)
+}
+
+fn check_setting(alloc: Global) -> Setting
+    ensures { IsSetting result }
+{
+    Setting {
+        command: Command::Check,
+        columns: Columns {
+            population: Text::new(alloc),
+            first: Text::new(alloc),
+            second: Text::new(alloc),
+            district: Text::new(alloc),
+        },
+        slack: 5000,
+        key: [0; 32],
+        walks: 0,
+        steps: 0,
+        ends: 0,
+        hub_steps: 0,
+        asks: AskList::new(alloc),
+        workers: 1,
+        budget: 0,
+        save_every: 0,
+        resume: false,
+        size: 0,
+    }
+}
+
+fn path_of_four(alloc: Global) -> Result<Job, Memory> {
+    let parsed = Parsed {
+        graph: Graph::from_pairs(alloc, 4, &[(0, 1), (1, 2), (2, 3)])?,
+        counts: Counts {
+            population: ones(alloc)?,
+            first: ones(alloc)?,
+            second: ones(alloc)?,
+        },
+        start: halves(alloc)?,
+        labels: two_labels(alloc)?,
+    };
+    match Job::new(alloc, parsed, check_setting(alloc)) {
+        Ok(job) => Ok(job),
+        Err(_) => Err(Memory),
+    }
+}
+
+#[test]
+fn proposals_near_the_last_draw(rt: HostRuntime) {
+    assert_eq!(rt; propose(u64::MAX, 3, 3), None);
+    assert_eq!(rt; propose(u64::MAX - 6, 3, 3), None);
+    assert_eq!(rt; propose(u64::MAX - 7, 3, 3), Some((2, 2)));
+}
+
+// One step from the plan that is held, with a counter of its own.
+fn step<L: Ledger>(job: &Job, state: &mut State, draw: u64, blank: Blank) -> bool
+    requires name { blank.name ≡ L.name }
+    requires parts { blank.parts ≡ L.parts }
+    requires some { 0 < L.parts }
+    requires made { state.old.job ≡ job.now }
+    ensures { state.new.job ≡ job.now }
+{
+    let mut steps: Steps<L> = Steps::new(blank);
+    try_flip(job, state, draw, &mut steps)
+}
+
+#[test]
+fn steps_on_a_path(rt: HostRuntime) -> Result<(), Memory> {
+    let job = path_of_four(rt.alloc())?;
+    let mut state = State::new(rt.alloc(), &job)?;
+    assert_eq!(rt;
+        mirror(&job, &mut state, 0x8665eeb269b687c3),
+        0x8665eeb269b687c2
+    );
+    assert_eq!(rt;
+        mirror(&job, &mut state, 0x903df1a0ade0b876),
+        0x903df1a0ade0b876
+    );
+    assert!(rt; step::<Brand>(&job, &mut state, 0x8665eeb269b687c3, Blank::new(1)));
+    assert_eq!(rt; state.plan().as_slice(), [0, 1, 1, 1].as_slice());
+    assert_eq!(rt; state.view().population.as_slice(), [1, 3].as_slice());
+    assert_eq!(rt; state.view().cut, 1);
+    state.set(&job, job.start().as_slice());
+    assert_eq!(rt; state.view().population.as_slice(), [2, 2].as_slice());
+    Ok(())
+}
