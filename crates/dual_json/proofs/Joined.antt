@@ -1,0 +1,368 @@
+-- The numbers of the edges against the pairs of nodes that are joined.
+use Rattle.std.proofs.Common.{◌≡◌, ℕ, zero, suc, ◌+◌, ◌-◌, ◌*◌, ◌/◌, ◌%◌, ◌<◌, ◌≤◌, Bool, true, false, not, ◌&&◌, ◌||◌, cond, List, [], ◌∷◌, ◌++◌, length, map, get_or, Option, Some, None, refl, sym, ap, ◌∙◌, subst, inl, inr, arith, length-append, append-nil}
+use Rattle.std.specs.Prelude.{◌==◌, ◌⊎◌, ◌↔◌, ◌≢◌, nat_lt}
+use Rattle.std.specs.Option.{option_map, option_and_then}
+use Rattle.std.proofs.lemmas.Bool.{and_parts, and_from, or_cases, or_left, or_right, cases_eq, cases_lt, cases_order, cases_Bool, cond-true, cond-false, lt-ltb, le-ltb, eq-eqb, eqb-true, ne_eqb, both_ways, false≢true, not_from_false, not-true, false_from_ne_true}
+use Rattle.std.proofs.lemmas.List.{length-map, get_or-map, get_or_append_left, get_or_push, get_or_past, ext_get_or}
+use Rattle.serde_json.specs.Data.{Data}
+use Rattle.audit_model.specs.declared.fault.GraphFault.TheVariants as fault
+use Rattle.audit_model.specs.declared.setting.Label.{Label}
+use Rattle.audit_model.specs.Below.{any_below, filter_below, map_below}
+use Rattle.audit_model.specs.First.{first_below}
+use Rattle.audit_model.specs.Graph.{Graph, IsGraph, has, adjacent, count_edges}
+use Rattle.audit_model.specs.Label.{same_label}
+use Rattle.graph_definitions.specs.Reading.{id_of, same_id}
+use Rattle.model_laws.proofs.Connected.{has-filter_below, filter_below-has}
+use Rattle.dual_graph.specs.Pairs.{pair_at, IsBefore, ArePairs, Joins}
+use Rattle.dual_graph.proofs.Coding.{rises}
+use Rattle.dual_graph.proofs.Counting.{edges_counted}
+use Rattle.dual_graph.proofs.Marking.{has_at, at_has}
+use Rattle.dual_graph.proofs.Rows.{length-map_below, get_or-map_below}
+use Rattle.dual_json.specs.Edges.{entries_at, edge_code, names_node, joined_in, graph_in, edges_in, pairs_in, LeadsTo, AreCodes, AreEdges}
+use Rattle.dual_json.specs.Places.{nth, object_at, place_in, place_of, repeated}
+use Rattle.dual_json.proofs.First.{any_at, any_passes, first_passes, none_passes}
+use Rattle.dual_json.proofs.Indexed.{same_turned, same_alike}
+
+-- ---- ids that all differ
+
+nothing : {A B : Type 0} → (f : A → B) (o : Option A) → option_map f o ≡ None → o ≡ None
+nothing f None e = refl
+nothing f (Some a) e = cc e
+
+pub ids_apart : (ids : List Label) → repeated ids ≡ None → (i j : ℕ) → i < j → j < length ids → same_label (nth ids i) (nth ids j) ≡ false
+ids_apart ids none i j l inside =
+    let never = none_passes (length ids) (λ k. any_below k (λ m. same_label (nth ids m) (nth ids k))) (nothing _ _ none) j inside in
+    false_from_ne_true (same_label (nth ids i) (nth ids j)) (λ same. both_ways (any_below j (λ m. same_label (nth ids m) (nth ids j))) never
+    (any_at j (λ m. same_label (nth ids m) (nth ids j)) i l same))
+
+module _ (ids : List Label) (apart : repeated ids ≡ None) where
+  -- the only place of a label
+  one_place : (l : Label) (v w : ℕ) → v < length ids → w < length ids → same_label l (nth ids v) ≡ true → same_label l (nth ids w) ≡ true → v ≡ w
+  one_place l v w lv lw sv sw =
+      let back : same_label (nth ids v) (nth ids w) ≡ true = sym (same_alike l (nth ids v) (nth ids w) sv) ∙ sw in
+      elim (cases_order v w) [
+        | inl e ↦ e
+        | inr off ↦ elim off [
+          | inl under ↦ absurd (both_ways (same_label (nth ids v) (nth ids w)) (ids_apart ids apart v w under lw) back)
+          | inr over ↦ absurd (both_ways (same_label (nth ids w) (nth ids v)) (ids_apart ids apart w v over lv) (same_turned (nth ids w) (nth ids v) ∙ back))
+        ]
+      ]
+
+  found_or : (l : Label) (v : ℕ) (o : Option ℕ) → place_in ids l ≡ o → v < length ids → same_label l (nth ids v) ≡ true → o ≡ Some v
+  found_or l v None is lv same = absurd (both_ways (same_label l (nth ids v)) (none_passes (length ids) (λ i. same_label l (nth ids i)) is v lv) same)
+  found_or l v (Some w) is lv same =
+      let found = first_passes (length ids) (λ i. same_label l (nth ids i)) w is in
+      ap Some (sym (one_place l v w lv found.0 same found.1))
+
+  place_here : (l : Label) (v : ℕ) → v < length ids → same_label l (nth ids v) ≡ true → place_in ids l ≡ Some v
+  place_here l v lv same = found_or l v (place_in ids l) refl lv same
+
+  same_place : (o : Option Label) (v : ℕ) → v < length ids → same_id o (Some (nth ids v)) ≡ true → option_and_then (place_in ids) o ≡ Some v
+  same_place None v lv same = absurd (false≢true same)
+  same_place (Some l) v lv same = place_here l v lv same
+
+  place_same : (o : Option Label) (v : ℕ) → option_and_then (place_in ids) o ≡ Some v → (v < length ids) × (same_id o (Some (nth ids v)) ≡ true)
+  place_same None v is = cc is
+  place_same (Some l) v is = let found = first_passes (length ids) (λ i. same_label l (nth ids i)) v is in (found.0, found.1)
+
+  leads_names : (entries : List Data) (v : ℕ) → LeadsTo ids entries (length entries) v → (v < length ids) × (names_node ids entries v ≡ true)
+  leads_names entries v leads =
+      let same = place_same (id_of (object_at entries leads.0)) v leads.2 in
+      (same.0, any_at (length entries) (λ place. same_id (id_of (object_at entries place)) (Some (nth ids v))) leads.0 leads.1 same.1)
+
+  names_leads : (entries : List Data) (v : ℕ) → v < length ids → names_node ids entries v ≡ true → LeadsTo ids entries (length entries) v
+  names_leads entries v lv names =
+      let found = any_passes (length entries) (λ place. same_id (id_of (object_at entries place)) (Some (nth ids v))) names in
+      (found.0, found.1, same_place (id_of (object_at entries found.0)) v lv found.2)
+
+-- ---- numbers of edges
+
+code_up : (u v : ℕ) → u < v → edge_code u v ≡ u * 100000 + v
+code_up u v l = cond-true (nat_lt u v) (u * 100000 + v) (v * 100000 + u) (lt-ltb u v l)
+
+code_down : (u v : ℕ) → v ≤ u → edge_code u v ≡ v * 100000 + u
+code_down u v l = cond-false (nat_lt u v) (u * 100000 + v) (v * 100000 + u) (le-ltb u v l)
+
+-- the smaller and the larger end
+pub record HasEnds (u v x : ℕ) : Type 0 where
+  pub smaller : x / 100000 < x % 100000
+  pub either : ((x / 100000 ≡ u) × (x % 100000 ≡ v)) ⊎ ((x / 100000 ≡ v) × (x % 100000 ≡ u))
+
+ends_up : (u v x : ℕ) → u < v → v < 100000 → x ≡ u * 100000 + v → (x / 100000 ≡ u) × (x % 100000 ≡ v)
+ends_up u v x l few is = (omega (arith, l, few, is), omega (arith, l, few, is))
+
+pub code_ends : (u v x : ℕ) → u < 100000 → v < 100000 → v ≢ u → x ≡ edge_code u v → HasEnds u v x
+code_ends u v x lu lv off is = elim (cases_lt u v) [
+  | inl up ↦
+      let ends = ends_up u v x up lv (is ∙ code_up u v up) in
+      let a = ends.0 in let b = ends.1 in
+      record { smaller = omega (arith, a, b, up); either = inl ends }
+  | inr down ↦
+      let under : v < u = omega (arith, down, off) in
+      let ends = ends_up v u x under lu (is ∙ code_down u v down) in
+      let a = ends.0 in let b = ends.1 in
+      record { smaller = omega (arith, a, b, under); either = inr ends }
+]
+
+abbrev pub pair_of : ℕ → ℕ × ℕ
+pair_of c = (c / 100000, c % 100000)
+
+pub map_below-map : (codes : List ℕ) → map_below (length codes) (λ k. pair_of (get_or codes k 0)) ≡ pairs_in codes
+map_below-map codes = ext_get_or (0, 0) (map_below (length codes) (λ k. pair_of (get_or codes k 0))) (map pair_of codes)
+    (length-map_below (length codes) (λ k. pair_of (get_or codes k 0)) ∙ sym (length-map codes pair_of))
+    (λ i l.
+        let inside : i < length codes = omega (arith, l, length-map_below (length codes) (λ k. pair_of (get_or codes k 0))) in
+        get_or-map_below (length codes) (λ k. pair_of (get_or codes k 0)) i (0, 0) inside ∙ sym (get_or-map pair_of codes i 0 (0, 0) inside))
+
+pub pair_at-pairs_in : (codes : List ℕ) (k : ℕ) → k < length codes → pair_at (pairs_in codes) k ≡ pair_of (get_or codes k 0)
+pair_at-pairs_in codes k l = get_or-map pair_of codes k 0 (0, 0) l
+
+module _ (n : ℕ) (codes : List ℕ) (few : n ≤ 100000) (are : AreEdges n codes) where
+  pub edges_pairs : ArePairs n (pairs_in codes)
+  edges_pairs = record {
+    small = λ k l.
+        let inside = place k l in
+        let e = pair_at-pairs_in codes k inside in
+        subst (λ (p : ℕ × ℕ). p.0 < p.1) (sym e) (are.small (get_or codes k 0) (at_has codes k inside));
+    below = λ k l.
+        let inside = place k l in
+        let e = pair_at-pairs_in codes k inside in
+        subst (λ (p : ℕ × ℕ). p.1 < n) (sym e) (are.below (get_or codes k 0) (at_has codes k inside));
+    rising = λ k l.
+        let next : k + 1 < length codes = omega (arith, l, length-map codes pair_of) in
+        let a = pair_at-pairs_in codes k (omega (arith, next)) in
+        let b = pair_at-pairs_in codes (k + 1) next in
+        subst (λ (p : ℕ × ℕ). IsBefore p (pair_at (pairs_in codes) (k + 1))) (sym a)
+        (subst (λ (q : ℕ × ℕ). IsBefore (pair_of (get_or codes k 0)) q) (sym b)
+        (apart (get_or codes k 0) (get_or codes (k + 1) 0) (are.rising k next)));
+  }
+    where
+      place : (k : ℕ) → k < length (pairs_in codes) → k < length codes
+      place k l = omega (arith, l, length-map codes pair_of)
+
+      apart : (x y : ℕ) → x < y → IsBefore (pair_of x) (pair_of y)
+      apart x y l = elim (cases_lt (x / 100000) (y / 100000)) [
+        | inl up ↦ inl up
+        | inr not_up ↦ inr (omega (arith, l, not_up), omega (arith, l, not_up))
+      ]
+
+-- ---- rows
+
+rises_far : (x : ℕ) (xs : List ℕ) → ((i : ℕ) → i + 1 < length (x ∷ xs) → get_or (x ∷ xs) i 0 < get_or (x ∷ xs) (i + 1) 0) → (v : ℕ) → has xs v ≡ true → x < v
+rises_far x xs rising v there =
+    let at = has_at xs v there in
+    let is = at.2 in
+    let under = at.1 in
+    let up : x < get_or xs at.0 0 = rises (x ∷ xs) 0 (suc at.0) rising (omega arith) (omega (arith, under)) in
+    omega (arith, up, is)
+
+later : (x : ℕ) (xs : List ℕ) → ((i : ℕ) → i + 1 < length (x ∷ xs) → get_or (x ∷ xs) i 0 < get_or (x ∷ xs) (i + 1) 0) → (i : ℕ) → i + 1 < length xs → get_or xs i 0 < get_or xs (i + 1) 0
+later x xs rising i l =
+    let next : suc i + 1 ≡ suc (i + 1) = omega arith in
+    subst (λ (j : ℕ). get_or xs i 0 < get_or (x ∷ xs) j 0) next (rising (suc i) (omega arith))
+
+one_of : (x : ℕ) (xs : List ℕ) (v : ℕ) → has (x ∷ xs) v ≡ true → (x ≡ v) ⊎ (has xs v ≡ true)
+one_of x xs v h = elim (or_cases (x == v) (has xs v) h) [ inl e ↦ inl (eqb-true x v e) | inr e ↦ inr e ]
+
+first_has : (x : ℕ) (xs : List ℕ) → has (x ∷ xs) x ≡ true
+first_has x xs = or_left (x == x) (has xs x) (eq-eqb x x refl)
+
+-- rising lists with the same numbers are the same
+pub rising_same : (xs ys : List ℕ) → ((i : ℕ) → i + 1 < length xs → get_or xs i 0 < get_or xs (i + 1) 0) → ((i : ℕ) → i + 1 < length ys → get_or ys i 0 < get_or ys (i + 1) 0)
+    → ((v : ℕ) → has xs v ≡ true → has ys v ≡ true) → ((v : ℕ) → has ys v ≡ true → has xs v ≡ true) → xs ≡ ys
+rising_same [] [] rx ry into back = refl
+rising_same [] (y ∷ ys) rx ry into back = absurd (false≢true (back y (first_has y ys)))
+rising_same (x ∷ xs) [] rx ry into back = absurd (false≢true (into x (first_has x xs)))
+rising_same (x ∷ xs) (y ∷ ys) rx ry into back =
+    let same : x ≡ y = elim (one_of y ys x (into x (first_has x xs))) [
+      | inl e ↦ sym e
+      | inr in_ys ↦ elim (one_of x xs y (back y (first_has y ys))) [
+        | inl e ↦ e
+        | inr in_xs ↦ absurd (let up = rises_far y ys ry x in_ys in let down = rises_far x xs rx y in_xs in omega (arith, up, down))
+      ]
+    ] in
+    ap (λ (a : ℕ). a ∷ xs) same
+    ∙ ap (λ (l : List ℕ). y ∷ l) (rising_same xs ys (later x xs rx) (later y ys ry)
+    (λ v h. elim (one_of y ys v (into v (or_right (x == v) (has xs v) h))) [
+      | inl e ↦ absurd (let up = rises_far x xs rx v h in omega (arith, up, e, same))
+      | inr there ↦ there
+    ])
+    (λ v h. elim (one_of x xs v (back v (or_right (y == v) (has ys v) h))) [
+      | inl e ↦ absurd (let up = rises_far y ys ry v h in omega (arith, up, e, same))
+      | inr there ↦ there
+    ]))
+
+rises_push : (xs : List ℕ) (n : ℕ) → ((i : ℕ) → i + 1 < length xs → get_or xs i 0 < get_or xs (i + 1) 0) → ((v : ℕ) → has xs v ≡ true → v < n)
+    → (i : ℕ) → i + 1 < length (xs ++ n ∷ []) → get_or (xs ++ n ∷ []) i 0 < get_or (xs ++ n ∷ []) (i + 1) 0
+rises_push xs n rising below i l = elim (cases_lt (i + 1) (length xs)) [
+  | inl inside ↦
+      let a : get_or (xs ++ n ∷ []) i 0 ≡ get_or xs i 0 = get_or_append_left xs (n ∷ []) 0 i (omega (arith, inside)) in
+      let b : get_or (xs ++ n ∷ []) (i + 1) 0 ≡ get_or xs (i + 1) 0 = get_or_append_left xs (n ∷ []) 0 (i + 1) inside in
+      omega (arith, a, b, rising i inside)
+  | inr past ↦
+      let end : length xs ≡ i + 1 = omega (arith, past, l, length-append xs (n ∷ [])) in
+      let a : get_or (xs ++ n ∷ []) i 0 ≡ get_or xs i 0 = get_or_append_left xs (n ∷ []) 0 i (omega (arith, end)) in
+      let b : get_or (xs ++ n ∷ []) (i + 1) 0 ≡ n = get_or_push xs n 0 (i + 1) end in
+      let under : get_or xs i 0 < n = below (get_or xs i 0) (at_has xs i (omega (arith, end))) in
+      omega (arith, a, b, under)
+]
+
+filter_rises_by : (n : ℕ) (test : ℕ → Bool) (b : Bool) → ((i : ℕ) → i + 1 < length (filter_below n test) → get_or (filter_below n test) i 0 < get_or (filter_below n test) (i + 1) 0)
+    → (i : ℕ) → i + 1 < length (filter_below n test ++ cond b (n ∷ []) []) → get_or (filter_below n test ++ cond b (n ∷ []) []) i 0 < get_or (filter_below n test ++ cond b (n ∷ []) []) (i + 1) 0
+filter_rises_by n test true before = rises_push (filter_below n test) n before (λ v h. (has-filter_below n test v h).0)
+filter_rises_by n test false before = subst (λ (xs : List ℕ). (i : ℕ) → i + 1 < length xs → get_or xs i 0 < get_or xs (i + 1) 0) (sym (append-nil (filter_below n test))) before
+
+pub filter_rises : (n : ℕ) (test : ℕ → Bool) (i : ℕ) → i + 1 < length (filter_below n test) → get_or (filter_below n test) i 0 < get_or (filter_below n test) (i + 1) 0
+filter_rises zero test i l = absurd (omega (arith, l))
+filter_rises (suc n) test i l = filter_rises_by n test (test n) (filter_rises n test) i l
+
+-- a graph is told by its units and its edges
+pub graph_is : (g : Graph) (n : ℕ) (joins : ℕ → ℕ → Bool) → IsGraph g → g.units ≡ n
+    → ((u v : ℕ) → adjacent g u v ≡ true → joins u v ≡ true) → ((u v : ℕ) → u < n → v < n → joins u v ≡ true → adjacent g u v ≡ true)
+    → g ≡ record { units = n; neighbours = map_below n (λ u. filter_below n (joins u)) }
+graph_is g n joins is units from to =
+    let long : length g.neighbours ≡ length (map_below n (λ u. filter_below n (joins u))) = is.width ∙ units ∙ sym (length-map_below n (λ u. filter_below n (joins u))) in
+    let rows : g.neighbours ≡ map_below n (λ u. filter_below n (joins u)) = ext_get_or [] g.neighbours (map_below n (λ u. filter_below n (joins u))) long
+    (λ u l.
+        let lu : u < n = omega (arith, l, is.width, units) in
+        rising_same (get_or g.neighbours u []) (filter_below n (joins u)) (is.rising u) (filter_rises n (joins u))
+        (λ v h. let lv : v < n = omega (arith, is.below u v h, units) in filter_below-has n (joins u) v lv (from u v h))
+        (λ v h. let found = has-filter_below n (joins u) v h in to u v lu found.0 found.1)
+        ∙ sym (get_or-map_below n (λ u. filter_below n (joins u)) u [] lu)) in
+    made units rows
+  where
+    made : g.units ≡ n → g.neighbours ≡ map_below n (λ u. filter_below n (joins u)) → g ≡ record { units = n; neighbours = map_below n (λ u. filter_below n (joins u)) }
+    made a b = ap (λ (m : ℕ). record { units = m; neighbours = g.neighbours }) a ∙ ap (λ (rows : List (List ℕ)). record { units = n; neighbours = rows }) b
+
+-- ---- all together
+
+module _ (ids : List Label) (lists : List (List Data)) (few : length ids ≤ 100000) (long : length lists ≡ length ids) (apart : repeated ids ≡ None)
+    (before codes : List ℕ) (are : AreCodes ids lists (length lists) before) (same : (x : ℕ) → (has codes x ≡ true) ↔ (has before x ≡ true))
+    (rising : (k : ℕ) → k + 1 < length codes → get_or codes k 0 < get_or codes (k + 1) 0) where
+  ends : (x : ℕ) → has codes x ≡ true → (u : ℕ) × (v : ℕ) × (u < length ids) × (v < length ids) × (names_node ids (entries_at lists u) v ≡ true) × (v ≢ u) × HasEnds u v x
+  ends x h =
+      let found = are.from x ((same x).0 h) in
+      let lu : found.0 < length ids = let under = found.2 in omega (arith, under, long) in
+      let leads = leads_names ids apart (entries_at lists found.0) found.1 found.3 in
+      let lv = leads.0 in
+      (found.0, found.1, lu, leads.0, leads.1, found.4, code_ends found.0 found.1 x (omega (arith, lu, few)) (omega (arith, lv, few)) found.4 found.5)
+
+  pub codes_edges : AreEdges (length ids) codes
+  codes_edges = record {
+    rising = rising;
+    small = λ x h. (ends x h).6.smaller;
+    below = λ x h.
+        let found = ends x h in
+        let lu = found.2 in
+        let lv = found.3 in
+        elim found.6.either [
+          | inl e ↦ let b = e.1 in omega (arith, b, lv)
+          | inr e ↦ let b = e.1 in omega (arith, b, lu)
+        ];
+  }
+
+  -- one node names another
+  there : (u v : ℕ) → u < length ids → v < length ids → v ≢ u → names_node ids (entries_at lists u) v ≡ true → has codes (edge_code u v) ≡ true
+  there u v lu lv off names = (same (edge_code u v)).1 (are.to u v (omega (arith, lu, long)) (names_leads ids apart (entries_at lists u) v lv names) off)
+
+  joins_at : (u v x : ℕ) → has codes x ≡ true → ((x / 100000 ≡ u) × (x % 100000 ≡ v)) ⊎ ((x / 100000 ≡ v) × (x % 100000 ≡ u)) → Joins (pairs_in codes) u v
+  joins_at u v x h either =
+      let at = has_at codes x h in
+      let inside : at.0 < length (pairs_in codes) = let under = at.1 in omega (arith, under, length-map codes pair_of) in
+      let is : pair_at (pairs_in codes) at.0 ≡ pair_of x = pair_at-pairs_in codes at.0 at.1 ∙ ap pair_of at.2 in
+      (at.0, inside, elim either [
+        | inl e ↦ inl (is ∙ pair_is (x / 100000) (x % 100000) u v e.0 e.1)
+        | inr e ↦ inr (is ∙ pair_is (x / 100000) (x % 100000) v u e.0 e.1)
+      ])
+    where
+      pair_is : (a b u v : ℕ) → a ≡ u → b ≡ v → ◌≡◌ {A = ℕ × ℕ} (a, b) (u, v)
+      pair_is a b u v e f = ap (λ (t : ℕ). let q : ℕ × ℕ = (t, b) in q) e ∙ ap (λ (t : ℕ). let q : ℕ × ℕ = (u, t) in q) f
+
+  pub joined_joins : (u v : ℕ) → u < length ids → v < length ids → joined_in ids lists u v ≡ true → Joins (pairs_in codes) u v
+  joined_joins u v lu lv joined =
+      let parts = and_parts (not (u == v)) (names_node ids (entries_at lists u) v || names_node ids (entries_at lists v) u) joined in
+      let off : u ≢ v = λ e. both_ways (u == v) (not-true (u == v) parts.0) (eq-eqb u v e) in
+      let back : v ≢ u = λ e. off (sym e) in
+      elim (or_cases (names_node ids (entries_at lists u) v) (names_node ids (entries_at lists v) u) parts.1) [
+        | inl names ↦ joins_at u v (edge_code u v) (there u v lu lv back names) (code_ends u v (edge_code u v) (omega (arith, lu, few)) (omega (arith, lv, few)) back refl).either
+        | inr names ↦ joins_at u v (edge_code v u) (there v u lv lu off names)
+            (elim (code_ends v u (edge_code v u) (omega (arith, lv, few)) (omega (arith, lu, few)) off refl).either [ inl e ↦ inr e | inr e ↦ inl e ])
+      ]
+
+  joined_up : (u v : ℕ) → u ≢ v → (names_node ids (entries_at lists u) v ≡ true) ⊎ (names_node ids (entries_at lists v) u ≡ true) → joined_in ids lists u v ≡ true
+  joined_up u v off names = and_from (not (u == v)) (names_node ids (entries_at lists u) v || names_node ids (entries_at lists v) u) (not_from_false (u == v) (ne_eqb u v off))
+      (elim names [
+        | inl e ↦ or_left (names_node ids (entries_at lists u) v) (names_node ids (entries_at lists v) u) e
+        | inr e ↦ or_right (names_node ids (entries_at lists u) v) (names_node ids (entries_at lists v) u) e
+      ])
+
+  pub joins_joined : (u v : ℕ) → Joins (pairs_in codes) u v → (u < length ids) × (v < length ids) × (joined_in ids lists u v ≡ true)
+  joins_joined u v joins =
+      let inside : joins.0 < length codes = let under = joins.1 in omega (arith, under, length-map codes pair_of) in
+      let x = get_or codes joins.0 0 in
+      let is = pair_at-pairs_in codes joins.0 inside in
+      let found = ends x (at_has codes joins.0 inside) in
+      elim joins.2 [
+        | inl e ↦
+            let both = sym is ∙ e in
+            ends_joined u v x found (ap (λ (p : ℕ × ℕ). p.0) both) (ap (λ (p : ℕ × ℕ). p.1) both)
+        | inr e ↦
+            let both = sym is ∙ e in
+            let turned = ends_joined v u x found (ap (λ (p : ℕ × ℕ). p.0) both) (ap (λ (p : ℕ × ℕ). p.1) both) in
+            (turned.1, turned.0, joined_turned v u turned.2)
+      ]
+    where
+      joined_turned : (u v : ℕ) → joined_in ids lists u v ≡ true → joined_in ids lists v u ≡ true
+      joined_turned u v h =
+          let parts = and_parts (not (u == v)) (names_node ids (entries_at lists u) v || names_node ids (entries_at lists v) u) h in
+          let off : v ≢ u = λ e. both_ways (u == v) (not-true (u == v) parts.0) (eq-eqb u v (sym e)) in
+          joined_up v u off (elim (or_cases (names_node ids (entries_at lists u) v) (names_node ids (entries_at lists v) u) parts.1) [ inl e ↦ inr e | inr e ↦ inl e ])
+
+      ends_joined : (u v x : ℕ) → ((a : ℕ) × (b : ℕ) × (a < length ids) × (b < length ids) × (names_node ids (entries_at lists a) b ≡ true) × (b ≢ a) × HasEnds a b x)
+          → x / 100000 ≡ u → x % 100000 ≡ v → (u < length ids) × (v < length ids) × (joined_in ids lists u v ≡ true)
+      ends_joined u v x found eu ev = elim found.6.either [
+        | inl e ↦
+            let a : found.0 ≡ u = sym e.0 ∙ eu in
+            let b : found.1 ≡ v = sym e.1 ∙ ev in
+            let lu = found.2 in
+            let lv = found.3 in (
+              omega (arith, lu, a), omega (arith, lv, b),
+              joined_up u v (λ bad. found.5 (b ∙ sym bad ∙ sym a)) (inl (subst (λ (m : ℕ). names_node ids (entries_at lists u) m ≡ true) b (subst (λ (m : ℕ). names_node ids (entries_at lists m) found.1 ≡ true) a found.4))),
+            )
+        | inr e ↦
+            let a : found.1 ≡ u = sym e.0 ∙ eu in
+            let b : found.0 ≡ v = sym e.1 ∙ ev in
+            let lv = found.2 in
+            let lu = found.3 in (
+              omega (arith, lu, a), omega (arith, lv, b),
+              joined_up u v (λ bad. found.5 (a ∙ bad ∙ sym b)) (inr (subst (λ (m : ℕ). names_node ids (entries_at lists v) m ≡ true) a (subst (λ (m : ℕ). names_node ids (entries_at lists m) found.1 ≡ true) b found.4))),
+            )
+      ]
+
+  adjacent_joined : (u v : ℕ) → adjacent (graph_in ids lists) u v ≡ true → (u < length ids) × (v < length ids) × (joined_in ids lists u v ≡ true)
+  adjacent_joined u v h = elim (cases_lt u (length ids)) [
+    | inl l ↦
+        let found = has-filter_below (length ids) (joined_in ids lists u) v
+        (subst (λ (row : List ℕ). has row v ≡ true) (get_or-map_below (length ids) (λ i. filter_below (length ids) (joined_in ids lists i)) u [] l) h) in
+        (l, found.0, found.1)
+    | inr past ↦ absurd (false≢true (subst (λ (row : List ℕ). has row v ≡ true)
+        (get_or_past (map_below (length ids) (λ i. filter_below (length ids) (joined_in ids lists i))) u []
+        (omega (arith, past, length-map_below (length ids) (λ i. filter_below (length ids) (joined_in ids lists i))))) h))
+  ]
+
+  pub edges_are : edges_in ids lists ≡ length codes
+  edges_are =
+      edges_counted (graph_in ids lists) (pairs_in codes) (edges_pairs (length ids) codes few codes_edges)
+      (λ u v. (
+        λ h. let a = adjacent_joined u v h in joined_joins u v a.0 a.1 a.2,
+        λ h.
+            let j = joins_joined u v h in
+            subst (λ (row : List ℕ). has row v ≡ true) (sym (get_or-map_below (length ids) (λ i. filter_below (length ids) (joined_in ids lists i)) u [] j.0))
+            (filter_below-has (length ids) (joined_in ids lists u) v j.1 j.2),
+      ))
+      ∙ length-map codes pair_of
+
+  pub built_graph : (g : Graph) → IsGraph g → g.units ≡ length ids → ((u v : ℕ) → (adjacent g u v ≡ true) ↔ Joins (pairs_in codes) u v) → g ≡ graph_in ids lists
+  built_graph g is units joins = graph_is g (length ids) (joined_in ids lists) is units
+      (λ u v h. (joins_joined u v ((joins u v).0 h)).2)
+      (λ u v lu lv h. (joins u v).1 (joined_joins u v lu lv h))

@@ -1,0 +1,11 @@
+pub mod Bridge
+pub mod Counted
+pub mod Edging
+pub mod First
+pub mod Indexed
+pub mod Joined
+pub mod Listed
+pub mod Matched
+pub mod Named
+pub mod Shapes
+pub mod Started

@@ -1,0 +1,82 @@
+-- Lists seen through a function.
+use Rattle.std.proofs.Common.{◌≡◌, ℕ, zero, suc, ◌+◌, ◌<◌, ◌≤◌, List, [], ◌∷◌, ◌++◌, length, map, get_or, Bool, true, false, not, Option, Some, None, ◌&&◌, refl, sym, ap, ◌∙◌, subst, inl, inr, arith}
+use Rattle.std.specs.List.{list_all}
+use Rattle.std.specs.Option.{option_map, is_some, is_none, unwrap_or}
+use Rattle.std.proofs.lemmas.Bool.{and_from, and_left, and_right}
+use Rattle.std.proofs.lemmas.List.{length-map}
+use Rattle.audit_model.specs.Below.{map_below}
+use Rattle.audit_model.specs.First.{first_below, first_some_below}
+use Rattle.serde_json.specs.Data.{Data, Items, null}
+use Rattle.serde_json.specs.View.{items_of, items_view, view}
+use Rattle.serde_json.specs.declared.value.Value.{Value}
+use Rattle.graph_definitions.specs.Reading.{elements, list_of}
+use Rattle.dual_json.specs.Names.{label_from}
+use Rattle.dual_json.specs.declared.names.Name.{Name}
+use Rattle.dual_json.specs.Places.{object_at}
+use Rattle.dual_json.specs.Shape.{views, lists_in}
+use Rattle.dual_json.proofs.First.{first_some_below_more, first_some_below_found, first_below_more, first_below_found}
+
+-- what a function gives of the element at a place
+pub get_or-map_at : {A B : Type 0} → (f : A → B) (xs : List A) (i : ℕ) (x : A) (d : B) → i < length xs → x ≡ get_or xs i x → get_or (map f xs) i d ≡ f x
+get_or-map_at f [] i x d l is = absurd (omega arith)
+get_or-map_at f (y ∷ xs) zero x d l is = ap f (sym is)
+get_or-map_at f (y ∷ xs) (suc i) x d l is = get_or-map_at f xs i x d (omega arith) is
+
+pub elements-items_of : (ds : List Data) → elements (items_of ds) ≡ ds
+elements-items_of [] = refl
+elements-items_of (d ∷ ds) = ap (λ (rest : List Data). d ∷ rest) (elements-items_of ds)
+
+pub elements-items_view : (vs : List Value) → elements (items_view vs) ≡ views vs
+elements-items_view vs = elements-items_of (map view vs)
+
+pub length-views : (vs : List Value) → length (views vs) ≡ length vs
+length-views vs = length-map vs view
+
+pub length-lists_in : (vs : List Value) → length (lists_in vs) ≡ length vs
+length-lists_in vs = length-map (views vs) (λ d. unwrap_or (list_of d) []) ∙ length-views vs
+
+pub unnamed_is : (o : Option Name) (b : Bool) → is_some o ≡ not b → is_none (option_map label_from o) ≡ b
+unnamed_is None true e = refl
+unnamed_is None false e = cc e
+unnamed_is (Some x) true e = cc e
+unnamed_is (Some x) false e = refl
+
+pub object_is : (vs : List Value) (i : ℕ) (x : Value) → i < length vs → x ≡ get_or vs i x → object_at (views vs) i ≡ view x
+object_is vs i x l is = get_or-map_at view vs i x null l is
+
+pub is_some-elements : (o : Option Items) → is_some (option_map elements o) ≡ is_some o
+is_some-elements None = refl
+is_some-elements (Some x) = refl
+
+pub list_all_from : (test : Data → Bool) (xs : List Data) → ((k : ℕ) → k < length xs → test (object_at xs k) ≡ true) → list_all test xs ≡ true
+list_all_from test [] each = refl
+list_all_from test (x ∷ xs) each = and_from (test x) (list_all test xs) (each 0 (omega arith)) (list_all_from test xs (λ k l. each (suc k) (omega arith)))
+
+pub list_all_fails : (test : Data → Bool) (xs : List Data) (k : ℕ) → k < length xs → test (object_at xs k) ≡ false → list_all test xs ≡ false
+list_all_fails test [] k l fails = absurd (omega arith)
+list_all_fails test (x ∷ xs) zero l fails = and_left (test x) (list_all test xs) fails
+list_all_fails test (x ∷ xs) (suc k) l fails = and_right (test x) (list_all test xs) (list_all_fails test xs k (omega arith) fails)
+
+-- one more number of a list
+pub map_below_more : {A : Type 0} (n : ℕ) (f : ℕ → A) (xs ys : List A) (x : A) → xs ≡ map_below n f → x ≡ f n → ys ≡ xs ++ x ∷ [] → ys ≡ map_below (n + 1) f
+map_below_more {A} n f xs ys x before here is =
+    let at : suc n ≡ n + 1 = omega arith in
+    is ∙ ap (λ (l : List A). l ++ x ∷ []) before ∙ ap (λ a. map_below n f ++ a ∷ []) here ∙ ap (λ m. map_below m f) at
+
+-- ---- a loop that gives the first of what a function gives of the objects
+
+module _ {A : Type 0} (vs : List Value) (f : ℕ → Data → Option A) where
+  pub objects_found : (i : ℕ) (x : Value) (a : A) → i < length vs → x ≡ get_or vs i x → first_some_below i (λ k. f k (object_at (views vs) k)) ≡ None → f i (view x) ≡ Some a
+      → first_some_below (length (views vs)) (λ k. f k (object_at (views vs) k)) ≡ Some a
+  objects_found i x a l is none gives =
+      first_some_below_found (length (views vs)) i (λ k. f k (object_at (views vs) k)) a (omega (arith, l, length-views vs)) none (ap (f i) (object_is vs i x l is) ∙ gives)
+
+  pub objects_more : (i : ℕ) (x : Value) → i < length vs → x ≡ get_or vs i x → first_some_below i (λ k. f k (object_at (views vs) k)) ≡ None → f i (view x) ≡ None
+      → first_some_below (i + 1) (λ k. f k (object_at (views vs) k)) ≡ None
+  objects_more i x l is none nothing = first_some_below_more i (λ k. f k (object_at (views vs) k)) none (ap (f i) (object_is vs i x l is) ∙ nothing)
+
+  pub objects_all : (i : ℕ) → i ≤ length vs → length vs ≤ i → first_some_below i (λ k. f k (object_at (views vs) k)) ≡ None
+      → first_some_below (length (views vs)) (λ k. f k (object_at (views vs) k)) ≡ None
+  objects_all i low high none =
+      let at : i ≡ length (views vs) = omega (arith, low, high, length-views vs) in
+      subst (λ (m : ℕ). first_some_below m (λ k. f k (object_at (views vs) k)) ≡ None) at none

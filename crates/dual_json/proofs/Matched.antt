@@ -1,0 +1,10 @@
+-- From one clause on a result to another.
+use Rattle.std.proofs.Common.{◌≡◌, Result, Ok, Err, sym, subst}
+use Rattle.std.specs.Result.{MatchResult}
+
+pub match_map : {A E : Type 0} → (r : Result A E) (P R : A → Type 0) (Q S : E → Type 0) → MatchResult r P Q → ((x : A) → P x → R x) → ((e : E) → Q e → S e) → MatchResult r R S
+match_map (Ok x) P R Q S h ok err = ok x h
+match_map (Err e) P R Q S h ok err = err e h
+
+pub err_at : {A E : Type 0} → (r : Result A E) (e : E) (P : A → Type 0) (Q : E → Type 0) → r ≡ Err e → Q e → MatchResult r P Q
+err_at r e P Q is h = subst (λ t. MatchResult t P Q) (sym is) h

@@ -1,0 +1,32 @@
+use Rattle.std.proofs.Common.{◌≡◌, ℕ, length, None, refl, sym, ap, ◌∙◌, subst, arith}
+use Rattle.std.specs.Option.{is_none}
+use Rattle.audit_model.specs.First.{first_below}
+use Rattle.dual_json.specs.Edges.{is_unnamed}
+use Rattle.dual_json.specs.Places.{object_at}
+use Rattle.dual_json.specs.Shape.{views}
+use Rattle.dual_json.proofs.First.{first_below_found, first_below_more}
+use Rattle.dual_json.proofs.Listed.{object_is, unnamed_is, length-views}
+use Rattle.dual_json.proofs.edges.unnamed_entry.Goals as goal
+
+pub loop-place-init : goal.loop-place-init
+loop-place-init c = refl
+
+pub returns-then-is_none : goal.returns-then-is_none
+returns-then-is_none c =
+    let l = c.loop-place-test.true in
+    sym (first_below_found (length (views c.args.entries.now)) c.loop-place.place (λ k. is_unnamed (object_at (views c.args.entries.now) k)) (omega (arith, l, length-views c.args.entries.now)) c.loop-place.invariant
+    (ap is_unnamed (object_is c.args.entries.now c.loop-place.place c.index-entries-place.result l c.index-entries-place.is)
+    ∙ ap is_none (sym c.name_at.ensures) ∙ unnamed_is c.name_at.result c.is_none.result c.is_none.ensures ∙ c.if-is_none.true))
+
+pub loop-place-preserved : goal.loop-place-preserved
+loop-place-preserved c =
+    first_below_more c.loop-place.place (λ k. is_unnamed (object_at (views c.args.entries.now) k)) c.loop-place.invariant
+    (ap is_unnamed (object_is c.args.entries.now c.loop-place.place c.index-entries-place.result c.loop-place-test.true c.index-entries-place.is)
+    ∙ ap is_none (sym c.name_at.ensures) ∙ unnamed_is c.name_at.result c.is_none.result c.is_none.ensures ∙ c.if-is_none.false)
+
+pub returns : goal.returns
+returns c =
+    let low = c.loop-place.auto.place-end in
+    let high = c.loop-place-test.false in
+    let at : c.loop-place.place ≡ length (views c.args.entries.now) = omega (arith, low, high, length-views c.args.entries.now) in
+    sym (subst (λ (m : ℕ). first_below m (λ k. is_unnamed (object_at (views c.args.entries.now) k)) ≡ None) at c.loop-place.invariant)

@@ -1,0 +1,31 @@
+use Rattle.std.proofs.Common.{◌≡◌, ℕ, refl, sym, ap, ◌∙◌, inr, arith}
+use Rattle.std.specs.BTreeMap.{get_by}
+use Rattle.std.specs.Map.{lookup}
+use Rattle.std.specs.BTreeMap.{is_at}
+use Rattle.std.specs.Option.{option_copied}
+use Rattle.std.proofs.lemmas.List.{length-map}
+use Rattle.dual_json.specs.Names.{label_from, name_cmp}
+use Rattle.dual_json.specs.Places.{labels_from}
+use Rattle.dual_json.proofs.Indexed.{IsIndexed, repeated_here, indexed_more, indexed_all}
+use Rattle.dual_json.proofs.Named.{nth_get}
+use Rattle.dual_json.proofs.index.places_of.Goals as goal
+
+pub loop-place-init : goal.loop-place-init
+loop-place-init c = record { leads = λ q. ap (lookup (is_at (name_cmp q))) c.new-places.ensures.empty; none = refl }
+
+pub returns-in-Some : goal.returns-in-Some
+returns-in-Some c =
+    let l = c.loop-place-test.true in
+    inr (repeated_here (labels_from c.args.names.now) c.loop-place.place c.loop-place.places _ c.loop-place.invariant (nth_get c.args.names.now c.loop-place.place _ l)
+    c.in-Some.first.now (omega (arith, l, length-map c.args.names.now label_from)) (sym c.in-Some.ensures.value))
+
+pub loop-place-preserved : goal.loop-place-preserved
+loop-place-preserved c =
+    indexed_more (labels_from c.args.names.now) c.loop-place.place c.loop-place.places _ c.loop-place.invariant (nth_get c.args.names.now c.loop-place.place _ c.loop-place-test.true)
+    c.insert.new.self (sym c.in_default.ensures.value) c.in-Ok.ensures.updates.0
+
+pub returns : goal.returns
+returns c =
+    let low = c.loop-place.auto.place-end in
+    let high = c.loop-place-test.false in
+    indexed_all (labels_from c.args.names.now) c.loop-place.place c.loop-place.places (omega (arith, low, high, length-map c.args.names.now label_from)) c.loop-place.invariant

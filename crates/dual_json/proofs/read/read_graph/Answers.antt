@@ -1,0 +1,39 @@
+use Rattle.std.proofs.Common.{◌≡◌, Some, None, Ok, Err, refl, sym, ap, ◌∙◌, inl, inr, rules}
+use Rattle.std.specs.Prelude.{◌⊎◌}
+use Rattle.audit_model.specs.declared.fault.GraphFault.TheVariants.{Memory}
+use Rattle.serde_json.specs.View.{view}
+use Rattle.graph_definitions.specs.Reading.{Document, document, reading, of_root, bad_part, accepted_or, parsed, refusal}
+use Rattle.dual_json.specs.Shape.{document_of}
+use Rattle.dual_json.proofs.Bridge.{reading_of, reading_none}
+use Rattle.dual_json.proofs.Matched.{match_map, err_at}
+use Rattle.dual_json.proofs.read.read_graph.Goals as goal
+
+pub returns-in_err-root-clause-read : goal.returns-in_err-root-clause-read
+returns-in_err-root-clause-read c =
+    let f = c.in_err-root.field-0.0 in
+    let e : c.from_residual.result ≡ Err f = search rules in
+    let why : (f ≡ Memory) ⊎ (reading c.args.bytes.now c.args.cols.now ≡ Err f) = elim c.in_err-root.ensures [
+      | inl m ↦ inl m
+      | inr h ↦ inr (reading_none c.args.bytes.now c.args.cols.now h.1 ∙ ap Err (sym h.0))
+    ] in
+    err_at c.from_residual.result f _ _ e why
+
+pub returns-in-Ok-clause-read : goal.returns-in-Ok-clause-read
+returns-in-Ok-clause-read c =
+    let columns = c.args.cols.now in
+    let root = view c.in_ok-root.root in
+    let d : Document = document_of c.in-Ok.parts in
+    let read = reading_of c.args.bytes.now columns root c.in_ok-root.ensures ∙ ap (of_root columns root) c.in-Ok.ensures.0
+        ∙ ap (λ (x : Document). accepted_or (parsed x columns) (refusal x columns)) c.in-Ok.ensures.1 in
+    match_map c.read_parts.result _ _ _ _ c.read_parts.ensures.read
+    (λ p h. read ∙ ap (accepted_or (parsed d columns)) h.0 ∙ ap Ok h.1)
+    (λ f h. elim h [
+      | inl m ↦ inl m
+      | inr e ↦ inr (read ∙ ap (accepted_or (parsed d columns)) e)
+    ])
+
+pub returns-clause-read : goal.returns-clause-read
+returns-clause-read c =
+    let columns = c.args.cols.now in
+    let root = view c.in_ok-root.root in
+    inr (reading_of c.args.bytes.now columns root c.in_ok-root.ensures ∙ ap (of_root columns root) c.in-Err.ensures)

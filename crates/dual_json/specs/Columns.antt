@@ -1,0 +1,49 @@
+-- The columns of a node.
+use Rattle.std.specs.Prelude.{ℕ, ◌^◌, cond, nat_le, List, [], ◌∷◌, length, Option, Some, None, is_none, unwrap_or, option_map, option_and_then}
+use Rattle.serde_json.specs.Data.{Data}
+use Rattle.serde_json.specs.Find.{get, as_number, as_u64}
+use Rattle.audit_model.specs.declared.fault.Column.{Column}
+use Rattle.audit_model.specs.declared.fault.Column.TheVariants as column
+use Rattle.audit_model.specs.declared.fault.GraphFault.{GraphFault}
+use Rattle.audit_model.specs.declared.fault.GraphFault.TheVariants as fault
+use Rattle.audit_model.specs.declared.setting.Columns.{Columns}
+use Rattle.audit_model.specs.Below.{map_below}
+use Rattle.audit_model.specs.First.{first_some, first_some_below}
+use Rattle.graph_definitions.specs.Reading.{refused_if}
+use Rattle.dual_json.specs.Places.{object_at}
+
+-- a whole number from 0 to 10 ^ 9
+abbrev pub count_from : Data → Option ℕ
+count_from d = option_and_then (λ n. cond (nat_le n (10 ^ 9)) (Some n) None) (option_and_then as_u64 (as_number d))
+
+-- the number at a key
+abbrev pub count_in : List ℕ → Data → Option ℕ
+count_in key d = option_and_then count_from (get key d)
+
+-- the first column that a node has not
+abbrev pub missing_in : Columns → Data → Option Column
+missing_in columns d = first_some (
+    refused_if (is_none (get columns.population d)) column.Population
+    ∷ refused_if (is_none (get columns.first d)) column.First
+    ∷ refused_if (is_none (get columns.second d)) column.Second
+    ∷ refused_if (is_none (get columns.district d)) column.District
+    ∷ [])
+
+-- the first column of numbers in which a node has no number from 0 to 10 ^ 9
+abbrev pub bad_in : Columns → Data → Option Column
+bad_in columns d = first_some (
+    refused_if (is_none (count_in columns.population d)) column.Population
+    ∷ refused_if (is_none (count_in columns.first d)) column.First
+    ∷ refused_if (is_none (count_in columns.second d)) column.Second
+    ∷ [])
+
+-- the first node that lacks a column, and the first that has a bad number
+abbrev pub missing : Columns → List Data → Option GraphFault
+missing columns nodes = first_some_below (length nodes) (λ i. option_map (fault.Missing i) (missing_in columns (object_at nodes i)))
+
+abbrev pub bad : Columns → List Data → Option GraphFault
+bad columns nodes = first_some_below (length nodes) (λ i. option_map (fault.BadNumber i) (bad_in columns (object_at nodes i)))
+
+-- the numbers at a key
+abbrev pub numbers_in : List ℕ → List Data → List ℕ
+numbers_in key nodes = map_below (length nodes) (λ i. unwrap_or (count_in key (object_at nodes i)) 0)

@@ -1,0 +1,7 @@
+pub mod Columns
+pub mod Districts
+pub mod Edges
+pub mod Names
+pub mod Places
+pub mod Shape
+pub mod Stages

@@ -1,0 +1,65 @@
+-- Ids and labels of a list of objects, and the place of each id.
+use Rattle.std.specs.Prelude.{◌≡◌, ℕ, ◌<◌, Bool, List, [], length, map, codes, Option, Some, None, is_none, unwrap_or, option_map, option_and_then}
+use Rattle.std.specs.List.{slice_index_or}
+use Rattle.std.specs.BTreeMap.{BTreeMap, get}
+use Rattle.serde_json.specs.Data.{Data, null}
+use Rattle.serde_json.specs.Find.{get as member}
+use Rattle.audit_model.specs.declared.fault.GraphFault.{GraphFault}
+use Rattle.audit_model.specs.declared.fault.GraphFault.TheVariants as fault
+use Rattle.audit_model.specs.declared.setting.Label.{Label}
+use Rattle.audit_model.specs.declared.setting.Label.TheVariants.{Whole, Word}
+use Rattle.audit_model.specs.Below.{any_below}
+use Rattle.audit_model.specs.First.{first_below}
+use Rattle.audit_model.specs.Label.{same_label}
+use Rattle.graph_definitions.specs.Reading.{label_of, id_of}
+use Rattle.dual_json.specs.Names.{label_from, name_cmp}
+use Rattle.dual_json.specs.declared.names.Name.{Name}
+use Rattle.dual_json.specs.declared.names.Unnamed.{Unnamed}
+use Rattle.dual_json.specs.declared.names.Unnamed.TheVariants as unnamed
+
+-- the label at a key of an object
+abbrev pub label_in : List ℕ → Data → Option Label
+label_in key d = option_and_then label_of (member key d)
+
+-- the object at a place, and the label at a place
+abbrev pub object_at : List Data → ℕ → Data
+object_at objects i = slice_index_or objects i null
+
+abbrev pub nth : List Label → ℕ → Label
+nth labels i = slice_index_or labels i (Word [])
+
+-- the labels of several names
+abbrev pub labels_from : List Name → List Label
+labels_from names = map label_from names
+
+-- the first object that has no label at the key
+abbrev pub first_unnamed : List ℕ → List Data → Option ℕ
+first_unnamed key objects = first_below (length objects) (λ i. is_none (label_in key (object_at objects i)))
+
+-- each object has the label at its place
+pub record AreLabels (key : List ℕ) (objects : List Data) (labels : List Label) : Type 0 where
+  pub count : length labels ≡ length objects
+  pub each : (i : ℕ) → i < length objects → label_in key (object_at objects i) ≡ Some (nth labels i)
+
+-- why there is none: it is the first, or memory was wanting
+abbrev pub Tells : Unnamed → Option ℕ → Type 0
+Tells (unnamed.At i) found = found ≡ Some i
+Tells unnamed.Memory found = Unit {0}
+
+-- the first place of a label
+abbrev pub place_in : List Label → Label → Option ℕ
+place_in labels l = first_below (length labels) (λ i. same_label l (nth labels i))
+
+-- the least place whose label an earlier place has
+abbrev pub repeated : List Label → Option GraphFault
+repeated labels = option_map
+    (λ j. fault.SameId (unwrap_or (first_below j (λ i. same_label (nth labels i) (nth labels j))) 0) j)
+    (first_below (length labels) (λ j. any_below j (λ i. same_label (nth labels i) (nth labels j))))
+
+-- the map leads from each name to the first place of its label
+abbrev pub IsIndex : List Label → BTreeMap Name ℕ → Type 0
+IsIndex labels places = (q : Name) → get name_cmp places q ≡ place_in labels (label_from q)
+
+-- the place of the id of an entry
+abbrev pub place_of : List Label → Data → Option ℕ
+place_of labels d = option_and_then (place_in labels) (id_of d)

@@ -1,0 +1,126 @@
+//! The columns of numbers.
+
+ghost use Rattle.std.specs.Prelude.{◌≡◌, ◌≤◌, None, Some, length, IfOk, IfErr, MatchResult};
+ghost use Rattle.audit_model.specs.declared.fault.GraphFault.TheVariants.{Memory};
+ghost use Rattle.serde_json.specs.View.{view};
+ghost use Rattle.dual_json.specs.Columns.{count_in, missing_in, bad_in, missing, bad, numbers_in};
+ghost use Rattle.dual_json.specs.Shape.{views};
+
+use audit_model::fault::{Column, GraphFault};
+use audit_model::lists::NumList;
+use audit_model::outcome::Counts;
+use audit_model::setting::Columns;
+use audit_model::text::Text;
+use serde_json::Value;
+use std::alloc::Global;
+
+/// The first column that a node has not.
+fn missing_column(node: &Value, columns: &Columns) -> Option<Column>
+    ensures { result ≡ missing_in columns.now (view node.now) }
+{
+    if node.get(columns.population.as_str()).is_none() {
+        Some(Column::Population)
+    } else if node.get(columns.first.as_str()).is_none() {
+        Some(Column::First)
+    } else if node.get(columns.second.as_str()).is_none() {
+        Some(Column::Second)
+    } else if node.get(columns.district.as_str()).is_none() {
+        Some(Column::District)
+    } else {
+        None
+    }
+}
+
+/// Whether each node has all columns, or the first that has not.
+pub fn check_columns(nodes: &[Value], columns: &Columns) -> Result<(), GraphFault>
+    requires { length nodes.now ≤ 100000 }
+    ensures { MatchResult result (λ _. missing columns.now (views nodes.now) ≡ None) (λ f. missing columns.now (views nodes.now) ≡ Some f) }
+{
+    for node in 0..nodes.len() {
+        if let Some(column) = missing_column(&nodes[node], columns) {
+            return Err(GraphFault::Missing {
+                node: node as u32,
+                column,
+            });
+        }
+    }
+    Ok(())
+}
+
+/// The whole number from 0 to 10^9 in a column.
+fn count_at(node: &Value, key: &Text) -> Option<u64>
+    ensures { result ≡ count_in key.now (view node.now) }
+{
+    let Some(value) = node.get(key.as_str()) else {
+        return None;
+    };
+    match value.as_u64() {
+        Some(count) => {
+            if count <= 1000000000 {
+                Some(count)
+            } else {
+                None
+            }
+        }
+        None => None,
+    }
+}
+
+/// The first column of numbers in which a node has no such number.
+fn bad_number(node: &Value, columns: &Columns) -> Option<Column>
+    ensures { result ≡ bad_in columns.now (view node.now) }
+{
+    if count_at(node, &columns.population).is_none() {
+        Some(Column::Population)
+    } else if count_at(node, &columns.first).is_none() {
+        Some(Column::First)
+    } else if count_at(node, &columns.second).is_none() {
+        Some(Column::Second)
+    } else {
+        None
+    }
+}
+
+/// Whether each node has its numbers, or the first that has not.
+pub fn check_numbers(nodes: &[Value], columns: &Columns) -> Result<(), GraphFault>
+    requires { length nodes.now ≤ 100000 }
+    ensures { MatchResult result (λ _. bad columns.now (views nodes.now) ≡ None) (λ f. bad columns.now (views nodes.now) ≡ Some f) }
+{
+    for node in 0..nodes.len() {
+        if let Some(column) = bad_number(&nodes[node], columns) {
+            return Err(GraphFault::BadNumber {
+                node: node as u32,
+                column,
+            });
+        }
+    }
+    Ok(())
+}
+
+/// One column.
+fn numbers_of(alloc: Global, nodes: &[Value], key: &Text) -> Result<NumList, GraphFault>
+    ensures { MatchResult result (λ numbers. numbers ≡ numbers_in key.now (views nodes.now)) (λ f. f ≡ Memory) }
+{
+    let mut numbers = NumList::new(alloc);
+    for node in 0..nodes.len() {
+        let number = count_at(&nodes[node], key).unwrap_or(0);
+        let Ok(()) = numbers.push(number) else {
+            return Err(GraphFault::Memory);
+        };
+    }
+    Ok(numbers)
+}
+
+/// The three columns.
+pub fn counts_of(alloc: Global, nodes: &[Value], columns: &Columns) -> Result<Counts, GraphFault>
+    ensures memory { IfErr result (λ f. f ≡ Memory) }
+    ensures population { IfOk result (λ counts. counts.population ≡ numbers_in columns.now.population (views nodes.now)) }
+    ensures first { IfOk result (λ counts. counts.first ≡ numbers_in columns.now.first (views nodes.now)) }
+    ensures second { IfOk result (λ counts. counts.second ≡ numbers_in columns.now.second (views nodes.now)) }
+{
+    Ok(Counts {
+        population: numbers_of(alloc, nodes, &columns.population)?,
+        first: numbers_of(alloc, nodes, &columns.first)?,
+        second: numbers_of(alloc, nodes, &columns.second)?,
+    })
+}

@@ -1,0 +1,71 @@
+//! The districts of the start plan.
+
+ghost use Rattle.std.specs.Prelude.{◌≡◌, ◌≤◌, None, Some, length, MatchResult};
+ghost use Rattle.audit_model.specs.declared.fault.GraphFault.TheVariants.{Memory};
+ghost use Rattle.dual_json.specs.Districts.{count_fault, AreDifferent, AreDistricts};
+ghost use Rattle.dual_json.specs.Places.{labels_from};
+
+use crate::names::Name;
+use audit_model::fault::GraphFault;
+use audit_model::lists::{LabelList, UnitList};
+use std::alloc::Global;
+
+/// The different names in rising order.
+pub fn different<'v>(alloc: Global, names: &[Name<'v>]) -> Result<Vec<Name<'v>>, GraphFault>
+    ensures { MatchResult result (λ found. AreDifferent names.now found.items) (λ f. f ≡ Memory) }
+{
+    let Ok(mut found) = Vec::from_slice(alloc, names) else {
+        return Err(GraphFault::Memory);
+    };
+    found.sort_unstable();
+    found.dedup();
+    Ok(found)
+}
+
+/// Whether there are from 2 to 200 districts.
+pub fn check_count(count: usize) -> Result<(), GraphFault>
+    ensures { MatchResult result (λ _. count_fault count ≡ None) (λ f. count_fault count ≡ Some f) }
+{
+    if count < 2 || count > 200 {
+        return Err(GraphFault::DistrictCount(count as u64));
+    }
+    Ok(())
+}
+
+/// The place of each name among the different ones.
+pub fn start_of<'v>(
+    alloc: Global,
+    names: &[Name<'v>],
+    found: &[Name<'v>],
+) -> Result<UnitList, GraphFault>
+    requires few { length found.now ≤ 100000 }
+    requires different { AreDifferent names.now found.now }
+    ensures { MatchResult result (λ start. AreDistricts (labels_from names.now) (labels_from found.now) start) (λ f. f ≡ Memory) }
+{
+    let mut start = UnitList::new(alloc);
+    for i in 0..names.len() {
+        let Ok(place) = found.binary_search(&names[i]) else {
+            unreachable!()
+        };
+        let Ok(()) = start.push(place as u32) else {
+            return Err(GraphFault::Memory);
+        };
+    }
+    Ok(start)
+}
+
+/// The labels, with texts of their own.
+pub fn labels_of(alloc: Global, names: &[Name<'_>]) -> Result<LabelList, GraphFault>
+    ensures { MatchResult result (λ labels. labels ≡ labels_from names.now) (λ f. f ≡ Memory) }
+{
+    let mut labels = LabelList::new(alloc);
+    for name in names {
+        let Ok(label) = name.to_label(alloc) else {
+            return Err(GraphFault::Memory);
+        };
+        let Ok(()) = labels.push(label) else {
+            return Err(GraphFault::Memory);
+        };
+    }
+    Ok(labels)
+}

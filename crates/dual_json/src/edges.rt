@@ -1,0 +1,165 @@
+//! The edges of the graph.
+
+ghost use Rattle.std.specs.Prelude.{◌≡◌, ◌<◌, ◌≤◌, ◌⊎◌, ◌↔◌, ℕ, IsTrue, None, Some, length, option_map, MatchResult};
+ghost use Rattle.serde_json.specs.View.{view};
+ghost use Rattle.audit_model.specs.declared.fault.GraphFault.TheVariants.{Memory, BadNeighbour, UnknownNeighbour};
+ghost use Rattle.audit_model.specs.Graph.{IsGraph, adjacent, has};
+ghost use Rattle.dual_json.specs.Edges.{edge_code, first_in, first_entry_in, is_unnamed, is_unknown, edges_fault, edges_in, graph_in, pairs_in, AddsEdges, AreCodes, AreEdges, PushesEdge};
+ghost use Rattle.dual_graph.specs.Pairs.{Joins};
+ghost use Rattle.dual_json.specs.Places.{repeated};
+ghost use Rattle.dual_json.specs.Shape.{views, lists_in};
+
+use crate::index::Index;
+use crate::names::name_at;
+use crate::shape::entries_of;
+use audit_model::fault::GraphFault;
+use dual_graph::graph::Graph;
+use dual_graph::pairs::put_in_order;
+use serde_json::Value;
+use std::alloc::Global;
+
+/// The first entry that has no id.
+fn unnamed_entry(entries: &[Value]) -> Option<usize>
+    ensures { result ≡ first_in is_unnamed (views entries.now) }
+{
+    for place in 0..entries.len() {
+        if name_at(&entries[place], "id").is_none() {
+            return Some(place);
+        }
+    }
+    None
+}
+
+/// Whether each entry has an id, or the first that has none.
+pub fn check_entries(adjacency: &[Value]) -> Result<(), GraphFault>
+    requires { length adjacency.now ≤ 100000 }
+    ensures { MatchResult result (λ _. first_entry_in is_unnamed BadNeighbour (lists_in adjacency.now) ≡ None)
+        (λ f. first_entry_in is_unnamed BadNeighbour (lists_in adjacency.now) ≡ Some f) }
+{
+    for node in 0..adjacency.len() {
+        if let Some(place) = unnamed_entry(entries_of(adjacency, node)) {
+            return Err(GraphFault::BadNeighbour {
+                node: node as u32,
+                place: place as u64,
+            });
+        }
+    }
+    Ok(())
+}
+
+/// An edge as one number, the smaller end first.
+fn code_of(u: u32, v: u32) -> u64
+    ensures { result ≡ edge_code u v }
+{
+    if u < v {
+        u64::from(u) * 100000 + u64::from(v)
+    } else {
+        u64::from(v) * 100000 + u64::from(u)
+    }
+}
+
+/// Appends an edge, unless both ends are one.
+fn push_edge(codes: &mut Vec<u64>, node: u32, other: u32) -> Result<(), GraphFault>
+    ensures { MatchResult result (λ _. PushesEdge node other codes.old.items codes.new.items) (λ f. f ≡ Memory) }
+{
+    if other == node {
+        return Ok(());
+    }
+    match codes.push(code_of(node, other)) {
+        Ok(()) => Ok(()),
+        Err(_) => Err(GraphFault::Memory),
+    }
+}
+
+/// Appends the edges that one node lists, or gives the first of its entries that names no node.
+fn add_edges<'v>(
+    codes: &mut Vec<u64>,
+    index: &Index<'v>,
+    entries: &'v [Value],
+    node: u32,
+) -> Result<(), GraphFault>
+    ensures { MatchResult result
+        (λ _. (first_in (is_unknown index.now) (views entries.now) ≡ None) × AddsEdges index.now (views entries.now) (length entries.now) node codes.old.items codes.new.items)
+        (λ f. (f ≡ Memory) ⊎ (option_map (UnknownNeighbour node) (first_in (is_unknown index.now) (views entries.now)) ≡ Some f)) }
+{
+    for place in 0..entries.len() {
+        let Some(other) = index.node_of(&entries[place]) else {
+            return Err(GraphFault::UnknownNeighbour {
+                node,
+                place: place as u64,
+            });
+        };
+        push_edge(codes, node, other)?;
+    }
+    Ok(())
+}
+
+/// The edges that the nodes list, in any order, some of them more than once.
+fn codes_of<'v>(
+    alloc: Global,
+    adjacency: &'v [Value],
+    index: &Index<'v>,
+) -> Result<Vec<u64>, GraphFault>
+    requires { length adjacency.now ≤ 100000 }
+    ensures { MatchResult result
+        (λ codes. (first_entry_in (is_unknown index.now) UnknownNeighbour (lists_in adjacency.now) ≡ None)
+            × AreCodes index.now (lists_in adjacency.now) (length (lists_in adjacency.now)) codes.items)
+        (λ f. (f ≡ Memory) ⊎ (first_entry_in (is_unknown index.now) UnknownNeighbour (lists_in adjacency.now) ≡ Some f)) }
+{
+    let mut codes = Vec::new(alloc);
+    for node in 0..adjacency.len() {
+        add_edges(&mut codes, index, entries_of(adjacency, node), node as u32)?;
+    }
+    Ok(codes)
+}
+
+/// The ends of each edge.
+fn pairs_of(alloc: Global, codes: &[u64]) -> Result<Vec<(u32, u32)>, GraphFault>
+    requires { (x : ℕ) → IsTrue (has codes.now x) → x < 10000000000 }
+    ensures { MatchResult result (λ pairs. pairs.items ≡ pairs_in codes.now) (λ f. f ≡ Memory) }
+{
+    let mut pairs = Vec::new(alloc);
+    for code in codes {
+        let Ok(()) = pairs.push(((*code / 100000) as u32, (*code % 100000) as u32)) else {
+            return Err(GraphFault::Memory);
+        };
+    }
+    Ok(pairs)
+}
+
+/// The graph of the edges, which rise.
+fn graph_from(alloc: Global, units: u32, codes: &[u64]) -> Result<Graph, GraphFault>
+    requires few { (units ≤ 100000) × (length codes.now ≤ 400000) }
+    requires codes { AreEdges units codes.now }
+    ensures { MatchResult result (λ g. IsGraph g × (g.units ≡ units) × ((u v : ℕ) → IsTrue (adjacent g u v) ↔ Joins (pairs_in codes.now) u v)) (λ f. f ≡ Memory) }
+{
+    let pairs = pairs_of(alloc, codes)?;
+    match Graph::from_pairs(alloc, units, &pairs) {
+        Ok(graph) => Ok(graph),
+        Err(_) => Err(GraphFault::Memory),
+    }
+}
+
+/// The graph whose edges are the pairs of different nodes of which one lists the other.
+pub fn graph_of<'v>(
+    alloc: Global,
+    units: u32,
+    adjacency: &'v [Value],
+    index: &Index<'v>,
+) -> Result<Graph, GraphFault>
+    requires few { units ≤ 100000 }
+    requires lists { length adjacency.now ≡ units }
+    requires ids { length index.now ≡ units }
+    requires different { repeated index.now ≡ None }
+    ensures { MatchResult result
+        (λ g. (edges_fault index.now (lists_in adjacency.now) ≡ None) × (g ≡ graph_in index.now (lists_in adjacency.now)) × IsGraph g × (edges_in index.now (lists_in adjacency.now) ≤ 400000))
+        (λ f. (f ≡ Memory) ⊎ (edges_fault index.now (lists_in adjacency.now) ≡ Some f)) }
+{
+    let mut codes = codes_of(alloc, adjacency, index)?;
+    put_in_order(&mut codes);
+    let edges = codes.len() as u64;
+    if edges > 400000 {
+        return Err(GraphFault::TooManyEdges(edges));
+    }
+    graph_from(alloc, units, &codes)
+}

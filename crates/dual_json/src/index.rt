@@ -1,0 +1,80 @@
+//! The place of each id.
+
+ghost use Rattle.std.specs.Prelude.{◌≡◌, ◌≤◌, ◌⊎◌, None, Some, length, MatchResult};
+ghost use Rattle.serde_json.specs.View.{view};
+ghost use Rattle.audit_model.specs.declared.fault.GraphFault.TheVariants.{Memory};
+ghost use Rattle.dual_json.specs.Places.{labels_from, repeated, place_of, IsIndex};
+
+use crate::names::{name_at, Name};
+use audit_model::fault::GraphFault;
+use serde_json::Value;
+use std::alloc::Global;
+use std::collections::BTreeMap;
+use std::marker::Model;
+
+/// The ids of all nodes, which all differ, with the place of each.
+#[derive(Drop)]
+pub struct Index<'v> {
+    names: Vec<Name<'v>>,
+    places: BTreeMap<Name<'v>, u32>,
+}
+
+impl<'v> Model for Index<'v> {
+    ghost use Rattle.std.specs.Prelude.{List};
+    ghost use Rattle.dual_json.specs.Places.{labels_from, IsIndex};
+    ghost use Rattle.audit_model.specs.declared.setting.Label.{Label};
+
+    ghost Value = { List Label };
+
+    ghost view = { λ x. labels_from x.names.items };
+
+    ghost invariant = { λ x. IsIndex (labels_from x.names.items) x.places };
+}
+
+/// The place of each name, or the first name that an earlier place has too.
+fn places_of<'v>(
+    alloc: Global,
+    names: &[Name<'v>],
+) -> Result<BTreeMap<Name<'v>, u32>, GraphFault>
+    requires { length names.now ≤ 100000 }
+    ensures { MatchResult result (λ places. (repeated (labels_from names.now) ≡ None) × IsIndex (labels_from names.now) places)
+        (λ f. (f ≡ Memory) ⊎ (repeated (labels_from names.now) ≡ Some f)) }
+{
+    let mut places = BTreeMap::new(alloc);
+    for place in 0..names.len() {
+        let second = place as u32;
+        if let Some(first) = places.get(&names[place]) {
+            return Err(GraphFault::SameId {
+                first: *first,
+                second,
+            });
+        }
+        let Ok(_) = places.insert(names[place], second) else {
+            return Err(GraphFault::Memory);
+        };
+    }
+    Ok(places)
+}
+
+impl<'v> Index<'v> {
+    /// The index of the names, or the first name that an earlier place has too.
+    pub fn of(alloc: Global, names: Vec<Name<'v>>) -> Result<Index<'v>, GraphFault>
+        requires { length names.items ≤ 100000 }
+        ensures { MatchResult result (λ index. (repeated (labels_from names.entry.items) ≡ None) × (index ≡ labels_from names.entry.items))
+            (λ f. (f ≡ Memory) ⊎ (repeated (labels_from names.entry.items) ≡ Some f)) }
+    {
+        let places = places_of(alloc, &names)?;
+        Ok(Index { names, places })
+    }
+
+    /// The node that an entry names.
+    pub fn node_of(&self, entry: &'v Value) -> Option<u32>
+        ensures { result ≡ place_of self.now (view entry.now) }
+    {
+        let _ = &self.names;
+        match name_at(entry, "id") {
+            Some(name) => self.places.get(&name).copied(),
+            None => None,
+        }
+    }
+}

@@ -1,0 +1,15 @@
+//! Reading a dual graph from networkx's adjacency data.
+#![tactic(auto)]
+
+pub mod columns;
+pub mod districts;
+pub mod edges;
+pub mod index;
+pub mod names;
+pub mod read;
+pub mod shape;
+#[cfg(test)]
+mod tests;
+
+pub use audit_model::fault::{Column, GraphFault, Part};
+pub use crate::read::read_graph;

@@ -1,0 +1,131 @@
+//! Ids and labels as a text has them.
+
+ghost use Rattle.std.specs.Prelude.{◌≡◌, ◌≤◌, refl, None, Some, length, IfOk, MatchResult, option_map, option_and_then};
+ghost use Rattle.audit_model.specs.Label.{label_cmp, same_label};
+ghost use Rattle.serde_json.specs.View.{view};
+ghost use Rattle.graph_definitions.specs.Reading.{label_of};
+ghost use Rattle.dual_json.specs.Places.{label_in, labels_from, first_unnamed, AreLabels, Tells};
+ghost use Rattle.dual_json.specs.Shape.{views};
+ghost use Rattle.dual_json.specs.Names.{label_from, name_cmp, same_name, name_equiv, name_total, name_per, name_po};
+
+use audit_model::memory::Memory;
+use audit_model::setting::Label;
+use audit_model::text::Text;
+use serde_json::Value;
+use std::alloc::Global;
+use std::cmp::Ordering;
+
+/// An id or a label: a whole number or a text.
+#[derive(Clone, Copy)]
+pub enum Name<'v> {
+    Whole(i128),
+    Word(&'v str),
+}
+
+impl Name<'_> {
+    /// The label, with a text of its own.
+    pub fn to_label(&self, alloc: Global) -> Result<Label, Memory>
+        ensures { IfOk result (λ l. l ≡ label_from self.now) }
+    {
+        match self {
+            Name::Whole(number) => Ok(Label::Whole(*number)),
+            Name::Word(word) => {
+                let mut text = Text::new(alloc);
+                text.push_str(*word)?;
+                Ok(Label::Word(text))
+            }
+        }
+    }
+}
+
+impl PartialEq for Name<'_> {
+    ghost eq = { same_name };
+
+    ghost laws = { name_per };
+
+    fn eq(&self, other: &Self) -> bool {
+        self.cmp(other) == Ordering::Equal
+    }
+}
+
+impl Eq for Name<'_> {
+    ghost laws = { name_equiv };
+}
+
+impl PartialOrd for Name<'_> {
+    ghost partial_cmp = { λ a b. Some (name_cmp a b) };
+
+    ghost laws = { name_po };
+
+    fn partial_cmp(&self, other: &Self) -> Option<Ordering> {
+        Some(self.cmp(other))
+    }
+}
+
+impl Ord for Name<'_> {
+    ghost cmp = { name_cmp };
+
+    ghost total = { name_total };
+
+    ghost matches_partial_cmp = { λ a b. refl };
+
+    ghost matches_eq = { λ a b. refl };
+
+    fn cmp(&self, other: &Self) -> Ordering {
+        match (self, other) {
+            (Name::Whole(a), Name::Whole(b)) => a.cmp(b),
+            (Name::Whole(_), Name::Word(_)) => Ordering::Less,
+            (Name::Word(_), Name::Whole(_)) => Ordering::Greater,
+            (Name::Word(a), Name::Word(b)) => a.cmp(b),
+        }
+    }
+}
+
+/// The name that a value is, where it is a whole number or a text.
+pub fn name_of(value: &Value) -> Option<Name<'_>>
+    ensures { option_map label_from result ≡ label_of (view value.now) }
+{
+    match value {
+        Value::Number(number) => match number.as_i128() {
+            Some(whole) => Some(Name::Whole(whole)),
+            None => None,
+        },
+        Value::String(text) => Some(Name::Word(text.as_str())),
+        _ => None,
+    }
+}
+
+/// The name at a key of an object.
+pub fn name_at<'v>(object: &'v Value, key: &str) -> Option<Name<'v>>
+    ensures { option_map label_from result ≡ label_in key.now (view object.now) }
+{
+    match object.get(key) {
+        Some(value) => name_of(value),
+        None => None,
+    }
+}
+
+/// Why there is no name for each of several objects.
+#[derive(Clone, Copy, Debug, PartialEq, Eq)]
+pub enum Unnamed {
+    At(u32),
+    Memory,
+}
+
+/// The names at a key of each of the objects, or the place of the first that has none.
+pub fn names_at<'v>(alloc: Global, objects: &'v [Value], key: &str) -> Result<Vec<Name<'v>>, Unnamed>
+    requires { length objects.now ≤ 100000 }
+    ensures { MatchResult result (λ names. (first_unnamed key.now (views objects.now) ≡ None) × AreLabels key.now (views objects.now) (labels_from names.items))
+        (λ why. Tells why (first_unnamed key.now (views objects.now))) }
+{
+    let mut names = Vec::new(alloc);
+    for i in 0..objects.len() {
+        let Some(name) = name_at(&objects[i], key) else {
+            return Err(Unnamed::At(i as u32));
+        };
+        let Ok(()) = names.push(name) else {
+            return Err(Unnamed::Memory);
+        };
+    }
+    Ok(names)
+}

@@ -1,0 +1,156 @@
+//! Reading a graph.
+
+ghost use Rattle.std.specs.Prelude.{◌≡◌, ◌≤◌, ◌⊎◌, true, None, Some, Ok, Err, cond, length, codes, IfOk, MatchResult};
+ghost use Rattle.std.specs.Str.{is_utf8};
+ghost use Rattle.serde_json.specs.Read.{read};
+ghost use Rattle.serde_json.specs.View.{view};
+ghost use Rattle.audit_model.specs.declared.fault.GraphFault.TheVariants as fault;
+ghost use Rattle.audit_model.specs.Graph.{IsGraph, count_edges};
+ghost use Rattle.audit_model.specs.Limits.{AreWithin};
+ghost use Rattle.dual_graph.specs.Read.{parsed_of};
+ghost use Rattle.graph_definitions.specs.Reading.{graph, parsed, reading, refusal};
+ghost use Rattle.dual_json.specs.Districts.{count_fault, different_count};
+ghost use Rattle.dual_json.specs.Places.{labels_from, repeated, AreLabels};
+ghost use Rattle.dual_json.specs.Shape.{views, document_of};
+ghost use Rattle.dual_json.specs.Stages.{ids_fault, graph_fault, labels_fault, AreRows};
+
+use crate::columns::{check_columns, check_numbers, counts_of};
+use crate::districts::{check_count, different, labels_of, start_of};
+use crate::edges::{check_entries, graph_of};
+use crate::index::Index;
+use crate::names::{names_at, Name, Unnamed};
+use crate::shape::{check_frame, parts_of, Parts};
+use audit_model::fault::GraphFault;
+use audit_model::lists::{LabelList, UnitList};
+use audit_model::outcome::Counts;
+use audit_model::setting::Columns;
+use dual_graph::graph::Graph;
+use dual_graph::parsed::Parsed;
+use serde_json::error::Category;
+use serde_json::Value;
+use std::alloc::Global;
+
+/// The value of a text.
+fn value_of(alloc: Global, bytes: &[u8]) -> Result<Value, GraphFault>
+    ensures { MatchResult result (λ root. cond (is_utf8 bytes.now) (read bytes.now) None ≡ Some (view root))
+        (λ f. (f ≡ fault.Memory) ⊎ ((f ≡ fault.NotJson) × (cond (is_utf8 bytes.now) (read bytes.now) None ≡ None))) }
+{
+    match Value::from_slice(alloc, bytes) {
+        Ok(value) => Ok(value),
+        Err(error) => match error.classify() {
+            Category::Memory => Err(GraphFault::Memory),
+            _ => Err(GraphFault::NotJson),
+        },
+    }
+}
+
+/// The ids of the nodes.
+fn ids_of<'v>(alloc: Global, nodes: &'v [Value]) -> Result<Index<'v>, GraphFault>
+    requires { length nodes.now ≤ 100000 }
+    ensures { MatchResult result (λ index. (ids_fault (views nodes.now) ≡ None) × AreLabels (codes "id") (views nodes.now) index × (repeated index ≡ None))
+        (λ f. (f ≡ fault.Memory) ⊎ (ids_fault (views nodes.now) ≡ Some f)) }
+{
+    match names_at(alloc, nodes, "id") {
+        Ok(names) => Index::of(alloc, names),
+        Err(Unnamed::At(node)) => Err(GraphFault::BadId(node)),
+        Err(Unnamed::Memory) => Err(GraphFault::Memory),
+    }
+}
+
+/// The graph of the parts.
+fn graph_in(alloc: Global, parts: &Parts<'_>) -> Result<Graph, GraphFault>
+    ensures { MatchResult result
+        (λ g. (graph_fault (document_of parts.now) ≡ None) × (graph (document_of parts.now) ≡ g) × (length parts.now.nodes.now ≤ 100000) × IsGraph g × (count_edges g (λ u v. true) ≤ 400000))
+        (λ f. (f ≡ fault.Memory) ⊎ (graph_fault (document_of parts.now) ≡ Some f)) }
+{
+    check_frame(parts)?;
+    let index = ids_of(alloc, parts.nodes)?;
+    check_entries(parts.adjacency)?;
+    graph_of(alloc, parts.nodes.len() as u32, parts.adjacency, &index)
+}
+
+/// What is read of the columns.
+#[derive(Drop)]
+struct Rows {
+    counts: Counts,
+    start: UnitList,
+    labels: LabelList,
+}
+
+/// The label of each node's district, where all columns are there and all numbers are good.
+fn names_in<'v>(
+    alloc: Global,
+    nodes: &'v [Value],
+    columns: &Columns,
+) -> Result<Vec<Name<'v>>, GraphFault>
+    requires { length nodes.now ≤ 100000 }
+    ensures { MatchResult result
+        (λ names. (labels_fault columns.now (views nodes.now) ≡ None) × AreLabels columns.now.district (views nodes.now) (labels_from names.items))
+        (λ f. (f ≡ fault.Memory) ⊎ (labels_fault columns.now (views nodes.now) ≡ Some f)) }
+{
+    check_columns(nodes, columns)?;
+    check_numbers(nodes, columns)?;
+    match names_at(alloc, nodes, columns.district.as_str()) {
+        Ok(names) => Ok(names),
+        Err(Unnamed::At(node)) => Err(GraphFault::BadLabel(node)),
+        Err(Unnamed::Memory) => Err(GraphFault::Memory),
+    }
+}
+
+/// The districts of the nodes with these labels.
+fn rows_of<'v>(
+    alloc: Global,
+    nodes: &[Value],
+    columns: &Columns,
+    names: &[Name<'v>],
+) -> Result<Rows, GraphFault>
+    requires few { length names.now ≤ 100000 }
+    requires labels { AreLabels columns.now.district (views nodes.now) (labels_from names.now) }
+    ensures { MatchResult result
+        (λ rows. (count_fault (different_count (labels_from names.now)) ≡ None) × AreRows columns.now (views nodes.now) rows.counts rows.start rows.labels)
+        (λ f. (f ≡ fault.Memory) ⊎ (count_fault (different_count (labels_from names.now)) ≡ Some f)) }
+{
+    let found = different(alloc, names)?;
+    let start = start_of(alloc, names, &found)?;
+    check_count(found.len())?;
+    let counts = counts_of(alloc, nodes, columns)?;
+    let labels = labels_of(alloc, &found)?;
+    Ok(Rows {
+        counts,
+        start,
+        labels,
+    })
+}
+
+/// What is read of the parts.
+fn read_parts(alloc: Global, parts: &Parts<'_>, columns: &Columns) -> Result<Parsed, GraphFault>
+    ensures read { MatchResult result
+        (λ p. (refusal (document_of parts.now) columns.now ≡ None) × (parsed (document_of parts.now) columns.now ≡ parsed_of p))
+        (λ f. (f ≡ fault.Memory) ⊎ (refusal (document_of parts.now) columns.now ≡ Some f)) }
+    ensures within { IfOk result (λ p. AreWithin p.graph p.counts p.start (length p.labels)) }
+{
+    let graph = graph_in(alloc, parts)?;
+    let names = names_in(alloc, parts.nodes, columns)?;
+    let rows = rows_of(alloc, parts.nodes, columns, &names)?;
+    Ok(Parsed {
+        graph,
+        counts: rows.counts,
+        start: rows.start,
+        labels: rows.labels,
+    })
+}
+
+/// The graph of a text, its counts, its start plan and its labels, or the first reason to refuse it.
+///
+/// The text is networkx's adjacency data. The refusals are tested in the order of the variants of [`GraphFault`], each over the whole text, and the least place is given.
+pub fn read_graph(alloc: Global, bytes: &[u8], cols: &Columns) -> Result<Parsed, GraphFault>
+    ensures read { MatchResult result (λ p. reading bytes.now cols.now ≡ Ok (parsed_of p))
+        (λ f. (f ≡ fault.Memory) ⊎ (reading bytes.now cols.now ≡ Err f)) }
+    ensures within { IfOk result (λ p. AreWithin p.graph p.counts p.start (length p.labels)) }
+{
+    let root = value_of(alloc, bytes)?;
+    match parts_of(&root) {
+        Ok(parts) => read_parts(alloc, &parts, cols),
+        Err(part) => Err(GraphFault::BadShape(part)),
+    }
+}

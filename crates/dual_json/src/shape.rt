@@ -1,0 +1,116 @@
+//! The parts of the root of a graph's text.
+
+ghost use Rattle.std.specs.Prelude.{◌≡◌, ◌<◌, ◌≤◌, true, false, None, Some, [], length, map, codes, is_some, option_map, option_and_then, unwrap_or, MatchOption, MatchResult};
+ghost use Rattle.std.specs.List.{list_all, slice_index_or};
+ghost use Rattle.serde_json.specs.Find.{get, as_bool};
+ghost use Rattle.serde_json.specs.View.{view};
+ghost use Rattle.graph_definitions.specs.Reading.{bad_part, document, is_no_flag, list_at as list_in, list_of};
+ghost use Rattle.dual_json.specs.Shape.{views, lists_in, document_of, frame_fault};
+
+use audit_model::fault::{GraphFault, Part};
+use serde_json::Value;
+
+/// What is read of the root: its nodes, the list of neighbours of each, and whether the graph is directed.
+#[derive(Clone, Copy)]
+pub struct Parts<'v> {
+    pub nodes: &'v [Value],
+    pub adjacency: &'v [Value],
+    pub directed: bool,
+}
+
+/// The elements of the list at a key.
+fn list_at<'v>(root: &'v Value, key: &str) -> Option<&'v [Value]>
+    ensures { option_map (λ s. views s.now) result ≡ list_in key.now (view root.now) }
+{
+    match root.get(key) {
+        Some(value) => match value.as_array() {
+            Some(list) => Some(list.as_slice()),
+            None => None,
+        },
+        None => None,
+    }
+}
+
+/// Whether each value is a list.
+fn are_lists(values: &[Value]) -> bool
+    ensures { result ≡ list_all (λ d. is_some (list_of d)) (views values.now) }
+{
+    for value in values {
+        if !value.is_array() {
+            return false;
+        }
+    }
+    true
+}
+
+/// The truth value at a key, false where there is no such key; none where there is another value.
+fn flag_at(root: &Value, key: &str) -> Option<bool>
+    ensures { MatchOption result (is_no_flag key.now (view root.now) ≡ true)
+        (λ flag. (is_no_flag key.now (view root.now) ≡ false) × (unwrap_or (option_and_then as_bool (get key.now (view root.now))) false ≡ flag)) }
+{
+    match root.get(key) {
+        Some(value) => value.as_bool(),
+        None => Some(false),
+    }
+}
+
+/// The parts, or the first of them that has not its shape.
+pub fn parts_of(root: &Value) -> Result<Parts<'_>, Part>
+    ensures { MatchResult result (λ parts. (bad_part (view root.now) ≡ None) × (document (view root.now) ≡ document_of parts))
+        (λ part. bad_part (view root.now) ≡ Some part) }
+{
+    if !root.is_object() {
+        return Err(Part::Root);
+    }
+    let Some(nodes) = list_at(root, "nodes") else {
+        return Err(Part::Nodes);
+    };
+    let Some(adjacency) = list_at(root, "adjacency") else {
+        return Err(Part::Adjacency);
+    };
+    if !are_lists(adjacency) {
+        return Err(Part::Adjacency);
+    }
+    let Some(directed) = flag_at(root, "directed") else {
+        return Err(Part::Directed);
+    };
+    if flag_at(root, "multigraph").is_none() {
+        return Err(Part::Multigraph);
+    }
+    Ok(Parts {
+        nodes,
+        adjacency,
+        directed,
+    })
+}
+
+/// Whether the graph is directed, its two lists differ in length, or there are too many units.
+pub fn check_frame(parts: &Parts<'_>) -> Result<(), GraphFault>
+    ensures { MatchResult result (λ _. (frame_fault parts.now.directed (length parts.now.nodes.now) (length parts.now.adjacency.now) ≡ None)
+            × (length parts.now.nodes.now ≡ length parts.now.adjacency.now) × (length parts.now.nodes.now ≤ 100000))
+        (λ f. frame_fault parts.now.directed (length parts.now.nodes.now) (length parts.now.adjacency.now) ≡ Some f) }
+{
+    let nodes = parts.nodes.len() as u64;
+    let adjacency = parts.adjacency.len() as u64;
+    if parts.directed {
+        return Err(GraphFault::Directed);
+    }
+    if nodes != adjacency {
+        return Err(GraphFault::LengthsDiffer { nodes, adjacency });
+    }
+    if nodes > 100000 {
+        return Err(GraphFault::TooManyUnits(nodes));
+    }
+    Ok(())
+}
+
+/// The entries of the neighbours of a node.
+pub fn entries_of<'v>(adjacency: &'v [Value], node: usize) -> &'v [Value]
+    requires { node < length adjacency.now }
+    ensures { views result.now ≡ slice_index_or (lists_in adjacency.now) node [] }
+{
+    match adjacency[node].as_array() {
+        Some(list) => list.as_slice(),
+        None => &[],
+    }
+}

@@ -1,0 +1,56 @@
+-- What a walk found is the outcome of its id.
+use Rattle.std.proofs.Common.{◌≡◌, ℕ, ◌+◌, ◌-◌, ◌*◌, List, [], ◌∷◌, get_or, map, pos, ℤ, refl, sym, ap, ◌∙◌}
+use Rattle.audit_model.specs.declared.outcome.Outcome.{Outcome}
+use Rattle.audit_model.specs.declared.setting.Ask.{Ask}
+use Rattle.audit_model.specs.Job.{Job}
+use Rattle.audit_model.specs.Trajectory.{Draws, visit, hub, plan_value, moves, visits_in_tail, four_values, walk_outcome, end_outcome}
+use Rattle.flip_kernel.specs.Held.{Held}
+use Rattle.walker.specs.Asked.{each, asked_value, is_inside, visits_inside}
+use Rattle.walker.proofs.Asking.{each_is_four}
+
+values_are_four : (job : Job) (plan : List ℕ) (asks : List Ask)
+    → four_values (map (λ ask. plan_value job plan ask.score) asks) ≡ each (asked_value job plan) asks
+unfolding asked_value
+values_are_four job plan asks = each_is_four (asked_value job plan) asks refl
+
+counts_are_four : (job : Job) (draws : ℕ → ℕ) (asks : List Ask)
+    → four_values (map (λ ask. pos (visits_in_tail job draws ask)) asks) ≡ each (λ o. pos (visits_inside job draws (job.setting.steps + 1) o)) asks
+unfolding visits_inside is_inside
+counts_are_four job draws asks = each_is_four (λ o. pos (visits_inside job draws (job.setting.steps + 1) o)) asks refl
+
+-- the outcome of these parts
+abbrev found : ℕ → ℕ → List ℤ → Outcome
+found id moved values = record { id = id; moved = moved; values = values }
+
+-- the counts with a sign
+abbrev four_signed : List ℕ → List ℤ
+four_signed counts = pos (get_or counts 0 0) ∷ pos (get_or counts 1 0) ∷ pos (get_or counts 2 0) ∷ pos (get_or counts 3 0) ∷ []
+
+pub walk_found : (job : Job) (draws : Draws) (id stream moved : ℕ) (counts : List ℕ) (values : List ℤ) → stream ≡ 2 * id
+    → moved ≡ moves job (draws stream) job.start job.setting.steps
+    → counts ≡ each (visits_inside job (draws stream) (job.setting.steps + 1)) job.setting.asks → values ≡ four_signed counts
+    → found id moved values ≡ walk_outcome job draws id
+walk_found job draws id stream moved counts values s m c v =
+    ap (λ (n : ℕ). found id n values) (m ∙ ap (λ (t : ℕ). moves job (draws t) job.start job.setting.steps) s)
+    ∙ ap (λ (xs : List ℤ). found id (moves job (draws (2 * id)) job.start job.setting.steps) xs)
+    (v ∙ ap four_signed c
+    ∙ ap (λ (t : ℕ). each (λ o. pos (visits_inside job (draws t) (job.setting.steps + 1) o)) job.setting.asks) s
+    ∙ sym (counts_are_four job (draws (2 * id)) job.setting.asks))
+
+pub end_found : (job : Job) (draws : Draws) (id stream moved : ℕ) (from : List ℕ) (state : Held) (asks : List Ask) (values : List ℤ)
+    → stream ≡ 2 * (id - job.setting.walks) + 3 → from ≡ hub job draws
+    → moved ≡ moves job (draws stream) from job.setting.hub_steps → state.job ≡ job
+    → state.plan ≡ visit job (draws stream) from job.setting.hub_steps → asks ≡ job.setting.asks
+    → values ≡ each (asked_value state.job state.plan) asks
+    → found id moved values ≡ end_outcome job draws id
+end_found job draws id stream moved from state asks values s h m made p a v =
+    let steps = job.setting.hub_steps in
+    let own = 2 * (id - job.setting.walks) + 3 in
+    ap (λ (n : ℕ). found id n values)
+    (m ∙ ap (λ (t : ℕ). moves job (draws t) from steps) s ∙ ap (λ (q : List ℕ). moves job (draws own) q steps) h)
+    ∙ ap (λ (xs : List ℤ). found id (moves job (draws own) (hub job draws) steps) xs)
+    (v ∙ ap (λ (j : Job). each (asked_value j state.plan) asks) made ∙ ap (λ (q : List ℕ). each (asked_value job q) asks) p
+    ∙ ap (λ (t : ℕ). each (asked_value job (visit job (draws t) from steps)) asks) s
+    ∙ ap (λ (q : List ℕ). each (asked_value job (visit job (draws own) q steps)) asks) h
+    ∙ ap (λ (xs : List Ask). each (asked_value job (visit job (draws own) (hub job draws) steps)) xs) a
+    ∙ sym (values_are_four job (visit job (draws own) (hub job draws) steps) job.setting.asks))

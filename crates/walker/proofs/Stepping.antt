@@ -1,0 +1,118 @@
+-- What a walk has come to, one step more.
+use Rattle.std.proofs.Common.{◌≡◌, ℕ, zero, suc, ◌+◌, ◌≤◌, Bool, true, false, cond, not, List, refl, sym, ap, ◌∙◌, inl, inr, arith, add-one}
+use Rattle.std.specs.Prelude.{bytes_eq}
+use Rattle.std.proofs.lemmas.Bool.{cases_Bool, cond-true, cond-false}
+use Rattle.audit_model.specs.Below.{count_below}
+use Rattle.audit_model.specs.Job.{Job}
+use Rattle.audit_model.specs.Step.{next}
+use Rattle.audit_model.specs.Trajectory.{visit, moves}
+use Rattle.draw_definitions.specs.Draw.{draw}
+use mir.Val.{bool_byte}
+use Rattle.chacha_draws.specs.Place.{Place}
+use Rattle.flip_kernel.specs.Held.{Held}
+
+pub count_below_le : (n : ℕ) (test : ℕ → Bool) → count_below n test ≤ n
+unfolding count_below
+count_below_le zero test = omega arith
+count_below_le (suc n) test = elim (cases_Bool (test n)) [
+  | inl e ↦ omega (arith, count_below_le n test, cond-true {A = ℕ} (test n) 1 0 e)
+  | inr e ↦ omega (arith, count_below_le n test, cond-false {A = ℕ} (test n) 1 0 e)
+]
+
+pub count_below_more : (n : ℕ) (test : ℕ → Bool) → count_below (n + 1) test ≡ count_below n test + cond (test n) 1 0
+unfolding count_below
+count_below_more n test = rw (add-one n) refl
+
+module _ (job : Job) (draws : ℕ → ℕ) (plan : List ℕ) where
+  visit_none : visit job draws plan 0 ≡ plan
+  unfolding visit
+  visit_none = refl
+
+  visit_more : (i : ℕ) → visit job draws plan (i + 1) ≡ next job (visit job draws plan i) (draws i)
+  unfolding visit
+  visit_more i = rw (add-one i) refl
+
+  moves_none : moves job draws plan 0 ≡ 0
+  unfolding count_below
+  moves_none = refl
+
+  moves_le : (i : ℕ) → moves job draws plan i ≤ i
+  moves_le i = count_below_le i (λ k. not (bytes_eq (visit job draws plan k) (visit job draws plan (suc k))))
+
+  moves_more : (i : ℕ)
+      → moves job draws plan (i + 1) ≡ moves job draws plan i + cond (not (bytes_eq (visit job draws plan i) (visit job draws plan (i + 1)))) 1 0
+  moves_more i =
+      count_below_more i (λ k. not (bytes_eq (visit job draws plan k) (visit job draws plan (suc k))))
+      ∙ ap (λ (k : ℕ). moves job draws plan i + cond {A = ℕ} (not (bytes_eq (visit job draws plan i) (visit job draws plan k))) 1 0) (sym (add-one i))
+
+-- after this many steps from the plan along the stream
+pub record IsWalked (job : Job) (key : List ℕ) (stream : ℕ) (plan : List ℕ) (steps : ℕ) (state : Held) (draws : Place) (moved : ℕ) : Type 0 where
+  pub made : state.job ≡ job
+  pub visited : state.plan ≡ visit job (draw key stream) plan steps
+  pub same_key : draws.key ≡ key
+  pub same_stream : draws.stream ≡ stream
+  pub same_place : draws.place ≡ steps
+  pub counted : moved ≡ moves job (draw key stream) plan steps
+
+pub walked_none : (job : Job) (key : List ℕ) (stream : ℕ) (plan : List ℕ) (state : Held) (draws : Place) → state.job ≡ job → state.plan ≡ plan
+    → draws.key ≡ key → draws.stream ≡ stream → draws.place ≡ 0 → IsWalked job key stream plan 0 state draws 0
+walked_none job key stream plan state draws made at k s first = record {
+  made = made;
+  visited = at ∙ sym (visit_none job (draw key stream) plan);
+  same_key = k;
+  same_stream = s;
+  same_place = first;
+  counted = sym (moves_none job (draw key stream) plan);
+}
+
+-- a truth value as a number
+pub byte_cond : (b : Bool) → bool_byte b ≡ cond b 1 0
+byte_cond true = refl
+byte_cond false = refl
+
+pub byte_le : (b : Bool) → bool_byte b ≤ 1
+byte_le true = omega arith
+byte_le false = omega arith
+
+module _ (job : Job) (key : List ℕ) (stream : ℕ) (plan : List ℕ) (steps : ℕ) (state : Held) (draws : Place) (moved : ℕ)
+    (walked : IsWalked job key stream plan steps state draws moved) where
+  pub walked_small : moved ≤ steps
+  walked_small = omega (arith, walked.counted, moves_le job (draw key stream) plan steps)
+
+  -- where these were all steps
+  module _ (all : ℕ) (e : steps ≡ all) where
+    pub walked_state : (old : Held) → old.job ≡ job → state ≡ record { job = old.job; plan = visit job (draw key stream) plan all }
+    walked_state old same =
+        ap (λ (j : Job). (let h : Held = record { job = j; plan = state.plan } in h)) (walked.made ∙ sym same)
+        ∙ ap (λ (p : List ℕ). (let h : Held = record { job = old.job; plan = p } in h)) (walked.visited ∙ ap (λ (n : ℕ). visit job (draw key stream) plan n) e)
+
+    pub walked_moves : moved ≡ moves job (draw key stream) plan all
+    walked_moves = walked.counted ∙ ap (λ (n : ℕ). moves job (draw key stream) plan n) e
+
+  module _ (after : Held) (later : Place)
+      (stepped : after ≡ record { job = state.job; plan = next job state.plan (draw draws.key draws.stream draws.place) })
+      (drawn : later ≡ record { key = draws.key; stream = draws.stream; place = draws.place + 1 }) where
+    visited_more : after.plan ≡ visit job (draw key stream) plan (steps + 1)
+    visited_more =
+        ap (λ (h : Held). h.plan) stepped
+        ∙ ap (λ (k : List ℕ). next job state.plan (draw k draws.stream draws.place)) walked.same_key
+        ∙ ap (λ (s : ℕ). next job state.plan (draw key s draws.place)) walked.same_stream
+        ∙ ap (λ (p : ℕ). next job state.plan (draw key stream p)) walked.same_place
+        ∙ ap (λ (p : List ℕ). next job p (draw key stream steps)) walked.visited
+        ∙ sym (visit_more job (draw key stream) plan steps)
+
+    pub walked_more : (more : ℕ) (changed : Bool) → changed ≡ not (bytes_eq state.plan after.plan) → more ≡ moved + cond changed 1 0
+        → IsWalked job key stream plan (steps + 1) after later more
+    walked_more more changed is added = record {
+      made = ap (λ (h : Held). h.job) stepped ∙ walked.made;
+      visited = visited_more;
+      same_key = ap (λ (p : Place). p.key) drawn ∙ walked.same_key;
+      same_stream = ap (λ (p : Place). p.stream) drawn ∙ walked.same_stream;
+      same_place = ap (λ (p : Place). p.place) drawn ∙ ap (λ (n : ℕ). n + 1) walked.same_place;
+      counted =
+          added ∙ ap (λ (b : Bool). moved + cond {A = ℕ} b 1 0) is
+          ∙ ap (λ (p : List ℕ). moved + cond {A = ℕ} (not (bytes_eq p after.plan)) 1 0) walked.visited
+          ∙ ap (λ (p : List ℕ). moved + cond {A = ℕ} (not (bytes_eq (visit job (draw key stream) plan steps) p)) 1 0) visited_more
+          ∙ ap (λ (n : ℕ). n + cond {A = ℕ} (not (bytes_eq (visit job (draw key stream) plan steps) (visit job (draw key stream) plan (steps + 1)))) 1 0) walked.counted
+          ∙ sym (moves_more job (draw key stream) plan steps);
+    }

@@ -1,0 +1,140 @@
+//! What is kept for each ask of a job, in four places, of which those past the asks are zeros.
+
+ghost use Rattle.std.specs.Prelude.{◌≡◌, ◌+◌, ◌<◌, ◌^◌, ◌∷◌, [], length, slice_index, ℕ, pos};
+ghost use Rattle.std.specs.List.{slice_get};
+ghost use Rattle.audit_model.specs.JobOf.{IsJob};
+ghost use Rattle.audit_model.specs.Trajectory.{plan_value};
+ghost use Rattle.walker.specs.Asked.{each, asked_value, inside};
+
+use audit_model::setting::{Ask, Score};
+use flip_kernel::state::State;
+use outlier_tests::in_tail;
+use scores::value;
+
+/// For each ask the start plan's value, one where the held plan is in its tail, and a count of plans.
+#[derive(Drop)]
+pub struct Tally {
+    pub start: [i64; 4],
+    pub inside: [u32; 4],
+    pub counts: [u32; 4],
+}
+
+/// The numerator of a score of the held plan.
+fn held_value(state: &State, score: Score, room: &mut [u64]) -> i64
+    requires sound { IsJob state.now.job }
+    requires room { length room.old ≡ 200 }
+    ensures { result ≡ plan_value state.now.job state.now.plan score }
+{
+    let _plan = state.plan();
+    value(score, state.view(), room)
+}
+
+/// The value of the ask at a place for the held plan.
+#[tactic(auto, unfolding(crate::specs::Asked::asked_value))]
+fn value_at(state: &State, asks: &[Ask], place: usize, room: &mut [u64]) -> i64
+    requires sound { IsJob state.now.job }
+    requires room { length room.old ≡ 200 }
+    ensures { result ≡ asked_value state.now.job state.now.plan (slice_get asks.now place) }
+{
+    match asks.get(place) {
+        None => 0,
+        Some(ask) => held_value(state, ask.score, room),
+    }
+}
+
+/// The value of each ask for the held plan.
+pub fn values(state: &State, asks: &[Ask], room: &mut [u64]) -> [i64; 4]
+    requires sound { IsJob state.now.job }
+    requires room { length room.old ≡ 200 }
+    ensures { result ≡ each (asked_value state.now.job state.now.plan) asks.now }
+{
+    [
+        value_at(state, asks, 0, room),
+        value_at(state, asks, 1, room),
+        value_at(state, asks, 2, room),
+        value_at(state, asks, 3, room),
+    ]
+}
+
+/// One where the held plan is in the tail of the ask at a place, by the start plan's value.
+#[tactic(auto, unfolding(crate::specs::Asked::asked_value, crate::specs::Asked::inside, crate::specs::Asked::is_inside))]
+fn inside_at(state: &State, asks: &[Ask], place: usize, start: i64, room: &mut [u64]) -> u32
+    requires sound { IsJob state.now.job }
+    requires room { length room.old ≡ 200 }
+    requires start { start ≡ asked_value state.now.job state.now.job.start (slice_get asks.now place) }
+    ensures { result ≡ inside state.now.job state.now.plan (slice_get asks.now place) }
+{
+    match asks.get(place) {
+        None => 0,
+        Some(ask) => u32::from(in_tail(ask.tail, held_value(state, ask.score, room), start)),
+    }
+}
+
+/// The same numbers with a sign.
+pub fn signed(counts: [u32; 4]) -> [i64; 4]
+    ensures { result ≡ (pos (slice_index counts 0) ∷ pos (slice_index counts 1) ∷ pos (slice_index counts 2) ∷ pos (slice_index counts 3) ∷ []) }
+{
+    [
+        i64::from(counts[0]),
+        i64::from(counts[1]),
+        i64::from(counts[2]),
+        i64::from(counts[3]),
+    ]
+}
+
+impl Tally {
+    /// The tally of the start plan, which is held, alone.
+    pub fn new(state: &State, asks: &[Ask], room: &mut [u64]) -> Tally
+        requires sound { IsJob state.now.job }
+        requires room { length room.old ≡ 200 }
+        requires start { state.now.plan ≡ state.now.job.start }
+        ensures start { result.start ≡ each (asked_value state.now.job state.now.job.start) asks.now }
+        ensures inside { result.inside ≡ each (inside state.now.job state.now.plan) asks.now }
+        ensures counts { result.counts ≡ result.inside }
+    {
+        let start = values(state, asks, room);
+        let mut tally = Tally {
+            start,
+            inside: [0; 4],
+            counts: [0; 4],
+        };
+        tally.renew(state, asks, room);
+        tally.counts = tally.inside;
+        tally
+    }
+
+    /// Tests the plan that is held now.
+    pub fn renew(&mut self, state: &State, asks: &[Ask], room: &mut [u64])
+        requires sound { IsJob state.now.job }
+        requires room { length room.old ≡ 200 }
+        requires start { self.old.start ≡ each (asked_value state.now.job state.now.job.start) asks.now }
+        ensures start { self.new.start ≡ self.old.start }
+        ensures inside { self.new.inside ≡ each (inside state.now.job state.now.plan) asks.now }
+        ensures counts { self.new.counts ≡ self.old.counts }
+    {
+        self.inside = [
+            inside_at(state, asks, 0, self.start[0], room),
+            inside_at(state, asks, 1, self.start[1], room),
+            inside_at(state, asks, 2, self.start[2], room),
+            inside_at(state, asks, 3, self.start[3], room),
+        ];
+    }
+
+    /// Counts the plan that was tested last.
+    #[inline]
+    pub fn count(&mut self)
+        requires { (k : ℕ) → k < 4 → slice_index self.old.counts k + slice_index self.old.inside k < 2 ^ 32 }
+        ensures start { self.new.start ≡ self.old.start }
+        ensures inside { self.new.inside ≡ self.old.inside }
+        ensures counts { self.new.counts
+            ≡ (slice_index self.old.counts 0 + slice_index self.old.inside 0) ∷ (slice_index self.old.counts 1 + slice_index self.old.inside 1)
+            ∷ (slice_index self.old.counts 2 + slice_index self.old.inside 2) ∷ (slice_index self.old.counts 3 + slice_index self.old.inside 3) ∷ [] }
+    {
+        self.counts = [
+            self.counts[0] + self.inside[0],
+            self.counts[1] + self.inside[1],
+            self.counts[2] + self.inside[2],
+            self.counts[3] + self.inside[3],
+        ];
+    }
+}

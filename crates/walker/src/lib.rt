@@ -1,0 +1,6 @@
+//! Trajectories of the chain of plans: what the outlier test and the parallel test find.
+#![tactic(auto)]
+
+mod asked;
+mod steps;
+pub mod walker;

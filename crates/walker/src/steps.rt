@@ -1,0 +1,109 @@
+//! Steps along one stream of draws.
+
+ghost use Rattle.std.specs.Prelude.{◌≡◌, ◌+◌, ◌*◌, ◌<◌, ◌≤◌, ◌^◌, ℕ, not, bytes_eq, length};
+ghost use Rattle.draw_definitions.specs.Draw.{draw};
+ghost use Rattle.audit_model.specs.JobOf.{IsJob};
+ghost use Rattle.audit_model.specs.Step.{next};
+ghost use Rattle.audit_model.specs.Trajectory.{visit, moves};
+ghost use Rattle.walker.specs.Asked.{each, asked_value, inside, visits_inside};
+
+use crate::asked::Tally;
+use audit_model::steps::Steps;
+use chacha_draws::Draws;
+use flip_kernel::flip::try_flip;
+use flip_kernel::state::State;
+use plan_core::job::Job;
+use std::sync::ledger::Ledger;
+
+/// Makes one step, and tells whether it changed the plan.
+#[inline]
+fn step<L: Ledger>(job: &Job, state: &mut State, draws: &mut Draws, counter: &mut Steps<L>) -> bool
+    requires made { state.old.job ≡ job.now }
+    requires place { draws.old.place < 2 ^ 32 }
+    ensures plan { state.new ≡ record state.old { plan = next job.now state.old.plan (draw draws.old.key draws.old.stream draws.old.place) } }
+    ensures moved { result ≡ not (bytes_eq state.old.plan state.new.plan) }
+    ensures draws { draws.new ≡ record draws.old { place = draws.old.place + 1 } }
+{
+    let draw = draws.next();
+    try_flip(job, state, draw, counter)
+}
+
+/// Makes one step, tests the plan where it changed, and tells whether it did.
+#[inline]
+fn visit_next<L: Ledger>(
+    job: &Job,
+    state: &mut State,
+    draws: &mut Draws,
+    tally: &mut Tally,
+    room: &mut [u64],
+    counter: &mut Steps<L>,
+) -> bool
+    requires made { state.old.job ≡ job.now }
+    requires place { draws.old.place < 2 ^ 32 }
+    requires sound { IsJob job.now }
+    requires room { length room.old ≡ 200 }
+    requires start { tally.old.start ≡ each (asked_value job.now job.now.start) job.now.setting.asks }
+    requires inside { tally.old.inside ≡ each (inside job.now state.old.plan) job.now.setting.asks }
+    ensures plan { state.new ≡ record state.old { plan = next job.now state.old.plan (draw draws.old.key draws.old.stream draws.old.place) } }
+    ensures moved { result ≡ not (bytes_eq state.old.plan state.new.plan) }
+    ensures draws { draws.new ≡ record draws.old { place = draws.old.place + 1 } }
+    ensures start { tally.new.start ≡ tally.old.start }
+    ensures inside { tally.new.inside ≡ each (inside job.now state.new.plan) job.now.setting.asks }
+    ensures counts { tally.new.counts ≡ tally.old.counts }
+{
+    let moved = step(job, state, draws, counter);
+    if moved {
+        tally.renew(state, job.setting().asks.as_slice(), room);
+    }
+    moved
+}
+
+/// Makes this many steps along a stream from its first draw on, and counts those that change the plan.
+pub fn walk<L: Ledger>(
+    job: &Job,
+    state: &mut State,
+    stream: u64,
+    steps: u32,
+    counter: &mut Steps<L>,
+) -> u32
+    requires made { state.old.job ≡ job.now }
+    ensures plan { state.new ≡ record state.old { plan = visit job.now (draw job.now.setting.key stream) state.old.plan steps } }
+    ensures moved { result ≡ moves job.now (draw job.now.setting.key stream) state.old.plan steps }
+{
+    let setting = job.setting();
+    let mut draws = Draws::new(setting.key, stream);
+    let mut moved = 0;
+    for place in 0..steps {
+        moved += u32::from(step(job, state, &mut draws, counter));
+    }
+    moved
+}
+
+/// Walks the outlier trajectory of a stream from the start plan, which is held. It answers how many steps
+/// changed the plan, and for each ask how many of the visited plans are in its tail, the start plan among
+/// them. Scores are computed only where the plan changed.
+pub fn count_visits<L: Ledger>(
+    job: &Job,
+    state: &mut State,
+    stream: u64,
+    room: &mut [u64],
+    counter: &mut Steps<L>,
+) -> (u32, [u32; 4])
+    requires made { state.old.job ≡ job.now }
+    requires start { state.old.plan ≡ job.now.start }
+    requires room { length room.old ≡ 200 }
+    ensures made { state.new.job ≡ job.now }
+    ensures moved { result.0 ≡ moves job.now (draw job.now.setting.key stream) job.now.start job.now.setting.steps }
+    ensures counts { result.1 ≡ each (visits_inside job.now (draw job.now.setting.key stream) (job.now.setting.steps + 1)) job.now.setting.asks }
+{
+    let _units = job.units();
+    let setting = job.setting();
+    let mut draws = Draws::new(setting.key, stream);
+    let mut tally = Tally::new(state, setting.asks.as_slice(), room);
+    let mut moved = 0;
+    for place in 0..setting.steps {
+        moved += u32::from(visit_next(job, state, &mut draws, &mut tally, room, counter));
+        tally.count();
+    }
+    (moved, tally.counts)
+}

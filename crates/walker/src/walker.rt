@@ -1,0 +1,152 @@
+//! The walker of a job.
+
+ghost use Rattle.std.specs.Prelude.{◌≡◌, ◌+◌, ◌-◌, ◌*◌, ◌<◌, ◌≤◌, length, IfOk};
+ghost use Rattle.draw_definitions.specs.Draw.{draw};
+ghost use Rattle.audit_model.specs.Plan.{IsLegal};
+ghost use Rattle.audit_model.specs.Trajectory.{hub as hub_of, outcome, walk_outcome, end_outcome};
+
+use crate::asked::{signed, values};
+use crate::steps::{count_visits, walk};
+use audit_model::lists::UnitList;
+use audit_model::memory::Memory;
+use audit_model::outcome::Outcome;
+use audit_model::steps::Steps;
+use flip_kernel::state::State;
+use plan_core::job::Job;
+use std::alloc::Global;
+use std::marker::{Brand, Model};
+use std::sync::ledger::{Blank, Ledger};
+
+/// What walks the trajectories of a job. It holds a plan that is legal for the job, and all memory that
+/// walking takes.
+#[derive(Drop)]
+pub struct Walker {
+    state: State,
+    room: [u64; 200],
+}
+
+impl Model for Walker {
+    ghost use Rattle.flip_kernel.specs.Held.{Held};
+
+    ghost Value = { Held };
+
+    ghost view = { λ w. w.state };
+}
+
+impl Walker {
+    /// A walker that holds the job's start plan.
+    pub fn new(alloc: Global, job: &Job) -> Result<Walker, Memory>
+        ensures job { IfOk result (λ w. w.job ≡ job.now) }
+        ensures plan { IfOk result (λ w. w.plan ≡ job.now.start) }
+    {
+        Ok(Walker {
+            state: State::new(alloc, job)?,
+            room: [0; 200],
+        })
+    }
+
+    /// The plan that is held.
+    pub fn plan(&self) -> &UnitList
+        ensures value { result.now ≡ self.now.plan }
+        ensures legal { IsLegal self.now.job self.now.plan }
+    {
+        self.state.plan()
+    }
+
+    /// Walks the trajectory with this id, and answers what it finds: one of the outlier test from the start
+    /// plan, or one of the parallel test from the hub, which is read for no other. It takes no memory.
+    pub fn walk(&mut self, job: &Job, hub: &[u32], id: u32) -> Outcome
+        requires made { self.old.job ≡ job.now }
+        requires id { id < job.now.setting.walks + job.now.setting.ends }
+        requires hub { job.now.setting.walks ≤ id → hub.now ≡ hub_of job.now (draw job.now.setting.key) }
+        ensures outcome { result ≡ outcome job.now (draw job.now.setting.key) id }
+        ensures made { self.new.job ≡ self.old.job }
+    {
+        self.walk_by::<Brand>(job, hub, id, Blank::new(1))
+    }
+
+    /// Writes the plan from which the trajectories of the parallel test start. It takes no memory.
+    pub fn hub_into(&mut self, job: &Job, hub: &mut [u32])
+        requires made { self.old.job ≡ job.now }
+        requires units { length hub.old ≡ job.now.graph.units }
+        ensures hub { hub.new ≡ hub_of job.now (draw job.now.setting.key) }
+        ensures made { self.new.job ≡ self.old.job }
+    {
+        self.walk_to_hub::<Brand>(job, Blank::new(1));
+        hub.copy_from_slice(self.state.plan().as_slice());
+    }
+
+    // The trajectory with this id, with a step counter of its own.
+    fn walk_by<L: Ledger>(&mut self, job: &Job, hub: &[u32], id: u32, blank: Blank) -> Outcome
+        requires name { blank.name ≡ L.name }
+        requires parts { blank.parts ≡ L.parts }
+        requires some { 0 < L.parts }
+        requires made { self.old.job ≡ job.now }
+        requires hub { job.now.setting.walks ≤ id → hub.now ≡ hub_of job.now (draw job.now.setting.key) }
+        ensures outcome { result ≡ outcome job.now (draw job.now.setting.key) id }
+        ensures made { self.new.job ≡ self.old.job }
+    {
+        let mut counter: Steps<L> = Steps::new(blank);
+        if id < job.setting().walks {
+            self.walk_from_start(job, id, &mut counter)
+        } else {
+            self.walk_from_hub(job, hub, id, &mut counter)
+        }
+    }
+
+    // A trajectory of the outlier test.
+    fn walk_from_start<L: Ledger>(&mut self, job: &Job, id: u32, counter: &mut Steps<L>) -> Outcome
+        requires made { self.old.job ≡ job.now }
+        ensures outcome { result ≡ walk_outcome job.now (draw job.now.setting.key) id }
+        ensures made { self.new.job ≡ self.old.job }
+    {
+        self.state.set(job, job.start().as_slice());
+        let stream = 2 * u64::from(id);
+        let (moved, counts) = count_visits(job, &mut self.state, stream, &mut self.room, counter);
+        Outcome {
+            id,
+            moved: u64::from(moved),
+            values: signed(counts),
+        }
+    }
+
+    // A trajectory of the parallel test.
+    fn walk_from_hub<L: Ledger>(
+        &mut self,
+        job: &Job,
+        hub: &[u32],
+        id: u32,
+        counter: &mut Steps<L>,
+    ) -> Outcome
+        requires made { self.old.job ≡ job.now }
+        requires id { job.now.setting.walks ≤ id }
+        requires hub { hub.now ≡ hub_of job.now (draw job.now.setting.key) }
+        ensures outcome { result ≡ end_outcome job.now (draw job.now.setting.key) id }
+        ensures made { self.new.job ≡ self.old.job }
+    {
+        let _units = job.units();
+        let setting = job.setting();
+        self.state.set(job, hub);
+        let stream = 2 * u64::from(id - setting.walks) + 3;
+        let moved = walk(job, &mut self.state, stream, setting.hub_steps, counter);
+        Outcome {
+            id,
+            moved: u64::from(moved),
+            values: values(&self.state, setting.asks.as_slice(), &mut self.room),
+        }
+    }
+
+    // Holds the hub afterwards.
+    fn walk_to_hub<L: Ledger>(&mut self, job: &Job, blank: Blank)
+        requires name { blank.name ≡ L.name }
+        requires parts { blank.parts ≡ L.parts }
+        requires some { 0 < L.parts }
+        requires made { self.old.job ≡ job.now }
+        ensures { self.new ≡ record self.old { plan = hub_of job.now (draw job.now.setting.key) } }
+    {
+        let mut counter: Steps<L> = Steps::new(blank);
+        self.state.set(job, job.start().as_slice());
+        let steps = job.setting().hub_steps;
+        walk(job, &mut self.state, 1, steps, &mut counter);
+    }
+}
