@@ -6,10 +6,9 @@ use audit_io::gate::FreeGate;
 use audit_io::std_adapters::{ReadSource, WriteSink};
 use audit_io::sure_keeper::SureKeeper;
 use audit_run::audit::audit;
-use std::env;
-use std::io;
 use std::process::ExitCode;
 use std::rt::Env;
+use std::{env, io};
 
 // The words after the program's own name.
 fn words_of<R: Env + AllocGlobal>(rt: &R) -> io::Result<Vec<String>> {

@@ -20,7 +20,7 @@ use audit_io::sink::Sink;
 use audit_io::source::Source;
 use audit_model::buffers::Bytes;
 use plan_core::job::Job;
-use report::check_text;
+use report::check::check_text;
 use std::alloc::Global;
 use std::sync::Wait;
 use std::thread::Threads;

@@ -6,6 +6,4 @@ pub mod ended;
 pub mod note;
 pub mod prepare;
 pub mod reading;
-#[cfg(test)]
-mod tests;
 pub mod writing;

@@ -56,9 +56,9 @@ module _ (nodes : List Data) (ids : List Label) (are : AreLabels (codes "id") no
       (λ j. fault.SameId (unwrap_or (first_below j (λ i. same_id (id_of (object_at nodes i)) (id_of (object_at nodes j)))) 0) j)
       (λ j. fault.SameId (unwrap_or (first_below j (λ i. same_label (nth ids i) (nth ids j))) 0) j)
       (λ j is.
-          let inside : j < length nodes = (first_passes (length nodes) test j is).0 in
-          ap (λ o. fault.SameId (unwrap_or o 0) j)
-          (first_below_same j (λ i. same_id (id_of (object_at nodes i)) (id_of (object_at nodes j))) (λ i. same_label (nth ids i) (nth ids j)) (λ i l. same_ids i j (omega (arith, l, inside)) inside)))
+      let inside : j < length nodes = (first_passes (length nodes) test j is).0 in
+      ap (λ o. fault.SameId (unwrap_or o 0) j)
+      (first_below_same j (λ i. same_id (id_of (object_at nodes i)) (id_of (object_at nodes j))) (λ i. same_label (nth ids i) (nth ids j)) (λ i l. same_ids i j (omega (arith, l, inside)) inside)))
       ∙ ap (option_map (λ j. fault.SameId (unwrap_or (first_below j (λ i. same_label (nth ids i) (nth ids j))) 0) j))
       (first_below_same (length nodes) test other (λ j inside. any_below_same j (λ i. same_id (id_of (object_at nodes i)) (id_of (object_at nodes j))) (λ i. same_label (nth ids i) (nth ids j))
       (λ i l. same_ids i j (omega (arith, l, inside)) inside))

@@ -113,8 +113,8 @@ module _ (labels found : List Label) (start : List ℕ) (are : AreDistricts labe
       let up = count_below_into (length labels) (length found) (λ j. is_new labels j && p (nth labels j)) (λ k. p (nth found k)) (λ j. get_or start j 0)
       (λ j l h. let parts = and_parts (is_new labels j) (p (nth labels j)) h in (are.inside j l, ap p (are.place j l) ∙ parts.1))
       (λ i j li lj hi hj same.
-          new_apart labels i j (and_parts (is_new labels i) (p (nth labels i)) hi).0 (and_parts (is_new labels j) (p (nth labels j)) hj).0
-          (sym (are.place i li) ∙ ap (nth found) same ∙ are.place j lj)) in
+      new_apart labels i j (and_parts (is_new labels i) (p (nth labels i)) hi).0 (and_parts (is_new labels j) (p (nth labels j)) hj).0
+      (sym (are.place i li) ∙ ap (nth found) same ∙ are.place j lj)) in
       let down = count_below_into (length found) (length labels) (λ k. p (nth found k)) (λ j. is_new labels j && p (nth labels j)) first_of
       (λ k l h. let one = first_is k l in (one.0, and_from (is_new labels (first_of k)) (p (nth labels (first_of k))) one.2 (ap p one.1 ∙ h)))
       (λ i j li lj hi hj same. found_apart i j li lj (sym (first_is i li).1 ∙ ap (nth labels) same ∙ (first_is j lj).1)) in
@@ -164,12 +164,12 @@ module _ (labels found : List Label) (start : List ℕ) (are : AreDistricts labe
       let f = λ (d : ℕ). unwrap_or (option_map (nth labels) (first_below (length labels) (λ i. district i == d))) (Word []) in
       ext_get_or (Word []) (map_below (length found) f) found (length-map_below (length found) f)
       (λ d l.
-          let inside : d < length found = omega (arith, l, length-map_below (length found) f) in
-          get_or-map_below (length found) f d (Word []) inside ∙ label_is district is d inside)
+      let inside : d < length found = omega (arith, l, length-map_below (length found) f) in
+      get_or-map_below (length found) f d (Word []) inside ∙ label_is district is d inside)
 
   pub start_is : (district : ℕ → ℕ) → ((i : ℕ) → i < length labels → district i ≡ get_or start i 0) → map_below (length labels) district ≡ start
   start_is district is =
       ext_get_or 0 (map_below (length labels) district) start (length-map_below (length labels) district ∙ sym are.count)
       (λ i l.
-          let inside : i < length labels = omega (arith, l, length-map_below (length labels) district) in
-          get_or-map_below (length labels) district i 0 inside ∙ is i inside)
+      let inside : i < length labels = omega (arith, l, length-map_below (length labels) district) in
+      get_or-map_below (length labels) district i 0 inside ∙ is i inside)

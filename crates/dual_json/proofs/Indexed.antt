@@ -68,13 +68,13 @@ module _ (labels : List Label) (j : ℕ) (places : BTreeMap Name ℕ) (key : Nam
         record {
           leads = λ q. one_more q ∙ ap (λ m. first_below m (λ i. same_label (label_from q) (nth labels i))) next;
           none = first_below_more j (λ k. any_below k (λ i. same_label (nth labels i) (nth labels k))) before.none
-          (any_from_none j (λ i. same_label (nth labels i) (nth labels j))
-          (sym (first_below_same j (λ i. same_label (label_from key) (nth labels i)) (λ i. same_label (nth labels i) (nth labels j)) (λ i under. turned i)) ∙ sym (before.leads key) ∙ absent));
+              (any_from_none j (λ i. same_label (nth labels i) (nth labels j))
+              (sym (first_below_same j (λ i. same_label (label_from key) (nth labels i)) (λ i. same_label (nth labels i) (nth labels j)) (λ i under. turned i)) ∙ sym (before.leads key) ∙ absent));
         }
 
 pub indexed_all : (labels : List Label) (j : ℕ) (places : BTreeMap Name ℕ) → j ≡ length labels → IsIndexed labels j places → (repeated labels ≡ None) × IsIndex labels places
 indexed_all labels j places all is = (
   ap (option_map (λ k. fault.SameId (unwrap_or (first_below k (λ i. same_label (nth labels i) (nth labels k))) 0) k))
-  (subst (λ (m : ℕ). first_below m (λ k. any_below k (λ i. same_label (nth labels i) (nth labels k))) ≡ None) all is.none),
+      (subst (λ (m : ℕ). first_below m (λ k. any_below k (λ i. same_label (nth labels i) (nth labels k))) ≡ None) all is.none),
   λ q. is.leads q ∙ ap (λ m. first_below m (λ i. same_label (label_from q) (nth labels i))) all,
 )

@@ -111,8 +111,8 @@ pub map_below-map : (codes : List ℕ) → map_below (length codes) (λ k. pair_
 map_below-map codes = ext_get_or (0, 0) (map_below (length codes) (λ k. pair_of (get_or codes k 0))) (map pair_of codes)
     (length-map_below (length codes) (λ k. pair_of (get_or codes k 0)) ∙ sym (length-map codes pair_of))
     (λ i l.
-        let inside : i < length codes = omega (arith, l, length-map_below (length codes) (λ k. pair_of (get_or codes k 0))) in
-        get_or-map_below (length codes) (λ k. pair_of (get_or codes k 0)) i (0, 0) inside ∙ sym (get_or-map pair_of codes i 0 (0, 0) inside))
+    let inside : i < length codes = omega (arith, l, length-map_below (length codes) (λ k. pair_of (get_or codes k 0))) in
+    get_or-map_below (length codes) (λ k. pair_of (get_or codes k 0)) i (0, 0) inside ∙ sym (get_or-map pair_of codes i 0 (0, 0) inside))
 
 pub pair_at-pairs_in : (codes : List ℕ) (k : ℕ) → k < length codes → pair_at (pairs_in codes) k ≡ pair_of (get_or codes k 0)
 pair_at-pairs_in codes k l = get_or-map pair_of codes k 0 (0, 0) l
@@ -224,11 +224,11 @@ graph_is g n joins is units from to =
     let long : length g.neighbours ≡ length (map_below n (λ u. filter_below n (joins u))) = is.width ∙ units ∙ sym (length-map_below n (λ u. filter_below n (joins u))) in
     let rows : g.neighbours ≡ map_below n (λ u. filter_below n (joins u)) = ext_get_or [] g.neighbours (map_below n (λ u. filter_below n (joins u))) long
     (λ u l.
-        let lu : u < n = omega (arith, l, is.width, units) in
-        rising_same (get_or g.neighbours u []) (filter_below n (joins u)) (is.rising u) (filter_rises n (joins u))
-        (λ v h. let lv : v < n = omega (arith, is.below u v h, units) in filter_below-has n (joins u) v lv (from u v h))
-        (λ v h. let found = has-filter_below n (joins u) v h in to u v lu found.0 found.1)
-        ∙ sym (get_or-map_below n (λ u. filter_below n (joins u)) u [] lu)) in
+    let lu : u < n = omega (arith, l, is.width, units) in
+    rising_same (get_or g.neighbours u []) (filter_below n (joins u)) (is.rising u) (filter_rises n (joins u))
+    (λ v h. let lv : v < n = omega (arith, is.below u v h, units) in filter_below-has n (joins u) v lv (from u v h))
+    (λ v h. let found = has-filter_below n (joins u) v h in to u v lu found.0 found.1)
+    ∙ sym (get_or-map_below n (λ u. filter_below n (joins u)) u [] lu)) in
     made units rows
   where
     made : g.units ≡ n → g.neighbours ≡ map_below n (λ u. filter_below n (joins u)) → g ≡ record { units = n; neighbours = map_below n (λ u. filter_below n (joins u)) }
@@ -269,11 +269,14 @@ module _ (ids : List Label) (lists : List (List Data)) (few : length ids ≤ 100
   joins_at u v x h either =
       let at = has_at codes x h in
       let inside : at.0 < length (pairs_in codes) = let under = at.1 in omega (arith, under, length-map codes pair_of) in
-      let is : pair_at (pairs_in codes) at.0 ≡ pair_of x = pair_at-pairs_in codes at.0 at.1 ∙ ap pair_of at.2 in
-      (at.0, inside, elim either [
-        | inl e ↦ inl (is ∙ pair_is (x / 100000) (x % 100000) u v e.0 e.1)
-        | inr e ↦ inr (is ∙ pair_is (x / 100000) (x % 100000) v u e.0 e.1)
-      ])
+      let is : pair_at (pairs_in codes) at.0 ≡ pair_of x = pair_at-pairs_in codes at.0 at.1 ∙ ap pair_of at.2 in (
+        at.0,
+        inside,
+        elim either [
+          | inl e ↦ inl (is ∙ pair_is (x / 100000) (x % 100000) u v e.0 e.1)
+          | inr e ↦ inr (is ∙ pair_is (x / 100000) (x % 100000) v u e.0 e.1)
+        ],
+      )
     where
       pair_is : (a b u v : ℕ) → a ≡ u → b ≡ v → ◌≡◌ {A = ℕ × ℕ} (a, b) (u, v)
       pair_is a b u v e f = ap (λ (t : ℕ). let q : ℕ × ℕ = (t, b) in q) e ∙ ap (λ (t : ℕ). let q : ℕ × ℕ = (u, t) in q) f
@@ -326,7 +329,8 @@ module _ (ids : List Label) (lists : List (List Data)) (few : length ids ≤ 100
             let b : found.1 ≡ v = sym e.1 ∙ ev in
             let lu = found.2 in
             let lv = found.3 in (
-              omega (arith, lu, a), omega (arith, lv, b),
+              omega (arith, lu, a),
+              omega (arith, lv, b),
               joined_up u v (λ bad. found.5 (b ∙ sym bad ∙ sym a)) (inl (subst (λ (m : ℕ). names_node ids (entries_at lists u) m ≡ true) b (subst (λ (m : ℕ). names_node ids (entries_at lists m) found.1 ≡ true) a found.4))),
             )
         | inr e ↦
@@ -334,7 +338,8 @@ module _ (ids : List Label) (lists : List (List Data)) (few : length ids ≤ 100
             let b : found.0 ≡ v = sym e.1 ∙ ev in
             let lv = found.2 in
             let lu = found.3 in (
-              omega (arith, lu, a), omega (arith, lv, b),
+              omega (arith, lu, a),
+              omega (arith, lv, b),
               joined_up u v (λ bad. found.5 (a ∙ bad ∙ sym b)) (inr (subst (λ (m : ℕ). names_node ids (entries_at lists v) m ≡ true) a (subst (λ (m : ℕ). names_node ids (entries_at lists m) found.1 ≡ true) b found.4))),
             )
       ]

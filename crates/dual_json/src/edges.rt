@@ -103,7 +103,7 @@ fn codes_of<'v>(
     requires { length adjacency.now ≤ 100000 }
     ensures { MatchResult result
         (λ codes. (first_entry_in (is_unknown index.now) UnknownNeighbour (lists_in adjacency.now) ≡ None)
-            × AreCodes index.now (lists_in adjacency.now) (length (lists_in adjacency.now)) codes.items)
+        × AreCodes index.now (lists_in adjacency.now) (length (lists_in adjacency.now)) codes.items)
         (λ f. (f ≡ Memory) ⊎ (first_entry_in (is_unknown index.now) UnknownNeighbour (lists_in adjacency.now) ≡ Some f)) }
 {
     let mut codes = Vec::new(alloc);

@@ -5,7 +5,7 @@ ghost use Rattle.serde_json.specs.View.{view};
 ghost use Rattle.audit_model.specs.declared.fault.GraphFault.TheVariants.{Memory};
 ghost use Rattle.dual_json.specs.Places.{labels_from, repeated, place_of, IsIndex};
 
-use crate::names::{name_at, Name};
+use crate::names::{Name, name_at};
 use audit_model::fault::GraphFault;
 use serde_json::Value;
 use std::alloc::Global;
@@ -32,10 +32,7 @@ impl<'v> Model for Index<'v> {
 }
 
 /// The place of each name, or the first name that an earlier place has too.
-fn places_of<'v>(
-    alloc: Global,
-    names: &[Name<'v>],
-) -> Result<BTreeMap<Name<'v>, u32>, GraphFault>
+fn places_of<'v>(alloc: Global, names: &[Name<'v>]) -> Result<BTreeMap<Name<'v>, u32>, GraphFault>
     requires { length names.now ≤ 100000 }
     ensures { MatchResult result (λ places. (repeated (labels_from names.now) ≡ None) × IsIndex (labels_from names.now) places)
         (λ f. (f ≡ Memory) ⊎ (repeated (labels_from names.now) ≡ Some f)) }

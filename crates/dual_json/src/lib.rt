@@ -11,5 +11,5 @@ pub mod shape;
 #[cfg(test)]
 mod tests;
 
-pub use audit_model::fault::{Column, GraphFault, Part};
 pub use crate::read::read_graph;
+pub use audit_model::fault::{Column, GraphFault, Part};

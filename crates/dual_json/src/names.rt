@@ -113,7 +113,11 @@ pub enum Unnamed {
 }
 
 /// The names at a key of each of the objects, or the place of the first that has none.
-pub fn names_at<'v>(alloc: Global, objects: &'v [Value], key: &str) -> Result<Vec<Name<'v>>, Unnamed>
+pub fn names_at<'v>(
+    alloc: Global,
+    objects: &'v [Value],
+    key: &str,
+) -> Result<Vec<Name<'v>>, Unnamed>
     requires { length objects.now ≤ 100000 }
     ensures { MatchResult result (λ names. (first_unnamed key.now (views objects.now) ≡ None) × AreLabels key.now (views objects.now) (labels_from names.items))
         (λ why. Tells why (first_unnamed key.now (views objects.now))) }

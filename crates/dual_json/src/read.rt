@@ -18,16 +18,16 @@ use crate::columns::{check_columns, check_numbers, counts_of};
 use crate::districts::{check_count, different, labels_of, start_of};
 use crate::edges::{check_entries, graph_of};
 use crate::index::Index;
-use crate::names::{names_at, Name, Unnamed};
-use crate::shape::{check_frame, parts_of, Parts};
+use crate::names::{Name, Unnamed, names_at};
+use crate::shape::{Parts, check_frame, parts_of};
 use audit_model::fault::GraphFault;
 use audit_model::lists::{LabelList, UnitList};
 use audit_model::outcome::Counts;
 use audit_model::setting::Columns;
 use dual_graph::graph::Graph;
 use dual_graph::parsed::Parsed;
-use serde_json::error::Category;
 use serde_json::Value;
+use serde_json::error::Category;
 use std::alloc::Global;
 
 /// The value of a text.

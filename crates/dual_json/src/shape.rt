@@ -87,7 +87,7 @@ pub fn parts_of(root: &Value) -> Result<Parts<'_>, Part>
 /// Whether the graph is directed, its two lists differ in length, or there are too many units.
 pub fn check_frame(parts: &Parts<'_>) -> Result<(), GraphFault>
     ensures { MatchResult result (λ _. (frame_fault parts.now.directed (length parts.now.nodes.now) (length parts.now.adjacency.now) ≡ None)
-            × (length parts.now.nodes.now ≡ length parts.now.adjacency.now) × (length parts.now.nodes.now ≤ 100000))
+        × (length parts.now.nodes.now ≡ length parts.now.adjacency.now) × (length parts.now.nodes.now ≤ 100000))
         (λ f. frame_fault parts.now.directed (length parts.now.nodes.now) (length parts.now.adjacency.now) ≡ Some f) }
 {
     let nodes = parts.nodes.len() as u64;

@@ -25,7 +25,7 @@ pub loop-place-preserved : goal.loop-place-preserved
 loop-place-preserved c =
     let at = object_is c.args.entries.now c.loop-place.place c.index-entries-place.result c.loop-place-test.true c.index-entries-place.is in (
       first_below_more c.loop-place.place (λ k. is_unknown c.args.index.now (object_at (views c.args.entries.now) k)) c.loop-place.invariant.0
-      (ap (is_unknown c.args.index.now) at ∙ ap is_none (sym c.node_of.ensures ∙ c.in-Some.is)),
+          (ap (is_unknown c.args.index.now) at ∙ ap is_none (sym c.node_of.ensures ∙ c.in-Some.is)),
       adds_more c.args.index.now (views c.args.entries.now) c.loop-place.place c.args.node c.in-Some.other _ _ _ _ c.loop-place.invariant.1 at c.in-Some.ensures c.in_ok-push_edge.ensures,
     )
 

@@ -29,10 +29,10 @@ returns-in_err-add_edges c =
 pub loop-node-preserved : goal.loop-node-preserved
 loop-node-preserved c = (
   first_some_below_more c.loop-node.node (λ i. option_map (UnknownNeighbour i) (first_in (is_unknown c.args.index.now) (entries_at (lists_in c.args.adjacency.now) i))) c.loop-node.invariant.0
-  (ap (λ es. option_map (UnknownNeighbour c.loop-node.node) (first_in (is_unknown c.args.index.now) es)) (sym c.entries_of.ensures)
-  ∙ ap (option_map (UnknownNeighbour c.loop-node.node)) c.in_ok-add_edges.ensures.0),
+      (ap (λ es. option_map (UnknownNeighbour c.loop-node.node) (first_in (is_unknown c.args.index.now) es)) (sym c.entries_of.ensures)
+      ∙ ap (option_map (UnknownNeighbour c.loop-node.node)) c.in_ok-add_edges.ensures.0),
   codes_more c.args.index.now (lists_in c.args.adjacency.now) c.loop-node.node _ _ (views c.entries_of.result.now) (length c.entries_of.result.now) c.loop-node.invariant.1
-  c.entries_of.ensures (sym (length-views c.entries_of.result.now)) c.in_ok-add_edges.ensures.1,
+      c.entries_of.ensures (sym (length-views c.entries_of.result.now)) c.in_ok-add_edges.ensures.1,
 )
 
 pub returns : goal.returns

@@ -20,9 +20,14 @@ few units ids e l = omega (arith, e, l)
 pub returns-then-edges-gt400000 : goal.returns-then-edges-gt400000
 returns-then-edges-gt400000 c =
     let edges : edges_in c.args.index.now (lists_in c.args.adjacency.now) ≡ c.len-edges.result =
-    omega (arith, edges_are c.args.index.now (lists_in c.args.adjacency.now) (few c.args.units (length c.args.index.now) c.requires.ids c.requires.few)
-    (length-lists_in c.args.adjacency.now ∙ c.requires.lists ∙ sym c.requires.ids) c.requires.different c.in_ok-codes.codes.items c.put_in_order.new.codes.items c.in_ok-codes.ensures.1
-    c.put_in_order.ensures.same c.put_in_order.ensures.rising, c.len-edges.ensures, c.put_in_order.new.codes.ok.0) in
+    omega (
+      arith,
+      edges_are c.args.index.now (lists_in c.args.adjacency.now) (few c.args.units (length c.args.index.now) c.requires.ids c.requires.few)
+          (length-lists_in c.args.adjacency.now ∙ c.requires.lists ∙ sym c.requires.ids) c.requires.different c.in_ok-codes.codes.items c.put_in_order.new.codes.items c.in_ok-codes.ensures.1
+          c.put_in_order.ensures.same c.put_in_order.ensures.rising,
+      c.len-edges.ensures,
+      c.put_in_order.new.codes.ok.0,
+    ) in
     inr (or_none (first_entry_in (is_unknown c.args.index.now) UnknownNeighbour (lists_in c.args.adjacency.now)) _ c.in_ok-codes.ensures.0
     ∙ ap (λ m. refused_if (nat_lt 400000 m) (TooManyEdges m)) edges ∙ is_refused (nat_lt 400000 c.len-edges.result) (TooManyEdges c.len-edges.result) (lt-ltb 400000 c.len-edges.result c.if-edges-gt400000.true))
 
@@ -36,18 +41,23 @@ graph_from-requires-clause-codes c =
 pub returns : goal.returns
 returns c =
     let edges : edges_in c.args.index.now (lists_in c.args.adjacency.now) ≡ c.len-edges.result =
-    omega (arith, edges_are c.args.index.now (lists_in c.args.adjacency.now) (few c.args.units (length c.args.index.now) c.requires.ids c.requires.few)
-    (length-lists_in c.args.adjacency.now ∙ c.requires.lists ∙ sym c.requires.ids) c.requires.different c.in_ok-codes.codes.items c.put_in_order.new.codes.items c.in_ok-codes.ensures.1
-    c.put_in_order.ensures.same c.put_in_order.ensures.rising, c.len-edges.ensures, c.put_in_order.new.codes.ok.0) in
+    omega (
+      arith,
+      edges_are c.args.index.now (lists_in c.args.adjacency.now) (few c.args.units (length c.args.index.now) c.requires.ids c.requires.few)
+          (length-lists_in c.args.adjacency.now ∙ c.requires.lists ∙ sym c.requires.ids) c.requires.different c.in_ok-codes.codes.items c.put_in_order.new.codes.items c.in_ok-codes.ensures.1
+          c.put_in_order.ensures.same c.put_in_order.ensures.rising,
+      c.len-edges.ensures,
+      c.put_in_order.new.codes.ok.0,
+    ) in
     match_map c.graph_from.result _ _ _ _ c.graph_from.ensures
     (λ g h. (
       or_both (first_entry_in (is_unknown c.args.index.now) UnknownNeighbour (lists_in c.args.adjacency.now)) _ c.in_ok-codes.ensures.0
-      (not_refused (nat_lt 400000 (edges_in c.args.index.now (lists_in c.args.adjacency.now))) (TooManyEdges (edges_in c.args.index.now (lists_in c.args.adjacency.now)))
-      (ap (nat_lt 400000) edges ∙ le-ltb 400000 c.len-edges.result c.if-edges-gt400000.false)),
+          (not_refused (nat_lt 400000 (edges_in c.args.index.now (lists_in c.args.adjacency.now))) (TooManyEdges (edges_in c.args.index.now (lists_in c.args.adjacency.now)))
+          (ap (nat_lt 400000) edges ∙ le-ltb 400000 c.len-edges.result c.if-edges-gt400000.false)),
       built_graph c.args.index.now (lists_in c.args.adjacency.now) (few c.args.units (length c.args.index.now) c.requires.ids c.requires.few)
-    (length-lists_in c.args.adjacency.now ∙ c.requires.lists ∙ sym c.requires.ids) c.requires.different c.in_ok-codes.codes.items c.put_in_order.new.codes.items c.in_ok-codes.ensures.1
-    c.put_in_order.ensures.same c.put_in_order.ensures.rising g h.0 (h.1 ∙ sym c.requires.ids)
-      (subst (λ (xs : List ℕ). (u v : ℕ) → (adjacent g u v ≡ true) ↔ Joins (pairs_in xs) u v) c.deref.ensures.value h.2),
+          (length-lists_in c.args.adjacency.now ∙ c.requires.lists ∙ sym c.requires.ids) c.requires.different c.in_ok-codes.codes.items c.put_in_order.new.codes.items c.in_ok-codes.ensures.1
+          c.put_in_order.ensures.same c.put_in_order.ensures.rising g h.0 (h.1 ∙ sym c.requires.ids)
+          (subst (λ (xs : List ℕ). (u v : ℕ) → (adjacent g u v ≡ true) ↔ Joins (pairs_in xs) u v) c.deref.ensures.value h.2),
       h.0,
       omega (arith, edges, c.if-edges-gt400000.false),
     ))

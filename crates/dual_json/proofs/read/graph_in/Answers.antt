@@ -44,14 +44,14 @@ returns c =
     let entries : entry_fault d is_unnamed BadNeighbour ≡ None = entry_same d ids are is_unnamed is_unnamed BadNeighbour long (λ x. refl) ∙ c.in_ok-check_entries.ensures in
     match_map c.graph_of.result _ _ _ _ c.graph_of.ensures
     (λ g h.
-        let few = h.3 in (
-          or_both (frame_fault directed (length (views nodes)) (length (lists_in lists))) _ frame
+    let few = h.3 in (
+      or_both (frame_fault directed (length (views nodes)) (length (lists_in lists))) _ frame
           (or_both (ids_fault (views nodes)) _ c.in_ok-index.ensures.0 (or_both (entry_fault d is_unnamed BadNeighbour) _ entries (edges_same d ids are long ∙ h.0))),
-          graph_same d ids are ∙ sym h.1,
-          c.in_ok-check_frame.ensures.2,
-          h.2,
-          subst (λ (x : Graph). count_edges x (λ u v. true) ≤ 400000) (sym h.1) few,
-        ))
+      graph_same d ids are ∙ sym h.1,
+      c.in_ok-check_frame.ensures.2,
+      h.2,
+      subst (λ (x : Graph). count_edges x (λ u v. true) ≤ 400000) (sym h.1) few,
+    ))
     (λ f h. elim h [
       | inl e ↦ inl e
       | inr e ↦ inr (or_none (frame_fault directed (length (views nodes)) (length (lists_in lists))) _ frame

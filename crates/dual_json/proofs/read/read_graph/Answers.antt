@@ -24,7 +24,7 @@ returns-in-Ok-clause-read c =
     let root = view c.in_ok-root.root in
     let d : Document = document_of c.in-Ok.parts in
     let read = reading_of c.args.bytes.now columns root c.in_ok-root.ensures ∙ ap (of_root columns root) c.in-Ok.ensures.0
-        ∙ ap (λ (x : Document). accepted_or (parsed x columns) (refusal x columns)) c.in-Ok.ensures.1 in
+    ∙ ap (λ (x : Document). accepted_or (parsed x columns) (refusal x columns)) c.in-Ok.ensures.1 in
     match_map c.read_parts.result _ _ _ _ c.read_parts.ensures.read
     (λ p h. read ∙ ap (accepted_or (parsed d columns)) h.0 ∙ ap Ok h.1)
     (λ f h. elim h [

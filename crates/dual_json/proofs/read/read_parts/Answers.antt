@@ -36,7 +36,7 @@ returns-clause-read c =
     let columns = c.args.columns.now in
     let labels : List Label = labels_from c.in_ok-names.names.items in (
       refusal_is d columns ∙ or_both (graph_fault d) _ c.in_ok-graph.ensures.0 (or_both (labels_fault columns d.nodes) _ c.in_ok-names.ensures.0
-      (ap count_fault (different_same d columns labels c.in_ok-names.ensures.1) ∙ ap (λ (ns : List Name). count_fault (different_count (labels_from ns))) (sym c.deref.ensures.value) ∙ c.in_ok-rows.ensures.0)),
+          (ap count_fault (different_same d columns labels c.in_ok-names.ensures.1) ∙ ap (λ (ns : List Name). count_fault (different_count (labels_from ns))) (sym c.deref.ensures.value) ∙ c.in_ok-rows.ensures.0)),
       parsed_is d columns c.in_ok-graph.graph c.in_ok-rows.rows.counts c.in_ok-rows.rows.start c.in_ok-rows.rows.labels c.in_ok-graph.ensures.1 c.in_ok-rows.ensures.1,
     )
 
