@@ -1,5 +1,5 @@
 -- What is found of a document against what its definition says.
-use Rattle.std.proofs.Common.{◌≡◌, ℕ, zero, suc, ◌+◌, ◌^◌, ◌<◌, ◌≤◌, Bool, true, false, not, cond, ◌&&◌, ◌||◌, List, [], ◌∷◌, ◌++◌, length, map, get_or, Option, Some, None, Err, refl, sym, ap, ◌∙◌, subst, inl, inr, arith, length-append}
+use Rattle.std.proofs.Common.{◌≡◌, ℕ, zero, suc, ◌^◌, ◌<◌, ◌≤◌, Bool, true, false, not, cond, ◌&&◌, ◌||◌, List, [], ◌∷◌, ◌++◌, length, get_or, Option, Some, None, Err, refl, sym, ap, ◌∙◌, subst, arith}
 use Rattle.std.specs.Prelude.{◌==◌, nat_lt, nat_le, codes}
 use Rattle.std.specs.Str.{is_utf8}
 use Rattle.std.specs.Option.{option_or, option_map, option_and_then, unwrap_or, is_none}
@@ -12,22 +12,21 @@ use Rattle.audit_model.specs.declared.fault.GraphFault.TheVariants as fault
 use Rattle.audit_model.specs.declared.outcome.Counts.{Counts}
 use Rattle.audit_model.specs.declared.setting.Columns.{Columns}
 use Rattle.audit_model.specs.declared.setting.Label.{Label}
-use Rattle.audit_model.specs.declared.setting.Label.TheVariants.{Whole, Word}
+use Rattle.audit_model.specs.declared.setting.Label.TheVariants.{Word}
 use Rattle.audit_model.specs.Below.{any_below, count_below, filter_below, map_below}
 use Rattle.audit_model.specs.First.{first_below, first_some_below}
 use Rattle.audit_model.specs.Graph.{Graph, IsGraph, count_edges}
 use Rattle.audit_model.specs.Label.{same_label, label_before}
 use Rattle.audit_model.specs.Limits.{IsColumn, AreWithin}
 use Rattle.audit_model.specs.Parsed.{Parsed}
-use Rattle.graph_definitions.specs.Reading.{Document, graph, joined, id_of, same_id, label_of, refused_if, label_count, label_at, is_new_label, district_at, refusal, parsed, reading, of_root, of_json, bad_part}
+use Rattle.graph_definitions.specs.Reading.{Document, graph, joined, id_of, same_id, refused_if, label_count, label_at, is_new_label, district_at, refusal, parsed, reading, of_root, of_json, bad_part}
 use Rattle.dual_graph.proofs.Rows.{length-map_below, get_or-map_below}
 use Rattle.model_laws.proofs.Below.{count_below_same}
 use Rattle.dual_json.specs.Columns.{count_from, count_in, missing, bad, numbers_in}
 use Rattle.dual_json.specs.Districts.{AreDistricts, count_fault, is_new, different_count}
-use Rattle.dual_json.specs.Edges.{entries_at, first_in, first_entry_in, is_unknown, is_unnamed, joined_in, graph_in, edges_in, edges_fault, names_node}
-use Rattle.dual_json.specs.Places.{label_in, object_at, nth, first_unnamed, AreLabels, place_in, place_of, repeated}
-use Rattle.dual_json.specs.Shape.{frame_fault}
-use Rattle.dual_json.specs.Stages.{repeated_in, ids_fault, entry_fault, is_stranger, edge_count, graph_fault, labels_fault, AreRows}
+use Rattle.dual_json.specs.Edges.{entries_at, first_in, first_entry_in, is_unknown, is_unnamed, joined_in, graph_in, edges_fault, names_node}
+use Rattle.dual_json.specs.Places.{object_at, nth, first_unnamed, AreLabels, place_in, repeated}
+use Rattle.dual_json.specs.Stages.{repeated_in, entry_fault, is_stranger, edge_count, graph_fault, labels_fault, AreRows}
 use Rattle.dual_json.proofs.Counted.{label_count_is, district_is, labels_are, start_is}
 use Rattle.dual_json.proofs.First.{first_below_same, first_some_below_same, any_below_same, first_passes, any_from_none, any_from_some}
 

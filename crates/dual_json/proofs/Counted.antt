@@ -1,11 +1,9 @@
 -- Counting the different labels, and the place of each among them.
-use Rattle.std.proofs.Common.{◌≡◌, ℕ, ℤ, zero, suc, ◌+◌, ◌<◌, ◌≤◌, Bool, true, false, not, cond, ◌&&◌, List, [], ◌∷◌, length, map, get_or, Option, Some, None, Ordering, Less, Equal, Greater, refl, sym, ap, ◌∙◌, subst, inl, inr, arith}
-use Rattle.std.specs.Prelude.{◌==◌, ◌⊎◌}
-use Rattle.std.specs.Cmp.{Equal-is, int_cmp_total}
-use Rattle.std.specs.Cmp.Lexicographic.{slice_cmp}
+use Rattle.std.proofs.Common.{◌≡◌, ℕ, ℤ, zero, suc, ◌<◌, ◌≤◌, Bool, true, false, cond, ◌&&◌, List, [], length, get_or, Option, Some, None, Ordering, Less, Equal, Greater, refl, sym, ap, ◌∙◌, inl, inr, arith}
+use Rattle.std.specs.Prelude.{◌==◌}
 use Rattle.std.specs.Option.{option_map, unwrap_or}
-use Rattle.std.specs.Ordering.{is_eq, is_lt, nat_cmp, int_cmp, ordering_reverse}
-use Rattle.std.proofs.lemmas.Bool.{and_parts, and_from, cases_eq, cases_lt, cases_order, cond-true, cond-false, eq-eqb, eqb-true, ne_eqb, both_ways, true≢false, false≢true, not_from_false, not-true, false_from_ne_true}
+use Rattle.std.specs.Ordering.{is_eq, is_lt, int_cmp, ordering_reverse}
+use Rattle.std.proofs.lemmas.Bool.{and_parts, and_from, cases_eq, cases_order, cond-true, cond-false, eq-eqb, eqb-true, both_ways, true≢false, false≢true, not_from_false, not-true, false_from_ne_true}
 use Rattle.std.proofs.lemmas.Cmp.{int_ranked, tied_itself}
 use Rattle.std.proofs.lemmas.List.{ext_get_or}
 use Rattle.std.proofs.lemmas.Map.Text.{is_eq-slice_cmp}
@@ -14,14 +12,13 @@ use Rattle.audit_model.specs.declared.setting.Label.{Label}
 use Rattle.audit_model.specs.declared.setting.Label.TheVariants.{Whole, Word}
 use Rattle.audit_model.specs.Below.{any_below, count_below, map_below}
 use Rattle.audit_model.specs.First.{first_below}
-use Rattle.audit_model.specs.Label.{label_cmp, same_label, label_before}
+use Rattle.audit_model.specs.Label.{same_label, label_before}
 use Rattle.dual_graph.proofs.Rows.{length-map_below, get_or-map_below}
 use Rattle.model_laws.proofs.Below.{count_below_same, count_below_into}
 use Rattle.dual_json.specs.Districts.{AreDistricts, is_new}
 use Rattle.dual_json.specs.Names.{label_total}
 use Rattle.dual_json.specs.Places.{nth}
 use Rattle.dual_json.proofs.First.{any_at, any_passes, first_passes, none_passes}
-use Rattle.dual_json.proofs.Indexed.{same_turned, same_alike}
 
 -- ---- labels that are the same
 

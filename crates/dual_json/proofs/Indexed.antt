@@ -1,17 +1,16 @@
 -- A map from names to their first places, one place after another.
-use Rattle.std.proofs.Common.{◌≡◌, ℕ, zero, suc, ◌+◌, ◌<◌, ◌≤◌, List, length, Bool, true, false, cond, Option, Some, None, refl, sym, ap, ◌∙◌, subst, inl, inr, arith}
+use Rattle.std.proofs.Common.{◌≡◌, ℕ, suc, ◌+◌, ◌<◌, List, length, true, false, cond, Option, Some, None, refl, sym, ap, ◌∙◌, subst, inl, inr, arith}
 use Rattle.std.specs.BTreeMap.{BTreeMap, get, is_at}
-use Rattle.std.specs.Cmp.{eq_by_cmp_equiv, Equal-is}
+use Rattle.std.specs.Cmp.{eq_by_cmp_equiv}
 use Rattle.std.specs.Option.{option_or, option_map, unwrap_or}
 use Rattle.std.proofs.lemmas.Bool.{cases_Bool, cond-true, cond-false}
-use Rattle.audit_model.specs.declared.fault.GraphFault.{GraphFault}
 use Rattle.audit_model.specs.declared.fault.GraphFault.TheVariants as fault
 use Rattle.audit_model.specs.declared.setting.Label.{Label}
 use Rattle.audit_model.specs.Below.{any_below}
 use Rattle.audit_model.specs.First.{first_below}
 use Rattle.audit_model.specs.Label.{same_label}
 use Rattle.dual_json.specs.Names.{label_from, label_total, name_cmp}
-use Rattle.dual_json.specs.Places.{nth, repeated, place_in, IsIndex}
+use Rattle.dual_json.specs.Places.{nth, repeated, IsIndex}
 use Rattle.dual_json.specs.declared.names.Name.{Name}
 use Rattle.dual_json.proofs.First.{first_below_same, first_below_more, first_below_found, any_from_some, any_from_none}
 

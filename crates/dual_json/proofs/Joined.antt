@@ -1,15 +1,13 @@
 -- The numbers of the edges against the pairs of nodes that are joined.
-use Rattle.std.proofs.Common.{◌≡◌, ℕ, zero, suc, ◌+◌, ◌-◌, ◌*◌, ◌/◌, ◌%◌, ◌<◌, ◌≤◌, Bool, true, false, not, ◌&&◌, ◌||◌, cond, List, [], ◌∷◌, ◌++◌, length, map, get_or, Option, Some, None, refl, sym, ap, ◌∙◌, subst, inl, inr, arith, length-append, append-nil}
+use Rattle.std.proofs.Common.{◌≡◌, ℕ, zero, suc, ◌+◌, ◌*◌, ◌/◌, ◌%◌, ◌<◌, ◌≤◌, Bool, true, false, not, ◌||◌, cond, List, [], ◌∷◌, ◌++◌, length, map, get_or, Option, Some, None, refl, sym, ap, ◌∙◌, subst, inl, inr, arith, length-append, append-nil}
 use Rattle.std.specs.Prelude.{◌==◌, ◌⊎◌, ◌↔◌, ◌≢◌, nat_lt}
 use Rattle.std.specs.Option.{option_map, option_and_then}
-use Rattle.std.proofs.lemmas.Bool.{and_parts, and_from, or_cases, or_left, or_right, cases_eq, cases_lt, cases_order, cases_Bool, cond-true, cond-false, lt-ltb, le-ltb, eq-eqb, eqb-true, ne_eqb, both_ways, false≢true, not_from_false, not-true, false_from_ne_true}
+use Rattle.std.proofs.lemmas.Bool.{and_parts, and_from, or_cases, or_left, or_right, cases_lt, cases_order, cond-true, cond-false, lt-ltb, le-ltb, eq-eqb, eqb-true, ne_eqb, both_ways, false≢true, not_from_false, not-true, false_from_ne_true}
 use Rattle.std.proofs.lemmas.List.{length-map, get_or-map, get_or_append_left, get_or_push, get_or_past, ext_get_or}
 use Rattle.serde_json.specs.Data.{Data}
-use Rattle.audit_model.specs.declared.fault.GraphFault.TheVariants as fault
 use Rattle.audit_model.specs.declared.setting.Label.{Label}
 use Rattle.audit_model.specs.Below.{any_below, filter_below, map_below}
-use Rattle.audit_model.specs.First.{first_below}
-use Rattle.audit_model.specs.Graph.{Graph, IsGraph, has, adjacent, count_edges}
+use Rattle.audit_model.specs.Graph.{Graph, IsGraph, has, adjacent}
 use Rattle.audit_model.specs.Label.{same_label}
 use Rattle.graph_definitions.specs.Reading.{id_of, same_id}
 use Rattle.model_laws.proofs.Connected.{has-filter_below, filter_below-has}
@@ -19,7 +17,7 @@ use Rattle.dual_graph.proofs.Counting.{edges_counted}
 use Rattle.dual_graph.proofs.Marking.{has_at, at_has}
 use Rattle.dual_graph.proofs.Rows.{length-map_below, get_or-map_below}
 use Rattle.dual_json.specs.Edges.{entries_at, edge_code, names_node, joined_in, graph_in, edges_in, pairs_in, LeadsTo, AreCodes, AreEdges}
-use Rattle.dual_json.specs.Places.{nth, object_at, place_in, place_of, repeated}
+use Rattle.dual_json.specs.Places.{nth, object_at, place_in, repeated}
 use Rattle.dual_json.proofs.First.{any_at, any_passes, first_passes, none_passes}
 use Rattle.dual_json.proofs.Indexed.{same_turned, same_alike}
 

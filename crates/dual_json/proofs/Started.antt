@@ -1,19 +1,18 @@
 -- The place of each name among the different ones.
-use Rattle.std.proofs.Common.{◌≡◌, ℕ, zero, suc, ◌+◌, ◌<◌, ◌≤◌, Bool, true, false, List, [], ◌∷◌, ◌++◌, length, map, get_or, Less, Equal, Greater, refl, sym, ap, ◌∙◌, subst, inl, inr, arith, length-append}
+use Rattle.std.proofs.Common.{◌≡◌, ℕ, ◌+◌, ◌<◌, List, [], ◌∷◌, ◌++◌, length, get_or, Less, Equal, Greater, sym, ap, ◌∙◌, inl, inr, arith, length-append}
 use Rattle.std.specs.Cmp.{Equal-is}
-use Rattle.std.specs.List.{HoldsAt, Contains}
+use Rattle.std.specs.List.{Contains}
 use Rattle.std.specs.List.Sorted.{IsStrictlySortedBy, IsNonDecreasingBy, IsPartitionPoint, IsSortedBy}
-use Rattle.std.specs.Ordering.{is_eq, is_lt, is_gt, ordering_index, ordering_reverse}
-use Rattle.std.proofs.lemmas.Bool.{cases_eq, cases_lt, true≢false}
+use Rattle.std.specs.Ordering.{is_eq, is_lt, ordering_index, ordering_reverse}
+use Rattle.std.proofs.lemmas.Bool.{cases_eq, cases_lt}
 use Rattle.std.proofs.lemmas.Cmp.{tied_back}
-use Rattle.std.proofs.lemmas.List.{length-map, get_or_append_left, get_or_push, get_or_default}
+use Rattle.std.proofs.lemmas.List.{length-map, get_or_append_left, get_or_push}
 use Rattle.std.proofs.lemmas.List.Elements.{Contains-get_or}
 use Rattle.std.proofs.lemmas.List.Sorted.{searchable_from_sorted}
 use Rattle.std.proofs.lemmas.Map.Keys.{Less-from_sorted}
-use Rattle.audit_model.specs.declared.setting.Label.{Label}
 use Rattle.audit_model.specs.Label.{label_cmp}
 use Rattle.dual_json.specs.Districts.{AreDifferent, AreDistricts}
-use Rattle.dual_json.specs.Names.{label_from, label_total, name_cmp, name_total, same_name}
+use Rattle.dual_json.specs.Names.{label_from, name_cmp, name_total}
 use Rattle.dual_json.specs.Places.{nth, labels_from}
 use Rattle.dual_json.specs.declared.names.Name.{Name}
 use Rattle.dual_json.proofs.Counted.{same_equal}

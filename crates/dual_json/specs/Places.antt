@@ -1,5 +1,5 @@
 -- Ids and labels of a list of objects, and the place of each id.
-use Rattle.std.specs.Prelude.{◌≡◌, ℕ, ◌<◌, Bool, List, [], length, map, codes, Option, Some, None, is_none, unwrap_or, option_map, option_and_then}
+use Rattle.std.specs.Prelude.{◌≡◌, ℕ, ◌<◌, List, [], length, map, Option, Some, is_none, unwrap_or, option_map, option_and_then}
 use Rattle.std.specs.List.{slice_index_or}
 use Rattle.std.specs.BTreeMap.{BTreeMap, get}
 use Rattle.serde_json.specs.Data.{Data, null}
@@ -7,7 +7,7 @@ use Rattle.serde_json.specs.Find.{get as member}
 use Rattle.audit_model.specs.declared.fault.GraphFault.{GraphFault}
 use Rattle.audit_model.specs.declared.fault.GraphFault.TheVariants as fault
 use Rattle.audit_model.specs.declared.setting.Label.{Label}
-use Rattle.audit_model.specs.declared.setting.Label.TheVariants.{Whole, Word}
+use Rattle.audit_model.specs.declared.setting.Label.TheVariants.{Word}
 use Rattle.audit_model.specs.Below.{any_below}
 use Rattle.audit_model.specs.First.{first_below}
 use Rattle.audit_model.specs.Label.{same_label}

@@ -1,5 +1,5 @@
 -- The refusals of a document, those of the graph before those of the columns.
-use Rattle.std.specs.Prelude.{◌≡◌, ℕ, ◌<◌, ◌≤◌, Bool, true, not, nat_lt, List, length, codes, Option, unwrap_or, option_map}
+use Rattle.std.specs.Prelude.{◌≡◌, ℕ, ◌≤◌, Bool, true, not, nat_lt, List, length, codes, Option, unwrap_or, option_map}
 use Rattle.std.specs.Option.{option_or}
 use Rattle.serde_json.specs.Data.{Data}
 use Rattle.audit_model.specs.declared.fault.GraphFault.{GraphFault}

@@ -1,4 +1,4 @@
-use Rattle.std.proofs.Common.{◌≡◌, ℕ, length, ap, sym, ◌∙◌, arith}
+use Rattle.std.proofs.Common.{◌≡◌, length, ap, sym, ◌∙◌, arith}
 use Rattle.audit_model.specs.Below.{map_below}
 use Rattle.dual_json.specs.Places.{nth, labels_from}
 use Rattle.dual_json.proofs.Listed.{map_below_more}

@@ -1,6 +1,6 @@
-use Rattle.std.proofs.Common.{◌≡◌, ℕ, length, ap, sym, arith}
+use Rattle.std.proofs.Common.{length, ap, arith}
 use Rattle.dual_json.proofs.Named.{nth_get}
-use Rattle.dual_json.proofs.Started.{AreStarted, started_more, started_all, never_missing}
+use Rattle.dual_json.proofs.Started.{started_more, started_all, never_missing}
 use Rattle.dual_json.proofs.districts.start_of.Goals as goal
 
 pub loop-i-init : goal.loop-i-init

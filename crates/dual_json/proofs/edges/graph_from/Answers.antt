@@ -1,4 +1,4 @@
-use Rattle.std.proofs.Common.{◌≡◌, ℕ, List, sym, subst, ◌∙◌}
+use Rattle.std.proofs.Common.{ℕ, List, sym, subst, ◌∙◌}
 use Rattle.dual_graph.specs.Pairs.{ArePairs}
 use Rattle.dual_json.proofs.Joined.{edges_pairs}
 use Rattle.dual_json.proofs.edges.graph_from.Goals as goal

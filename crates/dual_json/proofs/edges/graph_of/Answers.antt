@@ -1,7 +1,7 @@
-use Rattle.std.proofs.Common.{◌≡◌, ℕ, ◌<◌, ◌≤◌, List, length, true, false, Some, None, sym, ap, subst, ◌∙◌, inl, inr, arith}
+use Rattle.std.proofs.Common.{◌≡◌, ℕ, ◌≤◌, List, length, true, sym, ap, subst, ◌∙◌, inl, inr, arith}
 use Rattle.std.specs.Prelude.{nat_lt, ◌↔◌}
 use Rattle.std.proofs.lemmas.Bool.{lt-ltb, le-ltb}
-use Rattle.audit_model.specs.declared.fault.GraphFault.TheVariants.{Memory, TooManyEdges, UnknownNeighbour}
+use Rattle.audit_model.specs.declared.fault.GraphFault.TheVariants.{TooManyEdges, UnknownNeighbour}
 use Rattle.audit_model.specs.Graph.{adjacent}
 use Rattle.graph_definitions.specs.Reading.{refused_if}
 use Rattle.dual_graph.specs.Pairs.{Joins}

@@ -1,4 +1,4 @@
-use Rattle.std.proofs.Common.{◌≡◌, ℕ, ◌<◌, length, get_or, refl, ap, ◌∙◌, arith}
+use Rattle.std.proofs.Common.{◌≡◌, ◌<◌, length, get_or, refl, ap, ◌∙◌, arith}
 use Rattle.audit_model.specs.Below.{map_below}
 use Rattle.dual_graph.proofs.Marking.{at_has}
 use Rattle.dual_json.proofs.Joined.{pair_of, map_below-map}

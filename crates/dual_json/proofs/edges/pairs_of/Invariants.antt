@@ -1,4 +1,4 @@
-use Rattle.std.proofs.Common.{◌≡◌, ℕ, get_or}
+use Rattle.std.proofs.Common.{◌≡◌, get_or}
 use Rattle.audit_model.specs.Below.{map_below}
 use Rattle.dual_json.proofs.Joined.{pair_of}
 use Rattle.dual_json.proofs.edges.pairs_of.Given as goal

@@ -1,12 +1,10 @@
-use Rattle.std.proofs.Common.{◌≡◌, ℕ, refl, sym, ap, ◌∙◌, inr, arith}
-use Rattle.std.specs.BTreeMap.{get_by}
+use Rattle.std.proofs.Common.{refl, sym, ap, inr, arith}
 use Rattle.std.specs.Map.{lookup}
 use Rattle.std.specs.BTreeMap.{is_at}
-use Rattle.std.specs.Option.{option_copied}
 use Rattle.std.proofs.lemmas.List.{length-map}
 use Rattle.dual_json.specs.Names.{label_from, name_cmp}
 use Rattle.dual_json.specs.Places.{labels_from}
-use Rattle.dual_json.proofs.Indexed.{IsIndexed, repeated_here, indexed_more, indexed_all}
+use Rattle.dual_json.proofs.Indexed.{repeated_here, indexed_more, indexed_all}
 use Rattle.dual_json.proofs.Named.{nth_get}
 use Rattle.dual_json.proofs.index.places_of.Goals as goal
 

@@ -1,11 +1,11 @@
-use Rattle.std.proofs.Common.{◌≡◌, ℕ, ◌<◌, List, [], length, Some, None, true, refl, sym, ap, ◌∙◌, subst, arith}
+use Rattle.std.proofs.Common.{length, refl, sym, ap, ◌∙◌, arith}
 use Rattle.std.specs.Option.{is_none, option_map}
 use Rattle.dual_json.specs.Names.{label_from}
 use Rattle.dual_json.specs.Places.{label_in, object_at}
 use Rattle.dual_json.specs.Shape.{views}
 use Rattle.dual_json.proofs.First.{first_below_found}
 use Rattle.dual_json.proofs.Listed.{object_is, length-views}
-use Rattle.dual_json.proofs.Named.{AreNamed, named_more, named_all}
+use Rattle.dual_json.proofs.Named.{named_more, named_all}
 use Rattle.dual_json.proofs.names.names_at.Goals as goal
 
 pub loop-i-init : goal.loop-i-init

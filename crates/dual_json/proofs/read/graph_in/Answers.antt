@@ -1,11 +1,11 @@
-use Rattle.std.proofs.Common.{◌≡◌, ℕ, ◌≤◌, true, List, length, Some, None, Err, refl, sym, ap, subst, ◌∙◌, inl, inr, arith, rules}
+use Rattle.std.proofs.Common.{◌≡◌, ◌≤◌, true, List, length, None, Err, refl, sym, ap, subst, ◌∙◌, inl, inr, rules}
 use Rattle.audit_model.specs.declared.fault.GraphFault.TheVariants.{BadNeighbour}
 use Rattle.audit_model.specs.declared.setting.Label.{Label}
 use Rattle.audit_model.specs.Graph.{Graph, count_edges}
 use Rattle.graph_definitions.specs.Reading.{Document}
 use Rattle.dual_json.specs.Edges.{is_unnamed}
 use Rattle.dual_json.specs.Shape.{views, lists_in, document_of, frame_fault}
-use Rattle.dual_json.specs.Stages.{ids_fault, entry_fault, graph_fault}
+use Rattle.dual_json.specs.Stages.{ids_fault, entry_fault}
 use Rattle.dual_json.proofs.Bridge.{entry_same, edges_same, graph_same}
 use Rattle.dual_json.proofs.First.{or_none, or_some}
 use Rattle.dual_json.proofs.Listed.{length-views, length-lists_in}

@@ -1,9 +1,9 @@
-use Rattle.std.proofs.Common.{◌≡◌, ℕ, List, length, Some, None, Err, refl, sym, ap, subst, ◌∙◌, inl, inr, arith, rules}
+use Rattle.std.proofs.Common.{◌≡◌, List, Some, Err, sym, ap, ◌∙◌, inl, inr, arith, rules}
 use Rattle.std.specs.Prelude.{◌⊎◌}
 use Rattle.audit_model.specs.declared.fault.GraphFault.TheVariants.{Memory}
 use Rattle.audit_model.specs.declared.setting.Label.{Label}
 use Rattle.audit_model.specs.Graph.{Graph}
-use Rattle.graph_definitions.specs.Reading.{Document, refusal, label_count}
+use Rattle.graph_definitions.specs.Reading.{Document, refusal}
 use Rattle.dual_json.specs.Districts.{count_fault, different_count}
 use Rattle.dual_json.specs.Places.{labels_from}
 use Rattle.dual_json.specs.Shape.{views, document_of}

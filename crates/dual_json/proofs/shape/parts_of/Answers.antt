@@ -1,6 +1,4 @@
-use Rattle.std.proofs.Common.{◌≡◌, true, false, Some, sym, ap, ◌∙◌}
-use Rattle.std.specs.Prelude.{codes}
-use Rattle.serde_json.specs.Find.{as_object}
+use Rattle.std.proofs.Common.{sym, ◌∙◌}
 use Rattle.serde_json.specs.View.{view}
 use Rattle.dual_json.specs.Shape.{views}
 use Rattle.dual_json.proofs.Shapes.{parts_good, document_is, flag_good}
