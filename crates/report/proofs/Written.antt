@@ -86,3 +86,7 @@ appended-four start one two three last out new a b c d hs h1 h2 h3 h4 h =
     let whole : last ≡ (((start ++ a) ++ b) ++ c) ++ d = cc in
     let all : (((start ++ a) ++ b) ++ c) ++ d ≡ ((a ++ b) ++ c) ++ d = rw hs refl in
     h ∙ ap (λ t. out ++ t) (whole ∙ all)
+
+-- the same text, given otherwise
+pub appends-by : (old new : RoomyBytes) (a b : List ℕ) (r : Result (Unit {0}) Memory) → a ≡ b → Appends old new a r → Appends old new b r
+appends-by old new a b r e h = subst (λ t. Appends old new t r) e h

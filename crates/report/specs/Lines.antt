@@ -1,14 +1,19 @@
 -- The words of a line, and what appending a text to a list with room does.
 use Rattle.std.specs.Prelude.{◌≡◌, ◌≤◌, ℕ, ◌+◌, List, [], ◌∷◌, ◌++◌, length, decimal, Result, OnOk, IsOk}
+use Rattle.std.specs.Fmt.{signed_decimal}
 use Rattle.audit_model.specs.Room.{RoomyBytes}
 use Rattle.audit_model.specs.declared.memory.Memory.{Memory}
 use Rattle.report.specs.declared.lines.Word.{Word}
-use Rattle.report.specs.declared.lines.Word.TheVariants.{Text, Number}
+use Rattle.report.specs.declared.lines.Word.TheVariants.{Text, Number, Signed, Fraction, Billionths}
+use Rattle.text_definitions.specs.Report.{fraction, billionths}
 
 -- how a word is written
 abbrev pub word_text : Word → List ℕ
 word_text (Text text) = text.now
 word_text (Number n) = decimal n
+word_text (Signed z) = signed_decimal z
+word_text (Fraction top bottom) = fraction top bottom
+word_text (Billionths n) = billionths n
 
 -- what stands in a line after its first word
 abbrev pub tail_of : List (List ℕ) → List ℕ

@@ -3,6 +3,8 @@
 
 pub mod check;
 pub mod lines;
+pub mod names;
+pub mod numbers;
 #[cfg(test)]
 mod tests;
 

@@ -4,15 +4,20 @@ ghost use Rattle.std.specs.Prelude.{◌≡◌, ◌∷◌, map};
 ghost use Rattle.report.specs.Lines.{Appends, tail_of, word_text};
 ghost use Rattle.text_definitions.specs.Report.{line};
 
+use crate::numbers::{push_billionths, push_fraction, push_number, push_signed};
 use audit_model::buffers::Bytes;
 use audit_model::memory::Memory;
-use itoa::Buffer;
 
 /// A word of a line.
 #[derive(Clone, Copy)]
 pub enum Word<'a> {
     Text(&'a str),
     Number(u64),
+    Signed(i64),
+    /// A numerator and a denominator.
+    Fraction(i64, u64),
+    /// A number of billionths.
+    Billionths(u64),
 }
 
 /// Appends a word.
@@ -21,7 +26,10 @@ pub fn push_word(out: &mut Bytes, word: &Word) -> Result<(), Memory>
 {
     match word {
         Word::Text(text) => out.append(text.as_bytes()),
-        Word::Number(number) => out.append(Buffer::new().format(*number).as_bytes()),
+        Word::Number(number) => push_number(out, *number),
+        Word::Signed(number) => push_signed(out, *number),
+        Word::Fraction(top, bottom) => push_fraction(out, *top, *bottom),
+        Word::Billionths(number) => push_billionths(out, *number),
     }
 }
 

@@ -1,0 +1,28 @@
+//! How scores and tails are written.
+
+ghost use Rattle.std.specs.Prelude.{◌≡◌};
+ghost use Rattle.text_definitions.specs.Names.{score_name, tail_name};
+
+use audit_model::setting::{Score, Tail};
+
+/// The name of a score.
+pub fn score_text(score: Score) -> &'static str
+    ensures { result.now ≡ score_name score }
+{
+    match score {
+        Score::Seats => "seats",
+        Score::MeanMedian => "mean-median",
+        Score::Gap => "gap",
+        Score::CutEdges => "cut-edges",
+    }
+}
+
+/// The name of a tail.
+pub fn tail_text(tail: Tail) -> &'static str
+    ensures { result.now ≡ tail_name tail }
+{
+    match tail {
+        Tail::Low => "low",
+        Tail::High => "high",
+    }
+}

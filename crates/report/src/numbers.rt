@@ -1,0 +1,81 @@
+//! Numbers as they are written in a line.
+
+ghost use Rattle.std.specs.Prelude.{◌≡◌, ◌<◌, ◌≤◌, ◌^◌, ◌∷◌, decimal, replicate};
+ghost use Rattle.std.specs.Fmt.{signed_decimal};
+ghost use Rattle.report.specs.Lines.{Appends};
+ghost use Rattle.text_definitions.specs.Report.{fraction, billionths, nine_digits};
+
+use audit_model::buffers::Bytes;
+use audit_model::memory::Memory;
+use itoa::Buffer;
+
+const BILLION: u64 = 1_000_000_000;
+
+const ZEROS: &str = "000000000";
+
+/// Appends a number.
+pub fn push_number(out: &mut Bytes, number: u64) -> Result<(), Memory>
+    ensures { Appends out.old out.new (decimal number) result }
+{
+    out.append(Buffer::new().format(number).as_bytes())
+}
+
+/// Appends a number, with a minus sign where it is negative.
+pub fn push_signed(out: &mut Bytes, number: i64) -> Result<(), Memory>
+    ensures { Appends out.old out.new (signed_decimal number) result }
+{
+    out.append(Buffer::new().format(number).as_bytes())
+}
+
+/// Appends a numerator, a stroke and a denominator.
+pub fn push_fraction(out: &mut Bytes, top: i64, bottom: u64) -> Result<(), Memory>
+    ensures { Appends out.old out.new (fraction top bottom) result }
+{
+    push_signed(out, top)?;
+    push_denominator(out, bottom)
+}
+
+/// Appends a number of billionths: the whole part, a point and nine digits.
+pub fn push_billionths(out: &mut Bytes, number: u64) -> Result<(), Memory>
+    ensures { Appends out.old out.new (billionths number) result }
+{
+    push_number(out, number / BILLION)?;
+    push_decimals(out, number % BILLION)
+}
+
+/// Appends a stroke and the denominator.
+fn push_denominator(out: &mut Bytes, bottom: u64) -> Result<(), Memory>
+    ensures { Appends out.old out.new (47 ∷ decimal bottom) result }
+{
+    out.push(b'/')?;
+    push_number(out, bottom)
+}
+
+/// Appends a point and nine digits.
+fn push_decimals(out: &mut Bytes, number: u64) -> Result<(), Memory>
+    requires { number < 10 ^ 9 }
+    ensures { Appends out.old out.new (46 ∷ nine_digits number) result }
+{
+    out.push(b'.')?;
+    push_nine_digits(out, number)
+}
+
+/// Appends the number with as many zeros in front as make nine digits.
+fn push_nine_digits(out: &mut Bytes, number: u64) -> Result<(), Memory>
+    requires { number < 10 ^ 9 }
+    ensures { Appends out.old out.new (nine_digits number) result }
+{
+    let mut buffer = Buffer::new();
+    let digits = buffer.format(number);
+    out.append(zeros(9 - digits.len()))?;
+    out.append(digits.as_bytes())
+}
+
+/// This many zeros, of which there are at most nine.
+fn zeros(count: usize) -> &'static [u8]
+    requires { count ≤ 9 }
+    ensures { result.now ≡ replicate count 48 }
+{
+    let nine = ZEROS.as_bytes();
+    &nine[..count]
+}
