@@ -1,0 +1,7 @@
+pub mod Counting
+pub mod Summing
+pub mod Moving
+pub mod Filling
+pub mod Shifted
+pub mod Walking
+pub mod Standing

@@ -1,0 +1,65 @@
+-- What stands for a plan, part by part.
+use Rattle.std.proofs.Common.{◌≡◌, ℕ, ◌≤◌, ◌==◌, true, not, List, length, get_or, sym, ap, ◌∙◌, arith}
+use Rattle.audit_model.specs.declared.outcome.Counts.{Counts}
+use Rattle.audit_model.specs.declared.outcome.SumsView.{SumsView}
+use Rattle.audit_model.specs.Below.{map_below}
+use Rattle.audit_model.specs.Graph.{Graph, count_edges}
+use Rattle.audit_model.specs.Plan.{district_sum}
+use Rattle.audit_model.specs.Score.{cut_edges, sums_of}
+use Rattle.district_sums.specs.Following.{Following, AreAdded, StandsFor, districts_in, apart_of}
+use Rattle.district_sums.proofs.Counting.{counted_edges_le}
+use Rattle.district_sums.proofs.Shifted.{places}
+
+module _ (g : Graph) (counts : Counts) (plan : List ℕ) (sums : Following) (stands : StandsFor g counts plan sums) where
+  pub apart_width : length sums.apart ≡ g.units
+  apart_width = places g.units (apart_of g plan) sums.apart stands.apart
+
+  pub first_width : length sums.view.first ≡ length sums.view.population
+  first_width = places (districts_in sums) (district_sum counts.first plan) sums.view.first (ap (λ (v : SumsView). v.first) stands.view)
+
+  pub second_width : length sums.view.second ≡ length sums.view.population
+  second_width = places (districts_in sums) (district_sum counts.second plan) sums.view.second (ap (λ (v : SumsView). v.second) stands.view)
+
+  pub are_added : AreAdded counts (length sums.view.population) plan sums.view
+  are_added = record {
+    population = ap (λ (v : SumsView). v.population) stands.view;
+    first = ap (λ (v : SumsView). v.first) stands.view;
+    second = ap (λ (v : SumsView). v.second) stands.view;
+  }
+
+  pub cut_is : sums.view.cut ≡ cut_edges g plan
+  cut_is = ap (λ (v : SumsView). v.cut) stands.view
+
+-- no plan cuts more edges than there are
+pub cut_few : (g : Graph) (plan : List ℕ) → cut_edges g plan ≤ count_edges g (λ u v. true)
+cut_few g plan = counted_edges_le g (λ u v. not (get_or plan u 0 == get_or plan v 0)) g.units (omega arith)
+
+-- sums of so many districts have so many places
+pub as_many : (g : Graph) (counts : Counts) (n : ℕ) (plan : List ℕ) (view : SumsView) → view ≡ sums_of g counts n plan → length view.population ≡ n
+as_many g counts n plan view is = places n (district_sum counts.population plan) view.population (ap (λ (v : SumsView). v.population) is)
+
+-- the sums from scratch
+pub stand_anew : (g : Graph) (counts : Counts) (n : ℕ) (plan : List ℕ) (view : SumsView) (apart : List ℕ) → view ≡ sums_of g counts n plan
+    → apart ≡ map_below g.units (apart_of g plan) → StandsFor g counts plan (record { view = view; apart = apart })
+stand_anew g counts n plan view apart is apart_is = record {
+  view = is ∙ ap (λ (k : ℕ). sums_of g counts k plan) (sym (as_many g counts n plan view is));
+  apart = apart_is;
+}
+
+abbrev view_of : List ℕ → List ℕ → List ℕ → ℕ → SumsView
+view_of population first second cut = record { population = population; first = first; second = second; cut = cut }
+
+-- the parts make the whole
+pub all_stand : (g : Graph) (counts : Counts) (n : ℕ) (plan : List ℕ) (view : SumsView) (cut : ℕ) (apart : List ℕ) → AreAdded counts n plan view
+    → cut ≡ cut_edges g plan → apart ≡ map_below g.units (apart_of g plan)
+    → StandsFor g counts plan (record { view = record view { cut = cut }; apart = apart })
+all_stand g counts n plan view cut apart added cut_is apart_is =
+    let population : List ℕ = map_below n (district_sum counts.population plan) in
+    let first : List ℕ = map_below n (district_sum counts.first plan) in
+    let second : List ℕ = map_below n (district_sum counts.second plan) in
+    stand_anew g counts n plan (record view { cut = cut }) apart
+    (ap (λ (x : List ℕ). view_of x view.first view.second cut) added.population
+    ∙ ap (λ (x : List ℕ). view_of population x view.second cut) added.first
+    ∙ ap (λ (x : List ℕ). view_of population first x cut) added.second
+    ∙ ap (λ (x : ℕ). view_of population first second x) cut_is)
+    apart_is

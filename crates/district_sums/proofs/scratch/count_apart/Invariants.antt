@@ -1,0 +1,5 @@
+use Rattle.district_sums.proofs.Filling.{IsFilled}
+use Rattle.district_sums.proofs.scratch.count_apart.Given as goal
+
+abbrev pub invariant-loop-unit : goal.invariant-loop-unit
+invariant-loop-unit l = IsFilled l.g l.plan l.unit l.apart

@@ -1,0 +1,45 @@
+-- Sums that follow a plan as its units move.
+use Rattle.std.specs.Prelude.{◌≡◌, ℕ, ◌<◌, ◌==◌, ◌&&◌, not, List, length, slice_index}
+use Rattle.audit_model.specs.declared.outcome.Counts.{Counts}
+use Rattle.audit_model.specs.declared.outcome.SumsView.{SumsView}
+use Rattle.audit_model.specs.Below.{count_below, map_below}
+use Rattle.audit_model.specs.Graph.{Graph, adjacent}
+use Rattle.audit_model.specs.Limits.{IsColumn}
+use Rattle.audit_model.specs.Plan.{district_sum}
+use Rattle.audit_model.specs.Score.{sums_of}
+
+-- the sums of the districts, and for each unit how many of its neighbours are in other districts
+pub record Following : Type 0 where
+  pub view : SumsView
+  pub apart : List ℕ
+
+-- how many of the unit's neighbours are in other districts
+abbrev pub apart_of : Graph → List ℕ → ℕ → ℕ
+apart_of g plan u = count_below g.units (λ v. adjacent g u v && not (slice_index plan v == slice_index plan u))
+
+-- how many districts there are
+abbrev pub districts_in : Following → ℕ
+districts_in sums = length sums.view.population
+
+-- the population and the votes are those of the plan
+pub record AreAdded (counts : Counts) (districts : ℕ) (plan : List ℕ) (view : SumsView) : Type 0 where
+  pub population : view.population ≡ map_below districts (district_sum counts.population plan)
+  pub first : view.first ≡ map_below districts (district_sum counts.first plan)
+  pub second : view.second ≡ map_below districts (district_sum counts.second plan)
+
+-- the sums and the counts of neighbours are those of the plan
+pub record StandsFor (g : Graph) (counts : Counts) (plan : List ℕ) (sums : Following) : Type 0 where
+  pub view : sums.view ≡ sums_of g counts (districts_in sums) plan
+  pub apart : sums.apart ≡ map_below g.units (apart_of g plan)
+
+-- they are those of some plan
+abbrev pub StandsForSome : Graph → Counts → Following → Type 0
+StandsForSome g counts sums = (plan : List ℕ) × StandsFor g counts plan sums
+
+-- each unit has a population, votes of both parties and a district, and each count is at most 10 ^ 9
+pub record AreInputs (g : Graph) (counts : Counts) (districts : ℕ) (plan : List ℕ) : Type 0 where
+  pub population : IsColumn g.units counts.population
+  pub first : IsColumn g.units counts.first
+  pub second : IsColumn g.units counts.second
+  pub complete : length plan ≡ g.units
+  pub in_range : (u : ℕ) → u < g.units → slice_index plan u < districts

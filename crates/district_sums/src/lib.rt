@@ -1,0 +1,8 @@
+//! The sums of a plan, kept up to date as units move from district to district.
+#![tactic(auto)]
+
+pub mod scratch;
+pub mod shifting;
+pub mod sums;
+#[cfg(test)]
+mod tests;

@@ -1,0 +1,116 @@
+//! What changes where one unit moves.
+
+ghost use Rattle.std.specs.Prelude.{◌≡◌, ◌≢◌, ℕ, ◌+◌, ◌^◌, ◌<◌, ◌≤◌, cond, IsTrue, length, slice_index, slice_set, All};
+ghost use Rattle.audit_model.specs.Below.{map_below};
+ghost use Rattle.audit_model.specs.Limits.{IsColumn};
+ghost use Rattle.audit_model.specs.Plan.{district_sum};
+ghost use Rattle.district_sums.specs.Following.{AreAdded, apart_of};
+
+use audit_model::lists::{NumList, UnitList};
+use audit_model::outcome::{Counts, SumsView};
+use dual_graph::graph::Graph;
+
+/// Moves a unit's part of a column from its district's sum to that of another district.
+fn shift_column(column: &[u64], plan: &[u32], u: u32, d: u32, sums: &mut [u64])
+    requires lengths { length column.now ≡ length plan.now }
+    requires few { length plan.now ≤ 100000 }
+    requires small { All (λ n. n ≤ 10 ^ 9) column.now }
+    requires unit { u < length plan.now }
+    requires home { slice_index plan.now u < length sums.old }
+    requires district { d < length sums.old }
+    requires elsewhere { slice_index plan.now u ≢ d }
+    requires added { sums.old ≡ map_below (length sums.old) (district_sum column.now plan.now) }
+    ensures { sums.new ≡ map_below (length sums.old) (district_sum column.now (slice_set plan.now u d)) }
+{
+    let amount = column[u as usize];
+    sums[plan[u as usize] as usize] -= amount;
+    sums[d as usize] += amount;
+}
+
+/// The same for the districts' sums in a list.
+fn shift_list(column: &NumList, plan: &[u32], u: u32, d: u32, sums: &mut NumList)
+    requires lengths { length column.now ≡ length plan.now }
+    requires few { length plan.now ≤ 100000 }
+    requires small { All (λ n. n ≤ 10 ^ 9) column.now }
+    requires unit { u < length plan.now }
+    requires home { slice_index plan.now u < length sums.old }
+    requires district { d < length sums.old }
+    requires elsewhere { slice_index plan.now u ≢ d }
+    requires added { sums.old ≡ map_below (length sums.old) (district_sum column.now plan.now) }
+    ensures { sums.new ≡ map_below (length sums.old) (district_sum column.now (slice_set plan.now u d)) }
+{
+    shift_column(column.as_slice(), plan, u, d, sums.as_mut_slice());
+}
+
+/// The population and the votes of the districts where a unit moves to another district.
+pub(crate) fn shift_counts(counts: &Counts, plan: &[u32], u: u32, d: u32, view: &mut SumsView)
+    requires population { IsColumn (length plan.now) counts.now.population }
+    requires first { IsColumn (length plan.now) counts.now.first }
+    requires second { IsColumn (length plan.now) counts.now.second }
+    requires few { length plan.now ≤ 100000 }
+    requires unit { u < length plan.now }
+    requires home { slice_index plan.now u < length view.old.population }
+    requires district { d < length view.old.population }
+    requires elsewhere { slice_index plan.now u ≢ d }
+    requires added { AreAdded counts.now (length view.old.population) plan.now view.old }
+    ensures added { AreAdded counts.now (length view.old.population) (slice_set plan.now u d) view.new }
+    ensures cut { view.new.cut ≡ view.old.cut }
+{
+    shift_list(&counts.population, plan, u, d, &mut view.population);
+    shift_list(&counts.first, plan, u, d, &mut view.first);
+    shift_list(&counts.second, plan, u, d, &mut view.second);
+}
+
+/// The count with one more where the neighbour counts.
+#[inline]
+fn with_one(count: u32, counts: bool) -> u32
+    requires few { count ≤ 100000 }
+    ensures { result ≡ count + cond counts 1 0 }
+{
+    if counts { count + 1 } else { count }
+}
+
+/// The count where a neighbour counted or not, and counts or not now.
+#[inline]
+fn recounted(count: u32, counted: bool, counts: bool) -> u32
+    requires some { IsTrue counted → 0 < count }
+    requires few { count ≤ 100000 }
+    ensures { result + cond counted 1 0 ≡ count + cond counts 1 0 }
+{
+    match (counted, counts) {
+        (true, false) => count - 1,
+        (false, true) => count + 1,
+        _ => count,
+    }
+}
+
+/// Changes the counts of neighbours elsewhere where a unit moves to another district: its neighbours' and its own.
+fn recount(g: &Graph, plan: &[u32], u: u32, d: u32, apart: &mut [u32])
+    requires plan { length plan.now ≡ g.now.units }
+    requires unit { u < g.now.units }
+    requires width { length apart.old ≡ g.now.units }
+    requires apart { apart.old ≡ map_below g.now.units (apart_of g.now plan.now) }
+    ensures { apart.new ≡ map_below g.now.units (apart_of g.now (slice_set plan.now u d)) }
+{
+    let _units = g.units();
+    let home = plan[u as usize];
+    let mut others = 0;
+    for other in g.neighbours(u) {
+        let v = *other as usize;
+        let district = plan[v];
+        apart[v] = recounted(apart[v], district != home, district != d);
+        others = with_one(others, district != d);
+    }
+    apart[u as usize] = others;
+}
+
+/// The same for the counts in a list.
+pub(crate) fn shift_apart(g: &Graph, plan: &[u32], u: u32, d: u32, apart: &mut UnitList)
+    requires plan { length plan.now ≡ g.now.units }
+    requires unit { u < g.now.units }
+    requires width { length apart.old ≡ g.now.units }
+    requires apart { apart.old ≡ map_below g.now.units (apart_of g.now plan.now) }
+    ensures { apart.new ≡ map_below g.now.units (apart_of g.now (slice_set plan.now u d)) }
+{
+    recount(g, plan, u, d, apart.as_mut_slice());
+}

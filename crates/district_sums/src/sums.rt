@@ -1,0 +1,96 @@
+//! Sums that follow a plan.
+
+ghost use Rattle.std.specs.Prelude.{◌≡◌, ◌<◌, length, slice_set, IfOk};
+ghost use Rattle.district_sums.specs.Following.{AreInputs, StandsFor, StandsForSome, districts_in};
+
+use crate::scratch::{refill_apart, refill_view};
+use crate::shifting::{shift_apart, shift_counts};
+use audit_model::lists::{NumList, UnitList};
+use audit_model::memory::Memory;
+use audit_model::outcome::{Counts, SumsView};
+use dual_graph::graph::Graph;
+use std::alloc::Global;
+use std::marker::Model;
+
+/// The sums of a plan of a graph, and for each unit how many of its neighbours are in other districts.
+#[derive(Drop)]
+pub struct Sums {
+    view: SumsView,
+    apart: UnitList,
+}
+
+impl Model for Sums {
+    ghost use Rattle.district_sums.specs.Following.{Following};
+
+    ghost Value = { Following };
+
+    ghost view = { λ s. record { view = s.view; apart = s.apart } };
+}
+
+impl Sums {
+    /// The sums of a plan.
+    pub fn of(
+        alloc: Global,
+        g: &Graph,
+        counts: &Counts,
+        districts: u32,
+        plan: &[u32],
+    ) -> Result<Sums, Memory>
+        requires inputs { AreInputs g.now counts.now districts plan.now }
+        ensures districts { IfOk result (λ s. districts_in s ≡ districts) }
+        ensures stands { IfOk result (λ s. StandsFor g.now counts.now plan.now s) }
+    {
+        let mut view = SumsView {
+            population: NumList::zeros(alloc, districts as usize)?,
+            first: NumList::zeros(alloc, districts as usize)?,
+            second: NumList::zeros(alloc, districts as usize)?,
+            cut: 0,
+        };
+        let mut apart = UnitList::zeros(alloc, g.units() as usize)?;
+        refill_view(g, counts, plan, &mut view);
+        refill_apart(g, plan, &mut apart);
+        Ok(Sums { view, apart })
+    }
+
+    /// Moves a unit to a district, in the plan and in the sums. It reads the unit's neighbours alone, and takes no memory.
+    pub fn shift(&mut self, g: &Graph, counts: &Counts, plan: &mut [u32], u: u32, d: u32)
+        requires inputs { AreInputs g.now counts.now (districts_in self.old) plan.old }
+        requires stands { StandsFor g.now counts.now plan.old self.old }
+        requires unit { u < g.now.units }
+        requires district { d < districts_in self.old }
+        ensures plan { plan.new ≡ slice_set plan.old u d }
+        ensures districts { districts_in self.new ≡ districts_in self.old }
+        ensures stands { StandsFor g.now counts.now plan.new self.new }
+    {
+        let _units = g.units();
+        let _edges = g.edges();
+        if plan[u as usize] == d {
+            return;
+        }
+        let before = self.apart.as_slice()[u as usize];
+        shift_counts(counts, plan, u, d, &mut self.view);
+        shift_apart(g, plan, u, d, &mut self.apart);
+        let after = self.apart.as_slice()[u as usize];
+        self.view.cut = self.view.cut + after - before;
+        plan[u as usize] = d;
+    }
+
+    /// Makes the sums those of another plan. It takes no memory.
+    pub fn refill(&mut self, g: &Graph, counts: &Counts, plan: &[u32])
+        requires inputs { AreInputs g.now counts.now (districts_in self.old) plan.now }
+        requires stands { StandsForSome g.now counts.now self.old }
+        ensures districts { districts_in self.new ≡ districts_in self.old }
+        ensures stands { StandsFor g.now counts.now plan.now self.new }
+    {
+        refill_view(g, counts, plan, &mut self.view);
+        refill_apart(g, plan, &mut self.apart);
+    }
+
+    /// The sums of the districts.
+    #[inline]
+    pub fn view(&self) -> &SumsView
+        ensures { result.now ≡ self.now.view }
+    {
+        &self.view
+    }
+}
