@@ -3,4 +3,6 @@
 
 mod asked;
 mod steps;
+#[cfg(test)]
+mod tests;
 pub mod walker;
