@@ -1,9 +1,9 @@
 -- What the refusals of a plan say of it.
-use Rattle.std.proofs.Common.{◌≡◌, ℕ, ◌<◌, Bool, true, false, not, ◌&&◌, List, length, get_or, Option, Some, None, refl, sym, ap, ◌∙◌, inl, inr}
-use Rattle.std.specs.Prelude.{◌↔◌, is_none, is_some, option_map, unwrap_or, Ok, Err}
+use Rattle.std.proofs.Common.{◌≡◌, ℕ, ◌<◌, Bool, true, false, not, ◌&&◌, List, length, get_or, Option, Some, None, refl, sym, ap, ◌∙◌, subst, inl, inr}
+use Rattle.std.specs.Prelude.{◌↔◌, is_none, is_some, option_map, unwrap_or, ◌⊎◌, Result, Ok, Err, IfOk, MatchResult}
 use Rattle.std.proofs.lemmas.Bool.{and_parts, and_from, cases_Bool, cond-true, cond-false, not-false, not_from_true, not_from_false}
 use Rattle.audit_model.specs.declared.fault.PlanFault.{PlanFault}
-use Rattle.audit_model.specs.declared.fault.PlanFault.TheVariants.{Disconnected}
+use Rattle.audit_model.specs.declared.fault.PlanFault.TheVariants.{Disconnected, Memory}
 use Rattle.audit_model.specs.declared.setting.Setting.{Setting}
 use Rattle.audit_model.specs.First.{first_below}
 use Rattle.audit_model.specs.Graph.{Graph}
@@ -154,3 +154,14 @@ job_of_none parsed setting none = ap (job_or (job_from parsed setting)) none
 pub job_of_some : (parsed : Parsed) (setting : Setting) (fault : PlanFault) → plan_fault (job_from parsed setting) ≡ Some fault → job_of parsed setting ≡ Err fault
 unfolding job_of
 job_of_some parsed setting fault some = ap (job_or (job_from parsed setting)) some
+
+-- what was made of a job, or want of memory
+module _ (job : Job) where
+  pub given_job : (judged made : Result Job PlanFault) → MatchResult made (λ given. given ≡ job) (λ fault. fault ≡ Memory) → judged ≡ Ok job
+      → MatchResult made (λ given. judged ≡ Ok given) (λ fault. (fault ≡ Memory) ⊎ (judged ≡ Err fault))
+  given_job judged (Ok given) h is = is ∙ ap (λ (j : Job). Ok j) (sym h)
+  given_job judged (Err fault) h is = inl h
+
+  pub given_sound : (made : Result Job PlanFault) → MatchResult made (λ given. given ≡ job) (λ fault. fault ≡ Memory) → IsJob job → IfOk made (λ given. IsJob given)
+  given_sound (Ok given) h sound = subst IsJob (sym h) sound
+  given_sound (Err fault) h sound = tt

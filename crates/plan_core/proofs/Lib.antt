@@ -4,3 +4,5 @@ pub mod Judged
 pub mod Parted
 pub mod Paths
 pub mod Searching
+pub mod Voted
+pub mod Started

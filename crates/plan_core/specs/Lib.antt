@@ -2,3 +2,4 @@ pub mod Input
 pub mod Outside
 pub mod Parting
 pub mod Search
+pub mod Valued

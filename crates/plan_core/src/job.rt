@@ -1,14 +1,17 @@
 //! The job of a run.
 
-ghost use Rattle.std.specs.Prelude.{◌≡◌, ◌+◌, ◌<◌, ◌↔◌, ◌⊎◌, ℕ, Ok, Err, length, slice_index, IsTrue, IfOk, MatchResult};
+ghost use Rattle.std.specs.Prelude.{◌≡◌, ◌+◌, ◌<◌, ◌↔◌, ◌⊎◌, ℕ, Ok, Err, length, slice_index, pos, IsTrue, IfOk, IfSome, MatchResult};
+ghost use Rattle.std.specs.List.{slice_get, slice_index_or};
 ghost use Rattle.audit_model.specs.declared.fault.PlanFault.TheVariants as plan;
 ghost use Rattle.audit_model.specs.Job.{total_population, total_votes};
 ghost use Rattle.audit_model.specs.JobOf.{IsJob, job_from, job_of};
 ghost use Rattle.audit_model.specs.Limits.{IsWithinLimits};
 ghost use Rattle.audit_model.specs.Plan.{IsLegal, is_legal, least_population, greatest_population};
+ghost use Rattle.audit_model.specs.Trajectory.{plan_value};
 ghost use Rattle.dual_graph.specs.Read.{parsed_of};
 
 use crate::input::Input;
+use crate::values::start_values;
 use audit_model::fault::PlanFault;
 use audit_model::lists::UnitList;
 use audit_model::outcome::Counts;
@@ -26,6 +29,7 @@ mod tests;
 #[derive(Drop)]
 pub struct Job {
     input: Input,
+    values: [i64; 4],
 }
 
 impl Model for Job {
@@ -33,11 +37,19 @@ impl Model for Job {
 
     ghost Value = { JobValue };
 
-    ghost use Rattle.audit_model.specs.JobOf.{IsJob as IsJobValue};
+    ghost use Rattle.plan_core.specs.Valued.{IsValued};
 
     ghost view = { λ j. j.input };
 
-    ghost invariant = { λ j. IsJobValue j.input };
+    ghost invariant = { λ j. IsValued j.input j.values };
+}
+
+/// The value at a place.
+fn entry(values: &[i64], place: usize) -> i64
+    requires { place < length values.now }
+    ensures { result ≡ slice_index_or values.now place (pos 0) }
+{
+    values[place]
 }
 
 impl Job {
@@ -49,7 +61,7 @@ impl Job {
     /// - `OutOfBounds`: the least district whose population is outside the bounds.
     /// - `Disconnected`: the least district that is not connected, with its least unit and the least one
     ///   to which no path within the district leads from there.
-    /// - `Memory`: there was no memory for the search.
+    /// - `Memory`: there was no memory for the search, or for the sums of the plan.
     pub fn new(alloc: Global, parsed: Parsed, setting: Setting) -> Result<Job, PlanFault>
         requires within { IsWithinLimits (job_from (parsed_of parsed) setting) }
         ensures job { MatchResult result (λ job. job_of (parsed_of parsed) setting ≡ Ok job)
@@ -60,7 +72,18 @@ impl Job {
         match input.plan_fault(alloc) {
             Err(_) => Err(PlanFault::Memory),
             Ok(Some(fault)) => Err(fault),
-            Ok(None) => Ok(Job { input }),
+            Ok(None) => Job::with_values(alloc, input),
+        }
+    }
+
+    /// The job of an input whose plan is legal.
+    fn with_values(alloc: Global, input: Input) -> Result<Job, PlanFault>
+        requires { IsJob input }
+        ensures { MatchResult result (λ job. job ≡ input) (λ fault. fault ≡ plan.Memory) }
+    {
+        match start_values(alloc, &input) {
+            Err(_) => Err(PlanFault::Memory),
+            Ok(values) => Ok(Job { input, values }),
         }
     }
 
@@ -105,6 +128,14 @@ impl Job {
         ensures legal { IsLegal self.now result.now }
     {
         self.input.start()
+    }
+
+    /// The numerator of the start plan's score for the ask at a place.
+    pub fn start_value(&self, ask: u32) -> i64
+        requires { ask < length self.now.setting.asks }
+        ensures { IfSome (slice_get self.now.setting.asks ask) (λ asked. result ≡ plan_value self.now self.now.start asked.score) }
+    {
+        entry(&self.values, ask as usize)
     }
 
     /// The setting.

@@ -6,3 +6,4 @@ mod input;
 pub mod job;
 mod search;
 mod sums;
+mod values;

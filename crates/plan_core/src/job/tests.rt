@@ -1,7 +1,9 @@
-//! Jobs on a path of three units.
+//! Jobs on short paths.
 
-ghost use Rattle.std.specs.Prelude.{◌≡◌, ◌<◌, ◌≤◌, length, IfOk, All};
+ghost use Rattle.std.specs.Prelude.{◌≡◌, ◌≢◌, ◌<◌, ◌≤◌, length, IfOk, All};
+ghost use Rattle.std.specs.List.{AllPairs};
 ghost use Rattle.audit_model.specs.Limits.{AreWithin, IsColumn, IsSetting};
+ghost use Rattle.dual_graph.specs.Pairs.{ArePairs};
 
 use super::Job;
 use audit_model::fault::PlanFault;
@@ -49,26 +51,30 @@ fn labels_of(alloc: Global, count: u32) -> Result<LabelList, Memory>
     Ok(labels)
 }
 
-/// A path of three units, in which both parties have the same votes.
-fn path_of_three(
+/// What is read of a graph of a few units.
+fn parsed_of(
     alloc: Global,
+    pairs: &[(u32, u32)],
     populations: &[u64],
-    votes: &[u64],
+    first: &[u64],
+    second: &[u64],
     start: &[u32],
     districts: u32,
 ) -> Result<Parsed, Memory>
-    requires populations { IsColumn 3 populations.now }
-    requires votes { IsColumn 3 votes.now }
-    requires length { length start.now ≡ 3 }
+    requires few { (length start.now ≤ 4) × (length pairs.now ≤ 4) }
+    requires pairs { ArePairs (length start.now) pairs.now }
+    requires populations { IsColumn (length start.now) populations.now }
+    requires first { IsColumn (length start.now) first.now }
+    requires second { IsColumn (length start.now) second.now }
     requires start { All (λ d. d < districts) start.now }
     requires districts { (2 ≤ districts) × (districts ≤ 200) }
     ensures { IfOk result (λ parsed. AreWithin parsed.graph parsed.counts parsed.start (length parsed.labels)) }
 {
-    let graph = Graph::from_pairs(alloc, 3, &[(0, 1), (1, 2)])?;
+    let graph = Graph::from_pairs(alloc, start.len() as u32, pairs)?;
     let counts = Counts {
         population: numbers(alloc, populations)?,
-        first: numbers(alloc, votes)?,
-        second: numbers(alloc, votes)?,
+        first: numbers(alloc, first)?,
+        second: numbers(alloc, second)?,
     };
     Ok(Parsed {
         graph,
@@ -78,17 +84,14 @@ fn path_of_three(
     })
 }
 
-/// One trajectory of one step, that asks for the score.
-fn setting_with(alloc: Global, slack: u32, score: Score) -> Result<Setting, Memory>
-    requires { slack ≤ 10000 }
-    ensures { IfOk result (λ setting. IsSetting setting) }
+/// One trajectory of one step.
+fn setting_with(alloc: Global, slack: u32, asks: AskList) -> Setting
+    requires slack { slack ≤ 10000 }
+    requires asks { (1 ≤ length asks) × (length asks ≤ 4) }
+    requires apart { AllPairs (λ a b. a ≢ b) asks }
+    ensures { IsSetting result }
 {
-    let mut asks = AskList::new(alloc);
-    asks.push(Ask {
-        score,
-        tail: Tail::Low,
-    })?;
-    Ok(Setting {
+    Setting {
         command: Command::Run,
         columns: Columns {
             population: Text::new(alloc),
@@ -108,10 +111,41 @@ fn setting_with(alloc: Global, slack: u32, score: Score) -> Result<Setting, Memo
         save_every: 0,
         resume: false,
         size: 0,
-    })
+    }
 }
 
-/// The job of a path of three units, or why it is refused.
+/// The one ask for a score.
+fn one_ask(alloc: Global, score: Score) -> Result<AskList, Memory>
+    ensures one { IfOk result (λ asks. length asks ≡ 1) }
+    ensures apart { IfOk result (λ asks. AllPairs (λ a b. a ≢ b) asks) }
+{
+    let mut asks = AskList::new(alloc);
+    asks.push(Ask {
+        score,
+        tail: Tail::Low,
+    })?;
+    Ok(asks)
+}
+
+/// The asks for two scores.
+fn two_asks(alloc: Global, one: Score, other: Score) -> Result<AskList, Memory>
+    requires { one ≢ other }
+    ensures two { IfOk result (λ asks. length asks ≡ 2) }
+    ensures apart { IfOk result (λ asks. AllPairs (λ a b. a ≢ b) asks) }
+{
+    let mut asks = AskList::new(alloc);
+    asks.push(Ask {
+        score: one,
+        tail: Tail::Low,
+    })?;
+    asks.push(Ask {
+        score: other,
+        tail: Tail::Low,
+    })?;
+    Ok(asks)
+}
+
+/// The job of a path of three units in which both parties have the same votes, or why it is refused.
 fn judged(
     alloc: Global,
     populations: &[u64],
@@ -128,13 +162,49 @@ fn judged(
     requires districts { (2 ≤ districts) × (districts ≤ 200) }
     requires slack { slack ≤ 10000 }
 {
-    let Ok(parsed) = path_of_three(alloc, populations, votes, start, districts) else {
+    let pairs = [(0, 1), (1, 2)];
+    let Ok(parsed) = parsed_of(alloc, &pairs, populations, votes, votes, start, districts) else {
         return Err(PlanFault::Memory);
     };
-    let Ok(setting) = setting_with(alloc, slack, score) else {
+    let Ok(asks) = one_ask(alloc, score) else {
         return Err(PlanFault::Memory);
     };
-    Job::new(alloc, parsed, setting)
+    Job::new(alloc, parsed, setting_with(alloc, slack, asks))
+}
+
+/// The job of a path of three units with three votes in the first unit, that asks for the gap and then for seats.
+fn three_units(alloc: Global) -> Result<Job, PlanFault> {
+    let pairs = [(0, 1), (1, 2)];
+    let votes = ([3, 1, 4], [1, 3, 0]);
+    let Ok(parsed) = parsed_of(alloc, &pairs, &[1, 1, 1], &votes.0, &votes.1, &[0, 1, 1], 2) else {
+        return Err(PlanFault::Memory);
+    };
+    let Ok(asks) = two_asks(alloc, Score::Gap, Score::Seats) else {
+        return Err(PlanFault::Memory);
+    };
+    Job::new(alloc, parsed, setting_with(alloc, 5000, asks))
+}
+
+/// The job of a path of four units in three districts, that asks for cut edges and then for mean-median.
+fn four_units(alloc: Global) -> Result<Job, PlanFault> {
+    let pairs = [(0, 1), (1, 2), (2, 3)];
+    let votes = ([6, 1, 5, 1], [4, 3, 5, 3]);
+    let Ok(parsed) = parsed_of(alloc, &pairs, &[1; 4], &votes.0, &votes.1, &[0, 0, 1, 2], 3) else {
+        return Err(PlanFault::Memory);
+    };
+    let Ok(asks) = two_asks(alloc, Score::CutEdges, Score::MeanMedian) else {
+        return Err(PlanFault::Memory);
+    };
+    Job::new(alloc, parsed, setting_with(alloc, 5000, asks))
+}
+
+/// The start plan's value for the ask at a place, where there is one.
+fn value_at(job: &Job, ask: u32) -> Option<i64> {
+    if (ask as usize) < job.setting().asks.len() {
+        Some(job.start_value(ask))
+    } else {
+        None
+    }
 }
 
 /// Whether the job finds its own start plan legal.
@@ -255,5 +325,22 @@ fn a_job_has_its_parts(rt: HostRuntime) -> Result<(), Fail> {
     )?;
     assert!(rt; has_its_parts(&job));
     assert!(rt; finds_start_legal(alloc, &job)?);
+    Ok(())
+}
+
+#[test]
+fn start_values_of_three_units(rt: HostRuntime) -> Result<(), Fail> {
+    let job = three_units(rt.alloc())?;
+    assert_eq!(rt; value_at(&job, 0), Some(4));
+    assert_eq!(rt; value_at(&job, 1), Some(2));
+    assert_eq!(rt; value_at(&job, 2), None);
+    Ok(())
+}
+
+#[test]
+fn start_values_of_four_units(rt: HostRuntime) -> Result<(), Fail> {
+    let job = four_units(rt.alloc())?;
+    assert_eq!(rt; value_at(&job, 0), Some(2));
+    assert_eq!(rt; value_at(&job, 1), Some(500_000_000));
     Ok(())
 }

@@ -1,0 +1,69 @@
+//! The values of the start plan.
+
+ghost use Rattle.std.specs.Prelude.{◌≡◌, length, IfOk};
+ghost use Rattle.std.specs.List.{slice_get};
+ghost use Rattle.audit_model.specs.Job.{Job};
+ghost use Rattle.audit_model.specs.JobOf.{IsJob};
+ghost use Rattle.audit_model.specs.Score.{sums_of};
+ghost use Rattle.audit_model.specs.Trajectory.{plan_value};
+ghost use Rattle.plan_core.specs.Valued.{value_of, start_values};
+
+use crate::input::Input;
+use audit_model::memory::Memory;
+use audit_model::outcome::SumsView;
+use audit_model::setting::{Ask, Score};
+use district_sums::sums::Sums;
+use scores::value;
+use std::alloc::Global;
+
+/// The numerator of a score of the start plan, from its sums.
+fn scored(input: &Input, sums: &SumsView, score: Score, room: &mut [u64]) -> i64
+    requires sound { IsJob input.now }
+    requires sums { sums.now ≡ sums_of input.now.graph input.now.counts input.now.districts input.now.start }
+    requires room { length room.old ≡ 200 }
+    ensures { result ≡ plan_value input.now input.now.start score }
+{
+    value(score, sums, room)
+}
+
+/// The value of the ask at a place, and zero past the asks.
+#[tactic(auto, unfolding(crate::specs::Valued::value_of))]
+fn value_at(input: &Input, sums: &SumsView, asks: &[Ask], place: usize, room: &mut [u64]) -> i64
+    requires sound { IsJob input.now }
+    requires sums { sums.now ≡ sums_of input.now.graph input.now.counts input.now.districts input.now.start }
+    requires room { length room.old ≡ 200 }
+    ensures { result ≡ value_of input.now (slice_get asks.now place) }
+{
+    match asks.get(place) {
+        None => 0,
+        Some(ask) => scored(input, sums, ask.score, room),
+    }
+}
+
+/// The values of the asks, and zeros past them. Where nothing is asked, no sums are made.
+#[tactic(auto, unfolding(crate::specs::Valued::value_of))]
+pub fn start_values(alloc: Global, input: &Input) -> Result<[i64; 4], Memory>
+    requires { IsJob input.now }
+    ensures { IfOk result (λ values. values ≡ start_values input.now) }
+{
+    let asks = input.setting().asks.as_slice();
+    if asks.is_empty() {
+        return Ok([0; 4]);
+    }
+    let plan = input.start().as_slice();
+    let made = Sums::of(
+        alloc,
+        input.graph(),
+        input.counts(),
+        input.districts(),
+        plan,
+    )?;
+    let sums = made.view();
+    let mut room = [0; 200];
+    Ok([
+        value_at(input, sums, asks, 0, &mut room),
+        value_at(input, sums, asks, 1, &mut room),
+        value_at(input, sums, asks, 2, &mut room),
+        value_at(input, sums, asks, 3, &mut room),
+    ])
+}
