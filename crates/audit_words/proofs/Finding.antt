@@ -1,5 +1,5 @@
 -- Searches from the front that pass over what they do not want.
-use Rattle.std.proofs.Common.{◌≡◌, ℕ, zero, suc, ◌<◌, ◌≤◌, Bool, true, false, List, [], ◌∷◌, length, get_or, drop, refl, subst, inl, inr, arith, Option, Some, None}
+use Rattle.std.proofs.Common.{◌≡◌, ℕ, zero, suc, ◌<◌, ◌≤◌, Bool, true, false, not, List, [], ◌∷◌, length, get_or, drop, refl, subst, inl, inr, arith, Option, Some, None}
 use Rattle.std.proofs.lemmas.Bool.{or_left, or_right, cases_eq}
 use Rattle.std.specs.Prelude.{find}
 use Rattle.audit_model.specs.Below.{any_below}
@@ -40,3 +40,13 @@ first_some_below-stops (suc n) k f x l none some = elim (cases_eq k n) [
 
 pub first_some_below-none : {A : Type 0} (k m : ℕ) (f : ℕ → Option A) → m ≡ suc k → first_some_below k f ≡ None → f k ≡ None → first_some_below m f ≡ None
 first_some_below-none k m f e none here = rw (e, none, here) refl
+
+-- a search for what does not pass, where all passes up to a place
+pub find-failing : {X : Type 0} (p : X → Bool) (xs : List X) (k : ℕ) (d : X) → k < length xs → ((j : ℕ) → j < k → p (get_or xs j d) ≡ true) → p (get_or xs k d) ≡ false → find (λ x. not (p x)) xs ≡ Some (get_or xs k d)
+find-failing p [] k d inside below fails = absurd (omega arith)
+find-failing p (x ∷ xs) zero d inside below fails = rw fails refl
+find-failing p (x ∷ xs) (suc k) d inside below fails = let here : p x ≡ true = below 0 (omega arith) in rw here (find-failing p xs k d (omega arith) (λ j less. below (suc j) (omega arith)) fails)
+
+pub find-no_failing : {X : Type 0} (p : X → Bool) (xs : List X) (d : X) → ((j : ℕ) → j < length xs → p (get_or xs j d) ≡ true) → find (λ x. not (p x)) xs ≡ None
+find-no_failing p [] d all = refl
+find-no_failing p (x ∷ xs) d all = let here : p x ≡ true = all 0 (omega arith) in rw here (find-no_failing p xs d (λ j less. all (suc j) (omega arith)))

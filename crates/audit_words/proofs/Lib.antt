@@ -1,4 +1,10 @@
+pub mod Accepted
+pub mod Asking
 pub mod Finding
+pub mod Goodness
 pub mod Numbers
+pub mod Order
 pub mod Pairing
+pub mod Parting
 pub mod Reading
+pub mod Spelling

@@ -1,22 +1,12 @@
 -- The setting of words, by the places where a fault is looked for.
-use Rattle.std.proofs.Common.{◌≡◌, ◌∙◌, ℕ, Bool, true, false, cond, not, arith, is_none, find, List, [], ◌∷◌, length, refl, ap, sym, String, Option, Some, None, option_map, Ok, Err}
-use Rattle.audit_model.specs.First.{first_some, first_some_below}
+use Rattle.std.proofs.Common.{◌≡◌, ◌∙◌, ℕ, arith, List, [], ◌∷◌, length, refl, ap, sym, String, Option, Some, None, Ok, Err}
+use Rattle.audit_model.specs.First.{first_some}
 use Rattle.audit_model.specs.declared.fault.WordFault.{WordFault}
-use Rattle.audit_model.specs.declared.fault.WordFault.TheVariants.{NoCommand, UnknownCommand, MissingName, BadValue}
+use Rattle.audit_model.specs.declared.fault.WordFault.TheVariants.{NoCommand, UnknownCommand}
 use Rattle.audit_model.specs.declared.setting.Command.{Command}
-use Rattle.audit_model.specs.declared.setting.Command.TheVariants.{Check}
+use Rattle.audit_words.specs.Judged.{fault_of_pairs, fault_of_names, fault_of_values}
 use Rattle.audit_words.specs.Spoken.{spoken}
-use Rattle.text_definitions.specs.Words.{Pair, pairs, command_of, pair_fault, value_of, is_good, names_of, fault_of, of_command, setting_for, setting_or, setting_of}
-
--- the three places
-abbrev pub fault_of_pairs : Command → List Pair → Option WordFault
-fault_of_pairs command words = first_some_below (length words) (pair_fault command words)
-
-abbrev pub fault_of_names : Command → List Pair → Option WordFault
-fault_of_names command words = option_map MissingName (find (λ name. is_none (value_of command words name)) (names_of command))
-
-abbrev pub fault_of_values : Command → List Pair → Option WordFault
-fault_of_values command words = option_map BadValue (find (λ name. not (is_good command words name)) (names_of command))
+use Rattle.text_definitions.specs.Words.{Pair, pairs, command_of, fault_of, of_command, setting_for, setting_or, setting_of}
 
 -- which of three is the first that is there
 first_of : {A : Type 0} (a b c : Option A) (x : A) → a ≡ Some x → first_some (a ∷ b ∷ c ∷ []) ≡ Some x
@@ -28,14 +18,6 @@ second_of a b c x none h = rw (none, h) refl
 third_of : {A : Type 0} (a b c : Option A) (o : Option A) → a ≡ None → b ≡ None → c ≡ o → first_some (a ∷ b ∷ c ∷ []) ≡ o
 third_of a b c None none nor h = rw (none, nor, h) refl
 third_of a b c (Some x) none nor h = rw (none, nor, h) refl
-
--- the only command
-chosen : (b : Bool) (command : Command) → cond b (Some Check) None ≡ Some command → command ≡ Check
-chosen true command h = cc
-chosen false command h = cc
-
-pub command_of-check : (word : List ℕ) (command : Command) → Some command ≡ command_of word → command ≡ Check
-command_of-check word command h = chosen _ command (sym h)
 
 pub spoken-empty : {A : Type 0} (words : List (String A)) → length words ≡ 0 → spoken words ≡ []
 spoken-empty [] h = refl

@@ -1,8 +1,11 @@
 //! Reads the words of a command line: a command, and after it pairs of a name and a value.
 #![tactic(auto)]
 
+pub mod asks;
+pub mod fields;
 pub mod names;
 pub mod pairs;
+pub mod settings;
 #[cfg(test)]
 mod tests;
 pub mod values;

@@ -14,7 +14,34 @@ const OF_CHECK: [Name; 5] = [
     Name::Slack,
 ];
 
-const OF_RUN: [Name; 15] = [
+const OF_RUN: [Name; 12] = [
+    Name::Pop,
+    Name::First,
+    Name::Second,
+    Name::District,
+    Name::Slack,
+    Name::Key,
+    Name::Walks,
+    Name::Steps,
+    Name::Ends,
+    Name::HubSteps,
+    Name::Ask,
+    Name::Workers,
+];
+
+const OF_MAKE: [Name; 9] = [
+    Name::Size,
+    Name::Slack,
+    Name::Key,
+    Name::Walks,
+    Name::Steps,
+    Name::Ends,
+    Name::HubSteps,
+    Name::Ask,
+    Name::Workers,
+];
+
+const JUDGED_OF_RUN: [Name; 15] = [
     Name::Pop,
     Name::First,
     Name::Second,
@@ -32,7 +59,7 @@ const OF_RUN: [Name; 15] = [
     Name::Resume,
 ];
 
-const OF_MAKE: [Name; 12] = [
+const JUDGED_OF_MAKE: [Name; 12] = [
     Name::Size,
     Name::Slack,
     Name::Key,
@@ -87,7 +114,7 @@ pub fn default_of(name: Name) -> Option<&'static str>
     }
 }
 
-/// The names of a command, in the order of the table.
+/// The names that a command takes, in the order of the table.
 pub fn names_of(command: Command) -> &'static [Name]
     ensures { result.now ≡ definition.names_of command }
 {
@@ -98,12 +125,25 @@ pub fn names_of(command: Command) -> &'static [Name]
     }
 }
 
+/// The names whose values are judged, in the order of the table. One that cannot be given has its default.
+pub fn names_judged(command: Command) -> &'static [Name]
+    ensures { result.now ≡ definition.names_judged command }
+{
+    match command {
+        Command::Check => &OF_CHECK,
+        Command::Run => &JUDGED_OF_RUN,
+        Command::Make => &JUDGED_OF_MAKE,
+    }
+}
+
 /// The command that the word spells, where one is built.
 pub fn command_of(word: &str) -> Option<Command>
     ensures { result ≡ definition.command_of word.now }
 {
     if word == "check" {
         Some(Command::Check)
+    } else if word == "run" {
+        Some(Command::Run)
     } else {
         None
     }

@@ -4,7 +4,7 @@ ghost use Rattle.std.specs.Prelude.{◌≡◌, ◌<◌, [], None, length, option
 ghost use Rattle.std.specs.List.{slice_index_or};
 ghost use Rattle.audit_model.specs.Below.{any_below};
 ghost use Rattle.audit_model.specs.declared.setting.Command.TheVariants as command;
-ghost use Rattle.audit_words.specs.Spoken.{spoken};
+ghost use Rattle.audit_words.specs.Spoken.{pairs_in};
 ghost use Rattle.text_definitions.specs.Words as definition;
 
 use crate::names::{default_of, name_text};
@@ -12,23 +12,23 @@ use audit_model::fault::Name;
 
 /// How many pairs there are. The last may lack its value.
 pub fn count(words: &[String]) -> usize
-    ensures { result ≡ length (definition.pairs (spoken words.now)) }
+    ensures { result ≡ length (pairs_in words.now) }
 {
     words.len().div_ceil(2)
 }
 
 /// The first word of the pair at a place.
 pub fn name_at(words: &[String], k: usize) -> &str
-    requires { k < length (definition.pairs (spoken words.now)) }
-    ensures { result.now ≡ (slice_index_or (definition.pairs (spoken words.now)) k ([], None)).0 }
+    requires { k < length (pairs_in words.now) }
+    ensures { result.now ≡ (slice_index_or (pairs_in words.now) k ([], None)).0 }
 {
     words[2 * k].as_str()
 }
 
 /// The second word of the pair at a place, which the last may lack.
 pub fn value_at(words: &[String], k: usize) -> Option<&str>
-    requires { k < length (definition.pairs (spoken words.now)) }
-    ensures { option_map (λ s. s.now) result ≡ (slice_index_or (definition.pairs (spoken words.now)) k ([], None)).1 }
+    requires { k < length (pairs_in words.now) }
+    ensures { option_map (λ s. s.now) result ≡ (slice_index_or (pairs_in words.now) k ([], None)).1 }
 {
     if 2 * k + 1 < words.len() {
         Some(words[2 * k + 1].as_str())
@@ -39,8 +39,8 @@ pub fn value_at(words: &[String], k: usize) -> Option<&str>
 
 /// Whether the first word of the pair at a place is that of an earlier pair.
 pub fn is_repeated(words: &[String], k: usize) -> bool
-    requires { k < length (definition.pairs (spoken words.now)) }
-    ensures { result ≡ definition.is_repeated command.Check (definition.pairs (spoken words.now)) k }
+    requires { k < length (pairs_in words.now) }
+    ensures { result ≡ definition.is_repeated command.Check (pairs_in words.now) k }
 {
     for j in 0..k {
         if name_at(words, j) == name_at(words, k) {
@@ -52,7 +52,7 @@ pub fn is_repeated(words: &[String], k: usize) -> bool
 
 /// The value of the name in the first pair that has it.
 pub fn given(words: &[String], name: Name) -> Option<&str>
-    ensures { option_map (λ s. s.now) result ≡ definition.given command.Check (definition.pairs (spoken words.now)) name }
+    ensures { option_map (λ s. s.now) result ≡ definition.given command.Check (pairs_in words.now) name }
 {
     for k in 0..count(words) {
         if name_at(words, k) == name_text(name) {
@@ -64,7 +64,7 @@ pub fn given(words: &[String], name: Name) -> Option<&str>
 
 /// The value given for the name, or its default.
 pub fn value_of(words: &[String], name: Name) -> Option<&str>
-    ensures { option_map (λ s. s.now) result ≡ definition.value_of command.Check (definition.pairs (spoken words.now)) name }
+    ensures { option_map (λ s. s.now) result ≡ definition.value_of command.Check (pairs_in words.now) name }
 {
     match given(words, name) {
         Some(value) => Some(value),
@@ -74,7 +74,7 @@ pub fn value_of(words: &[String], name: Name) -> Option<&str>
 
 /// The value given for the name, or its default, or the empty text where it has none.
 pub fn text_of(words: &[String], name: Name) -> &str
-    ensures { result.now ≡ definition.text_of command.Check (definition.pairs (spoken words.now)) name }
+    ensures { result.now ≡ definition.text_of command.Check (pairs_in words.now) name }
 {
     value_of(words, name).unwrap_or("")
 }

@@ -1,8 +1,16 @@
 //! What lists of words give.
 
-use crate::{WordFault, name_text, read};
+use crate::{Setting, WordFault, name_text, read};
+use audit_model::setting::{Ask, Score, Tail};
 use std::alloc::{AllocError, Global};
+use std::process::Abort;
 use std::test::Fail;
+
+const COLUMNS: &str = "run --pop p --first a --second b --district d";
+
+const KEY: &str = "--key aBcDeF0000000000000000000000000000000000000000000000000000000019";
+
+const SHORT_KEY: &str = "--key 000000000000000000000000000000000000000000000000000000000000000";
 
 fn words_of(alloc: Global, line: &str) -> Result<Vec<String>, AllocError> {
     let mut words = Vec::new(alloc);
@@ -22,6 +30,15 @@ fn reason(alloc: Global, fault: &WordFault) -> Result<String, AllocError> {
         WordFault::MissingName(name) => format!(in alloc; "{} is missing", name_text(*name)),
         WordFault::BadValue(name) => format!(in alloc; "bad value for {}", name_text(*name)),
         WordFault::Memory => format!(in alloc; "memory"),
+    }
+}
+
+/// Why the words of a line are refused.
+fn refusal(alloc: Global, line: &str) -> Result<String, AllocError> {
+    let words = words_of(alloc, line)?;
+    match read(alloc, &words) {
+        Ok(_) => format!(in alloc; "none"),
+        Err(fault) => reason(alloc, &fault),
     }
 }
 
@@ -59,14 +76,8 @@ fn refuses_words(rt: HostRuntime) -> Result<(), Fail> {
             "bad value for --slack",
         ),
     ] {
-        let words = words_of(rt.alloc(), line)?;
-        match read(rt.alloc(), &words) {
-            Ok(_) => assert!(rt; false, "{line} is read"),
-            Err(fault) => {
-                let found = reason(rt.alloc(), &fault)?;
-                assert_eq!(rt; found.as_str(), want, "{line}");
-            }
-        }
+        let found = refusal(rt.alloc(), line)?;
+        assert_eq!(rt; found.as_str(), want, "{line}");
     }
     Ok(())
 }
@@ -88,13 +99,89 @@ fn reads_a_check(rt: HostRuntime) -> Result<(), Fail> {
         match read(rt.alloc(), &words) {
             Ok(setting) => {
                 assert_eq!(rt; setting.slack, slack, "{line}");
-                assert_eq!(rt; setting.columns.population.as_str(), "p", "{line}");
-                assert_eq!(rt; setting.columns.first.as_str(), "a", "{line}");
-                assert_eq!(rt; setting.columns.second.as_str(), "b", "{line}");
-                assert_eq!(rt; setting.columns.district.as_str(), "d", "{line}");
+                expect_columns(&rt, &setting);
             }
             Err(_) => assert!(rt; false, "{line} is refused"),
         }
+    }
+    Ok(())
+}
+
+#[test]
+fn refuses_words_of_a_run(rt: HostRuntime) -> Result<(), Fail> {
+    for (key, more, want) in [
+        (
+            KEY,
+            "--ask seats:low --workers 0",
+            "bad value for --workers",
+        ),
+        (
+            KEY,
+            "--ask seats:low --workers 33",
+            "bad value for --workers",
+        ),
+        (KEY, "--ask seats:low --steps 08", "bad value for --steps"),
+        (KEY, "--ask seats:low --walks 0", "bad value for --ends"),
+        (KEY, "--ask seats --walks 0", "bad value for --ends"),
+        (KEY, "--ask gap:low,gap:low", "bad value for --ask"),
+        (KEY, "--ask gap:low,", "bad value for --ask"),
+        (KEY, "--walks 2", "--ask is missing"),
+        (SHORT_KEY, "--ask seats:low", "bad value for --key"),
+        ("--size 1", "--steps 08", "unknown name --size"),
+    ] {
+        let line = format!(in rt.alloc(); "{COLUMNS} {key} {more}")?;
+        let found = refusal(rt.alloc(), line.as_str())?;
+        assert_eq!(rt; found.as_str(), want, "{line}");
+    }
+    Ok(())
+}
+
+fn expect_columns(rt: &impl Abort, setting: &Setting) {
+    assert_eq!(rt; setting.columns.population.as_str(), "p");
+    assert_eq!(rt; setting.columns.first.as_str(), "a");
+    assert_eq!(rt; setting.columns.second.as_str(), "b");
+    assert_eq!(rt; setting.columns.district.as_str(), "d");
+}
+
+fn expect_asks(rt: &impl Abort, asks: &[Ask]) {
+    assert_eq!(rt; asks.len(), 2);
+    assert_eq!(rt; (asks[0].score, asks[0].tail), (Score::Gap, Tail::Low));
+    assert_eq!(rt;
+        (asks[1].score, asks[1].tail),
+        (Score::MeanMedian, Tail::High)
+    );
+}
+
+fn expect_run(rt: &impl Abort, setting: &Setting) {
+    assert_eq!(rt; (setting.slack, setting.walks, setting.steps), (5000, 1, 8));
+    assert_eq!(rt;
+        (setting.ends, setting.hub_steps, setting.workers),
+        (0, 1000, 1)
+    );
+    assert_eq!(rt;
+        (setting.budget, setting.save_every, setting.size),
+        (100_000, 0, 0)
+    );
+    assert_eq!(rt;
+        (setting.key[0], setting.key[2], setting.key[31]),
+        (0xab, 0xef, 0x19)
+    );
+    assert!(rt; !setting.resume);
+}
+
+#[test]
+fn reads_a_run(rt: HostRuntime) -> Result<(), Fail> {
+    let line = format!(in rt.alloc();
+        "{COLUMNS} {KEY} --slack 5000 --steps 8 --ask gap:low,mean-median:high"
+    )?;
+    let words = words_of(rt.alloc(), line.as_str())?;
+    match read(rt.alloc(), &words) {
+        Ok(setting) => {
+            expect_columns(&rt, &setting);
+            expect_asks(&rt, setting.asks.as_slice());
+            expect_run(&rt, &setting);
+        }
+        Err(_) => assert!(rt; false, "{line} is refused"),
     }
     Ok(())
 }

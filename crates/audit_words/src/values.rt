@@ -1,8 +1,11 @@
 //! The values that a name may have.
 
-ghost use Rattle.std.specs.Prelude.{◌≡◌, None, cond};
+ghost use Rattle.std.specs.Prelude.{◌≡◌, ◌||◌, None, cond, codes, bytes_eq};
+ghost use Rattle.std.specs.Result.{result_ok};
+ghost use Rattle.hex.specs.Hex.{decode_sized};
 ghost use Rattle.text_definitions.specs.Words as definition;
 
+use hex::FromHex;
 use itoa::Buffer;
 
 /// The number, where the text is one as it is printed and lies within the bounds.
@@ -16,4 +19,25 @@ pub fn number_within(low: u32, high: u32, text: &str) -> Option<u32>
     } else {
         None
     }
+}
+
+/// Whether the text is a number as it is printed and lies within the bounds.
+pub fn is_number(low: u32, high: u32, text: &str) -> bool
+    ensures { result ≡ definition.is_number low high text.now }
+{
+    number_within(low, high, text).is_some()
+}
+
+/// The key, where the text is 64 hexadecimal digits.
+pub fn key_of(text: &str) -> Option<[u8; 32]>
+    ensures { result ≡ result_ok (decode_sized text.now 32) }
+{
+    <[u8; 32] as FromHex>::from_hex(text).ok()
+}
+
+/// Whether the text is one of the two answers.
+pub fn is_answer(text: &str) -> bool
+    ensures { result ≡ (bytes_eq text.now (codes "yes") || bytes_eq text.now (codes "no")) }
+{
+    text == "yes" || text == "no"
 }

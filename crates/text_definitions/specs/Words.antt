@@ -39,11 +39,17 @@ name_text Budget = codes "--budget"
 name_text Save = codes "--save"
 name_text Resume = codes "--resume"
 
--- the names of a command, in the order of the table
+-- the names that a command takes, in the order of the table
 abbrev pub names_of : Command → List Name
 names_of Check = Pop ∷ First ∷ Second ∷ District ∷ Slack ∷ []
-names_of Run = Pop ∷ First ∷ Second ∷ District ∷ Slack ∷ Key ∷ Walks ∷ Steps ∷ Ends ∷ HubSteps ∷ Ask ∷ Workers ∷ Budget ∷ Save ∷ Resume ∷ []
-names_of Make = Size ∷ Slack ∷ Key ∷ Walks ∷ Steps ∷ Ends ∷ HubSteps ∷ Ask ∷ Workers ∷ Budget ∷ Save ∷ Resume ∷ []
+names_of Run = Pop ∷ First ∷ Second ∷ District ∷ Slack ∷ Key ∷ Walks ∷ Steps ∷ Ends ∷ HubSteps ∷ Ask ∷ Workers ∷ []
+names_of Make = Size ∷ Slack ∷ Key ∷ Walks ∷ Steps ∷ Ends ∷ HubSteps ∷ Ask ∷ Workers ∷ []
+
+-- the names whose values, given or by default, are judged: a name that cannot be given yet has its default
+abbrev pub names_judged : Command → List Name
+names_judged Check = Pop ∷ First ∷ Second ∷ District ∷ Slack ∷ []
+names_judged Run = Pop ∷ First ∷ Second ∷ District ∷ Slack ∷ Key ∷ Walks ∷ Steps ∷ Ends ∷ HubSteps ∷ Ask ∷ Workers ∷ Budget ∷ Save ∷ Resume ∷ []
+names_judged Make = Size ∷ Slack ∷ Key ∷ Walks ∷ Steps ∷ Ends ∷ HubSteps ∷ Ask ∷ Workers ∷ Budget ∷ Save ∷ Resume ∷ []
 
 -- the value of a name that is not given, where it may be left out
 abbrev pub default_of : Name → Option (List ℕ)
@@ -132,7 +138,7 @@ pairs (name ∷ value ∷ rest) = (name, Some value) ∷ pairs rest
 
 -- the command that a word spells
 abbrev pub command_of : List ℕ → Option Command
-command_of word = cond (bytes_eq word (codes "check")) (Some Check) None
+command_of word = cond (bytes_eq word (codes "check")) (Some Check) (cond (bytes_eq word (codes "run")) (Some Run) None)
 
 module _ (command : Command) (words : List Pair) where
   abbrev pub pair_at : ℕ → Pair
@@ -199,7 +205,7 @@ module _ (command : Command) (words : List Pair) where
   fault_of = first_some (
       first_some_below (length words) pair_fault
       ∷ option_map MissingName (find (λ name. is_none (value_of name)) (names_of command))
-      ∷ option_map BadValue (find (λ name. not (is_good name)) (names_of command))
+      ∷ option_map BadValue (find (λ name. not (is_good name)) (names_judged command))
       ∷ [])
 
   -- what the values say

@@ -1,7 +1,7 @@
 use Rattle.std.proofs.Common.{◌≡◌, ◌+◌, subst, arith, None, inl, inr, length}
 use Rattle.std.proofs.lemmas.Result.{err_from_is_err_and}
 use Rattle.audit_model.specs.First.{first_some_below}
-use Rattle.audit_words.specs.Spoken.{spoken}
+use Rattle.audit_words.specs.Spoken.{pairs_in}
 use Rattle.audit_words.proofs.Finding.{first_some_below-stops, first_some_below-none}
 use Rattle.text_definitions.specs.Words as definition
 use Rattle.audit_words.proofs.words.judge_pairs.Goals as goal
@@ -11,13 +11,13 @@ returns-in_err-judge_pair c =
     let p = err_from_is_err_and c.from_residual.result c.from_residual.ensures.1 in
     rw (p.1, p.2) (elim c.in_err-judge_pair.ensures [
       | inl memory ↦ inl memory
-      | inr found ↦ inr (first_some_below-stops (length (definition.pairs (spoken c.args.words.now))) c.loop-k.k (definition.pair_fault c.args.command (definition.pairs (spoken c.args.words.now))) _ (omega arith) c.loop-k.invariant found)
+      | inr found ↦ inr (first_some_below-stops (length (pairs_in c.args.words.now)) c.loop-k.k (definition.pair_fault c.args.command (pairs_in c.args.words.now)) _ (omega arith) c.loop-k.invariant found)
     ])
 
 pub loop-k-preserved : goal.loop-k-preserved
-loop-k-preserved c = first_some_below-none c.loop-k.k (c.loop-k.k + 1) (definition.pair_fault c.args.command (definition.pairs (spoken c.args.words.now))) (omega arith) c.loop-k.invariant c.in_ok-judge_pair.ensures
+loop-k-preserved c = first_some_below-none c.loop-k.k (c.loop-k.k + 1) (definition.pair_fault c.args.command (pairs_in c.args.words.now)) (omega arith) c.loop-k.invariant c.in_ok-judge_pair.ensures
 
 pub returns : goal.returns
 returns c =
-    let end : c.loop-k.k ≡ length (definition.pairs (spoken c.args.words.now)) = omega arith in
-    subst (λ n. first_some_below n (definition.pair_fault c.args.command (definition.pairs (spoken c.args.words.now))) ≡ None) end c.loop-k.invariant
+    let end : c.loop-k.k ≡ length (pairs_in c.args.words.now) = omega arith in
+    subst (λ n. first_some_below n (definition.pair_fault c.args.command (pairs_in c.args.words.now)) ≡ None) end c.loop-k.invariant

@@ -1,8 +1,10 @@
 use Rattle.std.proofs.Common.{◌≡◌, ◌∙◌, Some, None, Ok, Err, ap, sym, subst, inl, inr, string_bytes}
 use Rattle.std.proofs.lemmas.Result.{err_from_is_err_and}
 use Rattle.audit_model.specs.declared.fault.WordFault.TheVariants as fault
-use Rattle.audit_words.specs.Spoken.{spoken}
-use Rattle.audit_words.proofs.Reading.{command_of-check, spoken-empty, setting_of-no_words, setting_of-other_word, setting_of-command, refused_by_pairs, refused_by_names, refused_by_values, taken, fault_of_values}
+use Rattle.audit_model.specs.Limits.{IsSetting}
+use Rattle.audit_words.specs.Spoken.{spoken, pairs_in}
+use Rattle.audit_words.proofs.Accepted.{IsSetting-good}
+use Rattle.audit_words.proofs.Reading.{spoken-empty, setting_of-no_words, setting_of-other_word, setting_of-command, refused_by_pairs, refused_by_names, refused_by_values, taken}
 use Rattle.text_definitions.specs.Words as definition
 use Rattle.audit_words.proofs.words.read.Goals as goal
 
@@ -25,7 +27,7 @@ returns-in_err-judge_pairs-clause-exact c =
     let whole = setting_of-command (spoken c.args.words.now) (string_bytes c.in-Some.word.now) (spoken c.in-Some.rest.now) c.in-Some-command_of.command (ap spoken c.in-Some.ensures.cases.0) known in
     rw (p.1, p.2) (elim c.in_err-judge_pairs.ensures [
       | inl memory ↦ inl memory
-      | inr found ↦ inr (whole ∙ refused_by_pairs c.in-Some-command_of.command (definition.pairs (spoken c.in-Some.rest.now)) c.in_err-judge_pairs.field-0.0 found)
+      | inr found ↦ inr (whole ∙ refused_by_pairs c.in-Some-command_of.command (pairs_in c.in-Some.rest.now) c.in_err-judge_pairs.field-0.0 found)
     ])
 
 pub returns-in_err-judge_missing-clause-exact : goal.returns-in_err-judge_missing-clause-exact
@@ -35,27 +37,25 @@ returns-in_err-judge_missing-clause-exact c =
     let whole = setting_of-command (spoken c.args.words.now) (string_bytes c.in-Some.word.now) (spoken c.in-Some.rest.now) c.in-Some-command_of.command (ap spoken c.in-Some.ensures.cases.0) known in
     rw (p.1, p.2) (elim c.in_err-judge_missing.ensures [
       | inl memory ↦ inl memory
-      | inr found ↦ inr (whole ∙ refused_by_names c.in-Some-command_of.command (definition.pairs (spoken c.in-Some.rest.now)) c.in_err-judge_missing.field-0.0 c.in_ok-judge_pairs.ensures found)
+      | inr found ↦ inr (whole ∙ refused_by_names c.in-Some-command_of.command (pairs_in c.in-Some.rest.now) c.in_err-judge_missing.field-0.0 c.in_ok-judge_pairs.ensures found)
     ])
 
-pub returns-in_err-slack-clause-exact : goal.returns-in_err-slack-clause-exact
-returns-in_err-slack-clause-exact c =
-    let p = err_from_is_err_and c.from_residual-in_err-slack.result c.from_residual-in_err-slack.ensures.1 in
+pub returns-in_err-judge_values-clause-exact : goal.returns-in_err-judge_values-clause-exact
+returns-in_err-judge_values-clause-exact c =
+    let p = err_from_is_err_and c.from_residual-in_err-judge_values.result c.from_residual-in_err-judge_values.ensures.1 in
     let known : Some c.in-Some-command_of.command ≡ definition.command_of (string_bytes c.in-Some.word.now) = subst (λ t. Some c.in-Some-command_of.command ≡ definition.command_of t) c.as_str.ensures.value c.in-Some-command_of.ensures in
     let whole = setting_of-command (spoken c.args.words.now) (string_bytes c.in-Some.word.now) (spoken c.in-Some.rest.now) c.in-Some-command_of.command (ap spoken c.in-Some.ensures.cases.0) known in
-    let check = command_of-check (string_bytes c.in-Some.word.now) c.in-Some-command_of.command known in
-    rw (p.1, p.2) (elim c.in_err-slack.ensures.fault [
+    rw (p.1, p.2) (elim c.in_err-judge_values.ensures [
       | inl memory ↦ inl memory
-      | inr found ↦ inr (whole ∙ refused_by_values c.in-Some-command_of.command (definition.pairs (spoken c.in-Some.rest.now)) c.in_err-slack.field-0.0 c.in_ok-judge_pairs.ensures c.in_ok-judge_missing.ensures
-          (subst (λ m. fault_of_values m (definition.pairs (spoken c.in-Some.rest.now)) ≡ Some c.in_err-slack.field-0.0) (sym check) found))
+      | inr found ↦ inr (whole ∙ refused_by_values c.in-Some-command_of.command (pairs_in c.in-Some.rest.now) c.in_err-judge_values.field-0.0 c.in_ok-judge_pairs.ensures c.in_ok-judge_missing.ensures found)
     ])
 
 pub returns-in-Ok-clause-exact : goal.returns-in-Ok-clause-exact
 returns-in-Ok-clause-exact c =
     let known : Some c.in-Some-command_of.command ≡ definition.command_of (string_bytes c.in-Some.word.now) = subst (λ t. Some c.in-Some-command_of.command ≡ definition.command_of t) c.as_str.ensures.value c.in-Some-command_of.ensures in
     let whole = setting_of-command (spoken c.args.words.now) (string_bytes c.in-Some.word.now) (spoken c.in-Some.rest.now) c.in-Some-command_of.command (ap spoken c.in-Some.ensures.cases.0) known in
-    let check = command_of-check (string_bytes c.in-Some.word.now) c.in-Some-command_of.command known in
-    whole ∙ taken c.in-Some-command_of.command (definition.pairs (spoken c.in-Some.rest.now)) c.in_ok-judge_pairs.ensures c.in_ok-judge_missing.ensures
-    (subst (λ m. fault_of_values m (definition.pairs (spoken c.in-Some.rest.now)) ≡ None) (sym check) c.in_ok-slack.ensures.fault)
-    ∙ ap (λ m. Ok (definition.setting_for m (definition.pairs (spoken c.in-Some.rest.now)))) check
-    ∙ ap (λ s. Ok s) (sym c.in-Ok.ensures.value)
+    whole ∙ taken c.in-Some-command_of.command (pairs_in c.in-Some.rest.now) c.in_ok-judge_pairs.ensures c.in_ok-judge_missing.ensures c.in_ok-judge_values.ensures
+    ∙ ap (λ s. Ok s) (sym c.in-Ok.ensures)
+
+pub returns-in-Ok-clause-within : goal.returns-in-Ok-clause-within
+returns-in-Ok-clause-within c = subst IsSetting (sym c.in-Ok.ensures) (IsSetting-good c.in-Some-command_of.command (pairs_in c.in-Some.rest.now) c.in_ok-judge_values.ensures)

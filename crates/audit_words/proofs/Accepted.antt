@@ -1,0 +1,121 @@
+-- The setting of good values is within the limits.
+use Rattle.std.proofs.Common.{◌≡◌, ◌≢◌, ◌∙◌, ℕ, ◌+◌, ◌≤◌, true, List, [], length, ap, arith, refl, subst, sym, None, Result, Ok, Err}
+use Rattle.std.proofs.lemmas.Bool.{and_parts, false≢true, leb-true}
+use Rattle.std.specs.Prelude.{nat_le, is_some, unwrap_or}
+use Rattle.std.specs.List.{AllPairs}
+use Rattle.std.specs.Result.{result_ok}
+use Rattle.hex.specs.Hex.{decode_sized}
+use Rattle.hex.proofs.HexLemmas.{decode_sized-ok, decode_sized-twice, decode_of-ok}
+use Rattle.audit_model.specs.Limits.{IsSetting, IsRunSetting}
+use Rattle.audit_model.specs.declared.fault.Name.TheVariants.{Slack, Key, Walks, Steps, Ends, HubSteps, Ask, Workers, Budget, Save}
+use Rattle.audit_model.specs.declared.setting.Ask.{Ask as AskOf}
+use Rattle.audit_model.specs.declared.setting.Command.{Command}
+use Rattle.audit_model.specs.declared.setting.Command.TheVariants.{Check, Run, Make}
+use Rattle.text_definitions.specs.Words.{Pair, are_asks, as_run, asks_of, covers_walks, has_walks, is_good, is_number, number_at, parts_between, setting_for, text_of}
+use Rattle.audit_words.specs.Judged.{AreGood, fault_of_values}
+use Rattle.audit_words.proofs.Asking.{length-asks_of, AllPairs-asks_of}
+use Rattle.audit_words.proofs.Goodness.{AreGood-run, AreGood-make, asks_of-some, find-last, number-bounds}
+use Rattle.audit_words.proofs.Parting.{parts_between-some}
+
+value_of_ok : {A E : Type 0} (r : Result A E) → is_some (result_ok r) ≡ true → (x : A) × (r ≡ Ok x)
+value_of_ok (Ok x) h = (x, refl)
+value_of_ok (Err e) h = absurd (false≢true h)
+
+-- a key has 32 bytes
+length-key : (text : List ℕ) → is_some (result_ok (decode_sized text 32)) ≡ true → length (unwrap_or (result_ok (decode_sized text 32)) []) ≡ 32
+length-key text h =
+    let ok = value_of_ok (decode_sized text 32) h in
+    let twice = decode_sized-ok text 32 ok.0 ok.1 in
+    let bytes = decode_of-ok text ok.0 (sym (decode_sized-twice text 32 twice) ∙ ok.1) in
+    let width : length ok.0 ≡ 32 = omega (arith, twice, bytes.2) in
+    subst (λ r. length (unwrap_or (result_ok r) []) ≡ 32) (sym ok.1) width
+
+-- one to four different asks
+record AreAsked (asks : List AskOf) : Type 0 where
+  some : 1 ≤ length asks
+  few : length asks ≤ 4
+  apart : AllPairs (λ a b. a ≢ b) asks
+
+AreAsked-good : (text : List ℕ) → are_asks text ≡ true → AreAsked (unwrap_or (asks_of (parts_between 44 text)) [])
+AreAsked-good text h =
+    let asked = asks_of-some text h in
+    let same = length-asks_of (parts_between 44 text) asked.0 asked.1 in
+    subst AreAsked (sym (ap (λ asks. unwrap_or asks []) asked.1)) (record {
+      some = omega (arith, parts_between-some text);
+      few = omega arith;
+      apart = AllPairs-asks_of (parts_between 44 text) asked.0 asked.1 asked.3;
+    })
+
+pub IsRunSetting-good : (command : Command) (words : List Pair) → AreGood words → IsRunSetting (as_run command words)
+IsRunSetting-good command words good =
+    let ends = and_parts (is_number 0 100000 (text_of Check words Ends)) (has_walks Check words) good.ends in
+    let walks = and_parts (nat_le 1 (number_at Check words Walks + number_at Check words Ends)) (nat_le (number_at Check words Walks + number_at Check words Ends) 100000) ends.1 in
+    let steps = number-bounds 1 1000000000 (text_of Check words Steps) good.steps in
+    let hub_steps = number-bounds 1 1000000000 (text_of Check words HubSteps) good.hub_steps in
+    let asked = AreAsked-good (text_of Check words Ask) good.ask in
+    let workers = number-bounds 1 32 (text_of Check words Workers) good.workers in
+    let budget = number-bounds 0 100000 (text_of Check words Budget) (and_parts (is_number 0 100000 (text_of Check words Budget)) (covers_walks Check words) good.budget).0 in
+    let save = number-bounds 0 100000 (text_of Check words Save) good.save in
+    record {
+      some = leb-true 1 (number_at Check words Walks + number_at Check words Ends) walks.0;
+      few = leb-true (number_at Check words Walks + number_at Check words Ends) 100000 walks.1;
+      some_steps = steps.0;
+      few_steps = steps.1;
+      some_hub_steps = hub_steps.0;
+      few_hub_steps = hub_steps.1;
+      some_asks = asked.some;
+      few_asks = asked.few;
+      apart = asked.apart;
+      some_workers = workers.0;
+      few_workers = workers.1;
+      budget = budget.1;
+      saves = save.1;
+    }
+
+pub IsSetting-good : (command : Command) (words : List Pair) → fault_of_values command words ≡ None → IsSetting (setting_for command words)
+IsSetting-good Check words h =
+    let slack = find-last (is_good Check words) Slack [] h in
+    record {
+      slack = (number-bounds 0 10000 (text_of Check words Slack) slack.0).1;
+      key = refl;
+      command = record {
+        no_walks = refl;
+        no_steps = refl;
+        no_ends = refl;
+        no_hub_steps = refl;
+        no_asks = refl;
+        one_worker = refl;
+        no_budget = refl;
+        no_saves = refl;
+        fresh = refl;
+      };
+    }
+IsSetting-good Run words h =
+    let good = AreGood-run words h in
+    record {
+      slack = (number-bounds 0 10000 (text_of Check words Slack) good.slack).1;
+      key = length-key (text_of Check words Key) good.key;
+      command = IsRunSetting-good Run words good;
+    }
+IsSetting-good Make words h =
+    let good = AreGood-make words h in
+    let run = IsRunSetting-good Make words good in
+    record {
+      slack = (number-bounds 0 10000 (text_of Check words Slack) good.slack).1;
+      key = length-key (text_of Check words Key) good.key;
+      command = record {
+        some = run.some;
+        few = run.few;
+        some_steps = run.some_steps;
+        few_steps = run.few_steps;
+        some_hub_steps = run.some_hub_steps;
+        few_hub_steps = run.few_hub_steps;
+        some_asks = run.some_asks;
+        few_asks = run.few_asks;
+        apart = run.apart;
+        some_workers = run.some_workers;
+        few_workers = run.few_workers;
+        budget = run.budget;
+        saves = run.saves;
+      };
+    }

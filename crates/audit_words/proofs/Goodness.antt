@@ -1,0 +1,84 @@
+-- What good values are, and the setting that they give.
+use Rattle.std.proofs.Common.{◌≡◌, ◌∙◌, ℕ, ◌≤◌, Bool, true, false, not, cond, List, [], ◌∷◌, length, find, ap, refl, sym, Option, Some, None, option_map}
+use Rattle.std.proofs.lemmas.Bool.{and_parts, false≢true, leb-true}
+use Rattle.std.specs.Prelude.{◌&&◌, nat_le, is_some, unwrap_or}
+use Rattle.std.specs.List.{filter_map}
+use Rattle.audit_model.specs.declared.fault.Name.{Name}
+use Rattle.audit_model.specs.declared.fault.Name.TheVariants.{Size, Slack, Key, Walks, Steps, Ends, HubSteps, Ask, Workers, Budget, Save, Resume}
+use Rattle.audit_model.specs.declared.fault.WordFault.TheVariants.{BadValue}
+use Rattle.audit_model.specs.declared.setting.Ask.{Ask as AskOf}
+use Rattle.audit_model.specs.declared.setting.Command.TheVariants.{Check, Run, Make}
+use Rattle.text_definitions.specs.Words.{Pair, all_different, are_asks, ask_of, asks_of, is_good, is_number, number_of, parts_between}
+use Rattle.audit_words.specs.Judged.{AreGood, fault_of_values}
+use Rattle.audit_words.proofs.Asking.{filter_map-ask_of}
+
+value_of_some : {A : Type 0} (o : Option A) → is_some o ≡ true → (x : A) × (o ≡ Some x)
+value_of_some None h = absurd (false≢true h)
+value_of_some (Some x) h = (x, refl)
+
+-- a number within bounds
+bounded : (o : Option ℕ) (low high : ℕ) → unwrap_or (option_map (λ n. nat_le low n && nat_le n high) o) false ≡ true → (low ≤ unwrap_or o 0) × (unwrap_or o 0 ≤ high)
+bounded None low high h = absurd (false≢true h)
+bounded (Some n) low high h = let both = and_parts (nat_le low n) (nat_le n high) h in (leb-true low n both.0, leb-true n high both.1)
+
+pub number-bounds : (low high : ℕ) (text : List ℕ) → is_number low high text ≡ true → (low ≤ unwrap_or (number_of text) 0) × (unwrap_or (number_of text) 0 ≤ high)
+number-bounds low high text h = bounded (number_of text) low high h
+
+-- the asks of a text that is asks
+pub asks_of-some : (text : List ℕ) → are_asks text ≡ true
+    → (asks : List AskOf) × (asks_of (parts_between 44 text) ≡ Some asks) × (length (parts_between 44 text) ≤ 4) × (all_different (parts_between 44 text) ≡ true)
+asks_of-some text h =
+    let parts = parts_between 44 text in
+    let both = and_parts (is_some (asks_of parts) && nat_le (length parts) 4) (all_different parts) h in
+    let some = and_parts (is_some (asks_of parts)) (nat_le (length parts) 4) both.0 in
+    let asks = value_of_some (asks_of parts) some.0 in
+    (asks.0, asks.1, leb-true (length parts) 4 some.1, both.1)
+
+pub asks_of-good : (text : List ℕ) → are_asks text ≡ true → filter_map ask_of (parts_between 44 text) ≡ unwrap_or (asks_of (parts_between 44 text)) []
+asks_of-good text h =
+    let some = asks_of-some text h in
+    filter_map-ask_of (parts_between 44 text) some.0 some.1 ∙ sym (ap (λ asks. unwrap_or asks []) some.1)
+
+-- no value is bad
+passed : (good : Bool) (name : Name) (o : Option Name) → option_map BadValue (cond (not good) (Some name) o) ≡ None → (good ≡ true) × (option_map BadValue o ≡ None)
+passed true name o h = (refl, h)
+passed false name o h = absurd (cc)
+
+pub find-last : (good : Name → Bool) (name : Name) (names : List Name) → option_map BadValue (find (λ n. not (good n)) (name ∷ names)) ≡ None
+    → (good name ≡ true) × (option_map BadValue (find (λ n. not (good n)) names) ≡ None)
+find-last good name names h = passed (good name) name (find (λ n. not (good n)) names) h
+
+pub AreGood-values : (words : List Pair) → option_map BadValue (find (λ name. not (is_good Check words name))
+    (Slack ∷ Key ∷ Walks ∷ Steps ∷ Ends ∷ HubSteps ∷ Ask ∷ Workers ∷ Budget ∷ Save ∷ Resume ∷ [])) ≡ None → AreGood words
+AreGood-values words h =
+    let good = is_good Check words in
+    let slack = find-last good Slack (Key ∷ Walks ∷ Steps ∷ Ends ∷ HubSteps ∷ Ask ∷ Workers ∷ Budget ∷ Save ∷ Resume ∷ []) h in
+    let key = find-last good Key (Walks ∷ Steps ∷ Ends ∷ HubSteps ∷ Ask ∷ Workers ∷ Budget ∷ Save ∷ Resume ∷ []) slack.1 in
+    let walks = find-last good Walks (Steps ∷ Ends ∷ HubSteps ∷ Ask ∷ Workers ∷ Budget ∷ Save ∷ Resume ∷ []) key.1 in
+    let steps = find-last good Steps (Ends ∷ HubSteps ∷ Ask ∷ Workers ∷ Budget ∷ Save ∷ Resume ∷ []) walks.1 in
+    let ends = find-last good Ends (HubSteps ∷ Ask ∷ Workers ∷ Budget ∷ Save ∷ Resume ∷ []) steps.1 in
+    let hub_steps = find-last good HubSteps (Ask ∷ Workers ∷ Budget ∷ Save ∷ Resume ∷ []) ends.1 in
+    let ask = find-last good Ask (Workers ∷ Budget ∷ Save ∷ Resume ∷ []) hub_steps.1 in
+    let workers = find-last good Workers (Budget ∷ Save ∷ Resume ∷ []) ask.1 in
+    let budget = find-last good Budget (Save ∷ Resume ∷ []) workers.1 in
+    let save = find-last good Save (Resume ∷ []) budget.1 in
+    let resume = find-last good Resume [] save.1 in
+    record {
+      slack = slack.0;
+      key = key.0;
+      walks = walks.0;
+      steps = steps.0;
+      ends = ends.0;
+      hub_steps = hub_steps.0;
+      ask = ask.0;
+      workers = workers.0;
+      budget = budget.0;
+      save = save.0;
+      resume = resume.0;
+    }
+
+pub AreGood-run : (words : List Pair) → fault_of_values Run words ≡ None → AreGood words
+AreGood-run words h = AreGood-values words h
+
+pub AreGood-make : (words : List Pair) → fault_of_values Make words ≡ None → AreGood words
+AreGood-make words h = AreGood-values words (find-last (is_good Check words) Size (Slack ∷ Key ∷ Walks ∷ Steps ∷ Ends ∷ HubSteps ∷ Ask ∷ Workers ∷ Budget ∷ Save ∷ Resume ∷ []) h).1

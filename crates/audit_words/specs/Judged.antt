@@ -1,0 +1,42 @@
+-- The places where the words of a command have a fault, and what the judgement of a value rests on.
+use Rattle.std.specs.Prelude.{◌≡◌, true, not, is_none, find, List, length, Option, option_map}
+use Rattle.audit_model.specs.First.{first_some_below}
+use Rattle.audit_model.specs.declared.fault.Name.{Name}
+use Rattle.audit_model.specs.declared.fault.Name.TheVariants.{Slack, Key, Walks, Steps, Ends, HubSteps, Ask, Workers, Budget, Save, Resume}
+use Rattle.audit_model.specs.declared.fault.WordFault.{WordFault}
+use Rattle.audit_model.specs.declared.fault.WordFault.TheVariants.{MissingName, BadValue}
+use Rattle.audit_model.specs.declared.setting.Command.{Command}
+use Rattle.audit_model.specs.declared.setting.Command.TheVariants.{Check}
+use Rattle.text_definitions.specs.Words.{Pair, pair_fault, value_of, is_good, names_of, names_judged}
+
+-- the fault of the first pair that has one
+abbrev pub fault_of_pairs : Command → List Pair → Option WordFault
+fault_of_pairs command words = first_some_below (length words) (pair_fault command words)
+
+-- the first name that is missing
+abbrev pub fault_of_names : Command → List Pair → Option WordFault
+fault_of_names command words = option_map MissingName (find (λ name. is_none (value_of command words name)) (names_of command))
+
+-- the first name whose value is bad
+abbrev pub fault_of_values : Command → List Pair → Option WordFault
+fault_of_values command words = option_map BadValue (find (λ name. not (is_good command words name)) (names_judged command))
+
+-- The values that are added up for that of a name are good: behind a bad one the name is not judged.
+abbrev pub RestsOnGood : List Pair → Name → Type 0
+RestsOnGood words Ends = is_good Check words Walks ≡ true
+RestsOnGood words Budget = (is_good Check words Walks ≡ true) × (is_good Check words Ends ≡ true)
+RestsOnGood words _ = Unit {0}
+
+-- each value that a run takes, beside the columns, is good
+pub record AreGood (words : List Pair) : Type 0 where
+  pub slack : is_good Check words Slack ≡ true
+  pub key : is_good Check words Key ≡ true
+  pub walks : is_good Check words Walks ≡ true
+  pub steps : is_good Check words Steps ≡ true
+  pub ends : is_good Check words Ends ≡ true
+  pub hub_steps : is_good Check words HubSteps ≡ true
+  pub ask : is_good Check words Ask ≡ true
+  pub workers : is_good Check words Workers ≡ true
+  pub budget : is_good Check words Budget ≡ true
+  pub save : is_good Check words Save ≡ true
+  pub resume : is_good Check words Resume ≡ true

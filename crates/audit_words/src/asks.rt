@@ -1,0 +1,69 @@
+//! The asks of a text, joined by commas.
+
+ghost use Rattle.std.specs.Prelude.{◌≡◌, IfOk, bytes_eq};
+ghost use Rattle.std.specs.List.{list_any, filter_map};
+ghost use Rattle.text_definitions.specs.Words as definition;
+ghost use Rattle.text_definitions.specs.Words.{parts_between};
+
+use audit_model::lists::AskList;
+use audit_model::memory::Memory;
+use audit_model::setting::{Ask, Score, Tail};
+use std::alloc::Global;
+
+/// At most so many asks are joined.
+const MOST: usize = 4;
+
+/// The ask that the word spells.
+fn ask_of(word: &str) -> Option<Ask>
+    ensures { result ≡ definition.ask_of word.now }
+{
+    let (score, tail) = match word {
+        "seats:low" => (Score::Seats, Tail::Low),
+        "seats:high" => (Score::Seats, Tail::High),
+        "mean-median:low" => (Score::MeanMedian, Tail::Low),
+        "mean-median:high" => (Score::MeanMedian, Tail::High),
+        "gap:low" => (Score::Gap, Tail::Low),
+        "gap:high" => (Score::Gap, Tail::High),
+        "cut-edges:low" => (Score::CutEdges, Tail::Low),
+        "cut-edges:high" => (Score::CutEdges, Tail::High),
+        _ => return None,
+    };
+    Some(Ask { score, tail })
+}
+
+/// Whether a part of the text is the word.
+fn has_part(text: &str, word: &str) -> bool
+    ensures { result ≡ list_any (λ part. bytes_eq part word.now) (parts_between 44 text.now) }
+{
+    text.split(',').any(|part| part == word)
+}
+
+/// Whether the text is one to four asks joined by commas, none of them twice.
+pub fn are_asks(text: &str) -> bool
+    ensures { result ≡ definition.are_asks text.now }
+{
+    let mut rest = text;
+    for _ in 0..MOST {
+        match rest.split_once(',') {
+            None => return ask_of(rest).is_some(),
+            Some((word, more)) => {
+                if ask_of(word).is_none() || has_part(more, word) {
+                    return false;
+                }
+                rest = more;
+            }
+        }
+    }
+    false
+}
+
+/// The asks among the parts of the text.
+pub fn asks_of(alloc: Global, text: &str) -> Result<AskList, Memory>
+    ensures { IfOk result (λ asks. asks ≡ filter_map definition.ask_of (parts_between 44 text.now)) }
+{
+    let mut asks = AskList::new(alloc);
+    for ask in text.split(',').filter_map(ask_of) {
+        asks.push(ask)?;
+    }
+    Ok(asks)
+}

@@ -1,0 +1,73 @@
+//! What the words give for each name, and whether it may be.
+
+ghost use Rattle.std.specs.Prelude.{◌≡◌, ◌+◌, ◌^◌, ◌<◌};
+ghost use Rattle.audit_model.specs.declared.fault.Name.TheVariants as name;
+ghost use Rattle.audit_model.specs.declared.setting.Command.TheVariants as command;
+ghost use Rattle.audit_words.specs.Judged.{RestsOnGood};
+ghost use Rattle.audit_words.specs.Spoken.{pairs_in};
+ghost use Rattle.text_definitions.specs.Words as definition;
+
+use crate::asks::are_asks;
+use crate::pairs::text_of;
+use crate::values::{is_answer, is_number, key_of, number_within};
+use audit_model::fault::Name;
+
+/// The number that the value of a name is, or 0 where it is none that fits.
+pub fn number_at(words: &[String], name: Name) -> u32
+    ensures { definition.number_at command.Check (pairs_in words.now) name < 2 ^ 32 → result ≡ definition.number_at command.Check (pairs_in words.now) name }
+{
+    number_within(0, u32::MAX, text_of(words, name)).unwrap_or(0)
+}
+
+/// How many trajectories are asked for.
+fn count_walks(words: &[String]) -> u64
+    requires walks { definition.number_at command.Check (pairs_in words.now) name.Walks < 2 ^ 32 }
+    requires ends { definition.number_at command.Check (pairs_in words.now) name.Ends < 2 ^ 32 }
+    ensures { result ≡ definition.number_at command.Check (pairs_in words.now) name.Walks + definition.number_at command.Check (pairs_in words.now) name.Ends }
+{
+    u64::from(number_at(words, Name::Walks)) + u64::from(number_at(words, Name::Ends))
+}
+
+/// Whether some trajectory is asked for, and not too many.
+fn has_walks(words: &[String]) -> bool
+    requires walks { definition.number_at command.Check (pairs_in words.now) name.Walks < 2 ^ 32 }
+    requires ends { definition.number_at command.Check (pairs_in words.now) name.Ends < 2 ^ 32 }
+    ensures { result ≡ definition.has_walks command.Check (pairs_in words.now) }
+{
+    let walks = count_walks(words);
+    1 <= walks && walks <= 100_000
+}
+
+/// Whether the budget is enough for every trajectory, where nothing is saved.
+fn covers_walks(words: &[String]) -> bool
+    requires walks { definition.number_at command.Check (pairs_in words.now) name.Walks < 2 ^ 32 }
+    requires ends { definition.number_at command.Check (pairs_in words.now) name.Ends < 2 ^ 32 }
+    requires budget { definition.number_at command.Check (pairs_in words.now) name.Budget < 2 ^ 32 }
+    ensures { result ≡ definition.covers_walks command.Check (pairs_in words.now) }
+{
+    !is_number(0, 0, text_of(words, Name::Save))
+        || count_walks(words) <= u64::from(number_at(words, Name::Budget))
+}
+
+/// Whether the value of a name, given or by default, is one that it may have.
+pub fn is_good(words: &[String], name: Name) -> bool
+    requires { RestsOnGood (pairs_in words.now) name }
+    ensures { result ≡ definition.is_good command.Check (pairs_in words.now) name }
+{
+    let text = text_of(words, name);
+    match name {
+        Name::Pop | Name::First | Name::Second | Name::District => true,
+        Name::Size => is_number(1, 30, text),
+        Name::Slack => is_number(0, 10_000, text),
+        Name::Key => key_of(text).is_some(),
+        Name::Walks => is_number(0, 100_000, text),
+        Name::Steps => is_number(1, 1_000_000_000, text),
+        Name::Ends => is_number(0, 100_000, text) && has_walks(words),
+        Name::HubSteps => is_number(1, 1_000_000_000, text),
+        Name::Ask => are_asks(text),
+        Name::Workers => is_number(1, 32, text),
+        Name::Budget => is_number(0, 100_000, text) && covers_walks(words),
+        Name::Save => is_number(0, 100_000, text),
+        Name::Resume => is_answer(text),
+    }
+}

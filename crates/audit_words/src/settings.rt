@@ -1,0 +1,119 @@
+//! The setting that good values give.
+
+ghost use Rattle.std.specs.Prelude.{◌≡◌, None, true, IfOk, codes};
+ghost use Rattle.audit_model.specs.declared.fault.Name.TheVariants as name;
+ghost use Rattle.audit_model.specs.declared.setting.Command.TheVariants as command;
+ghost use Rattle.audit_words.specs.Judged.{fault_of_values, AreGood};
+ghost use Rattle.audit_words.specs.Spoken.{pairs_in};
+ghost use Rattle.text_definitions.specs.Words as definition;
+
+use crate::asks::asks_of;
+use crate::fields::number_at;
+use crate::pairs::text_of;
+use crate::values::key_of;
+use audit_model::fault::Name;
+use audit_model::lists::AskList;
+use audit_model::memory::Memory;
+use audit_model::setting::{Columns, Command, Setting};
+use audit_model::text::Text;
+use std::alloc::Global;
+
+/// The word as a text.
+pub fn copied(alloc: Global, word: &str) -> Result<Text, Memory>
+    ensures { IfOk result (λ text. text ≡ word.now) }
+{
+    let mut text = Text::new(alloc);
+    text.push_str(word)?;
+    Ok(text)
+}
+
+/// The columns that the words name.
+fn columns_of(alloc: Global, words: &[String]) -> Result<Columns, Memory>
+    ensures { IfOk result (λ columns. columns ≡ (definition.as_run command.Check (pairs_in words.now)).columns) }
+{
+    Ok(Columns {
+        population: copied(alloc, text_of(words, Name::Pop))?,
+        first: copied(alloc, text_of(words, Name::First))?,
+        second: copied(alloc, text_of(words, Name::Second))?,
+        district: copied(alloc, text_of(words, Name::District))?,
+    })
+}
+
+/// The columns of a grid that is made.
+fn columns_of_grid(alloc: Global) -> Result<Columns, Memory>
+    ensures { IfOk result (λ columns. columns ≡ record { population = codes "pop"; first = codes "a"; second = codes "b"; district = codes "district" }) }
+{
+    Ok(Columns {
+        population: copied(alloc, "pop")?,
+        first: copied(alloc, "a")?,
+        second: copied(alloc, "b")?,
+        district: copied(alloc, "district")?,
+    })
+}
+
+/// The setting of a check.
+fn check_setting(alloc: Global, words: &[String]) -> Result<Setting, Memory>
+    requires { definition.is_good command.Check (pairs_in words.now) name.Slack ≡ true }
+    ensures { IfOk result (λ setting. setting ≡ definition.setting_for command.Check (pairs_in words.now)) }
+{
+    Ok(Setting {
+        command: Command::Check,
+        columns: columns_of(alloc, words)?,
+        slack: number_at(words, Name::Slack),
+        key: [0; 32],
+        walks: 0,
+        steps: 0,
+        ends: 0,
+        hub_steps: 0,
+        asks: AskList::new(alloc),
+        workers: 1,
+        budget: 0,
+        save_every: 0,
+        resume: false,
+        size: 0,
+    })
+}
+
+/// The setting of a run, on a graph that is read or made.
+fn run_setting(
+    alloc: Global,
+    command: Command,
+    words: &[String],
+    columns: Columns,
+    size: u32,
+) -> Result<Setting, Memory>
+    requires { AreGood (pairs_in words.now) }
+    ensures { IfOk result (λ setting. setting ≡ record (definition.as_run command (pairs_in words.now)) { columns = columns; size = size }) }
+{
+    Ok(Setting {
+        command,
+        columns,
+        slack: number_at(words, Name::Slack),
+        key: key_of(text_of(words, Name::Key)).unwrap(),
+        walks: number_at(words, Name::Walks),
+        steps: number_at(words, Name::Steps),
+        ends: number_at(words, Name::Ends),
+        hub_steps: number_at(words, Name::HubSteps),
+        asks: asks_of(alloc, text_of(words, Name::Ask))?,
+        workers: number_at(words, Name::Workers),
+        budget: number_at(words, Name::Budget),
+        save_every: number_at(words, Name::Save),
+        resume: text_of(words, Name::Resume) == "yes",
+        size,
+    })
+}
+
+/// The setting that the values give.
+pub fn setting_for(alloc: Global, command: Command, words: &[String]) -> Result<Setting, Memory>
+    requires { fault_of_values command (pairs_in words.now) ≡ None }
+    ensures { IfOk result (λ setting. setting ≡ definition.setting_for command (pairs_in words.now)) }
+{
+    match command {
+        Command::Check => check_setting(alloc, words),
+        Command::Run => run_setting(alloc, command, words, columns_of(alloc, words)?, 0),
+        Command::Make => {
+            let size = number_at(words, Name::Size);
+            run_setting(alloc, command, words, columns_of_grid(alloc)?, size)
+        }
+    }
+}
