@@ -1,1 +1,7 @@
+pub mod Limits
+pub mod Longest
+pub mod Pieces
+pub mod Ranked
+pub mod Sorted
+pub mod Widths
 pub mod Written

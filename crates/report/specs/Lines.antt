@@ -1,10 +1,11 @@
 -- The words of a line, and what appending a text to a list with room does.
 use Rattle.std.specs.Prelude.{◌≡◌, ◌≤◌, ℕ, ◌+◌, List, [], ◌∷◌, ◌++◌, length, decimal, Result, OnOk, IsOk}
 use Rattle.std.specs.Fmt.{signed_decimal}
+use Rattle.hex.specs.Hex.{encode_lower}
 use Rattle.audit_model.specs.Room.{RoomyBytes}
 use Rattle.audit_model.specs.declared.memory.Memory.{Memory}
 use Rattle.report.specs.declared.lines.Word.{Word}
-use Rattle.report.specs.declared.lines.Word.TheVariants.{Text, Number, Signed, Fraction, Billionths}
+use Rattle.report.specs.declared.lines.Word.TheVariants.{Text, Number, Signed, Fraction, Billionths, Key}
 use Rattle.text_definitions.specs.Report.{fraction, billionths}
 
 -- how a word is written
@@ -14,6 +15,7 @@ word_text (Number n) = decimal n
 word_text (Signed z) = signed_decimal z
 word_text (Fraction top bottom) = fraction top bottom
 word_text (Billionths n) = billionths n
+word_text (Key key) = encode_lower key.now
 
 -- what stands in a line after its first word
 abbrev pub tail_of : List (List ℕ) → List ℕ

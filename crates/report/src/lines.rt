@@ -4,7 +4,7 @@ ghost use Rattle.std.specs.Prelude.{◌≡◌, ◌∷◌, map};
 ghost use Rattle.report.specs.Lines.{Appends, tail_of, word_text};
 ghost use Rattle.text_definitions.specs.Report.{line};
 
-use crate::numbers::{push_billionths, push_fraction, push_number, push_signed};
+use crate::numbers::{push_billionths, push_fraction, push_key, push_number, push_signed};
 use audit_model::buffers::Bytes;
 use audit_model::memory::Memory;
 
@@ -18,6 +18,8 @@ pub enum Word<'a> {
     Fraction(i64, u64),
     /// A number of billionths.
     Billionths(u64),
+    /// A key, as hexadecimal digits.
+    Key(&'a [u8; 32]),
 }
 
 /// Appends a word.
@@ -30,6 +32,7 @@ pub fn push_word(out: &mut Bytes, word: &Word) -> Result<(), Memory>
         Word::Signed(number) => push_signed(out, *number),
         Word::Fraction(top, bottom) => push_fraction(out, *top, *bottom),
         Word::Billionths(number) => push_billionths(out, *number),
+        Word::Key(key) => push_key(out, key),
     }
 }
 

@@ -2,11 +2,13 @@
 
 ghost use Rattle.std.specs.Prelude.{◌≡◌, ◌<◌, ◌≤◌, ◌^◌, ◌∷◌, decimal, replicate};
 ghost use Rattle.std.specs.Fmt.{signed_decimal};
+ghost use Rattle.hex.specs.Hex.{encode_lower};
 ghost use Rattle.report.specs.Lines.{Appends};
 ghost use Rattle.text_definitions.specs.Report.{fraction, billionths, nine_digits};
 
 use audit_model::buffers::Bytes;
 use audit_model::memory::Memory;
+use hex::encode_to_slice;
 use itoa::Buffer;
 
 const BILLION: u64 = 1_000_000_000;
@@ -41,6 +43,15 @@ pub fn push_billionths(out: &mut Bytes, number: u64) -> Result<(), Memory>
 {
     push_number(out, number / BILLION)?;
     push_decimals(out, number % BILLION)
+}
+
+/// Appends the digits of a key, two for each byte.
+pub fn push_key(out: &mut Bytes, key: &[u8; 32]) -> Result<(), Memory>
+    ensures { Appends out.old out.new (encode_lower key.now) result }
+{
+    let mut digits = [0; 64];
+    let _ = encode_to_slice(key.as_slice(), &mut digits);
+    out.append(&digits)
 }
 
 /// Appends a stroke and the denominator.

@@ -1,0 +1,246 @@
+-- How many bytes a report has at most.
+use Rattle.std.proofs.Common.{◌≡◌, ℕ, zero, suc, ◌+◌, ◌-◌, ◌*◌, ◌/◌, ◌^◌, ◌<◌, ◌≤◌, true, List, [], ◌∷◌, ◌++◌, length, flat_map, filter, refl, ap, sym, ◌∙◌, subst, arith, length-append, codes, decimal, get_or, drop, take, zero-add, ℤ, pos, negsuc, unsigned_abs}
+use Rattle.std.specs.Prelude.{nat_lt, nat_le}
+use Rattle.std.specs.Fmt.{signed_decimal}
+use Rattle.std.specs.List.{All, enumerate_from}
+use Rattle.std.proofs.Math.Facts.{leb_yes}
+use Rattle.std.proofs.Math.Nat.{div-le_self}
+use Rattle.std.proofs.lemmas.Bool.{le-leb, leb-true, lt-ltb}
+use Rattle.std.proofs.lemmas.Fmt.{length-decimal-le}
+use Rattle.std.proofs.lemmas.List.{length-take-le, get_or-take}
+use Rattle.std.proofs.lemmas.List.FromFn.{length-enumerate_from, get_or-enumerate_from}
+use Rattle.std.proofs.lemmas.List.Sums.{count_by-le-length}
+use Rattle.std.proofs.lemmas.Nat.{mul-le}
+use Rattle.hex.specs.Hex.{encode_lower, lower_digits}
+use Rattle.hex.proofs.HexLemmas.{length-encode_with}
+use Rattle.audit_model.specs.declared.outcome.Outcome.{Outcome}
+use Rattle.audit_model.specs.declared.setting.Ask.{Ask}
+use Rattle.audit_model.specs.declared.setting.Score.{Score}
+use Rattle.audit_model.specs.declared.setting.Score.TheVariants.{Seats, MeanMedian, Gap, CutEdges}
+use Rattle.audit_model.specs.declared.setting.Tail.{Tail}
+use Rattle.audit_model.specs.declared.setting.Tail.TheVariants.{Low, High}
+use Rattle.audit_model.specs.Graph.{count_edges}
+use Rattle.audit_model.specs.Job.{Job, total_population, total_votes}
+use Rattle.audit_model.specs.JobOf.{IsJob}
+use Rattle.audit_model.specs.Plan.{least_population, greatest_population}
+use Rattle.audit_model.specs.Run.{total, steps_of}
+use Rattle.audit_model.specs.Score.{denominator}
+use Rattle.audit_model.specs.Test.{bound, p_value}
+use Rattle.audit_model.specs.Trajectory.{in_tail, plan_value, rank, value_at}
+use Rattle.model_laws.proofs.Least.{bound_is_least}
+use Rattle.text_definitions.specs.Names.{score_name, tail_name}
+use Rattle.text_definitions.specs.Report.{line, fraction, billionths, graph_line, population_line, setting_line, walk_line, walk_lines, ends_line, ends_lines, placed_asks, report}
+use Rattle.report.specs.Outcomes.{AreOutcomesOf, HasCounts, IsCount, AreEndsOf}
+use Rattle.report.specs.Parts.{head, key_line, lines_of}
+use Rattle.report.proofs.Limits.{small, votes}
+use Rattle.report.proofs.Sorted.{fit_at, id_at, count, walks_first, ends_last, ends_sound}
+use Rattle.report.proofs.Widths.{length-decimal_any, length-fraction, length-billionths, width, length-line, length-flat_map-le}
+
+-- ---- the words of an ask
+
+length-score : (score : Score) → length (score_name score) ≤ 11
+length-score Seats = omega arith
+length-score MeanMedian = omega arith
+length-score Gap = omega arith
+length-score CutEdges = omega arith
+
+length-tail : (tail : Tail) → length (tail_name tail) ≤ 4
+length-tail Low = omega arith
+length-tail High = omega arith
+
+denominator-lt : (score : Score) (districts all : ℕ) → districts ≤ 200 → all ≤ 2 * 10 ^ 14 → denominator score districts all < 10 ^ 15
+denominator-lt Seats districts all few less = omega arith
+denominator-lt MeanMedian districts all few less = omega arith
+denominator-lt Gap districts all few less = omega arith
+denominator-lt CutEdges districts all few less = omega arith
+
+-- the start plan's value over its denominator
+abbrev pub start_fraction : Job → Score → List ℕ
+start_fraction job score = fraction (plan_value job job.start score) (denominator score job.districts (total_votes job))
+
+length-start : (job : Job) (score : Score) → IsJob job → length (start_fraction job score) ≤ 81
+length-start job score h =
+    length-fraction (plan_value job job.start score) (denominator score job.districts (total_votes job))
+    (denominator-lt score job.districts (total_votes job) h.within.input.few (votes job h))
+
+-- ---- a line of an outlier trajectory
+
+count-le : (steps : ℕ) (v : ℤ) → IsCount steps v → unsigned_abs v ≤ steps + 1
+count-le steps (pos n) h = leb_yes h.few.le
+count-le steps (negsuc n) h = absurd (h.some.le)
+
+length-count : (steps : ℕ) (v : ℤ) → steps ≤ 10 ^ 9 → IsCount steps v → length (signed_decimal v) ≤ 10
+length-count steps (pos n) few h =
+    let most : n ≤ steps + 1 = leb_yes h.few.le in
+    length-decimal-le 10 n (omega arith) (omega arith) (omega arith)
+length-count steps (negsuc n) few h = absurd (h.some.le)
+
+bound-lt : (n all : ℕ) → n ≤ all → bound n all < 10 ^ 18
+bound-lt n all l =
+    let least = (bound_is_least n all l).least 2000000000 (le-leb (2 * n * 10 ^ 18) (2000000000 * 2000000000 * all) (omega arith)) in
+    omega (arith, least)
+
+-- what a line of an outlier trajectory needs to be short
+record IsShort (job : Job) (found : Outcome) : Type 0 where
+  id : found.id < 100000
+  moved : found.moved ≤ 10 ^ 9
+  counts : HasCounts job found
+
+walk_line-le : (job : Job) (found : Outcome) (place : ℕ) (ask : Ask) → IsJob job → IsShort job found → place < length job.setting.asks
+    → length (walk_line job found (place, ask)) ≤ 200
+walk_line-le job found place ask h o l =
+    let all = job.setting.steps + 1 in
+    let limits = small job h in
+    let found_count : IsCount job.setting.steps (value_at found place) = o.counts place l in
+    let n = unsigned_abs (value_at found place) in
+    let whole = length-line (codes "walk") (
+    decimal found.id ∷ codes "moved" ∷ decimal found.moved ∷ score_name ask.score ∷ tail_name ask.tail ∷ codes "start"
+    ∷ start_fraction job ask.score
+    ∷ codes "count" ∷ signed_decimal (value_at found place) ∷ codes "of" ∷ decimal all ∷ codes "bound" ∷ billionths (bound n all) ∷ []) in
+    let id = length-decimal-le 5 found.id (omega arith) (omega (arith, o.id)) (omega (arith, o.id)) in
+    let moved = length-decimal-le 10 found.moved (omega arith) (omega (arith, o.moved)) (omega (arith, o.moved)) in
+    let score = length-score ask.score in
+    let tail = length-tail ask.tail in
+    let start = length-start job ask.score h in
+    let counted = length-count job.setting.steps (value_at found place) limits.few_steps found_count in
+    let of = length-decimal-le 10 all (omega arith) (omega (arith, limits.few_steps)) (omega (arith, limits.few_steps)) in
+    let billionth = length-billionths (bound n all) (bound-lt n all (count-le job.setting.steps (value_at found place) found_count)) in
+    omega (arith, whole, id, moved, score, tail, start, counted, of, billionth)
+
+-- ---- a line of the parallel test
+
+p_value-lt : (r all : ℕ) → r ≤ 100001 → all ≤ 100001 → p_value r all < 10 ^ 18
+p_value-lt r all few most = let quotient = div-le_self (r * 10 ^ 9 + all - 1) all in omega (arith, quotient)
+
+rank-le : (job : Job) (os : List Outcome) (place : ℕ) (ask : Ask) → AreOutcomesOf job os → rank job ask place os ≤ job.setting.ends + 1
+rank-le job os place ask h =
+    let ends = filter (λ o. nat_le job.setting.walks o.id) os in
+    let among = count_by-le-length (λ o. in_tail ask.tail (value_at o place) (plan_value job job.start ask.score)) ends in
+    let all : length ends ≡ job.setting.ends = ap length (ends_last job os h) ∙ (ends_sound job os h).count in
+    omega (arith, among, all)
+
+ends_line-le : (job : Job) (os : List Outcome) (place : ℕ) (ask : Ask) → IsJob job → AreOutcomesOf job os → length (ends_line job os (place, ask)) ≤ 200
+ends_line-le job os place ask h all_of =
+    let all = job.setting.ends + 1 in
+    let r = rank job ask place os in
+    let limits = small job h in
+    let most : all ≤ 100001 = omega (arith, limits.few) in
+    let within : r ≤ all = rank-le job os place ask all_of in
+    let whole = length-line (codes "ends") (
+    score_name ask.score ∷ tail_name ask.tail ∷ codes "start" ∷ start_fraction job ask.score
+    ∷ codes "rank" ∷ decimal r ∷ codes "of" ∷ decimal all ∷ codes "p" ∷ billionths (p_value r all) ∷ []) in
+    let score = length-score ask.score in
+    let tail = length-tail ask.tail in
+    let start = length-start job ask.score h in
+    let ranked = length-decimal-le 6 r (omega arith) (omega arith) (omega arith) in
+    let of = length-decimal-le 6 all (omega arith) (omega arith) (omega arith) in
+    let billionth = length-billionths (p_value r all) (p_value-lt r all (omega arith) most) in
+    omega (arith, whole, score, tail, start, ranked, of, billionth)
+
+-- ---- all lines
+
+-- what holds of each ask at its place holds of all placed asks
+each_placed : (job : Job) (P : ℕ → Ask → Type 0) → ((k : ℕ) (ask : Ask) → k < length job.setting.asks → P k ask) → All (λ a. P a.0 a.1) (placed_asks job)
+each_placed job P each k d l =
+    let within : k < length job.setting.asks = omega (arith, length-enumerate_from 0 job.setting.asks) in
+    subst (λ (a : ℕ × Ask). P a.0 a.1) (sym (get_or-enumerate_from 0 job.setting.asks k d within))
+    (subst (λ (n : ℕ). P n (get_or job.setting.asks k d.1)) (sym (zero-add k)) (each k (get_or job.setting.asks k d.1) within))
+
+lines_of-le : (job : Job) (found : Outcome) → IsJob job → IsShort job found → length (lines_of job found) ≤ length job.setting.asks * 200
+lines_of-le job found h o =
+    let many = length-flat_map-le (walk_line job found) 200 (placed_asks job)
+    (each_placed job (λ k ask. length (walk_line job found (k, ask)) ≤ 200) (λ k ask l. walk_line-le job found k ask h o l)) in
+    subst (λ (n : ℕ). length (lines_of job found) ≤ n * 200) (length-enumerate_from 0 job.setting.asks) many
+
+short : (job : Job) (os : List Outcome) (k : ℕ) (d : Outcome) → IsJob job → AreOutcomesOf job os → k < length (take job.setting.walks os)
+    → IsShort job (get_or (take job.setting.walks os) k d)
+short job os k d h all_of l =
+    let limits = small job h in
+    let all : length os ≡ total job = count job os all_of in
+    let width : length (take job.setting.walks os) ≡ job.setting.walks = length-take-le job.setting.walks os (omega arith) in
+    let below : k < job.setting.walks = omega arith in
+    let o = get_or os k d in
+    let fits = fit_at job os k d all_of (omega arith) in
+    let first : nat_lt o.id job.setting.walks ≡ true = lt-ltb o.id job.setting.walks (omega (arith, id_at job os k d all_of (omega arith))) in
+    subst (IsShort job) (sym (get_or-take job.setting.walks os k d below)) (record {
+      id = omega (arith, fits.id, limits.few);
+      moved = let steps : o.moved ≤ steps_of true job = subst (λ b. o.moved ≤ steps_of b job) first fits.moved in omega (arith, limits.few_steps);
+      counts = fits.counts first;
+    })
+
+walk_lines-le : (job : Job) (os : List Outcome) → IsJob job → AreOutcomesOf job os → length (walk_lines job os) ≤ job.setting.walks * (length job.setting.asks * 200)
+walk_lines-le job os h all_of =
+    let firsts = take job.setting.walks os in
+    let all : length os ≡ total job = count job os all_of in
+    let width : length firsts ≡ job.setting.walks = length-take-le job.setting.walks os (omega arith) in
+    let many = length-flat_map-le (lines_of job) (length job.setting.asks * 200) firsts
+    (λ k d l. lines_of-le job (get_or firsts k d) h (short job os k d h all_of l)) in
+    let same : length (walk_lines job os) ≡ length (flat_map (lines_of job) firsts) = ap (λ xs. length (flat_map (lines_of job) xs)) (walks_first job os all_of) in
+    subst (λ (n : ℕ). length (walk_lines job os) ≤ n * (length job.setting.asks * 200)) width (omega (arith, same, many))
+
+ends_lines-le : (n : ℕ) (job : Job) (os : List Outcome) → IsJob job → AreOutcomesOf job os → length (ends_lines n job os) ≤ length job.setting.asks * 200
+ends_lines-le zero job os h all_of = omega arith
+ends_lines-le (suc n) job os h all_of =
+    let many = length-flat_map-le (ends_line job os) 200 (placed_asks job)
+    (each_placed job (λ k ask. length (ends_line job os (k, ask)) ≤ 200) (λ k ask l. ends_line-le job os k ask h all_of)) in
+    subst (λ (n : ℕ). length (flat_map (ends_line job os) (placed_asks job)) ≤ n * 200) (length-enumerate_from 0 job.setting.asks) many
+
+-- ---- the other lines
+
+length-key_line : (job : Job) → IsJob job → length (key_line job) ≤ 69
+length-key_line job h =
+    let whole = length-line (codes "key") (encode_lower job.setting.key ∷ []) in
+    let digits = length-encode_with lower_digits job.setting.key in
+    omega (arith, whole, digits, h.within.setting.key)
+
+length-graph_line : (job : Job) → length (graph_line job) ≤ 217
+length-graph_line job =
+    let edges = count_edges job.graph (λ u v. true) in
+    let whole = length-line (codes "units") (decimal job.graph.units ∷ codes "edges" ∷ decimal edges ∷ codes "districts" ∷ decimal job.districts ∷ []) in
+    omega (arith, whole, length-decimal_any job.graph.units, length-decimal_any edges, length-decimal_any job.districts)
+
+length-population_line : (job : Job) → length (population_line job) ≤ 290
+length-population_line job =
+    let whole = length-line (codes "population") (
+    decimal (total_population job) ∷ codes "slack" ∷ decimal job.setting.slack
+    ∷ codes "low" ∷ decimal (least_population job) ∷ codes "high" ∷ decimal (greatest_population job) ∷ []) in
+    omega (arith, whole, length-decimal_any (total_population job), length-decimal_any job.setting.slack, length-decimal_any (least_population job), length-decimal_any (greatest_population job))
+
+length-setting_line : (job : Job) → length (setting_line job) ≤ 290
+length-setting_line job =
+    let whole = length-line (codes "walks") (
+    decimal job.setting.walks ∷ codes "steps" ∷ decimal job.setting.steps
+    ∷ codes "ends" ∷ decimal job.setting.ends ∷ codes "hub-steps" ∷ decimal job.setting.hub_steps ∷ []) in
+    omega (arith, whole, length-decimal_any job.setting.walks, length-decimal_any job.setting.steps, length-decimal_any job.setting.ends, length-decimal_any job.setting.hub_steps)
+
+joined-le : (a b c d e : List ℕ) (n : ℕ) → length a + length b + length c + length d + length e ≤ n → length (a ++ b ++ c ++ d ++ e) ≤ n
+joined-le a b c d e n h = simp length-append h
+
+length-head : (job : Job) → IsJob job → length (head job) ≤ 1000
+length-head job h =
+    joined-le (line (codes "district-audit 1" ∷ [])) (key_line job) (graph_line job) (population_line job) (setting_line job) 1000
+    (omega (arith, length-key_line job h, length-graph_line job, length-population_line job, length-setting_line job))
+
+-- ---- all of it
+
+parts-le : (a b c d : List ℕ) (m n k : ℕ) → length a ≤ 1000 → length b ≤ m → length c ≤ n → length d ≤ 4 → 1004 + m + n ≤ k → length (a ++ b ++ c ++ d) ≤ k
+parts-le a b c d m n k la lb lc ld most = simp length-append (omega arith)
+
+pub report-le : (job : Job) (os : List Outcome) → IsJob job → AreOutcomesOf job os
+    → length (report job os) ≤ 1024 + (job.setting.walks + 1) * length job.setting.asks * 200
+unfolding report
+report-le job os h all_of =
+    let asks = length job.setting.asks in
+    let walks = job.setting.walks in
+    parts-le (head job) (walk_lines job os) (ends_lines job.setting.ends job os) (line (codes "end" ∷ [])) (walks * (asks * 200)) (asks * 200)
+    (1024 + (walks + 1) * asks * 200)
+    (length-head job h) (walk_lines-le job os h all_of) (ends_lines-le job.setting.ends job os h all_of) (omega arith) (products walks asks)
+  where
+    products : (w a : ℕ) → 1004 + w * (a * 200) + a * 200 ≤ 1024 + (w + 1) * a * 200
+    products w a = grind arith
+
+-- what is enough for any report is below 90 million bytes
+pub enough-le : (walks asks : ℕ) → walks ≤ 100000 → asks ≤ 4 → 1024 + (walks + 1) * asks * 200 ≤ 90000000
+enough-le walks asks few four =
+    let product = mul-le (walks + 1) asks 100001 4 (omega arith) four in
+    omega (arith, product)

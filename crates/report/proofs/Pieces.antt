@@ -1,0 +1,72 @@
+-- A list of pieces that are appended one by one.
+use Rattle.std.proofs.Common.{◌≡◌, ℕ, suc, ◌+◌, ◌<◌, ◌≤◌, drop, get_or, add-one, zero-add, drop-cons, List, [], ◌++◌, length, flat_map, refl, ap, sym, ◌∙◌, subst, arith, append-nil, length-append, Ok, Err}
+use Rattle.std.proofs.lemmas.List.{drop_all}
+use Rattle.std.proofs.lemmas.List.FromFn.{length-enumerate_from, get_or-enumerate_from}
+use Rattle.audit_model.specs.Room.{RoomyBytes}
+use Rattle.audit_model.specs.declared.memory.Memory.{Memory}
+use Rattle.audit_model.specs.declared.setting.Ask.{Ask}
+use Rattle.audit_model.specs.declared.setting.Score.TheVariants.{Seats}
+use Rattle.audit_model.specs.declared.setting.Tail.TheVariants.{Low}
+use Rattle.audit_model.specs.Job.{Job}
+use Rattle.report.specs.Lines.{Appends}
+use Rattle.text_definitions.specs.Report.{placed_asks}
+use Rattle.report.proofs.Written.{IsWritten, written-none, written-more, written-err}
+
+-- of the pieces the first are appended
+pub record ArePieces {X : Type 0} (piece : X → List ℕ) (xs : List X) (i : ℕ) (old now : RoomyBytes) : Type 0 where
+  pub written : IsWritten old now (flat_map piece xs) (flat_map piece (drop i xs))
+
+-- what is left is the next piece and what is left after it
+pieces-step : {X : Type 0} (piece : X → List ℕ) (xs : List X) (i : ℕ) (x d : X) → i < length xs → get_or xs i d ≡ x
+    → flat_map piece (drop i xs) ≡ piece x ++ flat_map piece (drop (i + 1) xs)
+pieces-step piece xs i x d below is =
+    rw (add-one, drop-cons xs i d) (ap (λ y. piece y ++ flat_map piece (drop (suc i) xs)) is)
+
+pub pieces-none : {X : Type 0} (piece : X → List ℕ) (xs : List X) (old : RoomyBytes) → ArePieces piece xs 0 old old
+pieces-none piece xs old = record { written = written-none old (flat_map piece xs) (flat_map piece xs) refl }
+
+pub pieces-more : {X : Type 0} (piece : X → List ℕ) (xs : List X) (i : ℕ) (x d : X) (old now new : RoomyBytes)
+    → i < length xs → get_or xs i d ≡ x → ArePieces piece xs i old now → Appends now new (piece x) (Ok tt) → ArePieces piece xs (i + 1) old new
+pieces-more piece xs i x d old now new below is before more = record {
+  written = written-more old now new (flat_map piece xs) (piece x) (flat_map piece (drop (i + 1) xs))
+      (subst (λ t. IsWritten old now (flat_map piece xs) t) (pieces-step piece xs i x d below is) before.written) more;
+}
+
+pub pieces-err : {X : Type 0} (piece : X → List ℕ) (xs : List X) (i : ℕ) (x d : X) (old now new : RoomyBytes) (e : Memory)
+    → i < length xs → get_or xs i d ≡ x → ArePieces piece xs i old now → Appends now new (piece x) (Err e) → Appends old new (flat_map piece xs) (Err e)
+pieces-err piece xs i x d old now new e below is before failed =
+    written-err old now new (flat_map piece xs) (piece x) (flat_map piece (drop (i + 1) xs)) e
+    (subst (λ t. IsWritten old now (flat_map piece xs) t) (pieces-step piece xs i x d below is) before.written) failed
+
+pub pieces-all : {X : Type 0} (piece : X → List ℕ) (xs : List X) (i : ℕ) (old now : RoomyBytes)
+    → length xs ≤ i → ArePieces piece xs i old now → Appends old now (flat_map piece xs) (Ok tt)
+pieces-all piece xs i old now over before =
+    let all : IsWritten old now (flat_map piece xs) [] = subst (λ t. IsWritten old now (flat_map piece xs) t) (ap (flat_map piece) (drop_all i xs over)) before.written in
+    let items : now.items ≡ old.items ++ flat_map piece xs = sym (append-nil now.items) ∙ all.items in
+    record {
+      ok = items;
+      room = λ enough.
+          let sum : now.spare + length now.items ≡ old.spare + length old.items = all.room enough in
+          let count : length now.items ≡ length old.items + length (flat_map piece xs) = ap length items ∙ length-append old.items (flat_map piece xs) in
+          (refl, omega arith);
+    }
+
+-- ---- the asks, each with its place
+
+-- what stands for an ask where there is none
+abbrev pub no_ask : Ask
+no_ask = record { score = Seats; tail = Low }
+
+-- the ask at a place
+pub placed : (job : Job) (asks : List Ask) (place : ℕ) → asks ≡ job.setting.asks → place < length asks
+    → get_or (placed_asks job) place (0, no_ask) ≡ (place, get_or asks place no_ask)
+placed job asks place e l =
+    let at = get_or-enumerate_from 0 job.setting.asks place (0, no_ask) (subst (λ xs. place < length xs) e l) in
+    at ∙ ap (λ k. (k, get_or job.setting.asks place no_ask)) (zero-add place)
+    ∙ ap (λ xs. (place, get_or xs place no_ask)) (sym e)
+
+pub placed_within : (job : Job) (asks : List Ask) (place : ℕ) → asks ≡ job.setting.asks → place < length asks → place < length (placed_asks job)
+placed_within job asks place e l = omega (arith, length-enumerate_from 0 job.setting.asks, ap length e)
+
+pub placed_all : (job : Job) (asks : List Ask) (place : ℕ) → asks ≡ job.setting.asks → length asks ≤ place → length (placed_asks job) ≤ place
+placed_all job asks place e l = omega (arith, length-enumerate_from 0 job.setting.asks, ap length e)

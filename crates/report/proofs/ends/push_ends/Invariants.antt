@@ -1,0 +1,6 @@
+use Rattle.report.proofs.Pieces.{ArePieces}
+use Rattle.text_definitions.specs.Report.{placed_asks, ends_line}
+use Rattle.report.proofs.ends.push_ends.Given as goal
+
+abbrev pub invariant-loop-place : goal.invariant-loop-place
+invariant-loop-place l = ArePieces (ends_line l.job l.ends) (placed_asks l.job) l.place l.fn.out l.out

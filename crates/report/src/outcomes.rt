@@ -1,0 +1,26 @@
+//! The outcomes of a job by kind of trajectory.
+
+ghost use Rattle.std.specs.Prelude.{◌≡◌, nat_lt, nat_le, filter};
+ghost use Rattle.std.specs.List.{All};
+ghost use Rattle.report.specs.Outcomes.{AreEndsOf, AreOutcomesOf, HasCounts};
+
+use audit_model::outcome::Outcome;
+use plan_core::job::Job;
+
+/// The outcomes of the outlier trajectories.
+pub fn walks_of<'a>(job: &Job, sorted: &'a [Outcome]) -> &'a [Outcome]
+    requires { AreOutcomesOf job.now sorted.now }
+    ensures all { result.now ≡ filter (λ o. nat_lt o.id job.now.setting.walks) sorted.now }
+    ensures counts { All (HasCounts job.now) result.now }
+{
+    sorted.split_at(job.setting().walks as usize).0
+}
+
+/// The outcomes of the trajectories of the parallel test.
+pub fn ends_of<'a>(job: &Job, sorted: &'a [Outcome]) -> &'a [Outcome]
+    requires { AreOutcomesOf job.now sorted.now }
+    ensures all { result.now ≡ filter (λ o. nat_le job.now.setting.walks o.id) sorted.now }
+    ensures sound { AreEndsOf job.now result.now }
+{
+    sorted.split_at(job.setting().walks as usize).1
+}

@@ -1,0 +1,48 @@
+//! Numbers of a job that stand in its lines.
+
+ghost use Rattle.std.specs.Prelude.{◌≡◌, ◌+◌, ◌≤◌, length};
+ghost use Rattle.audit_model.specs.Job.{total_votes};
+ghost use Rattle.audit_model.specs.Score as definition;
+
+use audit_model::setting::{Ask, Score};
+use plan_core::job::Job;
+use scores::denominator;
+
+/// The denominator of a score of the job's plans.
+#[tactic(auto, using(crate::proofs::Limits::votes))]
+pub fn denominator_of(job: &Job, score: Score) -> u64
+    ensures { result ≡ definition.denominator score job.now.districts (total_votes job.now) }
+{
+    let _units = job.units();
+    denominator(score, job.districts(), job.votes())
+}
+
+/// How many plans an outlier trajectory visits.
+#[tactic(auto, using(crate::proofs::Limits::small))]
+pub fn visits(job: &Job) -> u64
+    ensures value { result ≡ job.now.setting.steps + 1 }
+    ensures few { result ≤ 1000000001 }
+{
+    let _units = job.units();
+    u64::from(job.setting().steps) + 1
+}
+
+/// How many values the start's rank is among: its own and those of the ends.
+#[tactic(auto, using(crate::proofs::Limits::small))]
+pub fn ranked(job: &Job) -> u64
+    ensures value { result ≡ job.now.setting.ends + 1 }
+    ensures few { result ≤ 100001 }
+{
+    let _units = job.units();
+    u64::from(job.setting().ends) + 1
+}
+
+/// The asks in order, of which there are at most four.
+#[tactic(auto, using(crate::proofs::Limits::small))]
+pub fn asks_of(job: &Job) -> &[Ask]
+    ensures value { result.now ≡ job.now.setting.asks }
+    ensures few { length result.now ≤ 4 }
+{
+    let _units = job.units();
+    job.setting().asks.as_slice()
+}

@@ -1,0 +1,87 @@
+//! The lines of the outlier trajectories.
+
+ghost use Rattle.std.specs.Prelude.{◌≡◌, ◌<◌, length, Some, slice_get, flat_map};
+ghost use Rattle.std.specs.List.{All};
+ghost use Rattle.audit_model.specs.Trajectory.{plan_value, value_at};
+ghost use Rattle.report.specs.Lines.{Appends};
+ghost use Rattle.report.specs.Outcomes.{AreOutcomesOf, HasCounts, IsCount};
+ghost use Rattle.report.specs.Parts.{lines_of};
+ghost use Rattle.text_definitions.specs.Report.{walk_line, walk_lines};
+
+use crate::lines::{Word, push_line};
+use crate::names::{score_text, tail_text};
+use crate::outcomes::walks_of;
+use crate::values::{asks_of, denominator_of, visits};
+use audit_model::buffers::Bytes;
+use audit_model::memory::Memory;
+use audit_model::outcome::Outcome;
+use audit_model::setting::Ask;
+use outlier_tests::bound;
+use plan_core::job::Job;
+
+/// Appends a line for each outlier trajectory and each ask.
+pub fn push_walk_lines(job: &Job, sorted: &[Outcome], out: &mut Bytes) -> Result<(), Memory>
+    requires { AreOutcomesOf job.now sorted.now }
+    ensures { Appends out.old out.new (walk_lines job.now sorted.now) result }
+{
+    push_walks(job, walks_of(job, sorted), out)
+}
+
+/// Appends a line for each of the outcomes and each ask.
+fn push_walks(job: &Job, walks: &[Outcome], out: &mut Bytes) -> Result<(), Memory>
+    requires { All (HasCounts job.now) walks.now }
+    ensures { Appends out.old out.new (flat_map (lines_of job.now) walks.now) result }
+{
+    for found in walks {
+        push_walk(job, found, out)?;
+    }
+    Ok(())
+}
+
+/// Appends a line for each ask.
+fn push_walk(job: &Job, found: &Outcome, out: &mut Bytes) -> Result<(), Memory>
+    requires { HasCounts job.now found.now }
+    ensures { Appends out.old out.new (lines_of job.now found.now) result }
+{
+    for (place, ask) in asks_of(job).iter().enumerate() {
+        push_walk_line(job, found, place, *ask, job.start_value(place as u32), out)?;
+    }
+    Ok(())
+}
+
+/// Appends the line of the ask at this place, which has this value at the start.
+fn push_walk_line(
+    job: &Job,
+    found: &Outcome,
+    place: usize,
+    ask: Ask,
+    start: i64,
+    out: &mut Bytes,
+) -> Result<(), Memory>
+    requires place { place < 4 }
+    requires start { start ≡ plan_value job.now job.now.start ask.score }
+    requires count { IsCount job.now.setting.steps (value_at found.now place) }
+    ensures { Appends out.old out.new (walk_line job.now found.now (place, ask)) result }
+{
+    let count = found.values[place];
+    let visits = visits(job);
+    push_line(
+        out,
+        &[
+            Word::Text("walk"),
+            Word::Number(u64::from(found.id)),
+            Word::Text("moved"),
+            Word::Number(found.moved),
+            Word::Text(score_text(ask.score)),
+            Word::Text(tail_text(ask.tail)),
+            Word::Text("start"),
+            Word::Fraction(start, denominator_of(job, ask.score)),
+            Word::Text("count"),
+            Word::Signed(count),
+            Word::Text("of"),
+            Word::Number(visits),
+            Word::Text("bound"),
+            Word::Billionths(bound(count.unsigned_abs(), visits)),
+        ],
+    )
+}
