@@ -1,8 +1,8 @@
 -- From what the words and the source gave to how the call goes on.
-use Rattle.std.proofs.Common.{◌≡◌, ℕ, List, Result, Ok, refl, sym, subst}
+use Rattle.std.proofs.Common.{◌≡◌, ℕ, Bool, true, List, Option, Result, Ok, refl, sym, subst}
 use Rattle.audit_model.specs.declared.fault.WordFault.{WordFault}
 use Rattle.audit_model.specs.declared.setting.Command.{Command}
-use Rattle.audit_model.specs.declared.setting.Command.TheVariants.{Check}
+use Rattle.audit_model.specs.declared.setting.Command.TheVariants.{Check, Run, Make}
 use Rattle.audit_model.specs.declared.setting.Setting.{Setting}
 use Rattle.text_definitions.specs.Words.{setting_of}
 use Rattle.audit_run.specs.declared.ended.Ended.TheVariants as ended
@@ -18,9 +18,16 @@ pub source_by : (words : List (List ℕ)) (setting : Setting) (before after : St
 source_by words setting before after e same =
     subst (λ (r : Result Setting WordFault). SameUnless (passes (λ s. is_reading s.command) r) before after) (sym e) same
 
--- a check may read the source
-pub check_reads : (setting : Setting) (before after : Stream) → setting.command ≡ Check → SameUnless (is_reading setting.command) before after
-check_reads setting before after check = subst (λ (c : Command). SameUnless (is_reading c) before after) (sym check) tt
+-- a command that reads may read the source
+pub may_read : (command : Command) (before after : Stream) → is_reading command ≡ true → SameUnless (is_reading command) before after
+may_read command before after reads = subst (λ (b : Bool). SameUnless b before after) (sym reads) tt
+
+-- a command that reads has the bytes of the source
+pub reads_source : (command : Command) (setting : Setting) (left : Option (List ℕ)) (bytes : List ℕ) → is_reading command ≡ true
+    → IfKnown left (λ input. input ≡ bytes) → IfKnown (input_by command setting left) (λ input. input ≡ bytes)
+reads_source Check setting left bytes reads given = given
+reads_source Run setting left bytes reads given = given
+reads_source Make setting left bytes reads given = cc
 
 module _ (words : List (List ℕ)) (setting : Setting) (before after : Stream) (accepted : setting_of words ≡ Ok setting) (out : Stream) (keeper : Kept) where
   -- nothing but the source was touched
@@ -36,18 +43,18 @@ module _ (words : List (List ℕ)) (setting : Setting) (before after : Stream) (
     save_faults = refl;
   }
 
-  pub too_many_runs : setting.command ≡ Check → ReadsTooMany before after → RunsTo words (world before out keeper) (world after out keeper) ended.TooManyBytes
-  too_many_runs check r = record {
+  pub too_many_runs : is_reading setting.command ≡ true → ReadsTooMany before after → RunsTo words (world before out keeper) (world after out keeper) ended.TooManyBytes
+  too_many_runs reads r = record {
     cause = record {
       refused = record {
         setting = setting;
         words_are = accepted;
         bytes = r.bytes;
-        given = subst (λ (c : Command). IfKnown (input_by c setting before.bytes) (λ input. input ≡ r.bytes)) (sym check) r.given;
+        given = reads_source setting.command setting before.bytes r.bytes reads r.given;
         judged_so = judged_many setting r.bytes r.many;
       };
-      taken = subst (λ (c : Command). TakesTooMany (is_reading c) before.bytes after.bytes) (sym check) r.taken;
+      taken = subst (λ (b : Bool). TakesTooMany b before.bytes after.bytes) (sym reads) r.taken;
     };
-    untouched = only_source (check_reads setting before after check) r.faults;
+    untouched = only_source (may_read setting.command before after reads) r.faults;
     line_is = refl;
   }

@@ -1,24 +1,28 @@
 //! The call that does all that the program does.
 
-ghost use Rattle.std.specs.Prelude.{◌≡◌};
+ghost use Rattle.std.specs.Prelude.{◌≡◌, IsTrue};
 ghost use Rattle.audit_model.specs.declared.setting.Command.TheVariants.{Check};
 ghost use Rattle.audit_run.specs.Causes.{HasCauses, IsComplete};
-ghost use Rattle.audit_run.specs.Ends.{EndsFor};
+ghost use Rattle.audit_run.specs.Ends.{EndsFor, is_walking};
 ghost use Rattle.audit_run.specs.Headline.{WritesWhole};
 ghost use Rattle.audit_run.specs.Left.{LeavesAlone};
 ghost use Rattle.audit_run.specs.Steps.{Finishes};
+ghost use Rattle.audit_run.specs.Unsaved.{IsUnsavedRun};
+ghost use Rattle.audit_run.specs.Visits.{VisitsLegal};
 ghost use Rattle.audit_run.specs.World.{Kept, stream, kept, world};
 ghost use Rattle.audit_words.specs.Spoken.{spoken};
 
 use crate::ended::Ended;
 use crate::note::tell;
 use crate::prepare::prepare;
+use crate::run::finish_run;
 use crate::writing::write_all;
 use audit_io::gate::Gate;
 use audit_io::keeper::Keeper;
 use audit_io::sink::Sink;
 use audit_io::source::Source;
 use audit_model::buffers::Bytes;
+use audit_model::setting::Command;
 use plan_core::job::Job;
 use report::check::check_text;
 use std::alloc::Global;
@@ -40,6 +44,25 @@ fn finish_check<K: Sink>(alloc: Global, job: &Job, out: &mut K) -> Ended
     }
 }
 
+// Does what the command asks for, with this job.
+fn finish<R: Threads + Wait + Sync, K: Sink, C: Keeper + Send, G: Gate + Sync>(
+    rt: &R,
+    alloc: Global,
+    job: &Job,
+    out: &mut K,
+    keeper: C,
+    gate: &G,
+) -> (Ended, C)
+    requires unsaved { IsTrue (is_walking job.now.setting.command) → IsUnsavedRun job.now }
+    ensures { Finishes job.now (stream K.taken K.faults out.old) (stream K.taken K.faults out.new)
+        (kept C.slots C.load_faults C.save_faults keeper) (kept C.slots C.load_faults C.save_faults result.1) result.0 }
+{
+    match job.setting().command {
+        Command::Check => (finish_check(alloc, job, out), keeper),
+        Command::Run | Command::Make => (finish_run(rt, alloc, job, out, gate), keeper),
+    }
+}
+
 /// Does what the words ask for, and answers the status and the keeper.
 ///
 /// The graph is read to its end, or to one byte more than 67,108,864. The text goes to `out`, and the reason of each status but 0 to
@@ -52,14 +75,14 @@ pub fn audit<
     C: Keeper + Send,
     G: Gate + Sync,
 >(
-    _rt: &R,
+    rt: &R,
     alloc: Global,
     words: &[String],
     graph: &mut S,
     out: &mut K,
     note: &mut N,
     keeper: C,
-    _gate: &G,
+    gate: &G,
 ) -> (u8, C)
     ensures ends { EndsFor (spoken words.now)
         (world (stream S.left S.faults graph.old) (stream K.taken K.faults out.old) (kept C.slots C.load_faults C.save_faults keeper))
@@ -77,10 +100,11 @@ pub fn audit<
     ensures left_alone { LeavesAlone (spoken words.now)
         (world (stream S.left S.faults graph.old) (stream K.taken K.faults out.old) (kept C.slots C.load_faults C.save_faults keeper))
         (world (stream S.left S.faults graph.new) (stream K.taken K.faults out.new) (kept C.slots C.load_faults C.save_faults result.1)) result.0 }
+    ensures legal { VisitsLegal (spoken words.now) (S.left graph.old) }
 {
     match prepare(alloc, words, graph) {
         Ok(job) => {
-            let why = finish_check(alloc, &job, out);
+            let (why, keeper) = finish(rt, alloc, &job, out, keeper, gate);
             (tell(&why, note), keeper)
         }
         Err(why) => (tell(&why, note), keeper),

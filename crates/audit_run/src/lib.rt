@@ -2,8 +2,13 @@
 #![tactic(auto)]
 
 pub mod audit;
+pub mod crew;
 pub mod ended;
 pub mod note;
 pub mod prepare;
 pub mod reading;
+pub mod run;
+pub mod todo;
+pub mod walking;
+mod worker;
 pub mod writing;

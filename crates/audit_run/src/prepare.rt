@@ -1,10 +1,10 @@
 //! From the words and the source to a job.
 
-ghost use Rattle.std.specs.Prelude.{◌≡◌, ◌≤◌, length};
+ghost use Rattle.std.specs.Prelude.{◌≡◌, ◌≤◌, IsTrue, length};
 ghost use Rattle.audit_model.specs.Limits.{IsSetting};
-ghost use Rattle.audit_model.specs.declared.setting.Command.TheVariants.{Check};
 ghost use Rattle.audit_run.specs.Accepted.{most_bytes};
 ghost use Rattle.audit_run.specs.Ended.{word_ended, graph_ended, plan_ended};
+ghost use Rattle.audit_run.specs.Ends.{is_reading};
 ghost use Rattle.audit_run.specs.Steps.{Prepares, PreparesFor, Judges};
 ghost use Rattle.audit_run.specs.World.{stream};
 ghost use Rattle.audit_words.specs.Spoken.{spoken};
@@ -63,7 +63,7 @@ fn judge(alloc: Global, setting: Setting, bytes: &[u8]) -> Result<Job, Ended>
 
 // The job of what the source has, or why there is none.
 fn prepare_for<S: Source>(alloc: Global, setting: Setting, source: &mut S) -> Result<Job, Ended>
-    requires reads { setting.command ≡ Check }
+    requires reads { IsTrue (is_reading setting.command) }
     requires within { IsSetting setting }
     ensures { PreparesFor setting (stream S.left S.faults source.old) (stream S.left S.faults source.new) result }
 {

@@ -1,0 +1,63 @@
+-- The numbers below a bound that pass a test, and the first of them.
+use Rattle.std.proofs.Common.{◌≡◌, refl, sym, subst, ℕ, zero, suc, ◌<◌, ◌≤◌, min, Bool, true, false, cond, not, List, [], ◌∷◌, ◌++◌, length, take, get_or, All, AllPairs, arith}
+use Rattle.std.specs.Prelude.{◌≢◌}
+use Rattle.std.proofs.lemmas.Bool.{not-true}
+use Rattle.std.proofs.lemmas.List.{append-nil, get_or-take, length-take}
+use Rattle.std.proofs.lemmas.List.Elements.{All-append}
+use Rattle.std.proofs.lemmas.List.Quantifiers.{all_pairs_push}
+use Rattle.audit_model.specs.declared.outcome.Outcome.{Outcome}
+use Rattle.audit_model.specs.Below.{filter_below}
+use Rattle.audit_model.specs.Job.{Job}
+use Rattle.audit_model.specs.Run.{total, has_id, run_ids}
+use Rattle.audit_run.specs.Walks.{IsTodo}
+
+-- each is below the bound and passes the test
+each_passes : (n : ℕ) (test : ℕ → Bool) → All (λ id. (id < n) × (test id ≡ true)) (filter_below n test)
+each_passes zero test = λ k d inside. absurd (omega arith)
+each_passes (suc n) test = All-append (λ id. (id < suc n) × (test id ≡ true)) (filter_below n test) (cond (test n) (n ∷ []) [])
+    (λ k d inside. let was = each_passes n test k d inside in let lower = was.0 in (omega arith, was.1))
+    (last (test n) refl)
+  where
+    last : (b : Bool) → test n ≡ b → All (λ id. (id < suc n) × (test id ≡ true)) (cond b (n ∷ []) [])
+    last true e zero d inside = (omega arith, e)
+    last true e (suc k) d inside = absurd (omega arith)
+    last false e k d inside = absurd (omega arith)
+
+each_rises : (n : ℕ) (test : ℕ → Bool) → AllPairs (λ a b. a < b) (filter_below n test)
+each_rises zero test = λ i j d before inside. absurd (omega arith)
+each_rises (suc n) test = last (test n) (each_rises n test)
+  where
+    last : (b : Bool) → AllPairs (λ x y. x < y) (filter_below n test) → AllPairs (λ x y. x < y) (filter_below n test ++ cond b (n ∷ []) [])
+    last true rising = all_pairs_push (λ x y. x < y) (filter_below n test) n rising (λ k d inside. (each_passes n test k d inside).0)
+    last false rising = subst (AllPairs (λ x y. x < y)) (sym (append-nil (filter_below n test))) rising
+
+module _ {A : Type 0} (n : ℕ) (xs : List A) where
+  inside_both : (k : ℕ) → k < length (take n xs) → (k < n) × (k < length xs)
+  inside_both k inside = (omega (arith, inside, length-take n xs), omega (arith, inside, length-take n xs))
+
+  first_pass : (P : A → Type 0) → All P xs → All P (take n xs)
+  first_pass P all k d inside = subst P (sym (get_or-take n xs k d (inside_both k inside).0)) (all k d (inside_both k inside).1)
+
+  first_pair : (R : A → A → Type 0) → AllPairs R xs → AllPairs R (take n xs)
+  first_pair R all i j d before inside =
+      let within = inside_both j inside in
+      let bound = within.0 in
+      subst (R (get_or (take n xs) i d)) (sym (get_or-take n xs j d bound))
+      (subst (λ x. R x (get_or xs j d)) (sym (get_or-take n xs i d (omega arith))) (all i j d before within.1))
+
+-- what a run takes is fit to be walked
+pub run_ids_fit : (job : Job) (kept : List Outcome) (budget : ℕ) → IsTodo job kept (run_ids job kept budget)
+run_ids_fit job kept budget = record {
+  apart = λ i j d before inside same.
+      let less = first_pair budget (filter_below (total job) lacks) (λ x y. x < y) (each_rises (total job) lacks) i j d before inside in
+      absurd (omega (arith, less, same));
+  within = λ k d inside. (passes k d inside).0;
+  absent = λ k d inside. not-true (has_id kept (get_or (run_ids job kept budget) k d)) (passes k d inside).1;
+}
+  where
+    lacks : ℕ → Bool
+    lacks id = not (has_id kept id)
+
+    passes : All (λ id. (id < total job) × (not (has_id kept id) ≡ true)) (run_ids job kept budget)
+    passes = first_pass budget (filter_below (total job) (λ id. not (has_id kept id))) (λ id. (id < total job) × (not (has_id kept id) ≡ true))
+        (each_passes (total job) (λ id. not (has_id kept id)))
