@@ -1,13 +1,12 @@
 -- The plan after a draw, and the draw that leads back, by what the draw proposes.
-use Rattle.std.proofs.Common.{◌≡◌, ℕ, ◌+◌, ◌-◌, ◌*◌, ◌/◌, ◌%◌, ◌<◌, ◌≤◌, Bool, true, false, cond, List, length, get_or, set, Option, Some, None, refl, sym, ap, ◌∙◌, subst, inl, inr, arith}
+use Rattle.std.proofs.Common.{◌≡◌, ℕ, ◌+◌, ◌-◌, ◌*◌, ◌/◌, ◌%◌, ◌<◌, Bool, true, false, cond, List, length, get_or, set, Option, Some, None, refl, sym, ap, ◌∙◌, inl, inr, arith}
 use Rattle.std.specs.Prelude.{◌↔◌, nat_lt, bytes_eq, IsTrue, IsFalse}
-use Rattle.std.proofs.Math.Nat.{mod-le, mul-le-mul}
+use Rattle.std.proofs.Math.Nat.{mod-le}
 use Rattle.std.proofs.lemmas.Bool.{cases_Bool, cases_eq, cond-true, cond-false, false_from_ne_true, both_ways}
 use Rattle.std.proofs.lemmas.List.{set-get_or, get_or-set_same}
-use Rattle.std.proofs.lemmas.Nat.{div-add-mod', div_below, mod_below}
+use Rattle.std.proofs.lemmas.Nat.{div-add-mod'}
 use Rattle.std.proofs.lemmas.Slice.Eq.{bytes_eq-Decides}
 use Rattle.audit_model.specs.Job.{Job}
-use Rattle.audit_model.specs.JobOf.{IsJob}
 use Rattle.audit_model.specs.Plan.{is_legal}
 use Rattle.audit_model.specs.Proposal.{counted_draws, proposal}
 use Rattle.audit_model.specs.Step.{changed, next, turned_back, mirrored}
@@ -26,7 +25,7 @@ record IsPlace (units districts draw unit district : ℕ) : Type 0 where
 is_place : (units districts draw unit district : ℕ) → proposal units districts draw ≡ Some (unit, district) → IsPlace units districts draw unit district
 is_place units districts draw unit district is = elim (cases_Bool (nat_lt draw (counted_draws units districts))) [
   | inl counted ↦
-      let other : Some (draw % (units * districts) / districts, draw % (units * districts) % districts) ≡ Some (unit, district) =
+      let other : ◌≡◌ {A = Option (ℕ × ℕ)} (Some (draw % (units * districts) / districts, draw % (units * districts) % districts)) (Some (unit, district)) =
       sym (cond-true _ _ _ counted) ∙ is in
       let same : ◌≡◌ {A = ℕ × ℕ} (draw % (units * districts) / districts, draw % (units * districts) % districts) (unit, district) = cc in
       record { same_unit = ap (λ (p : ℕ × ℕ). p.0) same; same_district = ap (λ (p : ℕ × ℕ). p.1) same }
@@ -40,23 +39,6 @@ proposed_place units districts draw unit district is =
     let place = is_place units districts draw unit district is in
     ap (λ (u : ℕ). u * districts + district) (sym place.same_unit) ∙ ap (λ (d : ℕ). draw % (units * districts) / districts * districts + d) (sym place.same_district)
     ∙ div-add-mod' (draw % (units * districts)) districts
-
--- what was proposed, of the job's own numbers
-pub proposed : (job : Job) (units districts draw : ℕ) (o : Option (ℕ × ℕ)) → units ≡ job.graph.units → districts ≡ job.districts
-    → o ≡ proposal units districts draw → proposal job.graph.units job.districts draw ≡ o
-proposed job units districts draw o u d is =
-    ap (λ (n : ℕ). proposal n job.districts draw) (sym u) ∙ ap (λ (n : ℕ). proposal units n draw) (sym d) ∙ sym is
-
--- the proposed unit is one of the job's
-pub proposed_unit : (job : Job) (draw unit district : ℕ) → IsJob job → proposal job.graph.units job.districts draw ≡ Some (unit, district) → unit < job.graph.units
-proposed_unit job draw unit district sound is =
-    let place = is_place job.graph.units job.districts draw unit district is in
-    let two : 2 ≤ job.districts = sound.within.input.two in
-    let first = (sound.legal.connected 0 (omega (arith, two))).inhabited in
-    let units : 1 ≤ job.graph.units = omega (arith, first.1.0) in
-    let pairs : 0 < job.graph.units * job.districts = omega (arith, mul-le-mul {n₁ = 1} {m₁ = 1} {n₂ = job.graph.units} {m₂ = job.districts} units (omega (arith, two))) in
-    subst (λ (u : ℕ). u < job.graph.units) place.same_unit
-    (div_below (draw % (job.graph.units * job.districts)) job.districts job.graph.units (omega (arith, two)) (mod_below draw (job.graph.units * job.districts) pairs))
 
 module _ (job : Job) (plan : List ℕ) (draw : ℕ) where
   next_at : (o : Option (ℕ × ℕ)) → proposal job.graph.units job.districts draw ≡ o

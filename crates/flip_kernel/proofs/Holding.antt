@@ -1,23 +1,46 @@
--- The sums of a held plan have a place for each district.
-use Rattle.std.proofs.Common.{◌≡◌, ℕ, List, length, ap, ◌∙◌}
+-- What a state knows of its job and its plan.
+use Rattle.std.proofs.Common.{◌≡◌, ℕ, ◌<◌, ◌≤◌, Bool, List, get_or, set, ap, ◌∙◌, subst, arith}
+use Rattle.std.specs.Prelude.{◌↔◌, IsTrue}
+use Rattle.std.proofs.lemmas.List.{set-set, set-get_or}
 use Rattle.audit_model.specs.declared.outcome.SumsView.{SumsView}
 use Rattle.audit_model.specs.Job.{Job}
+use Rattle.audit_model.specs.JobOf.{IsJob}
 use Rattle.audit_model.specs.Plan.{district_sum}
-use Rattle.dual_graph.proofs.Rows.{length-map_below}
-use Rattle.flip_kernel.specs.Held.{IsHeld}
+use Rattle.dual_graph.proofs.Rows.{get_or-map_below}
+use Rattle.district_sums.specs.Following.{Following, districts_in}
+use Rattle.flip_kernel.specs.declared.proposal.Pairs.{Pairs}
+use Rattle.flip_kernel.specs.Held.{IsHeld, KeepsBounds}
 
-module _ (job other : Job) (plan : List ℕ) (sums : SumsView) (marks : ℕ) (held : IsHeld job plan sums marks) (made : job ≡ other) where
-  pub population_places : length sums.population ≡ other.districts
-  population_places =
-      ap (λ (s : SumsView). length s.population) held.added ∙ length-map_below job.districts (district_sum job.counts.population plan)
-      ∙ ap (λ (j : Job). j.districts) made
+-- the same of the job and the plan that contracts see
+pub held_for : (j job : Job) (p plan : List ℕ) (sums : Following) (marks : ℕ) (table : List Bool) (pairs : Pairs) (low high : ℕ) → j ≡ job → p ≡ plan
+    → IsHeld j p sums marks table pairs low high → IsHeld job plan sums marks table pairs low high
+held_for j job p plan sums marks table pairs low high made at held =
+    subst (λ (x : Job). IsHeld x plan sums marks table pairs low high) made (subst (λ (x : List ℕ). IsHeld j x sums marks table pairs low high) at held)
 
-  pub first_places : length sums.first ≡ other.districts
-  first_places =
-      ap (λ (s : SumsView). length s.first) held.added ∙ length-map_below job.districts (district_sum job.counts.first plan)
-      ∙ ap (λ (j : Job). j.districts) made
+module _ (job : Job) (plan : List ℕ) (sums : Following) (marks : ℕ) (table : List Bool) (pairs : Pairs) (low high : ℕ) (held : IsHeld job plan sums marks table pairs low high) where
+  -- a district's population
+  pub population_at : (view : SumsView) (populations : List ℕ) (e : ℕ) → view ≡ sums.view → populations ≡ view.population → e < job.districts
+      → get_or populations e 0 ≡ district_sum job.counts.population plan e
+  population_at view populations e seen is l =
+      ap (λ (xs : List ℕ). get_or xs e 0) (is ∙ ap (λ (v : SumsView). v.population) seen ∙ ap (λ (v : SumsView). v.population) held.stands.view)
+      ∙ get_or-map_below (districts_in sums) (district_sum job.counts.population plan) e 0 (omega (arith, l, held.places))
 
-  pub second_places : length sums.second ≡ other.districts
-  second_places =
-      ap (λ (s : SumsView). length s.second) held.added ∙ length-map_below job.districts (district_sum job.counts.second plan)
-      ∙ ap (λ (j : Job). j.districts) made
+-- bounds that are kept, by equal numbers
+pub keeps_same : (result : Bool) (low high people from to a b c d e : ℕ) → low ≡ a → high ≡ b → people ≡ c → from ≡ d → to ≡ e
+    → IsTrue result ↔ KeepsBounds low high people from to → IsTrue result ↔ KeepsBounds a b c d e
+keeps_same result low high people from to a b c d e is_low is_high is_people is_from is_to kept = (
+  λ yes-kept. let h = kept.0 yes-kept in record { left = omega (arith, h.left, is_low, is_people, is_from); joined = omega (arith, h.joined, is_high, is_people, is_to) },
+  λ h. kept.1 (record { left = omega (arith, h.left, is_low, is_people, is_from); joined = omega (arith, h.joined, is_high, is_people, is_to) }),
+)
+
+-- a unit that is put back
+pub put_back : (plan after : List ℕ) (unit district home : ℕ) → after ≡ set plan unit district → home ≡ get_or plan unit 0 → set after unit home ≡ plan
+put_back plan after unit district home is was =
+    ap (λ (p : List ℕ). set p unit home) is ∙ set-set plan unit district home ∙ ap (λ (e : ℕ). set plan unit e) was ∙ set-get_or plan unit 0
+
+-- a job has a unit
+pub some_units : (job : Job) → IsJob job → 0 < job.graph.units
+some_units job sound =
+    let two : 2 ≤ job.districts = sound.within.input.two in
+    let first = (sound.legal.connected 0 (omega (arith, two))).inhabited in
+    omega (arith, first.1.0)

@@ -1,5 +1,6 @@
-pub mod Counting
+pub mod Beside
 pub mod Flipping
 pub mod Holding
+pub mod Moves
 pub mod Proposing
-pub mod Summing
+pub mod Tables

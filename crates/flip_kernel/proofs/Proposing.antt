@@ -1,42 +1,85 @@
--- Which draws are of a whole block.
-use Rattle.std.proofs.Common.{◌≡◌, ℕ, ◌+◌, ◌-◌, ◌*◌, ◌/◌, ◌%◌, ◌^◌, ◌<◌, ◌≤◌, arith, Some, None}
+-- What a draw proposes, and that it is no move where the pair is not open.
+use Rattle.std.proofs.Common.{◌≡◌, ℕ, ◌*◌, ◌/◌, ◌%◌, ◌^◌, ◌<◌, Bool, true, false, List, get_or, Option, Some, None, sym, ap, ◌∙◌, subst, inl, inr, arith}
 use Rattle.std.specs.Prelude.{nat_lt}
-use Rattle.std.proofs.Math.Nat.{mul-le-mul_right, add-mul}
-use Rattle.std.proofs.lemmas.Bool.{cond-true, cond-false, lt-ltb, ltb-true, false_from_ne_true}
-use Rattle.std.proofs.lemmas.Nat.{div-add-mod', mod_below, div_below, le-div}
-use Rattle.audit_model.specs.Proposal.{counted_draws, proposal}
+use Rattle.std.proofs.lemmas.Bool.{cases_Bool, cond-true, cond-false, both_ways}
+use Rattle.std.proofs.lemmas.Nat.{div-add-mod', mod_below, div_below}
+use Rattle.audit_model.specs.Job.{Job}
+use Rattle.audit_model.specs.Proposal.{proposal}
+use Rattle.audit_model.specs.Step.{next}
+use Rattle.district_sums.specs.Following.{Following}
+use Rattle.flip_kernel.specs.declared.proposal.Pairs.{Pairs}
+use Rattle.flip_kernel.specs.Blocks.{place_in}
+use Rattle.flip_kernel.specs.Held.{IsHeld, ProposesOpen}
+use Rattle.flip_kernel.specs.Openings.{is_open}
+use Rattle.flip_kernel.proofs.Flipping.{next_held, next_stays}
+use Rattle.flip_kernel.proofs.Moves.{move_is_open}
 
-one_more_block : (blocks size : ℕ) → (blocks + 1) * size ≡ blocks * size + size
-one_more_block blocks size = omega (arith, add-mul blocks 1 size)
+proposed_none : (units districts size draw : ℕ) → size ≡ units * districts → None ≡ place_in size draw → proposal units districts draw ≡ None
+proposed_none units districts size draw is held = elim (cases_Bool (nat_lt draw (2 ^ 64 / size * size))) [
+  | inl yes-counted ↦ let other : ◌≡◌ {A = Option ℕ} None (Some (draw % size)) = held ∙ cond-true _ _ _ yes-counted in absurd (cc)
+  | inr not-counted ↦ cond-false _ _ _ (ap (λ (n : ℕ). nat_lt draw (2 ^ 64 / n * n)) (sym is) ∙ not-counted)
+]
 
-module _ (draw size : ℕ) (some : 0 < size) where
-  -- a draw whose block ends below the limit is counted
-  counted : size ≤ 2 ^ 64 → draw - draw % size ≤ 2 ^ 64 - size → draw < 2 ^ 64 / size * size
-  counted few within =
-      let parts : draw / size * size + draw % size ≡ draw = div-add-mod' draw size in
-      let rest : draw % size < size = mod_below draw size some in
-      let more : (draw / size + 1) * size ≡ draw / size * size + size = one_more_block (draw / size) size in
-      let block : (draw / size + 1) * size ≤ 2 ^ 64 = omega (arith, parts, rest, more) in
-      let whole : draw / size + 1 ≤ 2 ^ 64 / size = le-div (draw / size + 1) (2 ^ 64) size some block in
-      omega (arith, mul-le-mul_right size whole, parts, rest, more)
+-- a draw's place, where it has one
+record IsPlaceOf (size draw found : ℕ) : Type 0 where
+  counted : nat_lt draw (2 ^ 64 / size * size) ≡ true
+  place : found ≡ draw % size
 
-  -- and another is not
-  ends_below : draw < 2 ^ 64 / size * size → draw - draw % size ≤ 2 ^ 64 - size
-  ends_below l =
-      let parts : draw / size * size + draw % size ≡ draw = div-add-mod' draw size in
-      let below : draw / size + 1 ≤ 2 ^ 64 / size = omega (arith, div_below draw size (2 ^ 64 / size) some l) in
-      let more : (draw / size + 1) * size ≡ draw / size * size + size = one_more_block (draw / size) size in
-      omega (arith, mul-le-mul_right size below, parts, more, div-add-mod' (2 ^ 64) size)
+is_place_of : (size draw found : ℕ) → Some found ≡ place_in size draw → IsPlaceOf size draw found
+is_place_of size draw found is = elim (cases_Bool (nat_lt draw (2 ^ 64 / size * size))) [
+  | inl yes-counted ↦
+      let same : ◌≡◌ {A = Option ℕ} (Some found) (Some (draw % size)) = is ∙ cond-true _ _ _ yes-counted in
+      record { counted = yes-counted; place = cc }
+  | inr not-counted ↦ let other : ◌≡◌ {A = Option ℕ} (Some found) None = is ∙ cond-false _ _ _ not-counted in absurd (cc)
+]
 
--- what is proposed, by where the draw's block ends
-pub proposal_whole : (units districts draw : ℕ) → 0 < units * districts → units * districts ≤ 2 ^ 64
-    → draw - draw % (units * districts) ≤ 2 ^ 64 - units * districts
-    → proposal units districts draw ≡ Some (draw % (units * districts) / districts, draw % (units * districts) % districts)
-proposal_whole units districts draw some few within =
-    cond-true _ _ _ (lt-ltb draw (counted_draws units districts) (counted draw (units * districts) some few within))
+proposed_some : (units districts size draw found : ℕ) → size ≡ units * districts → IsPlaceOf size draw found
+    → proposal units districts draw ≡ Some (found / districts, found % districts)
+proposed_some units districts size draw found is of =
+    cond-true _ _ _ (ap (λ (n : ℕ). nat_lt draw (2 ^ 64 / n * n)) (sym is) ∙ of.counted)
+    ∙ ap (λ (n : ℕ). Some (draw % n / districts, draw % n % districts)) (sym is)
+    ∙ ap (λ (n : ℕ). Some (n / districts, n % districts)) (sym of.place)
 
-pub proposal_held : (units districts draw : ℕ) → 0 < units * districts
-    → 2 ^ 64 - units * districts < draw - draw % (units * districts) → proposal units districts draw ≡ None
-proposal_held units districts draw some beyond =
-    cond-false _ _ _ (false_from_ne_true (nat_lt draw (counted_draws units districts))
-    (λ l. let below = ends_below draw (units * districts) some (ltb-true draw (counted_draws units districts) l) in omega (arith, below, beyond)))
+module _ (job : Job) (plan : List ℕ) (sums : Following) (marks : ℕ) (table : List Bool) (pairs : Pairs) (low high : ℕ) (held : IsHeld job plan sums marks table pairs low high) (draw : ℕ) where
+  -- a draw of no whole block
+  pub still_held : None ≡ place_in pairs.count draw → next job plan draw ≡ plan
+  still_held is = next_held job plan draw (proposed_none job.graph.units job.districts pairs.count draw held.numbers.count is)
+
+  module _ (found : ℕ) (is : Some found ≡ place_in pairs.count draw) where
+    found_below : found < job.graph.units * job.districts
+    found_below =
+        let place = (is_place_of pairs.count draw found is).place in
+        omega (arith, place, mod_below draw pairs.count held.numbers.some, held.numbers.count)
+
+    some_district : 0 < job.districts
+    some_district = omega (arith, held.numbers.sound.within.input.two)
+
+    unit_below : found / job.districts < job.graph.units
+    unit_below = div_below found job.districts job.graph.units some_district found_below
+
+    district_below : found % job.districts < job.districts
+    district_below = mod_below found job.districts some_district
+
+    flag_is : get_or table found false ≡ is_open job.graph plan (found / job.districts) (found % job.districts)
+    flag_is =
+        ap (λ (k : ℕ). get_or table k false) (sym (div-add-mod' found job.districts))
+        ∙ held.opened.each (found / job.districts) (found % job.districts) unit_below district_below
+
+    proposal_is : proposal job.graph.units job.districts draw ≡ Some (found / job.districts, found % job.districts)
+    proposal_is = proposed_some job.graph.units job.districts pairs.count draw found held.numbers.count (is_place_of pairs.count draw found is)
+
+    -- the proposed pair is in the table
+    pub found_inside : found < pairs.count
+    found_inside = omega (arith, found_below, held.numbers.count)
+
+    -- where it is not open the plan stays
+    pub still_closed : get_or table found false ≡ false → next job plan draw ≡ plan
+    still_closed closed = next_stays job plan draw (found / job.districts) (found % job.districts) proposal_is
+        (λ move. both_ways (is_open job.graph plan (found / job.districts) (found % job.districts)) (sym flag_is ∙ closed)
+        (move_is_open job plan (found / job.districts) (found % job.districts) held.numbers.sound held.legal unit_below district_below move.elsewhere move))
+
+    -- and elsewhere it is the proposed one
+    pub is_proposed : (districts : ℕ) → districts ≡ job.districts → get_or table found false ≡ true → ProposesOpen job plan draw (found / districts) (found % districts)
+    is_proposed districts same set1 =
+        subst (λ (n : ℕ). ProposesOpen job plan draw (found / n) (found % n)) (sym same)
+        (record { proposed = proposal_is; unit_below = unit_below; inside = omega (arith, unit_below, held.legal.complete); district_below = district_below; beside = sym flag_is ∙ set1 })

@@ -1,9 +1,14 @@
 -- What a state holds: a job, and a plan that is legal for it.
-use Rattle.std.specs.Prelude.{◌≡◌, ◌≢◌, ℕ, List, slice_index, slice_set}
+use Rattle.std.specs.Prelude.{◌≡◌, ◌≢◌, ℕ, ◌+◌, ◌<◌, ◌≤◌, Bool, IsTrue, Some, List, length, slice_index, slice_set}
 use Rattle.audit_model.specs.declared.outcome.SumsView.{SumsView}
 use Rattle.audit_model.specs.Job.{Job}
 use Rattle.audit_model.specs.Plan.{IsLegal}
+use Rattle.audit_model.specs.Proposal.{proposal}
 use Rattle.audit_model.specs.Score.{sums_of}
+use Rattle.district_sums.specs.Following.{Following, StandsFor, districts_in}
+use Rattle.flip_kernel.specs.declared.proposal.Pairs.{Pairs}
+use Rattle.flip_kernel.specs.Blocks.{AreNumbersOf}
+use Rattle.flip_kernel.specs.Openings.{is_open, IsTable}
 
 pub record Held : Type 0 where
   pub job : Job
@@ -13,13 +18,29 @@ pub record Held : Type 0 where
 abbrev pub sums_in : Job → List ℕ → SumsView
 sums_in job plan = sums_of job.graph job.counts job.districts plan
 
--- the plan is legal, the sums are its sums, and there are marks for all units
-pub record IsHeld (job : Job) (plan : List ℕ) (sums : SumsView) (marks : ℕ) : Type 0 where
+-- the plan is legal, the sums are its sums, there are marks for all units, the table tells which pairs are open, and the numbers are the job's
+pub record IsHeld (job : Job) (plan : List ℕ) (sums : Following) (marks : ℕ) (table : List Bool) (pairs : Pairs) (low high : ℕ) : Type 0 where
   pub legal : IsLegal job plan
-  pub added : sums ≡ sums_in job plan
+  pub places : districts_in sums ≡ job.districts
+  pub stands : StandsFor job.graph job.counts plan sums
   pub marked : marks ≡ job.graph.units
+  pub opened : IsTable job.graph plan job.districts table
+  pub numbers : AreNumbersOf job pairs low high
+
+-- the draw proposes the unit for the district, which is open to it
+pub record ProposesOpen (job : Job) (plan : List ℕ) (draw unit district : ℕ) : Type 0 where
+  pub proposed : proposal job.graph.units job.districts draw ≡ Some (unit, district)
+  pub unit_below : unit < job.graph.units
+  pub inside : unit < length plan
+  pub district_below : district < job.districts
+  pub beside : IsTrue (is_open job.graph plan unit district)
 
 -- the unit is in another district, and with it in this one the plan is legal
 pub record IsMove (job : Job) (plan : List ℕ) (unit district : ℕ) : Type 0 where
   pub elsewhere : slice_index plan unit ≢ district
   pub legal : IsLegal job (slice_set plan unit district)
+
+-- the district that people leave keeps the least population, and the one that they join the greatest
+pub record KeepsBounds (low high people from to : ℕ) : Type 0 where
+  pub left : low + people ≤ from
+  pub joined : to + people ≤ high

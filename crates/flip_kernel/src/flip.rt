@@ -1,16 +1,16 @@
 //! One step of the chain of plans, and the draw that leads back.
 
-ghost use Rattle.std.specs.Prelude.{◌≡◌, ℕ, ◌+◌, ◌-◌, ◌*◌, ◌%◌, ◌≤◌, ◌↔◌, Some, slice_index, IsTrue, IsFalse};
+ghost use Rattle.std.specs.Prelude.{◌≡◌, ℕ, ◌+◌, ◌<◌, ◌-◌, ◌*◌, ◌%◌, ◌≤◌, ◌↔◌, Some, slice_index, IsTrue, IsFalse};
 ghost use Rattle.audit_model.specs.Local.{IsLocal};
 ghost use Rattle.audit_model.specs.Proposal.{proposal};
 ghost use Rattle.audit_model.specs.Plan.{IsLegal};
 ghost use Rattle.audit_model.specs.Step.{next, mirrored};
 
-use crate::proposal::propose;
 use crate::state::State;
 use audit_model::steps::Steps;
 use plan_core::job::Job;
-use std::sync::ledger::Ledger;
+use std::marker::Brand;
+use std::sync::ledger::{Blank, Ledger};
 
 /// Makes the plan the one after the draw, and tells whether it changed. The counter is that of the
 /// searches: none where the unit's neighbours in its district are connected among themselves, and at
@@ -25,25 +25,31 @@ pub fn try_flip<L: Ledger>(job: &Job, state: &mut State, draw: u64, steps: &mut 
     ensures local { (unit district : ℕ) → proposal job.now.graph.units job.now.districts draw ≡ Some (unit, district) →
         IsLocal job.now.graph state.old.plan unit → steps.new ≡ steps.old }
 {
-    match propose(draw, job.units(), job.districts()) {
+    match state.proposed(draw) {
         None => false,
-        Some((unit, district)) => state.move_to(job, unit, district),
+        Some((unit, district)) => state.flip(job, unit, district, steps),
     }
 }
 
 // The draw itself where it moves no unit. Elsewhere the place in its block is that of the unit's old district.
-fn led_back(job: &Job, state: &mut State, draw: u64) -> u64
-    requires { state.old.job ≡ job.now }
+// Only tests are made, and no move; their searches have a counter of their own.
+fn led_back<L: Ledger>(job: &Job, state: &mut State, draw: u64, blank: Blank) -> u64
+    requires name { blank.name ≡ L.name }
+    requires parts { blank.parts ≡ L.parts }
+    requires some { 0 < L.parts }
+    requires made { state.old.job ≡ job.now }
     ensures value { result ≡ mirrored job.now state.old.plan draw }
     ensures same { state.new ≡ state.old }
     ensures legal { IsLegal job.now state.old.plan }
 {
+    let _units = job.units();
     let plan = state.plan();
-    match propose(draw, job.units(), job.districts()) {
+    match state.proposed(draw) {
         None => draw,
         Some((unit, district)) => {
             let home = plan.as_slice()[unit as usize];
-            if state.may_move(job, unit, district) {
+            let mut steps: Steps<L> = Steps::new(blank);
+            if state.may_move(job, unit, district, &mut steps) {
                 draw - u64::from(district) + u64::from(home)
             } else {
                 draw
@@ -66,5 +72,5 @@ pub fn mirror(job: &Job, state: &mut State, draw: u64) -> u64
     ensures back { next job.now (next job.now state.old.plan draw) result ≡ state.old.plan }
     ensures again { mirrored job.now (next job.now state.old.plan draw) result ≡ draw }
 {
-    led_back(job, state, draw)
+    led_back::<Brand>(job, state, draw, Blank::new(1))
 }

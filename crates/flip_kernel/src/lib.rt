@@ -3,8 +3,8 @@
 
 pub mod flip;
 pub mod laws;
+mod openings;
 pub mod proposal;
 pub mod state;
-mod sums;
 #[cfg(test)]
 mod tests;

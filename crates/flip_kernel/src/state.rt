@@ -1,26 +1,40 @@
-//! A plan that is legal for a job, with its sums.
+//! A plan that is legal for a job, with its sums and its open pairs.
 
-ghost use Rattle.std.specs.Prelude.{◌≡◌, ◌<◌, ◌↔◌, length, slice_index, slice_set, IfOk, IsTrue, IsFalse};
-ghost use Rattle.audit_model.specs.Plan.{IsLegal, is_legal};
-ghost use Rattle.flip_kernel.specs.Held.{IsMove, sums_in};
+ghost use Rattle.std.specs.Prelude.{◌≡◌, ◌≢◌, ◌+◌, ◌<◌, ◌≤◌, ◌↔◌, length, slice_index, slice_set, IfOk, MatchOption, IsTrue, IsFalse};
+ghost use Rattle.audit_model.specs.JobOf.{IsJob};
+ghost use Rattle.audit_model.specs.Local.{IsLocal};
+ghost use Rattle.audit_model.specs.Plan.{IsLegal, district_sum, least_population, greatest_population};
+ghost use Rattle.audit_model.specs.Step.{next};
+ghost use Rattle.district_sums.specs.Following.{StandsFor, districts_in};
+ghost use Rattle.flip_kernel.specs.Held.{IsMove, KeepsBounds, ProposesOpen, sums_in};
+ghost use Rattle.flip_kernel.specs.Openings.{is_open};
 
-use crate::sums::refill;
-use audit_model::lists::{NumList, UnitList};
+use crate::openings::Openings;
+use crate::proposal::Pairs;
+use audit_model::lists::UnitList;
 use audit_model::memory::Memory;
 use audit_model::outcome::SumsView;
+use audit_model::steps::Steps;
+use contig::leave::may_leave;
+use district_sums::sums::Sums;
 use dual_graph::marks::Marks;
 use plan_core::job::Job;
 use std::alloc::Global;
 use std::marker::Model;
 use std::snapshot::Snapshot;
+use std::sync::ledger::Ledger;
 
-/// A job's plan, which is legal for it, with its sums and room for a search.
+/// A job's plan, which is legal for it, with its sums, the pairs that are open, and room for a search.
 #[derive(Drop)]
 pub struct State {
     job: Snapshot<Job>,
     plan: UnitList,
-    sums: SumsView,
+    sums: Sums,
     marks: Marks,
+    openings: Openings,
+    pairs: Pairs,
+    low: u64,
+    high: u64,
 }
 
 impl Model for State {
@@ -30,25 +44,38 @@ impl Model for State {
 
     ghost view = { λ s. record { job = s.job.value; plan = s.plan } };
 
-    ghost invariant = { λ s. IsHeld s.job.value s.plan s.sums s.marks.units };
+    ghost invariant = { λ s. IsHeld s.job.value s.plan s.sums s.marks.units s.openings s.pairs s.low s.high };
 }
 
-/// Whether a plan is legal with the unit in the district. The plan is left as it was.
-fn is_legal_with(job: &Job, plan: &mut [u32], unit: u32, district: u32, marks: &mut Marks) -> bool
+/// Moves a unit to a district in the plan and in its sums.
+fn shift(job: &Job, sums: &mut Sums, plan: &mut UnitList, unit: u32, district: u32)
     requires legal { IsLegal job.now plan.old }
+    requires places { districts_in sums.old ≡ job.now.districts }
+    requires stands { StandsFor job.now.graph job.now.counts plan.old sums.old }
     requires unit { unit < job.now.graph.units }
     requires district { district < job.now.districts }
-    requires marks { marks.old.units ≡ job.now.graph.units }
-    ensures value { result ≡ is_legal job.now (slice_set plan.old unit district) }
-    ensures decides { IsTrue result ↔ IsLegal job.now (slice_set plan.old unit district) }
-    ensures plan { plan.new ≡ plan.old }
-    ensures marks { marks.new.units ≡ marks.old.units }
+    ensures plan { plan.new ≡ slice_set plan.old unit district }
+    ensures places { districts_in sums.new ≡ job.now.districts }
+    ensures stands { StandsFor job.now.graph job.now.counts plan.new sums.new }
 {
-    let home = plan[unit as usize];
-    plan[unit as usize] = district;
-    let legal = job.legal(plan, marks);
-    plan[unit as usize] = home;
-    legal
+    let _units = job.units();
+    sums.shift(
+        job.graph(),
+        job.counts(),
+        plan.as_mut_slice(),
+        unit,
+        district,
+    );
+}
+
+/// Whether the bounds are kept where people leave one district and join another, by the populations before.
+#[inline]
+fn are_kept(low: u64, high: u64, people: u64, from: u64, to: u64) -> bool
+    requires people { people ≤ from }
+    requires from { from ≤ high }
+    ensures { IsTrue result ↔ KeepsBounds low high people from to }
+{
+    from - people >= low && to <= high - people
 }
 
 impl State {
@@ -57,21 +84,23 @@ impl State {
         ensures job { IfOk result (λ s. s.job ≡ job.now) }
         ensures plan { IfOk result (λ s. s.plan ≡ job.now.start) }
     {
-        let districts = job.districts() as usize;
+        let units = job.units();
+        let districts = job.districts();
         let plan = job.start().copy()?;
-        let mut sums = SumsView {
-            population: NumList::zeros(alloc, districts)?,
-            first: NumList::zeros(alloc, districts)?,
-            second: NumList::zeros(alloc, districts)?,
-            cut: 0,
-        };
-        refill(job, plan.as_slice(), &mut sums);
-        let marks = Marks::new(alloc, job.units())?;
+        let sums = Sums::of(alloc, job.graph(), job.counts(), districts, plan.as_slice())?;
+        let marks = Marks::new(alloc, units)?;
+        let mut openings = Openings::none(alloc, units, districts)?;
+        openings.refill(job.graph(), plan.as_slice(), districts);
+        let (low, high) = job.limits();
         Ok(State {
             job: Snapshot::of(job),
             plan,
             sums,
             marks,
+            openings,
+            pairs: Pairs::of(units, districts),
+            low,
+            high,
         })
     }
 
@@ -82,7 +111,9 @@ impl State {
         ensures { self.new ≡ record self.old { plan = plan.now } }
     {
         self.plan.as_mut_slice().copy_from_slice(plan);
-        refill(job, plan, &mut self.sums);
+        self.sums.refill(job.graph(), job.counts(), plan);
+        self.openings
+            .refill(job.graph(), plan, self.pairs.districts);
     }
 
     /// The plan.
@@ -99,45 +130,121 @@ impl State {
     pub fn view(&self) -> &SumsView
         ensures { result.now ≡ sums_in self.now.job self.now.plan }
     {
-        &self.sums
+        self.sums.view()
     }
 
-    /// Whether the unit can move to the district: it is in another one, and the plan is legal then.
-    pub(crate) fn may_move(&mut self, job: &Job, unit: u32, district: u32) -> bool
-        requires made { self.old.job ≡ job.now }
+    /// The unit and the district that a draw proposes, where the pair is open. No other draw changes the plan.
+    #[inline]
+    pub(crate) fn proposed(&self, draw: u64) -> Option<(u32, u32)>
+        ensures { MatchOption result (next self.now.job self.now.plan draw ≡ self.now.plan)
+            (λ pair. ProposesOpen self.now.job self.now.plan draw pair.0 pair.1) }
+    {
+        match self.pairs.place(draw) {
+            None => None,
+            Some(place) => {
+                if !self.openings.has(place as usize) {
+                    return None;
+                }
+                let pair = place as u32;
+                Some((pair / self.pairs.districts, pair % self.pairs.districts))
+            }
+        }
+    }
+
+    /// Whether both districts stay within the population bounds where the unit moves.
+    fn keeps_bounds(&self, job: &Job, unit: u32, district: u32) -> bool
+        requires made { self.now.job ≡ job.now }
         requires unit { unit < job.now.graph.units }
         requires district { district < job.now.districts }
-        ensures moves { IsTrue result ↔ IsMove job.now self.old.plan unit district }
-        ensures same { self.new ≡ self.old }
-        ensures legal { IsLegal job.now self.old.plan }
+        requires elsewhere { slice_index self.now.plan unit ≢ district }
+        ensures { IsTrue result ↔ KeepsBounds (least_population job.now) (greatest_population job.now) (slice_index job.now.counts.population unit)
+            (district_sum job.now.counts.population self.now.plan (slice_index self.now.plan unit)) (district_sum job.now.counts.population self.now.plan district) }
     {
-        if self.plan.as_slice()[unit as usize] == district {
-            return false;
-        }
-        is_legal_with(
-            job,
-            self.plan.as_mut_slice(),
-            unit,
-            district,
-            &mut self.marks,
+        let _units = job.units();
+        let people = job.counts().population.as_slice()[unit as usize];
+        let home = self.plan.as_slice()[unit as usize];
+        let populations = self.sums.view().population.as_slice();
+        are_kept(
+            self.low,
+            self.high,
+            people,
+            populations[home as usize],
+            populations[district as usize],
         )
     }
 
-    /// Moves the unit to the district where it can, and tells whether it did.
-    pub(crate) fn move_to(&mut self, job: &Job, unit: u32, district: u32) -> bool
+    /// Whether the unit can move to the district, which is open to it: the plan is legal then. The populations are tested
+    /// first, and the counter is that of the searches.
+    pub(crate) fn may_move<L: Ledger>(
+        &mut self,
+        job: &Job,
+        unit: u32,
+        district: u32,
+        steps: &mut Steps<L>,
+    ) -> bool
         requires made { self.old.job ≡ job.now }
         requires unit { unit < job.now.graph.units }
         requires district { district < job.now.districts }
+        requires beside { IsTrue (is_open job.now.graph self.old.plan unit district) }
+        ensures moves { IsTrue result ↔ IsMove job.now self.old.plan unit district }
+        ensures same { self.new ≡ self.old }
+        ensures searches { (steps.old ≤ steps.new) × (steps.new ≤ steps.old + 1) }
+        ensures local { IsLocal job.now.graph self.old.plan unit → steps.new ≡ steps.old }
+    {
+        if !self.keeps_bounds(job, unit, district) {
+            return false;
+        }
+        may_leave(
+            job.graph(),
+            self.plan.as_slice(),
+            unit,
+            &mut self.marks,
+            steps,
+        )
+    }
+
+    /// Moves the unit to the district, which it can.
+    fn make_move(&mut self, job: &Job, unit: u32, district: u32)
+        requires made { self.old.job ≡ job.now }
+        requires unit { unit < job.now.graph.units }
+        requires district { district < job.now.districts }
+        requires legal { IsLegal job.now (slice_set self.old.plan unit district) }
+        ensures { self.new ≡ record self.old { plan = slice_set self.old.plan unit district } }
+    {
+        let home = self.plan.as_slice()[unit as usize];
+        shift(job, &mut self.sums, &mut self.plan, unit, district);
+        self.openings.renew(
+            job.graph(),
+            self.plan.as_slice(),
+            self.pairs.districts,
+            unit,
+            home,
+        );
+    }
+
+    /// Moves the unit to the district, which is open to it, where it can, and tells whether it did.
+    #[inline(never)]
+    pub(crate) fn flip<L: Ledger>(
+        &mut self,
+        job: &Job,
+        unit: u32,
+        district: u32,
+        steps: &mut Steps<L>,
+    ) -> bool
+        requires made { self.old.job ≡ job.now }
+        requires unit { unit < job.now.graph.units }
+        requires district { district < job.now.districts }
+        requires beside { IsTrue (is_open job.now.graph self.old.plan unit district) }
         ensures moves { IsTrue result ↔ IsMove job.now self.old.plan unit district }
         ensures moved { IsTrue result → self.new ≡ record self.old { plan = slice_set self.old.plan unit district } }
         ensures held { IsFalse result → self.new ≡ self.old }
-        ensures legal { IsLegal job.now self.old.plan }
+        ensures searches { (steps.old ≤ steps.new) × (steps.new ≤ steps.old + 1) }
+        ensures local { IsLocal job.now.graph self.old.plan unit → steps.new ≡ steps.old }
     {
-        if !self.may_move(job, unit, district) {
+        if !self.may_move(job, unit, district, steps) {
             return false;
         }
-        self.plan.as_mut_slice()[unit as usize] = district;
-        refill(job, self.plan.as_slice(), &mut self.sums);
+        self.make_move(job, unit, district);
         true
     }
 }

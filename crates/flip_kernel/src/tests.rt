@@ -18,6 +18,7 @@ use plan_core::job::Job;
 use std::alloc::Global;
 use std::marker::Brand;
 use std::sync::ledger::{Blank, Ledger};
+use std::test::Fail;
 
 fn ones(alloc: Global) -> Result<NumList, Memory>
     ensures { IfOk result (λ l. l ≡ 1 ∷ 1 ∷ 1 ∷ 1 ∷ []) }
@@ -112,23 +113,82 @@ fn step<L: Ledger>(job: &Job, state: &mut State, draw: u64, blank: Blank) -> boo
     try_flip(job, state, draw, &mut steps)
 }
 
+// Whether these are the plan that is held, the populations of its two districts and its cut edges.
+fn holds(state: &State, plan: &[u32], population: &[u64], cut: u32) -> bool {
+    let view = state.view();
+    state.plan().as_slice() == plan && view.population.as_slice() == population && view.cut == cut
+}
+
+// The draw that moves unit 1 has a mirror, and the one that would part a district is its own.
+fn mirrors(job: &Job, state: &mut State) -> bool
+    requires { state.old.job ≡ job.now }
+    ensures { state.new ≡ state.old }
+{
+    if mirror(job, state, 0x8665eeb269b687c3) != 0x8665eeb269b687c2 {
+        return false;
+    }
+    mirror(job, state, 0x903df1a0ade0b876) == 0x903df1a0ade0b876
+}
+
+// Unit 1 goes to the other district.
+fn goes(job: &Job, state: &mut State) -> bool
+    requires { state.old.job ≡ job.now }
+    ensures { state.new.job ≡ job.now }
+{
+    if !step::<Brand>(job, state, 0x8665eeb269b687c3, Blank::new(1)) {
+        return false;
+    }
+    holds(state, &[0, 1, 1, 1], &[1, 3], 1)
+}
+
+// It comes back by the mirrored draw, and the draw that would part a district holds the plan.
+fn comes(job: &Job, state: &mut State) -> bool
+    requires { state.old.job ≡ job.now }
+    ensures { state.new.job ≡ job.now }
+{
+    if !step::<Brand>(job, state, 0x8665eeb269b687c2, Blank::new(1)) {
+        return false;
+    }
+    if step::<Brand>(job, state, 0x903df1a0ade0b876, Blank::new(1)) {
+        return false;
+    }
+    holds(state, &[0, 0, 1, 1], &[2, 2], 1)
+}
+
+// The plan that a job starts with again.
+fn begins_again(job: &Job, state: &mut State) -> bool
+    requires { state.old.job ≡ job.now }
+{
+    state.set(job, job.start().as_slice());
+    holds(state, &[0, 0, 1, 1], &[2, 2], 1)
+}
+
+fn walks(job: &Job, state: &mut State) -> bool
+    requires { state.old.job ≡ job.now }
+{
+    if !mirrors(job, state) {
+        return false;
+    }
+    if !goes(job, state) {
+        return false;
+    }
+    if !comes(job, state) {
+        return false;
+    }
+    if !goes(job, state) {
+        return false;
+    }
+    begins_again(job, state)
+}
+
+fn run(alloc: Global) -> Result<bool, Memory> {
+    let job = path_of_four(alloc)?;
+    let mut state = State::new(alloc, &job)?;
+    Ok(walks(&job, &mut state))
+}
+
 #[test]
-fn steps_on_a_path(rt: HostRuntime) -> Result<(), Memory> {
-    let job = path_of_four(rt.alloc())?;
-    let mut state = State::new(rt.alloc(), &job)?;
-    assert_eq!(rt;
-        mirror(&job, &mut state, 0x8665eeb269b687c3),
-        0x8665eeb269b687c2
-    );
-    assert_eq!(rt;
-        mirror(&job, &mut state, 0x903df1a0ade0b876),
-        0x903df1a0ade0b876
-    );
-    assert!(rt; step::<Brand>(&job, &mut state, 0x8665eeb269b687c3, Blank::new(1)));
-    assert_eq!(rt; state.plan().as_slice(), [0, 1, 1, 1].as_slice());
-    assert_eq!(rt; state.view().population.as_slice(), [1, 3].as_slice());
-    assert_eq!(rt; state.view().cut, 1);
-    state.set(&job, job.start().as_slice());
-    assert_eq!(rt; state.view().population.as_slice(), [2, 2].as_slice());
+fn steps_on_a_path(rt: HostRuntime) -> Result<(), Fail> {
+    assert!(rt; run(rt.alloc())?);
     Ok(())
 }

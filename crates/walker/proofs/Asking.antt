@@ -14,7 +14,7 @@ use Rattle.audit_model.specs.Trajectory.{visit, four_values}
 use Rattle.draw_definitions.specs.Draw.{draw}
 use Rattle.dual_graph.proofs.Rows.{length-map_below, get_or-map_below}
 use Rattle.flip_kernel.specs.Held.{sums_in}
-use Rattle.flip_kernel.proofs.Summing.{part_small}
+use Rattle.district_sums.proofs.Summing.{part_small}
 use Rattle.scores.specs.Votes.{AreVotes}
 use Rattle.walker.specs.Asked.{each, asked_value, is_inside, inside, visits_inside}
 use Rattle.walker.specs.declared.asked.Tally.{Tally}

@@ -1,13 +1,13 @@
-use Rattle.std.proofs.Common.{◌≡◌, ℕ, ◌+◌, ◌-◌, ◌^◌, ◌<◌, List, length, get_or, Some, None, sym, ap, subst, ◌∙◌, arith}
+use Rattle.std.proofs.Common.{◌≡◌, ℕ, ◌+◌, ◌-◌, ◌^◌, ◌<◌, List, length, get_or, Some, sym, ap, subst, ◌∙◌, arith}
 use Rattle.std.proofs.lemmas.Bool.{both_ways}
 use Rattle.audit_model.specs.Job.{Job}
 use Rattle.audit_model.specs.Plan.{IsLegal}
 use Rattle.audit_model.specs.Proposal.{proposal}
-use Rattle.audit_model.specs.Step.{mirrored}
+use Rattle.audit_model.specs.Step.{next, mirrored}
 use Rattle.model_laws.proofs.Mirror.{mirrored_below}
-use Rattle.flip_kernel.specs.Held.{IsMove}
+use Rattle.flip_kernel.specs.Held.{IsMove, ProposesOpen}
 use Rattle.flip_kernel.proofs.flip.led_back.Goals as goal
-use Rattle.flip_kernel.proofs.Flipping.{next_held, next_moved, next_stays, move_differs, mirrored_held, mirrored_turned, proposed, proposed_unit}
+use Rattle.flip_kernel.proofs.Flipping.{next_moved, next_stays, move_differs, mirrored_held, mirrored_turned}
 
 -- a move's draw less its district, plus the unit's old one
 turned : (job : Job) (plan : List ℕ) (draw unit district minus plus : ℕ) → proposal job.graph.units job.districts draw ≡ Some (unit, district)
@@ -17,38 +17,38 @@ turned job plan draw unit district minus plus is l move less more =
     ∙ sym (mirrored_turned job plan draw unit district is
     (λ same. move_differs job plan draw unit district l move (sym (next_moved job plan draw unit district is move) ∙ same)))
 
+pub returns-in-None-clause-value : goal.returns-in-None-clause-value
+returns-in-None-clause-value g c =
+    let plan : List ℕ = c.args.state.now.plan in
+    sym (mirrored_held c.args.job.now plan c.args.draw (subst (λ (j : Job). next j plan c.args.draw ≡ plan) c.requires.made c.in-None.ensures))
+
 pub overflow_add-result : goal.overflow_add-result
-overflow_add-result c =
+overflow_add-result g c =
     let job = c.args.job.now in
-    let plan = c.args.state.now.plan in
-    let is = proposed job c.units.result c.districts.result c.args.draw (Some (c.in-Some.unit, c.in-Some.district)) c.units.ensures.units c.districts.ensures (sym c.in-Some.is ∙ c.propose.ensures) in
-    let legal : IsLegal job plan = subst (λ (j : Job). IsLegal j plan) c.requires c.plan-plan.ensures.legal in
-    let inside : c.in-Some.unit < length plan = subst (λ (n : ℕ). c.in-Some.unit < n) (sym legal.complete) (proposed_unit job c.args.draw c.in-Some.unit c.in-Some.district c.units.ensures.sound is) in
+    let plan : List ℕ = c.args.state.now.plan in
+    let offer : ProposesOpen job plan c.args.draw c.in-Some.unit c.in-Some.district =
+    subst (λ (j : Job). ProposesOpen j plan c.args.draw c.in-Some.unit c.in-Some.district) c.requires.made c.in-Some.ensures in
+    let legal : IsLegal job plan = subst (λ (j : Job). IsLegal j plan) c.requires.made c.plan-plan.ensures.legal in
     let draw_below : c.args.draw < 2 ^ 64 = omega arith in
     let below : mirrored job plan c.args.draw < 2 ^ 64 = mirrored_below job plan c.args.draw legal draw_below in
-    let same = turned job plan c.args.draw c.in-Some.unit c.in-Some.district c.from.result c.from-then-may_move.result is inside (c.may_move.ensures.moves.0 c.if-may_move.true)
+    let same = turned job plan c.args.draw c.in-Some.unit c.in-Some.district c.from.result c.from-then-may_move.result offer.proposed offer.inside (c.may_move.ensures.moves.0 c.if-may_move.true)
     c.from.ensures (c.from-then-may_move.ensures ∙ ap (λ (p : List ℕ). get_or p c.in-Some.unit 0) (c.as_slice.ensures ∙ c.plan-plan.ensures.value)) in
     omega (arith, below, same)
 
-pub returns-in-None-clause-value : goal.returns-in-None-clause-value
-returns-in-None-clause-value c =
-    sym (mirrored_held c.args.job.now c.args.state.now.plan c.args.draw (next_held c.args.job.now c.args.state.now.plan c.args.draw
-    (proposed c.args.job.now c.units.result c.districts.result c.args.draw None c.units.ensures.units c.districts.ensures (sym c.in-None.is ∙ c.propose.ensures))))
-
 pub returns-then-may_move-clause-value : goal.returns-then-may_move-clause-value
-returns-then-may_move-clause-value c =
+returns-then-may_move-clause-value g c =
     let job = c.args.job.now in
-    let plan = c.args.state.now.plan in
-    let is = proposed job c.units.result c.districts.result c.args.draw (Some (c.in-Some.unit, c.in-Some.district)) c.units.ensures.units c.districts.ensures (sym c.in-Some.is ∙ c.propose.ensures) in
-    let legal : IsLegal job plan = subst (λ (j : Job). IsLegal j plan) c.requires c.plan-plan.ensures.legal in
-    let inside : c.in-Some.unit < length plan = subst (λ (n : ℕ). c.in-Some.unit < n) (sym legal.complete) (proposed_unit job c.args.draw c.in-Some.unit c.in-Some.district c.units.ensures.sound is) in
-    turned job plan c.args.draw c.in-Some.unit c.in-Some.district c.from.result c.from-then-may_move.result is inside (c.may_move.ensures.moves.0 c.if-may_move.true)
+    let plan : List ℕ = c.args.state.now.plan in
+    let offer : ProposesOpen job plan c.args.draw c.in-Some.unit c.in-Some.district =
+    subst (λ (j : Job). ProposesOpen j plan c.args.draw c.in-Some.unit c.in-Some.district) c.requires.made c.in-Some.ensures in
+    turned job plan c.args.draw c.in-Some.unit c.in-Some.district c.from.result c.from-then-may_move.result offer.proposed offer.inside (c.may_move.ensures.moves.0 c.if-may_move.true)
     c.from.ensures (c.from-then-may_move.ensures ∙ ap (λ (p : List ℕ). get_or p c.in-Some.unit 0) (c.as_slice.ensures ∙ c.plan-plan.ensures.value))
 
-pub returns-else-may_move-clause-value : goal.returns-else-may_move-clause-value
-returns-else-may_move-clause-value c =
+pub returns-clause-value : goal.returns-clause-value
+returns-clause-value g c =
     let job = c.args.job.now in
-    let plan = c.args.state.now.plan in
-    let is = proposed job c.units.result c.districts.result c.args.draw (Some (c.in-Some.unit, c.in-Some.district)) c.units.ensures.units c.districts.ensures (sym c.in-Some.is ∙ c.propose.ensures) in
-    sym (mirrored_held job plan c.args.draw (next_stays job plan c.args.draw c.in-Some.unit c.in-Some.district is
+    let plan : List ℕ = c.args.state.now.plan in
+    let offer : ProposesOpen job plan c.args.draw c.in-Some.unit c.in-Some.district =
+    subst (λ (j : Job). ProposesOpen j plan c.args.draw c.in-Some.unit c.in-Some.district) c.requires.made c.in-Some.ensures in
+    sym (mirrored_held job plan c.args.draw (next_stays job plan c.args.draw c.in-Some.unit c.in-Some.district offer.proposed
     (λ move. both_ways c.may_move.result c.if-may_move.false (c.may_move.ensures.moves.1 move))))

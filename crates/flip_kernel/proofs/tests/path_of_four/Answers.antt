@@ -1,12 +1,10 @@
-use Rattle.std.proofs.Common.{rules, ◌≡◌, ◌&&◌, ℕ, zero, suc, ◌+◌, ◌<◌, ◌≤◌, ◌^◌, true, List, [], ◌∷◌, length, get_or, inl, sym, ap, subst, ◌∙◌, arith, add-one}
+use Rattle.std.proofs.Common.{rules, ◌≡◌, ℕ, zero, suc, ◌<◌, ◌≤◌, ◌^◌, true, List, [], ◌∷◌, length, get_or, inl, sym, ap, subst, ◌∙◌, arith, add-one}
 use Rattle.std.specs.List.{All}
 use Rattle.audit_model.specs.declared.setting.Label.{Label}
 use Rattle.audit_model.specs.declared.setting.Setting.{Setting}
-use Rattle.audit_model.specs.Below.{count_below, sum_below}
-use Rattle.audit_model.specs.Graph.{Graph, IsGraph, adjacent, count_edges}
+use Rattle.audit_model.specs.Graph.{Graph, IsGraph, count_edges}
 use Rattle.audit_model.specs.Limits.{IsColumn, IsSetting, IsWithinLimits}
 use Rattle.dual_graph.specs.Pairs.{pair_at, IsBefore, ArePairs}
-use Rattle.flip_kernel.proofs.Counting.{count_below_le}
 use Rattle.flip_kernel.proofs.tests.path_of_four.Goals as goal
 
 abbrev path : List (ℕ × ℕ)
@@ -36,20 +34,6 @@ are_pairs = record {
   rising = λ k l. subst (λ (j : ℕ). IsBefore (pair_at path k) (pair_at path j)) (sym (add-one k)) (rising_at k (omega (arith, l)));
 }
 
-few_edges : (g : Graph) → g.units ≡ 4 → count_edges g (λ u v. true) ≤ 400000
-unfolding count_below
-few_edges g four =
-    let each : ℕ → ℕ = λ v. count_below v (λ u. adjacent g u v && true) in
-    let all : count_edges g (λ u v. true) ≡ each 0 + each 1 + each 2 + each 3 = ap (λ (n : ℕ). sum_below n each) four in
-    omega (
-      arith,
-      all,
-      count_below_le 0 (λ u. adjacent g u 0 && true),
-      count_below_le 1 (λ u. adjacent g u 1 && true),
-      count_below_le 2 (λ u. adjacent g u 2 && true),
-      count_below_le 3 (λ u. adjacent g u 3 && true),
-    )
-
 column_of : (units : ℕ) (numbers : List ℕ) → units ≡ 4 → numbers ≡ 1 ∷ 1 ∷ 1 ∷ 1 ∷ [] → IsColumn units numbers
 column_of units numbers four is = record {
   width = ap length is ∙ sym four;
@@ -63,7 +47,7 @@ district_at (suc (suc zero)) = omega arith
 district_at (suc (suc (suc zero))) = omega arith
 district_at (suc (suc (suc (suc u)))) = omega arith
 
-within_limits : (g : Graph) (population first second start : List ℕ) (labels : List Label) (setting : Setting) → g.units ≡ 4 → IsGraph g
+within_limits : (g : Graph) (population first second start : List ℕ) (labels : List Label) (setting : Setting) → g.units ≡ 4 → IsGraph g → count_edges g (λ u v. true) ≡ 3
     → population ≡ 1 ∷ 1 ∷ 1 ∷ 1 ∷ [] → first ≡ 1 ∷ 1 ∷ 1 ∷ 1 ∷ [] → second ≡ 1 ∷ 1 ∷ 1 ∷ 1 ∷ [] → start ≡ 0 ∷ 0 ∷ 1 ∷ 1 ∷ []
     → length labels ≡ 2 → IsSetting setting
     → IsWithinLimits (record {
@@ -73,11 +57,11 @@ within_limits : (g : Graph) (population first second start : List ℕ) (labels :
       districts = length labels;
       setting = setting;
     })
-within_limits g population first second start labels setting four sound p f s at two is = record {
+within_limits g population first second start labels setting four sound three p f s at two is = record {
   input = record {
     simple = sound;
     units = omega (arith, four);
-    edges = few_edges g four;
+    edges = omega (arith, three);
     two = omega (arith, two);
     few = omega (arith, two);
     population = column_of g.units population four p;
@@ -95,6 +79,6 @@ from_pairs-requires-clause-pairs c = are_pairs
 pub new-requires : goal.new-requires
 new-requires c = record {
   within = within_limits c.in_ok-from_pairs.field-0 c.in_ok-ones.field-0 c.in_ok-ones-2.field-0 c.in_ok-ones-3.field-0 c.in_ok-halves.field-0
-      c.in_ok-two_labels.field-0 c.check_setting.result c.in_ok-from_pairs.ensures.units c.in_ok-from_pairs.ensures.sound
+      c.in_ok-two_labels.field-0 c.check_setting.result c.in_ok-from_pairs.ensures.units c.in_ok-from_pairs.ensures.sound c.in_ok-from_pairs.ensures.amount
       c.in_ok-ones.ensures c.in_ok-ones-2.ensures c.in_ok-ones-3.ensures c.in_ok-halves.ensures c.in_ok-two_labels.ensures c.check_setting.ensures;
 }

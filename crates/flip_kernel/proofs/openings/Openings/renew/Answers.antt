@@ -1,0 +1,66 @@
+use Rattle.std.proofs.Common.{◌≡◌, ℕ, ◌+◌, ◌*◌, ◌<◌, Bool, true, false, not, ◌==◌, List, length, get_or, set, refl, sym, ap, subst, ◌∙◌, arith, length-set}
+use Rattle.std.proofs.lemmas.List.Elements.{All-get_or}
+use Rattle.audit_model.specs.Graph.{has, adjacent}
+use Rattle.dual_graph.proofs.Marking.{at_has}
+use Rattle.flip_kernel.specs.Openings.{IsTable}
+use Rattle.flip_kernel.proofs.Beside.{not_open, open_to_neighbour}
+use Rattle.flip_kernel.proofs.Tables.{place_within, IsRenewing, renewing_none, renewing_more, renewing_all}
+use Rattle.flip_kernel.proofs.openings.Openings.renew.Goals as goal
+
+pub loop-other-init : goal.loop-other-init
+loop-other-init c =
+    renewing_none c.args.g.now c.args.plan.now c.args.districts c.neighbours-other-items.result.now c.args.unit c.args.home c.args.self.now
+    c.units-units.ensures.sound (omega (arith, c.requires.unit, c.requires.plan)) c.neighbours-other-items.ensures.list c.requires.table
+
+pub put-requires : goal.put-requires
+put-requires c =
+    let row : List ℕ = c.neighbours-other-items.result.now in
+    let i : ℕ = c.loop-other.other-index in
+    let below : get_or row i 0 < c.args.g.now.units = All-get_or (λ v. v < c.args.g.now.units) row i 0 c.loop-other-test.true c.neighbours-other-items.ensures.below in
+    place_within c.args.g.now.units c.args.districts (get_or row i 0) (get_or c.args.plan.now c.args.unit 0) (length c.loop-other.self) below
+    (c.requires.in_range c.args.unit c.requires.unit) c.loop-other.invariant.width
+
+pub put-requires-in-loop-other : goal.put-requires-in-loop-other
+put-requires-in-loop-other c =
+    let row : List ℕ = c.neighbours-other-items.result.now in
+    let i : ℕ = c.loop-other.other-index in
+    let below : get_or row i 0 < c.args.g.now.units = All-get_or (λ v. v < c.args.g.now.units) row i 0 c.loop-other-test.true c.neighbours-other-items.ensures.below in
+    let same = ap (length {A = Bool}) c.put.ensures in
+    let inside = place_within c.args.g.now.units c.args.districts (get_or row i 0) c.args.home (length c.loop-other.self) below c.requires.home c.loop-other.invariant.width in
+    omega (arith, inside, same, length-set {A = Bool})
+
+-- the table after two writes
+twice : (first second third : List Bool) (k j : ℕ) (one other : Bool) → second ≡ set first k one → third ≡ set second j other → set (set first k one) j other ≡ third
+twice first second third k j one other e is = sym (is ∙ ap (λ (t : List Bool). set t j other) e)
+
+pub loop-other-preserved : goal.loop-other-preserved
+loop-other-preserved c =
+    let g = c.args.g.now in
+    let plan : List ℕ = c.args.plan.now in
+    let row : List ℕ = c.neighbours-other-items.result.now in
+    let i : ℕ = c.loop-other.other-index in
+    let v : ℕ = get_or row i 0 in
+    let district : ℕ = get_or plan c.args.unit 0 in
+    let below : v < g.units = All-get_or (λ u. u < g.units) row i 0 c.loop-other-test.true c.neighbours-other-items.ensures.below in
+    let near : adjacent g c.args.unit v ≡ true = subst (λ (xs : List ℕ). has xs v ≡ true) c.neighbours-other-items.ensures.list (at_has row i c.loop-other-test.true) in
+    subst (λ (t : List Bool). IsRenewing g plan c.args.districts row c.args.unit c.args.home district (i + 1) t)
+    (twice c.loop-other.self c.put.new.self c.put-in-loop-other.new.self (v * c.args.districts + district) (v * c.args.districts + c.args.home) _ _ c.put.ensures c.put-in-loop-other.ensures)
+    (renewing_more g plan c.args.districts v district c.args.home (not (get_or plan v 0 == district)) c.is_open.result c.loop-other.self below
+    (c.requires.in_range c.args.unit c.requires.unit) c.requires.home c.loop-other.invariant.width
+    (sym (open_to_neighbour g plan c.args.unit v district c.units-units.ensures.sound near refl)) c.is_open.ensures
+    row c.args.unit i refl c.loop-other.invariant)
+
+pub returns : goal.returns
+returns c =
+    let g = c.args.g.now in
+    let plan : List ℕ = c.args.plan.now in
+    let row : List ℕ = c.neighbours-other-items.result.now in
+    let i : ℕ = c.loop-other.other-index in
+    let unit : ℕ = c.args.unit in
+    let district : ℕ = get_or plan c.args.unit 0 in
+    subst (λ (t : List Bool). IsTable g plan c.args.districts t)
+    (twice c.loop-other.self c.put-2.new.self c.put-3.new.self (unit * c.args.districts + district) (unit * c.args.districts + c.args.home) _ _ c.put-2.ensures c.put-3.ensures)
+    (renewing_all g plan c.args.districts unit district c.args.home false c.is_open-2.result c.loop-other.self c.requires.unit
+    (c.requires.in_range c.args.unit c.requires.unit) c.requires.home c.loop-other.invariant.width
+    (sym (not_open g plan unit district refl)) c.is_open-2.ensures
+    row i c.loop-other-test.false c.loop-other.invariant)

@@ -1,0 +1,7 @@
+use Rattle.std.proofs.Common.{◌≡◌, false, take}
+use Rattle.std.specs.List.{list_any}
+use Rattle.audit_model.specs.Plan.{in_district}
+use Rattle.flip_kernel.proofs.openings.is_open.Given as goal
+
+abbrev pub invariant-loop-other : goal.invariant-loop-other
+invariant-loop-other l = list_any (in_district l.plan l.district) (take l.other-index l.other-items) ≡ false
