@@ -112,10 +112,10 @@ fn take_in(claims: &Claims, pass: Pass, worker: Worker, book: &mut Book) -> Pass
     let Worker {
         walker: _,
         pass: other,
-        share,
+        share: outcomes,
     } = worker;
     let both = claims.join(pass, other);
-    book.merge(share.as_slice());
+    book.merge(outcomes.as_slice());
     both
 }
 
