@@ -61,6 +61,7 @@ pub fn leaves_connected<L: Ledger>(
     ensures marks { marks.new.units ≡ marks.old.units }
     ensures leaves { IsConnected g.now (in_district plan.now (slice_index plan.now u)) → (IsTrue result ↔ MayLeave g.now plan.now u) }
     ensures local { IsLocal g.now plan.now u → steps.new ≡ steps.old }
+    ensures rising { steps.old ≤ steps.new }
     ensures most { steps.new ≤ steps.old + 1 }
 {
     let _units = g.units();
@@ -94,6 +95,7 @@ pub fn may_leave<L: Ledger>(
     ensures marks { marks.new.units ≡ marks.old.units }
     ensures leaves { IsTrue result ↔ MayLeave g.now plan.now u }
     ensures local { IsLocal g.now plan.now u → steps.new ≡ steps.old }
+    ensures rising { steps.old ≤ steps.new }
     ensures most { steps.new ≤ steps.old + 1 }
 {
     leaves_connected(g, plan, u, marks, steps)

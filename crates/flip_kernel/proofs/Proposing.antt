@@ -49,7 +49,7 @@ module _ (job : Job) (plan : List ℕ) (sums : Following) (marks : ℕ) (table :
     found_below : found < job.graph.units * job.districts
     found_below =
         let place = (is_place_of pairs.count draw found is).place in
-        omega (arith, place, mod_below draw pairs.count held.numbers.some, held.numbers.count)
+        omega (arith, place, mod_below draw pairs.count held.numbers.blocks.some, held.numbers.count)
 
     some_district : 0 < job.districts
     some_district = omega (arith, held.numbers.sound.within.input.two)

@@ -1,5 +1,5 @@
 -- Draws in blocks, which have one draw for each pair of a unit and a district.
-use Rattle.std.specs.Prelude.{◌≡◌, ℕ, ◌+◌, ◌*◌, ◌/◌, ◌%◌, ◌^◌, ◌<◌, nat_lt, if◌then◌else◌, Option, Some, None}
+use Rattle.std.specs.Prelude.{◌≡◌, ℕ, ◌+◌, ◌*◌, ◌/◌, ◌%◌, ◌^◌, ◌<◌, ◌≤◌, nat_lt, if◌then◌else◌, Option, Some, None}
 use Rattle.audit_model.specs.Job.{Job}
 use Rattle.audit_model.specs.JobOf.{IsJob}
 use Rattle.audit_model.specs.Plan.{least_population, greatest_population}
@@ -9,12 +9,18 @@ use Rattle.flip_kernel.specs.declared.proposal.Pairs.{Pairs}
 abbrev pub place_in : ℕ → ℕ → Option ℕ
 place_in size draw = if nat_lt draw (2 ^ 64 / size * size) then Some (draw % size) else None
 
--- what steps need of a job: its pairs, where the last whole block of draws begins, and the bounds of a district's population
+-- the last whole block of draws begins here, and the count goes so often into all draws
+pub record AreBlocks (pairs : Pairs) : Type 0 where
+  pub some : 0 < pairs.count
+  pub last : pairs.last + pairs.count ≡ 2 ^ 64
+  pub enough : pairs.inverse * pairs.count < 2 ^ 64
+  pub most : 2 ^ 64 ≤ pairs.inverse * pairs.count + pairs.count
+
+-- what steps need of a job: its pairs, and the bounds of a district's population
 pub record AreNumbersOf (job : Job) (pairs : Pairs) (low high : ℕ) : Type 0 where
   pub sound : IsJob job
   pub districts : pairs.districts ≡ job.districts
   pub count : pairs.count ≡ job.graph.units * job.districts
-  pub some : 0 < pairs.count
-  pub last : pairs.last + pairs.count ≡ 2 ^ 64
+  pub blocks : AreBlocks pairs
   pub least : low ≡ least_population job
   pub greatest : high ≡ greatest_population job

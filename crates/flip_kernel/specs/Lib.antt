@@ -1,3 +1,4 @@
 pub mod Blocks
+pub mod Flags
 pub mod Held
 pub mod Openings

@@ -1,7 +1,9 @@
 //! Which pairs of a unit and a district can be a move at all.
 
-ghost use Rattle.std.specs.Prelude.{◌≡◌, ℕ, ◌+◌, ◌*◌, ◌<◌, ◌≤◌, false, [], length, slice_index, slice_set, replicate, IfOk};
+ghost use Rattle.std.specs.Int.{bit_at};
+ghost use Rattle.std.specs.Prelude.{◌≡◌, ◌≢◌, ℕ, ◌+◌, ◌*◌, ◌/◌, ◌<◌, ◌≤◌, cond, false, [], length, slice_index, slice_set, replicate, IfOk};
 ghost use Rattle.std.specs.List.{slice_index_or};
+ghost use Rattle.flip_kernel.specs.Flags.{bit_of, flags_of};
 ghost use Rattle.flip_kernel.specs.Openings.{is_open, flag_of, IsTable, IsOpening};
 
 use audit_model::memory::Memory;
@@ -10,18 +12,19 @@ use std::alloc::Global;
 use std::marker::Model;
 
 /// For each pair of a unit and a district whether it is open: the unit is in another district and has a
-/// neighbour in this one.
+/// neighbour in this one. A pair has one bit.
 #[derive(Drop)]
 pub struct Openings {
-    flags: Vec<bool>,
+    words: Vec<u64>,
 }
 
 impl Model for Openings {
     ghost use Rattle.std.specs.Prelude.{Bool, List};
+    ghost use Rattle.flip_kernel.specs.Flags.{flags_of};
 
     ghost Value = { List Bool };
 
-    ghost view = { λ o. o.flags.items };
+    ghost view = { λ o. flags_of o.words.items };
 }
 
 /// The place of a pair of a unit and a district.
@@ -30,6 +33,36 @@ fn place_of(unit: u32, district: u32, districts: u32) -> usize
     ensures { result ≡ unit * districts + district }
 {
     unit as usize * districts as usize + district as usize
+}
+
+/// The word with the bit set, or not set.
+#[inline]
+fn with_bit(word: u64, bit: usize, flag: bool) -> u64
+    requires { bit < 64 }
+    ensures own { bit_at result bit ≡ cond flag 1 0 }
+    ensures others { (i : ℕ) → i < 64 → i ≢ bit → bit_at result i ≡ bit_at word i }
+{
+    let mask = 1u64 << bit;
+    if flag { word | mask } else { word & !mask }
+}
+
+/// The bit at a place of words of 64 bits.
+#[inline]
+fn bit_of(words: &[u64], place: usize) -> bool
+    requires { place / 64 < length words.now }
+    ensures { result ≡ bit_of words.now place }
+{
+    (words[place / 64] >> (place % 64)) & 1 == 1
+}
+
+/// Sets the bit at a place, or takes it away.
+#[inline]
+fn put_bit(words: &mut [u64], place: usize, flag: bool)
+    requires { place / 64 < length words.old }
+    ensures { flags_of words.new ≡ slice_set (flags_of words.old) place flag }
+{
+    let word = words[place / 64];
+    words[place / 64] = with_bit(word, place % 64, flag);
 }
 
 /// Whether the unit is in another district and has a neighbour in this one.
@@ -50,12 +83,12 @@ fn is_open(g: &Graph, plan: &[u32], unit: u32, district: u32) -> bool
 }
 
 impl Openings {
-    /// No pair is open.
+    /// No pair is open, of so many units and districts.
     pub fn none(alloc: Global, units: u32, districts: u32) -> Result<Openings, Memory>
-        ensures { IfOk result (λ o. o ≡ replicate (units * districts) false) }
+        ensures { IfOk result (λ o. units * districts ≤ length o) }
     {
         Ok(Openings {
-            flags: vec![in alloc; false; place_of(units, 0, districts)]?,
+            words: vec![in alloc; 0; place_of(units, 0, districts) / 64 + 1]?,
         })
     }
 
@@ -65,7 +98,7 @@ impl Openings {
         requires { place < length self.now }
         ensures { result ≡ slice_index_or self.now place false }
     {
-        self.flags[place]
+        bit_of(&self.words, place)
     }
 
     /// Opens or closes a pair.
@@ -74,14 +107,14 @@ impl Openings {
         requires { unit * districts + district < length self.old }
         ensures { self.new ≡ slice_set self.old (unit * districts + district) flag }
     {
-        self.flags[place_of(unit, district, districts)] = flag;
+        put_bit(&mut self.words, place_of(unit, district, districts), flag);
     }
 
     /// Closes all pairs.
     fn clear(&mut self)
         ensures { self.new ≡ replicate (length self.old) false }
     {
-        self.flags.fill(false);
+        self.words.fill(0);
     }
 
     /// Opens the districts of a unit's neighbours to the unit, to which none is open.

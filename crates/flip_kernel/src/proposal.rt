@@ -1,8 +1,8 @@
 //! What a draw proposes.
 
-ghost use Rattle.std.specs.Prelude.{◌≡◌, ◌+◌, ◌*◌, ◌^◌, ◌<◌, ◌≤◌};
+ghost use Rattle.std.specs.Prelude.{◌≡◌, ◌*◌, ◌%◌, ◌<◌, ◌≤◌};
 ghost use Rattle.audit_model.specs.Proposal.{proposal};
-ghost use Rattle.flip_kernel.specs.Blocks.{place_in};
+ghost use Rattle.flip_kernel.specs.Blocks.{AreBlocks, place_in};
 
 /// The pairs of a unit and a district. Draws are in blocks, which have one draw for each pair.
 #[derive(Drop)]
@@ -11,6 +11,8 @@ pub struct Pairs {
     pub count: u64,
     /// The first draw of the last whole block.
     pub last: u64,
+    /// How often the count goes into all draws, for a division by it that is a product.
+    pub inverse: u64,
 }
 
 impl Pairs {
@@ -20,25 +22,39 @@ impl Pairs {
         requires districts { (0 < districts) × (districts ≤ 200) }
         ensures districts { result.districts ≡ districts }
         ensures count { result.count ≡ n * districts }
-        ensures some { 0 < result.count }
-        ensures last { result.last + result.count ≡ 2 ^ 64 }
+        ensures blocks { AreBlocks result }
     {
         let count = u64::from(n) * u64::from(districts);
         Pairs {
             districts,
             count,
             last: u64::MAX - (count - 1),
+            inverse: u64::MAX / count,
+        }
+    }
+
+    /// The rest of a draw where it is divided by the count. The product is at most one short of the quotient.
+    #[inline]
+    fn rest(&self, draw: u64) -> u64
+        requires { AreBlocks self.now }
+        ensures { result ≡ draw % self.now.count }
+    {
+        let blocks = ((u128::from(draw) * u128::from(self.inverse)) >> 64) as u64;
+        let rest = draw - blocks * self.count;
+        if rest < self.count {
+            rest
+        } else {
+            rest - self.count
         }
     }
 
     /// The place of a draw in its block. The draws after the last whole block have none.
     #[inline]
     pub fn place(&self, draw: u64) -> Option<u64>
-        requires some { 0 < self.now.count }
-        requires last { self.now.last + self.now.count ≡ 2 ^ 64 }
+        requires { AreBlocks self.now }
         ensures { result ≡ place_in self.now.count draw }
     {
-        let place = draw % self.count;
+        let place = self.rest(draw);
         if draw - place > self.last {
             return None;
         }

@@ -1,0 +1,79 @@
+-- The division of draws into blocks, by a product with an inverse.
+use Rattle.std.proofs.Common.{◌≡◌, ℕ, ◌+◌, ◌-◌, ◌*◌, ◌/◌, ◌%◌, ◌^◌, ◌<◌, ◌≤◌, Some, None, sym, ap, ◌∙◌, inl, inr, arith}
+use Rattle.std.specs.Prelude.{nat_lt}
+use Rattle.std.proofs.Math.Nat.{mul-le-mul_left, mul-le-mul_right, add-mul}
+use Rattle.std.proofs.lemmas.Bool.{cases_lt, cond-true, cond-false, lt-ltb, ltb-true, false_from_ne_true}
+use Rattle.std.proofs.lemmas.Nat.{div-add-mod', mod-mul-add, mod_below, div_below, le-div}
+use Rattle.flip_kernel.specs.Blocks.{place_in}
+
+-- ---- a quotient that is at most one short
+
+-- of all draws there are `all`, and the size goes into them `inverse` times; `blocks` is the product's quotient
+module _ (all draw size inverse blocks : ℕ) (some : 0 < size) (l : draw < all) (enough : inverse * size < all) (most : all ≤ inverse * size + size)
+    (low : blocks * all ≤ draw * inverse) (high : draw * inverse < blocks * all + all) where
+  -- it is not too much
+  pub blocks_fit : blocks * size ≤ draw
+  blocks_fit = elim (cases_lt draw (blocks * size)) [
+    | inr fits ↦ fits
+    | inl over ↦
+        let one : (draw + 1) * all ≤ blocks * size * all = mul-le-mul_right all (omega (arith, over)) in
+        let two : blocks * all * size ≤ draw * inverse * size = mul-le-mul_right size low in
+        let three : draw * (inverse * size) ≤ draw * all = mul-le-mul_left draw (omega (arith, enough)) in
+        absurd (omega (arith, one, two, three, l))
+  ]
+
+  -- and what is left is less than two sizes
+  pub rest_small : draw < blocks * size + 2 * size
+  rest_small = elim (cases_lt draw (blocks * size + 2 * size)) [
+    | inl small ↦ small
+    | inr over ↦
+        let one : (blocks * size + 2 * size) * all ≤ draw * all = mul-le-mul_right all over in
+        let two : draw * all ≤ draw * (inverse * size + size) = mul-le-mul_left draw most in
+        let three : (draw * inverse + 1) * size ≤ (blocks * all + all) * size = mul-le-mul_right size (omega (arith, high)) in
+        let four : draw * size ≤ all * size = mul-le-mul_right size (omega (arith, l)) in
+        absurd (omega (arith, one, two, three, four, some))
+  ]
+
+  pub rest_is : draw - blocks * size < size → draw - blocks * size ≡ draw % size
+  rest_is small = sym (ap (λ (n : ℕ). n % size) split ∙ mod-mul-add blocks size (draw - blocks * size) small)
+    where
+      split : draw ≡ blocks * size + (draw - blocks * size)
+      split = omega (arith, blocks_fit)
+
+  pub rest_next : size ≤ draw - blocks * size → draw - blocks * size - size ≡ draw % size
+  rest_next large = sym (ap (λ (n : ℕ). n % size) split ∙ mod-mul-add (blocks + 1) size (draw - blocks * size - size) (omega (arith, rest_small, large)))
+    where
+      split : draw ≡ (blocks + 1) * size + (draw - blocks * size - size)
+      split = omega (arith, blocks_fit, large)
+
+-- ---- blocks of draws
+
+one_more_block : (blocks size : ℕ) → (blocks + 1) * size ≡ blocks * size + size
+one_more_block blocks size = omega (arith, add-mul blocks 1 size)
+
+module _ (draw size last place : ℕ) (some : 0 < size) (whole : last + size ≡ 2 ^ 64) (is : place ≡ draw % size) where
+  -- a draw whose block ends below the limit is counted
+  counted : draw - place ≤ last → draw < 2 ^ 64 / size * size
+  counted within =
+      let parts : draw / size * size + draw % size ≡ draw = div-add-mod' draw size in
+      let rest : draw % size < size = mod_below draw size some in
+      let more : (draw / size + 1) * size ≡ draw / size * size + size = one_more_block (draw / size) size in
+      let block : (draw / size + 1) * size ≤ 2 ^ 64 = omega (arith, parts, rest, more) in
+      let blocks : draw / size + 1 ≤ 2 ^ 64 / size = le-div (draw / size + 1) (2 ^ 64) size some block in
+      omega (arith, mul-le-mul_right size blocks, parts, rest, more)
+
+  -- and another is not
+  ends_below : draw < 2 ^ 64 / size * size → draw - place ≤ last
+  ends_below l =
+      let parts : draw / size * size + draw % size ≡ draw = div-add-mod' draw size in
+      let below : draw / size + 1 ≤ 2 ^ 64 / size = omega (arith, div_below draw size (2 ^ 64 / size) some l) in
+      let more : (draw / size + 1) * size ≡ draw / size * size + size = one_more_block (draw / size) size in
+      omega (arith, mul-le-mul_right size below, parts, more, div-add-mod' (2 ^ 64) size)
+
+  -- the place of a draw, by where its block begins
+  pub place_whole : draw - place ≤ last → Some place ≡ place_in size draw
+  place_whole within = ap (λ (n : ℕ). Some n) is ∙ sym (cond-true _ _ _ (lt-ltb draw (2 ^ 64 / size * size) (counted within)))
+
+  pub place_held : last < draw - place → None ≡ place_in size draw
+  place_held beyond = sym (cond-false _ _ _ (false_from_ne_true (nat_lt draw (2 ^ 64 / size * size))
+      (λ l. let below = ends_below (ltb-true draw (2 ^ 64 / size * size) l) in omega (arith, below, beyond))))
