@@ -1,6 +1,6 @@
 //! Examples that the definitions compute, each the contract of a function that does nothing.
 
-ghost use Rattle.std.specs.Prelude.{◌≡◌, ◌++◌, [], ◌∷◌, codes, length, take, None, Some, replicate, pos, Err, Ok};
+ghost use Rattle.std.specs.Prelude.{◌≡◌, ◌++◌, [], ◌∷◌, codes, length, take, None, Some, true, false, replicate, pos, Err, Ok};
 ghost use Rattle.audit_model.specs.declared.fault.CkptFault.TheVariants as ckpt;
 ghost use Rattle.audit_model.specs.declared.setting.Score.TheVariants.{Gap};
 ghost use Rattle.audit_model.specs.declared.setting.Tail.TheVariants.{Low, High};
@@ -19,8 +19,9 @@ ghost use Rattle.audit_model.specs.declared.fault.Column.TheVariants as column;
 ghost use Rattle.audit_model.specs.declared.fault.Part.TheVariants as part;
 ghost use Rattle.audit_model.specs.declared.fault.PlanFault.TheVariants as plan;
 ghost use Rattle.text_definitions.specs.Report.{report, check_text};
-ghost use Rattle.text_definitions.specs.Words.{of_command, pairs, setting_of};
-ghost use Rattle.audit_model.specs.declared.setting.Command.TheVariants.{Run, Make};
+ghost use Rattle.text_definitions.specs.Words.{is_good, pairs, setting_of};
+ghost use Rattle.audit_model.specs.declared.setting.Command.TheVariants.{Run};
+ghost use Rattle.worked_examples.specs.Lines.{run_words, small_budget};
 ghost use Rattle.audit_model.specs.declared.fault.WordFault.TheVariants as word;
 ghost use Rattle.audit_model.specs.declared.fault.Name.TheVariants as name;
 
@@ -77,14 +78,28 @@ pub fn refused_words()
     ensures none { setting_of [] ≡ Err word.NoCommand }
     ensures no_value { setting_of (codes "check" ∷ codes "--pop" ∷ []) ≡ Err (word.NoValue name.Pop) }
     ensures twice { setting_of (codes "check" ∷ codes "--pop" ∷ codes "a" ∷ codes "--pop" ∷ codes "b" ∷ []) ≡ Err (word.Twice name.Pop) }
-    ensures unknown { of_command (codes "run") (pairs (codes "--size" ∷ codes "1" ∷ [])) (Some Run) ≡ Err (word.UnknownName (codes "--size")) }
+    ensures unknown { setting_of (codes "run" ∷ codes "--size" ∷ codes "1" ∷ []) ≡ Err (word.UnknownName (codes "--size")) }
     ensures missing { setting_of (codes "check" ∷ codes "--pop" ∷ codes "p" ∷ codes "--first" ∷ codes "a" ∷ codes "--second" ∷ codes "b" ∷ []) ≡ Err (word.MissingName name.District) }
-    ensures leading_zero { of_command (codes "make") (pairs (codes "--size" ∷ codes "1" ∷ codes "--key" ∷ replicate 64 48 ∷ codes "--ask" ∷ codes "seats:low" ∷ codes "--steps" ∷ codes "08" ∷ [])) (Some Make) ≡ Err (word.BadValue name.Steps) }
-    ensures bad_save { of_command (codes "make") (pairs (codes "--size" ∷ codes "1" ∷ codes "--key" ∷ replicate 64 48 ∷ codes "--ask" ∷ codes "seats:low" ∷ codes "--walks" ∷ codes "12" ∷ codes "--budget" ∷ codes "5" ∷ codes "--save" ∷ codes "x" ∷ [])) (Some Make) ≡ Err (word.BadValue name.Save) }
-    ensures no_trajectories { of_command (codes "make") (pairs (codes "--size" ∷ codes "1" ∷ codes "--key" ∷ replicate 64 48 ∷ codes "--ask" ∷ codes "seats:low" ∷ codes "--walks" ∷ codes "0" ∷ [])) (Some Make) ≡ Err (word.BadValue name.Ends) }
-    ensures short_key { of_command (codes "make") (pairs (codes "--size" ∷ codes "1" ∷ codes "--key" ∷ replicate 63 48 ∷ codes "--ask" ∷ codes "seats:low" ∷ [])) (Some Make) ≡ Err (word.BadValue name.Key) }
-    ensures many_workers { of_command (codes "make") (pairs (codes "--size" ∷ codes "1" ∷ codes "--key" ∷ replicate 64 48 ∷ codes "--ask" ∷ codes "seats:low" ∷ codes "--workers" ∷ codes "33" ∷ [])) (Some Make) ≡ Err (word.BadValue name.Workers) }
-    ensures short_budget { of_command (codes "make") (pairs (codes "--size" ∷ codes "1" ∷ codes "--key" ∷ replicate 64 48 ∷ codes "--ask" ∷ codes "seats:low" ∷ codes "--walks" ∷ codes "12" ∷ codes "--budget" ∷ codes "5" ∷ [])) (Some Make) ≡ Err (word.BadValue name.Budget) }
+    ensures leading_zero { setting_of (run_words (codes "--ask" ∷ codes "seats:low" ∷ codes "--steps" ∷ codes "08" ∷ [])) ≡ Err (word.BadValue name.Steps) }
+    ensures no_trajectories { setting_of (run_words (codes "--ask" ∷ codes "seats:low" ∷ codes "--walks" ∷ codes "0" ∷ [])) ≡ Err (word.BadValue name.Ends) }
+    ensures ends_before_ask { setting_of (run_words (codes "--ask" ∷ codes "seats" ∷ codes "--walks" ∷ codes "0" ∷ [])) ≡ Err (word.BadValue name.Ends) }
+    ensures same_ask { setting_of (run_words (codes "--ask" ∷ codes "gap:low,gap:low" ∷ [])) ≡ Err (word.BadValue name.Ask) }
+    ensures many_workers { setting_of (run_words (codes "--ask" ∷ codes "seats:low" ∷ codes "--workers" ∷ codes "33" ∷ [])) ≡ Err (word.BadValue name.Workers) }
+    ensures short_key { is_good Run (pairs (codes "--key" ∷ replicate 63 48 ∷ [])) name.Key ≡ false }
+{}
+
+/// Words of a run that are accepted.
+pub fn accepted_words()
+    ensures { setting_of (run_words (codes "--slack" ∷ codes "5000" ∷ codes "--steps" ∷ codes "8" ∷ codes "--ask" ∷ codes "gap:low,gap:high" ∷ [])) ≡
+        Ok (record (run_of 5000 1 8 0 1000 (record { score = Gap; tail = Low } ∷ record { score = Gap; tail = High } ∷ [])) { columns = columns }) }
+{}
+
+/// A budget that is too small is bad where nothing is saved. Where the value of saving is no number, that is bad, and not the budget.
+pub fn small_budgets()
+    ensures unsaved { is_good Run (small_budget []) name.Budget ≡ false }
+    ensures saved { is_good Run (small_budget (codes "--save" ∷ codes "2" ∷ [])) name.Budget ≡ true }
+    ensures unread_budget { is_good Run (small_budget (codes "--save" ∷ codes "x" ∷ [])) name.Budget ≡ true }
+    ensures unread_save { is_good Run (small_budget (codes "--save" ∷ codes "x" ∷ [])) name.Save ≡ false }
 {}
 
 /// A checkpoint with one outcome, and what is none.

@@ -28,22 +28,22 @@ pub returns-clause-leading_zero : goal.returns-clause-leading_zero
 unfolding setting_of digits decode_pairs
 returns-clause-leading_zero c = refl
 
-pub returns-clause-short_budget : goal.returns-clause-short_budget
-unfolding setting_of digits decode_pairs
-returns-clause-short_budget c = refl
-
-pub returns-clause-bad_save : goal.returns-clause-bad_save
-unfolding setting_of digits decode_pairs
-returns-clause-bad_save c = refl
-
 pub returns-clause-no_trajectories : goal.returns-clause-no_trajectories
 unfolding setting_of digits decode_pairs
 returns-clause-no_trajectories c = refl
 
-pub returns-clause-short_key : goal.returns-clause-short_key
+pub returns-clause-ends_before_ask : goal.returns-clause-ends_before_ask
 unfolding setting_of digits decode_pairs
-returns-clause-short_key c = refl
+returns-clause-ends_before_ask c = refl
+
+pub returns-clause-same_ask : goal.returns-clause-same_ask
+unfolding setting_of digits decode_pairs
+returns-clause-same_ask c = refl
 
 pub returns-clause-many_workers : goal.returns-clause-many_workers
 unfolding setting_of digits decode_pairs
 returns-clause-many_workers c = refl
+
+pub returns-clause-short_key : goal.returns-clause-short_key
+unfolding setting_of digits decode_pairs
+returns-clause-short_key c = refl
