@@ -1,0 +1,149 @@
+-- The first fault of bytes, from the faults that come one after another.
+use Rattle.std.proofs.Common.{◌≡◌, ℕ, ◌+◌, ◌-◌, ◌*◌, ◌<◌, ◌≤◌, Bool, true, false, not, cond, List, length, take, drop, codes, Option, Some, None, refl, sym, ap, ◌∙◌, arith}
+use Rattle.std.specs.Prelude.{◌==◌, nat_lt, bytes_eq, option_map, ◌||◌}
+use Rattle.std.specs.Option.{option_or}
+use Rattle.std.specs.Int.{w32}
+use Rattle.std.proofs.lemmas.Bool.{true≢false, false≢true, not_from_true, or_from, eq-eqb, cond-true, cond-false, lt-ltb, le-ltb, ltb-false, eqb-true, or_parts, not-false}
+use Rattle.std.proofs.lemmas.Slice.Eq.{bytes_eq-Decides}
+use Rattle.sha2.specs.Sha256.{sha256}
+use Rattle.audit_model.specs.declared.fault.CkptFault.TheVariants.{TooShort, BadMagic, BadVersion, BadGeneration, BadCount, BadOrder, BadDigest}
+use Rattle.audit_model.specs.First.{first_below}
+use Rattle.checkpoint_definitions.specs.Checkpoint.{checkpoint_fault, number_at, stated_count}
+use Rattle.ckpt_format.specs.Faults.{length_fault, magic_fault, version_fault, generation_fault, count_fault, order_fault, digest_fault, head_fault, is_unordered}
+
+-- ---- one after another
+
+or_in_turn : {A : Type 0} (l m v g c o d : Option A)
+    → option_or l (option_or m (option_or v (option_or g (option_or c (option_or o (option_or d None))))))
+    ≡ option_or l (option_or (option_or m (option_or v (option_or g (option_or c None)))) (option_or o d))
+or_in_turn (Some x) m v g c o d = refl
+or_in_turn None (Some x) v g c o d = refl
+or_in_turn None None (Some x) g c o d = refl
+or_in_turn None None None (Some x) c o d = refl
+or_in_turn None None None None (Some x) o d = refl
+or_in_turn None None None None None (Some x) d = refl
+or_in_turn None None None None None None (Some x) = refl
+or_in_turn None None None None None None None = refl
+
+-- the length, the head, the order, the digest
+pub fault_is : (bytes : List ℕ) → checkpoint_fault bytes ≡ option_or (length_fault bytes) (option_or (head_fault bytes) (option_or (order_fault bytes (stated_count bytes)) (digest_fault bytes)))
+unfolding checkpoint_fault
+fault_is bytes = or_in_turn (length_fault bytes) (magic_fault bytes) (version_fault (number_at w32 8 bytes)) (generation_fault (number_at w32 44 bytes))
+    (count_fault (stated_count bytes) (length bytes)) (order_fault bytes (stated_count bytes)) (digest_fault bytes)
+
+pub fault_of_few : (bytes : List ℕ) → length bytes < 84 → checkpoint_fault bytes ≡ Some (TooShort (length bytes))
+fault_of_few bytes few =
+    let rest = option_or (head_fault bytes) (option_or (order_fault bytes (stated_count bytes)) (digest_fault bytes)) in
+    fault_is bytes ∙ ap (λ o. option_or o rest) (cond-true (nat_lt (length bytes) 84) (Some (TooShort (length bytes))) None (lt-ltb (length bytes) 84 few))
+
+pub fault_of_many : (bytes : List ℕ) → 84 ≤ length bytes
+    → checkpoint_fault bytes ≡ option_or (head_fault bytes) (option_or (order_fault bytes (stated_count bytes)) (digest_fault bytes))
+fault_of_many bytes many =
+    let rest = option_or (head_fault bytes) (option_or (order_fault bytes (stated_count bytes)) (digest_fault bytes)) in
+    fault_is bytes ∙ ap (λ o. option_or o rest) (cond-false (nat_lt (length bytes) 84) (Some (TooShort (length bytes))) None (le-ltb (length bytes) 84 many))
+
+-- ---- what no fault says
+
+some_is_not_none : {A : Type 0} (x : A) → Some x ≡ None → ⊥
+some_is_not_none x h = cc
+
+or_is_none : {A : Type 0} (a b : Option A) → option_or a b ≡ None → (a ≡ None) × (b ≡ None)
+or_is_none None b h = (refl, h)
+or_is_none (Some x) b h = absurd (some_is_not_none x h)
+
+or_of_none : {A : Type 0} (a b : Option A) → a ≡ None → b ≡ None → option_or a b ≡ None
+or_of_none None b h k = k
+or_of_none (Some x) b h k = absurd (some_is_not_none x h)
+
+then_none : {A : Type 0} (b : Bool) (x : A) → cond b (Some x) None ≡ None → b ≡ false
+then_none true x h = absurd (some_is_not_none x h)
+then_none false x h = refl
+
+else_none : {A : Type 0} (b : Bool) (x : A) → cond b None (Some x) ≡ None → b ≡ true
+else_none true x h = refl
+else_none false x h = absurd (some_is_not_none x h)
+
+map_none : {A B : Type 0} (f : A → B) (o : Option A) → option_map f o ≡ None → o ≡ None
+map_none f None h = refl
+map_none f (Some x) h = absurd (some_is_not_none (f x) h)
+
+-- the number of outcomes fits the length
+pub count_is_right : (count size : ℕ) → count_fault count size ≡ None → (count ≤ 100000) × (size ≡ 84 + 44 * count)
+count_is_right count size none =
+    let parts = or_parts (nat_lt 100000 count) (not (size == 84 + 44 * count)) (then_none _ (BadCount count size) none) in
+    (ltb-false 100000 count parts.0, eqb-true size (84 + 44 * count) (not-false (size == 84 + 44 * count) parts.1))
+
+-- no fault of what stands before the outcomes
+pub record HasHead (bytes : List ℕ) : Type 0 where
+  pub magic : take 8 bytes ≡ codes "DISTCKPT"
+  pub version : number_at w32 8 bytes ≡ 1
+  pub generation : number_at w32 44 bytes < 3
+  pub few : stated_count bytes ≤ 100000
+  pub size : length bytes ≡ 84 + 44 * stated_count bytes
+
+pub head_is_right : (bytes : List ℕ) → head_fault bytes ≡ None → HasHead bytes
+head_is_right bytes none =
+    let magic = or_is_none (magic_fault bytes) _ none in
+    let version = or_is_none (version_fault (number_at w32 8 bytes)) _ magic.1 in
+    let generation = or_is_none (generation_fault (number_at w32 44 bytes)) _ version.1 in
+    let count = or_is_none (count_fault (stated_count bytes) (length bytes)) None generation.1 in
+    let right = count_is_right (stated_count bytes) (length bytes) count.0 in
+    let small : number_at w32 44 bytes ≤ 2 = ltb-false 2 (number_at w32 44 bytes) (then_none _ (BadGeneration (number_at w32 44 bytes)) generation.0) in
+    record {
+      magic = (bytes_eq-Decides (take 8 bytes) (codes "DISTCKPT")).0 (else_none _ BadMagic magic.0);
+      version = eqb-true (number_at w32 8 bytes) 1 (else_none _ (BadVersion (number_at w32 8 bytes)) version.0);
+      generation = omega (arith, small);
+      few = right.0;
+      size = right.1;
+    }
+
+-- no fault at all
+pub record IsFaultless (bytes : List ℕ) : Type 0 where
+  pub head : HasHead bytes
+  pub ordered : first_below (stated_count bytes) (is_unordered bytes) ≡ None
+  pub last : drop (length bytes - 32) bytes ≡ sha256 (take (length bytes - 32) bytes)
+
+pub IsFaultless-from_none : (bytes : List ℕ) → checkpoint_fault bytes ≡ None → IsFaultless bytes
+IsFaultless-from_none bytes none =
+    let tail = option_or (order_fault bytes (stated_count bytes)) (digest_fault bytes) in
+    let long = or_is_none (length_fault bytes) (option_or (head_fault bytes) tail) (sym (fault_is bytes) ∙ none) in
+    let head = or_is_none (head_fault bytes) tail long.1 in
+    let order = or_is_none (order_fault bytes (stated_count bytes)) (digest_fault bytes) head.1 in
+    let found = drop (length bytes - 32) bytes in
+    let computed = sha256 (take (length bytes - 32) bytes) in
+    record {
+      head = head_is_right bytes head.0;
+      ordered = map_none BadOrder (first_below (stated_count bytes) (is_unordered bytes)) order.0;
+      last = (bytes_eq-Decides found computed).0 (else_none (bytes_eq found computed) (BadDigest found computed) order.1);
+    }
+
+else_is_none : {A : Type 0} (b : Bool) (x : A) → b ≡ true → cond b None (Some x) ≡ None
+else_is_none true x h = refl
+else_is_none false x h = absurd (false≢true h)
+
+then_is_none : {A : Type 0} (b : Bool) (x : A) → b ≡ false → cond b (Some x) None ≡ None
+then_is_none true x h = absurd (true≢false h)
+then_is_none false x h = refl
+
+no_count_fault : (count size : ℕ) → count ≤ 100000 → size ≡ 84 + 44 * count → count_fault count size ≡ None
+no_count_fault count size few same =
+    then_is_none (nat_lt 100000 count || not (size == 84 + 44 * count)) (BadCount count size)
+    (or_from (nat_lt 100000 count) (not (size == 84 + 44 * count)) (le-ltb 100000 count few) (not_from_true (size == 84 + 44 * count) (eq-eqb size (84 + 44 * count) same)))
+
+no_head_fault : (bytes : List ℕ) → HasHead bytes → head_fault bytes ≡ None
+no_head_fault bytes head =
+    or_of_none (magic_fault bytes) _ (else_is_none (bytes_eq (take 8 bytes) (codes "DISTCKPT")) BadMagic ((bytes_eq-Decides (take 8 bytes) (codes "DISTCKPT")).1 head.magic))
+    (or_of_none (version_fault (number_at w32 8 bytes)) _ (else_is_none (number_at w32 8 bytes == 1) (BadVersion (number_at w32 8 bytes)) (eq-eqb (number_at w32 8 bytes) 1 head.version))
+    (or_of_none (generation_fault (number_at w32 44 bytes)) _
+    (then_is_none (nat_lt 2 (number_at w32 44 bytes)) (BadGeneration (number_at w32 44 bytes)) (le-ltb 2 (number_at w32 44 bytes) (omega (arith, head.generation))))
+    (or_of_none (count_fault (stated_count bytes) (length bytes)) None (no_count_fault (stated_count bytes) (length bytes) head.few head.size) refl)))
+
+pub none-from_IsFaultless : (bytes : List ℕ) → IsFaultless bytes → checkpoint_fault bytes ≡ None
+none-from_IsFaultless bytes right =
+    let size = right.head.size in
+    let found = drop (length bytes - 32) bytes in
+    let computed = sha256 (take (length bytes - 32) bytes) in
+    fault_of_many bytes (omega arith)
+    ∙ or_of_none (head_fault bytes) _ (no_head_fault bytes right.head)
+    (or_of_none (order_fault bytes (stated_count bytes)) (digest_fault bytes) (ap (option_map BadOrder) right.ordered)
+    (else_is_none (bytes_eq found computed) (BadDigest found computed) ((bytes_eq-Decides found computed).1 right.last)))

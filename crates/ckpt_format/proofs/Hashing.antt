@@ -1,0 +1,56 @@
+-- Bytes that a hasher takes in piece by piece.
+use Rattle.std.proofs.Common.{◌≡◌, ℕ, ◌+◌, ◌<◌, List, [], ◌∷◌, ◌++◌, length, get_or, take, sym, ap, subst, ◌∙◌, add-one, append_assoc, append-nil}
+use Rattle.std.specs.Prelude.{true}
+use Rattle.std.specs.List.{flat_map}
+use Rattle.std.specs.Int.{w32, to_be_bytes}
+use Rattle.std.proofs.lemmas.List.{flat_map_more, take_more}
+use Rattle.sha2.specs.Hashers.{Holds256}
+use Rattle.sha2.specs.declared.Sha256.{Sha256}
+use Rattle.audit_model.specs.Below.{map_below}
+use Rattle.audit_model.specs.Job.{Job}
+use Rattle.audit_model.specs.Graph.{count_edges}
+use Rattle.checkpoint_definitions.specs.Checkpoint.{job_bytes, edge_bytes, unit_bytes}
+use Rattle.ckpt_format.specs.Hashed.{Hashes, ask_bytes, counts_bytes, setting_bytes}
+
+pub hashes_none : (a : Sha256) → Hashes a a []
+hashes_none a = record { taken = λ before held. subst (Holds256 a) (sym (append-nil before)) held }
+
+pub hashes_same : (a b : Sha256) (xs ys : List ℕ) → xs ≡ ys → Hashes a b xs → Hashes a b ys
+hashes_same a b xs ys same one = subst (Hashes a b) same one
+
+pub hashes_then : (a b c : Sha256) (xs ys : List ℕ) → Hashes a b xs → Hashes b c ys → Hashes a c (xs ++ ys)
+hashes_then a b c xs ys first second = record {
+  taken = λ before held. subst (Holds256 c) (append_assoc before xs ys) (second.taken (before ++ xs) (first.taken before held));
+}
+
+-- one more piece of each item of a list
+pub hashes_more : {X : Type 0} (f : X → List ℕ) (xs : List X) (i : ℕ) (d : X) (a b c : Sha256) → i < length xs
+    → Hashes a b (flat_map f (take i xs)) → Hashes b c (f (get_or xs i d)) → Hashes a c (flat_map f (take (i + 1) xs))
+hashes_more f xs i d a b c l first second =
+    let next : flat_map f (take i xs) ++ f (get_or xs i d) ≡ flat_map f (take (i + 1) xs) =
+    flat_map_more f [] (take i xs) (get_or xs i d) ∙ ap (flat_map f) (sym (take_more xs i d l)) in
+    hashes_same a c _ _ next (hashes_then a b c (flat_map f (take i xs)) (f (get_or xs i d)) first second)
+
+-- one more piece of each number
+pub hashes_next : (f : ℕ → List ℕ) (n : ℕ) (a b c : Sha256) → Hashes a b (flat_map f (map_below n (λ u. u))) → Hashes b c (f n)
+    → Hashes a c (flat_map f (map_below (n + 1) (λ u. u)))
+hashes_next f n a b c first second =
+    let numbers : map_below (n + 1) (λ u. u) ≡ map_below n (λ u. u) ++ n ∷ [] = ap (λ m. map_below m (λ u. u)) (add-one n) in
+    let next : flat_map f (map_below n (λ u. u)) ++ f n ≡ flat_map f (map_below (n + 1) (λ u. u)) =
+    flat_map_more f [] (map_below n (λ u. u)) n ∙ ap (flat_map f) (sym numbers) in
+    hashes_same a c _ _ next (hashes_then a b c (flat_map f (map_below n (λ u. u))) (f n) first second)
+
+grouped : (c e u s k w t n h q a : List ℕ) → c ++ e ++ u ++ (s ++ k ++ w ++ t ++ n ++ h ++ q ++ a) ≡ c ++ e ++ u ++ s ++ k ++ w ++ t ++ n ++ h ++ q ++ a
+grouped c e u s k w t n h q a = simp append_assoc
+
+-- a hasher that took in all parts
+pub digest_of_parts : (job : Job) (start counts edges units end : Sha256) → Holds256 start []
+    → Hashes start counts (counts_bytes job.graph.units (count_edges job.graph (λ u v. true)) job.districts)
+    → Hashes counts edges (edge_bytes job.graph) → Hashes edges units (flat_map (unit_bytes job) (map_below job.graph.units (λ u. u)))
+    → Hashes units end (setting_bytes job.setting) → Holds256 end (job_bytes job)
+digest_of_parts job start counts edges units end empty a b c d =
+    let whole = hashes_then _ _ _ _ _ (hashes_then _ _ _ _ _ (hashes_then _ _ _ _ _ a b) c) d in
+    let s = job.setting in
+    let n = to_be_bytes w32 in
+    subst (Holds256 end) (grouped (counts_bytes job.graph.units (count_edges job.graph (λ u v. true)) job.districts) (edge_bytes job.graph)
+    (flat_map (unit_bytes job) (map_below job.graph.units (λ u. u))) (n s.slack) s.key (n s.walks) (n s.steps) (n s.ends) (n s.hub_steps) (n (length s.asks)) (flat_map ask_bytes s.asks)) (whole.taken [] empty)

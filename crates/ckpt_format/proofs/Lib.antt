@@ -1,0 +1,11 @@
+pub mod Appending
+pub mod Sizes
+pub mod Writing
+pub mod Faulting
+pub mod Cutting
+pub mod Numbers
+pub mod Whole
+pub mod Hashing
+pub mod Edges
+pub mod Made
+pub mod Stated

@@ -1,0 +1,75 @@
+-- How many bytes the parts of a checkpoint have.
+use Rattle.std.proofs.Common.{◌≡◌, ℕ, ◌+◌, ◌*◌, ◌<◌, ◌≤◌, List, [], ◌∷◌, ◌++◌, length, take, ap, refl, arith, length-append, ◌∙◌}
+use Rattle.std.proofs.lemmas.List.{length-take-le}
+use Rattle.std.proofs.Math.Nat.{mul-le-mul_left, mul-add}
+use Rattle.std.specs.List.{flat_map, AllByRecursion}
+use Rattle.std.specs.Int.{w32, w64, to_be_bytes, cast_unsigned}
+use Rattle.sha2.specs.Sha256.{sha256}
+use Rattle.sha2.proofs.Facts256.{length-sha256}
+use Rattle.audit_model.specs.Room.{RoomyBytes}
+use Rattle.audit_model.specs.declared.outcome.Outcome.{Outcome}
+use Rattle.checkpoint_definitions.specs.Checkpoint.{IsOutcome, checkpoint, checkpoint_body, outcome_bytes}
+use Rattle.ckpt_format.specs.Written.{Appends, head_bytes}
+
+-- pieces of one length
+pub length-pieces : {X : Type 0} (f : X → List ℕ) (n : ℕ) (xs : List X) → AllByRecursion (λ x. length (f x) ≡ n) xs → length (flat_map f xs) ≡ n * length xs
+length-pieces f n [] each = omega arith
+length-pieces f n (x ∷ xs) each =
+    let rest = length-pieces f n xs each.1 in
+    let one : length (f x) ≡ n = each.0 in
+    omega (arith, rest, one, length-append (f x) (flat_map f xs))
+
+-- pieces that all have one length
+pub length-even_pieces : {X : Type 0} (f : X → List ℕ) (n : ℕ) (xs : List X) → ((x : X) → length (f x) ≡ n) → length (flat_map f xs) ≡ n * length xs
+length-even_pieces f n [] each = omega arith
+length-even_pieces f n (x ∷ xs) each =
+    let rest = length-even_pieces f n xs each in
+    let one : length (f x) ≡ n = each x in
+    omega (arith, rest, one, length-append (f x) (flat_map f xs))
+
+-- the room that is left for the rest of the pieces
+pub room_for_next : {X : Type 0} (f : X → List ℕ) (n : ℕ) (xs : List X) (i : ℕ) (a b : RoomyBytes) → i < length xs
+    → length (flat_map f (take i xs)) ≡ n * length (take i xs) → n * length xs ≤ a.spare → Appends a b (flat_map f (take i xs)) → n ≤ b.spare
+room_for_next f n xs i a b l even room done =
+    let part : length (take i xs) ≡ i = length-take-le i xs (omega arith) in
+    let used : length (flat_map f (take i xs)) ≡ n * i = rw part at even in
+    let next : n * (i + 1) ≤ n * length xs = mul-le-mul_left n (omega arith) in
+    omega (arith, used, next, mul-add n i 1, done.spare)
+
+-- an outcome
+pub length-outcome_bytes : (o : Outcome) → length o.values ≡ 4 → length (outcome_bytes o) ≡ 44
+length-outcome_bytes o four =
+    let values = length-even_pieces (λ v. to_be_bytes w64 (cast_unsigned w64 v)) 8 o.values (λ v. refl) in
+    let head : length (to_be_bytes w32 o.id ++ to_be_bytes w64 o.moved) ≡ 12 = refl in
+    omega (arith, four, values, head, length-append (to_be_bytes w32 o.id ++ to_be_bytes w64 o.moved) (flat_map (λ v. to_be_bytes w64 (cast_unsigned w64 v)) o.values))
+
+-- outcomes
+pub length-outcomes : (outcomes : List Outcome) → AllByRecursion IsOutcome outcomes → length (flat_map outcome_bytes outcomes) ≡ 44 * length outcomes
+length-outcomes [] each = refl
+length-outcomes (o ∷ os) each =
+    let rest = length-outcomes os each.1 in
+    let one = length-outcome_bytes o each.0.four in
+    omega (arith, rest, one, length-append (outcome_bytes o) (flat_map outcome_bytes os))
+
+-- what stands before the outcomes
+pub length-head_bytes : (digest : List ℕ) (generation count : ℕ) → length digest ≡ 32 → length (head_bytes digest generation count) ≡ 52
+length-head_bytes digest generation count wide =
+    let first : length (digest ++ to_be_bytes w32 generation) ≡ 36 = length-append digest (to_be_bytes w32 generation) ∙ ap (λ n. n + 4) wide in
+    let both : length (digest ++ to_be_bytes w32 generation ++ to_be_bytes w32 count) ≡ 40 =
+    length-append (digest ++ to_be_bytes w32 generation) (to_be_bytes w32 count) ∙ ap (λ n. n + 4) first in
+    omega (arith, both)
+
+-- a checkpoint
+pub length-checkpoint_body : (digest : List ℕ) (generation : ℕ) (outcomes : List Outcome) → length digest ≡ 32 → AllByRecursion IsOutcome outcomes
+    → length (checkpoint_body digest generation outcomes) ≡ 52 + 44 * length outcomes
+length-checkpoint_body digest generation outcomes wide each =
+    let whole = length-append (head_bytes digest generation (length outcomes)) (flat_map outcome_bytes outcomes) in
+    omega (arith, whole, length-head_bytes digest generation (length outcomes) wide, length-outcomes outcomes each)
+
+pub length-checkpoint : (digest : List ℕ) (generation : ℕ) (outcomes : List Outcome) → length digest ≡ 32 → AllByRecursion IsOutcome outcomes
+    → length (checkpoint digest generation outcomes) ≡ 84 + 44 * length outcomes
+unfolding checkpoint
+length-checkpoint digest generation outcomes wide each =
+    let body = checkpoint_body digest generation outcomes in
+    let whole = length-append body (sha256 body) in
+    omega (arith, whole, length-checkpoint_body digest generation outcomes wide each, length-sha256 body)

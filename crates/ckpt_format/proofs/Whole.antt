@@ -1,0 +1,141 @@
+-- Bytes without a fault are a checkpoint, and a checkpoint gives back what was written.
+use Rattle.std.proofs.Common.{◌≡◌, ℕ, zero, suc, ◌+◌, ◌-◌, ◌*◌, ◌<◌, ◌≤◌, false, List, [], ◌∷◌, ◌++◌, length, get_or, take, drop, map, codes, None, refl, sym, ap, subst, inl, inr, ◌∙◌, arith, append-nil}
+use Rattle.std.specs.Prelude.{slice_range, nat_lt, nat_le}
+use Rattle.std.specs.List.{flat_map, AllByRecursion}
+use Rattle.std.specs.Int.{w32, to_be_bytes}
+use Rattle.std.proofs.lemmas.Bool.{and_cases, lt-ltb, leb-false, false≢true}
+use Rattle.std.proofs.lemmas.List.{take-append-drop, get_or-map, length-map}
+use Rattle.std.proofs.lemmas.List.Concat.{flat_map-append}
+use Rattle.std.proofs.lemmas.List.Elements.{All-from_get_or, recursion_from_All}
+use Rattle.std.proofs.lemmas.Slice.{between_from_start}
+use Rattle.sha2.specs.Sha256.{sha256}
+use Rattle.audit_model.specs.Below.{map_below}
+use Rattle.audit_model.specs.First.{first_below}
+use Rattle.audit_model.specs.declared.outcome.Outcome.{Outcome}
+use Rattle.checkpoint_definitions.specs.Checkpoint.{AreRising, IsCheckpoint, IsOutcome, checkpoint, checkpoint_body, number_at, outcome_bytes, stated_count, stated_id}
+use Rattle.checkpoint_definitions.specs.Slots.{outcome_at, outcomes_in}
+use Rattle.dual_graph.proofs.Rows.{length-map_below, get_or-map_below}
+use Rattle.plan_core.proofs.Firsts.{first_below_none}
+use Rattle.ckpt_format.specs.Faults.{is_unordered}
+use Rattle.ckpt_format.proofs.Cutting.{AreBytes, join-parts, part-bytes, length-part}
+use Rattle.ckpt_format.proofs.Faulting.{HasHead}
+use Rattle.ckpt_format.proofs.Numbers.{outcome_at-IsOutcome, rewritten_32, rewritten_outcome}
+
+-- ---- ids that rise
+
+pub rising_from_places : (ids : List ℕ) → ((k : ℕ) → suc k < length ids → get_or ids k 0 < get_or ids (suc k) 0) → AreRising ids
+rising_from_places [] each = tt
+rising_from_places (x ∷ []) each = tt
+rising_from_places (x ∷ y ∷ rest) each = (each 0 (omega arith), rising_from_places (y ∷ rest) (λ k l. each (suc k) (omega arith)))
+
+pub rising_at : (ids : List ℕ) (k : ℕ) → AreRising ids → suc k < length ids → get_or ids k 0 < get_or ids (suc k) 0
+rising_at [] k rising l = absurd (omega arith)
+rising_at (x ∷ []) k rising l = absurd (omega arith)
+rising_at (x ∷ y ∷ rest) zero rising l = rising.0
+rising_at (x ∷ y ∷ rest) (suc k) rising l = rising_at (y ∷ rest) k rising.1 (omega arith)
+
+-- ---- from bytes
+
+-- the outcomes
+outcomes_rewritten : (bytes : List ℕ) (count : ℕ) → AreBytes bytes → 52 + 44 * count ≤ length bytes
+    → flat_map outcome_bytes (map_below count (λ k. outcome_at bytes (52 + 44 * k))) ≡ slice_range bytes 52 (52 + 44 * count)
+outcomes_rewritten bytes zero each l = refl
+outcomes_rewritten bytes (suc n) each l =
+    let outcome = λ (k : ℕ). outcome_at bytes (52 + 44 * k) in
+    let before = outcomes_rewritten bytes n each (omega arith) in
+    let last : outcome_bytes (outcome n) ≡ slice_range bytes (52 + 44 * n) (52 + 44 * suc n) = rewritten_outcome bytes (52 + 44 * n) (52 + 44 * suc n) each (omega arith) l in
+    flat_map-append outcome_bytes (map_below n outcome) (outcome n ∷ [])
+    ∙ ap (λ (ys : List ℕ). flat_map outcome_bytes (map_below n outcome) ++ ys) (append-nil (outcome_bytes (outcome n)) ∙ last)
+    ∙ ap (λ (ys : List ℕ). ys ++ slice_range bytes (52 + 44 * n) (52 + 44 * suc n)) before
+    ∙ join-parts bytes 52 (52 + 44 * n) (52 + 44 * suc n) (omega arith) (omega arith) l
+
+-- six parts in a row
+join_six : (xs m v d g c o : List ℕ) (end : ℕ) → 52 ≤ end → end ≤ length xs → m ≡ slice_range xs 0 8 → v ≡ slice_range xs 8 12 → d ≡ slice_range xs 12 44
+    → g ≡ slice_range xs 44 48 → c ≡ slice_range xs 48 52 → o ≡ slice_range xs 52 end → m ++ v ++ d ++ g ++ c ++ o ≡ take end xs
+join_six xs m v d g c o end low high em ev ed eg ec eo =
+    let two = same_both _ _ _ _ em ev ∙ join-parts xs 0 8 12 (omega arith) (omega arith) (omega arith) in
+    let three = same_both _ _ _ _ two ed ∙ join-parts xs 0 12 44 (omega arith) (omega arith) (omega arith) in
+    let four = same_both _ _ _ _ three eg ∙ join-parts xs 0 44 48 (omega arith) (omega arith) (omega arith) in
+    let five = same_both _ _ _ _ four ec ∙ join-parts xs 0 48 52 (omega arith) (omega arith) (omega arith) in
+    same_both _ _ _ _ five eo ∙ join-parts xs 0 52 end (omega arith) low high ∙ between_from_start xs end
+  where
+    same_both : (a b c d : List ℕ) → a ≡ c → b ≡ d → a ++ b ≡ c ++ d
+    same_both a b c d e f = rw (e, f)
+
+-- all but the digest at the end
+body_rewritten : (bytes : List ℕ) → AreBytes bytes → HasHead bytes
+    → checkpoint_body (slice_range bytes 12 44) (number_at w32 44 bytes) (outcomes_in bytes) ≡ take (52 + 44 * stated_count bytes) bytes
+body_rewritten bytes each head =
+    let size = head.size in
+    let count = length-map_below (stated_count bytes) (λ k. outcome_at bytes (52 + 44 * k)) in
+    let version : to_be_bytes w32 1 ≡ slice_range bytes 8 12 = ap (to_be_bytes w32) (sym head.version) ∙ rewritten_32 bytes 8 12 each refl (omega arith) in
+    let generation : to_be_bytes w32 (number_at w32 44 bytes) ≡ slice_range bytes 44 48 = rewritten_32 bytes 44 48 each refl (omega arith) in
+    let counted : to_be_bytes w32 (length (outcomes_in bytes)) ≡ slice_range bytes 48 52 = ap (to_be_bytes w32) count ∙ rewritten_32 bytes 48 52 each refl (omega arith) in
+    let outcomes = outcomes_rewritten bytes (stated_count bytes) each (omega arith) in
+    join_six bytes (codes "DISTCKPT") (to_be_bytes w32 1) (slice_range bytes 12 44) (to_be_bytes w32 (number_at w32 44 bytes)) (to_be_bytes w32 (length (outcomes_in bytes)))
+    (flat_map outcome_bytes (outcomes_in bytes)) (52 + 44 * stated_count bytes) (omega arith) (omega arith) (sym head.magic) version refl generation counted outcomes
+
+rewritten : (bytes : List ℕ) → AreBytes bytes → HasHead bytes → drop (length bytes - 32) bytes ≡ sha256 (take (length bytes - 32) bytes)
+    → bytes ≡ checkpoint (slice_range bytes 12 44) (number_at w32 44 bytes) (outcomes_in bytes)
+unfolding checkpoint
+rewritten bytes each head last =
+    let size = head.size in
+    let end : length bytes - 32 ≡ 52 + 44 * stated_count bytes = omega arith in
+    let body : take (length bytes - 32) bytes ≡ checkpoint_body (slice_range bytes 12 44) (number_at w32 44 bytes) (outcomes_in bytes) =
+    ap (λ n. take n bytes) end ∙ sym (body_rewritten bytes each head) in
+    sym (take-append-drop (length bytes - 32) bytes)
+    ∙ ap (λ (ys : List ℕ). take (length bytes - 32) bytes ++ ys) last
+    ∙ ap (λ (ys : List ℕ). ys ++ sha256 ys) body
+
+-- the id at a place
+pub id_in : (bytes : List ℕ) (k : ℕ) → k < stated_count bytes → get_or (map (λ o. o.id) (outcomes_in bytes)) k 0 ≡ stated_id bytes k
+id_in bytes k l =
+    let id = λ (o : Outcome). o.id in
+    let outcome = λ (i : ℕ). outcome_at bytes (52 + 44 * i) in
+    get_or-map id (outcomes_in bytes) k (outcome 0) 0 (omega (arith, length-map_below (stated_count bytes) outcome))
+    ∙ ap id (get_or-map_below (stated_count bytes) outcome k (outcome 0) l)
+
+-- the ids rise where no place is out of order
+ids_rise : (bytes : List ℕ) → first_below (stated_count bytes) (is_unordered bytes) ≡ None → AreRising (map (λ o. o.id) (outcomes_in bytes))
+ids_rise bytes none =
+    let count = stated_count bytes in
+    let id = λ (o : Outcome). o.id in
+    let outcomes = outcomes_in bytes in
+    let many : length (map id outcomes) ≡ count = length-map outcomes id ∙ length-map_below count (λ k. outcome_at bytes (52 + 44 * k)) in
+    rising_from_places (map id outcomes) (λ k l.
+    let inside : suc k < count = omega arith in
+    let passes = first_below_none count (is_unordered bytes) (suc k) none inside in
+    let above : stated_id bytes k < stated_id bytes (suc k) = in_order bytes k (suc k) (omega arith) passes in
+    omega (arith, above, id_in bytes k (omega arith), id_in bytes (suc k) inside))
+  where
+    in_order : (bytes : List ℕ) (k n : ℕ) → n ≡ k + 1 → is_unordered bytes n ≡ false → stated_id bytes k < stated_id bytes n
+    in_order bytes k n e fails =
+        let before : n - 1 ≡ k = omega arith in
+        let later : nat_le (stated_id bytes n) (stated_id bytes (n - 1)) ≡ false = elim (and_cases (nat_lt 0 n) _ fails) [
+          | inl none ↦ absurd (false≢true (sym none ∙ lt-ltb 0 n (omega arith)))
+          | inr here ↦ here
+        ] in
+        leb-false (stated_id bytes n) (stated_id bytes k) (subst (λ m. nat_le (stated_id bytes n) (stated_id bytes m) ≡ false) before later)
+
+-- each outcome that is read is one
+outcomes_in-IsOutcome : (bytes : List ℕ) → AreBytes bytes → AllByRecursion IsOutcome (outcomes_in bytes)
+outcomes_in-IsOutcome bytes each =
+    let outcome = λ (k : ℕ). outcome_at bytes (52 + 44 * k) in
+    recursion_from_All IsOutcome (outcomes_in bytes) (All-from_get_or IsOutcome (outcomes_in bytes) (outcome 0) (λ k l.
+    subst IsOutcome (sym (get_or-map_below (stated_count bytes) outcome k (outcome 0) (omega (arith, length-map_below (stated_count bytes) outcome)))) (outcome_at-IsOutcome bytes (52 + 44 * k) each)))
+
+-- what is read of bytes without a fault
+pub read_as_checkpoint : (bytes : List ℕ) → AreBytes bytes → HasHead bytes → first_below (stated_count bytes) (is_unordered bytes) ≡ None
+    → drop (length bytes - 32) bytes ≡ sha256 (take (length bytes - 32) bytes)
+    → IsCheckpoint bytes (slice_range bytes 12 44) (number_at w32 44 bytes) (outcomes_in bytes)
+read_as_checkpoint bytes each head ordered last =
+    let size = head.size in
+    let many = length-map_below (stated_count bytes) (λ k. outcome_at bytes (52 + 44 * k)) in record {
+      digest_length = length-part bytes 12 44 (omega arith) (omega arith);
+      digest_bytes = recursion_from_All (λ b. b < 256) (slice_range bytes 12 44) (All-from_get_or (λ b. b < 256) (slice_range bytes 12 44) 0 (λ k l. part-bytes bytes 12 44 each k));
+      generation_below = head.generation;
+      few = omega (arith, many, head.few);
+      rising = ids_rise bytes ordered;
+      each = outcomes_in-IsOutcome bytes each;
+      spelled = rewritten bytes each head last;
+    }

@@ -1,0 +1,9 @@
+use Rattle.ckpt_format.specs.Hashed.{edges_from}
+use Rattle.ckpt_format.proofs.Hashing.{hashes_next, hashes_none}
+use Rattle.ckpt_format.proofs.digest.hash_edges.Goals as goal
+
+pub loop-unit-init : goal.loop-unit-init
+loop-unit-init c = hashes_none _
+
+pub loop-unit-preserved : goal.loop-unit-preserved
+loop-unit-preserved c = hashes_next (edges_from c.args.graph.now) c.loop-unit.unit _ _ _ c.loop-unit.invariant c.hash_edges_from.ensures

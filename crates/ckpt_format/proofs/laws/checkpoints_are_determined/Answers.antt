@@ -1,0 +1,5 @@
+use Rattle.ckpt_format.proofs.Stated.{checkpoints_are_determined}
+use Rattle.ckpt_format.proofs.laws.checkpoints_are_determined.Goals as goal
+
+pub returns : goal.returns
+returns c = checkpoints_are_determined

@@ -1,0 +1,45 @@
+-- The reasons why bytes are no checkpoint, each alone.
+use Rattle.std.specs.Prelude.{ℕ, ◌+◌, ◌-◌, ◌*◌, ◌==◌, ◌&&◌, ◌||◌, Bool, not, cond, nat_lt, nat_le, List, [], ◌∷◌, length, take, drop, codes, bytes_eq, Option, Some, None, option_map}
+use Rattle.std.specs.Int.{w32}
+use Rattle.sha2.specs.Sha256.{sha256}
+use Rattle.audit_model.specs.declared.fault.CkptFault.{CkptFault}
+use Rattle.audit_model.specs.declared.fault.CkptFault.TheVariants.{TooShort, BadMagic, BadVersion, BadGeneration, BadCount, BadOrder, BadDigest}
+use Rattle.audit_model.specs.First.{first_some, first_below}
+use Rattle.checkpoint_definitions.specs.Checkpoint.{number_at, stated_count, stated_id}
+
+abbrev pub length_fault : List ℕ → Option CkptFault
+length_fault bytes = cond (nat_lt (length bytes) 84) (Some (TooShort (length bytes))) None
+
+abbrev pub magic_fault : List ℕ → Option CkptFault
+magic_fault bytes = cond (bytes_eq (take 8 bytes) (codes "DISTCKPT")) None (Some BadMagic)
+
+abbrev pub version_fault : ℕ → Option CkptFault
+version_fault version = cond (version == 1) None (Some (BadVersion version))
+
+abbrev pub generation_fault : ℕ → Option CkptFault
+generation_fault generation = cond (nat_lt 2 generation) (Some (BadGeneration generation)) None
+
+abbrev pub count_fault : ℕ → ℕ → Option CkptFault
+count_fault count size = cond (nat_lt 100000 count || not (size == 84 + 44 * count)) (Some (BadCount count size)) None
+
+-- the outcome at a place has an id that is not greater than the one before it
+abbrev pub is_unordered : List ℕ → ℕ → Bool
+is_unordered bytes place = nat_lt 0 place && nat_le (stated_id bytes place) (stated_id bytes (place - 1))
+
+abbrev pub order_fault : List ℕ → ℕ → Option CkptFault
+order_fault bytes count = option_map BadOrder (first_below count (is_unordered bytes))
+
+abbrev pub mismatch : List ℕ → List ℕ → Option CkptFault
+mismatch found computed = cond (bytes_eq found computed) None (Some (BadDigest found computed))
+
+abbrev pub digest_fault : List ℕ → Option CkptFault
+digest_fault bytes = mismatch (drop (length bytes - 32) bytes) (sha256 (take (length bytes - 32) bytes))
+
+-- the first fault of what stands before the outcomes
+abbrev pub head_fault : List ℕ → Option CkptFault
+head_fault bytes = first_some (
+    magic_fault bytes
+    ∷ version_fault (number_at w32 8 bytes)
+    ∷ generation_fault (number_at w32 44 bytes)
+    ∷ count_fault (stated_count bytes) (length bytes)
+    ∷ [])

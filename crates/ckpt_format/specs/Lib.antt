@@ -1,0 +1,4 @@
+pub mod Faults
+pub mod Hashed
+pub mod Laws
+pub mod Written

@@ -1,0 +1,149 @@
+//! The digest of a job.
+
+ghost use Rattle.std.specs.Prelude.{◌≡◌, ◌<◌, ◌≤◌, flat_map, length, true};
+ghost use Rattle.std.specs.Int.{w32, w64, to_be_bytes};
+ghost use Rattle.audit_model.specs.Below.{map_below};
+ghost use Rattle.audit_model.specs.Graph.{IsGraph, count_edges};
+ghost use Rattle.audit_model.specs.JobOf.{IsJob};
+ghost use Rattle.checkpoint_definitions.specs.Checkpoint as definition;
+ghost use Rattle.checkpoint_definitions.specs.Checkpoint.{edge_bytes, unit_bytes, score_code, tail_code};
+ghost use Rattle.ckpt_format.specs.Hashed.{Hashes, ask_bytes, counts_bytes, edges_from, setting_bytes};
+
+use audit_model::setting::{Ask, Score, Setting, Tail};
+use dual_graph::graph::Graph;
+use plan_core::job::Job;
+use sha2::{Digest, Sha256};
+
+/// The digest of all that a job's outcomes depend on. It takes no memory.
+pub fn job_digest(job: &Job) -> [u8; 32]
+    ensures { result ≡ definition.job_digest job.now }
+{
+    let mut hasher = Sha256::new();
+    hash_counts(&mut hasher, job);
+    hash_edges(&mut hasher, job.graph());
+    hash_units(&mut hasher, job);
+    hash_setting(&mut hasher, job.setting());
+    hasher.finalize()
+}
+
+/// Takes in how many units, edges and districts there are.
+fn hash_counts(hasher: &mut Sha256, job: &Job)
+    ensures bytes { Hashes hasher.old hasher.new (counts_bytes job.now.graph.units (count_edges job.now.graph (λ u v. true)) job.now.districts) }
+    ensures sound { IsJob job.now }
+{
+    hasher.update("district-job 1");
+    hash_u32(hasher, job.units());
+    hash_u32(hasher, job.graph().edges());
+    hash_u32(hasher, job.districts());
+}
+
+/// Takes in each edge, its smaller end first.
+fn hash_edges(hasher: &mut Sha256, graph: &Graph)
+    ensures { Hashes hasher.old hasher.new (edge_bytes graph.now) }
+{
+    for unit in 0..graph.units() {
+        hash_edges_from(hasher, graph, unit);
+    }
+}
+
+/// Takes in the edges from a unit to greater ones.
+fn hash_edges_from(hasher: &mut Sha256, graph: &Graph, unit: u32)
+    requires unit { unit < graph.now.units }
+    requires sound { IsGraph graph.now }
+    ensures { Hashes hasher.old hasher.new (edges_from graph.now unit) }
+{
+    for &near in graph.neighbours(unit) {
+        if unit < near {
+            hash_u32(hasher, unit);
+            hash_u32(hasher, near);
+        }
+    }
+}
+
+/// Takes in the counts of each unit, and its district at the start.
+fn hash_units(hasher: &mut Sha256, job: &Job)
+    ensures { Hashes hasher.old hasher.new (flat_map (unit_bytes job.now) (map_below job.now.graph.units (λ u. u))) }
+{
+    for unit in 0..job.units() {
+        hash_unit(hasher, job, unit as usize);
+    }
+}
+
+/// Takes in the counts of a unit, and its district at the start.
+fn hash_unit(hasher: &mut Sha256, job: &Job, unit: usize)
+    requires { unit < job.now.graph.units }
+    ensures { Hashes hasher.old hasher.new (unit_bytes job.now unit) }
+{
+    let _units = job.units();
+    let counts = job.counts();
+    hash_u64(hasher, counts.population.as_slice()[unit]);
+    hash_u64(hasher, counts.first.as_slice()[unit]);
+    hash_u64(hasher, counts.second.as_slice()[unit]);
+    hash_u32(hasher, job.start().as_slice()[unit]);
+}
+
+/// Takes in what a run is asked to do.
+fn hash_setting(hasher: &mut Sha256, setting: &Setting)
+    requires { length setting.now.asks ≤ 4 }
+    ensures { Hashes hasher.old hasher.new (setting_bytes setting.now) }
+{
+    hash_u32(hasher, setting.slack);
+    hasher.update(setting.key);
+    hash_u32(hasher, setting.walks);
+    hash_u32(hasher, setting.steps);
+    hash_u32(hasher, setting.ends);
+    hash_u32(hasher, setting.hub_steps);
+    hash_u32(hasher, setting.asks.len() as u32);
+    hash_asks(hasher, setting.asks.as_slice());
+}
+
+/// Takes in the score and the tail of each ask.
+fn hash_asks(hasher: &mut Sha256, asks: &[Ask])
+    ensures { Hashes hasher.old hasher.new (flat_map ask_bytes asks.now) }
+{
+    for ask in asks {
+        hash_ask(hasher, *ask);
+    }
+}
+
+/// Takes in a score and a tail.
+fn hash_ask(hasher: &mut Sha256, ask: Ask)
+    ensures { Hashes hasher.old hasher.new (ask_bytes ask) }
+{
+    hash_u32(hasher, score_code(ask.score));
+    hash_u32(hasher, tail_code(ask.tail));
+}
+
+fn score_code(score: Score) -> u32
+    ensures { result ≡ score_code score }
+{
+    match score {
+        Score::Seats => 0,
+        Score::MeanMedian => 1,
+        Score::Gap => 2,
+        Score::CutEdges => 3,
+    }
+}
+
+fn tail_code(tail: Tail) -> u32
+    ensures { result ≡ tail_code tail }
+{
+    match tail {
+        Tail::Low => 0,
+        Tail::High => 1,
+    }
+}
+
+/// Takes in the four bytes of a number.
+fn hash_u32(hasher: &mut Sha256, number: u32)
+    ensures { Hashes hasher.old hasher.new (to_be_bytes w32 number) }
+{
+    hasher.update(number.to_be_bytes());
+}
+
+/// Takes in the eight bytes of a number.
+fn hash_u64(hasher: &mut Sha256, number: u64)
+    ensures { Hashes hasher.old hasher.new (to_be_bytes w64 number) }
+{
+    hasher.update(number.to_be_bytes());
+}

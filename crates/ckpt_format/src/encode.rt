@@ -1,0 +1,121 @@
+//! Writing a checkpoint.
+
+ghost use Rattle.std.specs.Prelude.{◌≡◌, ◌+◌, ◌*◌, ◌<◌, ◌≤◌, length, map, flat_map, FitsSigned};
+ghost use Rattle.std.specs.List.{AllByRecursion};
+ghost use Rattle.std.specs.Int.{w32, w64, to_be_bytes, cast_unsigned};
+ghost use Rattle.sha2.specs.Sha256.{sha256};
+ghost use Rattle.checkpoint_definitions.specs.Checkpoint.{AreRising, IsCheckpoint, IsOutcome, checkpoint, outcome_bytes};
+ghost use Rattle.ckpt_format.specs.Written.{Appends, head_bytes};
+
+use audit_model::buffers::Bytes;
+use audit_model::outcome::Outcome;
+use sha2::{Digest, Sha256};
+
+/// The bytes with which each checkpoint begins.
+pub(crate) const MAGIC: [u8; 8] = *b"DISTCKPT";
+
+/// The version of the format.
+pub(crate) const VERSION: u32 = 1;
+
+/// Makes `out` the checkpoint of a job's digest, a generation and outcomes. It takes no memory.
+pub fn encode(digest: &[u8; 32], generation: u8, outcomes: &[Outcome], out: &mut Bytes)
+    requires generation { generation < 3 }
+    requires few { length outcomes.now ≤ 100000 }
+    requires rising { AreRising (map (λ o. o.id) outcomes.now) }
+    requires room { 84 + 44 * length outcomes.now ≤ length out.old.items + out.old.spare }
+    ensures bytes { out.new.items ≡ checkpoint digest.now generation outcomes.now }
+    ensures length { length out.new.items ≡ 84 + 44 * length outcomes.now }
+    ensures room { length out.new.items + out.new.spare ≡ length out.old.items + out.old.spare }
+    ensures sound { IsCheckpoint out.new.items digest.now generation outcomes.now }
+{
+    out.clear();
+    append_head(out, digest, generation, outcomes.len() as u32);
+    append_outcomes(out, outcomes);
+    append_digest(out);
+}
+
+/// Appends what stands before the outcomes.
+fn append_head(out: &mut Bytes, digest: &[u8; 32], generation: u8, count: u32)
+    requires { 52 ≤ out.old.spare }
+    ensures { Appends out.old out.new (head_bytes digest.now generation count) }
+{
+    append(out, &MAGIC);
+    append_u32(out, VERSION);
+    append(out, digest);
+    append_u32(out, u32::from(generation));
+    append_u32(out, count);
+}
+
+/// Appends the outcomes.
+fn append_outcomes(out: &mut Bytes, outcomes: &[Outcome])
+    requires { 44 * length outcomes.now ≤ out.old.spare }
+    ensures bytes { Appends out.old out.new (flat_map outcome_bytes outcomes.now) }
+    ensures sound { AllByRecursion IsOutcome outcomes.now }
+{
+    for outcome in outcomes {
+        append_outcome(out, outcome);
+    }
+}
+
+/// Appends an outcome: its id, its moves and its values.
+fn append_outcome(out: &mut Bytes, outcome: &Outcome)
+    requires { 44 ≤ out.old.spare }
+    ensures bytes { Appends out.old out.new (outcome_bytes outcome.now) }
+    ensures sound { IsOutcome outcome.now }
+{
+    append_u32(out, outcome.id);
+    append_u64(out, outcome.moved);
+    append_values(out, &outcome.values);
+}
+
+/// Appends values.
+fn append_values(out: &mut Bytes, values: &[i64])
+    requires { 8 * length values.now ≤ out.old.spare }
+    ensures bytes { Appends out.old out.new (flat_map (λ v. to_be_bytes w64 (cast_unsigned w64 v)) values.now) }
+    ensures sound { AllByRecursion (FitsSigned w64) values.now }
+{
+    for value in values {
+        append_i64(out, *value);
+    }
+}
+
+/// Appends the four bytes of a number.
+fn append_u32(out: &mut Bytes, number: u32)
+    requires { 4 ≤ out.old.spare }
+    ensures { Appends out.old out.new (to_be_bytes w32 number) }
+{
+    append(out, &number.to_be_bytes());
+}
+
+/// Appends the eight bytes of a number.
+fn append_u64(out: &mut Bytes, number: u64)
+    requires { 8 ≤ out.old.spare }
+    ensures { Appends out.old out.new (to_be_bytes w64 number) }
+{
+    append(out, &number.to_be_bytes());
+}
+
+/// Appends the eight bytes of a number, which may be negative.
+fn append_i64(out: &mut Bytes, number: i64)
+    requires { 8 ≤ out.old.spare }
+    ensures { Appends out.old out.new (to_be_bytes w64 (cast_unsigned w64 number)) }
+{
+    append(out, &number.to_be_bytes());
+}
+
+/// Appends the digest of all bytes so far.
+fn append_digest(out: &mut Bytes)
+    requires { 32 ≤ out.old.spare }
+    ensures { Appends out.old out.new (sha256 out.old.items) }
+{
+    let digest = Sha256::digest(out.as_slice());
+    append(out, &digest);
+}
+
+/// Appends bytes for which there is room.
+fn append(out: &mut Bytes, bytes: &[u8])
+    requires { length bytes.now ≤ out.old.spare }
+    ensures { Appends out.old out.new bytes.now }
+{
+    let _ = out.append(bytes);
+}

@@ -1,0 +1,101 @@
+//! Why bytes are no checkpoint.
+
+ghost use Rattle.std.specs.Prelude.{◌≡◌, ◌+◌, ◌*◌, ◌≤◌, length};
+ghost use Rattle.audit_model.specs.First.{first_below};
+ghost use Rattle.checkpoint_definitions.specs.Checkpoint.{checkpoint_fault, stated_id};
+ghost use Rattle.ckpt_format.specs.Faults.{count_fault, order_fault, digest_fault, head_fault, is_unordered};
+
+use crate::encode::{MAGIC, VERSION};
+use crate::places::{array_at, u32_at};
+use audit_model::fault::CkptFault;
+use sha2::{Digest, Sha256};
+
+/// The first reason why the bytes are no checkpoint, where there is one. It takes no memory.
+pub(crate) fn fault_of(bytes: &[u8]) -> Option<CkptFault>
+    ensures { result ≡ checkpoint_fault bytes.now }
+{
+    if bytes.len() < 84 {
+        return Some(CkptFault::TooShort(bytes.len() as u64));
+    }
+    match head_fault(bytes) {
+        Some(fault) => Some(fault),
+        None => match order_fault(bytes, u32_at(bytes, 48)) {
+            Some(fault) => Some(fault),
+            None => digest_fault(bytes),
+        },
+    }
+}
+
+/// The first fault of what stands before the outcomes.
+fn head_fault(bytes: &[u8]) -> Option<CkptFault>
+    requires { 84 ≤ length bytes.now }
+    ensures { result ≡ head_fault bytes.now }
+{
+    if array_at(bytes, 0) != MAGIC {
+        return Some(CkptFault::BadMagic);
+    }
+    let version = u32_at(bytes, 8);
+    if version != VERSION {
+        return Some(CkptFault::BadVersion(version));
+    }
+    let generation = u32_at(bytes, 44);
+    if generation > 2 {
+        return Some(CkptFault::BadGeneration(generation));
+    }
+    count_fault(u32_at(bytes, 48), bytes.len() as u64)
+}
+
+/// The fault of a number of outcomes in so many bytes.
+fn count_fault(count: u32, length: u64) -> Option<CkptFault>
+    ensures { result ≡ count_fault count length }
+{
+    if count > 100_000 || length != 84 + 44 * u64::from(count) {
+        Some(CkptFault::BadCount { count, length })
+    } else {
+        None
+    }
+}
+
+/// The fault of the least place whose id is not greater than the one before it.
+fn order_fault(bytes: &[u8], count: u32) -> Option<CkptFault>
+    requires { 52 + 44 * count ≤ length bytes.now }
+    ensures { result ≡ order_fault bytes.now count }
+{
+    first_unordered(bytes, count).map(CkptFault::BadOrder)
+}
+
+/// The least place whose id is not greater than the one before it.
+fn first_unordered(bytes: &[u8], count: u32) -> Option<u32>
+    requires { 52 + 44 * count ≤ length bytes.now }
+    ensures { result ≡ first_below count (is_unordered bytes.now) }
+{
+    for place in 1..count {
+        if id_at(bytes, place) <= id_at(bytes, place - 1) {
+            return Some(place);
+        }
+    }
+    None
+}
+
+/// The id of the outcome at a place.
+fn id_at(bytes: &[u8], place: u32) -> u32
+    requires { 52 + 44 * place + 44 ≤ length bytes.now }
+    ensures { result ≡ stated_id bytes.now place }
+{
+    u32_at(bytes, 52 + 44 * place as usize)
+}
+
+/// The fault of a digest that is not that of all bytes before it.
+fn digest_fault(bytes: &[u8]) -> Option<CkptFault>
+    requires { 32 ≤ length bytes.now }
+    ensures { result ≡ digest_fault bytes.now }
+{
+    let end = bytes.len() - 32;
+    let computed = Sha256::digest(&bytes[..end]);
+    let found = array_at(bytes, end);
+    if found == computed {
+        None
+    } else {
+        Some(CkptFault::BadDigest { found, computed })
+    }
+}

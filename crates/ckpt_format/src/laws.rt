@@ -1,0 +1,28 @@
+//! Laws of checkpoints, each the contract of a function that does nothing.
+
+ghost use Rattle.ckpt_format.specs.Laws.{FaultlessAreCheckpoints, CheckpointsAreRead, CheckpointsAreDetermined, CheckpointsHaveLength, RisingPairsRise};
+
+/// Bytes have no fault exactly where they are the checkpoint of some digest, generation and outcomes.
+pub fn faultless_bytes_are_checkpoints()
+    ensures { FaultlessAreCheckpoints }
+{}
+
+/// What a checkpoint was made of stands at its places, so that what `encode` wrote is what `decode` reads.
+pub fn checkpoints_are_read()
+    ensures { CheckpointsAreRead }
+{}
+
+/// Bytes are the checkpoint of one digest, one generation and one list of outcomes.
+pub fn checkpoints_are_determined()
+    ensures { CheckpointsAreDetermined }
+{}
+
+/// A checkpoint has 84 bytes and 44 for each outcome, at most 4,400,084.
+pub fn checkpoints_have_a_length()
+    ensures { CheckpointsHaveLength }
+{}
+
+/// Outcomes of which each has a smaller id than all later ones have rising ids, as `encode` asks for.
+pub fn rising_pairs_rise()
+    ensures { RisingPairsRise }
+{}

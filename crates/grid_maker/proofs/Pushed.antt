@@ -1,0 +1,41 @@
+-- Values one after another.
+use Rattle.std.proofs.Common.{◌≡◌, ℕ, ◌+◌, List, [], ◌∷◌, ◌++◌, map, Option, refl, sym, ap, ◌∙◌, add-one}
+use Rattle.std.specs.Prelude.{option_to_list}
+use Rattle.serde_json.specs.Data.{Data}
+use Rattle.serde_json.specs.View.{view}
+use Rattle.serde_json.specs.declared.value.Value.{Value}
+use Rattle.audit_model.specs.Below.{map_below}
+
+map_view-append : (vs ws : List Value) → map view (vs ++ ws) ≡ map view vs ++ map view ws
+map_view-append [] ws = refl
+map_view-append (v ∷ vs) ws = ap (λ (ds : List Data). view v ∷ ds) (map_view-append vs ws)
+
+-- one value more
+pub pushed : (n : ℕ) (f : ℕ → Data) (vs ws : List Value) (v : Value) → ws ≡ vs ++ v ∷ [] → map view vs ≡ map_below n f → view v ≡ f n
+    → map view ws ≡ map_below (n + 1) f
+pushed n f vs ws v is before at =
+    ap (λ (us : List Value). map view us) is ∙ map_view-append vs (v ∷ [])
+    ∙ ap (λ (ds : List Data). ds ++ view v ∷ []) before
+    ∙ ap (λ (d : Data). map_below n f ++ d ∷ []) at
+    ∙ rw add-one refl
+
+map-append : (f : ℕ → Data) (xs ys : List ℕ) → map f (xs ++ ys) ≡ map f xs ++ map f ys
+map-append f [] ys = refl
+map-append f (x ∷ xs) ys = ap (λ (ds : List Data). f x ∷ ds) (map-append f xs ys)
+
+one_more : (f : ℕ → Data) (before after : List Data) (numbers : List ℕ) (o p : Option ℕ) → before ≡ map f numbers → o ≡ p
+    → after ≡ before ++ map f (option_to_list o) → after ≡ map f (numbers ++ option_to_list p)
+one_more f before after numbers o p is same more =
+    more ∙ ap (λ (q : Option ℕ). before ++ map f (option_to_list q)) same
+    ∙ ap (λ (ds : List Data). ds ++ map f (option_to_list p)) is ∙ sym (map-append f numbers (option_to_list p))
+
+-- what is there of four numbers, one after another
+pub four_more : (f : ℕ → Data) (none one two three four : List Data) (o₁ o₂ o₃ o₄ p₁ p₂ p₃ p₄ : Option ℕ) → none ≡ []
+    → o₁ ≡ p₁ → one ≡ none ++ map f (option_to_list o₁)
+    → o₂ ≡ p₂ → two ≡ one ++ map f (option_to_list o₂)
+    → o₃ ≡ p₃ → three ≡ two ++ map f (option_to_list o₃)
+    → o₄ ≡ p₄ → four ≡ three ++ map f (option_to_list o₄)
+    → four ≡ map f (option_to_list p₁ ++ option_to_list p₂ ++ option_to_list p₃ ++ option_to_list p₄)
+four_more f none one two three four o₁ o₂ o₃ o₄ p₁ p₂ p₃ p₄ is a₁ h₁ a₂ h₂ a₃ h₃ a₄ h₄ =
+    one_more f three four (option_to_list p₁ ++ option_to_list p₂ ++ option_to_list p₃) o₄ p₄
+    (one_more f two three (option_to_list p₁ ++ option_to_list p₂) o₃ p₃ (one_more f one two (option_to_list p₁) o₂ p₂ (one_more f none one [] o₁ p₁ is a₁ h₁) a₂ h₂) a₃ h₃) a₄ h₄

@@ -1,0 +1,3 @@
+pub mod Beside
+pub mod Columns
+pub mod Tree

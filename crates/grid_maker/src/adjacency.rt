@@ -1,0 +1,95 @@
+//! The lists of neighbours.
+
+ghost use Rattle.std.specs.Prelude.{◌≡◌, ◌+◌, ◌*◌, ◌<◌, ◌≤◌, ◌^◌, ◌++◌, map, option_to_list, IfOk, OnOk};
+ghost use Rattle.serde_json.specs.View.{view};
+ghost use Rattle.draw_definitions.specs.Grid.{side};
+ghost use Rattle.grid_maker.specs.Beside.{above as unit_above, left as unit_left, right as unit_right, below as unit_below};
+ghost use Rattle.grid_maker.specs.Tree.{entry_tree, neighbours_tree, adjacency_tree};
+
+use audit_model::memory::Memory;
+use serde_json::{Value, json};
+use std::alloc::Global;
+
+/// The unit above.
+fn above(side: u32, unit: u32) -> Option<u32>
+    ensures { result ≡ unit_above side unit }
+{
+    unit.checked_sub(side)
+}
+
+/// The unit to the left, in the same row.
+fn left(side: u32, unit: u32) -> Option<u32>
+    requires { 1 ≤ side }
+    ensures { result ≡ unit_left side unit }
+{
+    if unit % side > 0 {
+        Some(unit - 1)
+    } else {
+        None
+    }
+}
+
+/// The unit to the right, in the same row.
+fn right(side: u32, unit: u32) -> Option<u32>
+    requires side { (1 ≤ side) × (side ≤ 300) }
+    requires unit { unit < side * side }
+    ensures { result ≡ unit_right side unit }
+{
+    if unit % side + 1 < side {
+        Some(unit + 1)
+    } else {
+        None
+    }
+}
+
+/// The unit below.
+fn below(side: u32, unit: u32) -> Option<u32>
+    requires side { (1 ≤ side) × (side ≤ 300) }
+    requires unit { unit < side * side }
+    ensures { result ≡ unit_below side unit }
+{
+    let other = unit + side;
+    if other < side * side {
+        Some(other)
+    } else {
+        None
+    }
+}
+
+/// Appends the entry of a neighbour, where there is one.
+fn push_entry(alloc: Global, list: &mut Vec<Value>, neighbour: Option<u32>) -> Result<(), Memory>
+    ensures { OnOk result (map view list.new.items ≡ map view list.old.items ++ map entry_tree (option_to_list neighbour)) }
+{
+    if let Some(unit) = neighbour {
+        list.push(json!(in alloc; {"id": unit})?)?;
+    }
+    Ok(())
+}
+
+/// The neighbours of a unit, in rising order.
+fn neighbours_of(alloc: Global, size: u32, unit: u32) -> Result<Value, Memory>
+    requires size { (1 ≤ size) × (size ≤ 30) }
+    requires unit { unit < side size * side size }
+    ensures { IfOk result (λ value. view value ≡ neighbours_tree size unit) }
+{
+    let side = 10 * size;
+    let mut list = Vec::new(alloc);
+    push_entry(alloc, &mut list, above(side, unit))?;
+    push_entry(alloc, &mut list, left(side, unit))?;
+    push_entry(alloc, &mut list, right(side, unit))?;
+    push_entry(alloc, &mut list, below(side, unit))?;
+    Ok(Value::Array(list))
+}
+
+/// The lists of all units.
+pub fn adjacency_of(alloc: Global, size: u32) -> Result<Value, Memory>
+    requires { (1 ≤ size) × (size ≤ 30) }
+    ensures { IfOk result (λ value. view value ≡ adjacency_tree size) }
+{
+    let side = 10 * size;
+    let mut list = Vec::new(alloc);
+    for unit in 0..side * side {
+        list.push(neighbours_of(alloc, size, unit)?)?;
+    }
+    Ok(Value::Array(list))
+}

@@ -1,0 +1,57 @@
+//! The grid that the program makes, as the JSON of a graph.
+#![tactic(auto)]
+
+ghost use Rattle.std.specs.Prelude.{◌≡◌, ◌≤◌, false, IfOk};
+ghost use Rattle.serde_json.specs.View.{view};
+ghost use Rattle.serde_json.specs.Written.{compact_text, has_float};
+ghost use Rattle.draw_definitions.specs.Grid.{grid};
+ghost use Rattle.grid_maker.specs.Tree.{root_tree, grid_tree};
+
+mod adjacency;
+pub mod laws;
+mod nodes;
+
+use crate::adjacency::adjacency_of;
+use crate::nodes::nodes_of;
+use audit_model::buffers::Bytes;
+use audit_model::memory::Memory;
+use serde_json::{Value, json};
+use std::alloc::Global;
+
+/// The root of the JSON, from the lists of neighbours and the nodes.
+fn root_of(alloc: Global, adjacency: Value, nodes: Value) -> Result<Value, Memory>
+    ensures { IfOk result (λ root. view root ≡ root_tree (view adjacency) (view nodes)) }
+{
+    Ok(json!(in alloc; {
+        "adjacency": adjacency,
+        "directed": false,
+        "graph": [],
+        "multigraph": false,
+        "nodes": nodes
+    })?)
+}
+
+/// The text of a value, with no space.
+fn written(alloc: Global, value: &Value) -> Result<Bytes, Memory>
+    requires { has_float (view value.now) ≡ false }
+    ensures { IfOk result (λ bytes. bytes.items ≡ compact_text (view value.now)) }
+{
+    let text = value.to_vec(alloc)?;
+    let mut bytes = Bytes::with_room(alloc, text.len())?;
+    bytes.append(&text)?;
+    Ok(bytes)
+}
+
+/// The grid of a size, whose votes are drawn under a key: ten times the size is the number of its rows and of its columns.
+pub fn make(alloc: Global, size: u32, key: [u8; 32]) -> Result<Bytes, Memory>
+    requires { (1 ≤ size) × (size ≤ 30) }
+    ensures { IfOk result (λ bytes. bytes.items ≡ grid size key) }
+{
+    let adjacency = adjacency_of(alloc, size)?;
+    let nodes = nodes_of(alloc, size, key)?;
+    let root = root_of(alloc, adjacency, nodes)?;
+    written(alloc, &root)
+}
+
+#[cfg(test)]
+mod tests;
