@@ -1,9 +1,13 @@
 //! Whole audits over sources and sinks in memory: one for each line of the file `cases`, with what it answers.
 //!
-//! A line has the number of the read that fails, 0 for none, then the room of the sink in bytes, the file of the graph, and the words.
+//! A line has the number of the read that fails, 0 for none, then the room of the sink in bytes, then how many trajectories have to begin
+//! before the first one may walk, 0 for a gate that does nothing, then the file of the graph, and the words.
 #![tactic(auto)]
 
-use audit_io::gate::FreeGate;
+mod gate;
+
+use crate::gate::HoldsFirst;
+use audit_io::gate::{FreeGate, Gate};
 use audit_io::mem_sink::MemSink;
 use audit_io::mem_source::MemSource;
 use audit_io::sure_keeper::SureKeeper;
@@ -40,29 +44,53 @@ fn show<R: Print>(rt: &R, bytes: &[u8]) -> Result<(), Fail> {
     Ok(())
 }
 
+// Shows the status, what the gate saw, and both texts.
+fn show_end<R: Print>(
+    rt: &R,
+    status: u8,
+    seen: Option<u64>,
+    out: &MemSink,
+    note: &MemSink,
+) -> Result<(), Fail> {
+    println!(rt; "status {status}")?;
+    if let Some(count) = seen {
+        println!(rt; "{count} had begun")?;
+    }
+    show(rt, out.bytes())?;
+    show(rt, note.bytes())
+}
+
+fn status_of<R: Threads + Wait + Sync + AllocGlobal, G: Gate + Sync>(
+    rt: &R,
+    words: &[String],
+    source: &mut MemSource,
+    out: &mut MemSink,
+    note: &mut MemSink,
+    gate: &G,
+) -> Result<u8, Fail> {
+    let keeper = SureKeeper::new(rt.alloc(), None, None)?;
+    let (status, _keeper) = audit(rt, rt.alloc(), words, source, out, note, keeper, gate);
+    Ok(status)
+}
+
 fn run<R: Files + Print + Threads + Wait + Sync + AllocGlobal>(
     rt: &R,
     words: &[String],
     source: &mut MemSource,
     room: usize,
+    wanted: u64,
 ) -> Result<(), Fail> {
-    let alloc = rt.alloc();
-    let mut out = sink_of(alloc, room)?;
-    let mut note = sink_of(alloc, 1000)?;
-    let keeper = SureKeeper::new(alloc, None, None)?;
-    let (status, _keeper) = audit(
-        rt,
-        alloc,
-        words,
-        source,
-        &mut out,
-        &mut note,
-        keeper,
-        &FreeGate::new(),
-    );
-    println!(rt; "status {status}")?;
-    show(rt, out.bytes())?;
-    show(rt, note.bytes())
+    let mut out = sink_of(rt.alloc(), room)?;
+    let mut note = sink_of(rt.alloc(), 1000)?;
+    if wanted == 0 {
+        let gate = FreeGate::new();
+        let status = status_of(rt, words, source, &mut out, &mut note, &gate)?;
+        return show_end(rt, status, None, &out, &note);
+    }
+    let gate = HoldsFirst::new(wanted);
+    let status = status_of(rt, words, source, &mut out, &mut note, &gate)?;
+    let seen = if gate.has_seen() { wanted } else { 0 };
+    show_end(rt, status, Some(seen), &out, &note)
 }
 
 fn run_case<R: Files + Print + Threads + Wait + Sync + AllocGlobal>(
@@ -73,13 +101,17 @@ fn run_case<R: Files + Print + Threads + Wait + Sync + AllocGlobal>(
     let mut parts = case.split_whitespace();
     let fails = parts.next().ok_or("no number of a read")?.parse::<u64>()?;
     let room = parts.next().ok_or("no room")?.parse::<usize>()?;
+    let wanted = parts
+        .next()
+        .ok_or("no number of trajectories")?
+        .parse::<u64>()?;
     let file = parts.next().ok_or("no file")?;
     let mut words = Vec::new(rt.alloc());
     for word in parts {
         words.push(word.to_string(rt.alloc())?)?;
     }
     let mut source = source_of(rt, file, fails)?;
-    run(rt, words.as_slice(), &mut source, room)
+    run(rt, words.as_slice(), &mut source, room, wanted)
 }
 
 fn main(rt: HostRuntime) -> Result<(), Fail> {

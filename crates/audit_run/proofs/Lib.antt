@@ -3,6 +3,7 @@ pub mod Causing
 pub mod Completing
 pub mod Crossing
 pub mod Ending
+pub mod Following
 pub mod Found
 pub mod Gathering
 pub mod Judging

@@ -6,14 +6,14 @@ use Rattle.std.specs.Option.{option_or}
 use Rattle.std.proofs.lemmas.Bool.{and_parts, false_from_ne_true, leb-true, cases_eq}
 use Rattle.std.proofs.lemmas.Slice.Eq.{bytes_eq-Decides}
 use Rattle.audit_model.specs.declared.fault.Name.{Name}
-use Rattle.audit_model.specs.declared.fault.Name.TheVariants.{Walks, Ends, Budget, Save, Resume}
+use Rattle.audit_model.specs.declared.fault.Name.TheVariants.{Size, Walks, Ends, Budget, Save, Resume}
 use Rattle.audit_model.specs.declared.fault.WordFault.{WordFault}
 use Rattle.audit_model.specs.declared.fault.WordFault.TheVariants.{UnknownName, BadValue}
 use Rattle.audit_model.specs.declared.setting.Command.{Command}
 use Rattle.audit_model.specs.declared.setting.Command.TheVariants.{Check, Run, Make}
 use Rattle.audit_model.specs.declared.setting.Setting.{Setting}
 use Rattle.audit_model.specs.First.{first_some_below}
-use Rattle.text_definitions.specs.Words.{Pair, pairs, pair_at, name_of, known_fault, pair_fault, given, text_of, number_of, number_at, is_number, covers_walks, is_good, names_judged, name_text, default_of, of_command, fault_of, setting_for, setting_or, setting_of}
+use Rattle.text_definitions.specs.Words.{Pair, pairs, pair_at, name_of, known_fault, pair_fault, given, text_of, number_of, number_at, is_number, covers_walks, is_good, names_judged, name_text, default_of, command_of, of_command, fault_of, setting_for, setting_or, setting_of}
 use Rattle.audit_run.specs.Ends.{is_reading, is_walking}
 
 -- ---- the command
@@ -22,34 +22,22 @@ use Rattle.audit_run.specs.Ends.{is_reading, is_walking}
 pub record IsSpoken (setting : Setting) : Type 0 where
   pub command : Command
   pub words : List Pair
-  pub built : (command ≡ Check) ⊎ (command ≡ Run)
   pub faultless : fault_of command words ≡ None
   pub same : setting_for command words ≡ setting
 
-spoken_or : (command : Command) (words : List Pair) (fault : Option WordFault) (setting : Setting) → (command ≡ Check) ⊎ (command ≡ Run)
+spoken_or : (command : Command) (words : List Pair) (fault : Option WordFault) (setting : Setting)
     → fault_of command words ≡ fault → setting_or command words fault ≡ Ok setting → IsSpoken setting
-spoken_or command words None setting built faultless e = record { command = command; words = words; built = built; faultless = faultless; same = cc }
-spoken_or command words (Some f) setting built faultless e = cc
+spoken_or command words None setting faultless e = record { command = command; words = words; faultless = faultless; same = cc }
+spoken_or command words (Some f) setting faultless e = cc
 
-spoken_by : (word : List ℕ) (words : List Pair) (check run : Bool) (setting : Setting)
-    → of_command word words (cond check (Some Check) (cond run (Some Run) None)) ≡ Ok setting → IsSpoken setting
-spoken_by word words true run setting e = spoken_or Check words (fault_of Check words) setting (inl refl) refl e
-spoken_by word words false true setting e = spoken_or Run words (fault_of Run words) setting (inr refl) refl e
-spoken_by word words false false setting e = cc
+spoken_by : (word : List ℕ) (words : List Pair) (command : Option Command) (setting : Setting) → of_command word words command ≡ Ok setting → IsSpoken setting
+spoken_by word words (Some command) setting e = spoken_or command words (fault_of command words) setting refl e
+spoken_by word words None setting e = cc
 
 pub accepted_words : (words : List (List ℕ)) (setting : Setting) → setting_of words ≡ Ok setting → IsSpoken setting
 unfolding setting_of
 accepted_words [] setting e = cc
-accepted_words (word ∷ rest) setting e = spoken_by word (pairs rest) (bytes_eq word (codes "check")) (bytes_eq word (codes "run")) setting e
-
-read_by : (command : Command) (words : List Pair) (setting : Setting) → (command ≡ Check) ⊎ (command ≡ Run) → setting_for command words ≡ setting
-    → is_reading setting.command ≡ true
-read_by command words setting (inl check) same = ap (λ (s : Setting). is_reading s.command) (sym (sym (ap (λ (c : Command). setting_for c words) check) ∙ same))
-read_by command words setting (inr run) same = ap (λ (s : Setting). is_reading s.command) (sym (sym (ap (λ (c : Command). setting_for c words) run) ∙ same))
-
--- accepted words ask for a command that reads the source
-pub accepted_words_read : (words : List (List ℕ)) (setting : Setting) → setting_of words ≡ Ok setting → is_reading setting.command ≡ true
-accepted_words_read words setting e = let s = accepted_words words setting e in read_by s.command s.words setting s.built s.same
+accepted_words (word ∷ rest) setting e = spoken_by word (pairs rest) (command_of word) setting e
 
 -- ---- what the values say
 
@@ -130,9 +118,9 @@ module _ (command : Command) (words : List Pair) where
   not_given name faultless unknown =
       let first = option_or_none (first_some_below (length words) (pair_fault command words)) _ faultless in
       ap (option_and_then (λ (pair : Pair). pair.1)) (none_found (λ pair. bytes_eq pair.0 (name_text name)) words (λ k pair at.
-          false_from_ne_true (bytes_eq pair.0 (name_text name)) (λ same.
-          known k pair at (first_some_below_none (length words) (pair_fault command words) k first.0 (is_below words k pair at))
-          (ap (name_of command words) ((bytes_eq-Decides pair.0 (name_text name)).0 same) ∙ unknown))))
+      false_from_ne_true (bytes_eq pair.0 (name_text name)) (λ same.
+      known k pair at (first_some_below_none (length words) (pair_fault command words) k first.0 (is_below words k pair at))
+      (ap (name_of command words) ((bytes_eq-Decides pair.0 (name_text name)).0 same) ∙ unknown))))
 
   -- what is not given has its default
   default_text : (name : Name) (text : List ℕ) → fault_of command words ≡ None → name_of command words (name_text name) ≡ None → default_of name ≡ Some text
@@ -177,15 +165,44 @@ run_is_unsaved words faultless =
       enough = covers_all Run words (good Run words 12 Budget faultless refl) (good Run words 13 Save faultless refl) none;
     }
 
-unsaved_by : (command : Command) (words : List Pair) (setting : Setting) → (command ≡ Check) ⊎ (command ≡ Run) → fault_of command words ≡ None
+make_is_unsaved : (words : List Pair) → fault_of Make words ≡ None → IsUnsavedSetting (setting_for Make words)
+make_is_unsaved words faultless =
+    let save : text_of Make words Save ≡ codes "0" = default_text Make words Save (codes "0") faultless refl refl in
+    let resume : text_of Make words Resume ≡ codes "no" = default_text Make words Resume (codes "no") faultless refl refl in
+    let none : number_at Make words Save ≡ 0 = ap (λ (t : List ℕ). unwrap_or (number_of t) 0) save ∙ zero_or _ in
+    record {
+      unsaved = none;
+      fresh = ap (λ (t : List ℕ). bytes_eq t (codes "yes")) resume;
+      enough = covers_all Make words (good Make words 9 Budget faultless refl) (good Make words 10 Save faultless refl) none;
+    }
+
+unsaved_by : (command : Command) (words : List Pair) (setting : Setting) → fault_of command words ≡ None
     → setting_for command words ≡ setting → is_walking setting.command ≡ true → IsUnsavedSetting setting
-unsaved_by Check words setting built faultless same walking =
+unsaved_by Check words setting faultless same walking =
     let check : false ≡ is_walking setting.command = ap (λ (s : Setting). is_walking s.command) same in cc
-unsaved_by Run words setting built faultless same walking = subst (λ (s : Setting). IsUnsavedSetting s) same (run_is_unsaved words faultless)
-unsaved_by Make words setting (inl check) faultless same walking = cc
-unsaved_by Make words setting (inr run) faultless same walking = cc
+unsaved_by Run words setting faultless same walking = subst (λ (s : Setting). IsUnsavedSetting s) same (run_is_unsaved words faultless)
+unsaved_by Make words setting faultless same walking = subst (λ (s : Setting). IsUnsavedSetting s) same (make_is_unsaved words faultless)
 
 -- accepted words of a command that walks save and resume nothing, and their budget is enough
 pub accepted_words_save_nothing : (words : List (List ℕ)) (setting : Setting) → setting_of words ≡ Ok setting → is_walking setting.command ≡ true → IsUnsavedSetting setting
 accepted_words_save_nothing words setting e walking =
-    let s = accepted_words words setting e in unsaved_by s.command s.words setting s.built s.faultless s.same walking
+    let s = accepted_words words setting e in unsaved_by s.command s.words setting s.faultless s.same walking
+
+-- ---- the size of a grid
+
+bounded : (o : Option ℕ) → unwrap_or (option_map (λ n. nat_le 1 n && nat_le n 30) o) false ≡ true → (1 ≤ unwrap_or o 0) × (unwrap_or o 0 ≤ 30)
+bounded None h = cc
+bounded (Some n) h = let p = and_parts (nat_le 1 n) (nat_le n 30) h in (leb-true 1 n p.0, leb-true n 30 p.1)
+
+sized_by : (command : Command) (words : List Pair) (setting : Setting) → fault_of command words ≡ None
+    → setting_for command words ≡ setting → setting.command ≡ Make → (1 ≤ setting.size) × (setting.size ≤ 30)
+sized_by Check words setting faultless same make =
+    let check : Check ≡ setting.command = ap (λ (s : Setting). s.command) same in cc
+sized_by Run words setting faultless same make =
+    let run : Run ≡ setting.command = ap (λ (s : Setting). s.command) same in cc
+sized_by Make words setting faultless same make =
+    subst (λ (n : ℕ). (1 ≤ n) × (n ≤ 30)) (ap (λ (s : Setting). s.size) same) (bounded (number_of (text_of Make words Size)) (good Make words 0 Size faultless refl))
+
+-- the size of a grid that accepted words ask for is from 1 to 30
+pub accepted_size : (words : List (List ℕ)) (setting : Setting) → setting_of words ≡ Ok setting → setting.command ≡ Make → (1 ≤ setting.size) × (setting.size ≤ 30)
+accepted_size words setting e make = let s = accepted_words words setting e in sized_by s.command s.words setting s.faultless s.same make

@@ -45,7 +45,7 @@ fn finish_check<K: Sink>(alloc: Global, job: &Job, out: &mut K) -> Ended
 }
 
 // Does what the command asks for, with this job.
-fn finish<R: Threads + Wait + Sync, K: Sink, C: Keeper + Send, G: Gate + Sync>(
+fn finish<R: Threads + Sync, K: Sink, C: Keeper + Send, G: Gate + Sync>(
     rt: &R,
     alloc: Global,
     job: &Job,
@@ -65,8 +65,8 @@ fn finish<R: Threads + Wait + Sync, K: Sink, C: Keeper + Send, G: Gate + Sync>(
 
 /// Does what the words ask for, and answers the status and the keeper.
 ///
-/// The graph is read to its end, or to one byte more than 67,108,864. The text goes to `out`, and the reason of each status but 0 to
-/// `note`: 1 for refused words, 2 for a refused graph or plan, 3 for want of memory, 4 for a failed read, 5 for a failed write.
+/// The graph is read to its end, or to one byte more than 67,108,864. The text of a check or the report of a run goes to `out`, and the
+/// reason of each status but 0 to `note`: 1 for refused words, 2 for a refused graph or plan, 3 for want of memory, 4 for a failed read, 5 for a failed write.
 pub fn audit<
     R: Threads + Wait + Sync,
     S: Source,

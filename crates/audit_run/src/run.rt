@@ -14,7 +14,6 @@ use audit_model::outcome::Outcome;
 use outcome_book::book::Book;
 use plan_core::job::Job;
 use std::alloc::Global;
-use std::sync::Wait;
 use std::thread::Threads;
 
 /// All memory of a run: an empty book, the ids to walk, the workers, and room for the outcomes by rising id and for the report.
@@ -71,7 +70,7 @@ fn write_report<K: Sink>(job: &Job, sorted: &[Outcome], mut text: Bytes, out: &m
 }
 
 // Walks all trajectories and writes the report on them. It takes no memory.
-fn walk_and_write<R: Threads + Wait + Sync, K: Sink, G: Gate + Sync>(
+fn walk_and_write<R: Threads + Sync, K: Sink, G: Gate + Sync>(
     rt: &R,
     job: &Job,
     ready: Ready,
@@ -89,20 +88,12 @@ fn walk_and_write<R: Threads + Wait + Sync, K: Sink, G: Gate + Sync>(
         mut sorted,
         text,
     } = ready;
-    walk_run(
-        rt,
-        job,
-        todo.as_slice(),
-        gate,
-        crew,
-        &mut book,
-        &mut sorted,
-    );
+    walk_run(rt, job, todo.as_slice(), gate, crew, &mut book, &mut sorted);
     write_report(job, sorted.as_slice(), text, out)
 }
 
 /// Takes all memory of the run, walks each trajectory, and writes the report.
-pub fn finish_run<R: Threads + Wait + Sync, K: Sink, G: Gate + Sync>(
+pub fn finish_run<R: Threads + Sync, K: Sink, G: Gate + Sync>(
     rt: &R,
     alloc: Global,
     job: &Job,

@@ -136,7 +136,7 @@ pub fn names_judged(command: Command) -> &'static [Name]
     }
 }
 
-/// The command that the word spells, where one is built.
+/// The command that the word spells.
 pub fn command_of(word: &str) -> Option<Command>
     ensures { result ≡ definition.command_of word.now }
 {
@@ -144,6 +144,8 @@ pub fn command_of(word: &str) -> Option<Command>
         Some(Command::Check)
     } else if word == "run" {
         Some(Command::Run)
+    } else if word == "make" {
+        Some(Command::Make)
     } else {
         None
     }

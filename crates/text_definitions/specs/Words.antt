@@ -138,7 +138,9 @@ pairs (name ∷ value ∷ rest) = (name, Some value) ∷ pairs rest
 
 -- the command that a word spells
 abbrev pub command_of : List ℕ → Option Command
-command_of word = cond (bytes_eq word (codes "check")) (Some Check) (cond (bytes_eq word (codes "run")) (Some Run) None)
+command_of word =
+    cond (bytes_eq word (codes "check")) (Some Check)
+    (cond (bytes_eq word (codes "run")) (Some Run) (cond (bytes_eq word (codes "make")) (Some Make) None))
 
 module _ (command : Command) (words : List Pair) where
   abbrev pub pair_at : ℕ → Pair

@@ -1,5 +1,5 @@
-use Rattle.audit_run.proofs.Words.{accepted_words_read}
+use Rattle.audit_run.proofs.Words.{accepted_size}
 use Rattle.audit_run.proofs.prepare.prepare.Goals as goal
 
-pub prepare_for-requires-clause-reads : goal.prepare_for-requires-clause-reads
-prepare_for-requires-clause-reads g c = accepted_words_read _ c.in-Ok.setting c.in-Ok.ensures.exact
+pub prepare_for-requires-clause-size : goal.prepare_for-requires-clause-size
+prepare_for-requires-clause-size g c = λ make. accepted_size _ c.in-Ok.setting c.in-Ok.ensures.exact make

@@ -1,6 +1,4 @@
-use Rattle.audit_run.proofs.Preparing.{too_many_runs}
 use Rattle.audit_run.proofs.prepare.prepare_for.Goals as goal
 
-pub returns-in-Err-TooMany : goal.returns-in-Err-TooMany
-returns-in-Err-TooMany g c = λ words e out keeper.
-    too_many_runs words c.args.setting _ _ e out keeper c.requires.reads (rw c.in-Err-TooMany.field-0-is at c.in-Err-TooMany.ensures)
+pub returns-in-Make : goal.returns-in-Make
+returns-in-Make g c = λ words e. c.prepare_grid.ensures _ words e
