@@ -1,0 +1,219 @@
+"""Compares the auditor's reports, byte for byte, with those of a plain program on drawn graphs.
+
+Usage: python3 compare_walks.py PROGRAM [GRAPHS [SEED]]
+PROGRAM is the built program. Each graph (20, if not said) is a drawn grid with diagonals and holes, with drawn districts, populations
+and votes, as networkx writes it. The plain program here keeps nothing along a walk: for each proposal it builds the changed plan, asks
+networkx whether each of its districts is connected, adds up populations, and computes each score from all units and edges again.
+Ends with status 0 where all reports are the same, and prints how many were.
+"""
+import json
+import math
+import random
+import struct
+import subprocess
+import sys
+
+import networkx
+
+BILLION = 10 ** 9
+
+
+def quarter(x, a, b, c, d):
+    for p, q, r, turn in ((a, b, d, 16), (c, d, b, 12), (a, b, d, 8), (c, d, b, 7)):
+        x[p] = (x[p] + x[q]) & 0xFFFFFFFF
+        mixed = x[r] ^ x[p]
+        x[r] = ((mixed << turn) | (mixed >> (32 - turn))) & 0xFFFFFFFF
+
+
+def block(key, stream, number):
+    """Sixteen words of ChaCha20 with a 64-bit block counter and a 64-bit stream number."""
+    start = list(struct.unpack("<4I", b"expand 32-byte k")) + list(struct.unpack("<8I", key))
+    start += [number & 0xFFFFFFFF, number >> 32, stream & 0xFFFFFFFF, stream >> 32]
+    x = start[:]
+    for _ in range(10):
+        for a, b, c, d in ((0, 4, 8, 12), (1, 5, 9, 13), (2, 6, 10, 14), (3, 7, 11, 15),
+                           (0, 5, 10, 15), (1, 6, 11, 12), (2, 7, 8, 13), (3, 4, 9, 14)):
+            quarter(x, a, b, c, d)
+    return [(u + v) & 0xFFFFFFFF for u, v in zip(x, start)]
+
+
+def draws(key, stream):
+    number = 0
+    while True:
+        words = block(key, stream, number)
+        for at in range(0, 16, 2):
+            yield words[at] | words[at + 1] << 32
+        number += 1
+
+
+class Job:
+    def __init__(self, graph, plan, people, first, second, districts, slack, key):
+        self.graph, self.plan, self.people, self.first, self.second = graph, plan, people, first, second
+        self.districts, self.slack, self.key = districts, slack, key
+        self.units = len(plan)
+        self.total = sum(people)
+
+    def is_legal(self, plan):
+        for d in range(self.districts):
+            members = [u for u in range(self.units) if plan[u] == d]
+            if not members or not networkx.is_connected(self.graph.subgraph(members)):
+                return False
+            amount = 10000 * self.districts * sum(self.people[u] for u in members)
+            if not (10000 - self.slack) * self.total <= amount <= (10000 + self.slack) * self.total:
+                return False
+        return True
+
+    def after(self, plan, draw):
+        pairs = self.units * self.districts
+        if draw >= 2 ** 64 // pairs * pairs:
+            return plan
+        unit, district = divmod(draw % pairs, self.districts)
+        changed = plan[:unit] + [district] + plan[unit + 1:]
+        return changed if self.is_legal(changed) else plan
+
+    def walk(self, plan, stream, steps):
+        visited, moved = [plan], 0
+        for _, draw in zip(range(steps), draws(self.key, stream)):
+            following = self.after(plan, draw)
+            moved += following != plan
+            plan = following
+            visited.append(plan)
+        return visited, moved
+
+    def value(self, plan, score):
+        votes = [[sum(column[u] for u in range(self.units) if plan[u] == d) for d in range(self.districts)]
+                 for column in (self.first, self.second)]
+        pairs = list(zip(*votes))
+        if score == "seats":
+            return sum(a > b for a, b in pairs)
+        if score == "gap":
+            return sum(3 * b - a if a > b else b - 3 * a for a, b in pairs)
+        if score == "cut-edges":
+            return sum(plan[u] != plan[v] for u, v in self.graph.edges)
+        shares = sorted(a * BILLION // (a + b) if a + b else BILLION // 2 for a, b in pairs)
+        count = self.districts
+        return count * (shares[(count - 1) // 2] + shares[count // 2]) - 2 * sum(shares)
+
+    def denominator(self, score):
+        return {"seats": 1, "cut-edges": 1, "mean-median": 2 * self.districts * BILLION,
+                "gap": 2 * (sum(self.first) + sum(self.second))}[score]
+
+
+def billionths(n):
+    return f"{n // BILLION}.{n % BILLION:09d}"
+
+
+def bound(count, of):
+    """The least r with r * r * of >= 2 * count * 10^18."""
+    least = -(-2 * count * BILLION * BILLION // of)
+    root = math.isqrt(least)
+    return root if root * root >= least else root + 1
+
+
+def report(job, walks, steps, ends, hub_steps, asks):
+    low = -(-(10000 - job.slack) * job.total // (10000 * job.districts))
+    high = (10000 + job.slack) * job.total // (10000 * job.districts)
+    lines = ["district-audit 1", "key " + job.key.hex(),
+             f"units {job.units} edges {job.graph.number_of_edges()} districts {job.districts}",
+             f"population {job.total} slack {job.slack} low {low} high {high}",
+             f"walks {walks} steps {steps} ends {ends} hub-steps {hub_steps}"]
+    start = {score: job.value(job.plan, score) for score, _ in asks}
+
+    def inside(value, score, tail):
+        return value <= start[score] if tail == "low" else value >= start[score]
+
+    def words(score, tail):
+        return f"{score} {tail} start {start[score]}/{job.denominator(score)}"
+
+    for walk in range(walks):
+        visited, moved = job.walk(job.plan, 2 * walk, steps)
+        for score, tail in asks:
+            count = sum(inside(job.value(plan, score), score, tail) for plan in visited)
+            lines.append(f"walk {walk} moved {moved} {words(score, tail)} count {count} of {steps + 1}"
+                         f" bound {billionths(bound(count, steps + 1))}")
+    hub = job.walk(job.plan, 1, hub_steps)[0][-1] if ends else None
+    last = [job.walk(hub, 2 * end + 3, hub_steps)[0][-1] for end in range(ends)]
+    for score, tail in asks if ends else []:
+        rank = 1 + sum(inside(job.value(plan, score), score, tail) for plan in last)
+        lines.append(f"ends {words(score, tail)} rank {rank} of {ends + 1} p {billionths(-(-rank * BILLION // (ends + 1)))}")
+    return "\n".join(lines + ["end", ""])
+
+
+def drawn_graph(chance):
+    wide, high = chance.randint(3, 7), chance.randint(3, 7)
+    graph = networkx.grid_2d_graph(wide, high)
+    for x in range(wide - 1):
+        for y in range(high - 1):
+            if chance.random() < 0.5:
+                graph.add_edge((x, y), (x + 1, y + 1))
+            elif chance.random() < 0.3:
+                graph.add_edge((x + 1, y), (x, y + 1))
+    for unit in list(graph.nodes):
+        if chance.random() < 0.1 and networkx.is_connected(graph.subgraph(set(graph.nodes) - {unit})):
+            graph.remove_node(unit)
+    return networkx.convert_node_labels_to_integers(graph)
+
+
+def drawn_plan(chance, graph, districts):
+    """Districts that grow from drawn units, one neighbour at a time."""
+    seeds = chance.sample(sorted(graph.nodes), districts)
+    plan = {unit: d for d, unit in enumerate(seeds)}
+    while len(plan) < len(graph):
+        unit = chance.choice(sorted(plan))
+        free = [v for v in sorted(graph.neighbors(unit)) if v not in plan]
+        if free:
+            plan[chance.choice(free)] = plan[unit]
+    return [plan[unit] for unit in range(len(graph))]
+
+
+def drawn_job(chance):
+    graph = drawn_graph(chance)
+    districts = chance.randint(2, 4)
+    people, first, second = ([chance.randint(low, 9) for _ in graph.nodes] for low in (1, 0, 0))
+    first[0] += 1
+    plan = drawn_plan(chance, graph, districts)
+    key = chance.randbytes(32)
+    for slack in range(1000, 10001, 1000):
+        job = Job(graph, plan, people, first, second, districts, slack, key)
+        if job.is_legal(plan):
+            return job
+    return drawn_job(chance)
+
+
+def document(job):
+    graph = job.graph.copy()
+    for unit in graph.nodes:
+        graph.nodes[unit].update(POP=job.people[unit], A=job.first[unit], B=job.second[unit], CD=job.plan[unit])
+    return json.dumps(networkx.adjacency_data(graph))
+
+
+def found(program, job, numbers, asks, workers):
+    words = ["run", "--pop", "POP", "--first", "A", "--second", "B", "--district", "CD", "--slack", str(job.slack),
+             "--key", job.key.hex(), "--workers", str(workers), "--ask", ",".join(":".join(ask) for ask in asks)]
+    for name, number in zip(("--walks", "--steps", "--ends", "--hub-steps"), numbers):
+        words += [name, str(number)]
+    run = subprocess.run([program, *words], input=document(job), capture_output=True, text=True)
+    return run.stdout + run.stderr
+
+
+def main(program, graphs="20", seed="1"):
+    chance = random.Random(int(seed))
+    same = moved = 0
+    for number in range(int(graphs)):
+        job = drawn_job(chance)
+        numbers = (chance.randint(1, 3), chance.randint(20, 120), chance.randint(0, 3), chance.randint(10, 60))
+        asks = [(score, chance.choice(("low", "high"))) for score in ("seats", "mean-median", "gap", "cut-edges")]
+        chance.shuffle(asks)
+        wanted = report(job, *numbers, asks)
+        answer = found(program, job, numbers, asks, chance.randint(1, 4))
+        moved += sum(int(line.split()[3]) for line in wanted.splitlines() if line.startswith("walk "))
+        if answer == wanted:
+            same += 1
+        else:
+            print(f"graph {number} of seed {seed}: wanted\n{wanted}but found\n{answer}")
+    print(f"same in {same} of {graphs} reports, with {moved // 4} moves")
+    return 0 if same == int(graphs) else 1
+
+
+if __name__ == "__main__":
+    sys.exit(main(*sys.argv[1:]))
