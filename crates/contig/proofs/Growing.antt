@@ -24,8 +24,8 @@ mate_stays g plan u v graph i =
     )
 
 -- each mate is joined with itself
-pub seeds_joined : (g : Graph) (plan : List ℕ) (u last : ℕ) (m : Marked) (roots : List ℕ) → IsSeeded g plan u last m → last ≤ 8
-    → ((k : ℕ) → k < 9 → get_or roots k 0 ≡ k) → IsJoined g (is_mate g plan u) m.labels roots
+pub seeds_joined : (g : Graph) (plan : List ℕ) (u last : ℕ) (m : Marked) (roots : List ℕ) → IsSeeded g plan u last m → last ≤ 16
+    → ((k : ℕ) → k < 17 → get_or roots k 0 ≡ k) → IsJoined g (is_mate g plan u) m.labels roots
 seeds_joined g plan u last m roots s few same = record {
   path = λ v w pv pw e.
       let label_v : part m.labels roots v ≡ get_or m.labels v 0 = same (get_or m.labels v 0) (omega (arith, s.small v)) in
@@ -34,8 +34,8 @@ seeds_joined g plan u last m roots s few same = record {
       subst (λ t. HasPath g (is_mate g plan u) v t) is (path_one g (is_mate g plan u) v (s.mates v pv));
 }
 
-pub grow_begins : (g : Graph) (plan : List ℕ) (u last : ℕ) (m : Marked) (roots ends : List ℕ) → IsSeeded g plan u last m → last ≤ 8
-    → IsJoined g (stays_behind plan u) m.labels roots → NotOne roots last → length roots ≡ 9 → length ends ≡ 9 → ((k : ℕ) → k < 9 → get_or ends k 0 ≡ k)
+pub grow_begins : (g : Graph) (plan : List ℕ) (u last : ℕ) (m : Marked) (roots ends : List ℕ) → IsSeeded g plan u last m → last ≤ 16
+    → IsJoined g (stays_behind plan u) m.labels roots → NotOne roots last → length roots ≡ 17 → length ends ≡ 17 → ((k : ℕ) → k < 17 → get_or ends k 0 ≡ k)
     → IsGrowing g (stays_behind plan u) last m roots ends 0
 grow_begins g plan u last m roots ends s few joined parted long wide same = record {
   units = s.units;
@@ -56,7 +56,7 @@ grow_begins g plan u last m roots ends s few joined parted long wide same = reco
 
 -- ---- a turn
 
-module _ (g : Graph) (inside : ℕ → Bool) (last : ℕ) (m : Marked) (roots ends : List ℕ) (at : ℕ) (s : IsGrowing g inside last m roots ends at) (few : last ≤ 8) where
+module _ (g : Graph) (inside : ℕ → Bool) (last : ℕ) (m : Marked) (roots ends : List ℕ) (at : ℕ) (s : IsGrowing g inside last m roots ends at) (few : last ≤ 16) where
   label_inside : (v : ℕ) → get_or m.labels v 0 < length roots
   label_inside v = omega (arith, s.small v, s.widths.0)
 

@@ -11,10 +11,10 @@ use Rattle.contig.proofs.Paths.{path_stays, path_within}
 use Rattle.contig.proofs.Growing.{joined_all, mate_stays}
 
 module _ (g : Graph) (plan : List ℕ) (u last : ℕ) (m : Marked) (s : IsSeeded g plan u last m) where
-  pub linking_begins : (roots : List ℕ) → IsJoined g (is_mate g plan u) m.labels roots → length roots ≡ 9 → IsLinking g plan u m roots 0
+  pub linking_begins : (roots : List ℕ) → IsJoined g (is_mate g plan u) m.labels roots → length roots ≡ 17 → IsLinking g plan u m roots 0
   linking_begins roots joined long = record { joined = joined; closed = λ k l. absurd (omega arith); width = long }
 
-  pub linking_more : (roots now : List ℕ) (place unit : ℕ) → last ≤ 8 → place < length m.items → unit ≡ get_or m.items place 0 → IsLinking g plan u m roots place
+  pub linking_more : (roots now : List ℕ) (place unit : ℕ) → last ≤ 16 → place < length m.items → unit ≡ get_or m.items place 0 → IsLinking g plan u m roots place
       → IsSpread g (is_mate g plan u) (get_or g.neighbours unit []) (get_or m.labels unit 0) m m roots now → IsLinking g plan u m now (place + 1)
   linking_more roots now place unit few lt is l spread = record {
     joined = spread.joined;

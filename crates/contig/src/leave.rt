@@ -24,7 +24,7 @@ pub fn local_holds(g: &Graph, plan: &[u32], u: u32, marks: &mut Marks) -> bool
     if mates == 0 || mates > MOST {
         return is_whole(g, plan, u, true, marks);
     }
-    let mut roots: [u8; 9] = [0, 1, 2, 3, 4, 5, 6, 7, 8];
+    let mut roots: [u8; 17] = [0, 1, 2, 3, 4, 5, 6, 7, 8, 9, 10, 11, 12, 13, 14, 15, 16];
     are_linked(g, plan, u, marks, &mut roots, mates)
 }
 
@@ -72,7 +72,7 @@ pub fn leaves_connected<L: Ledger>(
     if mates == 0 || mates > MOST {
         return is_whole(g, plan, u, true, marks) || search_holds(g, plan, u, marks, steps);
     }
-    let mut roots: [u8; 9] = [0, 1, 2, 3, 4, 5, 6, 7, 8];
+    let mut roots: [u8; 17] = [0, 1, 2, 3, 4, 5, 6, 7, 8, 9, 10, 11, 12, 13, 14, 15, 16];
     if are_linked(g, plan, u, marks, &mut roots, mates) {
         return true;
     }

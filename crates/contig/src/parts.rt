@@ -14,7 +14,7 @@ use dual_graph::graph::Graph;
 use dual_graph::marks::Marks;
 
 /// The greatest label. The labels begin with 1.
-pub const MOST: usize = 8;
+pub const MOST: usize = 16;
 
 /// Gives the labels of one root that of another label.
 fn join(roots: &mut [u8], from: u8, into: u8)
@@ -110,16 +110,16 @@ pub fn meet(
 ) -> bool
     requires plan { length plan.now ≡ g.now.units }
     requires unit { u < g.now.units }
-    requires last { (0 < last) × (last ≤ 8) }
+    requires last { (0 < last) × (last ≤ 16) }
     requires seeded { IsSeeded g.now plan.now u last marks.old }
-    requires roots { length roots.old ≡ 9 }
+    requires roots { length roots.old ≡ 17 }
     requires joined { IsJoined g.now (stays_behind plan.now u) marks.old.labels roots.old }
     requires parted { NotOne roots.old last }
     ensures units { marks.new.units ≡ g.now.units }
     ensures leaves { IsConnected g.now (in_district plan.now (slice_index plan.now u)) → (IsTrue result ↔ MayLeave g.now plan.now u) }
 {
     let _units = g.units();
-    let mut ends: [usize; 9] = [0, 1, 2, 3, 4, 5, 6, 7, 8];
+    let mut ends: [usize; 17] = [0, 1, 2, 3, 4, 5, 6, 7, 8, 9, 10, 11, 12, 13, 14, 15, 16];
     let mut at = 0;
     while at < marks.count() {
         let unit = marks.at(at);
@@ -168,9 +168,9 @@ pub fn are_linked(
     last: usize,
 ) -> bool
     requires unit { u < g.now.units }
-    requires last { (0 < last) × (last ≤ 8) }
+    requires last { (0 < last) × (last ≤ 16) }
     requires seeded { IsSeeded g.now plan.now u last marks.now }
-    requires roots { length roots.old ≡ 9 }
+    requires roots { length roots.old ≡ 17 }
     requires joined { IsJoined g.now (is_mate g.now plan.now u) marks.now.labels roots.old }
     ensures local { IsTrue result ↔ IsLocal g.now plan.now u }
     ensures joined { IsJoined g.now (stays_behind plan.now u) marks.now.labels roots.new }
@@ -183,13 +183,13 @@ pub fn are_linked(
     all_one(roots, last)
 }
 
-/// Marks the mates of a unit, each with a label of its own, and tells how many there are; where there are more than eight it answers nine.
+/// Marks the mates of a unit, each with a label of its own, and tells how many there are; where there are more than sixteen it answers seventeen.
 pub fn mark_mates(g: &Graph, plan: &[u32], u: u32, marks: &mut Marks) -> usize
     requires plan { length plan.now ≡ g.now.units }
     requires unit { u < g.now.units }
     requires units { marks.old.units ≡ g.now.units }
     ensures units { marks.new.units ≡ g.now.units }
-    ensures seeded { result ≤ 8 → IsSeeded g.now plan.now u result marks.new }
+    ensures seeded { result ≤ 16 → IsSeeded g.now plan.now u result marks.new }
 {
     let _units = g.units();
     let district = plan[u as usize];

@@ -129,7 +129,7 @@ fn triangle(rt: HostRuntime) {
     assert!(rt; found == Ok(Some((true, true, true))));
 }
 
-// A hub of a ring of twelve has more neighbours than there are labels.
+// A hub of a ring of eighteen has more neighbours than there are labels.
 #[test]
 fn wheel(rt: HostRuntime) {
     let pairs = [
@@ -145,8 +145,14 @@ fn wheel(rt: HostRuntime) {
         (0, 10),
         (0, 11),
         (0, 12),
+        (0, 13),
+        (0, 14),
+        (0, 15),
+        (0, 16),
+        (0, 17),
+        (0, 18),
         (1, 2),
-        (1, 12),
+        (1, 18),
         (2, 3),
         (3, 4),
         (4, 5),
@@ -157,7 +163,13 @@ fn wheel(rt: HostRuntime) {
         (9, 10),
         (10, 11),
         (11, 12),
+        (12, 13),
+        (13, 14),
+        (14, 15),
+        (15, 16),
+        (16, 17),
+        (17, 18),
     ];
-    let found = answers(rt.alloc(), &pairs, &[0; 13], 0);
+    let found = answers(rt.alloc(), &pairs, &[0; 19], 0);
     assert!(rt; found == Ok(Some((true, true, true))));
 }

@@ -23,7 +23,7 @@ module _ (all draw size inverse blocks : ℕ) (some : 0 < size) (l : draw < all)
   ]
 
   -- and what is left is less than two sizes
-  pub rest_small : draw < blocks * size + 2 * size
+  rest_small : draw < blocks * size + 2 * size
   rest_small = elim (cases_lt draw (blocks * size + 2 * size)) [
     | inl small ↦ small
     | inr over ↦

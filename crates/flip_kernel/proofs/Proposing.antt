@@ -68,10 +68,6 @@ module _ (job : Job) (plan : List ℕ) (sums : Following) (marks : ℕ) (table :
     proposal_is : proposal job.graph.units job.districts draw ≡ Some (found / job.districts, found % job.districts)
     proposal_is = proposed_some job.graph.units job.districts pairs.count draw found held.numbers.count (is_place_of pairs.count draw found is)
 
-    -- the proposed pair is in the table
-    pub found_inside : found < pairs.count
-    found_inside = omega (arith, found_below, held.numbers.count)
-
     -- where it is not open the plan stays
     pub still_closed : get_or table found false ≡ false → next job plan draw ≡ plan
     still_closed closed = next_stays job plan draw (found / job.districts) (found % job.districts) proposal_is

@@ -3,7 +3,7 @@ use Rattle.std.proofs.Common.{◌≡◌, ℕ, ◌+◌, ◌*◌, ◌<◌, ◌≤�
 use Rattle.std.specs.Prelude.{◌⊎◌}
 use Rattle.std.specs.List.{list_any}
 use Rattle.std.proofs.Math.Nat.{mul_comm}
-use Rattle.std.proofs.lemmas.Bool.{cases_Bool, cases_eq, eq-eqb, ne_eqb, and_right, or_right}
+use Rattle.std.proofs.lemmas.Bool.{cases_Bool, cases_eq, eq-eqb, ne_eqb, or_right}
 use Rattle.std.proofs.lemmas.List.{get_or-set_same, get_or-set_other}
 use Rattle.std.proofs.lemmas.List.Folds.{list_any_more}
 use Rattle.std.proofs.lemmas.Nat.{mul-add-lt, same_from_place}
@@ -36,14 +36,6 @@ and_with false c h = refl
 or_without : (b c : Bool) → c ≡ false → (b || c) ≡ b
 or_without true c h = refl
 or_without false c h = h
-
-pub opening_none : (plan : List ℕ) (districts unit : ℕ) (table : List Bool) → ((d : ℕ) → d < districts → flag_of table districts unit d ≡ false)
-    → IsOpening plan districts unit [] table table
-opening_none plan districts unit table closed = record {
-  width = refl;
-  own = λ d l. closed d l ∙ sym (and_right (not (in_district plan d unit)) false refl);
-  others = λ u d off l. refl;
-}
 
 pub opening_more : (plan : List ℕ) (districts unit : ℕ) (row : List ℕ) (i : ℕ) (old new : List Bool) → i < length row → get_or plan (get_or row i 0) 0 < districts
     → unit * districts + get_or plan (get_or row i 0) 0 < length new → IsOpening plan districts unit (take i row) old new
@@ -85,16 +77,6 @@ opening_more plan districts unit row i old new l there inside before = record {
 pub record IsFilling (g : Graph) (plan : List ℕ) (districts unit : ℕ) (table : List Bool) : Type 0 where
   pub filled : (u d : ℕ) → u < unit → d < districts → flag_of table districts u d ≡ is_open g plan u d
   pub closed : (u d : ℕ) → unit ≤ u → d < districts → flag_of table districts u d ≡ false
-
-pub filling_more : (g : Graph) (plan : List ℕ) (districts unit : ℕ) (old new : List Bool) → IsFilling g plan districts unit old
-    → IsOpening plan districts unit (get_or g.neighbours unit []) old new → IsFilling g plan districts (unit + 1) new
-filling_more g plan districts unit old new before opening = record {
-  filled = λ u d lu ld. elim (cases_eq u unit) [
-    | inl e ↦ ap (λ (x : ℕ). flag_of new districts x d) e ∙ opening.own d ld ∙ ap (λ (x : ℕ). is_open g plan x d) (sym e)
-    | inr off ↦ opening.others u d off ld ∙ before.filled u d (omega (arith, off, lu)) ld
-  ];
-  closed = λ u d lu ld. opening.others u d (λ e. omega (arith, e, lu)) ld ∙ before.closed u d (omega (arith, lu)) ld;
-}
 
 -- ---- after a move
 

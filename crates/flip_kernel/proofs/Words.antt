@@ -16,7 +16,7 @@ unfolding flags_of
 flag_at words place l = get_or-map_below (64 * length words) (bit_of words) place false (omega (arith, l, length-map_below (64 * length words) (bit_of words)))
 
 -- the word of a place is there
-pub word_inside : (words : List ℕ) (place : ℕ) → place < length (flags_of words) → place / 64 < length words
+word_inside : (words : List ℕ) (place : ℕ) → place < length (flags_of words) → place / 64 < length words
 word_inside words place l = omega (arith, l, length-flags_of words)
 
 one_or_none : (flag : Bool) → (cond {A = ℕ} flag 1 0 == 1) ≡ flag

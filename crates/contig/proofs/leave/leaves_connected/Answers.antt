@@ -5,7 +5,7 @@ use Rattle.model_laws.proofs.Local.{may_leave}
 use Rattle.audit_model.specs.Graph.{IsGraph}
 use Rattle.contig.proofs.Growing.{seeds_joined}
 use Rattle.contig.proofs.Ending.{one_leaves}
-use Rattle.contig.proofs.Places.{nine, nine_at}
+use Rattle.contig.proofs.Places.{own_labels, own_at}
 use Rattle.contig.proofs.leave.leaves_connected.Goals as goal
 
 simple : (g : Graph) → IsGraph g → IsSimple g
@@ -13,7 +13,7 @@ simple g graph = record { symmetric = graph.symmetric; loopless = graph.loopless
 
 pub returns-then-mates-eq1-clause-leaves : goal.returns-then-mates-eq1-clause-leaves
 returns-then-mates-eq1-clause-leaves g c connected =
-    let few : c.mark_mates-mates.result ≤ 8 = omega (arith, c.if-mates-eq1.true) in (
+    let few : c.mark_mates-mates.result ≤ 16 = omega (arith, c.if-mates-eq1.true) in (
       λ _. one_leaves c.args.g.now c.args.plan.now c.args.u c.units-units.ensures.sound c.requires.unit connected c.mark_mates-mates.result c.mark_mates-mates.new.marks
           (c.mark_mates-mates.ensures.seeded few) c.if-mates-eq1.true,
       λ _. refl,
@@ -28,8 +28,8 @@ returns-then-is_whole-clause-leaves g c connected =
 
 pub are_linked-requires-clause-joined : goal.are_linked-requires-clause-joined
 are_linked-requires-clause-joined g c =
-    let few : c.mark_mates-mates.result ≤ 8 = omega (arith, c.if-mates-gt-MOST.false) in
-    seeds_joined c.args.g.now c.args.plan.now c.args.u c.mark_mates-mates.result c.mark_mates-mates.new.marks nine (c.mark_mates-mates.ensures.seeded few) few nine_at
+    let few : c.mark_mates-mates.result ≤ 16 = omega (arith, c.if-mates-gt-MOST.false) in
+    seeds_joined c.args.g.now c.args.plan.now c.args.u c.mark_mates-mates.result c.mark_mates-mates.new.marks own_labels (c.mark_mates-mates.ensures.seeded few) few own_at
 
 pub returns-then-are_linked-clause-leaves : goal.returns-then-are_linked-clause-leaves
 returns-then-are_linked-clause-leaves g c connected =

@@ -1,4 +1,4 @@
-use Rattle.std.proofs.Common.{◌≡◌, ℕ, ◌+◌, ◌<◌, length}
+use Rattle.std.proofs.Common.{ℕ, ◌+◌, ◌<◌, length}
 use Rattle.dual_graph.specs.Pairs.{pair_at, IsBefore}
 use Rattle.contig.proofs.tests.are_pairs.Given as goal
 
