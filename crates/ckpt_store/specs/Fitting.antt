@@ -1,0 +1,49 @@
+-- Which outcomes do not fit a job, and what a checkpoint is for it.
+use Rattle.std.specs.Prelude.{◌≡◌, ℕ, ◌≤◌, Bool, true, false, IsTrue, not, List, length, map, bytes_eq, Option, Some, None}
+use Rattle.std.specs.List.{All, slice_get}
+use Rattle.audit_model.specs.declared.fault.CkptFault.TheVariants.{Unfit}
+use Rattle.audit_model.specs.declared.outcome.Outcome.{Outcome}
+use Rattle.audit_model.specs.First.{first_below}
+use Rattle.audit_model.specs.Job.{Job}
+use Rattle.audit_model.specs.Run.{fits}
+use Rattle.checkpoint_definitions.specs.Checkpoint.{AreRising}
+use Rattle.checkpoint_definitions.specs.Slots as definition
+use Rattle.ckpt_format.specs.declared.decode.Checkpoint.{Checkpoint}
+use Rattle.ckpt_store.specs.declared.slots.Slot.{Slot}
+use Rattle.ckpt_store.specs.declared.slots.Slot.TheVariants as slot
+
+-- there is an outcome, and it does not fit
+abbrev pub is_unfit_one : Job → Option Outcome → Bool
+is_unfit_one job None = false
+is_unfit_one job (Some o) = not (fits job o)
+
+-- the outcome at a place does not fit
+abbrev pub is_unfit : Job → List Outcome → ℕ → Bool
+is_unfit job outcomes place = is_unfit_one job (slice_get outcomes place)
+
+-- of a checkpoint of the job's digest, by the least place of an outcome that does not fit
+abbrev pub judged_ours : Checkpoint → Option ℕ → definition.Slot
+judged_ours checkpoint None = definition.ours checkpoint.generation checkpoint.outcomes.items
+judged_ours checkpoint (Some place) = definition.broken (Unfit place)
+
+abbrev pub judged_digest : Job → Checkpoint → Bool → definition.Slot
+judged_digest job checkpoint false = definition.other checkpoint.digest checkpoint.generation
+judged_digest job checkpoint true =
+    judged_ours checkpoint (first_below (length checkpoint.outcomes.items) (is_unfit job checkpoint.outcomes.items))
+
+-- what a checkpoint is for a job
+abbrev pub judged : Job → List ℕ → Checkpoint → definition.Slot
+judged job digest checkpoint = judged_digest job checkpoint (bytes_eq checkpoint.digest digest)
+
+-- the ids rise, and each outcome fits the job
+pub record AreFit (job : Job) (outcomes : List Outcome) : Type 0 where
+  pub few : length outcomes ≤ 100000
+  pub rising : AreRising (map (λ o. o.id) outcomes)
+  pub fit : All (λ o. IsTrue (fits job o)) outcomes
+
+-- the outcomes of a slot of the job could be the job's
+abbrev pub HasFitOutcomes : Job → Slot → Type 0
+HasFitOutcomes job slot.Absent = Unit {0}
+HasFitOutcomes job (slot.Broken fault) = Unit {0}
+HasFitOutcomes job (slot.Other found generation) = Unit {0}
+HasFitOutcomes job (slot.Ours checkpoint) = AreFit job checkpoint.outcomes.items

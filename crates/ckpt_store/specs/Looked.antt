@@ -1,0 +1,40 @@
+-- What a look at the slots says.
+use Rattle.std.specs.Prelude.{◌≡◌, ℕ, List, Result, Ok, Err}
+use Rattle.audit_io.specs.Faults.{Counts, Rose}
+use Rattle.audit_io.specs.Slots.{Pair}
+use Rattle.audit_io.specs.declared.keeper.LoadError.{LoadError}
+use Rattle.audit_io.specs.declared.keeper.LoadError.TheVariants as load
+use Rattle.audit_model.specs.declared.fault.CkptFault.TheVariants.{TooLong}
+use Rattle.audit_model.specs.Job.{Job}
+use Rattle.checkpoint_definitions.specs.Slots.{slot_of}
+use Rattle.ckpt_store.specs.declared.look.LookFault.{LookFault}
+use Rattle.ckpt_store.specs.declared.look.LookFault.TheVariants as look
+use Rattle.ckpt_store.specs.declared.slots.Slot.{Slot}
+use Rattle.ckpt_store.specs.declared.slots.Slot.TheVariants as slot
+use Rattle.ckpt_store.specs.declared.slots.Slots.{Slots}
+use Rattle.ckpt_store.specs.View.{slot_view}
+
+-- each slot is what the stored one is for the job
+pub record AreSlots (job : Job) (digest : List ℕ) (p : Pair) (slots : Slots) : Type 0 where
+  pub zero : slot_view slots.zero ≡ slot_of job digest p.zero_slot
+  pub one : slot_view slots.one ≡ slot_of job digest p.one_slot
+
+-- what a fault of a look says of the count of loads that failed
+abbrev pub FaultCause : ℕ → ℕ → LookFault → Type 0
+FaultCause before now look.Failed = Rose before now
+FaultCause before now look.Memory = now ≡ before
+
+abbrev pub LookCause : {T : Type 0} → ℕ → ℕ → Result T LookFault → Type 0
+LookCause before now (Ok slots) = now ≡ before
+LookCause before now (Err fault) = FaultCause before now fault
+
+-- the look failed only where the count rose, and any other answer leaves the count
+pub record HasLookCause {T : Type 0} (before now : ℕ) (result : Result T LookFault) : Type 0 where
+  pub counts : Counts before now
+  pub cause : LookCause before now result
+
+-- what a slot is that was not loaded
+abbrev pub unloaded : LoadError → Result Slot LookFault
+unloaded load.Failed = Err look.Failed
+unloaded (load.Long limit) = Ok (slot.Broken (TooLong limit))
+unloaded load.Memory = Err look.Memory

@@ -1,0 +1,60 @@
+-- What the slots that were looked at are, in the words of the definitions, and what is taken from them.
+use Rattle.std.specs.Prelude.{ℕ, zero, suc, Bool, true, false, ◌&&◌, cond, List, [], Option, Some, None, Result, Ok, Err}
+use Rattle.audit_model.specs.declared.outcome.Outcome.{Outcome}
+use Rattle.ckpt_format.specs.declared.decode.Checkpoint.{Checkpoint}
+use Rattle.ckpt_store.specs.declared.slots.Slot.{Slot}
+use Rattle.ckpt_store.specs.declared.slots.Slot.TheVariants as slot
+use Rattle.ckpt_store.specs.declared.slots.Slots.{Slots}
+use Rattle.ckpt_store.specs.declared.slots.StoreFault.{StoreFault}
+use Rattle.ckpt_store.specs.declared.slots.StoreFault.TheVariants.{Damaged, OtherJob}
+use Rattle.checkpoint_definitions.specs.Slots as definition
+
+-- what a slot holds
+abbrev pub slot_view : Slot → definition.Slot
+slot_view slot.Absent = definition.absent
+slot_view (slot.Broken fault) = definition.broken fault
+slot_view (slot.Other found generation) = definition.other found generation
+slot_view (slot.Ours checkpoint) = definition.ours checkpoint.generation checkpoint.outcomes.items
+
+abbrev pub newest_seen : Slots → Option ℕ
+newest_seen slots = definition.newest (slot_view slots.zero) (slot_view slots.one)
+
+abbrev pub place_seen : Slots → ℕ × ℕ
+place_seen slots = definition.place (slot_view slots.zero) (slot_view slots.one)
+
+-- the outcomes with which a run that resumes starts, where it may start
+abbrev pub opening_seen : Slots → Option (List Outcome)
+opening_seen slots = definition.opening true (slot_view slots.zero) (slot_view slots.one)
+
+abbrev pub outcomes_held : Option Checkpoint → List Outcome
+outcomes_held None = []
+outcomes_held (Some checkpoint) = checkpoint.outcomes.items
+
+abbrev pub is_absent : Slot → Bool
+is_absent slot.Absent = true
+is_absent (slot.Broken fault) = false
+is_absent (slot.Other found generation) = false
+is_absent (slot.Ours checkpoint) = false
+
+-- what is taken from the newest slot
+abbrev pub opened : Slot → List ℕ → Result (Option Checkpoint) StoreFault
+opened slot.Absent wanted = Ok None
+opened (slot.Broken fault) wanted = Ok None
+opened (slot.Other found generation) wanted = Err (OtherJob found wanted)
+opened (slot.Ours checkpoint) wanted = Ok (Some checkpoint)
+
+-- what is taken from slots of which none is intact
+abbrev pub without_intact : Slots → Result (Option Checkpoint) StoreFault
+without_intact slots = cond (is_absent slots.zero && is_absent slots.one) (Ok None) (Err (Damaged slots))
+
+abbrev pub numbered : Slots → ℕ → Slot
+numbered slots zero = slots.zero
+numbered slots (suc n) = slots.one
+
+abbrev pub answer_at : Slots → List ℕ → Option ℕ → Result (Option Checkpoint) StoreFault
+answer_at slots wanted (Some n) = opened (numbered slots n) wanted
+answer_at slots wanted None = without_intact slots
+
+-- what is taken from the slots: what the newest one holds, nothing where both are absent, and damaged where none is intact
+abbrev pub newest_answer : Slots → List ℕ → Result (Option Checkpoint) StoreFault
+newest_answer slots wanted = answer_at slots wanted (newest_seen slots)

@@ -1,0 +1,99 @@
+//! Whether outcomes could be those of a job.
+
+ghost use Rattle.std.specs.Prelude.{◌≡◌, ◌+◌, ◌≤◌, ◌&&◌, ◌||◌, not, nat_lt, nat_le, pos, int_le, drop, length};
+ghost use Rattle.std.specs.List.{list_all};
+ghost use Rattle.std.specs.Ordering.{int_eq};
+ghost use Rattle.audit_model.specs.Below.{all_below};
+ghost use Rattle.audit_model.specs.First.{first_below};
+ghost use Rattle.audit_model.specs.Run.{fits, steps_of, total};
+ghost use Rattle.audit_model.specs.Trajectory.{value_at};
+ghost use Rattle.ckpt_store.specs.Fitting.{is_unfit};
+
+use audit_model::outcome::Outcome;
+use plan_core::job::Job;
+
+/// The least place of an outcome that does not fit the job.
+pub(crate) fn first_unfit(job: &Job, outcomes: &[Outcome]) -> Option<u32>
+    requires { length outcomes.now ≤ 100000 }
+    ensures { result ≡ first_below (length outcomes.now) (is_unfit job.now outcomes.now) }
+{
+    for (place, outcome) in outcomes.iter().enumerate() {
+        if !fits(job, outcome) {
+            return Some(place as u32);
+        }
+    }
+    None
+}
+
+/// Whether the outcome could be one of the job's.
+fn fits(job: &Job, outcome: &Outcome) -> bool
+    ensures { result ≡ fits job.now outcome.now }
+{
+    is_within(job, outcome) && ends_in_zeros(job, outcome) && counts_visits(job, outcome)
+}
+
+/// Whether the id is one of the job's, with no more moves than its trajectory has steps.
+fn is_within(job: &Job, outcome: &Outcome) -> bool
+    ensures { result ≡ (nat_lt outcome.now.id (total job.now)
+        && nat_le outcome.now.moved (steps_of (nat_lt outcome.now.id job.now.setting.walks) job.now)) }
+{
+    let steps = steps_of(job, outcome.id < job.setting().walks);
+    outcome.id < job.total() && outcome.moved <= u64::from(steps)
+}
+
+/// How many steps a walk has, or another trajectory.
+fn steps_of(job: &Job, is_walk: bool) -> u32
+    ensures { result ≡ steps_of is_walk job.now }
+{
+    if is_walk {
+        job.setting().steps
+    } else {
+        job.setting().hub_steps
+    }
+}
+
+/// Whether the values past the asks are 0.
+fn ends_in_zeros(job: &Job, outcome: &Outcome) -> bool
+    ensures { result ≡ list_all (λ v. int_eq v (pos 0)) (drop (length job.now.setting.asks) outcome.now.values) }
+{
+    let asks = asks_of(job);
+    are_zeros(&outcome.values[asks..])
+}
+
+/// How many asks there are.
+fn asks_of(job: &Job) -> usize
+    ensures asks { result ≡ length job.now.setting.asks }
+    ensures few { result ≤ 4 }
+{
+    let _units = job.units();
+    job.setting().asks.len()
+}
+
+fn are_zeros(values: &[i64]) -> bool
+    ensures { result ≡ list_all (λ v. int_eq v (pos 0)) values.now }
+{
+    values.iter().all(|value| *value == 0)
+}
+
+/// Whether each value of a walk is a number of visits.
+fn counts_visits(job: &Job, outcome: &Outcome) -> bool
+    ensures { result ≡ (not (nat_lt outcome.now.id job.now.setting.walks) || all_below (length job.now.setting.asks)
+        (λ k. int_le (pos 1) (value_at outcome.now k) && int_le (value_at outcome.now k) (pos (job.now.setting.steps + 1)))) }
+{
+    let asks = asks_of(job);
+    let setting = job.setting();
+    outcome.id >= setting.walks || are_visits(&outcome.values[..asks], setting.steps)
+}
+
+/// Whether each value is from 1 to the number of visits.
+fn are_visits(values: &[i64], steps: u32) -> bool
+    ensures { result ≡ list_all (λ v. int_le (pos 1) v && int_le v (pos (steps + 1))) values.now }
+{
+    values.iter().all(|value| is_visit(*value, steps))
+}
+
+fn is_visit(value: i64, steps: u32) -> bool
+    ensures { result ≡ (int_le (pos 1) value && int_le value (pos (steps + 1))) }
+{
+    1 <= value && value <= i64::from(steps) + 1
+}

@@ -1,0 +1,71 @@
+//! What the bytes of a slot are for a job.
+
+ghost use Rattle.std.specs.Prelude.{◌≡◌, ◌≤◌, Some, IfOk, OnOk, length, map};
+ghost use Rattle.audit_model.specs.declared.fault.CkptFault.TheVariants as variant;
+ghost use Rattle.checkpoint_definitions.specs.Checkpoint.{AreRising};
+ghost use Rattle.checkpoint_definitions.specs.Slots.{checkpoint_limit, slot_of};
+ghost use Rattle.ckpt_store.specs.Fitting.{HasFitOutcomes, judged};
+ghost use Rattle.ckpt_store.specs.View.{slot_view};
+
+use crate::fitting::first_unfit;
+use crate::slots::Slot;
+use audit_model::fault::CkptFault;
+use audit_model::memory::Memory;
+use ckpt_format::decode::{Checkpoint, decode};
+use ckpt_format::laws::checkpoints_are_read;
+use plan_core::job::Job;
+use std::alloc::Global;
+
+/// What the bytes of a slot are for the job with this digest.
+///
+/// # Errors
+///
+/// There was no memory for the outcomes of a checkpoint.
+pub fn judge_bytes(
+    alloc: Global,
+    job: &Job,
+    digest: &[u8; 32],
+    bytes: &[u8],
+) -> Result<Slot, Memory>
+    requires { length bytes.now ≤ checkpoint_limit }
+    ensures slot { IfOk result (λ s. slot_view s ≡ slot_of job.now digest.now (Some bytes.now)) }
+    ensures sound { IfOk result (λ s. HasFitOutcomes job.now s) }
+{
+    match decode(alloc, bytes) {
+        Ok(checkpoint) => {
+            checkpoints_are_read();
+            Ok(judge(job, digest, checkpoint))
+        }
+        Err(fault) => broken(fault),
+    }
+}
+
+/// The slot of a fault, which may be want of memory.
+fn broken(fault: CkptFault) -> Result<Slot, Memory>
+    ensures slot { IfOk result (λ s. s ≡ Slot.Broken fault) }
+    ensures known { OnOk result (fault ≡ variant.Memory → ⊥) }
+{
+    match fault {
+        CkptFault::Memory => Err(Memory),
+        fault => Ok(Slot::Broken(fault)),
+    }
+}
+
+/// What a checkpoint is for the job with this digest.
+fn judge(job: &Job, digest: &[u8; 32], checkpoint: Checkpoint) -> Slot
+    requires few { length checkpoint.outcomes.items ≤ 100000 }
+    requires rising { AreRising (map (λ o. o.id) checkpoint.outcomes.items) }
+    ensures slot { slot_view result ≡ judged job.now digest.now checkpoint }
+    ensures sound { HasFitOutcomes job.now result }
+{
+    if checkpoint.digest != *digest {
+        return Slot::Other {
+            found: checkpoint.digest,
+            generation: checkpoint.generation,
+        };
+    }
+    match first_unfit(job, checkpoint.outcomes.as_slice()) {
+        Some(place) => Slot::Broken(CkptFault::Unfit(place)),
+        None => Slot::Ours(checkpoint),
+    }
+}

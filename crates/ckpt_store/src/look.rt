@@ -1,0 +1,107 @@
+//! Looking at both slots of a keeper.
+
+ghost use Rattle.std.specs.Prelude.{◌≡◌, ◌<◌, ◌≤◌, IfErr, IfOk, length};
+ghost use Rattle.audit_io.specs.Slots.{IfTold, stored, stored_if};
+ghost use Rattle.checkpoint_definitions.specs.Slots.{checkpoint_limit, slot_of};
+ghost use Rattle.ckpt_store.specs.Fitting.{HasFitOutcomes};
+ghost use Rattle.ckpt_store.specs.Looked.{AreSlots, HasLookCause, unloaded};
+ghost use Rattle.ckpt_store.specs.View.{slot_view};
+
+use crate::judge::judge_bytes;
+use crate::slots::{Slot, Slots};
+use audit_io::keeper::{Keeper, LoadError};
+use audit_model::buffers::Bytes;
+use audit_model::fault::CkptFault;
+use plan_core::job::Job;
+use std::alloc::Global;
+
+/// The most bytes of a checkpoint.
+const LIMIT: u64 = 4_400_084;
+
+/// Why a slot was not looked at.
+#[derive(Clone, Copy, Debug, PartialEq, Eq)]
+pub enum LookFault {
+    /// The keeper failed.
+    Failed,
+    /// There was no memory for a slot's bytes or its outcomes.
+    Memory,
+}
+
+/// What both slots are for the job with this digest: slot 0 is looked at first. No slot is changed.
+///
+/// # Errors
+///
+/// - `Failed`: a load of the keeper failed.
+/// - `Memory`: there was no memory for a slot's bytes or for the outcomes of its checkpoint.
+pub fn look<C: Keeper>(
+    alloc: Global,
+    keeper: &mut C,
+    job: &Job,
+    digest: &[u8; 32],
+    room: &mut Bytes,
+) -> Result<Slots, LookFault>
+    ensures told { IfTold (C.slots keeper.old) (λ p. IfOk result (AreSlots job.now digest.now p)) }
+    ensures sound { IfOk result (λ s. HasFitOutcomes job.now s.zero × HasFitOutcomes job.now s.one) }
+    ensures slots { C.slots keeper.new ≡ C.slots keeper.old }
+    ensures cause { HasLookCause (C.load_faults keeper.old) (C.load_faults keeper.new) result }
+    ensures saves { C.save_faults keeper.new ≡ C.save_faults keeper.old }
+{
+    let zero = look_at(alloc, keeper, 0, job, digest, room)?;
+    let one = look_at(alloc, keeper, 1, job, digest, room)?;
+    Ok(Slots { zero, one })
+}
+
+/// What one slot is for the job with this digest.
+fn look_at<C: Keeper>(
+    alloc: Global,
+    keeper: &mut C,
+    slot: u8,
+    job: &Job,
+    digest: &[u8; 32],
+    room: &mut Bytes,
+) -> Result<Slot, LookFault>
+    requires { slot < 2 }
+    ensures told { IfTold (C.slots keeper.old) (λ p. IfOk result (λ s. slot_view s ≡ slot_of job.now digest.now (stored p slot))) }
+    ensures sound { IfOk result (λ s. HasFitOutcomes job.now s) }
+    ensures slots { C.slots keeper.new ≡ C.slots keeper.old }
+    ensures cause { HasLookCause (C.load_faults keeper.old) (C.load_faults keeper.new) result }
+    ensures saves { C.save_faults keeper.new ≡ C.save_faults keeper.old }
+{
+    match keeper.load(slot, LIMIT, room) {
+        Ok(found) => judge_loaded(alloc, job, digest, found, room.as_slice()),
+        Err(error) => unloaded(error),
+    }
+}
+
+/// What a slot that was loaded is, where its bytes were found, or that it is absent.
+fn judge_loaded(
+    alloc: Global,
+    job: &Job,
+    digest: &[u8; 32],
+    found: bool,
+    bytes: &[u8],
+) -> Result<Slot, LookFault>
+    requires { length bytes.now ≤ checkpoint_limit }
+    ensures slot { IfOk result (λ s. slot_view s ≡ slot_of job.now digest.now (stored_if found bytes.now)) }
+    ensures sound { IfOk result (λ s. HasFitOutcomes job.now s) }
+    ensures err { IfErr result (λ e. e ≡ LookFault.Memory) }
+{
+    if !found {
+        return Ok(Slot::Absent);
+    }
+    match judge_bytes(alloc, job, digest, bytes) {
+        Ok(slot) => Ok(slot),
+        Err(_) => Err(LookFault::Memory),
+    }
+}
+
+/// What a slot that was not loaded is.
+fn unloaded(error: LoadError) -> Result<Slot, LookFault>
+    ensures { result ≡ unloaded error }
+{
+    match error {
+        LoadError::Failed => Err(LookFault::Failed),
+        LoadError::Long(limit) => Ok(Slot::Broken(CkptFault::TooLong(limit))),
+        LoadError::Memory => Err(LookFault::Memory),
+    }
+}

@@ -1,0 +1,48 @@
+//! Saving a checkpoint.
+
+ghost use Rattle.std.specs.Prelude.{◌≡◌, ◌+◌, ◌-◌, ◌*◌, ◌%◌, ◌<◌, ◌≤◌, length, map, OnErr, OnOk};
+ghost use Rattle.audit_io.specs.Faults.{HasCause};
+ghost use Rattle.audit_io.specs.Slots.{HoldsBytes, KeepsOther};
+ghost use Rattle.checkpoint_definitions.specs.Checkpoint.{AreRising, checkpoint};
+
+use crate::slots::{Place, generation_after};
+use audit_io::keeper::Keeper;
+use audit_io::source::Failed;
+use audit_model::buffers::Bytes;
+use audit_model::outcome::Outcome;
+use ckpt_format::encode::encode;
+
+/// Saves the checkpoint of outcomes in the slot of a place, and moves the place on to the other slot and the next
+/// generation. It takes no memory but the keeper's.
+///
+/// # Errors
+///
+/// The keeper failed: the place is as before, and its slot may hold anything.
+pub fn save<C: Keeper>(
+    keeper: &mut C,
+    place: &mut Place,
+    digest: &[u8; 32],
+    outcomes: &[Outcome],
+    room: &mut Bytes,
+) -> Result<(), Failed>
+    requires slot { place.old.slot < 2 }
+    requires generation { place.old.generation < 3 }
+    requires few { length outcomes.now ≤ 100000 }
+    requires rising { AreRising (map (λ o. o.id) outcomes.now) }
+    requires room { 84 + 44 * length outcomes.now ≤ length room.old.items + room.old.spare }
+    ensures saved { OnOk result (HoldsBytes (C.slots keeper.new) place.old.slot (checkpoint digest.now place.old.generation outcomes.now)) }
+    ensures moved { OnOk result (place.new ≡ record { slot = 1 - place.old.slot; generation = (place.old.generation + 1) % 3 }) }
+    ensures kept { OnErr result (place.new ≡ place.old) }
+    ensures other { KeepsOther (C.slots keeper.old) (C.slots keeper.new) place.old.slot }
+    ensures cause { HasCause (C.save_faults keeper.old) (C.save_faults keeper.new) result }
+    ensures loads { C.load_faults keeper.new ≡ C.load_faults keeper.old }
+    ensures room { length room.new.items + room.new.spare ≡ length room.old.items + room.old.spare }
+{
+    encode(digest, place.generation, outcomes, room);
+    keeper.save(place.slot, room.as_slice())?;
+    *place = Place {
+        slot: 1 - place.slot,
+        generation: generation_after(place.generation),
+    };
+    Ok(())
+}

@@ -1,0 +1,157 @@
+//! What two slots are for a job.
+
+ghost use Rattle.std.specs.Prelude.{◌≡◌, ◌<◌, Some, None, MatchResult};
+ghost use Rattle.checkpoint_definitions.specs.Slots as definition;
+ghost use Rattle.ckpt_store.specs.View.{newest_answer, newest_seen, opening_seen, is_absent, opened, outcomes_held, place_seen, slot_view, without_intact};
+
+use audit_model::fault::CkptFault;
+use ckpt_format::decode::Checkpoint;
+
+/// Where a checkpoint goes: a slot, 0 or 1, and a generation, 0 to 2.
+#[derive(Clone, Copy, Debug, PartialEq, Eq)]
+pub struct Place {
+    pub slot: u8,
+    pub generation: u8,
+}
+
+/// What a slot is for a job.
+#[derive(Drop)]
+pub enum Slot {
+    /// It holds nothing.
+    Absent,
+    /// It holds no checkpoint, or one of this job with an outcome that the job cannot have.
+    Broken(CkptFault),
+    /// It holds a checkpoint of the job with another digest.
+    Other { found: [u8; 32], generation: u8 },
+    /// It holds a checkpoint of this job.
+    Ours(Checkpoint),
+}
+
+/// What both slots are for a job.
+#[derive(Drop)]
+pub struct Slots {
+    pub zero: Slot,
+    pub one: Slot,
+}
+
+/// Why no checkpoint is taken from the slots.
+#[derive(Drop)]
+pub enum StoreFault {
+    /// No slot holds a checkpoint, and one is not absent.
+    Damaged(Slots),
+    /// The newest slot holds a checkpoint of another job.
+    OtherJob { found: [u8; 32], wanted: [u8; 32] },
+}
+
+/// The generation that follows, of three in turn.
+pub(crate) fn generation_after(generation: u8) -> u8
+    ensures next { result ≡ definition.generation_after (Some generation) }
+    ensures below { result < 3 }
+{
+    ((u16::from(generation) + 1) % 3) as u8
+}
+
+impl Slot {
+    /// The generation, where the slot is intact.
+    fn generation(&self) -> Option<u8>
+        ensures { result ≡ definition.generation_of (slot_view self.now) }
+    {
+        match self {
+            Slot::Absent | Slot::Broken(_) => None,
+            Slot::Other { generation, .. } => Some(*generation),
+            Slot::Ours(checkpoint) => Some(checkpoint.generation),
+        }
+    }
+
+    fn is_absent(&self) -> bool
+        ensures { result ≡ is_absent self.now }
+    {
+        match self {
+            Slot::Absent => true,
+            Slot::Broken(_) | Slot::Other { .. } | Slot::Ours(_) => false,
+        }
+    }
+
+    /// The checkpoint of an intact slot, where it is of the wanted job.
+    fn opened(self, wanted: &[u8; 32]) -> Result<Option<Checkpoint>, StoreFault>
+        ensures { result ≡ opened self wanted.now }
+    {
+        match self {
+            Slot::Absent | Slot::Broken(_) => Ok(None),
+            Slot::Other { found, .. } => Err(StoreFault::OtherJob {
+                found,
+                wanted: *wanted,
+            }),
+            Slot::Ours(checkpoint) => Ok(Some(checkpoint)),
+        }
+    }
+}
+
+impl Slots {
+    /// The number of the newest slot: of two intact ones the second where its generation follows the first's.
+    fn newest_number(&self) -> Option<u8>
+        ensures { result ≡ newest_seen self.now }
+    {
+        match (self.zero.generation(), self.one.generation()) {
+            (None, None) => None,
+            (None, Some(_)) => Some(1),
+            (Some(_), None) => Some(0),
+            (Some(zero), Some(one)) => Some(u8::from(one == generation_after(zero))),
+        }
+    }
+
+    /// Where the next checkpoint goes: the slot that is not the newest, with the generation after the newest's.
+    pub fn place(&self) -> Place
+        ensures place { (result.slot, result.generation) ≡ place_seen self.now }
+        ensures slot { result.slot < 2 }
+        ensures generation { result.generation < 3 }
+    {
+        match self.newest_number() {
+            None => Place {
+                slot: 0,
+                generation: 0,
+            },
+            Some(0) => beside(1, &self.zero),
+            Some(_) => beside(0, &self.one),
+        }
+    }
+
+    /// The checkpoint of the newest slot. None where both slots are absent.
+    ///
+    /// # Errors
+    ///
+    /// - `Damaged`: no slot is intact, and one is not absent.
+    /// - `OtherJob`: the newest slot holds a checkpoint of another job.
+    pub fn newest(self, wanted: &[u8; 32]) -> Result<Option<Checkpoint>, StoreFault>
+        ensures answer { result ≡ newest_answer self wanted.now }
+        ensures opening { MatchResult result (λ c. opening_seen self ≡ Some (outcomes_held c)) (λ _. opening_seen self ≡ None) }
+    {
+        match self.newest_number() {
+            None => self.without_intact(),
+            Some(0) => self.zero.opened(wanted),
+            Some(_) => self.one.opened(wanted),
+        }
+    }
+
+    /// The answer where no slot is intact.
+    fn without_intact(self) -> Result<Option<Checkpoint>, StoreFault>
+        ensures { result ≡ without_intact self }
+    {
+        if self.zero.is_absent() && self.one.is_absent() {
+            Ok(None)
+        } else {
+            Err(StoreFault::Damaged(self))
+        }
+    }
+}
+
+/// The place in a slot beside an intact one.
+fn beside(slot: u8, newest: &Slot) -> Place
+    ensures place { result ≡ record { slot = slot; generation = definition.generation_after (definition.generation_of (slot_view newest.now)) } }
+    ensures generation { result.generation < 3 }
+{
+    Place {
+        slot,
+        generation: newest.generation().map_or(0, generation_after),
+    }
+}
