@@ -1,7 +1,6 @@
 -- What a run leaves, by rising id, whatever the order in which it was found.
-use Rattle.std.proofs.Common.{◌≡◌, ◌∙◌, refl, sym, ap, subst, ℕ, zero, suc, ◌<◌, ◌≤◌, Bool, true, false, cond, ◌||◌, not, List, [], ◌∷◌, ◌++◌, length, length-append, map, take, get_or, Option, Some, None, All, AllPairs, arith}
-use Rattle.std.specs.Prelude.{◌≢◌, ◌==◌, IsFalse, IsPermutation, find}
-use Rattle.std.specs.List.{list_any}
+use Rattle.std.proofs.Common.{◌≡◌, ◌∙◌, refl, sym, ap, ℕ, zero, suc, ◌<◌, Bool, true, false, cond, ◌||◌, List, [], ◌∷◌, ◌++◌, length, map, get_or, Option, Some, None, All, arith}
+use Rattle.std.specs.Prelude.{◌==◌, IsFalse, IsPermutation, find}
 use Rattle.std.proofs.lemmas.Bool.{eq-eqb, ne_eqb, false≢true}
 use Rattle.std.proofs.lemmas.List.Elements.{All-map, All-append}
 use Rattle.std.proofs.lemmas.List.Folds.{list_any-append}
@@ -11,7 +10,6 @@ use Rattle.audit_model.specs.Below.{filter_below}
 use Rattle.audit_model.specs.Graph.{has}
 use Rattle.audit_model.specs.Job.{Job}
 use Rattle.audit_model.specs.Run.{total, has_id, run_ids, kept_or, outcome_from, full}
-use Rattle.audit_model.specs.Trajectory.{outcome}
 use Rattle.draw_definitions.specs.Draw.{draw}
 use Rattle.outcome_book.specs.Booked.{AreApart, by_id}
 use Rattle.audit_run.specs.Walks.{found}

@@ -1,8 +1,11 @@
 pub mod Alone
 pub mod Causing
+pub mod Chained
 pub mod Completing
+pub mod Counting
 pub mod Crossing
 pub mod Ending
+pub mod Finished
 pub mod Following
 pub mod Found
 pub mod Gathering
@@ -11,9 +14,11 @@ pub mod Lines
 pub mod Listing
 pub mod OneThread
 pub mod Preparing
+pub mod Running
+pub mod Saved
 pub mod Sharing
+pub mod Started
 pub mod Statuses
 pub mod Streams
-pub mod Unsaved
 pub mod Visited
 pub mod Words

@@ -1,6 +1,5 @@
 -- The numbers below a bound that pass a test, and the first of them.
-use Rattle.std.proofs.Common.{◌≡◌, refl, sym, subst, ℕ, zero, suc, ◌<◌, ◌≤◌, min, Bool, true, false, cond, not, List, [], ◌∷◌, ◌++◌, length, take, get_or, All, AllPairs, arith}
-use Rattle.std.specs.Prelude.{◌≢◌}
+use Rattle.std.proofs.Common.{◌≡◌, refl, sym, subst, ℕ, zero, suc, ◌<◌, Bool, true, false, cond, not, List, [], ◌∷◌, ◌++◌, length, take, get_or, All, AllPairs, arith}
 use Rattle.std.proofs.lemmas.Bool.{not-true}
 use Rattle.std.proofs.lemmas.List.{append-nil, get_or-take, length-take}
 use Rattle.std.proofs.lemmas.List.Elements.{All-append}
@@ -12,7 +11,7 @@ use Rattle.audit_model.specs.Run.{total, has_id, run_ids}
 use Rattle.audit_run.specs.Walks.{IsTodo}
 
 -- each is below the bound and passes the test
-each_passes : (n : ℕ) (test : ℕ → Bool) → All (λ id. (id < n) × (test id ≡ true)) (filter_below n test)
+pub each_passes : (n : ℕ) (test : ℕ → Bool) → All (λ id. (id < n) × (test id ≡ true)) (filter_below n test)
 each_passes zero test = λ k d inside. absurd (omega arith)
 each_passes (suc n) test = All-append (λ id. (id < suc n) × (test id ≡ true)) (filter_below n test) (cond (test n) (n ∷ []) [])
     (λ k d inside. let was = each_passes n test k d inside in let lower = was.0 in (omega arith, was.1))
@@ -23,7 +22,7 @@ each_passes (suc n) test = All-append (λ id. (id < suc n) × (test id ≡ true)
     last true e (suc k) d inside = absurd (omega arith)
     last false e k d inside = absurd (omega arith)
 
-each_rises : (n : ℕ) (test : ℕ → Bool) → AllPairs (λ a b. a < b) (filter_below n test)
+pub each_rises : (n : ℕ) (test : ℕ → Bool) → AllPairs (λ a b. a < b) (filter_below n test)
 each_rises zero test = λ i j d before inside. absurd (omega arith)
 each_rises (suc n) test = last (test n) (each_rises n test)
   where

@@ -1,5 +1,6 @@
 -- What each status says, from the reason of an ending.
 use Rattle.std.proofs.Common.{◌≡◌, ◌⊎◌, inl, inr, ◌≢◌, ℕ, ◌<◌, Bool, true, false, IsTrue, List, Option, Some, None, Result, Ok, Err, IsErr, refl, sym, subst, arith}
+use Rattle.std.specs.Prelude.{⊤}
 use Rattle.audit_model.specs.declared.fault.WordFault.{WordFault}
 use Rattle.audit_model.specs.declared.setting.Setting.{Setting}
 use Rattle.audit_model.specs.declared.outcome.Outcome.{Outcome}
@@ -13,7 +14,7 @@ use Rattle.audit_run.specs.Accepted.{IsAccepted, IsRefused, judged}
 use Rattle.audit_run.specs.Causes.{IsTold, IsTheJob, LeavesWork, LacksOpening, HasCauses}
 use Rattle.audit_run.specs.Ended.{status_of}
 use Rattle.audit_run.specs.Ends.{Cause, EndsFor, LeavesUntouched, marks_of, IsDone, IsReadFault, IsWriteFault, IsLoadFault, IsSaveFault, IsStopped, IsPrepared, IsOpening, IsSlotsFault, WritesReport, WritesText, WritesOrStops, told_opening, leaves_work, is_walking}
-use Rattle.audit_run.specs.World.{Stream, World}
+use Rattle.audit_run.specs.World.{IfKnown, Stream, World}
 use Rattle.audit_run.proofs.Causing.{same_job, not_refused, refused_at, accepted_at, known_at}
 
 pub err_is_err : {A B : Type 0} (r : Result A B) (f : B) → r ≡ Err f → IsErr r
@@ -126,6 +127,18 @@ module _ (words : List (List ℕ)) (before after : World) where
   seven_only (Some (stopped done all)) c s = (done, (all, c))
   seven_only r c s = absurd (omega arith)
 
+  slots_fault : (told : Job → Pair → Type 0) → IsSlotsFault words before after told → IsSlotsFault words before after (λ job p. ⊤)
+  slots_fault told c = record { job = c.job; prepared = c.prepared; resuming = c.resuming; undefined = c.undefined; told_so = known_any before.keeper.slots }
+    where
+      known_any : (o : Option Pair) → IfKnown o (λ p. ⊤)
+      known_any None = tt
+      known_any (Some p) = tt
+
+  eight_only : (r : Option Ending) → Cause words before after r → status_of r ≡ 8 → IsSlotsFault words before after (λ job p. ⊤)
+  eight_only (Some (damaged a b)) c s = slots_fault _ c
+  eight_only (Some (other_job a b)) c s = slots_fault _ c
+  eight_only r c s = absurd (omega arith)
+
   -- the call's job is the one that is told
   pub job_is : (job other : Job) → IsTheJob words before job → IsPrepared words before.source after.source other → other ≡ job
   job_is job other t p = same_job words before job other t.bytes t.told t.accepted p.accepted
@@ -224,6 +237,7 @@ module _ (words : List (List ℕ)) (before after : World) where
     zero_only = zero_only r c;
     seven_only = seven_only r c;
     seven = seven r c;
+    eight_only = eight_only r c;
     eight = eight r c;
   }
 

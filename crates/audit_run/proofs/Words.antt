@@ -1,5 +1,5 @@
 -- What accepted words say of their setting.
-use Rattle.std.proofs.Common.{◌≡◌, ◌⊎◌, inl, inr, ℕ, zero, suc, ◌+◌, ◌<◌, ◌≤◌, ◌&&◌, ◌||◌, not, Bool, true, false, cond, List, [], ◌∷◌, length, Option, Some, None, Ok, refl, sym, subst, ap, ◌∙◌, arith}
+use Rattle.std.proofs.Common.{◌≡◌, inl, inr, ℕ, zero, suc, ◌+◌, ◌<◌, ◌≤◌, ◌&&◌, ◌||◌, not, Bool, true, false, cond, List, [], ◌∷◌, length, Option, Some, None, Ok, refl, sym, subst, ap, ◌∙◌, arith}
 use Rattle.std.specs.Prelude.{bytes_eq, codes, find, nat_le, slice_get, unwrap_or, option_map, option_and_then}
 use Rattle.std.specs.List.{slice_index_or}
 use Rattle.std.specs.Option.{option_or}
@@ -14,7 +14,7 @@ use Rattle.audit_model.specs.declared.setting.Command.TheVariants.{Check, Run, M
 use Rattle.audit_model.specs.declared.setting.Setting.{Setting}
 use Rattle.audit_model.specs.First.{first_some_below}
 use Rattle.text_definitions.specs.Words.{Pair, pairs, pair_at, name_of, known_fault, pair_fault, given, text_of, number_of, number_at, is_number, covers_walks, is_good, names_judged, name_text, default_of, command_of, of_command, fault_of, setting_for, setting_or, setting_of}
-use Rattle.audit_run.specs.Ends.{is_reading, is_walking}
+use Rattle.audit_run.specs.Ends.{is_walking}
 
 -- ---- the command
 
@@ -206,3 +206,6 @@ sized_by Make words setting faultless same make =
 -- the size of a grid that accepted words ask for is from 1 to 30
 pub accepted_size : (words : List (List ℕ)) (setting : Setting) → setting_of words ≡ Ok setting → setting.command ≡ Make → (1 ≤ setting.size) × (setting.size ≤ 30)
 accepted_size words setting e make = let s = accepted_words words setting e in sized_by s.command s.words setting s.faultless s.same make
+
+pub accepted_words_cover : (words : List (List ℕ)) (setting : Setting) → setting_of words ≡ Ok setting → is_walking setting.command ≡ true → setting.save_every ≡ 0 → setting.walks + setting.ends ≤ setting.budget
+accepted_words_cover words setting e walking none = (accepted_words_save_nothing words setting e walking).enough

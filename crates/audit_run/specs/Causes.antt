@@ -6,7 +6,7 @@ use Rattle.audit_model.specs.Job.{Job}
 use Rattle.text_definitions.specs.Words.{setting_of}
 use Rattle.audit_io.specs.Faults.{Rose}
 use Rattle.audit_run.specs.Accepted.{judged, input_of}
-use Rattle.audit_run.specs.Ends.{is_walking, told_opening, leaves_work, IsDone, IsReadFault, IsWriteFault, IsLoadFault, IsSaveFault, IsStopped}
+use Rattle.audit_run.specs.Ends.{is_walking, told_opening, leaves_work, IsDone, IsReadFault, IsWriteFault, IsLoadFault, IsSaveFault, IsSlotsFault, IsStopped}
 use Rattle.audit_run.specs.World.{World}
 
 -- the words are accepted, and the bytes are told and are this job's
@@ -75,4 +75,5 @@ pub record HasCauses (words : List (List ℕ)) (before after : World) (status : 
   pub zero_only : status ≡ 0 → IsDone words before after
   pub seven_only : status ≡ 7 → (done : ℕ) × ((all : ℕ) × IsStopped words before after done all)
   pub seven : LeavesWork words before → status ≢ 3 → status ≢ 4 → status ≢ 6 → status ≢ 9 → status ≡ 7
+  pub eight_only : status ≡ 8 → IsSlotsFault words before after (λ job p. ⊤)
   pub eight : LacksOpening words before → status ≢ 3 → status ≢ 4 → status ≢ 6 → status ≡ 8

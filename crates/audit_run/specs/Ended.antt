@@ -10,6 +10,7 @@ use Rattle.audit_run.specs.declared.ended.Ended.{Ended}
 use Rattle.audit_run.specs.declared.ended.Ended.TheVariants as ended
 use Rattle.note_definitions.specs.Note.{Ending, bad_words, too_many_bytes, bad_graph, bad_plan, no_memory, read_fault, write_fault, load_fault, stopped, damaged, other_job, save_fault, note}
 use Rattle.audit_model.specs.declared.setting.Columns.{Columns}
+use Rattle.ckpt_store.specs.View.{slot_view}
 use Rattle.audit_run.specs.Accepted.{no_columns}
 
 -- a refusal of a lower layer, of which want of memory is merged with every other
@@ -35,6 +36,11 @@ ending_of (ended.BadPlan f) = Some (bad_plan f)
 ending_of ended.NoMemory = Some no_memory
 ending_of ended.ReadFault = Some read_fault
 ending_of ended.WriteFault = Some write_fault
+ending_of ended.LoadFault = Some load_fault
+ending_of (ended.Stopped done total) = Some (stopped done total)
+ending_of (ended.Damaged slots) = Some (damaged (slot_view slots.zero) (slot_view slots.one))
+ending_of (ended.OtherJob found wanted) = Some (other_job found wanted)
+ending_of ended.SaveFault = Some save_fault
 
 -- the status of a call that ended so
 abbrev pub status_of : Option Ending → ℕ
@@ -67,3 +73,8 @@ columns_kept (ended.BadPlan f) = no_columns
 columns_kept ended.NoMemory = no_columns
 columns_kept ended.ReadFault = no_columns
 columns_kept ended.WriteFault = no_columns
+columns_kept ended.LoadFault = no_columns
+columns_kept (ended.Stopped done total) = no_columns
+columns_kept (ended.Damaged slots) = no_columns
+columns_kept (ended.OtherJob found wanted) = no_columns
+columns_kept ended.SaveFault = no_columns

@@ -1,5 +1,5 @@
 -- How a call may end: for each reason, what caused it, what it wrote, and what it left untouched.
-use Rattle.std.specs.Prelude.{◌≡◌, ◌⊎◌, ℕ, zero, suc, ◌+◌, ◌-◌, ◌*◌, ◌/◌, ◌%◌, ◌<◌, ◌≤◌, ◌==◌, ◌&&◌, ◌||◌, Bool, true, false, not, cond, IsTrue, IsFalse, nat_lt, List, [], length, map, take, ⊤, Option, Some, None, option_map, Result, Ok, Err}
+use Rattle.std.specs.Prelude.{◌≡◌, ◌⊎◌, ℕ, suc, ◌+◌, ◌<◌, ◌≤◌, ◌==◌, ◌&&◌, ◌||◌, Bool, true, false, not, IsTrue, IsFalse, nat_lt, List, [], length, map, take, ⊤, Option, Some, None, option_map, Result, Ok, Err}
 use Rattle.std.specs.List.{list_all, All, Contains}
 use Rattle.std.specs.Io.KnownBytes.{Appends, IsAtEnd}
 use Rattle.audit_model.specs.declared.fault.WordFault.{WordFault}
@@ -12,16 +12,16 @@ use Rattle.audit_model.specs.Below.{filter_below}
 use Rattle.audit_model.specs.Job.{Job}
 use Rattle.audit_model.specs.JobOf.{IsJob}
 use Rattle.audit_model.specs.Apart.{AllApart}
-use Rattle.audit_model.specs.Run.{total, has_id, run_ids, full, fits}
+use Rattle.audit_model.specs.Run.{total, has_id, full, fits}
 use Rattle.audit_model.specs.Trajectory.{outcome}
 use Rattle.checkpoint_definitions.specs.Checkpoint.{checkpoint, job_digest}
 use Rattle.draw_definitions.specs.Draw.{draw}
 use Rattle.note_definitions.specs.Note.{Ending, bad_words, too_many_bytes, bad_graph, bad_plan, no_memory, read_fault, write_fault, load_fault, stopped, damaged, other_job, save_fault, note}
 use Rattle.text_definitions.specs.Report.{report, check_text}
-use Rattle.checkpoint_definitions.specs.Slots.{Slot, other, slot_of, opening, newest, place, slot_at}
+use Rattle.checkpoint_definitions.specs.Slots.{Slot, other, ours, slot_of, opening, newest, place, slot_at}
 use Rattle.text_definitions.specs.Words.{setting_of}
 use Rattle.audit_io.specs.Faults.{Rose}
-use Rattle.audit_io.specs.Slots.{Pair, stored}
+use Rattle.audit_io.specs.Slots.{Pair, stored, other_stored}
 use Rattle.audit_run.specs.Accepted.{IsAccepted, IsRefused, columns_of, most_bytes}
 use Rattle.audit_run.specs.Ended.{status_of}
 use Rattle.audit_run.specs.World.{Stream, World, IfKnown}
@@ -151,29 +151,18 @@ KeepsASlot job outcomes p q =
     (n : ℕ) → newest (slot_of job (job_digest job) p.zero_slot) (slot_of job (job_digest job) p.one_slot) ≡ Some n
     → (m : ℕ) × ((stored q m ≡ stored p n) ⊎ ((count : ℕ) × ((g : ℕ) × IsPartly job outcomes count g (stored q m))))
 
--- how many saves are made in a run of so many ids: one for each full group, and a last one
-abbrev pub saves_of : ℕ → ℕ → ℕ
-saves_of ids every = ids / every + cond {A = ℕ} ((ids == 0) || not (ids % every == 0)) 1 0
+-- where a run saves: the place that the slots at its start give
+abbrev pub place_of : Job → Pair → ℕ × ℕ
+place_of job p = place (slot_of job (job_digest job) p.zero_slot) (slot_of job (job_digest job) p.one_slot)
 
--- a slot and a generation, moved so often to the other slot and the next generation
-abbrev pub moved_place : ℕ → ℕ × ℕ → ℕ × ℕ
-moved_place zero at = at
-moved_place (suc n) at = moved_place n (1 - at.0, (at.1 + 1) % 3)
+-- the slot beside that place is as it was
+abbrev pub KeepsBeside : Job → Pair → Pair → Type 0
+KeepsBeside job p q = other_stored q (place_of job p).0 ≡ other_stored p (place_of job p).0
 
--- the place of the last save
-abbrev pub last_place : Job → List Outcome → Pair → ℕ × ℕ
-last_place job outcomes p =
-    moved_place (saves_of (length (run_ids job outcomes job.setting.budget)) job.setting.save_every - 1)
-    (place (slot_of job (job_digest job) p.zero_slot) (slot_of job (job_digest job) p.one_slot))
-
--- where no save failed: the last save is at its place and whole, and the other slot is as it was or is the save before
-pub record SavesInTurn (job : Job) (outcomes : List Outcome) (p q : Pair) : Type 0 where
-  pub last : stored q (last_place job outcomes p).0 ≡ Some (checkpoint (job_digest job) (last_place job outcomes p).1 (full_of job outcomes))
-  pub only : saves_of (length (run_ids job outcomes job.setting.budget)) job.setting.save_every ≡ 1
-      → stored q (1 - (last_place job outcomes p).0) ≡ stored p (1 - (last_place job outcomes p).0)
-  pub before_last : 1 < saves_of (length (run_ids job outcomes job.setting.budget)) job.setting.save_every
-      → IsPartly job outcomes ((saves_of (length (run_ids job outcomes job.setting.budget)) job.setting.save_every - 1) * job.setting.save_every)
-      (((last_place job outcomes p).1 + 2) % 3) (stored q (1 - (last_place job outcomes p).0))
+-- the slot at that place is the checkpoint of these outcomes, with the generation of the place, and is read as that
+pub record SavesAt (job : Job) (outcomes : List Outcome) (p q : Pair) : Type 0 where
+  pub bytes_are : stored q (place_of job p).0 ≡ Some (checkpoint (job_digest job) (place_of job p).1 outcomes)
+  pub slot_is : slot_of job (job_digest job) (stored q (place_of job p).0) ≡ ours (place_of job p).1 outcomes
 
 -- what is known of both, where both are told
 abbrev pub IfBothKnown : {A : Type 0} → Option A → Option A → (A → A → Type 0) → Type 0
@@ -181,16 +170,23 @@ IfBothKnown None y P = ⊤
 IfBothKnown (Some x) None P = ⊥
 IfBothKnown (Some x) (Some y) P = P x y
 
-pub record SavesAll (job : Job) (before after : World) : Type 0 where
+-- the slots after a run that saves: where the save was made, the checkpoint of the opening and of all that was walked is at its place and
+-- in the newest slot; and whether it was made or failed, nothing else was written
+pub record SavesAll (made : Type 0) (job : Job) (before after : World) : Type 0 where
   pub outcomes : List Outcome
   pub opened : IsOpening job before.keeper.slots outcomes
   pub kept : IfBothKnown before.keeper.slots after.keeper.slots (KeepsASlot job outcomes)
-  pub newest_is : after.keeper.save_faults ≡ before.keeper.save_faults → IfKnown after.keeper.slots (IsNewest job (full_of job outcomes))
-  pub in_turn : after.keeper.save_faults ≡ before.keeper.save_faults → IfBothKnown before.keeper.slots after.keeper.slots (SavesInTurn job outcomes)
+  pub beside : IfBothKnown before.keeper.slots after.keeper.slots (KeepsBeside job)
+  pub placed : made → IfBothKnown before.keeper.slots after.keeper.slots (SavesAt job (full_of job outcomes))
+  pub newest_is : made → IfBothKnown before.keeper.slots after.keeper.slots (λ p q. IsNewest job (full_of job outcomes) q)
 
-abbrev pub SavesWhere : Bool → Job → World → World → Type 0
-SavesWhere false job before after = after.keeper.slots ≡ before.keeper.slots
-SavesWhere true job before after = SavesAll job before after
+abbrev pub SavesWhere : Bool → Type 0 → Job → World → World → Type 0
+SavesWhere false made job before after = after.keeper.slots ≡ before.keeper.slots
+SavesWhere true made job before after = SavesAll made job before after
+
+-- no save failed
+abbrev pub NoSaveFailed : World → World → Type 0
+NoSaveFailed before after = Rose before.keeper.save_faults after.keeper.save_faults → ⊥
 
 -- ---- each reason
 
@@ -208,7 +204,7 @@ pub record IsDone (words : List (List ℕ)) (before after : World) : Type 0 wher
   pub job : Job
   pub prepared : IsPrepared words before.source after.source job
   pub written : WritesText job.setting.command true job before after
-  pub saved : SavesWhere (saves job.setting) job before after
+  pub saved : SavesWhere (saves job.setting) ⊤ job before after
 
 pub record IsReadFault (words : List (List ℕ)) (before after : World) : Type 0 where
   pub setting : Setting
@@ -220,7 +216,7 @@ pub record IsWriteFault (words : List (List ℕ)) (before after : World) : Type 
   pub job : Job
   pub prepared : IsPrepared words before.source after.source job
   pub written : WritesText job.setting.command false job before after
-  pub saved : SavesWhere (saves job.setting) job before after
+  pub saved : SavesWhere (saves job.setting) (NoSaveFailed before after) job before after
   pub rose : Rose before.out.faults after.out.faults
 
 pub record IsLoadFault (words : List (List ℕ)) (before after : World) : Type 0 where
@@ -236,7 +232,7 @@ pub record IsStopped (words : List (List ℕ)) (before after : World) (done all 
   pub stopped : StopsEarly job before after
   pub done_is : done ≡ length stopped.outcomes + job.setting.budget
   pub all_is : all ≡ total job
-  pub saved : SavesAll job before after
+  pub saved : SavesAll ⊤ job before after
 
 -- resuming was asked, and the slots do not say how a run may start
 pub record IsSlotsFault (words : List (List ℕ)) (before after : World) (told : Job → Pair → Type 0) : Type 0 where
@@ -274,6 +270,7 @@ pub record IsSaveFault (words : List (List ℕ)) (before after : World) : Type 0
   pub outcomes : List Outcome
   pub opened : IsOpening job before.keeper.slots outcomes
   pub kept : IfBothKnown before.keeper.slots after.keeper.slots (KeepsASlot job outcomes)
+  pub beside : IfBothKnown before.keeper.slots after.keeper.slots (KeepsBeside job)
   pub rose : Rose before.keeper.save_faults after.keeper.save_faults
 
 -- why a call ended

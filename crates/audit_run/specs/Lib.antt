@@ -1,13 +1,14 @@
 pub mod Accepted
 pub mod Causes
+pub mod Chain
 pub mod Crews
 pub mod Ended
 pub mod Ends
 pub mod Headline
 pub mod Left
+pub mod Running
 pub mod Said
 pub mod Steps
-pub mod Unsaved
 pub mod Visits
 pub mod Walks
 pub mod World

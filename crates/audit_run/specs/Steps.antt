@@ -76,6 +76,11 @@ JudgedSo setting bytes (ended.BadWords f) = ⊥
 JudgedSo setting bytes ended.TooManyBytes = ⊥
 JudgedSo setting bytes ended.ReadFault = ⊥
 JudgedSo setting bytes ended.WriteFault = ⊥
+JudgedSo setting bytes ended.LoadFault = ⊥
+JudgedSo setting bytes (ended.Stopped done total) = ⊥
+JudgedSo setting bytes (ended.Damaged slots) = ⊥
+JudgedSo setting bytes (ended.OtherJob found wanted) = ⊥
+JudgedSo setting bytes ended.SaveFault = ⊥
 
 -- the job of these bytes, with its setting and within the limits
 pub record IsJudged (setting : Setting) (bytes : List ℕ) (job : Job) : Type 0 where

@@ -3,11 +3,12 @@
 ghost use Rattle.std.specs.Prelude.{◌≡◌, IsTrue};
 ghost use Rattle.audit_model.specs.declared.setting.Command.TheVariants.{Check};
 ghost use Rattle.audit_run.specs.Causes.{HasCauses, IsComplete};
+ghost use Rattle.audit_run.specs.Chain.{StaysHonest};
 ghost use Rattle.audit_run.specs.Ends.{EndsFor, is_walking};
 ghost use Rattle.audit_run.specs.Headline.{WritesWhole};
 ghost use Rattle.audit_run.specs.Left.{LeavesAlone};
 ghost use Rattle.audit_run.specs.Steps.{Finishes};
-ghost use Rattle.audit_run.specs.Unsaved.{IsUnsavedRun};
+ghost use Rattle.audit_run.specs.Running.{IsRun};
 ghost use Rattle.audit_run.specs.Visits.{VisitsLegal};
 ghost use Rattle.audit_run.specs.World.{Kept, stream, kept, world};
 ghost use Rattle.audit_words.specs.Spoken.{spoken};
@@ -23,6 +24,7 @@ use audit_io::sink::Sink;
 use audit_io::source::Source;
 use audit_model::buffers::Bytes;
 use audit_model::setting::Command;
+use ckpt_store::laws::{a_stop_in_a_save_leaves_honest_slots, honest_slots_open_right};
 use plan_core::job::Job;
 use report::check::check_text;
 use std::alloc::Global;
@@ -50,16 +52,19 @@ fn finish<R: Threads + Sync, K: Sink, C: Keeper + Send, G: Gate + Sync>(
     alloc: Global,
     job: &Job,
     out: &mut K,
-    keeper: C,
+    mut keeper: C,
     gate: &G,
 ) -> (Ended, C)
-    requires unsaved { IsTrue (is_walking job.now.setting.command) → IsUnsavedRun job.now }
+    requires run { IsTrue (is_walking job.now.setting.command) → IsRun job.now }
     ensures { Finishes job.now (stream K.taken K.faults out.old) (stream K.taken K.faults out.new)
         (kept C.slots C.load_faults C.save_faults keeper) (kept C.slots C.load_faults C.save_faults result.1) result.0 }
 {
     match job.setting().command {
         Command::Check => (finish_check(alloc, job, out), keeper),
-        Command::Run | Command::Make => (finish_run(rt, alloc, job, out, gate), keeper),
+        Command::Run | Command::Make => {
+            let why = finish_run(rt, alloc, job, out, &mut keeper, gate);
+            (why, keeper)
+        }
     }
 }
 
@@ -100,8 +105,13 @@ pub fn audit<
     ensures left_alone { LeavesAlone (spoken words.now)
         (world (stream S.left S.faults graph.old) (stream K.taken K.faults out.old) (kept C.slots C.load_faults C.save_faults keeper))
         (world (stream S.left S.faults graph.new) (stream K.taken K.faults out.new) (kept C.slots C.load_faults C.save_faults result.1)) result.0 }
+    ensures chain { StaysHonest (spoken words.now)
+        (world (stream S.left S.faults graph.old) (stream K.taken K.faults out.old) (kept C.slots C.load_faults C.save_faults keeper))
+        (world (stream S.left S.faults graph.new) (stream K.taken K.faults out.new) (kept C.slots C.load_faults C.save_faults result.1)) result.0 }
     ensures legal { VisitsLegal (spoken words.now) (S.left graph.old) }
 {
+    honest_slots_open_right();
+    a_stop_in_a_save_leaves_honest_slots();
     match prepare(alloc, words, graph) {
         Ok(job) => {
             let (why, keeper) = finish(rt, alloc, &job, out, keeper, gate);

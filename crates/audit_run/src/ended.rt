@@ -2,6 +2,7 @@
 
 use audit_model::fault::{GraphFault, PlanFault, WordFault};
 use audit_model::setting::Columns;
+use ckpt_store::slots::Slots;
 
 /// Why a call ended.
 #[derive(Drop)]
@@ -16,4 +17,12 @@ pub enum Ended {
     NoMemory,
     ReadFault,
     WriteFault,
+    LoadFault,
+    /// So many of all trajectories are done, and the budget is spent.
+    Stopped { done: u32, total: u32 },
+    /// No slot is intact, and one is not absent.
+    Damaged(Slots),
+    /// The newest slot is another job's.
+    OtherJob { found: [u8; 32], wanted: [u8; 32] },
+    SaveFault,
 }

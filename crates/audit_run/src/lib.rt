@@ -5,6 +5,7 @@ pub mod audit;
 pub mod crew;
 pub mod ended;
 pub mod note;
+pub mod opening;
 pub mod prepare;
 pub mod reading;
 pub mod run;

@@ -1,6 +1,8 @@
 //! The line that tells why a call ended. It takes no memory.
 
 ghost use Rattle.std.specs.Prelude.{◌≡◌, ◌++◌, List, ℕ, codes, decimal};
+ghost use Rattle.ckpt_store.specs.View.{slot_view};
+ghost use Rattle.hex.specs.Hex.{encode_lower};
 ghost use Rattle.audit_run.specs.Ended.{ending_of, status_of, columns_kept};
 ghost use Rattle.audit_run.specs.Ends.{AddsLine, TellsWhy};
 ghost use Rattle.audit_run.specs.Said.{IsSaid};
@@ -10,9 +12,11 @@ ghost use Rattle.note_definitions.specs.Note as terms;
 use crate::ended::Ended;
 use crate::writing::write_all;
 use audit_io::sink::Sink;
-use audit_model::fault::{Column, GraphFault, Part, PlanFault, WordFault};
+use audit_model::fault::{CkptFault, Column, GraphFault, Part, PlanFault, WordFault};
 use audit_model::setting::Columns;
 use audit_words::name_text;
+use ckpt_store::slots::{Slot, Slots};
+use hex::encode_to_slice;
 use itoa::Buffer;
 
 // Goes on with a line, where no piece before failed.
@@ -347,6 +351,84 @@ fn say_more<N: Sink>(
     let _ninth = add(note, eighth, i);
 }
 
+fn tell_stopped<N: Sink>(note: &mut N, done: u32, total: u32)
+    ensures { AddsLine (stream N.taken N.faults note.old) (stream N.taken N.faults note.new)
+        (codes "stopped: " ++ (decimal done ++ (codes " of " ++ (decimal total ++ codes " done\n")))) }
+{
+    tell_two(
+        note,
+        b"stopped: ",
+        u64::from(done),
+        b" of ",
+        u64::from(total),
+        b" done\n",
+    );
+}
+
+fn fault_name(fault: &CkptFault) -> &'static str
+    ensures { result.now ≡ terms.fault_name fault.now }
+{
+    match fault {
+        CkptFault::TooLong(_) => "too long",
+        CkptFault::TooShort(_) => "too short",
+        CkptFault::BadMagic => "bad magic",
+        CkptFault::BadVersion(_) => "bad version",
+        CkptFault::BadGeneration(_) => "bad generation",
+        CkptFault::BadCount { .. } => "bad count",
+        CkptFault::BadOrder(_) => "bad order",
+        CkptFault::BadDigest { .. } => "bad digest",
+        CkptFault::Unfit(_) => "unfit",
+        CkptFault::Memory => "memory",
+    }
+}
+
+fn slot_name(slot: &Slot) -> &'static str
+    ensures { result.now ≡ terms.slot_name (slot_view slot.now) }
+{
+    match slot {
+        Slot::Absent => "absent",
+        Slot::Broken(fault) => fault_name(fault),
+        Slot::Other { .. } | Slot::Ours(_) => "",
+    }
+}
+
+fn tell_damaged<N: Sink>(note: &mut N, slots: &Slots)
+    ensures { AddsLine (stream N.taken N.faults note.old) (stream N.taken N.faults note.new)
+        (codes "checkpoint: slot 0 " ++ (terms.slot_name (slot_view slots.now.zero) ++ (codes ", slot 1 " ++ (terms.slot_name (slot_view slots.now.one) ++ codes "\n")))) }
+{
+    say(
+        note,
+        b"checkpoint: slot 0 ",
+        slot_name(&slots.zero).as_bytes(),
+        b", slot 1 ",
+        slot_name(&slots.one).as_bytes(),
+        b"\n",
+    );
+}
+
+fn tell_other<N: Sink>(note: &mut N, found: &[u8; 32], wanted: &[u8; 32])
+    ensures { AddsLine (stream N.taken N.faults note.old) (stream N.taken N.faults note.new)
+        (codes "checkpoint: other job " ++ (encode_lower found.now ++ (codes ", this job " ++ (encode_lower wanted.now ++ codes "\n")))) }
+{
+    say(
+        note,
+        b"checkpoint: other job ",
+        &digits_of(found),
+        b", this job ",
+        &digits_of(wanted),
+        b"\n",
+    );
+}
+
+// The hexadecimal digits of a digest.
+fn digits_of(digest: &[u8; 32]) -> [u8; 64]
+    ensures { result ≡ encode_lower digest.now }
+{
+    let mut digits = [0; 64];
+    let _ = encode_to_slice(digest.as_slice(), &mut digits);
+    digits
+}
+
 fn tell_line<N: Sink>(why: &Ended, note: &mut N)
     ensures { TellsWhy (columns_kept why.now) (stream N.taken N.faults note.old) (stream N.taken N.faults note.new) (ending_of why.now) }
 {
@@ -366,6 +448,11 @@ fn tell_line<N: Sink>(why: &Ended, note: &mut N)
         Ended::NoMemory => say(note, b"memory\n", b"", b"", b"", b""),
         Ended::ReadFault => say(note, b"read fault\n", b"", b"", b"", b""),
         Ended::WriteFault => say(note, b"write fault\n", b"", b"", b"", b""),
+        Ended::LoadFault => say(note, b"checkpoint load fault\n", b"", b"", b"", b""),
+        Ended::Stopped { done, total } => tell_stopped(note, *done, *total),
+        Ended::Damaged(slots) => tell_damaged(note, slots),
+        Ended::OtherJob { found, wanted } => tell_other(note, found, wanted),
+        Ended::SaveFault => say(note, b"checkpoint save fault\n", b"", b"", b"", b""),
     }
 }
 
@@ -381,6 +468,11 @@ pub(crate) fn status(why: &Ended) -> u8
         Ended::NoMemory => 3,
         Ended::ReadFault => 4,
         Ended::WriteFault => 5,
+        Ended::LoadFault => 6,
+        Ended::Stopped { .. } => 7,
+        Ended::Damaged(_) => 8,
+        Ended::OtherJob { .. } => 8,
+        Ended::SaveFault => 9,
     }
 }
 

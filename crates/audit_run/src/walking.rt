@@ -1,5 +1,6 @@
 //! The trajectories of a run, walked by several threads.
 
+ghost use Rattle.std.specs.List.{AllPairs};
 ghost use Rattle.std.specs.Prelude.{◌≡◌, true, ◌+◌, ◌<◌, ◌≤◌, ◌++◌, ℕ, All, IsFalse, length, map, vec_len, IsPermutation};
 ghost use Rattle.claim_counter.specs.Records.{joined, AreDifferentBelow};
 ghost use Rattle.claim_counter.specs.Passes.{own, size_of, BelongsTo};
@@ -201,6 +202,8 @@ pub fn walk_run<R: Threads + Sync, G: Gate + Sync>(
     ensures outcomes { IsPermutation book.new.outcomes (book.old.outcomes ++ map (found job.now) todo.now) }
     ensures full { (budget : ℕ) → todo.now ≡ run_ids job.now book.old.outcomes budget
         → out.new.items ≡ full job.now (draw job.now.setting.key) book.old.outcomes budget }
+    ensures rising { AllPairs (λ a b. a.id < b.id) out.new.items }
+    ensures all { IsPermutation out.new.items (book.old.outcomes ++ map (found job.now) todo.now) }
     ensures room { length out.new.items + out.new.spare ≡ length out.old.items + out.old.spare }
 {
     let _kept = book.len();

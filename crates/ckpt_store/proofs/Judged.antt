@@ -1,6 +1,6 @@
 -- What a checkpoint is for a job is what its bytes are.
-use Rattle.std.proofs.Common.{◌≡◌, ℕ, ◌+◌, ◌*◌, ◌<◌, ◌≤◌, Bool, true, false, not, List, length, Option, Some, None, refl, sym, ap, ◌∙◌, subst, inl, inr, arith}
-use Rattle.std.specs.Prelude.{◌⊎◌, Result, Ok, Err, IfOk, OnOk, bytes_eq, slice_range, nat_lt}
+use Rattle.std.proofs.Common.{◌≡◌, ℕ, ◌+◌, ◌*◌, ◌≤◌, Bool, true, false, not, List, length, Option, Some, None, refl, sym, ap, ◌∙◌, subst, inl, inr, arith}
+use Rattle.std.specs.Prelude.{◌⊎◌, Result, Ok, Err, IfOk, OnOk, bytes_eq}
 use Rattle.std.specs.Int.{w32}
 use Rattle.std.proofs.lemmas.Bool.{le-ltb}
 use Rattle.dual_graph.proofs.Rows.{length-map_below, get_or-map_below}
@@ -13,7 +13,7 @@ use Rattle.audit_model.specs.First.{first_below}
 use Rattle.audit_model.specs.Job.{Job}
 use Rattle.audit_model.specs.Run.{fits}
 use Rattle.checkpoint_definitions.specs.Checkpoint.{checkpoint_fault, number_at, stated_count}
-use Rattle.checkpoint_definitions.specs.Slots.{Slot, ours, other, checkpoint_limit, outcome_at, outcomes_in, slot_of, slot_of_bytes, slot_of_checkpoint, slot_of_digest, slot_of_ours}
+use Rattle.checkpoint_definitions.specs.Slots.{ours, other, checkpoint_limit, outcome_at, outcomes_in, slot_of, slot_of_bytes, slot_of_checkpoint, slot_of_digest, slot_of_ours}
 use Rattle.ckpt_format.specs.declared.decode.Checkpoint.{Checkpoint}
 use Rattle.ckpt_format.specs.Laws.{StandsIn}
 use Rattle.ckpt_store.specs.Fitting.{HasFitOutcomes, is_unfit, judged, judged_digest, judged_ours}

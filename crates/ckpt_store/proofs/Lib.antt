@@ -1,2 +1,5 @@
 pub mod Fits
+pub mod Honest
 pub mod Judged
+pub mod Ours
+pub mod Turns

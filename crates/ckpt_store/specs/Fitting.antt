@@ -1,5 +1,5 @@
 -- Which outcomes do not fit a job, and what a checkpoint is for it.
-use Rattle.std.specs.Prelude.{◌≡◌, ℕ, ◌≤◌, Bool, true, false, IsTrue, not, List, length, map, bytes_eq, Option, Some, None}
+use Rattle.std.specs.Prelude.{ℕ, ◌≤◌, Bool, true, false, IsTrue, not, List, length, map, bytes_eq, Option, Some, None}
 use Rattle.std.specs.List.{All, slice_get}
 use Rattle.audit_model.specs.declared.fault.CkptFault.TheVariants.{Unfit}
 use Rattle.audit_model.specs.declared.outcome.Outcome.{Outcome}

@@ -3,6 +3,7 @@
 
 mod fitting;
 pub mod judge;
+pub mod laws;
 pub mod look;
 pub mod save;
 pub mod slots;

@@ -2,8 +2,9 @@
 
 ghost use Rattle.std.specs.Prelude.{◌≡◌, ◌+◌, ◌-◌, ◌*◌, ◌%◌, ◌<◌, ◌≤◌, length, map, OnErr, OnOk};
 ghost use Rattle.audit_io.specs.Faults.{HasCause};
-ghost use Rattle.audit_io.specs.Slots.{HoldsBytes, KeepsOther};
-ghost use Rattle.checkpoint_definitions.specs.Checkpoint.{AreRising, checkpoint};
+ghost use Rattle.audit_io.specs.Slots.{HoldsBytes, IfTold, KeepsOther};
+ghost use Rattle.checkpoint_definitions.specs.Checkpoint.{AreRising, IsCheckpoint, checkpoint};
+ghost use Rattle.ckpt_store.specs.Laws.{IsNewestForFitJobs};
 
 use crate::slots::{Place, generation_after};
 use audit_io::keeper::Keeper;
@@ -31,6 +32,8 @@ pub fn save<C: Keeper>(
     requires rising { AreRising (map (λ o. o.id) outcomes.now) }
     requires room { 84 + 44 * length outcomes.now ≤ length room.old.items + room.old.spare }
     ensures saved { OnOk result (HoldsBytes (C.slots keeper.new) place.old.slot (checkpoint digest.now place.old.generation outcomes.now)) }
+    ensures sound { IsCheckpoint (checkpoint digest.now place.old.generation outcomes.now) digest.now place.old.generation outcomes.now }
+    ensures newest { OnOk result (IfTold (C.slots keeper.new) (IsNewestForFitJobs digest.now place.old.slot place.old.generation outcomes.now)) }
     ensures moved { OnOk result (place.new ≡ record { slot = 1 - place.old.slot; generation = (place.old.generation + 1) % 3 }) }
     ensures kept { OnErr result (place.new ≡ place.old) }
     ensures other { KeepsOther (C.slots keeper.old) (C.slots keeper.new) place.old.slot }

@@ -1,7 +1,6 @@
-use Rattle.std.proofs.Common.{◌≡◌, ◌∙◌, sym, ap, subst, ◌+◌, ◌-◌, ◌++◌, ◌∷◌, [], List, All, length, length-append, vec_len, arith}
+use Rattle.std.proofs.Common.{◌≡◌, ◌∙◌, sym, ap, subst, ◌+◌, ◌-◌, All, arith}
 use Rattle.std.proofs.lemmas.List.Elements.{All-push}
 use Rattle.claim_counter.specs.Records.{fresh, with_less_spare}
-use Rattle.audit_run.specs.declared.worker.Worker.{Worker}
 use Rattle.audit_run.specs.Crews.{IsReady}
 use Rattle.audit_run.proofs.crew.seat.Goals as goal
 

@@ -1,11 +1,9 @@
-use Rattle.std.proofs.Common.{◌≡◌, ◌∙◌, sym, ap, subst, ℕ, ◌&&◌, Bool, true, ◌∷◌, [], ◌++◌, List, length, map, take, vec_len, arith}
-use Rattle.std.proofs.lemmas.List.Elements.{All-take}
+use Rattle.std.proofs.Common.{◌≡◌, ◌∙◌, sym, ap, subst, ◌&&◌, Bool, true, ◌++◌, List, map, arith}
 use Rattle.audit_model.specs.declared.outcome.Outcome.{Outcome}
 use Rattle.claim_counter.specs.declared.pass.Pass.{Pass}
 use Rattle.claim_counter.specs.declared.record.PassRecord.{PassRecord}
 use Rattle.claim_counter.specs.Records.{AreDifferentBelow}
 use Rattle.claim_counter.specs.Passes.{own, size_of, BelongsTo}
-use Rattle.audit_run.specs.declared.worker.Worker.{Worker}
 use Rattle.audit_run.specs.Crews.{IsDone}
 use Rattle.audit_run.specs.Walks.{found_at}
 use Rattle.audit_run.proofs.Gathering.{popped_last, popped_rest, done_within, done_apart, first_absent, more_absent, holds_more}

@@ -1,0 +1,210 @@
+-- With what a run starts.
+use Rattle.std.proofs.Common.{◌≡◌, ℕ, zero, suc, ◌<◌, ◌&&◌, not, Bool, true, false, cond, List, [], map, Option, Some, None, Result, Ok, Err, refl, sym, subst, ap, ◌∙◌, arith}
+use Rattle.std.specs.Prelude.{◌==◌}
+use Rattle.std.proofs.lemmas.Bool.{ne_eqb}
+use Rattle.audit_io.specs.Slots.{IfTold, Pair}
+use Rattle.audit_model.specs.declared.outcome.Outcome.{Outcome}
+use Rattle.audit_model.specs.Job.{Job}
+use Rattle.checkpoint_definitions.specs.Checkpoint.{job_digest}
+use Rattle.checkpoint_definitions.specs.Slots.{Slot, newest, opening, other, place, slot_at, slot_of}
+use Rattle.ckpt_store.specs.declared.slots.Slot.{Slot as Looked}
+use Rattle.ckpt_store.specs.declared.slots.Slot.TheVariants as looked
+use Rattle.ckpt_store.specs.declared.slots.Slots.{Slots}
+use Rattle.ckpt_store.specs.declared.slots.StoreFault.{StoreFault}
+use Rattle.ckpt_store.specs.declared.slots.StoreFault.TheVariants.{Damaged, OtherJob}
+use Rattle.ckpt_store.specs.Fitting.{AreFit, HasFitOutcomes}
+use Rattle.ckpt_store.specs.Looked.{AreSlots}
+use Rattle.ckpt_format.specs.declared.decode.Checkpoint.{Checkpoint}
+use Rattle.ckpt_store.specs.View.{answer_at, newest_answer, newest_seen, opened, opening_seen, place_seen, slot_view}
+use Rattle.audit_run.specs.declared.ended.Ended.{Ended}
+use Rattle.audit_run.specs.declared.ended.Ended.TheVariants as ended
+use Rattle.audit_run.specs.declared.opening.Opening.{Opening}
+use Rattle.audit_run.specs.declared.opening.Target.{Target}
+use Rattle.audit_run.specs.Ends.{IsOpening, opening_by, place_of, saves}
+use Rattle.audit_run.specs.Running.{IsOtherSeen, IsPlaced, IsRun, IsTarget, Opens, RefusesSlots, refused_by}
+use Rattle.audit_run.specs.Steps.{Finishes}
+use Rattle.audit_run.specs.World.{IfKnown, Kept, Stream}
+use Rattle.audit_run.proofs.Running.{fit_list, rising_once}
+
+-- ---- what was looked at, in the words of the slots that are told
+
+module _ (job : Job) (digest : List ℕ) (p : Pair) (slots : Slots) (is : digest ≡ job_digest job) (seen : AreSlots job digest p slots) where
+  pub zero_told : slot_view slots.zero ≡ slot_of job (job_digest job) p.zero_slot
+  zero_told = seen.zero ∙ ap (λ d. slot_of job d p.zero_slot) is
+
+  pub one_told : slot_view slots.one ≡ slot_of job (job_digest job) p.one_slot
+  one_told = seen.one ∙ ap (λ d. slot_of job d p.one_slot) is
+
+  both_told : {A : Type 0} (f : Slot → Slot → A) → f (slot_view slots.zero) (slot_view slots.one) ≡ f (slot_of job (job_digest job) p.zero_slot) (slot_of job (job_digest job) p.one_slot)
+  both_told f = ap (λ s. f s (slot_view slots.one)) zero_told ∙ ap (λ s. f (slot_of job (job_digest job) p.zero_slot) s) one_told
+
+  pub place_told : place_seen slots ≡ place_of job p
+  place_told = both_told place
+
+  pub opening_told : opening_seen slots ≡ opening true (slot_of job (job_digest job) p.zero_slot) (slot_of job (job_digest job) p.one_slot)
+  opening_told = both_told (opening true)
+
+  pub newest_told : newest_seen slots ≡ newest (slot_of job (job_digest job) p.zero_slot) (slot_of job (job_digest job) p.one_slot)
+  newest_told = both_told newest
+
+  pub slot_told : (n : ℕ) → slot_at (slot_view slots.zero) (slot_view slots.one) n ≡ slot_at (slot_of job (job_digest job) p.zero_slot) (slot_of job (job_digest job) p.one_slot) n
+  slot_told n = both_told (λ a b. slot_at a b n)
+
+-- ---- where it saves
+
+saves_not : (job : Job) → job.setting.save_every ≡ 0 → saves job.setting ≡ false
+saves_not job none = rw none (and_false _)
+  where
+    and_false : (b : Bool) → (b && false) ≡ false
+    and_false true = refl
+    and_false false = refl
+
+not_zero : (n : ℕ) → (n ≡ 0 → ⊥) → not (n == 0) ≡ true
+not_zero zero some = absurd (some refl)
+not_zero (suc n) some = ap not (ne_eqb (suc n) 0 (λ e. absurd (omega (arith, e))))
+
+pub saves_some : (job : Job) → IsRun job → (job.setting.save_every ≡ 0 → ⊥) → saves job.setting ≡ true
+saves_some job run some = rw (run.walking, not_zero job.setting.save_every some) refl
+
+pub no_target : (job : Job) (slots : Option Pair) → job.setting.save_every ≡ 0 → IsTarget (saves job.setting) job slots None
+no_target job slots none = subst (λ b. IsTarget b job slots None) (sym (saves_not job none)) tt
+
+pub some_target : (job : Job) (slots : Option Pair) (t : Target) → IsRun job → (job.setting.save_every ≡ 0 → ⊥) → IsPlaced job slots t → IsTarget (saves job.setting) job slots (Some t)
+some_target job slots t run some placed = subst (λ b. IsTarget b job slots (Some t)) (sym (saves_some job run some)) placed
+
+-- where there is a place, the run saves there
+pub target_told : (b : Bool) (job : Job) (slots : Option Pair) (o : Option Target) (t : Target) → o ≡ Some t → IsTarget b job slots o → (b ≡ true) × IsPlaced job slots t
+target_told b job slots None t e is = cc
+target_told false job slots (Some x) t e is = absurd is
+target_told true job slots (Some x) t e is = let same : x ≡ t = cc in (refl, subst (λ (y : Target). IsPlaced job slots y) same is)
+
+place_by : (job : Job) (told : Option Pair) (slots : Slots) (t : Target) → t.digest ≡ job_digest job → (t.place.slot, t.place.generation) ≡ place_seen slots
+    → IfTold told (λ p. AreSlots job t.digest p slots) → IfKnown told (λ p. (t.place.slot, t.place.generation) ≡ place_of job p)
+place_by job None slots t is at seen = tt
+place_by job (Some p) slots t is at seen = at ∙ place_told job t.digest p slots is seen
+
+pub placed_at : (job : Job) (told : Option Pair) (slots : Slots) (t : Target) → t.digest ≡ job_digest job → t.place.slot < 2 → t.place.generation < 3
+    → (t.place.slot, t.place.generation) ≡ place_seen slots → IfTold told (λ p. AreSlots job t.digest p slots) → IsPlaced job told t
+placed_at job told slots t is slot generation at seen =
+    record { digest_is = is; slot_below = slot; generation_below = generation; told = place_by job told slots t is at seen }
+
+-- ---- the outcomes with which it starts
+
+pub none_fit : (job : Job) → AreFit job []
+none_fit job = record { few = omega arith; rising = tt; fit = λ k d inside. absurd (omega arith) }
+
+-- a run that does not resume starts with nothing
+pub fresh_opening : (job : Job) (slots : Option Pair) → job.setting.resume ≡ false → IsOpening job slots []
+fresh_opening job slots fresh = record {
+  told = subst (λ (b : Bool). IfKnown (opening_by b job slots) (λ o. o ≡ Some [])) (sym fresh) refl;
+  apart = tt;
+  fitting = refl;
+}
+
+resumed_told : (job : Job) (digest : List ℕ) (told : Option Pair) (slots : Slots) (outcomes : List Outcome) → digest ≡ job_digest job
+    → IfTold told (λ p. AreSlots job digest p slots) → opening_seen slots ≡ Some outcomes → IfKnown (opening_by true job told) (λ o. o ≡ Some outcomes)
+resumed_told job digest None slots outcomes is seen found = tt
+resumed_told job digest (Some p) slots outcomes is seen found = sym (opening_told job digest p slots is seen) ∙ found
+
+-- a run that resumes starts with what the newest slot holds
+pub resumed_opening : (job : Job) (digest : List ℕ) (told : Option Pair) (slots : Slots) (outcomes : List Outcome) → digest ≡ job_digest job → job.setting.resume ≡ true
+    → IfTold told (λ p. AreSlots job digest p slots) → opening_seen slots ≡ Some outcomes → AreFit job outcomes → IsOpening job told outcomes
+resumed_opening job digest told slots outcomes is resumes seen found fit = record {
+  told = subst (λ (b : Bool). IfKnown (opening_by b job told) (λ o. o ≡ Some outcomes)) (sym resumes) (resumed_told job digest told slots outcomes is seen found);
+  apart = rising_once (map (λ o. o.id) outcomes) fit.rising;
+  fitting = fit_list job outcomes fit.fit;
+}
+
+opened_fit : (job : Job) (wanted : List ℕ) (s : Looked) (c : Checkpoint) → HasFitOutcomes job s → opened s wanted ≡ Ok (Some c) → AreFit job c.outcomes.items
+opened_fit job wanted looked.Absent c fit e = cc
+opened_fit job wanted (looked.Broken fault) c fit e = cc
+opened_fit job wanted (looked.Other found generation) c fit e = cc
+opened_fit job wanted (looked.Ours checkpoint) c fit e =
+    let same : checkpoint ≡ c = cc in subst (λ (k : Checkpoint). AreFit job k.outcomes.items) same fit
+
+-- the checkpoint of the newest slot is one of a slot that was looked at
+pub newest_fit : (job : Job) (slots : Slots) (wanted : List ℕ) (c : Checkpoint) → HasFitOutcomes job slots.zero → HasFitOutcomes job slots.one
+    → newest_answer slots wanted ≡ Ok (Some c) → AreFit job c.outcomes.items
+newest_fit job slots wanted c zero_fit one_fit e = by (newest_seen slots) e
+  where
+    without : (b : Bool) → cond {A = Result (Option Checkpoint) StoreFault} b (Ok None) (Err (Damaged slots)) ≡ Ok (Some c) → AreFit job c.outcomes.items
+    without true h = cc
+    without false h = cc
+
+    by : (n : Option ℕ) → answer_at slots wanted n ≡ Ok (Some c) → AreFit job c.outcomes.items
+    by None h = without _ h
+    by (Some zero) h = opened_fit job wanted slots.zero c zero_fit h
+    by (Some (suc n)) h = opened_fit job wanted slots.one c one_fit h
+
+-- ---- why it does not start
+
+opened_damaged : (wanted : List ℕ) (s : Looked) (seen : Slots) → opened s wanted ≡ Err (Damaged seen) → ⊥
+opened_damaged wanted looked.Absent seen e = cc
+opened_damaged wanted (looked.Broken fault) seen e = cc
+opened_damaged wanted (looked.Other found generation) seen e = cc
+opened_damaged wanted (looked.Ours checkpoint) seen e = cc
+
+damaged_seen : (slots : Slots) (wanted : List ℕ) (seen : Slots) → newest_answer slots wanted ≡ Err (Damaged seen) → RefusesSlots slots wanted (ended.Damaged seen)
+damaged_seen slots wanted seen e = by (newest_seen slots) refl e
+  where
+    without : (b : Bool) → cond {A = Result (Option Checkpoint) StoreFault} b (Ok None) (Err (Damaged slots)) ≡ Err (Damaged seen) → seen ≡ slots
+    without true h = cc
+    without false h = cc
+
+    by : (n : Option ℕ) → newest_seen slots ≡ n → answer_at slots wanted n ≡ Err (Damaged seen) → (seen ≡ slots) × (newest_seen slots ≡ None)
+    by None is h = (without _ h, is)
+    by (Some zero) is h = absurd (opened_damaged wanted slots.zero seen h)
+    by (Some (suc n)) is h = absurd (opened_damaged wanted slots.one seen h)
+
+-- the slot is another job's
+record IsOtherSlot (s : Looked) (found : List ℕ) : Type 0 where
+  pub generation : ℕ
+  pub is : slot_view s ≡ other found generation
+
+opened_other : (wanted : List ℕ) (s : Looked) (found digest : List ℕ) → opened s wanted ≡ Err (OtherJob found digest) → (digest ≡ wanted) × IsOtherSlot s found
+opened_other wanted looked.Absent found digest e = cc
+opened_other wanted (looked.Broken fault) found digest e = cc
+opened_other wanted (looked.Other had generation) found digest e =
+    let same : wanted ≡ digest = cc in
+    let have : had ≡ found = cc in
+    (sym same, record { generation = generation; is = ap (λ d. other d generation) have })
+opened_other wanted (looked.Ours checkpoint) found digest e = cc
+
+other_seen : (slots : Slots) (wanted found digest : List ℕ) → newest_answer slots wanted ≡ Err (OtherJob found digest) → RefusesSlots slots wanted (ended.OtherJob found digest)
+other_seen slots wanted found digest e = by (newest_seen slots) refl e
+  where
+    without : (b : Bool) → cond {A = Result (Option Checkpoint) StoreFault} b (Ok None) (Err (Damaged slots)) ≡ Err (OtherJob found digest) → ⊥
+    without true h = cc
+    without false h = cc
+
+    by : (n : Option ℕ) → newest_seen slots ≡ n → answer_at slots wanted n ≡ Err (OtherJob found digest) → (digest ≡ wanted) × IsOtherSeen slots found
+    by None is h = absurd (without _ h)
+    by (Some zero) is h =
+        let o = opened_other wanted slots.zero found digest h in
+        (o.0, record { generation = o.1.generation; number = 0; newest_is = is; other_is = o.1.is })
+    by (Some (suc n)) is h =
+        let o = opened_other wanted slots.one found digest h in
+        (o.0, record { generation = o.1.generation; number = suc n; newest_is = is; other_is = o.1.is })
+
+-- why a run does not resume, by what was looked at
+pub refused_seen : (slots : Slots) (wanted : List ℕ) (f : StoreFault) → newest_answer slots wanted ≡ Err f → RefusesSlots slots wanted (refused_by f)
+refused_seen slots wanted (Damaged seen) e = damaged_seen slots wanted seen e
+refused_seen slots wanted (OtherJob found digest) e = other_seen slots wanted found digest e
+
+-- ---- the keeper as it was
+
+abbrev kept_of : Option Pair → ℕ → ℕ → Kept
+kept_of slots load_faults save_faults = record { slots = slots; load_faults = load_faults; save_faults = save_faults }
+
+pub same_kept : (k l : Kept) → l.slots ≡ k.slots → l.load_faults ≡ k.load_faults → l.save_faults ≡ k.save_faults → l ≡ k
+same_kept k l slots loads saves =
+    ap (λ (x : Option Pair). kept_of x l.load_faults l.save_faults) slots
+    ∙ ap (λ (x : ℕ). kept_of k.slots x l.save_faults) loads
+    ∙ ap (λ (x : ℕ). kept_of k.slots k.load_faults x) saves
+
+-- after a look that changed nothing, the run starts or ends as from the keeper as it was
+pub opens_later : (job : Job) (k l : Kept) (result : Result Opening Ended) → l ≡ k → Opens job k k result → Opens job k l result
+opens_later job k l result same o = subst (λ (x : Kept). Opens job k x result) (sym same) o
+
+pub goes_on : (job : Job) (out later : Stream) (k l m : Kept) (why : Ended) → l ≡ k → Finishes job out later l m why → Finishes job out later k m why
+goes_on job out later k l m why same f = subst (λ (x : Kept). Finishes job out later x m why) same f

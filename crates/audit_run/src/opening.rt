@@ -1,0 +1,124 @@
+//! With what a run starts.
+
+ghost use Rattle.std.specs.Prelude.{◌≡◌, IfErr, IfOk, IsTrue, MatchResult, None, Option, Some};
+ghost use Rattle.audit_io.specs.Slots.{IfTold, Pair};
+ghost use Rattle.audit_model.specs.Job as model;
+ghost use Rattle.checkpoint_definitions.specs.Checkpoint as definition;
+ghost use Rattle.ckpt_store.specs.Fitting.{AreFit, HasFitOutcomes};
+ghost use Rattle.ckpt_store.specs.Looked.{AreSlots};
+ghost use Rattle.ckpt_store.specs.View.{opening_seen};
+ghost use Rattle.audit_run.specs.Ends.{loads, saves};
+ghost use Rattle.audit_run.specs.Running.{IsRun, IsTarget, Opens, RefusesSlots, refused_by};
+ghost use Rattle.audit_run.specs.World.{Kept, kept};
+
+use crate::ended::Ended;
+use audit_io::keeper::Keeper;
+use audit_model::buffers::{Bytes, OutcomeList};
+use ckpt_format::digest::job_digest;
+use ckpt_store::look::{LookFault, look};
+use ckpt_store::slots::{Place, Slots, StoreFault};
+use plan_core::job::Job;
+use std::alloc::Global;
+
+/// Where a run saves, and the digest of its job.
+#[derive(Clone, Copy)]
+pub struct Target {
+    pub(crate) digest: [u8; 32],
+    pub(crate) place: Place,
+}
+
+/// With what a run starts: the outcomes that are kept of earlier runs and, where it saves, where to.
+#[derive(Drop)]
+pub struct Opening {
+    pub(crate) outcomes: OutcomeList,
+    pub(crate) target: Option<Target>,
+}
+
+// Where the run saves, by what the slots are.
+fn target_of(job: &Job, slots: &Slots, digest: [u8; 32]) -> Option<Target>
+    requires run { IsRun job.now }
+    requires digest { digest ≡ definition.job_digest job.now }
+    ensures { (told : Option Pair) → IfTold told (λ p. AreSlots job.now digest p slots.now) → IsTarget (saves job.now.setting) job.now told result }
+{
+    if job.setting().save_every == 0 {
+        return None;
+    }
+    Some(Target {
+        digest,
+        place: slots.place(),
+    })
+}
+
+// The outcomes of the newest slot, or why the run cannot resume.
+fn resume(alloc: Global, slots: Slots, digest: &[u8; 32]) -> Result<OutcomeList, Ended>
+    ensures opening { MatchResult result (λ l. opening_seen slots ≡ Some l.items) (λ _. opening_seen slots ≡ None) }
+    ensures fit { (job : model.Job) → HasFitOutcomes job slots.zero → HasFitOutcomes job slots.one → IfOk result (λ l. AreFit job l.items) }
+    ensures refused { IfErr result (RefusesSlots slots digest.now) }
+{
+    match slots.newest(digest) {
+        Ok(None) => Ok(OutcomeList::new(alloc)),
+        Ok(Some(checkpoint)) => Ok(checkpoint.outcomes),
+        Err(fault) => Err(refusal(fault)),
+    }
+}
+
+// Why the run does not resume.
+fn refusal(fault: StoreFault) -> Ended
+    ensures { result ≡ refused_by fault }
+{
+    match fault {
+        StoreFault::Damaged(slots) => Ended::Damaged(slots),
+        StoreFault::OtherJob { found, wanted } => Ended::OtherJob { found, wanted },
+    }
+}
+
+// With what a run starts that has looked at the slots.
+fn open_found(alloc: Global, job: &Job, slots: Slots, digest: [u8; 32]) -> Result<Opening, Ended>
+    requires run { IsRun job.now }
+    requires digest { digest ≡ definition.job_digest job.now }
+    requires fit { HasFitOutcomes job.now slots.zero × HasFitOutcomes job.now slots.one }
+    ensures { (k : Kept) → IfTold k.slots (λ p. AreSlots job.now digest p slots) → Opens job.now k k result }
+{
+    let target = target_of(job, &slots, digest);
+    if !job.setting().resume {
+        return Ok(Opening {
+            outcomes: OutcomeList::new(alloc),
+            target,
+        });
+    }
+    match resume(alloc, slots, &digest) {
+        Ok(outcomes) => Ok(Opening { outcomes, target }),
+        Err(why) => Err(why),
+    }
+}
+
+// Looks at the slots. None is changed.
+fn look_and_open<C: Keeper>(alloc: Global, job: &Job, keeper: &mut C) -> Result<Opening, Ended>
+    requires run { IsRun job.now }
+    requires loading { IsTrue (loads job.now.setting) }
+    ensures { Opens job.now (kept C.slots C.load_faults C.save_faults keeper.old) (kept C.slots C.load_faults C.save_faults keeper.new) result }
+{
+    let digest = job_digest(job);
+    let mut room = Bytes::new(alloc);
+    match look(alloc, keeper, job, &digest, &mut room) {
+        Ok(slots) => open_found(alloc, job, slots, digest),
+        Err(LookFault::Failed) => Err(Ended::LoadFault),
+        Err(LookFault::Memory) => Err(Ended::NoMemory),
+    }
+}
+
+/// With what the run starts: nothing, unless it resumes; else the outcomes of the newest slot. The slots are looked at only where the run
+/// saves or resumes, and none is changed.
+pub fn open<C: Keeper>(alloc: Global, job: &Job, keeper: &mut C) -> Result<Opening, Ended>
+    requires { IsRun job.now }
+    ensures { Opens job.now (kept C.slots C.load_faults C.save_faults keeper.old) (kept C.slots C.load_faults C.save_faults keeper.new) result }
+{
+    let setting = job.setting();
+    if setting.resume || setting.save_every != 0 {
+        return look_and_open(alloc, job, keeper);
+    }
+    Ok(Opening {
+        outcomes: OutcomeList::new(alloc),
+        target: None,
+    })
+}

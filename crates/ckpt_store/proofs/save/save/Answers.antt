@@ -1,0 +1,11 @@
+use Rattle.std.proofs.Common.{List, ℕ, subst}
+use Rattle.audit_io.specs.Slots.{HoldsBytes}
+use Rattle.ckpt_store.proofs.Turns.{newest_where_told}
+use Rattle.ckpt_store.proofs.save.save.Goals as goal
+
+pub returns-clause-newest : goal.returns-clause-newest
+returns-clause-newest g c =
+    let told = g.C.Keeper.slots c.save.new.self in
+    let place = c.args.place.now in
+    let holds = subst (λ (bytes : List ℕ). HoldsBytes told place.slot bytes) c.as_slice.ensures c.in_ok-save.ensures.saved in
+    newest_where_told c.encode.new.out.items c.args.digest.now place.slot place.generation c.args.outcomes.now told c.requires.slot c.encode.ensures.sound holds

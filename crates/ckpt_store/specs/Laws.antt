@@ -1,0 +1,93 @@
+-- What holds of the slots of a keeper, whoever wrote them.
+use Rattle.std.specs.Prelude.{◌≡◌, ℕ, zero, suc, ◌+◌, ◌-◌, ◌%◌, ◌⊎◌, true, IsTrue, List, Option, Some, None}
+use Rattle.std.specs.List.{list_all}
+use Rattle.audit_io.specs.Slots.{Pair, other_stored, stored}
+use Rattle.audit_model.specs.declared.outcome.Outcome.{Outcome}
+use Rattle.audit_model.specs.Job.{Job}
+use Rattle.audit_model.specs.Run.{IsRight, fits}
+use Rattle.audit_model.specs.Trajectory.{Draws}
+use Rattle.checkpoint_definitions.specs.Checkpoint.{IsCheckpoint, checkpoint}
+use Rattle.checkpoint_definitions.specs.Slots.{IsAfterStop, IsHonestSlot, Slot, absent, broken, generation_of, newest, opening, other, ours, place, slot_of}
+
+-- ---- the newest slot
+
+-- both slots, with this one in place of the one with this number
+abbrev pub replaced : ℕ → Slot → Slot → Slot → Slot × Slot
+replaced zero new first second = (new, second)
+replaced (suc n) new first second = (first, new)
+
+-- the number of the newest of both slots
+abbrev pub newest_of_both : Slot × Slot → Option ℕ
+newest_of_both (first, second) = newest first second
+
+-- the number of the slot that is the newest for a job
+abbrev pub newest_for : Job → List ℕ → Pair → Option ℕ
+newest_for job digest p = newest (slot_of job digest p.zero_slot) (slot_of job digest p.one_slot)
+
+-- where the next checkpoint of a job goes
+abbrev pub place_for : Job → List ℕ → Pair → ℕ × ℕ
+place_for job digest p = place (slot_of job digest p.zero_slot) (slot_of job digest p.one_slot)
+
+-- a checkpoint of outcomes that all fit a job is the job's, where the job is looked for by the checkpoint's digest
+abbrev pub CheckpointsAreOurs : Type 0
+CheckpointsAreOurs = (job : Job) (bytes digest : List ℕ) (generation : ℕ) (outcomes : List Outcome)
+    → IsCheckpoint bytes digest generation outcomes → IsTrue (list_all (fits job) outcomes)
+    → slot_of job digest (Some bytes) ≡ ours generation outcomes
+
+-- whatever both slots are, an intact slot of the generation and in the slot of the place is the newest
+abbrev pub WrittenSlotsAreNewest : Type 0
+WrittenSlotsAreNewest = (first second new : Slot) (number generation : ℕ)
+    → place first second ≡ (number, generation) → generation_of new ≡ Some generation
+    → newest_of_both (replaced number new first second) ≡ Some number
+
+-- the slot that was written is the job's, with these outcomes, and the newest
+pub record IsSavedAs (job : Job) (digest : List ℕ) (number generation : ℕ) (outcomes : List Outcome) (after : Pair) : Type 0 where
+  pub bytes : stored after number ≡ Some (checkpoint digest generation outcomes)
+  pub slot : slot_of job digest (stored after number) ≡ ours generation outcomes
+  pub newest : newest_for job digest after ≡ Some number
+
+-- a checkpoint that was written to the place of a job's slots, and no other slot, is in the newest slot
+abbrev pub SavedSlotsAreNewest : Type 0
+SavedSlotsAreNewest = (job : Job) (digest : List ℕ) (before after : Pair) (number generation : ℕ) (outcomes : List Outcome)
+    → place_for job digest before ≡ (number, generation)
+    → IsCheckpoint (checkpoint digest generation outcomes) digest generation outcomes → IsTrue (list_all (fits job) outcomes)
+    → stored after number ≡ Some (checkpoint digest generation outcomes) → stored after (1 - number) ≡ stored before (1 - number)
+    → IsSavedAs job digest number generation outcomes after
+
+-- the slot with this number is the newest for the job where the other one is not intact, and where it has the generation before this one
+pub record IsNewestWhere (job : Job) (digest : List ℕ) (number generation : ℕ) (other_slot : Slot) (after : Pair) : Type 0 where
+  pub alone : generation_of other_slot ≡ None → newest_for job digest after ≡ Some number
+  pub later : (before : ℕ) → generation_of other_slot ≡ Some before → generation ≡ (before + 1) % 3 → newest_for job digest after ≡ Some number
+
+-- the same for every job that the outcomes fit
+abbrev pub IsNewestForFitJobs : List ℕ → ℕ → ℕ → List Outcome → Pair → Type 0
+IsNewestForFitJobs digest number generation outcomes after = (job : Job) → IsTrue (list_all (fits job) outcomes)
+    → IsNewestWhere job digest number generation (slot_of job digest (other_stored after number)) after
+
+-- ---- honest slots
+
+-- outcomes from honest slots with which a run may start were found by the job's trajectories
+abbrev pub HonestSlotsOpenRight : Type 0
+HonestSlotsOpenRight = (job : Job) (draws : Draws) (first second : Slot) (outcomes : List Outcome)
+    → IsHonestSlot job draws first → IsHonestSlot job draws second → opening true first second ≡ Some outcomes
+    → IsRight job draws outcomes
+
+-- the slot holds no checkpoint of the job
+abbrev pub IsNotOurs : Slot → Type 0
+IsNotOurs absent = Unit {0}
+IsNotOurs (broken fault) = Unit {0}
+IsNotOurs (other digest generation) = Unit {0}
+IsNotOurs (ours generation outcomes) = ⊥
+
+-- both stored slots are honest for the job
+pub record AreHonest (job : Job) (draws : Draws) (digest : List ℕ) (p : Pair) : Type 0 where
+  pub zero_slot : IsHonestSlot job draws (slot_of job digest p.zero_slot)
+  pub one_slot : IsHonestSlot job draws (slot_of job digest p.one_slot)
+
+-- a stop in a save leaves honest slots honest, where its own slot is as before, or is none of the job's, or is honest
+abbrev pub StopsLeaveHonestSlots : Type 0
+StopsLeaveHonestSlots = (job : Job) (draws : Draws) (digest : List ℕ) (before after : Pair) (number : ℕ)
+    → IsAfterStop number before.zero_slot before.one_slot after.zero_slot after.one_slot
+    → (stored after number ≡ stored before number) ⊎ IsNotOurs (slot_of job digest (stored after number))
+    ⊎ IsHonestSlot job draws (slot_of job digest (stored after number))
+    → AreHonest job draws digest before → AreHonest job draws digest after

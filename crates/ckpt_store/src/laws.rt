@@ -1,0 +1,28 @@
+//! Laws of the slots of a keeper, each the contract of a function that does nothing.
+
+ghost use Rattle.ckpt_store.specs.Laws.{CheckpointsAreOurs, HonestSlotsOpenRight, SavedSlotsAreNewest, StopsLeaveHonestSlots, WrittenSlotsAreNewest};
+
+/// A checkpoint is the job's where the job is looked for by its digest and all its outcomes fit the job.
+pub fn checkpoints_are_ours()
+    ensures { CheckpointsAreOurs }
+{}
+
+/// An intact slot of the place's generation in the place's slot is the newest, whatever both slots were.
+pub fn written_slots_are_newest()
+    ensures { WrittenSlotsAreNewest }
+{}
+
+/// A checkpoint of a job that was written to the place of its slots is in the newest slot.
+pub fn saved_slots_are_newest()
+    ensures { SavedSlotsAreNewest }
+{}
+
+/// Outcomes from honest slots with which a run may start were found by the job's trajectories.
+pub fn honest_slots_open_right()
+    ensures { HonestSlotsOpenRight }
+{}
+
+/// A stop in a save leaves honest slots, where its own slot is as before, or is none of the job's, or is honest.
+pub fn a_stop_in_a_save_leaves_honest_slots()
+    ensures { StopsLeaveHonestSlots }
+{}
