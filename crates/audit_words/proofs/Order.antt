@@ -6,7 +6,7 @@ use Rattle.audit_model.specs.declared.fault.Name.{Name}
 use Rattle.audit_model.specs.declared.fault.Name.TheVariants.{Pop, Walks, Ends, Budget}
 use Rattle.audit_model.specs.declared.setting.Command.{Command}
 use Rattle.audit_model.specs.declared.setting.Command.TheVariants.{Check, Run, Make}
-use Rattle.text_definitions.specs.Words.{Pair, is_good, names_judged}
+use Rattle.text_definitions.specs.Words.{Pair, is_good, names_of}
 use Rattle.audit_words.specs.Judged.{RestsOnGood}
 
 -- no name of the second kind stands before one of the first
@@ -69,17 +69,17 @@ module _ (words : List Pair) (names : List Name) (k : ℕ) (inside : k < length 
   rests walks_first ends_first Budget is = (good_walks walks_first (ap adds_walks is), good_ends ends_first (ap adds_ends is))
   rests walks_first ends_first _ is = tt
 
-walks_first : (command : Command) → leads is_walks adds_walks (names_judged command) ≡ true
+walks_first : (command : Command) → leads is_walks adds_walks (names_of command) ≡ true
 walks_first Check = refl
 walks_first Run = refl
 walks_first Make = refl
 
-ends_first : (command : Command) → leads is_ends adds_ends (names_judged command) ≡ true
+ends_first : (command : Command) → leads is_ends adds_ends (names_of command) ≡ true
 ends_first Check = refl
 ends_first Run = refl
 ends_first Make = refl
 
 -- behind good values a name rests on good ones
-pub RestsOnGood-behind : (command : Command) (words : List Pair) (k : ℕ) → k < length (names_judged command)
-    → ((j : ℕ) → j < k → is_good Check words (get_or (names_judged command) j Pop) ≡ true) → RestsOnGood words (get_or (names_judged command) k Pop)
-RestsOnGood-behind command words k inside below = rests words (names_judged command) k inside below (walks_first command) (ends_first command) (get_or (names_judged command) k Pop) refl
+pub RestsOnGood-behind : (command : Command) (words : List Pair) (k : ℕ) → k < length (names_of command)
+    → ((j : ℕ) → j < k → is_good Check words (get_or (names_of command) j Pop) ≡ true) → RestsOnGood words (get_or (names_of command) k Pop)
+RestsOnGood-behind command words k inside below = rests words (names_of command) k inside below (walks_first command) (ends_first command) (get_or (names_of command) k Pop) refl

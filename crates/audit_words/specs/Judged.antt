@@ -7,7 +7,7 @@ use Rattle.audit_model.specs.declared.fault.WordFault.{WordFault}
 use Rattle.audit_model.specs.declared.fault.WordFault.TheVariants.{MissingName, BadValue}
 use Rattle.audit_model.specs.declared.setting.Command.{Command}
 use Rattle.audit_model.specs.declared.setting.Command.TheVariants.{Check}
-use Rattle.text_definitions.specs.Words.{Pair, pair_fault, value_of, is_good, names_of, names_judged}
+use Rattle.text_definitions.specs.Words.{Pair, pair_fault, value_of, is_good, names_of}
 
 -- the fault of the first pair that has one
 abbrev pub fault_of_pairs : Command → List Pair → Option WordFault
@@ -19,7 +19,7 @@ fault_of_names command words = option_map MissingName (find (λ name. is_none (v
 
 -- the first name whose value is bad
 abbrev pub fault_of_values : Command → List Pair → Option WordFault
-fault_of_values command words = option_map BadValue (find (λ name. not (is_good command words name)) (names_judged command))
+fault_of_values command words = option_map BadValue (find (λ name. not (is_good command words name)) (names_of command))
 
 -- The values that are added up for that of a name are good: behind a bad one the name is not judged.
 abbrev pub RestsOnGood : List Pair → Name → Type 0

@@ -14,34 +14,7 @@ const OF_CHECK: [Name; 5] = [
     Name::Slack,
 ];
 
-const OF_RUN: [Name; 12] = [
-    Name::Pop,
-    Name::First,
-    Name::Second,
-    Name::District,
-    Name::Slack,
-    Name::Key,
-    Name::Walks,
-    Name::Steps,
-    Name::Ends,
-    Name::HubSteps,
-    Name::Ask,
-    Name::Workers,
-];
-
-const OF_MAKE: [Name; 9] = [
-    Name::Size,
-    Name::Slack,
-    Name::Key,
-    Name::Walks,
-    Name::Steps,
-    Name::Ends,
-    Name::HubSteps,
-    Name::Ask,
-    Name::Workers,
-];
-
-const JUDGED_OF_RUN: [Name; 15] = [
+const OF_RUN: [Name; 15] = [
     Name::Pop,
     Name::First,
     Name::Second,
@@ -59,7 +32,7 @@ const JUDGED_OF_RUN: [Name; 15] = [
     Name::Resume,
 ];
 
-const JUDGED_OF_MAKE: [Name; 12] = [
+const OF_MAKE: [Name; 12] = [
     Name::Size,
     Name::Slack,
     Name::Key,
@@ -122,17 +95,6 @@ pub fn names_of(command: Command) -> &'static [Name]
         Command::Check => &OF_CHECK,
         Command::Run => &OF_RUN,
         Command::Make => &OF_MAKE,
-    }
-}
-
-/// The names whose values are judged, in the order of the table. One that cannot be given has its default.
-pub fn names_judged(command: Command) -> &'static [Name]
-    ensures { result.now ≡ definition.names_judged command }
-{
-    match command {
-        Command::Check => &OF_CHECK,
-        Command::Run => &JUDGED_OF_RUN,
-        Command::Make => &JUDGED_OF_MAKE,
     }
 }
 

@@ -8,6 +8,12 @@ use std::test::Fail;
 
 const COLUMNS: &str = "run --pop p --first a --second b --district d";
 
+const RUN: &str =
+    "run --pop pop --first a --second b --district d --key 0000000000000000000000000000000000000000000000000000000000000000 --ask gap:low";
+
+const MAKE: &str =
+    "make --size 10 --key 0000000000000000000000000000000000000000000000000000000000000000 --ask gap:low";
+
 const KEY: &str = "--key aBcDeF0000000000000000000000000000000000000000000000000000000019";
 
 const SHORT_KEY: &str = "--key 000000000000000000000000000000000000000000000000000000000000000";
@@ -75,6 +81,10 @@ fn refuses_words(rt: HostRuntime) -> Result<(), Fail> {
             "check --pop p --first a --second b --district d --slack x",
             "bad value for --slack",
         ),
+        (
+            "check --pop p --first a --second b --district d --budget 5",
+            "unknown name --budget",
+        ),
     ] {
         let found = refusal(rt.alloc(), line)?;
         assert_eq!(rt; found.as_str(), want, "{line}");
@@ -134,6 +144,63 @@ fn refuses_words_of_a_run(rt: HostRuntime) -> Result<(), Fail> {
         let line = format!(in rt.alloc(); "{COLUMNS} {key} {more}")?;
         let found = refusal(rt.alloc(), line.as_str())?;
         assert_eq!(rt; found.as_str(), want, "{line}");
+    }
+    Ok(())
+}
+
+#[test]
+fn refuses_words_of_saving(rt: HostRuntime) -> Result<(), Fail> {
+    for (most, more, want) in [
+        (
+            RUN,
+            "--walks 12 --save 0 --budget 5",
+            "bad value for --budget",
+        ),
+        (
+            MAKE,
+            "--walks 5 --ends 7 --budget 11",
+            "bad value for --budget",
+        ),
+        (
+            RUN,
+            "--save x --budget 0 --walks 12",
+            "bad value for --save",
+        ),
+        (RUN, "--save 00", "bad value for --save"),
+        (RUN, "--resume maybe", "bad value for --resume"),
+        (RUN, "--budget 100001", "bad value for --budget"),
+    ] {
+        let line = format!(in rt.alloc(); "{most} {more}")?;
+        let found = refusal(rt.alloc(), line.as_str())?;
+        assert_eq!(rt; found.as_str(), want, "{line}");
+    }
+    Ok(())
+}
+
+/// The budget of the setting that a line gives, after how many trajectories it saves, and whether it resumes.
+fn saving_of(alloc: Global, line: &str) -> Result<Option<(u32, u32, bool)>, AllocError> {
+    let words = words_of(alloc, line)?;
+    match read(alloc, &words) {
+        Ok(setting) => Ok(Some((setting.budget, setting.save_every, setting.resume))),
+        Err(_) => Ok(None),
+    }
+}
+
+#[test]
+fn reads_saving(rt: HostRuntime) -> Result<(), Fail> {
+    for (most, more, want) in [
+        (RUN, "--walks 12 --save 0 --budget 12", (12, 0, false)),
+        (RUN, "--walks 12 --budget 0 --save 2", (0, 2, false)),
+        (RUN, "--resume yes", (100_000, 0, true)),
+        (
+            MAKE,
+            "--walks 12 --budget 5 --save 2 --resume no",
+            (5, 2, false),
+        ),
+    ] {
+        let line = format!(in rt.alloc(); "{most} {more}")?;
+        let found = saving_of(rt.alloc(), line.as_str())?;
+        assert_eq!(rt; found, Some(want), "{line}");
     }
     Ok(())
 }

@@ -9,7 +9,7 @@ ghost use Rattle.text_definitions.specs.Words as definition;
 ghost use Rattle.text_definitions.specs.Words.{setting_of};
 
 use crate::fields::is_good;
-use crate::names::{command_of, name_of, names_judged, names_of};
+use crate::names::{command_of, name_of, names_of};
 use crate::pairs::{count, is_repeated, name_at, value_at, value_of};
 use crate::settings::{copied, setting_for};
 use audit_model::fault::WordFault;
@@ -102,7 +102,7 @@ fn judge_missing(command: Command, words: &[String]) -> Result<(), WordFault>
 fn judge_values(command: Command, words: &[String]) -> Result<(), WordFault>
     ensures { Tells result (fault_of_values command (pairs_in words.now)) }
 {
-    for name in names_judged(command) {
+    for name in names_of(command) {
         if !is_good(words, *name) {
             return Err(WordFault::BadValue(*name));
         }

@@ -42,14 +42,8 @@ name_text Resume = codes "--resume"
 -- the names that a command takes, in the order of the table
 abbrev pub names_of : Command → List Name
 names_of Check = Pop ∷ First ∷ Second ∷ District ∷ Slack ∷ []
-names_of Run = Pop ∷ First ∷ Second ∷ District ∷ Slack ∷ Key ∷ Walks ∷ Steps ∷ Ends ∷ HubSteps ∷ Ask ∷ Workers ∷ []
-names_of Make = Size ∷ Slack ∷ Key ∷ Walks ∷ Steps ∷ Ends ∷ HubSteps ∷ Ask ∷ Workers ∷ []
-
--- the names whose values, given or by default, are judged: a name that cannot be given yet has its default
-abbrev pub names_judged : Command → List Name
-names_judged Check = Pop ∷ First ∷ Second ∷ District ∷ Slack ∷ []
-names_judged Run = Pop ∷ First ∷ Second ∷ District ∷ Slack ∷ Key ∷ Walks ∷ Steps ∷ Ends ∷ HubSteps ∷ Ask ∷ Workers ∷ Budget ∷ Save ∷ Resume ∷ []
-names_judged Make = Size ∷ Slack ∷ Key ∷ Walks ∷ Steps ∷ Ends ∷ HubSteps ∷ Ask ∷ Workers ∷ Budget ∷ Save ∷ Resume ∷ []
+names_of Run = Pop ∷ First ∷ Second ∷ District ∷ Slack ∷ Key ∷ Walks ∷ Steps ∷ Ends ∷ HubSteps ∷ Ask ∷ Workers ∷ Budget ∷ Save ∷ Resume ∷ []
+names_of Make = Size ∷ Slack ∷ Key ∷ Walks ∷ Steps ∷ Ends ∷ HubSteps ∷ Ask ∷ Workers ∷ Budget ∷ Save ∷ Resume ∷ []
 
 -- the value of a name that is not given, where it may be left out
 abbrev pub default_of : Name → Option (List ℕ)
@@ -207,7 +201,7 @@ module _ (command : Command) (words : List Pair) where
   fault_of = first_some (
       first_some_below (length words) pair_fault
       ∷ option_map MissingName (find (λ name. is_none (value_of name)) (names_of command))
-      ∷ option_map BadValue (find (λ name. not (is_good name)) (names_judged command))
+      ∷ option_map BadValue (find (λ name. not (is_good name)) (names_of command))
       ∷ [])
 
   -- what the values say

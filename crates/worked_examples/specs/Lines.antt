@@ -1,6 +1,5 @@
--- The words of a run, and the values of its last names.
+-- The words of a run.
 use Rattle.std.specs.Prelude.{ℕ, List, [], ◌∷◌, codes, replicate}
-use Rattle.text_definitions.specs.Words.{Pair, pairs}
 
 -- a run on the usual columns with the key of zeros, and more words
 abbrev pub run_words : List (List ℕ) → List (List ℕ)
@@ -9,5 +8,5 @@ run_words more =
     ∷ codes "--key" ∷ replicate 64 48 ∷ more
 
 -- twelve walks, a budget of five of them, and what is said of saving
-abbrev pub small_budget : List (List ℕ) → List Pair
-small_budget save = pairs (codes "--walks" ∷ codes "12" ∷ codes "--budget" ∷ codes "5" ∷ save)
+abbrev pub small_budget : List (List ℕ) → List (List ℕ)
+small_budget saving = run_words (codes "--ask" ∷ codes "gap:low" ∷ codes "--walks" ∷ codes "12" ∷ codes "--budget" ∷ codes "5" ∷ saving)

@@ -96,10 +96,11 @@ pub fn accepted_words()
 
 /// A budget that is too small is bad where nothing is saved. Where the value of saving is no number, that is bad, and not the budget.
 pub fn small_budgets()
-    ensures unsaved { is_good Run (small_budget []) name.Budget ≡ false }
-    ensures saved { is_good Run (small_budget (codes "--save" ∷ codes "2" ∷ [])) name.Budget ≡ true }
-    ensures unread_budget { is_good Run (small_budget (codes "--save" ∷ codes "x" ∷ [])) name.Budget ≡ true }
-    ensures unread_save { is_good Run (small_budget (codes "--save" ∷ codes "x" ∷ [])) name.Save ≡ false }
+    ensures by_default { setting_of (small_budget []) ≡ Err (word.BadValue name.Budget) }
+    ensures unsaved { setting_of (small_budget (codes "--save" ∷ codes "0" ∷ [])) ≡ Err (word.BadValue name.Budget) }
+    ensures saved { setting_of (small_budget (codes "--save" ∷ codes "2" ∷ codes "--resume" ∷ codes "yes" ∷ [])) ≡
+        Ok (record (run_of 500 12 1000 0 1000 (record { score = Gap; tail = Low } ∷ [])) { columns = columns; budget = 5; save_every = 2; resume = true }) }
+    ensures unread_save { setting_of (small_budget (codes "--save" ∷ codes "x" ∷ [])) ≡ Err (word.BadValue name.Save) }
 {}
 
 /// A checkpoint with one outcome, and what is none.

@@ -6,4 +6,4 @@ use Rattle.text_definitions.specs.Words as definition
 use Rattle.audit_words.proofs.words.judge_values.Given as goal
 
 abbrev pub invariant-loop-name : goal.invariant-loop-name
-invariant-loop-name l = (j : ℕ) → j < l.name-index → definition.is_good command.Check (pairs_in l.words) (get_or (definition.names_judged l.fn.command) j Pop) ≡ true
+invariant-loop-name l = (j : ℕ) → j < l.name-index → definition.is_good command.Check (pairs_in l.words) (get_or (definition.names_of l.fn.command) j Pop) ≡ true

@@ -4,6 +4,10 @@ use Rattle.hex.specs.Hex.{decode_pairs}
 use Rattle.text_definitions.specs.Words.{setting_of}
 use Rattle.worked_examples.proofs.formats.small_budgets.Goals as goal
 
+pub returns-clause-by_default : goal.returns-clause-by_default
+unfolding setting_of digits decode_pairs
+returns-clause-by_default c = refl
+
 pub returns-clause-unsaved : goal.returns-clause-unsaved
 unfolding setting_of digits decode_pairs
 returns-clause-unsaved c = refl
@@ -11,10 +15,6 @@ returns-clause-unsaved c = refl
 pub returns-clause-saved : goal.returns-clause-saved
 unfolding setting_of digits decode_pairs
 returns-clause-saved c = refl
-
-pub returns-clause-unread_budget : goal.returns-clause-unread_budget
-unfolding setting_of digits decode_pairs
-returns-clause-unread_budget c = refl
 
 pub returns-clause-unread_save : goal.returns-clause-unread_save
 unfolding setting_of digits decode_pairs
