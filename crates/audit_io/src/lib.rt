@@ -2,6 +2,7 @@
 #![tactic(auto)]
 
 mod copying;
+pub mod file_keeper;
 pub mod gate;
 pub mod keeper;
 pub mod mem_keeper;

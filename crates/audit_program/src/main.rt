@@ -1,10 +1,10 @@
-//! The auditor as a program: the words are its arguments, the graph is on standard input, the text goes to standard output, and
-//! the reason of each status but 0 to standard error.
+//! The auditor as a program: the words are its arguments, the graph is on standard input, the text goes to standard output, the
+//! reason of each status but 0 to standard error, and checkpoints to two files of the working folder.
 #![tactic(auto)]
 
+use audit_io::file_keeper::FileKeeper;
 use audit_io::gate::FreeGate;
 use audit_io::std_adapters::{ReadSource, WriteSink};
-use audit_io::sure_keeper::SureKeeper;
 use audit_run::audit::audit;
 use std::process::ExitCode;
 use std::rt::Env;
@@ -38,9 +38,6 @@ fn main(rt: HostRuntime) -> ExitCode {
             };
         }
     };
-    let Ok(keeper) = SureKeeper::new(rt.alloc(), None, None) else {
-        return end_with(&rt, "memory", 3);
-    };
     let mut graph = ReadSource::new(rt.stdin());
     let mut out = WriteSink::new(rt.stdout());
     let mut note = WriteSink::new(rt.stderr());
@@ -51,7 +48,7 @@ fn main(rt: HostRuntime) -> ExitCode {
         &mut graph,
         &mut out,
         &mut note,
-        keeper,
+        FileKeeper::new(&rt),
         &FreeGate::new(),
     );
     ExitCode::from(status)

@@ -68,7 +68,7 @@ true_from_not true e = refl
 true_from_not false e = cc
 
 module _ (command : Command) (words : List Pair) where
-  -- the value of a name that is judged is good
+  -- the value of each name of the command is good
   good : (k : ℕ) (name : Name) → fault_of command words ≡ None → slice_get (names_of command) k ≡ Some name → is_good command words name ≡ true
   good k name faultless at =
       let first = option_or_none _ _ faultless in
