@@ -110,33 +110,48 @@ def bound(count, of):
     return root if root * root >= least else root + 1
 
 
-def report(job, walks, steps, ends, hub_steps, asks):
+def is_inside(value, start, tail):
+    return value <= start if tail == "low" else value >= start
+
+
+def outcomes(job, walks, steps, ends, hub_steps, asks):
+    """The moves of each trajectory by rising id, and a number for each ask: of a walk how many of the visited plans are in the
+    tail, of a trajectory from the hub its last plan's value."""
+    start = [job.value(job.plan, score) for score, _ in asks]
+    found = []
+    for walk in range(walks):
+        visited, moved = job.walk(job.plan, 2 * walk, steps)
+        found.append((moved, [sum(is_inside(job.value(plan, score), first, tail) for plan in visited)
+                              for first, (score, tail) in zip(start, asks)]))
+    hub = job.walk(job.plan, 1, hub_steps)[0][-1] if ends else None
+    for end in range(ends):
+        visited, moved = job.walk(hub, 2 * end + 3, hub_steps)
+        found.append((moved, [job.value(visited[-1], score) for score, _ in asks]))
+    return found
+
+
+def report_of(job, walks, steps, ends, hub_steps, asks, found):
+    """The report that these outcomes make."""
     low = -(-(10000 - job.slack) * job.total // (10000 * job.districts))
     high = (10000 + job.slack) * job.total // (10000 * job.districts)
     lines = ["district-audit 1", "key " + job.key.hex(),
              f"units {job.units} edges {job.graph.number_of_edges()} districts {job.districts}",
              f"population {job.total} slack {job.slack} low {low} high {high}",
              f"walks {walks} steps {steps} ends {ends} hub-steps {hub_steps}"]
-    start = {score: job.value(job.plan, score) for score, _ in asks}
-
-    def inside(value, score, tail):
-        return value <= start[score] if tail == "low" else value >= start[score]
-
-    def words(score, tail):
-        return f"{score} {tail} start {start[score]}/{job.denominator(score)}"
-
-    for walk in range(walks):
-        visited, moved = job.walk(job.plan, 2 * walk, steps)
-        for score, tail in asks:
-            count = sum(inside(job.value(plan, score), score, tail) for plan in visited)
-            lines.append(f"walk {walk} moved {moved} {words(score, tail)} count {count} of {steps + 1}"
+    start = [job.value(job.plan, score) for score, _ in asks]
+    words = [f"{score} {tail} start {first}/{job.denominator(score)}" for first, (score, tail) in zip(start, asks)]
+    for walk, (moved, counts) in enumerate(found[:walks]):
+        for ask, count in zip(words, counts):
+            lines.append(f"walk {walk} moved {moved} {ask} count {count} of {steps + 1}"
                          f" bound {billionths(bound(count, steps + 1))}")
-    hub = job.walk(job.plan, 1, hub_steps)[0][-1] if ends else None
-    last = [job.walk(hub, 2 * end + 3, hub_steps)[0][-1] for end in range(ends)]
-    for score, tail in asks if ends else []:
-        rank = 1 + sum(inside(job.value(plan, score), score, tail) for plan in last)
-        lines.append(f"ends {words(score, tail)} rank {rank} of {ends + 1} p {billionths(-(-rank * BILLION // (ends + 1)))}")
+    for place, (_, tail) in enumerate(asks if ends else []):
+        rank = 1 + sum(is_inside(values[place], start[place], tail) for _, values in found[walks:])
+        lines.append(f"ends {words[place]} rank {rank} of {ends + 1} p {billionths(-(-rank * BILLION // (ends + 1)))}")
     return "\n".join(lines + ["end", ""])
+
+
+def report(job, *numbers_and_asks):
+    return report_of(job, *numbers_and_asks, outcomes(job, *numbers_and_asks))
 
 
 def drawn_graph(chance):

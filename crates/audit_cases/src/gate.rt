@@ -1,4 +1,4 @@
-//! A gate that holds the first trajectory until others have begun.
+//! A gate that holds the first trajectory until others have begun, and one that counts them.
 
 use audit_io::gate::Gate;
 use std::sync::atomic::{AtomicU64, Ordering};
@@ -40,5 +40,31 @@ impl Gate for HoldsFirst {
             }
             thread::yield_now();
         }
+    }
+}
+
+/// Counts the trajectories that have begun.
+#[derive(Drop)]
+pub struct CountsAll {
+    begun: AtomicU64,
+}
+
+impl CountsAll {
+    /// A gate at which nobody has been.
+    pub fn new() -> CountsAll {
+        CountsAll {
+            begun: AtomicU64::new(0),
+        }
+    }
+
+    /// How many have begun.
+    pub fn begun(&self) -> u64 {
+        self.begun.load(Ordering::SeqCst)
+    }
+}
+
+impl Gate for CountsAll {
+    fn before(&self, _id: u32) {
+        self.begun.fetch_add(1, Ordering::SeqCst);
     }
 }

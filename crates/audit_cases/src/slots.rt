@@ -1,0 +1,107 @@
+//! What is in a slot before a run, and how a slot is shown after it.
+
+ghost use Rattle.std.specs.Prelude.{◌<◌};
+
+use audit_io::mem_keeper::MemKeeper;
+use audit_model::buffers::Bytes;
+use audit_model::memory::Memory;
+use hex::{decode, encode};
+use sha2::{Digest, Sha256};
+use std::alloc::Global;
+use std::rt::Files;
+use std::test::Fail;
+use std::{fs, io};
+
+/// One byte more than a checkpoint can have.
+const TOO_LONG: usize = 4_400_085;
+
+/// What is in a slot where a line says so: nothing, the bytes of the run before, these with another last byte, too many zeros, or the
+/// bytes whose hexadecimal digits are in a file.
+pub fn slot_of<R: Files + AllocGlobal>(
+    rt: &R,
+    said: &str,
+    before: Option<&[u8]>,
+) -> Result<Option<Bytes>, Fail> {
+    let alloc = rt.alloc();
+    let slot = match said {
+        "absent" => None,
+        "same" => before.map(|bytes| copy_of(alloc, bytes)).transpose()?,
+        "spoilt" => before.map(|bytes| spoilt(alloc, bytes)).transpose()?,
+        "long" => Some(zeros(alloc, TOO_LONG)?),
+        file => {
+            let digits = fs::read_to_string(rt, file)?;
+            Some(copy_of(alloc, decode(alloc, digits.trim())?.as_slice())?)
+        }
+    };
+    Ok(slot)
+}
+
+fn copy_of(alloc: Global, bytes: &[u8]) -> Result<Bytes, Memory> {
+    let mut copy = Bytes::new(alloc);
+    copy.append(bytes)?;
+    Ok(copy)
+}
+
+fn zeros(alloc: Global, count: usize) -> Result<Bytes, Memory> {
+    let mut bytes = Bytes::with_room(alloc, count)?;
+    for _ in 0..count {
+        bytes.push(0)?;
+    }
+    Ok(bytes)
+}
+
+// The bytes with each bit of the last one changed.
+fn spoilt(alloc: Global, bytes: &[u8]) -> Result<Bytes, Memory> {
+    let mut copy = Bytes::new(alloc);
+    if let Some((last, front)) = bytes.split_last() {
+        copy.append(front)?;
+        copy.push(!*last)?;
+    }
+    Ok(copy)
+}
+
+/// Shows a slot: its length, of a checkpoint its generation and the ids of its outcomes, and the digest of its bytes.
+pub fn show_slot<R: Print + AllocGlobal>(rt: &R, slot: u8, keeper: &MemKeeper) -> Result<(), Fail>
+    requires { slot < 2 }
+{
+    let Some(bytes) = keeper.slot(slot) else {
+        println!(rt; "slot {slot} absent")?;
+        return Ok(());
+    };
+    let length = bytes.len();
+    print!(rt; "slot {slot} {length} bytes")?;
+    if let Some(records) = records_of(bytes) {
+        show_records(rt, number_at(bytes, 44).unwrap_or(0), records)?;
+    }
+    let digest = encode(rt.alloc(), Sha256::digest(bytes))?;
+    println!(rt; " sha256 {digest}")?;
+    Ok(())
+}
+
+// The records of outcomes, where there are as many bytes as their number says.
+fn records_of(bytes: &[u8]) -> Option<&[u8]> {
+    let count = number_at(bytes, 48)? as usize;
+    let (_head, records_and_digest) = bytes.split_first_chunk::<52>()?;
+    let (records, _digest) = records_and_digest.split_last_chunk::<32>()?;
+    if records.len() == 44 * count {
+        Some(records)
+    } else {
+        None
+    }
+}
+
+// The number of the four bytes at this place.
+fn number_at(bytes: &[u8], place: usize) -> Option<u32> {
+    let four = bytes.get(place..)?.first_chunk::<4>()?;
+    Some(u32::from_be_bytes(*four))
+}
+
+fn show_records<R: Print>(rt: &R, generation: u32, records: &[u8]) -> io::Result<()> {
+    print!(rt; " generation {generation} ids")?;
+    for record in records.chunks_exact(44) {
+        if let Some(id) = number_at(record, 0) {
+            print!(rt; " {id}")?;
+        }
+    }
+    Ok(())
+}

@@ -1,0 +1,213 @@
+"""Runs with a keeper of two slots, by a plain program: what `audit_cases` must print for each line of its file `slots`.
+
+Usage: python3 checkpoint_cases.py FOLDER
+       python3 checkpoint_cases.py --files FOLDER
+FOLDER has the file `slots` and the files that it names, as crates/audit_cases/data. The first prints the text. The second writes the files
+of the slots that are no good checkpoint, each with one fault alone, and of three that are. Words that are refused are known only by the values of
+the names that this is about, and a graph is refused only where it is no JSON. Checkpoints and trajectories are those of checkpoints.py.
+"""
+import hashlib
+import json
+import pathlib
+import struct
+import sys
+from collections import namedtuple
+
+from checkpoints import (MOST_BYTES, Setting, checkpoint, digest, fault, fits, generation_and_count, job_of, record,
+                         records, sealed)
+from compare import expected
+from compare_walks import outcomes, report_of
+
+Slot = namedtuple("Slot", "fault job generation found")
+End = namedtuple("End", "status begun out note")
+
+
+class Keeper:
+    """Two slots, each bytes or None, and the numbers of the load and of the save that fail."""
+
+    def __init__(self, slots, failing_load, failing_save):
+        self.slots, self.failing_load, self.failing_save = list(slots), failing_load, failing_save
+        self.saves = 0
+
+    def load_all(self):
+        """Both slots, or None where a load fails."""
+        return self.slots if self.failing_load not in (1, 2) else None
+
+    def save(self, slot, data):
+        """Whether the save went well; a save that fails leaves the first half."""
+        self.saves += 1
+        is_good = self.saves != self.failing_save
+        self.slots[slot] = data if is_good else data[:len(data) // 2]
+        return is_good
+
+
+def looked(setting, wanted, data):
+    """What a slot is for the job with this digest."""
+    why = "absent" if data is None else fault(data)
+    if why is None and data[12:44] == wanted and not all(fits(setting, *one) for one in records(data)):
+        why = "unfit"
+    if why:
+        return Slot(why, None, None, None)
+    return Slot(None, data[12:44], generation_and_count(data)[0], {one[0]: (one[1], one[2:]) for one in records(data)})
+
+
+def newest(slots):
+    """The number of the newest intact slot, or None."""
+    intact = [number for number in (0, 1) if slots[number].fault is None]
+    if len(intact) == 2:
+        return 1 if slots[1].generation == (slots[0].generation + 1) % 3 else 0
+    return intact[0] if intact else None
+
+
+def resumed(slots, wanted):
+    """The outcomes that a run goes on from, or the note that refuses them."""
+    if all(slot.fault == "absent" for slot in slots):
+        return {}, None
+    number = newest(slots)
+    if number is None:
+        return None, f"checkpoint: slot 0 {slots[0].fault}, slot 1 {slots[1].fault}"
+    if slots[number].job != wanted:
+        return None, f"checkpoint: other job {slots[number].job.hex()}, this job {wanted.hex()}"
+    return slots[number].found, None
+
+
+def place(slots):
+    """The slot and the generation of the next checkpoint."""
+    number = newest(slots)
+    return (0, 0) if number is None else (1 - number, (slots[number].generation + 1) % 3)
+
+
+def is_number(text):
+    return text.isdecimal() and str(int(text)) == text and int(text) <= 100000
+
+
+def bad_name(setting):
+    """The first of the last three names whose value is bad, in the order of their table."""
+    budget, save = setting.given.get("--budget", "100000"), setting.given.get("--save", "0")
+    if not is_number(budget) or save == "0" and int(budget) < setting.total:
+        return "--budget"
+    if not is_number(save):
+        return "--save"
+    return None if setting.given.get("--resume", "no") in ("yes", "no") else "--resume"
+
+
+def walked(setting, job, slots, keeper, room):
+    """How a run ends over the slots that it looked at, if it did."""
+    wanted, is_resumed = digest(job, setting), setting.given.get("--resume") == "yes"
+    found, refusal = resumed(slots, wanted) if is_resumed else ({}, None)
+    if refusal:
+        return End(8, 0, "", refusal)
+    every = dict(enumerate(outcomes(job, *setting.trajectories())))
+    todo = [number for number in every if number not in found][:int(setting.given.get("--budget", "100000"))]
+    found = {**found, **{number: every[number] for number in todo}}
+    is_saved = True
+    if setting.given.get("--save", "0") != "0":
+        slot, generation = place(slots)
+        is_saved = keeper.save(slot, checkpoint(wanted, generation, found))
+    text = ""
+    if len(found) == setting.total:
+        text = report_of(job, *setting.trajectories(), [found[number] for number in sorted(found)])
+    if len(text) > room:
+        return End(5, len(todo), text[:room], "write fault")
+    if not is_saved:
+        return End(9, len(todo), text, "checkpoint save fault")
+    if not text:
+        return End(7, len(todo), "", f"stopped: {len(found)} of {setting.total} done")
+    return End(0, len(todo), text, "")
+
+
+def audit(words, text, keeper, room):
+    """How a whole call ends."""
+    setting = Setting(words)
+    if setting.command != "check" and bad_name(setting):
+        return End(1, 0, "", f"words: bad value for {bad_name(setting)}")
+    try:
+        job = job_of(setting, text)
+    except json.JSONDecodeError:
+        return End(2, 0, "", "graph: not JSON")
+    if setting.command == "check":
+        return End(0, 0, expected(json.loads(text), setting.given["--pop"], setting.given["--district"], setting.slack), "")
+    slots = None
+    if setting.given.get("--save", "0") != "0" or setting.given.get("--resume") == "yes":
+        loaded = keeper.load_all()
+        if loaded is None:
+            return End(6, 0, "", "checkpoint load fault")
+        slots = [looked(setting, digest(job, setting), data) for data in loaded]
+    return walked(setting, job, slots, keeper, room)
+
+
+def shown(number, data):
+    if data is None:
+        return f"slot {number} absent"
+    found = records(data)
+    ids = "" if found is None else " ".join([f" generation {generation_and_count(data)[0]} ids", *(str(one[0]) for one in found)])
+    return f"slot {number} {len(data)} bytes{ids} sha256 {hashlib.sha256(data).hexdigest()}"
+
+
+def slot_of(folder, said, before):
+    if said in ("absent", "same"):
+        return before if said == "same" else None
+    if said == "spoilt":
+        return before[:-1] + bytes([255 - before[-1]])
+    return bytes(MOST_BYTES + 1) if said == "long" else bytes.fromhex((folder / said).read_text())
+
+
+def text_of(folder, line, before):
+    """What a line prints, and the slots that it leaves."""
+    zero, one, load, save, room, file, *words = line.split()
+    slots = [slot_of(folder, said, slot) for said, slot in zip((zero, one), before)]
+    keeper = Keeper(slots, int(load), int(save))
+    end = audit(words, (folder / file).read_text(), keeper, int(room))
+    lines = [line, f"status {end.status}", f"{end.begun} had begun", end.out + end.note]
+    lines += [shown(number, data) for number, data in enumerate(keeper.slots)]
+    return "\n".join(part.removesuffix("\n") for part in lines) + "\n", keeper.slots
+
+
+def damaged(words, text):
+    """Checkpoints of twelve walks on the cycle of four units: with one fault alone, and three good ones."""
+    setting = Setting(words.split())
+    job = job_of(setting, text)
+    every, own = dict(enumerate(outcomes(job, *setting.trajectories()))), digest(job, setting)
+    five, ten = ({number: every[number] for number in range(count)} for count in (5, 10))
+    front = checkpoint(own, 0, five)[:-32]
+    moved, values = every[0]
+
+    def of_one(number, moves, counts):
+        return checkpoint(own, 0, {number: (moves, counts)})
+
+    some = {number: every[number] for number in (1, 3, 11)}
+    return {
+        "too_short": checkpoint(own, 0, {})[:-1],
+        "bad_magic": sealed(b"DISTCKPS" + front[8:]),
+        "bad_version": sealed(front[:8] + struct.pack(">I", 2) + front[12:]),
+        "bad_generation": checkpoint(own, 3, five),
+        "bad_count": sealed(front[:48] + struct.pack(">I", 6) + front[52:]),
+        "bad_order": sealed(front[:48] + struct.pack(">I", 2) + 2 * record(0, moved, values)),
+        "unfit_id": of_one(12, moved, values),
+        "unfit_moves": of_one(0, 9, values),
+        "unfit_visits": of_one(0, moved, [10]),
+        "unfit_value": of_one(0, moved, [*values, 1]),
+        "five": checkpoint(own, 1, five),
+        "ten": checkpoint(own, 0, ten),
+        "gaps": checkpoint(own, 2, some),
+    }
+
+
+def write_files(folder):
+    words = ("run --pop pop --first a --second b --district d --slack 5000 --walks 12 --steps 8 --ask gap:low --key " + 64 * "0")
+    for name, data in damaged(words, (folder / "cycle.json").read_text()).items():
+        (folder / f"{name}.hex").write_text(data.hex() + "\n")
+
+
+def main(*words):
+    folder = pathlib.Path(words[-1])
+    if words[0] == "--files":
+        return write_files(folder)
+    slots = [None, None]
+    for line in (folder / "slots").read_text().splitlines():
+        text, slots = text_of(folder, line, slots)
+        print(text, end="")
+
+
+if __name__ == "__main__":
+    main(*sys.argv[1:])
