@@ -175,14 +175,13 @@ fn end_run<K: Sink>(
 fn walk<R: Threads + Sync, G: Gate + Sync>(
     rt: &R,
     job: &Job,
-    opening: &Opening,
     ready: Ready,
     gate: &G,
 ) -> Walked
     requires run { IsRun job.now }
-    requires fit { AreFit job.now opening.now.outcomes.items }
-    requires ready { IsReadyFor job.now opening.now.outcomes.items ready }
-    ensures { HasWalked job.now opening.now.outcomes.items result }
+    requires fit { AreFit job.now ready.book.outcomes }
+    requires ready { IsReadyFor job.now ready.book.outcomes ready }
+    ensures { HasWalked job.now ready.book.outcomes result }
 {
     let Ready {
         mut book,
@@ -192,7 +191,6 @@ fn walk<R: Threads + Sync, G: Gate + Sync>(
         text,
         room,
     } = ready;
-    let _opening = opening;
     walk_run(rt, job, todo.as_slice(), gate, crew, &mut book, &mut sorted);
     Walked { sorted, text, room }
 }
@@ -217,7 +215,7 @@ fn walk_and_end<R: Threads + Sync, K: Sink, C: Keeper, G: Gate + Sync>(
         sorted,
         text,
         mut room,
-    } = walk(rt, job, opening, ready, gate);
+    } = walk(rt, job, ready, gate);
     let saved = save_last(keeper, job, opening.target, sorted.as_slice(), &mut room);
     end_run(job, sorted.as_slice(), text, saved, out)
 }
