@@ -14,6 +14,7 @@ pub mod Lines
 pub mod Listing
 pub mod OneThread
 pub mod Preparing
+pub mod Reruns
 pub mod Running
 pub mod Saved
 pub mod Sharing

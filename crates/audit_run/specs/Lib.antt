@@ -6,6 +6,7 @@ pub mod Ended
 pub mod Ends
 pub mod Headline
 pub mod Left
+pub mod Rerun
 pub mod Running
 pub mod Said
 pub mod Steps

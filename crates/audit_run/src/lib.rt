@@ -4,6 +4,7 @@
 pub mod audit;
 pub mod crew;
 pub mod ended;
+pub mod laws;
 pub mod note;
 pub mod opening;
 pub mod prepare;

@@ -172,12 +172,7 @@ fn end_run<K: Sink>(
 }
 
 // Walks what is to be walked. It takes no memory.
-fn walk<R: Threads + Sync, G: Gate + Sync>(
-    rt: &R,
-    job: &Job,
-    ready: Ready,
-    gate: &G,
-) -> Walked
+fn walk<R: Threads + Sync, G: Gate + Sync>(rt: &R, job: &Job, ready: Ready, gate: &G) -> Walked
     requires run { IsRun job.now }
     requires fit { AreFit job.now ready.book.outcomes }
     requires ready { IsReadyFor job.now ready.book.outcomes ready }
