@@ -1,0 +1,90 @@
+"""Halts, kills and resumes the auditor on drawn graphs, and compares the last report, byte for byte, with that of one run in one piece.
+
+Usage: python3 compare_chains.py PROGRAM [GRAPHS [SEED]]
+PROGRAM is the built program. Graphs, plans and keys are drawn as in compare_walks.py (20, if not said). Each audit is made once in one
+piece, and once as a chain of runs over real files in a folder of its own: each run has a drawn budget and a drawn number of workers, some
+are killed after a drawn time, and after some a drawn byte of a drawn file is changed. A run that finds no intact file is begun afresh.
+Ends with status 0 where all reports are the same, and prints how many runs there were.
+"""
+import pathlib
+import random
+import subprocess
+import sys
+import tempfile
+
+import compare_walks
+
+SLOTS = ("audit-0.ckpt", "audit-1.ckpt")
+
+
+def words_of(job, numbers, asks):
+    words = ["run", "--pop", "POP", "--first", "A", "--second", "B", "--district", "CD", "--slack", str(job.slack),
+             "--key", job.key.hex(), "--ask", ",".join(":".join(ask) for ask in asks)]
+    for name, number in zip(("--walks", "--steps", "--ends", "--hub-steps"), numbers):
+        words += [name, str(number)]
+    return words
+
+
+def spoil(chance, folder):
+    """Changes a byte of one file, where there is one."""
+    file = pathlib.Path(folder, chance.choice(SLOTS))
+    if file.exists() and file.stat().st_size > 0:
+        content = bytearray(file.read_bytes())
+        content[chance.randrange(len(content))] ^= 1 << chance.randrange(8)
+        file.write_bytes(content)
+
+
+def run(program, words, text, folder, limit):
+    """The status and the output of a run, or None where it was killed."""
+    try:
+        done = subprocess.run([program, *words], input=text, capture_output=True, text=True, cwd=folder, timeout=limit)
+    except subprocess.TimeoutExpired:
+        return None
+    return done.returncode, done.stdout, done.stderr
+
+
+def chain(chance, program, words, text, folder, counts):
+    """The output of the run of a chain that ends with status 0."""
+    resume = "no"
+    while True:
+        more = ["--save", "1", "--resume", resume, "--budget", str(chance.randint(0, 9)), "--workers", str(chance.randint(1, 4))]
+        limit = chance.uniform(0.001, 0.02) if chance.random() < 0.3 else 60
+        answer = run(program, words + more, text, folder, limit)
+        counts["runs"] += 1
+        if answer is None:
+            counts["killed"] += 1
+        elif answer[0] == 0:
+            return answer[1]
+        elif answer[0] == 8:
+            counts["refused"] += 1
+        elif answer[0] != 7:
+            return f"status {answer[0]}: {answer[2]}"
+        resume = "no" if answer is not None and answer[0] == 8 else "yes"
+        if chance.random() < 0.1:
+            spoil(chance, folder)
+
+
+def main(program, graphs="20", seed="1"):
+    program = str(pathlib.Path(program).resolve())
+    chance = random.Random(int(seed))
+    same = 0
+    counts = {"runs": 0, "killed": 0, "refused": 0}
+    for number in range(int(graphs)):
+        job = compare_walks.drawn_job(chance)
+        numbers = (chance.randint(1, 30), chance.randint(20, 20000), chance.randint(0, 20), chance.randint(10, 5000))
+        asks = [(score, chance.choice(("low", "high"))) for score in ("seats", "mean-median", "gap", "cut-edges")]
+        words, text = words_of(job, numbers, asks), compare_walks.document(job)
+        with tempfile.TemporaryDirectory() as folder:
+            wanted = run(program, words, text, folder, 600)
+            found = chain(chance, program, words, text, folder, counts)
+        if wanted[0] == 0 and found == wanted[1]:
+            same += 1
+        else:
+            print(f"graph {number} of seed {seed}: wanted\n{wanted[1]}{wanted[2]}but found\n{found}")
+    print(f"same in {same} of {graphs} chains of {counts['runs']} runs, of which {counts['killed']} were killed"
+          f" and {counts['refused']} refused damaged files")
+    return 0 if same == int(graphs) else 1
+
+
+if __name__ == "__main__":
+    sys.exit(main(*sys.argv[1:]))
