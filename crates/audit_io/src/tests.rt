@@ -14,7 +14,6 @@ use crate::sure_keeper::SureKeeper;
 use audit_model::buffers::Bytes;
 use audit_model::lists::NumList;
 use std::alloc::Global;
-use std::process::Abort;
 use std::rt::Files;
 use std::test::Fail;
 use std::{fs, io};
@@ -105,40 +104,45 @@ fn remove<R: Files>(rt: &R, file: &str) -> io::Result<()> {
     }
 }
 
-// A folder stands in the place of a slot's file.
-fn fails_at_folder<R: Files + Abort>(
-    rt: &R,
-    keeper: &mut FileKeeper<&R>,
-    room: &mut Bytes,
-) -> io::Result<()> {
-    fs::create_dir(rt, "audit-0.ckpt")?;
-    assert_eq!(rt; keeper.load(0, 9, room), Err(LoadError::Failed));
-    assert_eq!(rt; keeper.save(0, b"first"), Err(Failed));
-    fs::remove_dir(rt, "audit-0.ckpt")
-}
-
 #[test]
 fn files_keep_slots(rt: HostRuntime) -> Result<(), Fail> {
     remove(&rt, "audit-0.ckpt")?;
-    remove(&rt, "audit-1.ckpt")?;
     let mut keeper = FileKeeper::new(&rt);
     let mut room = Bytes::new(rt.alloc());
     assert_eq!(rt; keeper.load(0, 9, &mut room), Ok(false));
     assert_eq!(rt; keeper.save(0, b"longer first"), Ok(()));
-    assert_eq!(rt; keeper.load(1, 9, &mut room), Ok(false));
     assert_eq!(rt; keeper.save(0, b"first"), Ok(()));
     assert_eq!(rt; keeper.load(0, 5, &mut room), Ok(true));
     assert_eq!(rt; room.as_slice(), b"first".as_slice());
     assert_eq!(rt; keeper.load(0, 4, &mut room), Err(LoadError::Long(4)));
+    remove(&rt, "audit-0.ckpt")?;
+    Ok(())
+}
+
+#[test]
+fn files_are_left_alone(rt: HostRuntime) -> Result<(), Fail> {
+    remove(&rt, "audit-0.ckpt")?;
+    let mut keeper = FileKeeper::new(&rt);
+    let mut room = Bytes::new(rt.alloc());
     assert_eq!(rt; keeper.save(1, &[7; 9000]), Ok(()));
-    assert_eq!(rt; keeper.load(1, 8999, &mut room), Err(LoadError::Long(8999)));
+    assert_eq!(rt; keeper.load(0, 9, &mut room), Ok(false));
+    assert_eq!(rt; keeper.save(0, b"first"), Ok(()));
     assert_eq!(rt; keeper.load(1, 9000, &mut room), Ok(true));
     assert_eq!(rt; room.as_slice(), [7; 9000].as_slice());
-    assert_eq!(rt; keeper.load(0, 9, &mut room), Ok(true));
-    assert_eq!(rt; room.as_slice(), b"first".as_slice());
     remove(&rt, "audit-0.ckpt")?;
-    fails_at_folder(&rt, &mut keeper, &mut room)?;
     remove(&rt, "audit-1.ckpt")?;
+    Ok(())
+}
+
+#[test]
+fn folder_is_no_slot(rt: HostRuntime) -> Result<(), Fail> {
+    remove(&rt, "audit-0.ckpt")?;
+    let mut keeper = FileKeeper::new(&rt);
+    let mut room = Bytes::new(rt.alloc());
+    fs::create_dir(&rt, "audit-0.ckpt")?;
+    assert_eq!(rt; keeper.load(0, 9, &mut room), Err(LoadError::Failed));
+    assert_eq!(rt; keeper.save(0, b"first"), Err(Failed));
+    fs::remove_dir(&rt, "audit-0.ckpt")?;
     Ok(())
 }
 
