@@ -13,7 +13,7 @@ import struct
 import sys
 from collections import namedtuple
 
-from checkpoints import (MOST_BYTES, Setting, checkpoint, digest, fault, fits, generation_and_count, job_of, record,
+from checkpoints import (MOST_BYTES, Setting, binned_checkpoint, binned_records, checkpoint, digest, fault, fits, generation_and_count, job_of, record,
                          records, sealed)
 from compare import expected
 from compare_walks import outcomes, report_of
@@ -44,7 +44,7 @@ class Keeper:
 def looked(setting, wanted, data):
     """What a slot is for the job with this digest."""
     why = "absent" if data is None else fault(data)
-    if why is None and data[12:44] == wanted and not all(fits(setting, *one) for one in records(data)):
+    if why is None and data[12:44] == wanted and not all(fits(setting, *one) for one in binned_records(data)):
         why = "unfit"
     if why:
         return Slot(why, None, None, None)
@@ -139,7 +139,7 @@ def audit(words, text, keeper, room):
 def shown(number, data):
     if data is None:
         return f"slot {number} absent"
-    found = records(data)
+    found = records(data) if data[8:12] != b"\0\0\0\2" else None
     ids = "" if found is None else " ".join([f" generation {generation_and_count(data)[0]} ids", *(str(one[0]) for one in found)])
     return f"slot {number} {len(data)} bytes{ids} sha256 {hashlib.sha256(data).hexdigest()}"
 
@@ -179,7 +179,7 @@ def damaged(words, text):
     return {
         "too_short": checkpoint(own, 0, {})[:-1],
         "bad_magic": sealed(b"DISTCKPS" + front[8:]),
-        "bad_version": sealed(front[:8] + struct.pack(">I", 2) + front[12:]),
+        "bad_version": sealed(front[:8] + struct.pack(">I", 3) + front[12:]),
         "bad_generation": checkpoint(own, 3, five),
         "bad_count": sealed(front[:48] + struct.pack(">I", 6) + front[52:]),
         "bad_order": sealed(front[:48] + struct.pack(">I", 2) + 2 * record(0, moved, values)),
@@ -190,6 +190,8 @@ def damaged(words, text):
         "five": checkpoint(own, 1, five),
         "ten": checkpoint(own, 0, ten),
         "gaps": checkpoint(own, 2, some),
+        "binned": binned_checkpoint(own, 1, {number: (*every[number], [0, 0, 0, 7, 2, 0, 0, 0, 0]) for number in range(5)}),
+        "unfit_bins": binned_checkpoint(own, 1, {0: (*every[0], [0, 0, 0, 7, 3, 0, 0, 0, 0])}),
     }
 
 

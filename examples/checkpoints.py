@@ -19,7 +19,7 @@ NUMBERS = {"--size": 0, "--slack": 500, "--walks": 1, "--steps": 1000, "--ends":
 SCORES = ("seats", "mean-median", "gap", "cut-edges")
 TAILS = ("low", "high")
 MOST_OUTCOMES = 100000
-MOST_BYTES = 84 + 44 * MOST_OUTCOMES
+MOST_BYTES = 84 + 80 * MOST_OUTCOMES
 
 
 class Setting:
@@ -88,17 +88,33 @@ def sealed(front):
     return front + hashlib.sha256(front).digest()
 
 
+def binned_checkpoint(job_digest, generation, found):
+    """The bytes of a checkpoint of the second version, given as a map from the id to the moves, the values and the bins."""
+    head = b"DISTCKPT" + struct.pack(">I", 2) + job_digest + struct.pack(">2I", generation, len(found))
+    return sealed(head + b"".join(record(number, *found[number][:2]) + struct.pack(">9I", *found[number][2]) for number in sorted(found)))
+
+
 def checkpoint(job_digest, generation, found):
     """The bytes of a checkpoint of outcomes, given as a map from the id to the moves and the values."""
     head = b"DISTCKPT" + struct.pack(">I", 1) + job_digest + struct.pack(">2I", generation, len(found))
     return sealed(head + b"".join(record(number, *found[number]) for number in sorted(found)))
 
 
-def records(data):
-    """The records of a checkpoint, each the id, the moves and four values; None where its length is not that of its count."""
-    if len(data) < 84 or len(data) != 84 + 44 * generation_and_count(data)[1]:
+def binned_records(data):
+    """The records of a checkpoint of either version, each the id, the moves, four values and nine bins, which the first version lacks; None
+    where its length is not that of its count."""
+    second = data[8:12] == b"\0\0\0\2"
+    if len(data) < 84 or len(data) != 84 + (80 if second else 44) * generation_and_count(data)[1]:
         return None
-    return list(struct.iter_unpack(">IQ4q", data[52:-32]))
+    if second:
+        return list(struct.iter_unpack(">IQ4q9I", data[52:-32]))
+    return [one + (0,) * 9 for one in struct.iter_unpack(">IQ4q", data[52:-32])]
+
+
+def records(data):
+    """The same without the bins."""
+    found = binned_records(data)
+    return None if found is None else [one[:6] for one in found]
 
 
 def generation_and_count(data):
@@ -115,7 +131,7 @@ def fault(data):
     found = records(data)
     faults = {
         "bad magic": data[:8] != b"DISTCKPT",
-        "bad version": data[8:12] != b"\0\0\0\1",
+        "bad version": data[8:12] not in (b"\0\0\0\1", b"\0\0\0\2"),
         "bad generation": generation > 2,
         "bad count": count > MOST_OUTCOMES or found is None,
         "bad order": found is not None and any(one[0] >= other[0] for one, other in zip(found, found[1:])),
@@ -124,13 +140,15 @@ def fault(data):
     return next((name for name, applies in faults.items() if applies), None)
 
 
-def fits(setting, number, moved, *values):
-    """Whether an outcome could be one of the job's."""
+def fits(setting, number, moved, *numbers):
+    """Whether an outcome with its four values and nine bins could be one of the job's."""
+    values, bins = numbers[:4], numbers[4:]
     is_walk, asks = number < setting.walks, len(setting.asks)
     steps = setting.steps if is_walk else setting.hub_steps
     counts = values[:asks] if is_walk else ()
     return (number < setting.total and moved <= steps and not any(values[asks:])
-            and all(1 <= count <= setting.steps + 1 for count in counts))
+            and all(1 <= count <= setting.steps + 1 for count in counts)
+            and (not any(bins) or is_walk and sum(bins) == setting.steps + 1))
 
 
 def main(*words):

@@ -1,17 +1,19 @@
-//! Whole audits over sources, sinks and keepers in memory: one for each line of the files `cases` and `slots`, with what it answers.
+//! Whole audits over sources, sinks and keepers in memory: one for each line of the files `cases`, `slots` and `graphs`, with what it answers.
 //!
 //! A line of `cases` has the number of the read that fails, 0 for none, then the room of the sink in bytes, then how many trajectories have to
 //! begin before the first one may walk, 0 for a gate that does nothing, then the file of the graph, and the words. `keeping` says what
-//! a line of `slots` has.
+//! a line of `slots` has, and `graphs` what one of `graphs` has.
 #![tactic(auto)]
 
 mod gate;
+mod graphs;
 mod keeping;
 mod slots;
 mod streams;
 mod whole;
 
 use crate::gate::HoldsFirst;
+use crate::graphs::check_lines;
 use crate::keeping::run_lines;
 use crate::streams::{show_end, sink_of, source_of, words_of};
 use crate::whole::status_of;
@@ -69,5 +71,7 @@ fn main(rt: HostRuntime) -> Result<(), Fail> {
         run_case(&rt, case)?;
     }
     let lines = fs::read_to_string(&rt, "slots")?;
-    run_lines(&rt, lines.as_str())
+    run_lines(&rt, lines.as_str())?;
+    let graphs = fs::read_to_string(&rt, "graphs")?;
+    check_lines(&rt, graphs.as_str())
 }

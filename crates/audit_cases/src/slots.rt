@@ -13,7 +13,7 @@ use std::test::Fail;
 use std::{fs, io};
 
 /// One byte more than a checkpoint can have.
-const TOO_LONG: usize = 4_400_085;
+const TOO_LONG: usize = 8_000_085;
 
 /// What is in a slot where a line says so: nothing, the bytes of the run before, these with another last byte, too many zeros, or the
 /// bytes whose hexadecimal digits are in a file.

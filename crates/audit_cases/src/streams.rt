@@ -20,17 +20,22 @@ pub fn failing(alloc: Global, number: u64) -> Result<NumList, Memory> {
     Ok(numbers)
 }
 
-/// The bytes of a file, 100 in each read, of which one may fail.
+/// The bytes of a text, 100 in each read, of which one may fail.
+pub fn reading(alloc: Global, text: &str, fails: u64) -> Result<MemSource, Memory> {
+    let mut bytes = Bytes::new(alloc);
+    bytes.append(text.as_bytes())?;
+    Ok(MemSource::new(bytes, 100, failing(alloc, fails)?))
+}
+
+/// The bytes of a file, read in the same way.
 pub fn source_of<R: Files + AllocGlobal>(
     rt: &R,
     file: &str,
     fails: u64,
 ) -> Result<MemSource, Fail> {
-    let alloc = rt.alloc();
     let text = fs::read_to_string(rt, file)?;
-    let mut bytes = Bytes::new(alloc);
-    bytes.append(text.as_bytes())?;
-    Ok(MemSource::new(bytes, 100, failing(alloc, fails)?))
+    let source = reading(rt.alloc(), text.as_str(), fails)?;
+    Ok(source)
 }
 
 /// A sink of so much room that takes 10 bytes in each write.

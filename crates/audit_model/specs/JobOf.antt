@@ -1,18 +1,22 @@
--- The job of a graph and a setting, or the first reason to refuse the start plan.
-use Rattle.std.specs.Prelude.{ℕ, ◌==◌, ◌&&◌, Bool, true, false, IsFalse, not, cond, [], ◌∷◌, length, Option, Some, None, option_map, unwrap_or, Result, Ok, Err}
+-- The job of a graph, a setting and regions, or the first reason to refuse the start plan.
+-- This project's refusals, in their order. Each is said by itself, at its least place; the code stops at the first.
+use Rattle.std.specs.Prelude.{ℕ, ◌==◌, ◌&&◌, Bool, true, false, IsFalse, not, cond, nat_lt, List, [], ◌∷◌, length, Option, Some, None, option_map, unwrap_or, Result, Ok, Err}
 use Rattle.std.specs.List.{list_any}
 use Rattle.audit_model.specs.declared.fault.PlanFault.{PlanFault}
-use Rattle.audit_model.specs.declared.fault.PlanFault.TheVariants.{NoVotes, OutOfBounds, Disconnected}
+use Rattle.audit_model.specs.declared.fault.PlanFault.TheVariants.{NoVotes, OutOfBounds, Disconnected, TooManyCut, TooManySplit}
+use Rattle.audit_model.specs.declared.setting.Label.{Label}
 use Rattle.audit_model.specs.declared.setting.Score.{Score}
 use Rattle.audit_model.specs.declared.setting.Score.TheVariants.{Seats, MeanMedian, Gap, CutEdges}
 use Rattle.audit_model.specs.declared.setting.Setting.{Setting}
+use Rattle.audit_model.specs.Below.{above_all}
 use Rattle.audit_model.specs.First.{first_some, first_below}
 use Rattle.audit_model.specs.Graph.{has}
 use Rattle.audit_model.specs.Job.{Job, total_votes}
 use Rattle.audit_model.specs.Limits.{IsWithinLimits}
+use Rattle.audit_model.specs.Meets.{split_of}
 use Rattle.audit_model.specs.Parsed.{Parsed}
 use Rattle.audit_model.specs.Path.{is_connected, reached}
-use Rattle.audit_model.specs.Plan.{IsLegal, in_district, district_sum, is_balanced, least_population, greatest_population}
+use Rattle.audit_model.specs.Plan.{IsLegal, in_district, district_sum, cut_edges, is_balanced, least_population, greatest_population}
 
 abbrev pub is_gap : Score → Bool
 is_gap Seats = false
@@ -41,7 +45,15 @@ is_unbalanced job d = not (is_balanced job (district_sum job.counts.population j
 abbrev pub is_parted : Job → ℕ → Bool
 is_parted job d = not (is_connected job.graph (in_district job.start d))
 
--- each refusal, at its least district
+-- the start plan cuts too many edges
+abbrev pub cuts_too_many : Job → Bool
+cuts_too_many job = nat_lt job.setting.max_cut (cut_edges job.graph job.start)
+
+-- the start plan splits a region among too many districts
+abbrev pub is_oversplit : Job → ℕ → Bool
+is_oversplit job region = nat_lt job.setting.max_split (split_of job.regions job.start region)
+
+-- each refusal, at its least district or region
 abbrev pub votes_fault : Job → Option PlanFault
 votes_fault job = cond (lacks_votes job) (Some NoVotes) None
 
@@ -57,22 +69,45 @@ disconnected job d = Disconnected d (least_unit job d) (parted_unit job d)
 abbrev pub path_fault : Job → Option PlanFault
 path_fault job = option_map (disconnected job) (first_below job.districts (is_parted job))
 
+abbrev pub cut_fault : Job → Option PlanFault
+cut_fault job = cond (cuts_too_many job) (Some (TooManyCut (cut_edges job.graph job.start) job.setting.max_cut)) None
+
+abbrev pub oversplit : Job → ℕ → PlanFault
+oversplit job region = TooManySplit region (split_of job.regions job.start region) job.setting.max_split
+
+abbrev pub split_fault : Job → Option PlanFault
+split_fault job = option_map (oversplit job) (first_below (above_all job.regions) (is_oversplit job))
+
 -- the first reason to refuse the start plan
 abbrev pub plan_fault : Job → Option PlanFault
-plan_fault job = first_some (votes_fault job ∷ bounds_fault job ∷ path_fault job ∷ [])
+plan_fault job = first_some (votes_fault job ∷ bounds_fault job ∷ path_fault job ∷ cut_fault job ∷ split_fault job ∷ [])
 
 abbrev pub job_or : Job → Option PlanFault → Result Job PlanFault
 job_or job None = Ok job
 job_or job (Some f) = Err f
 
--- the record of what was read and a setting, which is a job where its start plan is not refused
-abbrev pub job_from : Parsed → Setting → Job
-job_from parsed setting =
-    record { graph = parsed.graph; counts = parsed.counts; start = parsed.start; districts = length parsed.labels; setting = setting }
+-- the record of what was read, a setting and regions, which is a job where its start plan is not refused
+abbrev pub job_from : Parsed → Setting → List ℕ → Job
+job_from parsed setting regions = record {
+  graph = parsed.graph;
+  counts = parsed.counts;
+  start = parsed.start;
+  districts = length parsed.labels;
+  setting = setting;
+  regions = regions;
+}
 
 -- the job, or the first reason to refuse its start plan
-unfoldable pub job_of : Parsed → Setting → Result Job PlanFault
-job_of parsed setting = job_or (job_from parsed setting) (plan_fault (job_from parsed setting))
+unfoldable pub job_of : Parsed → Setting → List ℕ → Result Job PlanFault
+job_of parsed setting regions = job_or (job_from parsed setting regions) (plan_fault (job_from parsed setting regions))
+
+-- the record with another start plan, in which each unit has the place of its label among these
+abbrev pub restarted : Job → List ℕ → List Label → Job
+restarted job start labels = record job { start = start; districts = length labels }
+
+-- the job with that plan, or the first reason to refuse it
+unfoldable pub job_with : Job → List ℕ → List Label → Result Job PlanFault
+job_with job start labels = job_or (restarted job start labels) (plan_fault (restarted job start labels))
 
 -- all is within the limits, there are votes where the gap is asked for, and the plan to start from is legal
 pub record IsJob (job : Job) : Type 0 where

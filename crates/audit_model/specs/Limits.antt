@@ -1,25 +1,53 @@
--- The limits within which a graph, its counts, its start plan and a setting are accepted.
-use Rattle.std.specs.Prelude.{◌≡◌, ◌≢◌, ℕ, ◌+◌, ◌^◌, ◌<◌, ◌≤◌, true, false, List, [], length, slice_index}
+-- The limits within which a graph, its counts and regions, its start plan and a setting are accepted.
+use Rattle.std.specs.Prelude.{◌≡◌, ◌≢◌, ◌⊎◌, ℕ, ◌+◌, ◌^◌, ◌<◌, ◌≤◌, true, false, IsTrue, List, [], length, slice_index}
 use Rattle.std.specs.List.{All, AllPairs}
 use Rattle.audit_model.specs.declared.outcome.Counts.{Counts}
 use Rattle.audit_model.specs.declared.setting.Command.{Command}
-use Rattle.audit_model.specs.declared.setting.Command.TheVariants.{Check, Run, Make}
+use Rattle.audit_model.specs.declared.setting.Command.TheVariants.{Check, Run, Make, Plans}
 use Rattle.audit_model.specs.declared.setting.Setting.{Setting}
 use Rattle.audit_model.specs.Graph.{Graph, IsGraph, count_edges}
 use Rattle.audit_model.specs.Job.{Job}
+use Rattle.audit_model.specs.Power.{is_power_of_two}
+
+-- the most units, edges, districts and regions of a graph
+abbrev pub most_units : ℕ
+most_units = 100000
+
+abbrev pub most_edges : ℕ
+most_edges = 400000
+
+abbrev pub most_districts : ℕ
+most_districts = 200
+
+abbrev pub most_regions : ℕ
+most_regions = 5000
+
+-- the most that a unit has of people, or of a party's votes
+abbrev pub most_people : ℕ
+most_people = 10 ^ 9
+
+-- the most trajectories, and steps of each
+abbrev pub most_trajectories : ℕ
+most_trajectories = 100000
+
+abbrev pub most_steps : ℕ
+most_steps = 10 ^ 9
+
+abbrev pub most_workers : ℕ
+most_workers = 32
 
 -- one number for each unit, each at most 10 ^ 9
 pub record IsColumn (units : ℕ) (numbers : List ℕ) : Type 0 where
   pub width : length numbers ≡ units
-  pub small : All (λ n. n ≤ 10 ^ 9) numbers
+  pub small : All (λ n. n ≤ most_people) numbers
 
 -- at most 100,000 units, 400,000 edges and 200 districts, with a count and a district for each unit
 pub record AreWithin (graph : Graph) (counts : Counts) (start : List ℕ) (districts : ℕ) : Type 0 where
   pub simple : IsGraph graph
-  pub units : graph.units ≤ 100000
-  pub edges : count_edges graph (λ u v. true) ≤ 400000
+  pub units : graph.units ≤ most_units
+  pub edges : count_edges graph (λ u v. true) ≤ most_edges
   pub two : 2 ≤ districts
-  pub few : districts ≤ 200
+  pub few : districts ≤ most_districts
   pub population : IsColumn graph.units counts.population
   pub first : IsColumn graph.units counts.first
   pub second : IsColumn graph.units counts.second
@@ -29,18 +57,16 @@ pub record AreWithin (graph : Graph) (counts : Counts) (start : List ℕ) (distr
 -- the trajectories that a run may have
 pub record IsRunSetting (s : Setting) : Type 0 where
   pub some : 1 ≤ s.walks + s.ends
-  pub few : s.walks + s.ends ≤ 100000
+  pub few : s.walks + s.ends ≤ most_trajectories
   pub some_steps : 1 ≤ s.steps
-  pub few_steps : s.steps ≤ 10 ^ 9
+  pub few_steps : s.steps ≤ most_steps
   pub some_hub_steps : 1 ≤ s.hub_steps
-  pub few_hub_steps : s.hub_steps ≤ 10 ^ 9
+  pub few_hub_steps : s.hub_steps ≤ most_steps
   pub some_asks : 1 ≤ length s.asks
   pub few_asks : length s.asks ≤ 4
   pub apart : AllPairs (λ a b. a ≢ b) s.asks
   pub some_workers : 1 ≤ s.workers
-  pub few_workers : s.workers ≤ 32
-  pub budget : s.budget ≤ 100000
-  pub saves : s.save_every ≤ 100000
+  pub few_workers : s.workers ≤ most_workers
 
 -- what a check has in place of a run
 pub record IsCheckSetting (s : Setting) : Type 0 where
@@ -49,23 +75,39 @@ pub record IsCheckSetting (s : Setting) : Type 0 where
   pub no_ends : s.ends ≡ 0
   pub no_hub_steps : s.hub_steps ≡ 0
   pub no_asks : s.asks ≡ []
-  pub one_worker : s.workers ≡ 1
   pub no_budget : s.budget ≡ 0
   pub no_saves : s.save_every ≡ 0
-  pub fresh : s.resume ≡ false
 
 abbrev pub IsSettingOf : Command → Setting → Type 0
 IsSettingOf Check s = IsCheckSetting s
 IsSettingOf Run s = IsRunSetting s
 IsSettingOf Make s = IsRunSetting s
+IsSettingOf Plans s = IsRunSetting s
 
 -- a setting within its limits
 pub record IsSetting (s : Setting) : Type 0 where
   pub slack : s.slack ≤ 10000
   pub key : length s.key ≡ 32
+  pub max_cut : s.max_cut ≤ most_edges
+  pub some_splits : 1 ≤ s.max_split
+  pub few_splits : s.max_split ≤ most_districts
   pub command : IsSettingOf s.command s
+
+-- what the words see to beside the limits: a test that stops early has ends to test and neither saves nor resumes, and the run of the
+-- serial test has as many plans as a power of two
+pub record AreTestsSound (s : Setting) : Type 0 where
+  pub some_ends : 1 ≤ s.stop → 1 ≤ s.ends
+  pub no_saves : 1 ≤ s.stop → s.save_every ≡ 0
+  pub fresh : 1 ≤ s.stop → s.resume ≡ false
+  pub even : IsTrue s.serial → IsTrue (is_power_of_two (s.steps + 1))
+
+-- no regions, or one of at most 5,000 for each unit
+pub record AreRegions (units : ℕ) (regions : List ℕ) : Type 0 where
+  pub width : (regions ≡ []) ⊎ (length regions ≡ units)
+  pub few : All (λ r. r < most_regions) regions
 
 -- all that a job holds is within its limits
 pub record IsWithinLimits (job : Job) : Type 0 where
   pub input : AreWithin job.graph job.counts job.start job.districts
   pub setting : IsSetting job.setting
+  pub regions : AreRegions job.graph.units job.regions

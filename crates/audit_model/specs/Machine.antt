@@ -1,4 +1,5 @@
 -- The run of several workers as a machine: claims, posts, saves and halts, one at a time.
+-- This project's journal of one thread's run. It is lists of ids; the code has words, tickets and a slot.
 use Rattle.std.specs.Prelude.{◌≡◌, ◌<◌, ◌≤◌, ◌⊎◌, IsTrue, IsFalse, ℕ, ◌+◌, not, List, [], ◌∷◌, ◌++◌, length, take, replicate, slice_get, slice_set, Option, Some, None}
 use Rattle.audit_model.specs.declared.outcome.Did.{Did}
 use Rattle.audit_model.specs.declared.outcome.Did.TheVariants.{Claimed, Empty, Posted, Idle, Saved, Halted}

@@ -6,6 +6,8 @@ pub mod fault;
 pub mod lists;
 pub mod memory;
 pub mod outcome;
+pub mod plans;
+pub mod rules;
 pub mod setting;
 pub mod steps;
 pub mod text;

@@ -3,7 +3,7 @@ use Rattle.std.proofs.Common.{◌≡◌, ◌≢◌, ℕ, ◌&&◌, Bool, true, f
 use Rattle.audit_model.specs.declared.fault.WordFault.{WordFault}
 use Rattle.audit_model.specs.declared.setting.Setting.{Setting}
 use Rattle.note_definitions.specs.Note.{Ending, write_fault, load_fault, stopped, save_fault}
-use Rattle.text_definitions.specs.Words.{setting_of}
+use Rattle.word_definitions.specs.Words.{setting_of}
 use Rattle.audit_run.specs.Ended.{status_of}
 use Rattle.audit_run.specs.Ends.{Cause, EndsFor, IsLoadFault, LeavesUntouched, SameUnless, marks_of, passes, is_reading, saves, loads}
 use Rattle.audit_run.specs.Left.{LeavesAlone}

@@ -14,7 +14,7 @@ use Rattle.audit_model.specs.Run.{total, has_id, run_ids, kept_or, outcome_from,
 use Rattle.audit_model.specs.Trajectory.{outcome}
 use Rattle.checkpoint_definitions.specs.Checkpoint.{job_digest}
 use Rattle.checkpoint_definitions.specs.Slots.{IsHonestSlot, opening, slot_of}
-use Rattle.ckpt_store.specs.Laws.{HonestSlotsOpenRight, IsNotOurs, StopsLeaveHonestSlots}
+use Rattle.ckpt_store.specs.Laws.{HonestSlotsOpenRight, IsNotOurs, RightIsHonest, StopsLeaveHonestSlots}
 use Rattle.draw_definitions.specs.Draw.{draw}
 use Rattle.note_definitions.specs.Note.{Ending, write_fault, stopped, save_fault}
 use Rattle.audit_run.specs.Causes.{IsTheJob}
@@ -80,7 +80,7 @@ none_is_right job = record { apart = λ i j d l m. absurd (omega arith); below =
 -- ---- with what a run starts
 
 module _ (law : HonestSlotsOpenRight) (job : Job) where
-  told_right : (p : Pair) (outcomes : List Outcome) → AreHonestOf job p → opening true (slot_of job (job_digest job) p.zero_slot) (slot_of job (job_digest job) p.one_slot) ≡ Some outcomes
+  told_right : (p : Pair) (outcomes : List Outcome) → AreHonestOf job p → opening true job.setting (slot_of job (job_digest job) p.zero_slot) (slot_of job (job_digest job) p.one_slot) ≡ Some outcomes
       → IsRight job (draw job.setting.key) outcomes
   told_right p outcomes honest e =
       law job (draw job.setting.key) (slot_of job (job_digest job) p.zero_slot) (slot_of job (job_digest job) p.one_slot) outcomes honest.zero_slot honest.one_slot e
@@ -100,7 +100,7 @@ module _ (law : HonestSlotsOpenRight) (job : Job) where
       by false s e h = let none : [] ≡ outcomes = cc in subst (λ os. IsRight job (draw job.setting.key) os) none (none_is_right job)
       by true None e h = cc
       by true (Some p) e h =
-          let same : opening true (slot_of job (job_digest job) p.zero_slot) (slot_of job (job_digest job) p.one_slot) ≡ Some outcomes = cc in
+          let same : opening true job.setting (slot_of job (job_digest job) p.zero_slot) (slot_of job (job_digest job) p.one_slot) ≡ Some outcomes = cc in
           told_right p outcomes (h refl) same
 
 -- ---- what a run leaves
@@ -116,7 +116,7 @@ rises_or_not before now = by (cases_order (min (before + 1) (2 ^ 64 - 1)) now)
 both_known : (a b : Option Pair) (p q : Pair) (P : Pair → Pair → Type 0) → a ≡ Some p → b ≡ Some q → IfBothKnown a b P → P p q
 both_known a b p q P e f h = subst (λ (x : Option Pair). IfBothKnown x (Some q) P) e (subst (λ (y : Option Pair). IfBothKnown a y P) f h)
 
-module _ (stop : StopsLeaveHonestSlots) (job : Job) (p q : Pair) (honest : AreHonestOf job p) where
+module _ (honestly : RightIsHonest) (stop : StopsLeaveHonestSlots) (job : Job) (p q : Pair) (honest : AreHonestOf job p) where
   -- one slot was written to
   after_save : KeepsBeside job p q → (stored q (place_of job p).0 ≡ stored p (place_of job p).0) ⊎ IsNotOurs (slot_of job (job_digest job) (stored q (place_of job p).0))
       ⊎ IsHonestSlot job (draw job.setting.key) (slot_of job (job_digest job) (stored q (place_of job p).0)) → AreHonestOf job q
@@ -129,7 +129,7 @@ module _ (stop : StopsLeaveHonestSlots) (job : Job) (p q : Pair) (honest : AreHo
 
   saved_honest : (opening : List Outcome) → IsRight job (draw job.setting.key) opening → SavesAt job (full_of job opening) p q
       → IsHonestSlot job (draw job.setting.key) (slot_of job (job_digest job) (stored q (place_of job p).0))
-  saved_honest opening right s = subst (IsHonestSlot job (draw job.setting.key)) (sym s.slot_is) (full_right job opening right)
+  saved_honest opening right s = subst (IsHonestSlot job (draw job.setting.key)) (sym s.slot_is) (honestly job (draw job.setting.key) (full_of job opening) (full_right job opening right))
 
   pub saved_stays : (opening : List Outcome) → IsRight job (draw job.setting.key) opening → KeepsBeside job p q → SavesAt job (full_of job opening) p q → AreHonestOf job q
   saved_stays opening right beside s = after_save beside (inr (inr (saved_honest opening right s)))
@@ -137,7 +137,7 @@ module _ (stop : StopsLeaveHonestSlots) (job : Job) (p q : Pair) (honest : AreHo
   pub torn_stays : KeepsBeside job p q → IsUntorn job p q (place_of job p).0 → AreHonestOf job q
   torn_stays beside u = after_save beside u.left
 
-module _ (law : HonestSlotsOpenRight) (stop : StopsLeaveHonestSlots) (words : List (List ℕ)) (before after : World) (p q : Pair) (was : before.keeper.slots ≡ Some p) (is : after.keeper.slots ≡ Some q) where
+module _ (law : HonestSlotsOpenRight) (honestly : RightIsHonest) (stop : StopsLeaveHonestSlots) (words : List (List ℕ)) (before after : World) (p q : Pair) (was : before.keeper.slots ≡ Some p) (is : after.keeper.slots ≡ Some q) where
   -- what is to be shown of a job
   abbrev Stays : Job → Type 0
   Stays job = AreHonestOf job p → (Rose before.keeper.save_faults after.keeper.save_faults → IsUntorn job p q (place_of job p).0) → AreHonestOf job q
@@ -153,8 +153,8 @@ module _ (law : HonestSlotsOpenRight) (stop : StopsLeaveHonestSlots) (words : Li
 
   all_stays : (made : Type 0) (job : Job) → made ⊎ Rose before.keeper.save_faults after.keeper.save_faults → SavesAll made job before after → Stays job
   all_stays made job (inl m) s honest untorn =
-      saved_stays stop job p q honest s.outcomes (opening_of_told job s.outcomes s.opened honest) (both_known _ _ p q _ was is s.beside) (both_known _ _ p q _ was is (s.placed m))
-  all_stays made job (inr rose) s honest untorn = torn_stays stop job p q honest (both_known _ _ p q _ was is s.beside) (untorn rose)
+      saved_stays honestly stop job p q honest s.outcomes (opening_of_told job s.outcomes s.opened honest) (both_known _ _ p q _ was is s.beside) (both_known _ _ p q _ was is (s.placed m))
+  all_stays made job (inr rose) s honest untorn = torn_stays honestly stop job p q honest (both_known _ _ p q _ was is s.beside) (untorn rose)
 
   where_stays : (b : Bool) (made : Type 0) (job : Job) → made ⊎ Rose before.keeper.save_faults after.keeper.save_faults → SavesWhere b made job before after → Stays job
   where_stays false made job m s = unchanged job s
@@ -175,13 +175,13 @@ module _ (law : HonestSlotsOpenRight) (stop : StopsLeaveHonestSlots) (words : Li
   stays_at job t (Some (stopped done all)) c u = subst Stays (job_is words before after job c.job t c.prepared) (all_stays ⊤ c.job (inl tt) c.saved)
   stays_at job t (Some save_fault) c u =
       subst Stays (job_is words before after job c.job t c.prepared)
-      (λ honest untorn. torn_stays stop c.job p q honest (both_known _ _ p q _ was is c.beside) (untorn c.rose))
+      (λ honest untorn. torn_stays honestly stop c.job p q honest (both_known _ _ p q _ was is c.beside) (untorn c.rose))
   stays_at job t r c u = unchanged job u.slots
 
-pub stays_honest : HonestSlotsOpenRight → StopsLeaveHonestSlots → (words : List (List ℕ)) (before after : World) (n m : Stream) (status : ℕ) → EndsFor words before after n m status
+pub stays_honest : HonestSlotsOpenRight → RightIsHonest → StopsLeaveHonestSlots → (words : List (List ℕ)) (before after : World) (n m : Stream) (status : ℕ) → EndsFor words before after n m status
     → WritesWhole words before after status → StaysHonest words before after status
-stays_honest law stop words before after n m status e w = record {
+stays_honest law honestly stop words before after n m status e w = record {
   opens_right = λ job outcomes s honest. start_right law job before.keeper.slots outcomes s.opened honest;
   one_thread = λ job outcomes s honest z. w.one_thread job outcomes s (start_right law job before.keeper.slots outcomes s.opened honest) z;
-  stays = λ job p q t was is honest untorn. stays_at law stop words before after p q was is job t e.reason e.cause e.untouched honest untorn;
+  stays = λ job p q t was is honest untorn. stays_at law honestly stop words before after p q was is job t e.reason e.cause e.untouched honest untorn;
 }

@@ -1,5 +1,5 @@
 -- How a run ends.
-use Rattle.std.proofs.Common.{◌≡◌, ℕ, ◌<◌, ◌≤◌, ◌&&◌, Bool, true, false, List, length, Option, Some, None, Result, Ok, Err, refl, sym, subst, ap, ◌∙◌}
+use Rattle.std.proofs.Common.{◌≡◌, ℕ, ◌<◌, ◌≤◌, ◌&&◌, Bool, true, false, List, [], length, Option, Some, None, Result, Ok, Err, refl, sym, subst, ap, ◌∙◌}
 use Rattle.std.specs.Prelude.{⊤, IsTrue}
 use Rattle.std.specs.Io.KnownBytes.{Appends}
 use Rattle.audit_io.specs.declared.source.Failed.{Failed}
@@ -8,7 +8,7 @@ use Rattle.audit_io.specs.Slots.{IfTold, Pair}
 use Rattle.audit_model.specs.declared.fault.WordFault.{WordFault}
 use Rattle.audit_model.specs.declared.outcome.Outcome.{Outcome}
 use Rattle.audit_model.specs.declared.setting.Command.{Command}
-use Rattle.audit_model.specs.declared.setting.Command.TheVariants.{Check, Run, Make}
+use Rattle.audit_model.specs.declared.setting.Command.TheVariants.{Check, Run, Make, Plans}
 use Rattle.audit_model.specs.declared.setting.Setting.{Setting}
 use Rattle.audit_model.specs.Job.{Job}
 use Rattle.audit_model.specs.Run.{total}
@@ -16,8 +16,9 @@ use Rattle.checkpoint_definitions.specs.Checkpoint.{job_digest}
 use Rattle.ckpt_store.specs.declared.slots.Slots.{Slots}
 use Rattle.ckpt_store.specs.Looked.{AreSlots}
 use Rattle.ckpt_store.specs.View.{newest_seen, opening_seen, slot_view}
-use Rattle.text_definitions.specs.Report.{report}
-use Rattle.text_definitions.specs.Words.{setting_of}
+use Rattle.draw_definitions.specs.Draw.{draw}
+use Rattle.text_definitions.specs.Report.{full_report, report}
+use Rattle.word_definitions.specs.Words.{setting_of}
 use Rattle.audit_run.specs.declared.ended.Ended.{Ended}
 use Rattle.audit_run.specs.declared.ended.Ended.TheVariants as ended
 use Rattle.audit_run.specs.Ends.{AppendsPart, AreDamaged, IsOpening, IsOtherJob, IsPrepared, IsReadBy, LeavesUntouched, Marks, SameUnless, SavesAll, SavesWhere, NoSaveFailed, StopsEarly, Writes, WritesReport, WritesText, is_reading, is_walking, loads, opening_by, passes, saves, told_opening}
@@ -25,6 +26,7 @@ use Rattle.audit_run.specs.Running.{AreAll, IsOtherSeen, IsRun, RefusesSlots, Sa
 use Rattle.audit_run.specs.Steps.{Finishes, WritesAllOf}
 use Rattle.audit_run.specs.World.{IfKnown, Kept, Stream, World, world}
 use Rattle.audit_run.proofs.Running.{leaves_none, short_count, short_leaves, whole_leaves}
+use Rattle.audit_run.proofs.Plain.{plain_report}
 use Rattle.audit_run.proofs.Started.{newest_told, one_told, opening_told, saves_some, slot_told, zero_told}
 
 -- ---- what the reading left
@@ -91,11 +93,11 @@ no_memory_ends job out k l slots saved loaded = λ words before after p. record 
 -- ---- runs that cannot resume
 
 module _ (job : Job) (digest : List ℕ) (slots : Slots) (is : digest ≡ job_digest job) (resumes : job.setting.resume ≡ true) where
-  undefined_by : (told : Option Pair) → IfTold told (λ p. AreSlots job digest p slots) → opening_seen slots ≡ None → IfKnown (opening_by true job told) (λ o. o ≡ None)
+  undefined_by : (told : Option Pair) → IfTold told (λ p. AreSlots job digest p slots) → opening_seen job.setting slots ≡ None → IfKnown (opening_by true job told) (λ o. o ≡ None)
   undefined_by None seen none = tt
   undefined_by (Some p) seen none = sym (opening_told job digest p slots is seen) ∙ none
 
-  undefined : (told : Option Pair) → IfTold told (λ p. AreSlots job digest p slots) → opening_seen slots ≡ None → IfKnown (told_opening job told) (λ o. o ≡ None)
+  undefined : (told : Option Pair) → IfTold told (λ p. AreSlots job digest p slots) → opening_seen job.setting slots ≡ None → IfKnown (told_opening job told) (λ o. o ≡ None)
   undefined told seen none = subst (λ (b : Bool). IfKnown (opening_by b job told) (λ o. o ≡ None)) (sym resumes) (undefined_by told seen none)
 
   are_damaged : (told : Option Pair) → IfTold told (λ p. AreSlots job digest p slots) → newest_seen slots ≡ None
@@ -117,7 +119,7 @@ module _ (job : Job) (digest : List ℕ) (slots : Slots) (is : digest ≡ job_di
     found_is = sym (slot_told job digest p slots is seen o.number) ∙ o.other_is;
   }
 
-  damaged_ends : (out : Stream) (k : Kept) → is_walking job.setting.command ≡ true → IfTold k.slots (λ p. AreSlots job digest p slots) → newest_seen slots ≡ None → opening_seen slots ≡ None
+  damaged_ends : (out : Stream) (k : Kept) → is_walking job.setting.command ≡ true → IfTold k.slots (λ p. AreSlots job digest p slots) → newest_seen slots ≡ None → opening_seen job.setting slots ≡ None
       → Finishes job out out k k (ended.Damaged slots)
   damaged_ends out k walking seen none no_opening = λ words before after p. record {
     cause = record {
@@ -131,7 +133,7 @@ module _ (job : Job) (digest : List ℕ) (slots : Slots) (is : digest ≡ job_di
     line_is = refl;
   }
 
-  other_ends : (out : Stream) (k : Kept) (found : List ℕ) → is_walking job.setting.command ≡ true → IfTold k.slots (λ p. AreSlots job digest p slots) → IsOtherSeen slots found → opening_seen slots ≡ None
+  other_ends : (out : Stream) (k : Kept) (found : List ℕ) → is_walking job.setting.command ≡ true → IfTold k.slots (λ p. AreSlots job digest p slots) → IsOtherSeen slots found → opening_seen job.setting slots ≡ None
       → Finishes job out out k k (ended.OtherJob found digest)
   other_ends out k found walking seen o no_opening = λ words before after p. record {
     cause = record {
@@ -145,7 +147,7 @@ module _ (job : Job) (digest : List ℕ) (slots : Slots) (is : digest ≡ job_di
     line_is = refl;
   }
 
-  pub refused_ends : (out : Stream) (k : Kept) (why : Ended) → is_walking job.setting.command ≡ true → IfTold k.slots (λ p. AreSlots job digest p slots) → opening_seen slots ≡ None
+  pub refused_ends : (out : Stream) (k : Kept) (why : Ended) → is_walking job.setting.command ≡ true → IfTold k.slots (λ p. AreSlots job digest p slots) → opening_seen job.setting slots ≡ None
       → RefusesSlots slots digest why → Finishes job out out k k why
   refused_ends out k (ended.Damaged found) walking seen no_opening r =
       subst (λ (s : Slots). Finishes job out out k k (ended.Damaged s)) (sym r.0) (damaged_ends out k walking seen r.1 no_opening)
@@ -170,18 +172,20 @@ walking_text : (command : Command) (whole : Bool) (job : Job) (before after : Wo
 walking_text Check whole job before after w r = cc
 walking_text Run whole job before after w r = r
 walking_text Make whole job before after w r = r
+walking_text Plans whole job before after w r = r
 
 module _ (job : Job) (run : IsRun job) (opening outcomes : List Outcome) (all : AreAll job opening outcomes) (out out' : Stream) (k l : Kept) (opened : IsOpening job k.slots opening) where
-  report_written : (whole : Bool) (before after : Stream) → total job ≤ length outcomes → Writes whole out.bytes out'.bytes (report job outcomes)
+  report_written : (whole : Bool) (before after : Stream) → total job ≤ length outcomes → Writes whole out.bytes out'.bytes (report job outcomes [] None)
       → WritesReport whole job (world before out k) (world after out' l)
   report_written whole before after none w = record {
     outcomes = opening;
     opened = opened;
     nothing_left = whole_leaves job opening outcomes all none;
-    written = subst (λ (os : List Outcome). Writes whole out.bytes out'.bytes (report job os)) all.full w;
+    written = subst (λ (os : List Outcome). Writes whole out.bytes out'.bytes (full_report job (draw job.setting.key) os)) all.full
+        (subst (λ (text : List ℕ). Writes whole out.bytes out'.bytes text) (plain_report job run.plain (draw job.setting.key) outcomes) w);
   }
 
-  text_written : (whole : Bool) (before after : Stream) → total job ≤ length outcomes → Writes whole out.bytes out'.bytes (report job outcomes)
+  text_written : (whole : Bool) (before after : Stream) → total job ≤ length outcomes → Writes whole out.bytes out'.bytes (report job outcomes [] None)
       → WritesText job.setting.command whole job (world before out k) (world after out' l)
   text_written whole before after none w =
       walking_text job.setting.command whole job (world before out k) (world after out' l) run.walking (report_written whole before after none w)
@@ -235,7 +239,7 @@ module _ (job : Job) (run : IsRun job) (opening outcomes : List Outcome) (all : 
   failed_saves false f s = let never : Err f ≡ Ok tt = s.1 in cc
 
   -- the report was written whole
-  done_ends : total job ≤ length outcomes → Appends out.bytes out'.bytes (report job outcomes) → out'.faults ≡ out.faults → SavedBy (saves job.setting) job opening k l (Ok tt)
+  done_ends : total job ≤ length outcomes → Appends out.bytes out'.bytes (report job outcomes [] None) → out'.faults ≡ out.faults → SavedBy (saves job.setting) job opening k l (Ok tt)
       → Finishes job out out' k l ended.Done
   done_ends whole w writes s = λ words before after p. record {
     cause = record {
@@ -250,7 +254,7 @@ module _ (job : Job) (run : IsRun job) (opening outcomes : List Outcome) (all : 
   }
 
   -- a part of it was
-  write_fault_ends : (result : Result (Unit {0}) Failed) → total job ≤ length outcomes → AppendsPart out.bytes out'.bytes (report job outcomes) → Rose out.faults out'.faults
+  write_fault_ends : (result : Result (Unit {0}) Failed) → total job ≤ length outcomes → AppendsPart out.bytes out'.bytes (report job outcomes [] None) → Rose out.faults out'.faults
       → SavedBy (saves job.setting) job opening k l result → Finishes job out out' k l ended.WriteFault
   write_fault_ends result whole w writes s = λ words before after p. record {
     cause = record {
@@ -266,7 +270,7 @@ module _ (job : Job) (run : IsRun job) (opening outcomes : List Outcome) (all : 
   }
 
   -- the report was written whole, and the save had failed
-  save_fault_ends : (f : Failed) → total job ≤ length outcomes → Appends out.bytes out'.bytes (report job outcomes) → out'.faults ≡ out.faults
+  save_fault_ends : (f : Failed) → total job ≤ length outcomes → Appends out.bytes out'.bytes (report job outcomes [] None) → out'.faults ≡ out.faults
       → SavedBy (saves job.setting) job opening k l (Err f) → Finishes job out out' k l ended.SaveFault
   save_fault_ends f whole w writes s = λ words before after p.
       let saving = failed_saves (saves job.setting) f s in
@@ -290,7 +294,7 @@ module _ (job : Job) (run : IsRun job) (opening outcomes : List Outcome) (all : 
       }
 
   -- the end of a run that wrote its report, or a part
-  pub written_ends : (text : List ℕ) (written saved : Result (Unit {0}) Failed) → total job ≤ length outcomes → text ≡ report job outcomes → WritesAllOf out out' text written
+  pub written_ends : (text : List ℕ) (written saved : Result (Unit {0}) Failed) → total job ≤ length outcomes → text ≡ report job outcomes [] None → WritesAllOf out out' text written
       → SavedBy (saves job.setting) job opening k l saved → Finishes job out out' k l (ended_by written saved)
   written_ends text (Ok done) (Ok saved) whole is w s =
       done_ends whole (subst (λ t. Appends out.bytes out'.bytes t) is w.0) w.1 s

@@ -11,7 +11,7 @@ use Rattle.audit_model.specs.declared.setting.Tail.{Tail}
 use Rattle.audit_model.specs.declared.setting.Tail.TheVariants.{Low, High}
 use Rattle.audit_model.specs.Below.{all_below, count_below, map_below}
 use Rattle.audit_model.specs.Job.{Job}
-use Rattle.audit_model.specs.Run.{total, steps_of, fits}
+use Rattle.audit_model.specs.Run.{total, steps_of, bins_fit, fits, is_bare}
 use Rattle.audit_model.specs.Trajectory.{Draws, visit, plan_value, in_tail, visits_in_tail, four_values, value_at, walk_outcome, end_outcome, outcome_by, outcome}
 use Rattle.model_laws.proofs.Below.{all_below_from}
 use Rattle.model_laws.proofs.Connected.{count_below_le}
@@ -62,12 +62,13 @@ each_value (suc n) test f (a ∷ asks) zeros (suc k) each few l = each_value n t
 fitting : (job : Job) (o : Outcome) (walks : Bool) → nat_lt o.id job.setting.walks ≡ walks → o.id < total job → o.moved ≤ steps_of walks job
     → list_all (λ v. int_eq v (pos 0)) (drop (length job.setting.asks) o.values) ≡ true
     → (walks ≡ true → all_below (length job.setting.asks) (λ k. int_le (pos 1) (value_at o k) && int_le (value_at o k) (pos (job.setting.steps + 1))) ≡ true)
-    → fits job o ≡ true
-fitting job o walks e below few zeros counts =
+    → bins_fit walks job o ≡ true → fits job o ≡ true
+fitting job o walks e below few zeros counts bins =
     let moved : nat_le o.moved (steps_of (nat_lt o.id job.setting.walks) job) ≡ true = ap (λ (b : Bool). nat_le o.moved (steps_of b job)) e ∙ le-leb _ _ few in
     let each : Bool = all_below (length job.setting.asks) (λ k. int_le (pos 1) (value_at o k) && int_le (value_at o k) (pos (job.setting.steps + 1))) in
-    and_from _ _ (and_from _ _ (and_from _ _ (lt-ltb _ _ below) moved) zeros)
-    (ap (λ (b : Bool). not b || each) e ∙ by walks each counts)
+    and_from _ _ (and_from _ _ (and_from _ _ (and_from _ _ (lt-ltb _ _ below) moved) zeros)
+    (ap (λ (b : Bool). not b || each) e ∙ by walks each counts))
+    (ap (λ (b : Bool). bins_fit b job o) e ∙ bins)
   where
     by : (b each : Bool) → (b ≡ true → each ≡ true) → (not b || each) ≡ true
     by true each f = f refl
@@ -82,27 +83,37 @@ start_in_tail job stream ask = in_own_tail ask.tail (plan_value job job.start as
 module _ (job : Job) (draws : Draws) where
   -- each count of visits is from 1 to the number of visits
   count_fits : (stream : ℕ → ℕ) (ask : Ask)
-      → (int_le (pos 1) (pos (visits_in_tail job stream ask)) && int_le (pos (visits_in_tail job stream ask)) (pos (job.setting.steps + 1))) ≡ true
+      → (int_le (pos 1) (pos (visits_in_tail job stream job.setting.steps ask)) && int_le (pos (visits_in_tail job stream job.setting.steps ask)) (pos (job.setting.steps + 1))) ≡ true
   count_fits stream ask =
       and_from _ _
-      (le-leb 1 (visits_in_tail job stream ask) (counts_first (job.setting.steps + 1) _ (omega arith) (start_in_tail job stream ask)))
-      (le-leb (visits_in_tail job stream ask) (job.setting.steps + 1) (count_below_le (job.setting.steps + 1) _))
+      (le-leb 1 (visits_in_tail job stream job.setting.steps ask) (counts_first (job.setting.steps + 1) _ (omega arith) (start_in_tail job stream ask)))
+      (le-leb (visits_in_tail job stream job.setting.steps ask) (job.setting.steps + 1) (count_below_le (job.setting.steps + 1) _))
 
-  pub outcome_fits : length job.setting.asks ≤ 4 → (id : ℕ) → id < total job → fits job (outcome job draws id) ≡ true
-  outcome_fits few id below = by (nat_lt id job.setting.walks) refl
+  pub outcome_fits : job.setting.shift ≡ false → length job.setting.asks ≤ 4 → (id : ℕ) → id < total job → fits job (outcome job draws id) ≡ true
+  outcome_fits plain few id below = by (nat_lt id job.setting.walks) job.setting.shift plain refl
     where
-      by : (b : Bool) → nat_lt id job.setting.walks ≡ b → fits job (outcome_by b job draws id) ≡ true
-      by true e = fitting job (walk_outcome job draws id) true e below (count_below_le _ _) (zeros_after _ job.setting.asks)
+      by : (b bins : Bool) → bins ≡ false → nat_lt id job.setting.walks ≡ b → fits job (outcome_by b bins job draws id) ≡ true
+      by b true none e = cc
+      by true false none e = fitting job (walk_outcome false job draws id) true e below (count_below_le _ _) (zeros_after _ job.setting.asks)
           (λ _. all_below_from (length job.setting.asks) _
-          (λ k l. each_value 4 (λ v. int_le (pos 1) v && int_le v (pos (job.setting.steps + 1))) _ job.setting.asks _ k (count_fits _) few l))
-      by false e = fitting job (end_outcome job draws id) false e below (count_below_le _ _) (zeros_after _ job.setting.asks) (λ h. cc)
+          (λ k l. each_value 4 (λ v. int_le (pos 1) v && int_le v (pos (job.setting.steps + 1))) _ job.setting.asks _ k (count_fits _) few l)) refl
+      by false false none e = fitting job (end_outcome job draws id) false e below (count_below_le _ _) (zeros_after _ job.setting.asks) (λ h. cc) refl
 
   pub outcome_id : (id : ℕ) → (outcome job draws id).id ≡ id
-  outcome_id id = by (nat_lt id job.setting.walks)
+  outcome_id id = by (nat_lt id job.setting.walks) job.setting.shift
     where
-      by : (b : Bool) → (outcome_by b job draws id).id ≡ id
-      by true = refl
-      by false = refl
+      by : (b bins : Bool) → (outcome_by b bins job draws id).id ≡ id
+      by true bins = refl
+      by false bins = refl
+
+  -- where no bins are asked for, there are none
+  pub outcome_bare : job.setting.shift ≡ false → (id : ℕ) → is_bare (outcome job draws id) ≡ true
+  outcome_bare plain id = by (nat_lt id job.setting.walks) job.setting.shift plain
+    where
+      by : (b bins : Bool) → bins ≡ false → is_bare (outcome_by b bins job draws id) ≡ true
+      by b true none = cc
+      by true false none = refl
+      by false false none = refl
 
 -- ---- lists
 

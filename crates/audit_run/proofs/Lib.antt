@@ -13,6 +13,7 @@ pub mod Judging
 pub mod Lines
 pub mod Listing
 pub mod OneThread
+mod Plain
 pub mod Preparing
 pub mod Reruns
 pub mod Running

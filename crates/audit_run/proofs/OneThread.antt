@@ -15,7 +15,7 @@ use Rattle.model_laws.proofs.Connected.{filter_below-has}
 use Rattle.model_laws.proofs.Resumed.{full_is_sequence}
 use Rattle.draw_definitions.specs.Draw.{draw}
 use Rattle.note_definitions.specs.Note.{Ending, save_fault}
-use Rattle.text_definitions.specs.Report.{report, check_text}
+use Rattle.text_definitions.specs.Report.{full_report, thread_report, check_text}
 use Rattle.audit_run.specs.Causes.{IsTheJob}
 use Rattle.audit_run.specs.Ended.{status_of}
 use Rattle.audit_run.specs.Ends.{Cause, EndsFor, WritesReport, WritesText, WritesOrStops, leaves_work, lacking, full_of}
@@ -36,22 +36,23 @@ every_id job outcomes none id below =
     (λ e. subst (λ (xs : List ℕ). has xs id ≡ true) (sym ids) (filter_below-has (total job) (λ i. not (has_id outcomes i)) id below (ap not e)))
 
 module _ (words : List (List ℕ)) (before after : World) where
-  pub full_report : (job : Job) (outcomes : List Outcome) → StartsWith words before job outcomes → (r : WritesReport true job before after)
-      → Appends before.out.bytes after.out.bytes (report job (full_of job outcomes))
-  full_report job outcomes s r =
+  pub whole_text : (job : Job) (outcomes : List Outcome) → StartsWith words before job outcomes → (r : WritesReport true job before after)
+      → Appends before.out.bytes after.out.bytes (full_report job (draw job.setting.key) (full_of job outcomes))
+  whole_text job outcomes s r =
       let e : Some outcomes ≡ Some r.outcomes = opening_is words before after job (Some outcomes) r.outcomes s.opened r.opened in
       let same : r.outcomes ≡ outcomes = cc in
-      subst (λ (os : List Outcome). Appends before.out.bytes after.out.bytes (report job (full_of job os))) same r.written
+      subst (λ (os : List Outcome). Appends before.out.bytes after.out.bytes (full_report job (draw job.setting.key) (full_of job os))) same r.written
 
   pub one_report : (job : Job) (outcomes : List Outcome) → StartsWith words before job outcomes → IsRight job (draw job.setting.key) outcomes
       → (r : WritesReport true job before after) → WritesOneThreads job before after
+  unfolding thread_report
   one_report job outcomes s right r =
       let e : Some outcomes ≡ Some r.outcomes = opening_is words before after job (Some outcomes) r.outcomes s.opened r.opened in
       let same : outcomes ≡ r.outcomes = cc in
       let right' : IsRight job (draw job.setting.key) r.outcomes = subst (λ (os : List Outcome). IsRight job (draw job.setting.key) os) same right in
       let all : full_of job r.outcomes ≡ sequence job (draw job.setting.key) =
       full_is_sequence job (draw job.setting.key) r.outcomes right' job.setting.budget (every_id job r.outcomes r.nothing_left) in
-      subst (λ (os : List Outcome). Appends before.out.bytes after.out.bytes (report job os)) all r.written
+      subst (λ (os : List Outcome). Appends before.out.bytes after.out.bytes (full_report job (draw job.setting.key) os)) all r.written
 
   pub done_report : (job : Job) (outcomes : List Outcome) → StartsWith words before job outcomes → (r : Option Ending) → Cause words before after r → status_of r ≡ 0
       → WritesReport true job before after
@@ -85,7 +86,7 @@ pub writes_whole : (words : List (List ℕ)) (before after : World) (n m : Strea
 writes_whole words before after n m status e =
     subst (λ (s : ℕ). WritesWhole words before after s) (sym e.status_is) (record {
       check = λ job t check z. done_check words before after job t check e.reason e.cause z;
-      run = λ job outcomes s z. full_report words before after job outcomes s (done_report words before after job outcomes s e.reason e.cause z);
+      run = λ job outcomes s z. whole_text words before after job outcomes s (done_report words before after job outcomes s e.reason e.cause z);
       one_thread = λ job outcomes s right z. one_report words before after job outcomes s right (done_report words before after job outcomes s e.reason e.cause z);
       save_failed = λ job outcomes s right z none. one_report words before after job outcomes s right (nine_report words before after job outcomes s none e.reason e.cause z);
     })

@@ -2,10 +2,10 @@
 use Rattle.std.proofs.Common.{◌≡◌, ℕ, ◌<◌, Bool, true, List, length, Option, Result, Ok, refl, sym, subst, ap}
 use Rattle.audit_model.specs.declared.fault.WordFault.{WordFault}
 use Rattle.audit_model.specs.declared.setting.Command.{Command}
-use Rattle.audit_model.specs.declared.setting.Command.TheVariants.{Check, Run, Make}
+use Rattle.audit_model.specs.declared.setting.Command.TheVariants.{Check, Run, Make, Plans}
 use Rattle.audit_model.specs.declared.setting.Setting.{Setting}
 use Rattle.draw_definitions.specs.Grid.{grid}
-use Rattle.text_definitions.specs.Words.{setting_of}
+use Rattle.word_definitions.specs.Words.{setting_of}
 use Rattle.audit_run.specs.declared.ended.Ended.TheVariants as ended
 use Rattle.audit_run.specs.Accepted.{input_by, most_bytes}
 use Rattle.audit_run.specs.Ends.{LeavesUntouched, SameUnless, TakesTooMany, no_marks, passes, is_reading}
@@ -29,6 +29,7 @@ pub reads_source : (command : Command) (setting : Setting) (left : Option (List 
 reads_source Check setting left bytes reads given = given
 reads_source Run setting left bytes reads given = given
 reads_source Make setting left bytes reads given = cc
+reads_source Plans setting left bytes reads given = given
 
 -- a command that makes a grid leaves the source alone, and has the bytes of the grid
 pub leaves_source : (command : Command) (source : Stream) → command ≡ Make → SameUnless (is_reading command) source source

@@ -1,7 +1,11 @@
 -- Workers, budget, saving and resuming change nothing of what a job finds; chains of its runs.
-use Rattle.std.proofs.Common.{◌≡◌, ℕ, zero, suc, ◌+◌, ◌-◌, ◌*◌, ◌&&◌, ◌||◌, not, Bool, true, false, List, [], ◌∷◌, ◌++◌, length, map, drop, Option, Some, None, refl, sym, ap, ◌∙◌, subst}
+use Rattle.std.proofs.Common.{◌≡◌, ℕ, zero, suc, ◌+◌, ◌-◌, ◌*◌, ◌==◌, ◌⊎◌, inl, inr, ◌&&◌, ◌||◌, not, Bool, true, false, List, [], ◌∷◌, ◌++◌, length, map, drop, get_or, Option, Some, None, refl, sym, ap, ◌∙◌, subst}
 use Rattle.std.specs.Prelude.{bytes_eq, codes, int_le, nat_le, nat_lt, pos, slice_range}
+use Rattle.std.specs.Prelude.{flat_map}
+use Rattle.std.specs.Int.{to_be_bytes, w32}
 use Rattle.std.specs.List.{list_all}
+use Rattle.sha2.specs.Sha256.{sha256}
+use Rattle.audit_model.specs.Graph.{count_edges}
 use Rattle.std.specs.Ordering.{int_eq}
 use Rattle.std.specs.Io.KnownBytes.{Appends}
 use Rattle.std.proofs.Math.Path.{fun_ext}
@@ -13,18 +17,21 @@ use Rattle.audit_model.specs.Below.{all_below, count_below, map_below}
 use Rattle.audit_model.specs.First.{first_below}
 use Rattle.audit_model.specs.Job.{Job}
 use Rattle.audit_model.specs.Plan.{is_legal}
-use Rattle.audit_model.specs.Run.{IsRight, fits, steps_of, total}
+use Rattle.audit_model.specs.Run.{IsHonest, bins_fit, fits, steps_of, total}
 use Rattle.audit_model.specs.Step.{next}
-use Rattle.audit_model.specs.Trajectory.{Draws, four_values, in_tail, outcome, outcome_by, plan_value, sequence, value_at, visit}
-use Rattle.checkpoint_definitions.specs.Checkpoint.{checkpoint_fault, job_digest, stated_count}
-use Rattle.checkpoint_definitions.specs.Slots.{IsHonestSlot, Slot, absent, broken, checkpoint_limit, other, ours, outcome_at, slot_of, slot_of_bytes, slot_of_checkpoint, slot_of_digest, slot_of_ours}
+use Rattle.audit_model.specs.Trajectory.{Draws, bare, bin_of, four_values, in_tail, no_bins, outcome, outcome_by, plan_seats, plan_value, sequence, value_at, visit, whole}
+use Rattle.checkpoint_definitions.specs.Checkpoint.{checkpoint_fault, digest_name, edge_bytes, has_rules, job_digest, rule_bytes, score_code, stated_count, tail_code, unit_bytes}
+use Rattle.checkpoint_definitions.specs.Slots.{IsHonestSlot, Slot, absent, broken, checkpoint_limit, other, ours, outcome_in, slot_of, slot_of_bytes, slot_of_checkpoint, slot_of_digest, slot_of_ours}
 use Rattle.ckpt_store.specs.Laws.{StopsLeaveHonestSlots}
 use Rattle.draw_definitions.specs.Draw.{draw}
 use Rattle.hex.specs.Hex.{encode_lower}
-use Rattle.text_definitions.specs.Report.{ends_lines, graph_line, line, population_line, report, setting_line, walk_lines}
+use Rattle.text_definitions.specs.Report.{ends_lines, graph_line, line, population_line, report, rule_lines, serial_lines, setting_line, shift_line, stop_line, test_lines, thread_report, title_line, walk_lines}
 use Rattle.audit_run.specs.Chain.{AreHonestOf}
 use Rattle.audit_run.specs.Rerun.{AreAlike, ChainsWriteOneReport, Event, IsEvent, IsLink, Link, RerunsAreAlike, WroteOneThreads, cut_off, job_in, ran, rerun, slots_after}
+use Rattle.audit_run.specs.Running.{HasDefaults}
 use Rattle.audit_run.specs.World.{IfKnown}
+use Rattle.audit_run.proofs.Plain.{plain_report}
+use Rattle.audit_run.proofs.Words.{accepted_words_have_defaults}
 
 -- ---- outcomes, by whatever visits a plan
 
@@ -34,16 +41,29 @@ Visits = (ℕ → ℕ) → List ℕ → ℕ → List ℕ
 abbrev moves_by : Visits → (ℕ → ℕ) → List ℕ → ℕ → ℕ
 moves_by v draws plan steps = count_below steps (λ i. not (bytes_eq (v draws plan i) (v draws plan (suc i))))
 
-abbrev tail_by : Visits → Job → (ℕ → ℕ) → Ask → ℕ
-tail_by v job draws ask =
-    count_below (job.setting.steps + 1)
+abbrev tail_by : Visits → Job → (ℕ → ℕ) → ℕ → Ask → ℕ
+tail_by v job draws steps ask =
+    count_below (steps + 1)
     (λ i. in_tail ask.tail (plan_value job (v draws job.start i) ask.score) (plan_value job job.start ask.score))
+
+abbrev bin_by : Visits → Job → (ℕ → ℕ) → ℕ → ℕ
+bin_by v job draws bin =
+    count_below (job.setting.steps + 1) (λ i. bin_of (plan_seats job (v draws job.start i)) (plan_seats job job.start) == bin)
+
+abbrev walk_with : Visits → Job → Draws → ℕ → Outcome
+walk_with v job draws id = record {
+  id = id;
+  moved = moves_by v (draws (2 * id)) job.start job.setting.steps;
+  values = four_values (map (λ ask. pos (tail_by v job (draws (2 * id)) job.setting.steps ask)) job.setting.asks);
+  bins = map_below 9 (bin_by v job (draws (2 * id)));
+}
 
 abbrev walk_by : Visits → Job → Draws → ℕ → Outcome
 walk_by v job draws id = record {
   id = id;
   moved = moves_by v (draws (2 * id)) job.start job.setting.steps;
-  values = four_values (map (λ ask. pos (tail_by v job (draws (2 * id)) ask)) job.setting.asks);
+  values = four_values (map (λ ask. pos (tail_by v job (draws (2 * id)) job.setting.steps ask)) job.setting.asks);
+  bins = no_bins;
 }
 
 abbrev hub_by : Visits → Job → Draws → List ℕ
@@ -54,17 +74,19 @@ end_by v job draws id = record {
   id = id;
   moved = moves_by v (draws (2 * (id - job.setting.walks) + 3)) (hub_by v job draws) job.setting.hub_steps;
   values = four_values (map (λ ask. plan_value job (v (draws (2 * (id - job.setting.walks) + 3)) (hub_by v job draws) job.setting.hub_steps) ask.score) job.setting.asks);
+  bins = no_bins;
 }
 
 -- ---- the same for the tests and the lines that are made by cases
 
-abbrev fits_by : ℕ → Job → Outcome → Bool
-fits_by steps job o =
+abbrev fits_by : ℕ → Bool → Job → Outcome → Bool
+fits_by steps binned job o =
     nat_lt o.id (total job)
     && nat_le o.moved steps
     && list_all (λ v. int_eq v (pos 0)) (drop (length job.setting.asks) o.values)
     && (not (nat_lt o.id job.setting.walks)
     || all_below (length job.setting.asks) (λ k. int_le (pos 1) (value_at o k) && int_le (value_at o k) (pos (job.setting.steps + 1))))
+    && binned
 
 module _ (job : Job) (workers budget save_every : ℕ) (resume : Bool) where
   abbrev again : Job
@@ -82,49 +104,98 @@ module _ (job : Job) (workers budget save_every : ℕ) (resume : Bool) where
   visit_same : visit again ≡ visit job
   visit_same = fun_ext (λ draws. fun_ext (λ plan. fun_ext (λ i. visit_at draws plan i)))
 
-  by_same : (b : Bool) (draws : Draws) (id : ℕ) → outcome_by b again draws id ≡ outcome_by b job draws id
-  by_same true draws id = ap (λ (v : Visits). walk_by v job draws id) visit_same
-  by_same false draws id = ap (λ (v : Visits). end_by v job draws id) visit_same
+  by_same : (b bins : Bool) (draws : Draws) (id : ℕ) → outcome_by b bins again draws id ≡ outcome_by b bins job draws id
+  by_same true true draws id = ap (λ (v : Visits). walk_with v job draws id) visit_same
+  by_same true false draws id = ap (λ (v : Visits). walk_by v job draws id) visit_same
+  by_same false bins draws id = ap (λ (v : Visits). end_by v job draws id) visit_same
 
   outcome_same : (draws : Draws) (id : ℕ) → outcome again draws id ≡ outcome job draws id
-  outcome_same draws id = by_same (nat_lt id job.setting.walks) draws id
+  outcome_same draws id = by_same (nat_lt id job.setting.walks) job.setting.shift draws id
+
+  whole_same : (draws : Draws) (id : ℕ) → whole again draws id ≡ whole job draws id
+  whole_same draws id = by_same (nat_lt id job.setting.walks) true draws id
 
   sequence_same : (draws : Draws) → sequence again draws ≡ sequence job draws
   unfolding sequence
   sequence_same draws = ap (λ (f : ℕ → Outcome). map_below (job.setting.walks + job.setting.ends) f) (fun_ext (λ id. outcome_same draws id))
 
+  rules_same : (b : Bool) → rule_bytes b again ≡ rule_bytes b job
+  rules_same true = refl
+  rules_same false = refl
+
   digest_same : job_digest again ≡ job_digest job
   unfolding job_digest
-  digest_same = refl
+  digest_same =
+      ap (λ (rules : List ℕ). sha256 (digest_name (has_rules job)
+      ++ to_be_bytes w32 job.graph.units ++ to_be_bytes w32 (count_edges job.graph (λ u v. true)) ++ to_be_bytes w32 job.districts
+      ++ edge_bytes job.graph
+      ++ flat_map (unit_bytes job) (map_below job.graph.units (λ u. u))
+      ++ to_be_bytes w32 job.setting.slack ++ job.setting.key
+      ++ to_be_bytes w32 job.setting.walks ++ to_be_bytes w32 job.setting.steps
+      ++ to_be_bytes w32 job.setting.ends ++ to_be_bytes w32 job.setting.hub_steps
+      ++ to_be_bytes w32 (length job.setting.asks)
+      ++ flat_map (λ ask. to_be_bytes w32 (score_code ask.score) ++ to_be_bytes w32 (tail_code ask.tail)) job.setting.asks
+      ++ rules)) (rules_same (has_rules job))
 
   ends_same : (ends : ℕ) (outcomes : List Outcome) → ends_lines ends again outcomes ≡ ends_lines ends job outcomes
   ends_same zero outcomes = refl
   ends_same (suc ends) outcomes = refl
 
-  report_same : (outcomes : List Outcome) → report again outcomes ≡ report job outcomes
+  tests_same : (enough : ℕ) (outcomes : List Outcome) (stops : List (List ℕ)) → test_lines enough again outcomes stops ≡ test_lines enough job outcomes stops
+  tests_same zero outcomes stops = ends_same job.setting.ends outcomes
+  tests_same (suc h) outcomes stops = refl
+
+  serial_same : (serial : Option (ℕ × List ℕ)) → serial_lines again serial ≡ serial_lines job serial
+  serial_same None = refl
+  serial_same (Some found) = refl
+
+  report_same : (outcomes : List Outcome) (stops : List (List ℕ)) (serial : Option (ℕ × List ℕ)) → report again outcomes stops serial ≡ report job outcomes stops serial
   unfolding report
-  report_same outcomes =
-      ap (λ (lines : List ℕ).
-      line (codes "district-audit 1" ∷ [])
-      ++ line (codes "key" ∷ encode_lower job.setting.key ∷ [])
-      ++ graph_line job
-      ++ population_line job
-      ++ setting_line job
-      ++ walk_lines job outcomes
-      ++ lines
-      ++ line (codes "end" ∷ [])) (ends_same job.setting.ends outcomes)
+  report_same outcomes stops serial =
+      ap (λ (tests : List ℕ). with_lines tests (serial_lines again serial)) (tests_same job.setting.stop outcomes stops)
+      ∙ ap (λ (rest : List ℕ). with_lines (test_lines job.setting.stop job outcomes stops) rest) (serial_same serial)
+    where
+      with_lines : List ℕ → List ℕ → List ℕ
+      with_lines tests rest =
+          title_line job.setting.shift
+          ++ line (codes "key" ∷ encode_lower job.setting.key ∷ [])
+          ++ graph_line job
+          ++ population_line job
+          ++ rule_lines job
+          ++ setting_line job
+          ++ stop_line job.setting.stop
+          ++ walk_lines job outcomes
+          ++ shift_line job.setting.shift outcomes
+          ++ tests
+          ++ rest
+          ++ line (codes "end" ∷ [])
+
+  -- where nothing else is asked for, the whole report too
+  thread_report_same : HasDefaults job.setting → (draws : Draws) → thread_report again draws ≡ thread_report job draws
+  unfolding thread_report
+  thread_report_same plain draws =
+      sym (plain_report again (record { cut_limit = plain.cut_limit; no_bins = plain.no_bins; no_stop = plain.no_stop; no_serial = plain.no_serial }) draws (sequence again draws))
+      ∙ report_same (sequence again draws) [] None
+      ∙ ap (λ (os : List Outcome). report job os [] None) (sequence_same draws)
+      ∙ plain_report job plain draws (sequence job draws)
 
   steps_same : (b : Bool) → steps_of b again ≡ steps_of b job
   steps_same true = refl
   steps_same false = refl
 
+  bins_same : (b : Bool) (o : Outcome) → bins_fit b again o ≡ bins_fit b job o
+  bins_same true o = refl
+  bins_same false o = refl
+
   fits_same : (o : Outcome) → fits again o ≡ fits job o
-  fits_same o = ap (λ (n : ℕ). fits_by n job o) (steps_same (nat_lt o.id job.setting.walks))
+  fits_same o =
+      ap (λ (n : ℕ). fits_by n (bins_fit (nat_lt o.id job.setting.walks) again o) job o) (steps_same (nat_lt o.id job.setting.walks))
+      ∙ ap (λ (b : Bool). fits_by (steps_of (nat_lt o.id job.setting.walks) job) b job o) (bins_same (nat_lt o.id job.setting.walks) o)
 
   of_digest_same : (bytes : List ℕ) (b : Bool) → slot_of_digest again bytes b ≡ slot_of_digest job bytes b
   of_digest_same bytes false = refl
   of_digest_same bytes true =
-      ap (λ (unfit : ℕ → Bool). slot_of_ours bytes (first_below (stated_count bytes) unfit)) (fun_ext (λ k. ap not (fits_same (outcome_at bytes (52 + 44 * k)))))
+      ap (λ (unfit : ℕ → Bool). slot_of_ours bytes (first_below (stated_count bytes) unfit)) (fun_ext (λ k. ap not (fits_same (outcome_in bytes k))))
 
   of_checkpoint_same : (digest bytes : List ℕ) (f : Option CkptFault) → slot_of_checkpoint again digest bytes f ≡ slot_of_checkpoint job digest bytes f
   of_checkpoint_same digest bytes (Some f) = refl
@@ -141,18 +212,23 @@ module _ (job : Job) (workers budget save_every : ℕ) (resume : Bool) where
   slot_same : (s : Stored) → slot_of again (job_digest again) s ≡ slot_of job (job_digest job) s
   slot_same s = ap (λ d. slot_of again d s) digest_same ∙ stored_same (job_digest job) s
 
-  right_same : (draws : Draws) (outcomes : List Outcome) → IsRight job draws outcomes → IsRight again draws outcomes
-  right_same draws outcomes right = record {
-    apart = right.apart;
-    below = right.below;
-    found = λ k d inside. right.found k d inside ∙ sym (outcome_same draws _);
+  found_same : (draws : Draws) (o : Outcome) → (o ≡ whole job draws o.id) ⊎ (o ≡ bare (whole job draws o.id))
+      → (o ≡ whole again draws o.id) ⊎ (o ≡ bare (whole again draws o.id))
+  found_same draws o (inl e) = inl (e ∙ sym (whole_same draws o.id))
+  found_same draws o (inr e) = inr (e ∙ ap bare (sym (whole_same draws o.id)))
+
+  runs_honest : (draws : Draws) (outcomes : List Outcome) → IsHonest job draws outcomes → IsHonest again draws outcomes
+  runs_honest draws outcomes honest = record {
+    apart = honest.apart;
+    below = honest.below;
+    found = λ k d inside. found_same draws (get_or outcomes k d) (honest.found k d inside);
   }
 
   honest_slot : (draws : Draws) (s : Slot) → IsHonestSlot job draws s → IsHonestSlot again draws s
   honest_slot draws absent h = tt
   honest_slot draws (broken f) h = tt
   honest_slot draws (other digest generation) h = tt
-  honest_slot draws (ours generation outcomes) h = right_same draws outcomes h
+  honest_slot draws (ours generation outcomes) h = runs_honest draws outcomes h
 
   honest_same : (p : Pair) → AreHonestOf job p → AreHonestOf again p
   honest_same p h = record {
@@ -183,10 +259,16 @@ module _ (job : Job) (p : Pair) (l : Link) (honest : AreHonestOf job p) (link : 
   link_stays : AreHonestOf job l.slots
   link_stays = (back_again job l).same_honest l.slots (link.promised.stays (job_in job l) p l.slots link.the_job link.found link.left honest_here link.untorn)
 
+  plain_again : HasDefaults (job_in job l).setting
+  plain_again = accepted_words_have_defaults l.words (job_in job l).setting link.the_job.told.words_are
+
+  plain_here : HasDefaults job.setting
+  plain_here = record { cut_limit = plain_again.cut_limit; no_bins = plain_again.no_bins; no_stop = plain_again.no_stop; no_serial = plain_again.no_serial }
+
   link_wrote : WroteOneThreads job (ran l)
   link_wrote z =
       subst (λ (text : List ℕ). Appends l.before.out.bytes l.after.out.bytes text)
-      (report_same job l.workers l.budget l.save_every l.resume _ ∙ ap (report job) (sequence_same job l.workers l.budget l.save_every l.resume (draw job.setting.key)))
+      (thread_report_same job l.workers l.budget l.save_every l.resume plain_here (draw job.setting.key))
       (link.promised.one_thread (job_in job l) l.opening (link.started z)
       (λ resumes. subst (λ (s : Option Pair). IfKnown s (AreHonestOf (job_in job l))) (sym link.found) honest_here) z)
 

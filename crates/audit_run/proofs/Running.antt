@@ -10,25 +10,28 @@ use Rattle.audit_model.specs.Apart.{AllApart}
 use Rattle.audit_model.specs.Below.{filter_below, map_below}
 use Rattle.audit_model.specs.declared.outcome.Outcome.{Outcome}
 use Rattle.audit_model.specs.declared.setting.Command.{Command}
-use Rattle.audit_model.specs.declared.setting.Command.TheVariants.{Check, Run, Make}
+use Rattle.audit_model.specs.declared.setting.Command.TheVariants.{Check, Run, Make, Plans}
 use Rattle.audit_model.specs.declared.setting.Setting.{Setting}
 use Rattle.audit_model.specs.Graph.{has}
 use Rattle.audit_model.specs.Job.{Job}
 use Rattle.audit_model.specs.Limits.{IsRunSetting, IsSettingOf}
-use Rattle.audit_model.specs.Run.{total, has_id, run_ids, fits, kept_or, outcome_from, full}
+use Rattle.audit_model.specs.Run.{total, has_id, run_ids, fits, kept_or, outcome_from, full, is_bare}
 use Rattle.checkpoint_definitions.specs.Checkpoint.{AreRising}
 use Rattle.ckpt_store.specs.Fitting.{AreFit}
 use Rattle.draw_definitions.specs.Draw.{draw}
 use Rattle.outcome_book.specs.Booked.{AreApart}
 use Rattle.report.specs.Outcomes.{AreOutcomesOf}
 use Rattle.audit_run.specs.Ends.{IsPrepared, is_walking, leaves_work, lacking, full_of}
+use Rattle.flip_kernel.specs.Held.{LimitsNothing}
+use Rattle.report.specs.Plain.{HasPlainRules, IsPlain}
 use Rattle.audit_run.specs.Running.{AreAll, IsRun}
 use Rattle.audit_run.specs.Walks.{found}
 use Rattle.audit_run.specs.World.{Stream}
 use Rattle.audit_run.proofs.Counting.{lacking_rest}
-use Rattle.audit_run.proofs.Found.{outcome_fits, outcome_id}
+use Rattle.audit_run.proofs.Found.{outcome_bare, outcome_fits, outcome_id}
 use Rattle.audit_run.proofs.OneThread.{every_id}
-use Rattle.audit_run.proofs.Words.{accepted_words_cover}
+use Rattle.audit_run.proofs.Words.{accepted_words_have_defaults, accepted_words_cover}
+use Rattle.audit_run.proofs.Judging.{accepted_regions}
 
 -- ---- what is known of the job
 
@@ -36,6 +39,7 @@ run_setting_by : (command : Command) (setting : Setting) → is_walking command 
 run_setting_by Check setting walking within = cc
 run_setting_by Run setting walking within = within
 run_setting_by Make setting walking within = within
+run_setting_by Plans setting walking within = within
 
 -- the setting of a run is within the limits of a run
 pub run_setting : (job : Job) → IsRun job → IsRunSetting job.setting
@@ -44,7 +48,29 @@ run_setting job run = run_setting_by job.setting.command job.setting run.walking
 -- a job that was prepared for a command that walks is a run
 pub prepared_run : (words : List (List ℕ)) (before after : Stream) (job : Job) → IsPrepared words before after job → is_walking job.setting.command ≡ true → IsRun job
 prepared_run words before after job p walking =
-    record { sound = p.sound; walking = walking; covered = accepted_words_cover words job.setting p.accepted.words_are walking }
+    record {
+      sound = p.sound;
+      walking = walking;
+      covered = accepted_words_cover words job.setting p.accepted.words_are walking;
+      plain = accepted_words_have_defaults words job.setting p.accepted.words_are;
+      no_regions = accepted_regions job.setting p.accepted.bytes job p.accepted.judged_so;
+    }
+
+-- a job that was prepared has no rules but those of every job
+pub prepared_plain : (words : List (List ℕ)) (before after : Stream) (job : Job) → IsPrepared words before after job → HasPlainRules job
+prepared_plain words before after job p = record {
+  max_cut = (accepted_words_have_defaults words job.setting p.accepted.words_are).cut_limit;
+  regions = accepted_regions job.setting p.accepted.bytes job p.accepted.judged_so;
+}
+
+-- its rules limit nothing
+pub limits_nothing : (job : Job) → IsRun job → LimitsNothing job
+limits_nothing job run = record { edges = omega (arith, run.sound.within.input.edges, run.plain.cut_limit); regions = run.no_regions }
+
+-- and it asks for no further lines
+pub is_plain : (job : Job) → IsRun job → IsPlain job
+is_plain job run =
+    record { rules = record { max_cut = run.plain.cut_limit; regions = run.no_regions }; shift = run.plain.no_bins; stop = run.plain.no_stop }
 
 at_most : (b : Bool) (x : ℕ) → length (cond b (x ∷ []) []) ≤ 1
 at_most true x = omega arith
@@ -59,6 +85,9 @@ length-filter_below (suc n) test =
 pub few_ids : (job : Job) (outcomes : List Outcome) (budget : ℕ) → length (run_ids job outcomes budget) ≤ total job
 few_ids job outcomes budget =
     omega (arith, length-take budget (filter_below (total job) (λ id. not (has_id outcomes id))), length-filter_below (total job) (λ id. not (has_id outcomes id)))
+
+pub few_run_todo : (job : Job) → IsRun job → (ids : List ℕ) (outcomes : List Outcome) (budget : ℕ) → ids ≡ run_ids job outcomes budget → length ids ≤ 100000
+few_run_todo job run ids outcomes budget same = omega (arith, ap length same, few_ids job outcomes budget, (run_setting job run).few)
 
 few_run_ids : (job : Job) (outcomes : List Outcome) → length (run_ids job outcomes job.setting.budget) ≤ lacking job outcomes
 few_run_ids job outcomes = omega (arith, length-take job.setting.budget (filter_below (total job) (λ id. not (has_id outcomes id))))
@@ -105,7 +134,7 @@ rising_apart (x ∷ xs) rising (suc i) (suc j) d before inside same =
 
 -- an outcome that fits has an id of the job's
 pub fit_below : (job : Job) (o : Outcome) → fits job o ≡ true → o.id < total job
-fit_below job o fit = ltb-true o.id (total job) (and_parts _ _ (and_parts _ _ (and_parts _ _ fit).0).0).0
+fit_below job o fit = ltb-true o.id (total job) (and_parts _ _ (and_parts _ _ (and_parts _ _ (and_parts _ _ fit).0).0).0).0
 
 pub all_below_total : (job : Job) (outcomes : List Outcome) → All (λ o. IsTrue (fits job o)) outcomes → All (λ o. o.id < total job) outcomes
 all_below_total job outcomes fit k d inside = fit_below job (get_or outcomes k d) (fit k d inside)
@@ -126,7 +155,23 @@ found_fit job run opening todo outcomes fit within moved =
     (IsPermutation-sym outcomes (opening ++ map (found job) todo) moved)
     (All-append (λ (o : Outcome). IsTrue (fits job o)) opening (map (found job) todo) fit.fit
     (All-map (λ (o : Outcome). IsTrue (fits job o)) (found job) todo
-    (λ k d inside. outcome_fits job (draw job.setting.key) (run_setting job run).few_asks (get_or todo k d) (within k d inside))))
+    (λ k d inside. outcome_fits job (draw job.setting.key) run.plain.no_bins (run_setting job run).few_asks (get_or todo k d) (within k d inside))))
+
+-- nor has any of them bins
+found_bare : (job : Job) → IsRun job → (opening : List Outcome) (todo : List ℕ) (outcomes : List Outcome) → All (λ o. IsTrue (is_bare o)) opening
+    → IsPermutation outcomes (opening ++ map (found job) todo) → All (λ o. IsTrue (is_bare o)) outcomes
+unfolding found
+found_bare job run opening todo outcomes bare moved =
+    All-permutation (λ (o : Outcome). IsTrue (is_bare o)) (opening ++ map (found job) todo) outcomes
+    (IsPermutation-sym outcomes (opening ++ map (found job) todo) moved)
+    (All-append (λ (o : Outcome). IsTrue (is_bare o)) opening (map (found job) todo) bare
+    (All-map (λ (o : Outcome). IsTrue (is_bare o)) (found job) todo
+    (λ k d inside. outcome_bare job (draw job.setting.key) run.plain.no_bins (get_or todo k d))))
+
+-- each is bare, in both forms
+pub bare_list : (outcomes : List Outcome) → All (λ o. IsTrue (is_bare o)) outcomes → list_all is_bare outcomes ≡ true
+bare_list [] bare = refl
+bare_list (x ∷ xs) bare = and_from (is_bare x) (list_all is_bare xs) (bare 0 x (omega arith)) (bare_list xs (λ k d inside. bare (suc k) d (omega arith)))
 
 pairs_rise : (outcomes : List Outcome) → AllPairs (λ a b. a.id < b.id) outcomes → AreRising (map (λ o. o.id) outcomes)
 pairs_rise [] rising = tt
@@ -135,11 +180,11 @@ pairs_rise (x ∷ y ∷ xs) rising =
     (rising 0 1 x (omega arith) (omega arith), pairs_rise (y ∷ xs) (λ i j d before inside. rising (suc i) (suc j) d (omega arith) (omega arith)))
 
 -- what was walked, by rising id, with what the run started with
-pub are_all : (job : Job) → IsRun job → (opening kept : List Outcome) (todo : List ℕ) (sorted : List Outcome) → kept ≡ opening → AreFit job opening
+pub are_all : (job : Job) → IsRun job → (opening kept : List Outcome) (todo : List ℕ) (sorted : List Outcome) → kept ≡ opening → AreFit job opening → All (λ o. IsTrue (is_bare o)) opening
     → todo ≡ run_ids job opening job.setting.budget → All (λ id. id < total job) todo
     → ((budget : ℕ) → todo ≡ run_ids job kept budget → sorted ≡ full job (draw job.setting.key) kept budget)
     → IsPermutation sorted (kept ++ map (found job) todo) → AllPairs (λ a b. a.id < b.id) sorted → AreAll job opening sorted
-are_all job run opening kept todo sorted same start ids within fullness moved rising =
+are_all job run opening kept todo sorted same start bare ids within fullness moved rising =
     let here : IsPermutation sorted (opening ++ map (found job) todo) = subst (λ os. IsPermutation sorted (os ++ map (found job) todo)) same moved in
     let counted : length sorted ≡ length opening + length (run_ids job opening job.setting.budget) =
     omega (arith, length_permutation sorted (opening ++ map (found job) todo) here, length-append opening (map (found job) todo), length-map todo (found job), ap length ids) in
@@ -155,6 +200,7 @@ are_all job run opening kept todo sorted same start ids within fullness moved ri
         rising = pairs_rise sorted rising;
         fit = found_fit job run opening todo sorted start within here;
       };
+      bare = found_bare job run opening todo sorted bare here;
       start = start;
     }
 

@@ -67,27 +67,27 @@ module _ (job : Job) (opening : List Outcome) (p q : Pair) (same : KeepsBeside j
       (n, inl (stored_beside p q (place_of job p).0 n (place_is_beside first second n e) (newest_below first second n e) same))
 
 module _ (law : SavedSlotsAreNewest) (job : Job) (opening outcomes : List Outcome) (t : Target) (full : outcomes ≡ full_of job opening) (fit : AreFit job outcomes)
-    (sound : IsCheckpoint (checkpoint t.digest t.place.generation outcomes) t.digest t.place.generation outcomes) where
+    (sound : IsCheckpoint (checkpoint 1 t.digest t.place.generation outcomes) 1 t.digest t.place.generation outcomes) where
   -- the slot at the place that was told is the job's, and the newest
-  saved_as : (p q : Pair) → IsPlaced job (Some p) t → stored q t.place.slot ≡ Some (checkpoint t.digest t.place.generation outcomes)
-      → other_stored q t.place.slot ≡ other_stored p t.place.slot → IsSavedAs job (job_digest job) t.place.slot t.place.generation outcomes q
+  saved_as : (p q : Pair) → IsPlaced job (Some p) t → stored q t.place.slot ≡ Some (checkpoint 1 t.digest t.place.generation outcomes)
+      → other_stored q t.place.slot ≡ other_stored p t.place.slot → IsSavedAs job 1 (job_digest job) t.place.slot t.place.generation outcomes q
   saved_as p q placed held same =
-      let here : stored q t.place.slot ≡ Some (checkpoint (job_digest job) t.place.generation outcomes) =
-      held ∙ ap (λ d. Some (checkpoint d t.place.generation outcomes)) placed.digest_is in
-      let sound' : IsCheckpoint (checkpoint (job_digest job) t.place.generation outcomes) (job_digest job) t.place.generation outcomes =
-      subst (λ d. IsCheckpoint (checkpoint d t.place.generation outcomes) d t.place.generation outcomes) placed.digest_is sound in
+      let here : stored q t.place.slot ≡ Some (checkpoint 1 (job_digest job) t.place.generation outcomes) =
+      held ∙ ap (λ d. Some (checkpoint 1 d t.place.generation outcomes)) placed.digest_is in
+      let sound' : IsCheckpoint (checkpoint 1 (job_digest job) t.place.generation outcomes) 1 (job_digest job) t.place.generation outcomes =
+      subst (λ d. IsCheckpoint (checkpoint 1 d t.place.generation outcomes) 1 d t.place.generation outcomes) placed.digest_is sound in
       let kept : stored q (1 - t.place.slot) ≡ stored p (1 - t.place.slot) =
       sym (other_is q t.place.slot placed.slot_below) ∙ same ∙ other_is p t.place.slot placed.slot_below in
-      law job (job_digest job) p q t.place.slot t.place.generation outcomes (sym placed.told) sound' (fit_list job outcomes fit.fit) here kept
+      law job 1 (job_digest job) p q t.place.slot t.place.generation outcomes (sym placed.told) sound' (fit_list job outcomes fit.fit) here kept
 
   -- with the place that the slots give
-  saves_at : (p q : Pair) → IsPlaced job (Some p) t → IsSavedAs job (job_digest job) t.place.slot t.place.generation outcomes q → SavesAt job (full_of job opening) p q
+  saves_at : (p q : Pair) → IsPlaced job (Some p) t → IsSavedAs job 1 (job_digest job) t.place.slot t.place.generation outcomes q → SavesAt job (full_of job opening) p q
   saves_at p q placed saved =
       let at : t.place.slot ≡ (place_of job p).0 = ap (λ (x : ℕ × ℕ). x.0) placed.told in
       let generation : t.place.generation ≡ (place_of job p).1 = ap (λ (x : ℕ × ℕ). x.1) placed.told in
       record {
-        bytes_are = subst (λ k. stored q k ≡ Some (checkpoint (job_digest job) (place_of job p).1 (full_of job opening))) at
-            (saved.bytes ∙ ap (λ g. Some (checkpoint (job_digest job) g outcomes)) generation ∙ ap (λ os. Some (checkpoint (job_digest job) (place_of job p).1 os)) full);
+        bytes_are = subst (λ k. stored q k ≡ Some (checkpoint 1 (job_digest job) (place_of job p).1 (full_of job opening))) at
+            (saved.bytes ∙ ap (λ g. Some (checkpoint 1 (job_digest job) g outcomes)) generation ∙ ap (λ os. Some (checkpoint 1 (job_digest job) (place_of job p).1 os)) full);
         slot_is = subst (λ k. slot_of job (job_digest job) (stored q k) ≡ ours (place_of job p).1 (full_of job opening)) at
             (saved.slot ∙ ap (λ g. ours g outcomes) generation ∙ ap (λ os. ours (place_of job p).1 os) full);
       }
@@ -95,18 +95,18 @@ module _ (law : SavedSlotsAreNewest) (job : Job) (opening outcomes : List Outcom
   keeps_beside : (p q : Pair) → IsPlaced job (Some p) t → other_stored q t.place.slot ≡ other_stored p t.place.slot → KeepsBeside job p q
   keeps_beside p q placed same = subst (λ k. other_stored q k ≡ other_stored p k) (ap (λ (x : ℕ × ℕ). x.0) placed.told) same
 
-  is_newest : (p q : Pair) → IsPlaced job (Some p) t → IsSavedAs job (job_digest job) t.place.slot t.place.generation outcomes q → IsNewest job (full_of job opening) q
+  is_newest : (p q : Pair) → IsPlaced job (Some p) t → IsSavedAs job 1 (job_digest job) t.place.slot t.place.generation outcomes q → IsNewest job (full_of job opening) q
   is_newest p q placed saved =
-      (t.place.slot, saved.newest, (t.place.generation, placed.generation_below, saved.bytes ∙ ap (λ os. Some (checkpoint (job_digest job) t.place.generation os)) full))
+      (t.place.slot, saved.newest, (t.place.generation, placed.generation_below, saved.bytes ∙ ap (λ os. Some (checkpoint 1 (job_digest job) t.place.generation os)) full))
 
   -- each promise of a save, where both keepers tell or not
-  newest_by : (a b : Option Pair) → IsPlaced job a t → HoldsBytes b t.place.slot (checkpoint t.digest t.place.generation outcomes) → KeepsOther a b t.place.slot
+  newest_by : (a b : Option Pair) → IsPlaced job a t → HoldsBytes b t.place.slot (checkpoint 1 t.digest t.place.generation outcomes) → KeepsOther a b t.place.slot
       → IfBothKnown a b (λ p q. IsNewest job (full_of job opening) q)
   newest_by None b placed held same = tt
   newest_by (Some p) None placed held same = same
   newest_by (Some p) (Some q) placed held same = is_newest p q placed (saved_as p q placed held same)
 
-  placed_by : (a b : Option Pair) → IsPlaced job a t → HoldsBytes b t.place.slot (checkpoint t.digest t.place.generation outcomes) → KeepsOther a b t.place.slot
+  placed_by : (a b : Option Pair) → IsPlaced job a t → HoldsBytes b t.place.slot (checkpoint 1 t.digest t.place.generation outcomes) → KeepsOther a b t.place.slot
       → IfBothKnown a b (SavesAt job (full_of job opening))
   placed_by None b placed held same = tt
   placed_by (Some p) None placed held same = same
@@ -127,7 +127,7 @@ module _ (law : SavedSlotsAreNewest) (job : Job) (opening outcomes : List Outcom
   on_ok (Err failed) a f = tt
 
   pub saves_last : (before after : Kept) (result : Result (Unit {0}) Failed) → IsPlaced job before.slots t
-      → OnOk result (HoldsBytes after.slots t.place.slot (checkpoint t.digest t.place.generation outcomes)) → KeepsOther before.slots after.slots t.place.slot
+      → OnOk result (HoldsBytes after.slots t.place.slot (checkpoint 1 t.digest t.place.generation outcomes)) → KeepsOther before.slots after.slots t.place.slot
       → HasCause before.save_faults after.save_faults result → after.load_faults ≡ before.load_faults → SavesLast job opening before after result
   saves_last before after result placed held same cause loads = record {
     kept = kept_by before.slots after.slots placed same;

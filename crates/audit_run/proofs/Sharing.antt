@@ -75,11 +75,11 @@ one_place xs apart a b first second same = by (cases_order a b)
 
 pub found_id : (job : Job) (id : ℕ) → (found job id).id ≡ id
 unfolding found
-found_id job id = by (nat_lt id job.setting.walks)
+found_id job id = by (nat_lt id job.setting.walks) job.setting.shift
   where
-    by : (b : Bool) → (outcome_by b job (draw job.setting.key) id).id ≡ id
-    by true = refl
-    by false = refl
+    by : (b bins : Bool) → (outcome_by b bins job (draw job.setting.key) id).id ≡ id
+    by true bins = refl
+    by false bins = refl
 
 -- a share with one outcome more
 pub shared_more : (job : Job) (todo places more : List ℕ) (place : ℕ) (share longer : List Outcome) (o : Outcome)

@@ -1,11 +1,17 @@
 -- With what a run starts.
-use Rattle.std.proofs.Common.{◌≡◌, ℕ, zero, suc, ◌<◌, ◌&&◌, not, Bool, true, false, cond, List, [], map, Option, Some, None, Result, Ok, Err, refl, sym, subst, ap, ◌∙◌, arith}
-use Rattle.std.specs.Prelude.{◌==◌}
+use Rattle.std.proofs.Common.{◌≡◌, ℕ, zero, suc, ◌<◌, ◌&&◌, not, Bool, true, false, cond, List, [], ◌∷◌, map, length, get_or, Option, Some, None, Result, Ok, Err, refl, sym, subst, ap, ◌∙◌, arith}
+use Rattle.std.specs.Prelude.{◌==◌, IsTrue, option_map}
+use Rattle.std.specs.List.{All}
+use Rattle.std.proofs.lemmas.List.{length-map}
+use Rattle.std.proofs.lemmas.List.Elements.{All-map}
 use Rattle.std.proofs.lemmas.Bool.{ne_eqb}
 use Rattle.audit_io.specs.Slots.{IfTold, Pair}
 use Rattle.audit_model.specs.declared.outcome.Outcome.{Outcome}
 use Rattle.audit_model.specs.Job.{Job}
-use Rattle.checkpoint_definitions.specs.Checkpoint.{job_digest}
+use Rattle.audit_model.specs.Run.{fits, is_bare, taken_up}
+use Rattle.audit_model.specs.Trajectory.{bare}
+use Rattle.model_laws.proofs.Bins.{bare_fits}
+use Rattle.checkpoint_definitions.specs.Checkpoint.{AreRising, job_digest}
 use Rattle.checkpoint_definitions.specs.Slots.{Slot, newest, opening, other, place, slot_at, slot_of}
 use Rattle.ckpt_store.specs.declared.slots.Slot.{Slot as Looked}
 use Rattle.ckpt_store.specs.declared.slots.Slot.TheVariants as looked
@@ -15,13 +21,13 @@ use Rattle.ckpt_store.specs.declared.slots.StoreFault.TheVariants.{Damaged, Othe
 use Rattle.ckpt_store.specs.Fitting.{AreFit, HasFitOutcomes}
 use Rattle.ckpt_store.specs.Looked.{AreSlots}
 use Rattle.ckpt_format.specs.declared.decode.Checkpoint.{Checkpoint}
-use Rattle.ckpt_store.specs.View.{answer_at, newest_answer, newest_seen, opened, opening_seen, place_seen, slot_view}
+use Rattle.ckpt_store.specs.View.{answer_at, held_seen, newest_answer, newest_seen, opened, opening_seen, place_seen, slot_view}
 use Rattle.audit_run.specs.declared.ended.Ended.{Ended}
 use Rattle.audit_run.specs.declared.ended.Ended.TheVariants as ended
 use Rattle.audit_run.specs.declared.opening.Opening.{Opening}
 use Rattle.audit_run.specs.declared.opening.Target.{Target}
 use Rattle.audit_run.specs.Ends.{IsOpening, opening_by, place_of, saves}
-use Rattle.audit_run.specs.Running.{IsOtherSeen, IsPlaced, IsRun, IsTarget, Opens, RefusesSlots, refused_by}
+use Rattle.audit_run.specs.Running.{IsOtherSeen, IsPlaced, IsRun, IsTarget, Opens, OpensWith, RefusesSlots, refused_by}
 use Rattle.audit_run.specs.Steps.{Finishes}
 use Rattle.audit_run.specs.World.{IfKnown, Kept, Stream}
 use Rattle.audit_run.proofs.Running.{fit_list, rising_once}
@@ -41,8 +47,8 @@ module _ (job : Job) (digest : List ℕ) (p : Pair) (slots : Slots) (is : digest
   pub place_told : place_seen slots ≡ place_of job p
   place_told = both_told place
 
-  pub opening_told : opening_seen slots ≡ opening true (slot_of job (job_digest job) p.zero_slot) (slot_of job (job_digest job) p.one_slot)
-  opening_told = both_told (opening true)
+  pub opening_told : opening_seen job.setting slots ≡ opening true job.setting (slot_of job (job_digest job) p.zero_slot) (slot_of job (job_digest job) p.one_slot)
+  opening_told = both_told (opening true job.setting)
 
   pub newest_told : newest_seen slots ≡ newest (slot_of job (job_digest job) p.zero_slot) (slot_of job (job_digest job) p.one_slot)
   newest_told = both_told newest
@@ -102,18 +108,60 @@ fresh_opening job slots fresh = record {
 }
 
 resumed_told : (job : Job) (digest : List ℕ) (told : Option Pair) (slots : Slots) (outcomes : List Outcome) → digest ≡ job_digest job
-    → IfTold told (λ p. AreSlots job digest p slots) → opening_seen slots ≡ Some outcomes → IfKnown (opening_by true job told) (λ o. o ≡ Some outcomes)
+    → IfTold told (λ p. AreSlots job digest p slots) → opening_seen job.setting slots ≡ Some outcomes → IfKnown (opening_by true job told) (λ o. o ≡ Some outcomes)
 resumed_told job digest None slots outcomes is seen found = tt
 resumed_told job digest (Some p) slots outcomes is seen found = sym (opening_told job digest p slots is seen) ∙ found
 
 -- a run that resumes starts with what the newest slot holds
 pub resumed_opening : (job : Job) (digest : List ℕ) (told : Option Pair) (slots : Slots) (outcomes : List Outcome) → digest ≡ job_digest job → job.setting.resume ≡ true
-    → IfTold told (λ p. AreSlots job digest p slots) → opening_seen slots ≡ Some outcomes → AreFit job outcomes → IsOpening job told outcomes
+    → IfTold told (λ p. AreSlots job digest p slots) → opening_seen job.setting slots ≡ Some outcomes → AreFit job outcomes → IsOpening job told outcomes
 resumed_opening job digest told slots outcomes is resumes seen found fit = record {
   told = subst (λ (b : Bool). IfKnown (opening_by b job told) (λ o. o ≡ Some outcomes)) (sym resumes) (resumed_told job digest told slots outcomes is seen found);
   apart = rising_once (map (λ o. o.id) outcomes) fit.rising;
   fitting = fit_list job outcomes fit.fit;
 }
+
+-- without their bins, they are what a run that asks for none starts with
+pub taken_bare : (job : Job) (slots : Slots) (held : List Outcome) → job.setting.shift ≡ false → held_seen slots ≡ Some held
+    → opening_seen job.setting slots ≡ Some (map bare held)
+taken_bare job slots held plain e =
+    ap (λ (o : Option (List Outcome)). option_map (taken_up job.setting.shift job.setting.walks) o) e
+    ∙ ap (λ (b : Bool). Some (taken_up b job.setting.walks held)) plain
+
+pub taken_none : (job : Job) (slots : Slots) → held_seen slots ≡ None → opening_seen job.setting slots ≡ None
+taken_none job slots e = ap (λ (o : Option (List Outcome)). option_map (taken_up job.setting.shift job.setting.walks) o) e
+
+same_ids : (outcomes : List Outcome) → map (λ o. o.id) (map bare outcomes) ≡ map (λ o. o.id) outcomes
+same_ids [] = refl
+same_ids (x ∷ xs) = ap (λ (ids : List ℕ). x.id ∷ ids) (same_ids xs)
+
+pub bare_fit : (job : Job) (outcomes : List Outcome) → AreFit job outcomes → AreFit job (map bare outcomes)
+bare_fit job outcomes fit = record {
+  few = omega (arith, fit.few, length-map outcomes bare);
+  rising = subst AreRising (sym (same_ids outcomes)) fit.rising;
+  fit = All-map (λ (o : Outcome). IsTrue (fits job o)) bare outcomes (λ k d inside. bare_fits job (get_or outcomes k d) (fit.fit k d inside));
+}
+
+pub all_bare : (outcomes : List Outcome) → All (λ o. IsTrue (is_bare o)) (map bare outcomes)
+all_bare outcomes = All-map (λ (o : Outcome). IsTrue (is_bare o)) bare outcomes (λ k d inside. refl)
+
+-- so it starts, where the outcomes that were held have been stripped of their bins
+pub opens_bare : (job : Job) → IsRun job → (digest : List ℕ) (k : Kept) (slots : Slots) (held outcomes : List Outcome) (target : Option Target)
+    → digest ≡ job_digest job → job.setting.resume ≡ true → IfTold k.slots (λ p. AreSlots job digest p slots) → held_seen slots ≡ Some held → AreFit job held
+    → outcomes ≡ map bare held → (o : Opening) → o.outcomes.items ≡ outcomes → o.target ≡ target → IsTarget (saves job.setting) job k.slots target → OpensWith job k k o
+opens_bare job run digest k slots held outcomes target is resumes told seen fit stripped o items at placed = record {
+  same = refl;
+  opened = record {
+    opened = subst (λ (os : List Outcome). IsOpening job k.slots os) (sym here)
+        (resumed_opening job digest k.slots slots (map bare held) is resumes told (taken_bare job slots held run.plain.no_bins seen) (bare_fit job held fit));
+    fit = subst (λ (os : List Outcome). AreFit job os) (sym here) (bare_fit job held fit);
+    bare = subst (λ (os : List Outcome). All (λ o. IsTrue (is_bare o)) os) (sym here) (all_bare held);
+    target = subst (λ (t : Option Target). IsTarget (saves job.setting) job k.slots t) (sym at) placed;
+  };
+}
+  where
+    here : o.outcomes.items ≡ map bare held
+    here = items ∙ stripped
 
 opened_fit : (job : Job) (wanted : List ℕ) (s : Looked) (c : Checkpoint) → HasFitOutcomes job s → opened s wanted ≡ Ok (Some c) → AreFit job c.outcomes.items
 opened_fit job wanted looked.Absent c fit e = cc

@@ -5,11 +5,11 @@ use Rattle.audit_model.specs.declared.fault.WordFault.{WordFault}
 use Rattle.audit_model.specs.declared.setting.Setting.{Setting}
 use Rattle.audit_model.specs.declared.outcome.Outcome.{Outcome}
 use Rattle.audit_model.specs.declared.setting.Command.{Command}
-use Rattle.audit_model.specs.declared.setting.Command.TheVariants.{Check, Run, Make}
+use Rattle.audit_model.specs.declared.setting.Command.TheVariants.{Check, Run, Make, Plans}
 use Rattle.audit_io.specs.Slots.{Pair}
 use Rattle.audit_model.specs.Job.{Job}
-use Rattle.note_definitions.specs.Note.{Ending, bad_words, too_many_bytes, bad_graph, bad_plan, no_memory, read_fault, write_fault, load_fault, stopped, damaged, other_job, save_fault}
-use Rattle.text_definitions.specs.Words.{setting_of}
+use Rattle.note_definitions.specs.Note.{Ending, bad_words, too_many_bytes, bad_graph, bad_regions, bad_table, bad_plan, bad_plan_named, no_memory, read_fault, write_fault, load_fault, stopped, damaged, other_job, save_fault}
+use Rattle.word_definitions.specs.Words.{setting_of}
 use Rattle.audit_run.specs.Accepted.{IsAccepted, IsRefused, judged}
 use Rattle.audit_run.specs.Causes.{IsTold, IsTheJob, LeavesWork, LacksOpening, HasCauses}
 use Rattle.audit_run.specs.Ended.{status_of}
@@ -43,6 +43,9 @@ module _ (words : List (List ℕ)) (before after : World) where
   one (Some (bad_words f)) c h = inl refl
   one (Some too_many_bytes) c h = absurd (ok_is_no_err _ _ c.refused.words_are h)
   one (Some (bad_graph f)) c h = absurd (ok_is_no_err _ _ c.words_are h)
+  one (Some (bad_regions column f)) c h = absurd c
+  one (Some (bad_table f)) c h = absurd c
+  one (Some (bad_plan_named name f)) c h = absurd c
   one (Some (bad_plan f)) c h = absurd (ok_is_no_err _ _ c.words_are h)
   one (Some no_memory) c h = inr refl
   one (Some read_fault) c h = absurd (ok_is_no_err _ _ c.words_are h)
@@ -57,6 +60,9 @@ module _ (words : List (List ℕ)) (before after : World) where
     pub two_only : (r : Option Ending) → Cause words before after r → status_of r ≡ 2 → IsErr (judged setting bytes)
     two_only (Some too_many_bytes) c s = refused_is_err words before setting bytes _ told c.refused
     two_only (Some (bad_graph f)) c s = refused_is_err words before setting bytes _ told c
+    two_only (Some (bad_regions column f)) c s = absurd c
+    two_only (Some (bad_table f)) c s = absurd c
+    two_only (Some (bad_plan_named name f)) c s = absurd c
     two_only (Some (bad_plan f)) c s = refused_is_err words before setting bytes _ told c
     two_only r c s = absurd (omega arith)
 
@@ -65,6 +71,9 @@ module _ (words : List (List ℕ)) (before after : World) where
     two (Some (bad_words f)) c h = absurd (ok_is_no_err _ _ told.words_are (err_is_err _ f c))
     two (Some too_many_bytes) c h = inl refl
     two (Some (bad_graph f)) c h = inl refl
+    two (Some (bad_regions column f)) c h = absurd c
+    two (Some (bad_table f)) c h = absurd c
+    two (Some (bad_plan_named name f)) c h = absurd c
     two (Some (bad_plan f)) c h = inl refl
     two (Some no_memory) c h = inr (inl refl)
     two (Some read_fault) c h = inr (inr refl)
@@ -113,6 +122,9 @@ module _ (words : List (List ℕ)) (before after : World) where
   zero_only (Some (bad_words f)) c s = absurd (omega arith)
   zero_only (Some too_many_bytes) c s = absurd (omega arith)
   zero_only (Some (bad_graph f)) c s = absurd (omega arith)
+  zero_only (Some (bad_regions column f)) c s = absurd c
+  zero_only (Some (bad_table f)) c s = absurd c
+  zero_only (Some (bad_plan_named name f)) c s = absurd c
   zero_only (Some (bad_plan f)) c s = absurd (omega arith)
   zero_only (Some no_memory) c s = absurd (omega arith)
   zero_only (Some read_fault) c s = absurd (omega arith)
@@ -153,6 +165,7 @@ module _ (words : List (List ℕ)) (before after : World) where
   text_report Check whole job w t = cc
   text_report Run whole job w t = t
   text_report Make whole job w t = t
+  text_report Plans whole job w t = t
 
   pub report_of : (whole : Bool) (job other : Job) → IsTrue (is_walking job.setting.command) → other ≡ job → WritesText other.setting.command whole other before after → WritesReport whole job before after
   report_of whole job other w same t =
@@ -184,6 +197,9 @@ module _ (words : List (List ℕ)) (before after : World) where
   seven (Some (bad_words f)) c l h3 h4 h6 h9 = absurd (words_not l.job f l.the_job c)
   seven (Some too_many_bytes) c l h3 h4 h6 h9 = absurd (refused_not l.job _ l.the_job c.refused)
   seven (Some (bad_graph f)) c l h3 h4 h6 h9 = absurd (refused_not l.job _ l.the_job c)
+  seven (Some (bad_regions column f)) c l h3 h4 h6 h9 = absurd c
+  seven (Some (bad_table f)) c l h3 h4 h6 h9 = absurd c
+  seven (Some (bad_plan_named name f)) c l h3 h4 h6 h9 = absurd c
   seven (Some (bad_plan f)) c l h3 h4 h6 h9 = absurd (refused_not l.job _ l.the_job c)
   seven (Some no_memory) c l h3 h4 h6 h9 = absurd (h3 refl)
   seven (Some read_fault) c l h3 h4 h6 h9 = absurd (h4 refl)
@@ -210,6 +226,9 @@ module _ (words : List (List ℕ)) (before after : World) where
   eight (Some (bad_words f)) c l h3 h4 h6 = absurd (words_not l.job f l.the_job c)
   eight (Some too_many_bytes) c l h3 h4 h6 = absurd (refused_not l.job _ l.the_job c.refused)
   eight (Some (bad_graph f)) c l h3 h4 h6 = absurd (refused_not l.job _ l.the_job c)
+  eight (Some (bad_regions column f)) c l h3 h4 h6 = absurd c
+  eight (Some (bad_table f)) c l h3 h4 h6 = absurd c
+  eight (Some (bad_plan_named name f)) c l h3 h4 h6 = absurd c
   eight (Some (bad_plan f)) c l h3 h4 h6 = absurd (refused_not l.job _ l.the_job c)
   eight (Some no_memory) c l h3 h4 h6 = absurd (h3 refl)
   eight (Some read_fault) c l h3 h4 h6 = absurd (h4 refl)

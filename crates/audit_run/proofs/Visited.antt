@@ -1,5 +1,5 @@
 -- The start plan of an accepted job is legal, and so is each plan that is visited.
-use Rattle.std.proofs.Common.{◌≡◌, ℕ, zero, suc, ◌<◌, ◌≤◌, ◌&&◌, Bool, true, false, List, length, Option, Some, None, Result, Ok, Err, Ordering, Less, Equal, Greater, refl, sym, ap, ◌∙◌, subst, inl, inr, cond, arith}
+use Rattle.std.proofs.Common.{◌≡◌, ℕ, zero, suc, ◌<◌, ◌≤◌, ◌&&◌, Bool, true, false, List, [], length, Option, Some, None, Result, Ok, Err, Ordering, Less, Equal, Greater, refl, sym, ap, ◌∙◌, subst, inl, inr, cond, arith}
 use Rattle.std.specs.Prelude.{nat_lt, slice_index}
 use Rattle.std.specs.Cmp.{signed_Decides}
 use Rattle.std.specs.Ordering.{is_eq, is_lt, int_cmp, nat_cmp}
@@ -100,8 +100,8 @@ module _ (d : Document) (columns : Columns) where
       below_length (slice_index (parsed d columns).start u) (label_count d columns) _ (subst (λ (x : ℕ). x < label_count d columns) (sym place) (district_in_range u l))
 
   -- the start plan of what is read is legal, where it has no fault
-  read_start_is_legal : (setting : Setting) → plan_fault (job_from (parsed d columns) setting) ≡ None → IsLegal (job_from (parsed d columns) setting) (parsed d columns).start
-  read_start_is_legal setting none = (accepted_is_legal (job_from (parsed d columns) setting) start_is_complete start_in_range none).1
+  read_start_is_legal : (setting : Setting) → plan_fault (job_from (parsed d columns) setting []) ≡ None → IsLegal (job_from (parsed d columns) setting []) (parsed d columns).start
+  read_start_is_legal setting none = (accepted_is_legal (job_from (parsed d columns) setting []) start_is_complete start_in_range none).1
 
 -- what is read is a document's
 pub record IsReadOf (p : Parsed) (columns : Columns) : Type 0 where
@@ -130,13 +130,13 @@ made_is : (made job : Job) (fault : Option PlanFault) → job_or made fault ≡ 
 made_is made job None e = (refl, cc)
 made_is made job (Some f) e = cc
 
-job_is_legal : (p : Parsed) (setting : Setting) (job : Job) → IsReadOf p setting.columns → job_of p setting ≡ Ok job → IsLegal job job.start
+job_is_legal : (p : Parsed) (setting : Setting) (job : Job) → IsReadOf p setting.columns → job_of p setting [] ≡ Ok job → IsLegal job job.start
 unfolding job_of
 job_is_legal p setting job r e =
-    let made = made_is (job_from p setting) job (plan_fault (job_from p setting)) e in
-    let none = subst (λ (q : Parsed). plan_fault (job_from q setting) ≡ None) (sym r.same) made.0 in
+    let made = made_is (job_from p setting []) job (plan_fault (job_from p setting [])) e in
+    let none = subst (λ (q : Parsed). plan_fault (job_from q setting []) ≡ None) (sym r.same) made.0 in
     subst (λ (j : Job). IsLegal j j.start) made.1
-    (subst (λ (q : Parsed). IsLegal (job_from q setting) q.start) r.same (read_start_is_legal r.of setting.columns setting none))
+    (subst (λ (q : Parsed). IsLegal (job_from q setting []) q.start) r.same (read_start_is_legal r.of setting.columns setting none))
 
 from_job_is : (r : Result Job PlanFault) (job : Job) → from_job r ≡ Ok job → r ≡ Ok job
 from_job_is (Ok made) job e = cc
@@ -144,7 +144,7 @@ from_job_is (Err f) job e = cc
 
 from_parsed_is : (setting : Setting) (bytes : List ℕ) (r : Result Parsed GraphFault) (job : Job) → reading bytes setting.columns ≡ r → from_parsed setting r ≡ Ok job
     → IsLegal job job.start
-from_parsed_is setting bytes (Ok p) job is e = job_is_legal p setting job (read_is bytes setting.columns p is) (from_job_is (job_of p setting) job e)
+from_parsed_is setting bytes (Ok p) job is e = job_is_legal p setting job (read_is bytes setting.columns p is) (from_job_is (job_of p setting []) job e)
 from_parsed_is setting bytes (Err f) job is e = cc
 
 from_bytes_is : (setting : Setting) (bytes : List ℕ) (many : Bool) (job : Job) → from_bytes setting bytes many ≡ Ok job → IsLegal job job.start

@@ -1,6 +1,6 @@
 -- What accepted words say of their setting.
 use Rattle.std.proofs.Common.{◌≡◌, ℕ, zero, suc, ◌+◌, ◌≤◌, ◌&&◌, ◌||◌, not, Bool, true, false, cond, List, [], ◌∷◌, Option, Some, None, Ok, refl, subst, ap, ◌∙◌}
-use Rattle.std.specs.Prelude.{find, nat_le, slice_get, unwrap_or, option_map}
+use Rattle.std.specs.Prelude.{bytes_eq, codes, ⊤, find, nat_le, slice_get, unwrap_or, option_map}
 use Rattle.std.specs.Option.{option_or}
 use Rattle.std.proofs.lemmas.Bool.{and_parts, leb-true}
 use Rattle.audit_model.specs.declared.fault.Name.{Name}
@@ -8,33 +8,56 @@ use Rattle.audit_model.specs.declared.fault.Name.TheVariants.{Size, Walks, Ends,
 use Rattle.audit_model.specs.declared.fault.WordFault.{WordFault}
 use Rattle.audit_model.specs.declared.fault.WordFault.TheVariants.{BadValue}
 use Rattle.audit_model.specs.declared.setting.Command.{Command}
-use Rattle.audit_model.specs.declared.setting.Command.TheVariants.{Check, Run, Make}
+use Rattle.audit_model.specs.declared.setting.Command.TheVariants.{Check, Run, Make, Plans}
 use Rattle.audit_model.specs.declared.setting.Setting.{Setting}
-use Rattle.text_definitions.specs.Words.{Pair, pairs, text_of, number_of, number_at, is_number, covers_walks, is_good, names_of, command_of, of_command, fault_of, setting_for, setting_or, setting_of}
+use Rattle.word_definitions.specs.Words.{Pair, pairs, text_of, number_of, number_at, is_number, covers_walks, is_good, names_of, command_of, of_command, fault_of, setting_for, setting_or, setting_of}
 use Rattle.audit_run.specs.Ends.{is_walking}
+use Rattle.audit_run.specs.Running.{HasDefaults}
 
 -- ---- the command
+
+-- the words of the command are built
+abbrev pub IsBuilt : Command → Type 0
+IsBuilt Check = ⊤
+IsBuilt Run = ⊤
+IsBuilt Make = ⊤
+IsBuilt Plans = ⊥
 
 -- accepted words are a command and pairs with no fault, of which the setting is made
 pub record IsSpoken (setting : Setting) : Type 0 where
   pub command : Command
+  pub built : IsBuilt command
   pub words : List Pair
   pub faultless : fault_of command words ≡ None
   pub same : setting_for command words ≡ setting
 
-spoken_or : (command : Command) (words : List Pair) (fault : Option WordFault) (setting : Setting)
+spoken_or : (command : Command) (words : List Pair) (fault : Option WordFault) (setting : Setting) → IsBuilt command
     → fault_of command words ≡ fault → setting_or command words fault ≡ Ok setting → IsSpoken setting
-spoken_or command words None setting faultless e = record { command = command; words = words; faultless = faultless; same = cc }
-spoken_or command words (Some f) setting faultless e = cc
+spoken_or command words None setting built faultless e = record { command = command; built = built; words = words; faultless = faultless; same = cc }
+spoken_or command words (Some f) setting built faultless e = cc
 
-spoken_by : (word : List ℕ) (words : List Pair) (command : Option Command) (setting : Setting) → of_command word words command ≡ Ok setting → IsSpoken setting
-spoken_by word words (Some command) setting e = spoken_or command words (fault_of command words) setting refl e
-spoken_by word words None setting e = cc
+abbrev pub IsBuiltCommand : Option Command → Type 0
+IsBuiltCommand None = ⊤
+IsBuiltCommand (Some command) = IsBuilt command
+
+-- each command that a word spells is built
+spelled_is_built : (word : List ℕ) → IsBuiltCommand (command_of word)
+spelled_is_built word = by (bytes_eq word (codes "check")) (bytes_eq word (codes "run")) (bytes_eq word (codes "make"))
+  where
+    by : (check run make : Bool) → IsBuiltCommand (cond check (Some Check) (cond run (Some Run) (cond make (Some Make) None)))
+    by true run make = tt
+    by false true make = tt
+    by false false true = tt
+    by false false false = tt
+
+spoken_by : (word : List ℕ) (words : List Pair) (command : Option Command) (setting : Setting) → IsBuiltCommand command → of_command word words command ≡ Ok setting → IsSpoken setting
+spoken_by word words (Some command) setting built e = spoken_or command words (fault_of command words) setting built refl e
+spoken_by word words None setting built e = cc
 
 pub accepted_words : (words : List (List ℕ)) (setting : Setting) → setting_of words ≡ Ok setting → IsSpoken setting
 unfolding setting_of
 accepted_words [] setting e = cc
-accepted_words (word ∷ rest) setting e = spoken_by word (pairs rest) (command_of word) setting e
+accepted_words (word ∷ rest) setting e = spoken_by word (pairs rest) (command_of word) setting (spelled_is_built word) e
 
 -- ---- what the values say
 
@@ -93,14 +116,15 @@ module _ (command : Command) (words : List Pair) where
       let covers = (and_parts (is_number 0 100000 (text_of command words Budget)) (covers_walks command words) budget).1 in
       leb-true _ _ (covered (is_number 0 0 (text_of command words Save)) _ covers (zero_number (number_of (text_of command words Save)) save none))
 
-covers_by : (command : Command) (words : List Pair) (setting : Setting) → fault_of command words ≡ None → setting_for command words ≡ setting
+covers_by : (command : Command) (words : List Pair) (setting : Setting) → IsBuilt command → fault_of command words ≡ None → setting_for command words ≡ setting
     → is_walking setting.command ≡ true → setting.save_every ≡ 0 → setting.walks + setting.ends ≤ setting.budget
-covers_by Check words setting faultless same walking none =
+covers_by Check words setting built faultless same walking none =
     let check : false ≡ is_walking setting.command = ap (λ (s : Setting). is_walking s.command) same in cc
-covers_by Run words setting faultless same walking none =
+covers_by Run words setting built faultless same walking none =
     subst (λ (s : Setting). s.walks + s.ends ≤ s.budget) same
     (covers_all Run words (good Run words 12 Budget faultless refl) (good Run words 13 Save faultless refl) (ap (λ (s : Setting). s.save_every) same ∙ none))
-covers_by Make words setting faultless same walking none =
+covers_by Plans words setting built faultless same walking none = absurd built
+covers_by Make words setting built faultless same walking none =
     subst (λ (s : Setting). s.walks + s.ends ≤ s.budget) same
     (covers_all Make words (good Make words 9 Budget faultless refl) (good Make words 10 Save faultless refl) (ap (λ (s : Setting). s.save_every) same ∙ none))
 
@@ -108,7 +132,7 @@ covers_by Make words setting faultless same walking none =
 pub accepted_words_cover : (words : List (List ℕ)) (setting : Setting) → setting_of words ≡ Ok setting → is_walking setting.command ≡ true
     → setting.save_every ≡ 0 → setting.walks + setting.ends ≤ setting.budget
 accepted_words_cover words setting e walking none =
-    let s = accepted_words words setting e in covers_by s.command s.words setting s.faultless s.same walking none
+    let s = accepted_words words setting e in covers_by s.command s.words setting s.built s.faultless s.same walking none
 
 -- ---- the size of a grid
 
@@ -120,6 +144,8 @@ sized_by : (command : Command) (words : List Pair) (setting : Setting) → fault
     → setting_for command words ≡ setting → setting.command ≡ Make → (1 ≤ setting.size) × (setting.size ≤ 30)
 sized_by Check words setting faultless same make =
     let check : Check ≡ setting.command = ap (λ (s : Setting). s.command) same in cc
+sized_by Plans words setting faultless same make =
+    let plans : Plans ≡ setting.command = ap (λ (s : Setting). s.command) same in cc
 sized_by Run words setting faultless same make =
     let run : Run ≡ setting.command = ap (λ (s : Setting). s.command) same in cc
 sized_by Make words setting faultless same make =
@@ -128,3 +154,14 @@ sized_by Make words setting faultless same make =
 -- the size of a grid that accepted words ask for is from 1 to 30
 pub accepted_size : (words : List (List ℕ)) (setting : Setting) → setting_of words ≡ Ok setting → setting.command ≡ Make → (1 ≤ setting.size) × (setting.size ≤ 30)
 accepted_size words setting e make = let s = accepted_words words setting e in sized_by s.command s.words setting s.faultless s.same make
+
+-- ---- what no words ask for yet
+
+plain_by : (command : Command) (words : List Pair) → HasDefaults (setting_for command words)
+plain_by Check words = record { cut_limit = refl; no_bins = refl; no_stop = refl; no_serial = refl }
+plain_by Run words = record { cut_limit = refl; no_bins = refl; no_stop = refl; no_serial = refl }
+plain_by Make words = record { cut_limit = refl; no_bins = refl; no_stop = refl; no_serial = refl }
+plain_by Plans words = record { cut_limit = refl; no_bins = refl; no_stop = refl; no_serial = refl }
+
+pub accepted_words_have_defaults : (words : List (List ℕ)) (setting : Setting) → setting_of words ≡ Ok setting → HasDefaults setting
+accepted_words_have_defaults words setting e = let s = accepted_words words setting e in subst HasDefaults s.same (plain_by s.command s.words)

@@ -5,7 +5,7 @@ use Rattle.audit_model.specs.declared.fault.PlanFault.{PlanFault}
 use Rattle.audit_model.specs.declared.fault.WordFault.{WordFault}
 use Rattle.audit_model.specs.declared.setting.Columns.{Columns}
 use Rattle.audit_model.specs.declared.setting.Command.{Command}
-use Rattle.audit_model.specs.declared.setting.Command.TheVariants.{Check, Run, Make}
+use Rattle.audit_model.specs.declared.setting.Command.TheVariants.{Check, Run, Make, Plans}
 use Rattle.audit_model.specs.declared.setting.Setting.{Setting}
 use Rattle.audit_model.specs.Job.{Job}
 use Rattle.audit_model.specs.JobOf.{job_of}
@@ -13,7 +13,7 @@ use Rattle.audit_model.specs.Parsed.{Parsed}
 use Rattle.draw_definitions.specs.Grid.{grid}
 use Rattle.note_definitions.specs.Note.{Ending, too_many_bytes, bad_graph, bad_plan}
 use Rattle.graph_definitions.specs.Reading.{reading}
-use Rattle.text_definitions.specs.Words.{setting_of}
+use Rattle.word_definitions.specs.Words.{setting_of}
 use Rattle.audit_run.specs.World.{IfKnown}
 
 -- the most bytes of a graph
@@ -25,6 +25,7 @@ abbrev pub input_by : Command → Setting → Option (List ℕ) → Option (List
 input_by Check setting left = left
 input_by Run setting left = left
 input_by Make setting left = Some (grid setting.size setting.key)
+input_by Plans setting left = left
 
 -- the same for the command of a setting
 abbrev pub input_of : Setting → Option (List ℕ) → Option (List ℕ)
@@ -36,7 +37,7 @@ from_job (Ok job) = Ok job
 from_job (Err f) = Err (bad_plan f)
 
 abbrev pub from_parsed : Setting → Result Parsed GraphFault → Result Job Ending
-from_parsed setting (Ok parsed) = from_job (job_of parsed setting)
+from_parsed setting (Ok parsed) = from_job (job_of parsed setting [])
 from_parsed setting (Err f) = Err (bad_graph f)
 
 abbrev pub from_bytes : Setting → List ℕ → Bool → Result Job Ending

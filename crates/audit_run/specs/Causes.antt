@@ -3,7 +3,7 @@ use Rattle.std.specs.Prelude.{◌≡◌, ◌≢◌, ◌⊎◌, ℕ, ◌<◌, Boo
 use Rattle.audit_model.specs.declared.outcome.Outcome.{Outcome}
 use Rattle.audit_model.specs.declared.setting.Setting.{Setting}
 use Rattle.audit_model.specs.Job.{Job}
-use Rattle.text_definitions.specs.Words.{setting_of}
+use Rattle.word_definitions.specs.Words.{setting_of}
 use Rattle.audit_io.specs.Faults.{Rose}
 use Rattle.audit_run.specs.Accepted.{judged, input_of}
 use Rattle.audit_run.specs.Ends.{is_walking, told_opening, leaves_work, IsDone, IsReadFault, IsWriteFault, IsLoadFault, IsSaveFault, IsSlotsFault, IsStopped}

@@ -8,7 +8,7 @@ use Rattle.audit_model.specs.declared.fault.WordFault.{WordFault}
 use Rattle.audit_model.specs.declared.fault.WordFault.TheVariants as word
 use Rattle.audit_run.specs.declared.ended.Ended.{Ended}
 use Rattle.audit_run.specs.declared.ended.Ended.TheVariants as ended
-use Rattle.note_definitions.specs.Note.{Ending, bad_words, too_many_bytes, bad_graph, bad_plan, no_memory, read_fault, write_fault, load_fault, stopped, damaged, other_job, save_fault, note}
+use Rattle.note_definitions.specs.Note.{Ending, bad_words, too_many_bytes, bad_graph, bad_regions, bad_table, bad_plan, bad_plan_named, no_memory, read_fault, write_fault, load_fault, stopped, damaged, other_job, save_fault, note}
 use Rattle.audit_model.specs.declared.setting.Columns.{Columns}
 use Rattle.ckpt_store.specs.View.{slot_view}
 use Rattle.audit_run.specs.Accepted.{no_columns}
@@ -48,7 +48,10 @@ status_of None = 0
 status_of (Some (bad_words f)) = 1
 status_of (Some too_many_bytes) = 2
 status_of (Some (bad_graph f)) = 2
+status_of (Some (bad_regions column f)) = 2
+status_of (Some (bad_table f)) = 2
 status_of (Some (bad_plan f)) = 2
+status_of (Some (bad_plan_named name f)) = 2
 status_of (Some no_memory) = 3
 status_of (Some read_fault) = 4
 status_of (Some write_fault) = 5

@@ -6,7 +6,7 @@ use Rattle.audit_model.specs.declared.fault.WordFault.{WordFault}
 use Rattle.audit_model.specs.declared.outcome.Outcome.{Outcome}
 use Rattle.audit_model.specs.declared.setting.Columns.{Columns}
 use Rattle.audit_model.specs.declared.setting.Command.{Command}
-use Rattle.audit_model.specs.declared.setting.Command.TheVariants.{Check, Run, Make}
+use Rattle.audit_model.specs.declared.setting.Command.TheVariants.{Check, Run, Make, Plans}
 use Rattle.audit_model.specs.declared.setting.Setting.{Setting}
 use Rattle.audit_model.specs.Below.{filter_below}
 use Rattle.audit_model.specs.Job.{Job}
@@ -16,10 +16,10 @@ use Rattle.audit_model.specs.Run.{total, has_id, full, fits}
 use Rattle.audit_model.specs.Trajectory.{outcome}
 use Rattle.checkpoint_definitions.specs.Checkpoint.{checkpoint, job_digest}
 use Rattle.draw_definitions.specs.Draw.{draw}
-use Rattle.note_definitions.specs.Note.{Ending, bad_words, too_many_bytes, bad_graph, bad_plan, no_memory, read_fault, write_fault, load_fault, stopped, damaged, other_job, save_fault, note}
-use Rattle.text_definitions.specs.Report.{report, check_text}
+use Rattle.note_definitions.specs.Note.{Ending, bad_words, too_many_bytes, bad_graph, bad_regions, bad_table, bad_plan, bad_plan_named, no_memory, read_fault, write_fault, load_fault, stopped, damaged, other_job, save_fault, note}
+use Rattle.text_definitions.specs.Report.{full_report, check_text}
 use Rattle.checkpoint_definitions.specs.Slots.{Slot, other, ours, slot_of, opening, newest, place, slot_at}
-use Rattle.text_definitions.specs.Words.{setting_of}
+use Rattle.word_definitions.specs.Words.{setting_of}
 use Rattle.audit_io.specs.Faults.{Rose}
 use Rattle.audit_io.specs.Slots.{Pair, stored, other_stored}
 use Rattle.audit_run.specs.Accepted.{IsAccepted, IsRefused, columns_of, most_bytes}
@@ -33,12 +33,14 @@ abbrev pub is_reading : Command → Bool
 is_reading Check = true
 is_reading Run = true
 is_reading Make = false
+is_reading Plans = true
 
 -- the command walks
 abbrev pub is_walking : Command → Bool
 is_walking Check = false
 is_walking Run = true
 is_walking Make = true
+is_walking Plans = true
 
 -- a run of this setting saves, and loads
 abbrev pub saves : Setting → Bool
@@ -57,7 +59,7 @@ passes test (Err f) = false
 -- not told; told, and undefined; or told
 abbrev pub opening_by : Bool → Job → Option Pair → Option (Option (List Outcome))
 opening_by false job slots = Some (Some [])
-opening_by true job slots = option_map (λ p. opening true (slot_of job (job_digest job) p.zero_slot) (slot_of job (job_digest job) p.one_slot)) slots
+opening_by true job slots = option_map (λ p. opening true job.setting (slot_of job (job_digest job) p.zero_slot) (slot_of job (job_digest job) p.one_slot)) slots
 
 abbrev pub told_opening : Job → Option Pair → Option (Option (List Outcome))
 told_opening job slots = opening_by job.setting.resume job slots
@@ -109,13 +111,14 @@ pub record WritesReport (whole : Bool) (job : Job) (before after : World) : Type
   pub outcomes : List Outcome
   pub opened : IsOpening job before.keeper.slots outcomes
   pub nothing_left : IsFalse (leaves_work job outcomes)
-  pub written : Writes whole before.out.bytes after.out.bytes (report job (full_of job outcomes))
+  pub written : Writes whole before.out.bytes after.out.bytes (full_report job (draw job.setting.key) (full_of job outcomes))
 
 -- what a command writes
 abbrev pub WritesText : Command → Bool → Job → World → World → Type 0
 WritesText Check whole job before after = Writes whole before.out.bytes after.out.bytes (check_text job)
 WritesText Run whole job before after = WritesReport whole job before after
 WritesText Make whole job before after = WritesReport whole job before after
+WritesText Plans whole job before after = WritesReport whole job before after
 
 -- work is left, and nothing was written
 pub record StopsEarly (job : Job) (before after : World) : Type 0 where
@@ -130,7 +133,7 @@ pub record StopsEarly (job : Job) (before after : World) : Type 0 where
 abbrev pub IsNewest : Job → List Outcome → Pair → Type 0
 IsNewest job outcomes p =
     (n : ℕ) × (newest (slot_of job (job_digest job) p.zero_slot) (slot_of job (job_digest job) p.one_slot) ≡ Some n)
-    × ((g : ℕ) × (g < 3) × (stored p n ≡ Some (checkpoint (job_digest job) g outcomes)))
+    × ((g : ℕ) × (g < 3) × (stored p n ≡ Some (checkpoint 1 (job_digest job) g outcomes)))
 
 -- an outcome of the opening, or what the trajectory of an id finds that the opening lacks
 abbrev pub IsOpeningOrFound : Job → List Outcome → Outcome → Type 0
@@ -140,7 +143,7 @@ IsOpeningOrFound job outcomes o =
 -- the slot is a checkpoint of the job with this generation, of the opening and of so many ids that the opening lacks
 pub record IsPartly (job : Job) (outcomes : List Outcome) (count generation : ℕ) (slot : Option (List ℕ)) : Type 0 where
   pub saved : List Outcome
-  pub bytes_are : slot ≡ Some (checkpoint (job_digest job) generation saved)
+  pub bytes_are : slot ≡ Some (checkpoint 1 (job_digest job) generation saved)
   pub each : All (IsOpeningOrFound job outcomes) saved
   pub opening_kept : All (Contains saved) outcomes
   pub counted : length saved ≡ length outcomes + count
@@ -161,7 +164,7 @@ KeepsBeside job p q = other_stored q (place_of job p).0 ≡ other_stored p (plac
 
 -- the slot at that place is the checkpoint of these outcomes, with the generation of the place, and is read as that
 pub record SavesAt (job : Job) (outcomes : List Outcome) (p q : Pair) : Type 0 where
-  pub bytes_are : stored q (place_of job p).0 ≡ Some (checkpoint (job_digest job) (place_of job p).1 outcomes)
+  pub bytes_are : stored q (place_of job p).0 ≡ Some (checkpoint 1 (job_digest job) (place_of job p).1 outcomes)
   pub slot_is : slot_of job (job_digest job) (stored q (place_of job p).0) ≡ ours (place_of job p).1 outcomes
 
 -- what is known of both, where both are told
@@ -279,7 +282,10 @@ Cause words before after None = IsDone words before after
 Cause words before after (Some (bad_words f)) = setting_of words ≡ Err f
 Cause words before after (Some too_many_bytes) = IsTooMany words before after
 Cause words before after (Some (bad_graph f)) = IsRefused words before.source.bytes (bad_graph f)
+Cause words before after (Some (bad_regions column f)) = ⊥
+Cause words before after (Some (bad_table f)) = ⊥
 Cause words before after (Some (bad_plan f)) = IsRefused words before.source.bytes (bad_plan f)
+Cause words before after (Some (bad_plan_named name f)) = ⊥
 Cause words before after (Some no_memory) = ⊤
 Cause words before after (Some read_fault) = IsReadFault words before after
 Cause words before after (Some write_fault) = IsWriteFault words before after
@@ -313,7 +319,10 @@ marks_of None = record no_marks { wrote = true; saved = true }
 marks_of (Some (bad_words f)) = no_marks
 marks_of (Some too_many_bytes) = no_marks
 marks_of (Some (bad_graph f)) = no_marks
+marks_of (Some (bad_regions column f)) = no_marks
+marks_of (Some (bad_table f)) = no_marks
 marks_of (Some (bad_plan f)) = no_marks
+marks_of (Some (bad_plan_named name f)) = no_marks
 marks_of (Some no_memory) = no_marks
 marks_of (Some read_fault) = record no_marks { read_failed = true }
 marks_of (Some write_fault) = record no_marks { wrote = true; saved = true; write_failed = true; save_failed = true }

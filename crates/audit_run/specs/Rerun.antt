@@ -1,5 +1,5 @@
 -- Runs of one job, and chains of them over the same slots.
-use Rattle.std.specs.Prelude.{◌≡◌, ℕ, Bool, List, [], ◌∷◌, ⊤, Some}
+use Rattle.std.specs.Prelude.{◌≡◌, ℕ, Bool, List, [], ◌∷◌, ⊤, Option, Some}
 use Rattle.std.specs.Io.KnownBytes.{Appends}
 use Rattle.audit_io.specs.Faults.{Rose}
 use Rattle.audit_io.specs.Slots.{Pair}
@@ -10,7 +10,7 @@ use Rattle.audit_model.specs.Trajectory.{Draws, outcome, sequence}
 use Rattle.checkpoint_definitions.specs.Checkpoint.{job_digest}
 use Rattle.checkpoint_definitions.specs.Slots.{IsAfterStop}
 use Rattle.draw_definitions.specs.Draw.{draw}
-use Rattle.text_definitions.specs.Report.{report}
+use Rattle.text_definitions.specs.Report.{report, thread_report}
 use Rattle.audit_run.specs.Causes.{IsTheJob}
 use Rattle.audit_run.specs.Chain.{AreHonestOf, IsUntorn, StaysHonest}
 use Rattle.audit_run.specs.Ends.{place_of}
@@ -28,7 +28,7 @@ pub record AreAlike (job other : Job) : Type 0 where
   pub same_outcome : (draws : Draws) (id : ℕ) → outcome other draws id ≡ outcome job draws id
   pub same_sequence : (draws : Draws) → sequence other draws ≡ sequence job draws
   pub same_fits : (o : Outcome) → fits other o ≡ fits job o
-  pub same_report : (outcomes : List Outcome) → report other outcomes ≡ report job outcomes
+  pub same_report : (outcomes : List Outcome) (stops : List (List ℕ)) (serial : Option (ℕ × List ℕ)) → report other outcomes stops serial ≡ report job outcomes stops serial
   pub same_honest : (p : Pair) → AreHonestOf job p → AreHonestOf other p
 
 -- workers, budget, saving and resuming change nothing of what a job finds and reports
@@ -88,7 +88,7 @@ IsChain job p (e ∷ events) = IsEvent job p e × IsChain job (slots_after e) ev
 
 -- a run that ended with status 0 has written the report that one thread gives by walking each trajectory once
 abbrev pub WroteOneThreads : Job → Event → Type 0
-WroteOneThreads job (ran l) = l.status ≡ 0 → Appends l.before.out.bytes l.after.out.bytes (report job (sequence job (draw job.setting.key)))
+WroteOneThreads job (ran l) = l.status ≡ 0 → Appends l.before.out.bytes l.after.out.bytes (thread_report job (draw job.setting.key))
 WroteOneThreads job (cut_off number q) = ⊤
 
 abbrev pub AllWroteOneThreads : Job → List Event → Type 0

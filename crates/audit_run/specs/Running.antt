@@ -1,12 +1,14 @@
 -- A run: what is known of its job, with what it starts, what it holds before it walks, and what it leaves in the slots.
 use Rattle.std.specs.Prelude.{◌≡◌, ℕ, ◌+◌, ◌*◌, ◌<◌, ◌≤◌, Bool, true, false, IsTrue, List, [], length, ⊤, Option, Some, None, Result, Ok, Err, OnOk}
+use Rattle.std.specs.List.{All}
 use Rattle.audit_io.specs.declared.source.Failed.{Failed}
 use Rattle.audit_io.specs.Faults.{HasCause}
 use Rattle.audit_io.specs.Slots.{Pair}
 use Rattle.audit_model.specs.declared.outcome.Outcome.{Outcome}
+use Rattle.audit_model.specs.declared.setting.Setting.{Setting}
 use Rattle.audit_model.specs.Job.{Job}
 use Rattle.audit_model.specs.JobOf.{IsJob}
-use Rattle.audit_model.specs.Run.{total, run_ids}
+use Rattle.audit_model.specs.Run.{is_bare, total, run_ids}
 use Rattle.checkpoint_definitions.specs.Checkpoint.{job_digest}
 use Rattle.checkpoint_definitions.specs.Slots.{other, slot_at}
 use Rattle.ckpt_store.specs.declared.slots.Slots.{Slots}
@@ -28,11 +30,20 @@ use Rattle.audit_run.specs.Steps.{Finishes}
 use Rattle.audit_run.specs.Walks.{IsTodo}
 use Rattle.audit_run.specs.World.{Stream, Kept, IfKnown}
 
+-- what no words ask for yet has its default
+pub record HasDefaults (s : Setting) : Type 0 where
+  pub cut_limit : s.max_cut ≡ 400000
+  pub no_bins : s.shift ≡ false
+  pub no_stop : s.stop ≡ 0
+  pub no_serial : s.serial ≡ false
+
 -- the job is accepted, its command walks, and where it saves nothing its budget is enough for every trajectory
 pub record IsRun (job : Job) : Type 0 where
   pub sound : IsJob job
   pub walking : IsTrue (is_walking job.setting.command)
   pub covered : job.setting.save_every ≡ 0 → total job ≤ job.setting.budget
+  pub plain : HasDefaults job.setting
+  pub no_regions : job.regions ≡ []
 
 -- ---- with what it starts
 
@@ -50,10 +61,11 @@ IsTarget false job slots (Some t) = ⊥
 IsTarget true job slots None = ⊥
 IsTarget true job slots (Some t) = IsPlaced job slots t
 
--- the outcomes with which the run starts, each of which could be its trajectory's, and where it saves
+-- the outcomes with which the run starts, each of which could be its trajectory's and has no bins, and where it saves
 pub record IsOpened (job : Job) (slots : Option Pair) (o : Opening) : Type 0 where
   pub opened : IsOpening job slots o.outcomes.items
   pub fit : AreFit job o.outcomes.items
+  pub bare : All (λ outcome. IsTrue (is_bare outcome)) o.outcomes.items
   pub target : IsTarget (saves job.setting) job slots o.target
 
 -- why a run does not resume
@@ -88,7 +100,7 @@ Opens job before after (Err why) = (out : Stream) → Finishes job out out befor
 
 -- the list has room for the report on any outcomes of the job
 abbrev pub HasReportRoom : Job → ℕ → Type 0
-HasReportRoom job spare = (outcomes : List Outcome) → AreOutcomesOf job outcomes → length (report job outcomes) ≤ spare
+HasReportRoom job spare = (outcomes : List Outcome) → AreOutcomesOf job outcomes → length (report job outcomes [] None) ≤ spare
 
 -- the list has room for a checkpoint of the job, where one is to be written
 abbrev pub HasSaveRoom : Bool → Job → ℕ → Type 0
@@ -121,12 +133,13 @@ ended_by (Err failed) saved = ended.WriteFault
 ended_by (Ok written) (Err failed) = ended.SaveFault
 ended_by (Ok written) (Ok saved) = ended.Done
 
--- these are the outcomes of the opening and of the ids that were walked, by rising id, each of which could be its trajectory's
+-- these are the outcomes of the opening and of the ids that were walked, by rising id, each of which could be its trajectory's and has no bins
 pub record AreAll (job : Job) (opening outcomes : List Outcome) : Type 0 where
   pub full : outcomes ≡ full_of job opening
   pub count : length outcomes ≡ length opening + length (run_ids job opening job.setting.budget)
   pub few : length outcomes ≤ total job
   pub fit : AreFit job outcomes
+  pub bare : All (λ o. IsTrue (is_bare o)) outcomes
   pub start : AreFit job opening
 
 -- the checkpoint of all outcomes went to its place, unless the save failed; the other slot is as it was

@@ -11,7 +11,7 @@ use Rattle.audit_run.specs.declared.reading.ReadEnd.{ReadEnd}
 use Rattle.audit_run.specs.declared.reading.ReadEnd.TheVariants as read
 use Rattle.audit_run.specs.declared.ended.Ended.TheVariants as ended
 use Rattle.note_definitions.specs.Note.{bad_graph, bad_plan}
-use Rattle.text_definitions.specs.Words.{setting_of}
+use Rattle.word_definitions.specs.Words.{setting_of}
 use Rattle.audit_model.specs.declared.setting.Setting.{Setting}
 use Rattle.audit_run.specs.Accepted.{columns_of, most_bytes, input_of, judged}
 use Rattle.audit_run.specs.Ended.{ending_of, line_of, columns_kept}

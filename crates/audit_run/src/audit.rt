@@ -12,6 +12,7 @@ ghost use Rattle.audit_run.specs.Running.{IsRun};
 ghost use Rattle.audit_run.specs.Visits.{VisitsLegal};
 ghost use Rattle.audit_run.specs.World.{Kept, stream, kept, world};
 ghost use Rattle.audit_words.specs.Spoken.{spoken};
+ghost use Rattle.report.specs.Plain.{HasPlainRules};
 
 use crate::ended::Ended;
 use crate::note::tell;
@@ -24,7 +25,9 @@ use audit_io::sink::Sink;
 use audit_io::source::Source;
 use audit_model::buffers::Bytes;
 use audit_model::setting::Command;
-use ckpt_store::laws::{a_stop_in_a_save_leaves_honest_slots, honest_slots_open_right};
+use ckpt_store::laws::{
+    a_stop_in_a_save_leaves_honest_slots, honest_slots_open_right, right_outcomes_are_honest,
+};
 use plan_core::job::Job;
 use report::check::check_text;
 use std::alloc::Global;
@@ -33,7 +36,8 @@ use std::thread::Threads;
 
 // Writes the text of a check.
 fn finish_check<K: Sink>(alloc: Global, job: &Job, out: &mut K) -> Ended
-    requires { job.now.setting.command ≡ Check }
+    requires check { job.now.setting.command ≡ Check }
+    requires plain { HasPlainRules job.now }
     ensures { (keeper : Kept) → Finishes job.now (stream K.taken K.faults out.old) (stream K.taken K.faults out.new) keeper keeper result }
 {
     let mut text = Bytes::new(alloc);
@@ -56,12 +60,13 @@ fn finish<R: Threads + Sync, K: Sink, C: Keeper + Send, G: Gate + Sync>(
     gate: &G,
 ) -> (Ended, C)
     requires run { IsTrue (is_walking job.now.setting.command) → IsRun job.now }
+    requires plain { HasPlainRules job.now }
     ensures { Finishes job.now (stream K.taken K.faults out.old) (stream K.taken K.faults out.new)
         (kept C.slots C.load_faults C.save_faults keeper) (kept C.slots C.load_faults C.save_faults result.1) result.0 }
 {
     match job.setting().command {
         Command::Check => (finish_check(alloc, job, out), keeper),
-        Command::Run | Command::Make => {
+        Command::Run | Command::Make | Command::Plans => {
             let why = finish_run(rt, alloc, job, out, &mut keeper, gate);
             (why, keeper)
         }
@@ -112,6 +117,7 @@ pub fn audit<
     ensures legal { VisitsLegal (spoken words.now) (S.left graph.old) }
 {
     honest_slots_open_right();
+    right_outcomes_are_honest();
     a_stop_in_a_save_leaves_honest_slots();
     match prepare(alloc, words, graph) {
         Ok(job) => {

@@ -18,6 +18,7 @@ pub struct Crew {
 ghost use Rattle.std.specs.Prelude.{◌≡◌, ◌≤◌, ◌-◌, All, IfOk, vec_len};
 ghost use Rattle.claim_counter.specs.Records.{fresh};
 ghost use Rattle.claim_counter.specs.Passes.{own, size_of, BelongsTo};
+ghost use Rattle.flip_kernel.specs.Held.{LimitsNothing};
 ghost use Rattle.audit_run.specs.Crews.{IsReady, IsCrew};
 
 // A worker for each seat.
@@ -32,6 +33,7 @@ fn seat(
     requires count { (size_of claims.now).limit ≡ count }
     requires workers { 1 ≤ workers }
     requires pass { BelongsTo claims.now pass × (own pass ≡ fresh (workers - 1)) }
+    requires free { LimitsNothing job.now }
     ensures ready { IfOk result (λ c. All (IsReady job.now claims.now) c.items) }
     ensures workers { IfOk result (λ c. vec_len c ≡ workers) }
 {
@@ -48,6 +50,7 @@ fn seat(
 pub fn recruit(alloc: Global, job: &Job, count: u32, workers: u32) -> Result<Crew, Memory>
     requires count { count ≤ 100000 }
     requires workers { (1 ≤ workers) × (workers ≤ 32) }
+    requires free { LimitsNothing job.now }
     ensures { IfOk result (IsCrew job.now count) }
 {
     let (claims, pass) = Claims::new(alloc, count, workers)?;

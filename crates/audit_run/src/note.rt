@@ -14,7 +14,6 @@ use crate::writing::write_all;
 use audit_io::sink::Sink;
 use audit_model::fault::{CkptFault, Column, GraphFault, Part, PlanFault, WordFault};
 use audit_model::setting::Columns;
-use audit_words::name_text;
 use ckpt_store::slots::{Slot, Slots};
 use hex::encode_to_slice;
 use itoa::Buffer;
@@ -92,7 +91,7 @@ fn tell_words<N: Sink>(fault: &WordFault, note: &mut N)
         WordFault::Twice(name) => say(
             note,
             b"words: ",
-            name_text(*name).as_bytes(),
+            name.text().as_bytes(),
             b" is given twice\n",
             b"",
             b"",
@@ -100,7 +99,7 @@ fn tell_words<N: Sink>(fault: &WordFault, note: &mut N)
         WordFault::NoValue(name) => say(
             note,
             b"words: no value for ",
-            name_text(*name).as_bytes(),
+            name.text().as_bytes(),
             b"\n",
             b"",
             b"",
@@ -108,7 +107,7 @@ fn tell_words<N: Sink>(fault: &WordFault, note: &mut N)
         WordFault::MissingName(name) => say(
             note,
             b"words: ",
-            name_text(*name).as_bytes(),
+            name.text().as_bytes(),
             b" is missing\n",
             b"",
             b"",
@@ -116,7 +115,7 @@ fn tell_words<N: Sink>(fault: &WordFault, note: &mut N)
         WordFault::BadValue(name) => say(
             note,
             b"words: bad value for ",
-            name_text(*name).as_bytes(),
+            name.text().as_bytes(),
             b"\n",
             b"",
             b"",
@@ -269,6 +268,19 @@ fn tell_plan<N: Sink>(fault: &PlanFault, note: &mut N)
             one,
             other,
         } => tell_parted(note, *district, *one, *other),
+        PlanFault::TooManyCut { cut, most } => tell_two(
+            note,
+            b"plan: ",
+            u64::from(*cut),
+            b" cut edges, more than ",
+            u64::from(*most),
+            b"\n",
+        ),
+        PlanFault::TooManySplit {
+            region,
+            districts,
+            most,
+        } => tell_split(note, *region, *districts, *most),
         PlanFault::Memory => say(note, b"plan: memory\n", b"", b"", b"", b""),
     }
 }
@@ -291,6 +303,30 @@ fn tell_parted<N: Sink>(note: &mut N, district: u32, one: u32, far: u32)
         one.as_bytes(),
         b" to unit ",
         far.as_bytes(),
+        b"\n",
+        b"",
+        b"",
+    );
+}
+
+fn tell_split<N: Sink>(note: &mut N, region: u32, districts: u32, most: u32)
+    ensures { AddsLine (stream N.taken N.faults note.old) (stream N.taken N.faults note.new)
+        (codes "plan: region " ++ (decimal region ++ (codes " lies in " ++ (decimal districts ++ (codes " districts, more than " ++ (decimal most ++ codes "\n")))))) }
+{
+    let mut first = Buffer::new();
+    let mut second = Buffer::new();
+    let mut third = Buffer::new();
+    let region = first.format(region);
+    let districts = second.format(districts);
+    let most = third.format(most);
+    say_more(
+        note,
+        b"plan: region ",
+        region.as_bytes(),
+        b" lies in ",
+        districts.as_bytes(),
+        b" districts, more than ",
+        most.as_bytes(),
         b"\n",
         b"",
         b"",

@@ -1,12 +1,13 @@
 //! With what a run starts.
 
-ghost use Rattle.std.specs.Prelude.{◌≡◌, IfErr, IfOk, IsTrue, MatchResult, None, Option, Some};
+ghost use Rattle.std.specs.Prelude.{◌≡◌, map, IfErr, IfOk, IsTrue, MatchResult, None, Option, Some};
 ghost use Rattle.audit_io.specs.Slots.{IfTold, Pair};
 ghost use Rattle.audit_model.specs.Job as model;
+ghost use Rattle.audit_model.specs.Trajectory.{bare};
 ghost use Rattle.checkpoint_definitions.specs.Checkpoint as definition;
 ghost use Rattle.ckpt_store.specs.Fitting.{AreFit, HasFitOutcomes};
 ghost use Rattle.ckpt_store.specs.Looked.{AreSlots};
-ghost use Rattle.ckpt_store.specs.View.{opening_seen};
+ghost use Rattle.ckpt_store.specs.View.{held_seen};
 ghost use Rattle.audit_run.specs.Ends.{loads, saves};
 ghost use Rattle.audit_run.specs.Running.{IsRun, IsTarget, Opens, RefusesSlots, refused_by};
 ghost use Rattle.audit_run.specs.World.{Kept, kept};
@@ -14,6 +15,8 @@ ghost use Rattle.audit_run.specs.World.{Kept, kept};
 use crate::ended::Ended;
 use audit_io::keeper::Keeper;
 use audit_model::buffers::{Bytes, OutcomeList};
+use audit_model::memory::Memory;
+use audit_model::outcome::Outcome;
 use ckpt_format::digest::job_digest;
 use ckpt_store::look::{LookFault, look};
 use ckpt_store::slots::{Place, Slots, StoreFault};
@@ -51,7 +54,7 @@ fn target_of(job: &Job, slots: &Slots, digest: [u8; 32]) -> Option<Target>
 
 // The outcomes of the newest slot, or why the run cannot resume.
 fn resume(alloc: Global, slots: Slots, digest: &[u8; 32]) -> Result<OutcomeList, Ended>
-    ensures opening { MatchResult result (λ l. opening_seen slots ≡ Some l.items) (λ _. opening_seen slots ≡ None) }
+    ensures held { MatchResult result (λ l. held_seen slots ≡ Some l.items) (λ _. held_seen slots ≡ None) }
     ensures fit { (job : model.Job) → HasFitOutcomes job slots.zero → HasFitOutcomes job slots.one → IfOk result (λ l. AreFit job l.items) }
     ensures refused { IfErr result (RefusesSlots slots digest.now) }
 {
@@ -60,6 +63,20 @@ fn resume(alloc: Global, slots: Slots, digest: &[u8; 32]) -> Result<OutcomeList,
         Ok(Some(checkpoint)) => Ok(checkpoint.outcomes),
         Err(fault) => Err(refusal(fault)),
     }
+}
+
+// The outcomes without their bins. The only error is want of memory.
+fn without_bins(alloc: Global, outcomes: &[Outcome]) -> Result<OutcomeList, Memory>
+    ensures { IfOk result (λ l. l.items ≡ map bare outcomes.now) }
+{
+    let mut bare = OutcomeList::with_room(alloc, outcomes.len())?;
+    for outcome in outcomes {
+        bare.push(Outcome {
+            bins: [0; 9],
+            ..*outcome
+        })?;
+    }
+    Ok(bare)
 }
 
 // Why the run does not resume.
@@ -87,7 +104,10 @@ fn open_found(alloc: Global, job: &Job, slots: Slots, digest: [u8; 32]) -> Resul
         });
     }
     match resume(alloc, slots, &digest) {
-        Ok(outcomes) => Ok(Opening { outcomes, target }),
+        Ok(held) => match without_bins(alloc, held.as_slice()) {
+            Ok(outcomes) => Ok(Opening { outcomes, target }),
+            Err(_) => Err(Ended::NoMemory),
+        },
         Err(why) => Err(why),
     }
 }

@@ -102,7 +102,7 @@ fn prepare_for<S: Source>(alloc: Global, setting: Setting, source: &mut S) -> Re
     ensures { PreparesFor setting (stream S.left S.faults source.old) (stream S.left S.faults source.new) result }
 {
     match setting.command {
-        Command::Check | Command::Run => prepare_read(alloc, setting, source),
+        Command::Check | Command::Run | Command::Plans => prepare_read(alloc, setting, source),
         Command::Make => prepare_grid(alloc, setting),
     }
 }

@@ -41,9 +41,9 @@ pub struct Walked {
     pub(crate) room: Bytes,
 }
 
-ghost use Rattle.std.specs.Prelude.{◌≡◌, ◌+◌, ◌≤◌, IfOk, List, [], length};
+ghost use Rattle.std.specs.Prelude.{◌≡◌, ◌+◌, ◌≤◌, All, IfOk, IsTrue, List, [], length};
 ghost use Rattle.audit_model.specs.declared.outcome.Outcome as model;
-ghost use Rattle.audit_model.specs.Run.{total};
+ghost use Rattle.audit_model.specs.Run.{is_bare, total};
 ghost use Rattle.ckpt_store.specs.Fitting.{AreFit};
 ghost use Rattle.report.specs.Outcomes.{AreOutcomesOf};
 ghost use Rattle.audit_run.specs.Ends.{IsOpening, full_of, saves};
@@ -109,6 +109,7 @@ fn save_last<C: Keeper>(
     requires target { IsTarget (saves job.now.setting) job.now (C.slots keeper.old) target }
     requires fit { AreFit job.now outcomes.now }
     requires few { length outcomes.now ≤ total job.now }
+    requires bare { All (λ o. IsTrue (is_bare o)) outcomes.now }
     requires room { HasSaveRoom (saves job.now.setting) job.now (length room.old.items + room.old.spare) }
     ensures { (opening : List model.Outcome) → outcomes.now ≡ full_of job.now opening
         → SavedBy (saves job.now.setting) job.now opening (kept C.slots C.load_faults C.save_faults keeper.old) (kept C.slots C.load_faults C.save_faults keeper.new) result }
@@ -175,6 +176,7 @@ fn end_run<K: Sink>(
 fn walk<R: Threads + Sync, G: Gate + Sync>(rt: &R, job: &Job, ready: Ready, gate: &G) -> Walked
     requires run { IsRun job.now }
     requires fit { AreFit job.now ready.book.outcomes }
+    requires bare { All (λ o. IsTrue (is_bare o)) ready.book.outcomes }
     requires ready { IsReadyFor job.now ready.book.outcomes ready }
     ensures { HasWalked job.now ready.book.outcomes result }
 {

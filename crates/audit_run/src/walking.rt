@@ -1,7 +1,7 @@
 //! The trajectories of a run, walked by several threads.
 
 ghost use Rattle.std.specs.List.{AllPairs};
-ghost use Rattle.std.specs.Prelude.{◌≡◌, true, ◌+◌, ◌<◌, ◌≤◌, ◌++◌, ℕ, All, IsFalse, length, map, vec_len, IsPermutation};
+ghost use Rattle.std.specs.Prelude.{◌≡◌, false, true, ◌+◌, ◌<◌, ◌≤◌, ◌++◌, ℕ, All, IsFalse, length, map, vec_len, IsPermutation};
 ghost use Rattle.claim_counter.specs.Records.{joined, AreDifferentBelow};
 ghost use Rattle.claim_counter.specs.Passes.{own, size_of, BelongsTo};
 ghost use Rattle.audit_model.specs.Run.{total, has_id, run_ids, full};
@@ -61,6 +61,7 @@ fn walk_each<R: Threads + Sync, G: Gate + Sync>(
     requires count { (size_of claims.now).limit ≡ length todo.now }
     requires within { IsWithin job.now todo.now }
     requires hub { ServesEnds job.now todo.now hub.now }
+    requires bare { job.now.setting.shift ≡ false }
     ensures { All (IsDone job.now todo.now claims.now) workers.new }
 {
     let threads = workers.len().max(1);
@@ -73,6 +74,7 @@ fn walk_each<R: Threads + Sync, G: Gate + Sync>(
             requires count { (size_of claims.now).limit ≡ length todo.now }
             requires within { IsWithin job.now todo.now }
             requires hub { ServesEnds job.now todo.now hub.now }
+            requires bare { job.now.setting.shift ≡ false }
             ensures { IsDone job.entry.now todo.entry.now claims.entry.now worker.new }
         { worker.run(job, todo, hub, gate, claims) },
     );
@@ -162,6 +164,7 @@ pub fn walk_all<R: Threads + Sync, G: Gate + Sync>(
     requires crew { IsCrew job.now (length todo.now) crew }
     requires todo { IsTodo job.now book.old.outcomes todo.now }
     requires total { book.old.total ≡ total job.now }
+    requires bare { job.now.setting.shift ≡ false }
     ensures total { book.new.total ≡ book.old.total }
     ensures outcomes { IsPermutation book.new.outcomes (book.old.outcomes ++ map (found job.now) todo.now) }
 {
@@ -198,6 +201,7 @@ pub fn walk_run<R: Threads + Sync, G: Gate + Sync>(
     requires todo { IsTodo job.now book.old.outcomes todo.now }
     requires total { book.old.total ≡ total job.now }
     requires room { book.old.total ≤ length out.old.items + out.old.spare }
+    requires bare { job.now.setting.shift ≡ false }
     ensures total { book.new.total ≡ book.old.total }
     ensures outcomes { IsPermutation book.new.outcomes (book.old.outcomes ++ map (found job.now) todo.now) }
     ensures full { (budget : ℕ) → todo.now ≡ run_ids job.now book.old.outcomes budget

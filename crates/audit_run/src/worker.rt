@@ -18,7 +18,8 @@ pub struct Worker {
 }
 
 impl Worker {
-    ghost use Rattle.std.specs.Prelude.{◌≡◌, IfOk, length};
+    ghost use Rattle.std.specs.Prelude.{◌≡◌, false, IfOk, length};
+    ghost use Rattle.flip_kernel.specs.Held.{LimitsNothing};
     ghost use Rattle.claim_counter.specs.Records.{fresh};
     ghost use Rattle.claim_counter.specs.Passes.{own, size_of, BelongsTo};
     ghost use Rattle.audit_run.specs.Crews.{IsReady, IsDone};
@@ -34,6 +35,7 @@ impl Worker {
     ) -> Result<Worker, Memory>
         requires count { (size_of claims.now).limit ≡ count }
         requires pass { BelongsTo claims.now pass × (own pass ≡ fresh 0) }
+        requires free { LimitsNothing job.now }
         ensures { IfOk result (IsReady job.now claims.now) }
     {
         let walker = Walker::new(alloc, job)?;
@@ -51,6 +53,7 @@ impl Worker {
         requires count { (size_of claims.now).limit ≡ length todo.now }
         requires within { IsWithin job.now todo.now }
         requires hub { ServesEnds job.now todo.now hub.now }
+        requires bare { job.now.setting.shift ≡ false }
         ensures { IsDone job.now todo.now claims.now self.new }
     {
         let walker = &mut self.walker;

@@ -1,20 +1,20 @@
 -- The setting of good values is within the limits.
-use Rattle.std.proofs.Common.{◌≡◌, ◌≢◌, ◌∙◌, ℕ, ◌+◌, ◌≤◌, true, List, [], length, ap, arith, refl, subst, sym, None, Result, Ok, Err}
+use Rattle.std.proofs.Common.{◌≡◌, ◌≢◌, ◌∙◌, ℕ, ◌+◌, ◌≤◌, true, List, [], length, ap, arith, refl, subst, sym, Result, Ok, Err}
 use Rattle.std.proofs.lemmas.Bool.{and_parts, false≢true, leb-true}
 use Rattle.std.specs.Prelude.{nat_le, is_some, unwrap_or}
 use Rattle.std.specs.List.{AllPairs}
 use Rattle.std.specs.Result.{result_ok}
 use Rattle.hex.specs.Hex.{decode_sized}
 use Rattle.hex.proofs.HexLemmas.{decode_sized-ok, decode_sized-twice, decode_of-ok}
-use Rattle.audit_model.specs.Limits.{IsSetting, IsRunSetting}
-use Rattle.audit_model.specs.declared.fault.Name.TheVariants.{Slack, Key, Walks, Steps, Ends, HubSteps, Ask, Workers, Budget, Save}
+use Rattle.audit_model.specs.Limits.{IsSetting, IsSettingOf, IsRunSetting}
+use Rattle.audit_model.specs.declared.fault.Name.TheVariants.{Slack, Key, Walks, Steps, Ends, HubSteps, Ask, Workers}
 use Rattle.audit_model.specs.declared.setting.Ask.{Ask as AskOf}
 use Rattle.audit_model.specs.declared.setting.Command.{Command}
-use Rattle.audit_model.specs.declared.setting.Command.TheVariants.{Check, Run, Make}
-use Rattle.text_definitions.specs.Words.{Pair, are_asks, as_run, asks_of, covers_walks, has_walks, is_good, is_number, number_at, parts_between, setting_for, text_of}
-use Rattle.audit_words.specs.Judged.{AreGood, fault_of_values}
+use Rattle.audit_model.specs.declared.setting.Command.TheVariants.{Check, Run, Make, Plans}
+use Rattle.word_definitions.specs.Words.{Pair, are_asks, as_run, asks_of, has_walks, is_number, number_at, parts_between, setting_for, text_of}
+use Rattle.audit_words.specs.Judged.{AreGood, AreReadable}
 use Rattle.audit_words.proofs.Asking.{length-asks_of, AllPairs-asks_of}
-use Rattle.audit_words.proofs.Goodness.{AreGood-run, AreGood-make, asks_of-some, find-last, number-bounds}
+use Rattle.audit_words.proofs.Goodness.{asks_of-some, number-bounds}
 use Rattle.audit_words.proofs.Parting.{parts_between-some}
 
 value_of_ok : {A E : Type 0} (r : Result A E) → is_some (result_ok r) ≡ true → (x : A) × (r ≡ Ok x)
@@ -54,8 +54,6 @@ IsRunSetting-good command words good =
     let hub_steps = number-bounds 1 1000000000 (text_of Check words HubSteps) good.hub_steps in
     let asked = AreAsked-good (text_of Check words Ask) good.ask in
     let workers = number-bounds 1 32 (text_of Check words Workers) good.workers in
-    let budget = number-bounds 0 100000 (text_of Check words Budget) (and_parts (is_number 0 100000 (text_of Check words Budget)) (covers_walks Check words) good.budget).0 in
-    let save = number-bounds 0 100000 (text_of Check words Save) good.save in
     record {
       some = leb-true 1 (number_at Check words Walks + number_at Check words Ends) walks.0;
       few = leb-true (number_at Check words Walks + number_at Check words Ends) 100000 walks.1;
@@ -68,54 +66,57 @@ IsRunSetting-good command words good =
       apart = asked.apart;
       some_workers = workers.0;
       few_workers = workers.1;
-      budget = budget.1;
-      saves = save.1;
     }
 
-pub IsSetting-good : (command : Command) (words : List Pair) → fault_of_values command words ≡ None → IsSetting (setting_for command words)
-IsSetting-good Check words h =
-    let slack = find-last (is_good Check words) Slack [] h in
-    record {
-      slack = (number-bounds 0 10000 (text_of Check words Slack) slack.0).1;
-      key = refl;
-      command = record {
-        no_walks = refl;
-        no_steps = refl;
-        no_ends = refl;
-        no_hub_steps = refl;
-        no_asks = refl;
-        one_worker = refl;
-        no_budget = refl;
-        no_saves = refl;
-        fresh = refl;
-      };
-    }
-IsSetting-good Run words h =
-    let good = AreGood-run words h in
-    record {
-      slack = (number-bounds 0 10000 (text_of Check words Slack) good.slack).1;
-      key = length-key (text_of Check words Key) good.key;
-      command = IsRunSetting-good Run words good;
-    }
-IsSetting-good Make words h =
-    let good = AreGood-make words h in
-    let run = IsRunSetting-good Make words good in
-    record {
-      slack = (number-bounds 0 10000 (text_of Check words Slack) good.slack).1;
-      key = length-key (text_of Check words Key) good.key;
-      command = record {
-        some = run.some;
-        few = run.few;
-        some_steps = run.some_steps;
-        few_steps = run.few_steps;
-        some_hub_steps = run.some_hub_steps;
-        few_hub_steps = run.few_hub_steps;
-        some_asks = run.some_asks;
-        few_asks = run.few_asks;
-        apart = run.apart;
-        some_workers = run.some_workers;
-        few_workers = run.few_workers;
-        budget = run.budget;
-        saves = run.saves;
-      };
-    }
+IsRunSetting-made : (words : List Pair) → IsRunSetting (as_run Make words) → IsRunSetting (setting_for Make words)
+IsRunSetting-made words run = record {
+  some = run.some;
+  few = run.few;
+  some_steps = run.some_steps;
+  few_steps = run.few_steps;
+  some_hub_steps = run.some_hub_steps;
+  few_hub_steps = run.few_hub_steps;
+  some_asks = run.some_asks;
+  few_asks = run.few_asks;
+  apart = run.apart;
+  some_workers = run.some_workers;
+  few_workers = run.few_workers;
+}
+
+IsSetting-run : (command : Command) (words : List Pair) → AreGood words → IsSettingOf command (as_run command words) → IsSetting (as_run command words)
+IsSetting-run command words good is = record {
+  slack = (number-bounds 0 10000 (text_of Check words Slack) good.slack).1;
+  key = length-key (text_of Check words Key) good.key;
+  max_cut = omega arith;
+  some_splits = omega arith;
+  few_splits = omega arith;
+  command = is;
+}
+
+pub IsSetting-good : (command : Command) (words : List Pair) → AreReadable command words → IsSetting (setting_for command words)
+IsSetting-good Check words good = record {
+  slack = (number-bounds 0 10000 (text_of Check words Slack) good).1;
+  key = refl;
+  max_cut = omega arith;
+  some_splits = omega arith;
+  few_splits = omega arith;
+  command = record {
+    no_walks = refl;
+    no_steps = refl;
+    no_ends = refl;
+    no_hub_steps = refl;
+    no_asks = refl;
+    no_budget = refl;
+    no_saves = refl;
+  };
+}
+IsSetting-good Run words good = IsSetting-run Run words good (IsRunSetting-good Run words good)
+IsSetting-good Make words good = record {
+  slack = (number-bounds 0 10000 (text_of Check words Slack) good.0.slack).1;
+  key = length-key (text_of Check words Key) good.0.key;
+  max_cut = omega arith;
+  some_splits = omega arith;
+  few_splits = omega arith;
+  command = IsRunSetting-made words (IsRunSetting-good Make words good.0);
+}
+IsSetting-good Plans words good = IsSetting-run Plans words good (IsRunSetting-good Plans words good)

@@ -7,7 +7,7 @@ use Rattle.std.proofs.lemmas.Slice.Eq.{bytes_eq-Decides}
 use Rattle.std.specs.Prelude.{bytes_eq}
 use Rattle.std.specs.List.{All, AllPairs, cons_option, filter_map, list_any}
 use Rattle.audit_model.specs.declared.setting.Ask.{Ask}
-use Rattle.text_definitions.specs.Words.{ask_of, ask_text, all_asks, asks_of, with_ask, all_different}
+use Rattle.word_definitions.specs.Words.{ask_of, ask_text, all_asks, asks_of, with_ask, all_different}
 
 found : {X : Type 0} (b : Bool) (y x : X) (o : Option X) → cond b (Some y) o ≡ Some x → ((b ≡ true) × (y ≡ x)) ⊎ (o ≡ Some x)
 found true y x o h = inl (refl, cc)

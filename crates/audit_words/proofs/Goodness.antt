@@ -1,15 +1,16 @@
 -- What good values are, and the setting that they give.
 use Rattle.std.proofs.Common.{◌≡◌, ◌∙◌, ℕ, ◌≤◌, Bool, true, false, not, cond, List, [], ◌∷◌, length, find, ap, refl, sym, Option, Some, None, option_map}
 use Rattle.std.proofs.lemmas.Bool.{and_parts, false≢true, leb-true}
-use Rattle.std.specs.Prelude.{◌&&◌, nat_le, is_some, unwrap_or}
+use Rattle.std.specs.Prelude.{◌&&◌, nat_le, is_some, unwrap_or, bytes_eq, codes}
 use Rattle.std.specs.List.{filter_map}
 use Rattle.audit_model.specs.declared.fault.Name.{Name}
 use Rattle.audit_model.specs.declared.fault.Name.TheVariants.{Size, Slack, Key, Walks, Steps, Ends, HubSteps, Ask, Workers, Budget, Save, Resume}
 use Rattle.audit_model.specs.declared.fault.WordFault.TheVariants.{BadValue}
 use Rattle.audit_model.specs.declared.setting.Ask.{Ask as AskOf}
-use Rattle.audit_model.specs.declared.setting.Command.TheVariants.{Check, Run, Make}
-use Rattle.text_definitions.specs.Words.{Pair, all_different, are_asks, ask_of, asks_of, is_good, is_number, number_of, parts_between}
-use Rattle.audit_words.specs.Judged.{AreGood, fault_of_values}
+use Rattle.audit_model.specs.declared.setting.Command.TheVariants.{Check, Run, Make, Plans}
+use Rattle.audit_model.specs.declared.setting.Command.{Command}
+use Rattle.word_definitions.specs.Words.{Pair, all_different, are_asks, ask_of, asks_of, command_of, is_good, is_number, number_of, parts_between}
+use Rattle.audit_words.specs.Judged.{AreGood, AreReadable, fault_of_values}
 use Rattle.audit_words.proofs.Asking.{filter_map-ask_of}
 
 value_of_some : {A : Type 0} (o : Option A) → is_some o ≡ true → (x : A) × (o ≡ Some x)
@@ -48,7 +49,7 @@ pub find-last : (good : Name → Bool) (name : Name) (names : List Name) → opt
     → (good name ≡ true) × (option_map BadValue (find (λ n. not (good n)) names) ≡ None)
 find-last good name names h = passed (good name) name (find (λ n. not (good n)) names) h
 
-pub AreGood-values : (words : List Pair) → option_map BadValue (find (λ name. not (is_good Check words name))
+AreGood-values : (words : List Pair) → option_map BadValue (find (λ name. not (is_good Check words name))
     (Slack ∷ Key ∷ Walks ∷ Steps ∷ Ends ∷ HubSteps ∷ Ask ∷ Workers ∷ Budget ∷ Save ∷ Resume ∷ [])) ≡ None → AreGood words
 AreGood-values words h =
     let good = is_good Check words in
@@ -77,8 +78,21 @@ AreGood-values words h =
       resume = resume.0;
     }
 
-pub AreGood-run : (words : List Pair) → fault_of_values Run words ≡ None → AreGood words
-AreGood-run words h = AreGood-values words h
+-- no word spells the command of several plans
+chosen : (check run make : Bool) → Some Plans ≡ cond check (Some Check) (cond run (Some Run) (cond make (Some Make) None)) → ⊥
+chosen true run make h = cc
+chosen false true make h = cc
+chosen false false true h = cc
+chosen false false false h = cc
 
-pub AreGood-make : (words : List Pair) → fault_of_values Make words ≡ None → AreGood words
-AreGood-make words h = AreGood-values words (find-last (is_good Check words) Size (Slack ∷ Key ∷ Walks ∷ Steps ∷ Ends ∷ HubSteps ∷ Ask ∷ Workers ∷ Budget ∷ Save ∷ Resume ∷ []) h).1
+not_plans : (word : List ℕ) → Some Plans ≡ command_of word → ⊥
+not_plans word h = chosen (bytes_eq word (codes "check")) (bytes_eq word (codes "run")) (bytes_eq word (codes "make")) h
+
+-- where no value of a command that a word spells is bad, those of its setting are good
+pub AreReadable-good : (word : List ℕ) (command : Command) (words : List Pair) → Some command ≡ command_of word → fault_of_values command words ≡ None → AreReadable command words
+AreReadable-good word Check words spells h = (find-last (is_good Check words) Slack [] h).0
+AreReadable-good word Run words spells h = AreGood-values words h
+AreReadable-good word Make words spells h =
+    let size = find-last (is_good Make words) Size (Slack ∷ Key ∷ Walks ∷ Steps ∷ Ends ∷ HubSteps ∷ Ask ∷ Workers ∷ Budget ∷ Save ∷ Resume ∷ []) h in
+    (AreGood-values words size.1, size.0)
+AreReadable-good word Plans words spells h = absurd (not_plans word spells)

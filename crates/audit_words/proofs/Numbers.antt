@@ -8,7 +8,7 @@ use Rattle.std.proofs.lemmas.Bool.{and_parts, leb-true, le-leb, false≢true, ca
 use Rattle.std.proofs.lemmas.Fmt.{parse-decimal, digits_value-decimal}
 use Rattle.std.proofs.lemmas.Slice.Eq.{bytes_eq-Decides}
 use Rattle.std.proofs.lemmas.Str.Parse.{IsNumeralModel, numerals_by_fold}
-use Rattle.text_definitions.specs.Words.{digits_value, number_of, is_number}
+use Rattle.word_definitions.specs.Words.{digits_value, number_of, is_number}
 
 -- the digits' value, from the left
 own : IsNumeralModel (λ ds. all_ascii_digits ds ≡ true) digits_value

@@ -3,10 +3,10 @@ use Rattle.std.proofs.Common.{◌≡◌, ℕ, zero, suc, ◌<◌, Bool, true, fa
 use Rattle.std.proofs.lemmas.Bool.{and_parts, both_ways, false≢true, not-true, or_cases}
 use Rattle.std.specs.Prelude.{◌&&◌, ◌||◌}
 use Rattle.audit_model.specs.declared.fault.Name.{Name}
-use Rattle.audit_model.specs.declared.fault.Name.TheVariants.{Pop, Walks, Ends, Budget}
+use Rattle.audit_model.specs.declared.fault.Name.TheVariants.{Pop, Walks, Steps, Ends, Budget, Save, Stop, Serial}
 use Rattle.audit_model.specs.declared.setting.Command.{Command}
-use Rattle.audit_model.specs.declared.setting.Command.TheVariants.{Check, Run, Make}
-use Rattle.text_definitions.specs.Words.{Pair, is_good, names_of}
+use Rattle.audit_model.specs.declared.setting.Command.TheVariants.{Check, Run, Make, Plans}
+use Rattle.word_definitions.specs.Words.{Pair, is_good, names_of}
 use Rattle.audit_words.specs.Judged.{RestsOnGood}
 
 -- no name of the second kind stands before one of the first
@@ -32,54 +32,91 @@ abbrev is_walks : Name → Bool
 is_walks Walks = true
 is_walks _ = false
 
+abbrev is_steps : Name → Bool
+is_steps Steps = true
+is_steps _ = false
+
 abbrev is_ends : Name → Bool
 is_ends Ends = true
 is_ends _ = false
 
-abbrev adds_walks : Name → Bool
-adds_walks Ends = true
-adds_walks Budget = true
-adds_walks _ = false
+abbrev is_save : Name → Bool
+is_save Save = true
+is_save _ = false
 
-abbrev adds_ends : Name → Bool
-adds_ends Budget = true
-adds_ends _ = false
+abbrev on_walks : Name → Bool
+on_walks Ends = true
+on_walks Budget = true
+on_walks _ = false
+
+abbrev on_steps : Name → Bool
+on_steps Serial = true
+on_steps _ = false
+
+abbrev on_ends : Name → Bool
+on_ends Budget = true
+on_ends Stop = true
+on_ends _ = false
+
+abbrev on_save : Name → Bool
+on_save Stop = true
+on_save _ = false
 
 is_walks-Walks : (name : Name) → is_walks name ≡ true → name ≡ Walks
 is_walks-Walks Walks h = refl
 is_walks-Walks _ h = absurd (false≢true h)
 
+is_steps-Steps : (name : Name) → is_steps name ≡ true → name ≡ Steps
+is_steps-Steps Steps h = refl
+is_steps-Steps _ h = absurd (false≢true h)
+
 is_ends-Ends : (name : Name) → is_ends name ≡ true → name ≡ Ends
 is_ends-Ends Ends h = refl
 is_ends-Ends _ h = absurd (false≢true h)
 
-module _ (words : List Pair) (names : List Name) (k : ℕ) (inside : k < length names) (below : (j : ℕ) → j < k → is_good Check words (get_or names j Pop) ≡ true) where
-  good_walks : leads is_walks adds_walks names ≡ true → adds_walks (get_or names k Pop) ≡ true → is_good Check words Walks ≡ true
-  good_walks ordered adds =
-      let found = leader is_walks adds_walks names k ordered inside adds in
-      subst (λ name. is_good Check words name ≡ true) (is_walks-Walks (get_or names found.0 Pop) found.2) (below found.0 found.1)
+is_save-Save : (name : Name) → is_save name ≡ true → name ≡ Save
+is_save-Save Save h = refl
+is_save-Save _ h = absurd (false≢true h)
 
-  good_ends : leads is_ends adds_ends names ≡ true → adds_ends (get_or names k Pop) ≡ true → is_good Check words Ends ≡ true
-  good_ends ordered adds =
-      let found = leader is_ends adds_ends names k ordered inside adds in
-      subst (λ name. is_good Check words name ≡ true) (is_ends-Ends (get_or names found.0 Pop) found.2) (below found.0 found.1)
+-- each name stands behind those on which it rests
+record IsOrdered (names : List Name) : Type 0 where
+  walks : leads is_walks on_walks names ≡ true
+  steps : leads is_steps on_steps names ≡ true
+  ends : leads is_ends on_ends names ≡ true
+  save : leads is_save on_save names ≡ true
 
-  rests : leads is_walks adds_walks names ≡ true → leads is_ends adds_ends names ≡ true → (name : Name) → get_or names k Pop ≡ name → RestsOnGood words name
-  rests walks_first ends_first Ends is = good_walks walks_first (ap adds_walks is)
-  rests walks_first ends_first Budget is = (good_walks walks_first (ap adds_walks is), good_ends ends_first (ap adds_ends is))
-  rests walks_first ends_first _ is = tt
+module _ (command : Command) (words : List Pair) (names : List Name) (k : ℕ) (inside : k < length names) (below : (j : ℕ) → j < k → is_good command words (get_or names j Pop) ≡ true) (ordered : IsOrdered names) where
+  good_leader : (first second : Name → Bool) (name : Name) → leads first second names ≡ true → ((n : Name) → first n ≡ true → n ≡ name) → second (get_or names k Pop) ≡ true → is_good command words name ≡ true
+  good_leader first second name led one rests =
+      let found = leader first second names k led inside rests in
+      subst (λ n. is_good command words n ≡ true) (one (get_or names found.0 Pop) found.2) (below found.0 found.1)
 
-walks_first : (command : Command) → leads is_walks adds_walks (names_of command) ≡ true
-walks_first Check = refl
-walks_first Run = refl
-walks_first Make = refl
+  good_walks : on_walks (get_or names k Pop) ≡ true → is_good Check words Walks ≡ true
+  good_walks rests = good_leader is_walks on_walks Walks ordered.walks is_walks-Walks rests
 
-ends_first : (command : Command) → leads is_ends adds_ends (names_of command) ≡ true
-ends_first Check = refl
-ends_first Run = refl
-ends_first Make = refl
+  good_steps : on_steps (get_or names k Pop) ≡ true → is_good Check words Steps ≡ true
+  good_steps rests = good_leader is_steps on_steps Steps ordered.steps is_steps-Steps rests
+
+  good_ends : on_ends (get_or names k Pop) ≡ true → is_good Check words Ends ≡ true
+  good_ends rests = good_leader is_ends on_ends Ends ordered.ends is_ends-Ends rests
+
+  good_save : on_save (get_or names k Pop) ≡ true → is_good Check words Save ≡ true
+  good_save rests = good_leader is_save on_save Save ordered.save is_save-Save rests
+
+  rests : (name : Name) → get_or names k Pop ≡ name → RestsOnGood words name
+  rests Ends is = good_walks (ap on_walks is)
+  rests Budget is = (good_walks (ap on_walks is), good_ends (ap on_ends is))
+  rests Stop is = (good_ends (ap on_ends is), good_save (ap on_save is))
+  rests Serial is = good_steps (ap on_steps is)
+  rests _ is = tt
+
+is_ordered : (command : Command) → IsOrdered (names_of command)
+is_ordered Check = record { walks = refl; steps = refl; ends = refl; save = refl }
+is_ordered Run = record { walks = refl; steps = refl; ends = refl; save = refl }
+is_ordered Make = record { walks = refl; steps = refl; ends = refl; save = refl }
+is_ordered Plans = record { walks = refl; steps = refl; ends = refl; save = refl }
 
 -- behind good values a name rests on good ones
 pub RestsOnGood-behind : (command : Command) (words : List Pair) (k : ℕ) → k < length (names_of command)
-    → ((j : ℕ) → j < k → is_good Check words (get_or (names_of command) j Pop) ≡ true) → RestsOnGood words (get_or (names_of command) k Pop)
-RestsOnGood-behind command words k inside below = rests words (names_of command) k inside below (walks_first command) (ends_first command) (get_or (names_of command) k Pop) refl
+    → ((j : ℕ) → j < k → is_good command words (get_or (names_of command) j Pop) ≡ true) → RestsOnGood words (get_or (names_of command) k Pop)
+RestsOnGood-behind command words k inside below = rests command words (names_of command) k inside below (is_ordered command) (get_or (names_of command) k Pop) refl

@@ -1,6 +1,6 @@
 -- Where the words of a pair stand among the words.
 use Rattle.std.proofs.Common.{◌≡◌, ℕ, zero, suc, ◌+◌, ◌*◌, ◌<◌, ◌≤◌, List, [], ◌∷◌, length, get_or, refl, arith, Some, None}
-use Rattle.text_definitions.specs.Words.{pairs}
+use Rattle.word_definitions.specs.Words.{pairs}
 
 -- half as many pairs as words, rounded up
 pub pairs-lower : (words : List (List ℕ)) → length words ≤ 2 * length (pairs words)

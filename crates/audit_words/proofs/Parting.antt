@@ -6,7 +6,7 @@ use Rattle.std.proofs.lemmas.List.Splits.{slice_split_first, slice_split_none}
 use Rattle.std.specs.Prelude.{◌==◌, ◌&&◌, bytes_eq, nat_le, is_some}
 use Rattle.std.specs.List.{list_any, slice_split, onto_first, position_or_len, before_first, after_first}
 use Rattle.audit_model.specs.declared.setting.Ask.{Ask}
-use Rattle.text_definitions.specs.Words.{parts_between, starts_with_byte, ask_of, asks_of, with_ask, all_different}
+use Rattle.word_definitions.specs.Words.{parts_between, starts_with_byte, ask_of, asks_of, with_ask, all_different}
 
 -- a part that begins with a byte, in either word
 starts_with_byte-onto : (c : ℕ) (parts : List (List ℕ)) → starts_with_byte c parts ≡ onto_first c parts

@@ -6,7 +6,7 @@ use Rattle.audit_model.specs.declared.fault.WordFault.TheVariants.{NoCommand, Un
 use Rattle.audit_model.specs.declared.setting.Command.{Command}
 use Rattle.audit_words.specs.Judged.{fault_of_pairs, fault_of_names, fault_of_values}
 use Rattle.audit_words.specs.Spoken.{spoken}
-use Rattle.text_definitions.specs.Words.{Pair, pairs, command_of, fault_of, of_command, setting_for, setting_or, setting_of}
+use Rattle.word_definitions.specs.Words.{Pair, pairs, command_of, fault_of, of_command, setting_for, setting_or, setting_of}
 
 -- which of three is the first that is there
 first_of : {A : Type 0} (a b c : Option A) (x : A) → a ≡ Some x → first_some (a ∷ b ∷ c ∷ []) ≡ Some x

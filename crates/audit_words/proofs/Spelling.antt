@@ -3,7 +3,7 @@ use Rattle.std.proofs.Common.{◌≡◌, ℕ, false, List, None, refl, sym}
 use Rattle.std.specs.Prelude.{bytes_eq, codes}
 use Rattle.std.proofs.lemmas.Bool.{false_from_ne_true}
 use Rattle.std.proofs.lemmas.Slice.Eq.{bytes_eq-Decides}
-use Rattle.text_definitions.specs.Words.{ask_of}
+use Rattle.word_definitions.specs.Words.{ask_of}
 
 pub bytes_other : (spelled word : List ℕ) → (word ≡ spelled → ⊥) → bytes_eq spelled word ≡ false
 bytes_other spelled word other = false_from_ne_true (bytes_eq spelled word) (λ same. other (sym ((bytes_eq-Decides spelled word).0 same)))

@@ -2,12 +2,12 @@
 use Rattle.std.specs.Prelude.{◌≡◌, true, not, is_none, find, List, length, Option, option_map}
 use Rattle.audit_model.specs.First.{first_some_below}
 use Rattle.audit_model.specs.declared.fault.Name.{Name}
-use Rattle.audit_model.specs.declared.fault.Name.TheVariants.{Slack, Key, Walks, Steps, Ends, HubSteps, Ask, Workers, Budget, Save, Resume}
+use Rattle.audit_model.specs.declared.fault.Name.TheVariants.{Size, Slack, Key, Walks, Steps, Ends, HubSteps, Ask, Workers, Budget, Save, Resume, Stop, Serial}
 use Rattle.audit_model.specs.declared.fault.WordFault.{WordFault}
 use Rattle.audit_model.specs.declared.fault.WordFault.TheVariants.{MissingName, BadValue}
 use Rattle.audit_model.specs.declared.setting.Command.{Command}
-use Rattle.audit_model.specs.declared.setting.Command.TheVariants.{Check}
-use Rattle.text_definitions.specs.Words.{Pair, pair_fault, value_of, is_good, names_of}
+use Rattle.audit_model.specs.declared.setting.Command.TheVariants.{Check, Run, Make, Plans}
+use Rattle.word_definitions.specs.Words.{Pair, pair_fault, value_of, is_good, names_of}
 
 -- the fault of the first pair that has one
 abbrev pub fault_of_pairs : Command → List Pair → Option WordFault
@@ -21,10 +21,12 @@ fault_of_names command words = option_map MissingName (find (λ name. is_none (v
 abbrev pub fault_of_values : Command → List Pair → Option WordFault
 fault_of_values command words = option_map BadValue (find (λ name. not (is_good command words name)) (names_of command))
 
--- The values that are added up for that of a name are good: behind a bad one the name is not judged.
+-- The values of other names that are looked at for that of a name are good: behind a bad one the name is not judged.
 abbrev pub RestsOnGood : List Pair → Name → Type 0
 RestsOnGood words Ends = is_good Check words Walks ≡ true
 RestsOnGood words Budget = (is_good Check words Walks ≡ true) × (is_good Check words Ends ≡ true)
+RestsOnGood words Stop = (is_good Check words Ends ≡ true) × (is_good Check words Save ≡ true)
+RestsOnGood words Serial = is_good Check words Steps ≡ true
 RestsOnGood words _ = Unit {0}
 
 -- each value that a run takes, beside the columns, is good
@@ -40,3 +42,10 @@ pub record AreGood (words : List Pair) : Type 0 where
   pub budget : is_good Check words Budget ≡ true
   pub save : is_good Check words Save ≡ true
   pub resume : is_good Check words Resume ≡ true
+
+-- the values from which the setting of a command is made are good
+abbrev pub AreReadable : Command → List Pair → Type 0
+AreReadable Check words = is_good Check words Slack ≡ true
+AreReadable Run words = AreGood words
+AreReadable Make words = AreGood words × (is_good Make words Size ≡ true)
+AreReadable Plans words = AreGood words

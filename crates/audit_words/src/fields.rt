@@ -5,12 +5,13 @@ ghost use Rattle.audit_model.specs.declared.fault.Name.TheVariants as name;
 ghost use Rattle.audit_model.specs.declared.setting.Command.TheVariants as command;
 ghost use Rattle.audit_words.specs.Judged.{RestsOnGood};
 ghost use Rattle.audit_words.specs.Spoken.{pairs_in};
-ghost use Rattle.text_definitions.specs.Words as definition;
+ghost use Rattle.word_definitions.specs.Words as definition;
 
 use crate::asks::are_asks;
 use crate::pairs::text_of;
-use crate::values::{is_answer, is_number, key_of, number_within};
+use crate::values::{is_answer, is_number, is_one_line, is_power_of_two, key_of, number_within};
 use audit_model::fault::Name;
+use audit_model::setting::Command;
 
 /// The number that the value of a name is, or 0 where it is none that fits.
 pub fn number_at(words: &[String], name: Name) -> u32
@@ -49,14 +50,45 @@ fn covers_walks(words: &[String]) -> bool
         || count_walks(words) <= u64::from(number_at(words, Name::Budget))
 }
 
+/// Whether a test that stops early has ends to test, and neither saves nor resumes.
+fn stops_alone(words: &[String]) -> bool
+    requires stop { definition.number_at command.Check (pairs_in words.now) name.Stop < 2 ^ 32 }
+    requires ends { definition.number_at command.Check (pairs_in words.now) name.Ends < 2 ^ 32 }
+    requires save { definition.number_at command.Check (pairs_in words.now) name.Save < 2 ^ 32 }
+    ensures { result ≡ definition.stops_alone command.Check (pairs_in words.now) }
+{
+    number_at(words, Name::Stop) == 0
+        || (1 <= number_at(words, Name::Ends)
+            && number_at(words, Name::Save) == 0
+            && text_of(words, Name::Resume) != "yes")
+}
+
+/// Whether the serial test has as many plans as a power of two.
+fn divides_draws(words: &[String]) -> bool
+    requires steps { definition.number_at command.Check (pairs_in words.now) name.Steps < 2 ^ 32 }
+    ensures { result ≡ definition.divides_draws command.Check (pairs_in words.now) }
+{
+    text_of(words, Name::Serial) != "yes"
+        || is_power_of_two(u64::from(number_at(words, Name::Steps)) + 1)
+}
+
+/// Whether there are regions, where they may be split less than the default says.
+fn has_split(words: &[String]) -> bool
+    requires { definition.number_at command.Check (pairs_in words.now) name.MaxSplit < 2 ^ 32 }
+    ensures { result ≡ definition.has_split command.Check (pairs_in words.now) }
+{
+    number_at(words, Name::MaxSplit) == 200 || !text_of(words, Name::Region).is_empty()
+}
+
 /// Whether the value of a name, given or by default, is one that it may have.
-pub fn is_good(words: &[String], name: Name) -> bool
+pub fn is_good(command: Command, words: &[String], name: Name) -> bool
     requires { RestsOnGood (pairs_in words.now) name }
-    ensures { result ≡ definition.is_good command.Check (pairs_in words.now) name }
+    ensures { result ≡ definition.is_good command (pairs_in words.now) name }
 {
     let text = text_of(words, name);
     match name {
-        Name::Pop | Name::First | Name::Second | Name::District => true,
+        Name::Pop | Name::First | Name::Second | Name::Region => true,
+        Name::District => is_one_line(command, text),
         Name::Size => is_number(1, 30, text),
         Name::Slack => is_number(0, 10_000, text),
         Name::Key => key_of(text).is_some(),
@@ -68,6 +100,10 @@ pub fn is_good(words: &[String], name: Name) -> bool
         Name::Workers => is_number(1, 32, text),
         Name::Budget => is_number(0, 100_000, text) && covers_walks(words),
         Name::Save => is_number(0, 100_000, text),
-        Name::Resume => is_answer(text),
+        Name::Resume | Name::Shift => is_answer(text),
+        Name::MaxCut => is_number(0, 400_000, text),
+        Name::Stop => is_number(0, 100_000, text) && stops_alone(words),
+        Name::Serial => is_answer(text) && divides_draws(words),
+        Name::MaxSplit => is_number(1, 200, text) && has_split(words),
     }
 }

@@ -13,5 +13,4 @@ pub mod words;
 
 pub use audit_model::fault::{Name, WordFault};
 pub use audit_model::setting::Setting;
-pub use names::name_text;
 pub use words::read;

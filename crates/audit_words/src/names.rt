@@ -1,7 +1,7 @@
 //! The table of names.
 
 ghost use Rattle.std.specs.Prelude.{◌≡◌, [], option_map};
-ghost use Rattle.text_definitions.specs.Words as definition;
+ghost use Rattle.word_definitions.specs.Words as definition;
 
 use audit_model::fault::Name;
 use audit_model::setting::Command;
@@ -47,30 +47,6 @@ const OF_MAKE: [Name; 12] = [
     Name::Resume,
 ];
 
-/// The word that sets a name.
-pub fn name_text(name: Name) -> &'static str
-    ensures { result.now ≡ definition.name_text name }
-{
-    match name {
-        Name::Pop => "--pop",
-        Name::First => "--first",
-        Name::Second => "--second",
-        Name::District => "--district",
-        Name::Size => "--size",
-        Name::Slack => "--slack",
-        Name::Key => "--key",
-        Name::Walks => "--walks",
-        Name::Steps => "--steps",
-        Name::Ends => "--ends",
-        Name::HubSteps => "--hub-steps",
-        Name::Ask => "--ask",
-        Name::Workers => "--workers",
-        Name::Budget => "--budget",
-        Name::Save => "--save",
-        Name::Resume => "--resume",
-    }
-}
-
 /// The value of a name that is not given, where the name may be left out.
 pub fn default_of(name: Name) -> Option<&'static str>
     ensures { option_map (λ s. s.now) result ≡ definition.default_of name }
@@ -80,8 +56,11 @@ pub fn default_of(name: Name) -> Option<&'static str>
         Name::Walks | Name::Workers => Some("1"),
         Name::Steps | Name::HubSteps => Some("1000"),
         Name::Budget => Some("100000"),
-        Name::Ends | Name::Save => Some("0"),
-        Name::Resume => Some("no"),
+        Name::Ends | Name::Save | Name::Stop => Some("0"),
+        Name::Resume | Name::Shift | Name::Serial => Some("no"),
+        Name::MaxCut => Some("400000"),
+        Name::Region => Some(""),
+        Name::MaxSplit => Some("200"),
         Name::Pop | Name::First | Name::Second | Name::District => None,
         Name::Size | Name::Key | Name::Ask => None,
     }
@@ -95,6 +74,7 @@ pub fn names_of(command: Command) -> &'static [Name]
         Command::Check => &OF_CHECK,
         Command::Run => &OF_RUN,
         Command::Make => &OF_MAKE,
+        Command::Plans => &[],
     }
 }
 
@@ -118,7 +98,7 @@ pub fn name_of(command: Command, word: &str) -> Option<Name>
     ensures { result ≡ definition.name_of command [] word.now }
 {
     for name in names_of(command) {
-        if name_text(*name) == word {
+        if name.text() == word {
             return Some(*name);
         }
     }

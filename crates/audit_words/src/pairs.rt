@@ -5,9 +5,9 @@ ghost use Rattle.std.specs.List.{slice_index_or};
 ghost use Rattle.audit_model.specs.Below.{any_below};
 ghost use Rattle.audit_model.specs.declared.setting.Command.TheVariants as command;
 ghost use Rattle.audit_words.specs.Spoken.{pairs_in};
-ghost use Rattle.text_definitions.specs.Words as definition;
+ghost use Rattle.word_definitions.specs.Words as definition;
 
-use crate::names::{default_of, name_text};
+use crate::names::default_of;
 use audit_model::fault::Name;
 
 /// How many pairs there are. The last may lack its value.
@@ -55,7 +55,7 @@ pub fn given(words: &[String], name: Name) -> Option<&str>
     ensures { option_map (λ s. s.now) result ≡ definition.given command.Check (pairs_in words.now) name }
 {
     for k in 0..count(words) {
-        if name_at(words, k) == name_text(name) {
+        if name_at(words, k) == name.text() {
             return value_at(words, k);
         }
     }

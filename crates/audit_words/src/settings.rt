@@ -1,11 +1,11 @@
 //! The setting that good values give.
 
-ghost use Rattle.std.specs.Prelude.{◌≡◌, None, true, IfOk, codes};
+ghost use Rattle.std.specs.Prelude.{◌≡◌, true, IfOk, codes};
 ghost use Rattle.audit_model.specs.declared.fault.Name.TheVariants as name;
 ghost use Rattle.audit_model.specs.declared.setting.Command.TheVariants as command;
-ghost use Rattle.audit_words.specs.Judged.{fault_of_values, AreGood};
+ghost use Rattle.audit_words.specs.Judged.{AreGood, AreReadable};
 ghost use Rattle.audit_words.specs.Spoken.{pairs_in};
-ghost use Rattle.text_definitions.specs.Words as definition;
+ghost use Rattle.word_definitions.specs.Words as definition;
 
 use crate::asks::asks_of;
 use crate::fields::number_at;
@@ -71,6 +71,12 @@ fn check_setting(alloc: Global, words: &[String]) -> Result<Setting, Memory>
         save_every: 0,
         resume: false,
         size: 0,
+        max_cut: 400_000,
+        shift: false,
+        stop: 0,
+        serial: false,
+        region: Text::new(alloc),
+        max_split: 200,
     })
 }
 
@@ -100,17 +106,29 @@ fn run_setting(
         save_every: number_at(words, Name::Save),
         resume: text_of(words, Name::Resume) == "yes",
         size,
+        max_cut: 400_000,
+        shift: false,
+        stop: 0,
+        serial: false,
+        region: Text::new(alloc),
+        max_split: 200,
     })
 }
 
 /// The setting that the values give.
 pub fn setting_for(alloc: Global, command: Command, words: &[String]) -> Result<Setting, Memory>
-    requires { fault_of_values command (pairs_in words.now) ≡ None }
+    requires { AreReadable command (pairs_in words.now) }
     ensures { IfOk result (λ setting. setting ≡ definition.setting_for command (pairs_in words.now)) }
 {
     match command {
         Command::Check => check_setting(alloc, words),
-        Command::Run => run_setting(alloc, command, words, columns_of(alloc, words)?, 0),
+        Command::Run | Command::Plans => run_setting(
+            alloc,
+            command,
+            words,
+            columns_of(alloc, words)?,
+            0,
+        ),
         Command::Make => {
             let size = number_at(words, Name::Size);
             run_setting(alloc, command, words, columns_of_grid(alloc)?, size)

@@ -1,6 +1,6 @@
 //! What lists of words give.
 
-use crate::{Setting, WordFault, name_text, read};
+use crate::{Setting, WordFault, read};
 use audit_model::setting::{Ask, Score, Tail};
 use std::alloc::{AllocError, Global};
 use std::process::Abort;
@@ -31,10 +31,10 @@ fn reason(alloc: Global, fault: &WordFault) -> Result<String, AllocError> {
         WordFault::NoCommand => format!(in alloc; "no command"),
         WordFault::UnknownCommand(word) => format!(in alloc; "unknown command {}", word.as_str()),
         WordFault::UnknownName(word) => format!(in alloc; "unknown name {}", word.as_str()),
-        WordFault::Twice(name) => format!(in alloc; "{} is given twice", name_text(*name)),
-        WordFault::NoValue(name) => format!(in alloc; "no value for {}", name_text(*name)),
-        WordFault::MissingName(name) => format!(in alloc; "{} is missing", name_text(*name)),
-        WordFault::BadValue(name) => format!(in alloc; "bad value for {}", name_text(*name)),
+        WordFault::Twice(name) => format!(in alloc; "{} is given twice", name.text()),
+        WordFault::NoValue(name) => format!(in alloc; "no value for {}", name.text()),
+        WordFault::MissingName(name) => format!(in alloc; "{} is missing", name.text()),
+        WordFault::BadValue(name) => format!(in alloc; "bad value for {}", name.text()),
         WordFault::Memory => format!(in alloc; "memory"),
     }
 }

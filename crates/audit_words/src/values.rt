@@ -3,8 +3,10 @@
 ghost use Rattle.std.specs.Prelude.{◌≡◌, ◌||◌, None, cond, codes, bytes_eq};
 ghost use Rattle.std.specs.Result.{result_ok};
 ghost use Rattle.hex.specs.Hex.{decode_sized};
-ghost use Rattle.text_definitions.specs.Words as definition;
+ghost use Rattle.audit_model.specs.Power as power;
+ghost use Rattle.word_definitions.specs.Words as definition;
 
+use audit_model::setting::Command;
 use hex::FromHex;
 use itoa::Buffer;
 
@@ -40,4 +42,26 @@ pub fn is_answer(text: &str) -> bool
     ensures { result ≡ (bytes_eq text.now (codes "yes") || bytes_eq text.now (codes "no")) }
 {
     text == "yes" || text == "no"
+}
+
+/// Whether the text is one line, where the command wants one.
+pub fn is_one_line(command: Command, text: &str) -> bool
+    ensures { result ≡ definition.is_one_line command text.now }
+{
+    match command {
+        Command::Check | Command::Run | Command::Make => true,
+        Command::Plans => !text.as_bytes().contains(&b'\n'),
+    }
+}
+
+/// Whether the number is a power of two.
+pub fn is_power_of_two(number: u64) -> bool
+    ensures { result ≡ power.is_power_of_two number }
+{
+    for k in 0..64_u32 {
+        if 1_u64 << k == number {
+            return true;
+        }
+    }
+    false
 }

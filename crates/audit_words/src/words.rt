@@ -5,8 +5,8 @@ ghost use Rattle.audit_model.specs.Limits.{IsSetting};
 ghost use Rattle.audit_model.specs.declared.fault.WordFault.TheVariants as fault;
 ghost use Rattle.audit_words.specs.Judged.{fault_of_pairs, fault_of_names, fault_of_values};
 ghost use Rattle.audit_words.specs.Spoken.{spoken, pairs_in, Tells};
-ghost use Rattle.text_definitions.specs.Words as definition;
-ghost use Rattle.text_definitions.specs.Words.{setting_of};
+ghost use Rattle.word_definitions.specs.Words as definition;
+ghost use Rattle.word_definitions.specs.Words.{setting_of};
 
 use crate::fields::is_good;
 use crate::names::{command_of, name_of, names_of};
@@ -103,7 +103,7 @@ fn judge_values(command: Command, words: &[String]) -> Result<(), WordFault>
     ensures { Tells result (fault_of_values command (pairs_in words.now)) }
 {
     for name in names_of(command) {
-        if !is_good(words, *name) {
+        if !is_good(command, words, *name) {
             return Err(WordFault::BadValue(*name));
         }
     }

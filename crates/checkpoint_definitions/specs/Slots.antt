@@ -1,19 +1,21 @@
 -- What the two slots of a keeper hold, which is the newest, and where the next checkpoint goes.
-use Rattle.std.specs.Prelude.{◌≡◌, ℕ, zero, suc, ◌+◌, ◌-◌, ◌*◌, ◌%◌, ◌==◌, Bool, true, false, not, cond, nat_lt, List, [], ◌∷◌, length, bytes_eq, slice_range, Option, Some, None}
+-- This project's. What a slot is follows from its bytes alone; the code looks at both slots once.
+use Rattle.std.specs.Prelude.{◌≡◌, ℕ, zero, suc, ◌+◌, ◌-◌, ◌*◌, ◌%◌, ◌==◌, Bool, true, false, not, cond, nat_lt, List, [], ◌∷◌, length, bytes_eq, slice_range, Option, Some, None, option_map}
 use Rattle.std.specs.Int.{w32, w64, cast_signed}
 use Rattle.audit_model.specs.declared.fault.CkptFault.{CkptFault}
 use Rattle.audit_model.specs.declared.fault.CkptFault.TheVariants.{TooLong, Unfit}
 use Rattle.audit_model.specs.declared.outcome.Outcome.{Outcome}
+use Rattle.audit_model.specs.declared.setting.Setting.{Setting}
 use Rattle.audit_model.specs.Below.{map_below}
 use Rattle.audit_model.specs.First.{first_below}
 use Rattle.audit_model.specs.Job.{Job}
-use Rattle.audit_model.specs.Run.{IsRight, fits}
-use Rattle.audit_model.specs.Trajectory.{Draws}
-use Rattle.checkpoint_definitions.specs.Checkpoint.{number_at, stated_count, checkpoint_fault}
+use Rattle.audit_model.specs.Run.{IsHonest, fits, taken_up}
+use Rattle.audit_model.specs.Trajectory.{Draws, no_bins}
+use Rattle.checkpoint_definitions.specs.Checkpoint.{number_at, has_bins, outcome_start, stated_version, stated_count, checkpoint_fault}
 
 -- the most bytes of a checkpoint
 abbrev pub checkpoint_limit : ℕ
-checkpoint_limit = 4400084
+checkpoint_limit = 8000084
 
 -- what a slot holds
 pub data Slot : Type 0 where
@@ -21,6 +23,11 @@ pub data Slot : Type 0 where
   broken : CkptFault → Slot
   other : List ℕ → ℕ → Slot
   ours : ℕ → List Outcome → Slot
+
+-- the bins that begin at a place, where the version has them
+abbrev pub bins_at : Bool → List ℕ → ℕ → List ℕ
+bins_at true bytes at = map_below 9 (λ k. number_at w32 (at + 4 * k) bytes)
+bins_at false bytes at = no_bins
 
 -- the outcome whose bytes begin at a place
 abbrev pub outcome_at : List ℕ → ℕ → Outcome
@@ -30,11 +37,16 @@ outcome_at bytes at = record {
   values =
       cast_signed w64 (number_at w64 (at + 12) bytes) ∷ cast_signed w64 (number_at w64 (at + 20) bytes)
       ∷ cast_signed w64 (number_at w64 (at + 28) bytes) ∷ cast_signed w64 (number_at w64 (at + 36) bytes) ∷ [];
+  bins = bins_at (has_bins (stated_version bytes)) bytes (at + 44);
 }
+
+-- the outcome at a place of a checkpoint, from 0
+abbrev pub outcome_in : List ℕ → ℕ → Outcome
+outcome_in bytes place = outcome_at bytes (outcome_start bytes place)
 
 -- the outcomes of a checkpoint
 abbrev pub outcomes_in : List ℕ → List Outcome
-outcomes_in bytes = map_below (stated_count bytes) (λ k. outcome_at bytes (52 + 44 * k))
+outcomes_in bytes = map_below (stated_count bytes) (outcome_in bytes)
 
 -- of a checkpoint of the job's digest
 abbrev pub slot_of_ours : List ℕ → Option ℕ → Slot
@@ -44,7 +56,7 @@ slot_of_ours bytes (Some place) = broken (Unfit place)
 abbrev pub slot_of_digest : Job → List ℕ → Bool → Slot
 slot_of_digest job bytes false = other (slice_range bytes 12 44) (number_at w32 44 bytes)
 slot_of_digest job bytes true =
-    slot_of_ours bytes (first_below (stated_count bytes) (λ k. not (fits job (outcome_at bytes (52 + 44 * k)))))
+    slot_of_ours bytes (first_below (stated_count bytes) (λ place. not (fits job (outcome_in bytes place))))
 
 abbrev pub slot_of_checkpoint : Job → List ℕ → List ℕ → Option CkptFault → Slot
 slot_of_checkpoint job digest bytes (Some f) = broken f
@@ -105,17 +117,17 @@ opening_of absent absent None = Some []
 opening_of absent second None = None
 opening_of first second None = None
 
--- the outcomes with which a run starts, where it may start
-abbrev pub opening : Bool → Slot → Slot → Option (List Outcome)
-opening false first second = Some []
-opening true first second = opening_of first second (newest first second)
+-- the outcomes with which a run starts, where it may start: by whether it resumes
+abbrev pub opening : Bool → Setting → Slot → Slot → Option (List Outcome)
+opening false setting first second = Some []
+opening true setting first second = option_map (taken_up setting.shift setting.walks) (opening_of first second (newest first second))
 
--- what the slot holds of the job was found by its trajectories
+-- what the slot holds of the job was found by its trajectories, with bins or without
 abbrev pub IsHonestSlot : Job → Draws → Slot → Type 0
 IsHonestSlot job draws absent = Unit {0}
 IsHonestSlot job draws (broken f) = Unit {0}
 IsHonestSlot job draws (other digest generation) = Unit {0}
-IsHonestSlot job draws (ours generation outcomes) = IsRight job draws outcomes
+IsHonestSlot job draws (ours generation outcomes) = IsHonest job draws outcomes
 
 -- after a stop within a save, the other slot is as before
 abbrev pub IsAfterStop : ℕ → Option (List ℕ) → Option (List ℕ) → Option (List ℕ) → Option (List ℕ) → Type 0

@@ -1,5 +1,5 @@
 -- The first fault of bytes, from the faults that come one after another.
-use Rattle.std.proofs.Common.{◌≡◌, ℕ, ◌+◌, ◌-◌, ◌*◌, ◌<◌, ◌≤◌, Bool, true, false, not, cond, List, length, take, drop, codes, Option, Some, None, refl, sym, ap, ◌∙◌, arith}
+use Rattle.std.proofs.Common.{◌≡◌, ℕ, ◌+◌, ◌-◌, ◌*◌, ◌<◌, ◌≤◌, ◌⊎◌, Bool, true, false, not, cond, List, length, take, drop, codes, Option, Some, None, refl, sym, ap, subst, inl, inr, ◌∙◌, arith}
 use Rattle.std.specs.Prelude.{◌==◌, nat_lt, bytes_eq, option_map, ◌||◌}
 use Rattle.std.specs.Option.{option_or}
 use Rattle.std.specs.Int.{w32}
@@ -8,7 +8,7 @@ use Rattle.std.proofs.lemmas.Slice.Eq.{bytes_eq-Decides}
 use Rattle.sha2.specs.Sha256.{sha256}
 use Rattle.audit_model.specs.declared.fault.CkptFault.TheVariants.{TooShort, BadMagic, BadVersion, BadGeneration, BadCount, BadOrder, BadDigest}
 use Rattle.audit_model.specs.First.{first_below}
-use Rattle.checkpoint_definitions.specs.Checkpoint.{checkpoint_fault, number_at, stated_count}
+use Rattle.checkpoint_definitions.specs.Checkpoint.{checkpoint_fault, number_at, outcome_size, stated_count, stated_version}
 use Rattle.ckpt_format.specs.Faults.{length_fault, magic_fault, version_fault, generation_fault, count_fault, order_fault, digest_fault, head_fault, is_unordered}
 
 -- ---- one after another
@@ -28,8 +28,8 @@ or_in_turn None None None None None None None = refl
 -- the length, the head, the order, the digest
 pub fault_is : (bytes : List ℕ) → checkpoint_fault bytes ≡ option_or (length_fault bytes) (option_or (head_fault bytes) (option_or (order_fault bytes (stated_count bytes)) (digest_fault bytes)))
 unfolding checkpoint_fault
-fault_is bytes = or_in_turn (length_fault bytes) (magic_fault bytes) (version_fault (number_at w32 8 bytes)) (generation_fault (number_at w32 44 bytes))
-    (count_fault (stated_count bytes) (length bytes)) (order_fault bytes (stated_count bytes)) (digest_fault bytes)
+fault_is bytes = or_in_turn (length_fault bytes) (magic_fault bytes) (version_fault (stated_version bytes)) (generation_fault (number_at w32 44 bytes))
+    (count_fault (stated_version bytes) (stated_count bytes) (length bytes)) (order_fault bytes (stated_count bytes)) (digest_fault bytes)
 
 pub fault_of_few : (bytes : List ℕ) → length bytes < 84 → checkpoint_fault bytes ≡ Some (TooShort (length bytes))
 fault_of_few bytes few =
@@ -68,30 +68,42 @@ map_none f None h = refl
 map_none f (Some x) h = absurd (some_is_not_none (f x) h)
 
 -- the number of outcomes fits the length
-pub count_is_right : (count size : ℕ) → count_fault count size ≡ None → (count ≤ 100000) × (size ≡ 84 + 44 * count)
-count_is_right count size none =
-    let parts = or_parts (nat_lt 100000 count) (not (size == 84 + 44 * count)) (then_none _ (BadCount count size) none) in
-    (ltb-false 100000 count parts.0, eqb-true size (84 + 44 * count) (not-false (size == 84 + 44 * count) parts.1))
+pub count_is_right : (version count size : ℕ) → count_fault version count size ≡ None → (count ≤ 100000) × (size ≡ 84 + outcome_size version * count)
+count_is_right version count size none =
+    let right = 84 + outcome_size version * count in
+    let parts = or_parts (nat_lt 100000 count) (not (size == right)) (then_none _ (BadCount count size) none) in
+    (ltb-false 100000 count parts.0, eqb-true size right (not-false (size == right) parts.1))
+
+-- the version is one of both
+version_is_known : (version : ℕ) → version_fault version ≡ None → (version ≡ 1) ⊎ (version ≡ 2)
+version_is_known version none = elim (either (version == 1) (version == 2) (else_none _ (BadVersion version) none)) [
+  | inl one ↦ inl (eqb-true version 1 one)
+  | inr two ↦ inr (eqb-true version 2 two)
+]
+  where
+    either : (a b : Bool) → (a || b) ≡ true → (a ≡ true) ⊎ (b ≡ true)
+    either true b h = inl refl
+    either false b h = inr h
 
 -- no fault of what stands before the outcomes
 pub record HasHead (bytes : List ℕ) : Type 0 where
   pub magic : take 8 bytes ≡ codes "DISTCKPT"
-  pub version : number_at w32 8 bytes ≡ 1
+  pub version : (stated_version bytes ≡ 1) ⊎ (stated_version bytes ≡ 2)
   pub generation : number_at w32 44 bytes < 3
   pub few : stated_count bytes ≤ 100000
-  pub size : length bytes ≡ 84 + 44 * stated_count bytes
+  pub size : length bytes ≡ 84 + outcome_size (stated_version bytes) * stated_count bytes
 
 pub head_is_right : (bytes : List ℕ) → head_fault bytes ≡ None → HasHead bytes
 head_is_right bytes none =
     let magic = or_is_none (magic_fault bytes) _ none in
-    let version = or_is_none (version_fault (number_at w32 8 bytes)) _ magic.1 in
+    let version = or_is_none (version_fault (stated_version bytes)) _ magic.1 in
     let generation = or_is_none (generation_fault (number_at w32 44 bytes)) _ version.1 in
-    let count = or_is_none (count_fault (stated_count bytes) (length bytes)) None generation.1 in
-    let right = count_is_right (stated_count bytes) (length bytes) count.0 in
+    let count = or_is_none (count_fault (stated_version bytes) (stated_count bytes) (length bytes)) None generation.1 in
+    let right = count_is_right (stated_version bytes) (stated_count bytes) (length bytes) count.0 in
     let small : number_at w32 44 bytes ≤ 2 = ltb-false 2 (number_at w32 44 bytes) (then_none _ (BadGeneration (number_at w32 44 bytes)) generation.0) in
     record {
       magic = (bytes_eq-Decides (take 8 bytes) (codes "DISTCKPT")).0 (else_none _ BadMagic magic.0);
-      version = eqb-true (number_at w32 8 bytes) 1 (else_none _ (BadVersion (number_at w32 8 bytes)) version.0);
+      version = version_is_known (stated_version bytes) version.0;
       generation = omega (arith, small);
       few = right.0;
       size = right.1;
@@ -125,18 +137,23 @@ then_is_none : {A : Type 0} (b : Bool) (x : A) → b ≡ false → cond b (Some 
 then_is_none true x h = absurd (true≢false h)
 then_is_none false x h = refl
 
-no_count_fault : (count size : ℕ) → count ≤ 100000 → size ≡ 84 + 44 * count → count_fault count size ≡ None
-no_count_fault count size few same =
-    then_is_none (nat_lt 100000 count || not (size == 84 + 44 * count)) (BadCount count size)
-    (or_from (nat_lt 100000 count) (not (size == 84 + 44 * count)) (le-ltb 100000 count few) (not_from_true (size == 84 + 44 * count) (eq-eqb size (84 + 44 * count) same)))
+no_count_fault : (version count size : ℕ) → count ≤ 100000 → size ≡ 84 + outcome_size version * count → count_fault version count size ≡ None
+no_count_fault version count size few same =
+    let right = 84 + outcome_size version * count in
+    then_is_none (nat_lt 100000 count || not (size == right)) (BadCount count size)
+    (or_from (nat_lt 100000 count) (not (size == right)) (le-ltb 100000 count few) (not_from_true (size == right) (eq-eqb size right same)))
+
+no_version_fault : (version : ℕ) → (version ≡ 1) ⊎ (version ≡ 2) → version_fault version ≡ None
+no_version_fault version (inl one) = subst (λ v. version_fault v ≡ None) (sym one) refl
+no_version_fault version (inr two) = subst (λ v. version_fault v ≡ None) (sym two) refl
 
 no_head_fault : (bytes : List ℕ) → HasHead bytes → head_fault bytes ≡ None
 no_head_fault bytes head =
     or_of_none (magic_fault bytes) _ (else_is_none (bytes_eq (take 8 bytes) (codes "DISTCKPT")) BadMagic ((bytes_eq-Decides (take 8 bytes) (codes "DISTCKPT")).1 head.magic))
-    (or_of_none (version_fault (number_at w32 8 bytes)) _ (else_is_none (number_at w32 8 bytes == 1) (BadVersion (number_at w32 8 bytes)) (eq-eqb (number_at w32 8 bytes) 1 head.version))
+    (or_of_none (version_fault (stated_version bytes)) _ (no_version_fault (stated_version bytes) head.version)
     (or_of_none (generation_fault (number_at w32 44 bytes)) _
     (then_is_none (nat_lt 2 (number_at w32 44 bytes)) (BadGeneration (number_at w32 44 bytes)) (le-ltb 2 (number_at w32 44 bytes) (omega (arith, head.generation))))
-    (or_of_none (count_fault (stated_count bytes) (length bytes)) None (no_count_fault (stated_count bytes) (length bytes) head.few head.size) refl)))
+    (or_of_none (count_fault (stated_version bytes) (stated_count bytes) (length bytes)) None (no_count_fault (stated_version bytes) (stated_count bytes) (length bytes) head.few head.size) refl)))
 
 pub none-from_IsFaultless : (bytes : List ℕ) → IsFaultless bytes → checkpoint_fault bytes ≡ None
 none-from_IsFaultless bytes right =

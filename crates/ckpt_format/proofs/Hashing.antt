@@ -1,16 +1,15 @@
 -- Bytes that a hasher takes in piece by piece.
-use Rattle.std.proofs.Common.{◌≡◌, ℕ, ◌+◌, ◌<◌, List, [], ◌∷◌, ◌++◌, length, get_or, take, sym, ap, subst, ◌∙◌, add-one, append_assoc, append-nil}
-use Rattle.std.specs.Prelude.{true}
+use Rattle.std.proofs.Common.{◌≡◌, ℕ, ◌+◌, ◌<◌, Bool, true, false, List, [], ◌∷◌, ◌++◌, length, get_or, take, refl, sym, ap, subst, ◌∙◌, add-one, append_assoc, append-nil}
 use Rattle.std.specs.List.{flat_map}
 use Rattle.std.specs.Int.{w32, to_be_bytes}
 use Rattle.std.proofs.lemmas.List.{flat_map_more, take_more}
 use Rattle.sha2.specs.Hashers.{Holds256}
 use Rattle.sha2.specs.declared.Sha256.{Sha256}
 use Rattle.audit_model.specs.Below.{map_below}
-use Rattle.audit_model.specs.Job.{Job}
+use Rattle.audit_model.specs.Job.{Job, rules}
 use Rattle.audit_model.specs.Graph.{count_edges}
-use Rattle.checkpoint_definitions.specs.Checkpoint.{job_bytes, edge_bytes, unit_bytes}
-use Rattle.ckpt_format.specs.Hashed.{Hashes, ask_bytes, counts_bytes, setting_bytes}
+use Rattle.checkpoint_definitions.specs.Checkpoint.{job_bytes, edge_bytes, has_rules, rule_bytes, unit_bytes}
+use Rattle.ckpt_format.specs.Hashed.{Hashes, ask_bytes, counts_bytes, limit_bytes, setting_bytes}
 
 pub hashes_none : (a : Sha256) → Hashes a a []
 hashes_none a = record { taken = λ before held. subst (Holds256 a) (sym (append-nil before)) held }
@@ -40,17 +39,23 @@ hashes_next f n a b c first second =
     flat_map_more f [] (map_below n (λ u. u)) n ∙ ap (flat_map f) (sym numbers) in
     hashes_same a c _ _ next (hashes_then a b c (flat_map f (map_below n (λ u. u))) (f n) first second)
 
-grouped : (c e u s k w t n h q a : List ℕ) → c ++ e ++ u ++ (s ++ k ++ w ++ t ++ n ++ h ++ q ++ a) ≡ c ++ e ++ u ++ s ++ k ++ w ++ t ++ n ++ h ++ q ++ a
-grouped c e u s k w t n h q a = simp append_assoc
+grouped : (c e u s k w t n h q a r : List ℕ) → c ++ e ++ u ++ (s ++ k ++ w ++ t ++ n ++ h ++ q ++ a) ++ r ≡ c ++ e ++ u ++ s ++ k ++ w ++ t ++ n ++ h ++ q ++ a ++ r
+grouped c e u s k w t n h q a r = simp append_assoc
+
+-- the limits of a job's rules
+limits_of : (limited : Bool) (job : Job) → limit_bytes limited (rules job) ≡ rule_bytes limited job
+limits_of true job = refl
+limits_of false job = refl
 
 -- a hasher that took in all parts
-pub digest_of_parts : (job : Job) (start counts edges units end : Sha256) → Holds256 start []
-    → Hashes start counts (counts_bytes job.graph.units (count_edges job.graph (λ u v. true)) job.districts)
+pub digest_of_parts : (job : Job) (start counts edges units asked end : Sha256) → Holds256 start []
+    → Hashes start counts (counts_bytes (has_rules job) job.graph.units (count_edges job.graph (λ u v. true)) job.districts)
     → Hashes counts edges (edge_bytes job.graph) → Hashes edges units (flat_map (unit_bytes job) (map_below job.graph.units (λ u. u)))
-    → Hashes units end (setting_bytes job.setting) → Holds256 end (job_bytes job)
-digest_of_parts job start counts edges units end empty a b c d =
-    let whole = hashes_then _ _ _ _ _ (hashes_then _ _ _ _ _ (hashes_then _ _ _ _ _ a b) c) d in
+    → Hashes units asked (setting_bytes job.setting) → Hashes asked end (limit_bytes (has_rules job) (rules job)) → Holds256 end (job_bytes job)
+digest_of_parts job start counts edges units asked end empty a b c d e =
+    let limits = hashes_same _ _ _ _ (limits_of (has_rules job) job) e in
+    let whole = hashes_then _ _ _ _ _ (hashes_then _ _ _ _ _ (hashes_then _ _ _ _ _ (hashes_then _ _ _ _ _ a b) c) d) limits in
     let s = job.setting in
     let n = to_be_bytes w32 in
-    subst (Holds256 end) (grouped (counts_bytes job.graph.units (count_edges job.graph (λ u v. true)) job.districts) (edge_bytes job.graph)
-    (flat_map (unit_bytes job) (map_below job.graph.units (λ u. u))) (n s.slack) s.key (n s.walks) (n s.steps) (n s.ends) (n s.hub_steps) (n (length s.asks)) (flat_map ask_bytes s.asks)) (whole.taken [] empty)
+    subst (Holds256 end) (grouped (counts_bytes (has_rules job) job.graph.units (count_edges job.graph (λ u v. true)) job.districts) (edge_bytes job.graph)
+    (flat_map (unit_bytes job) (map_below job.graph.units (λ u. u))) (n s.slack) s.key (n s.walks) (n s.steps) (n s.ends) (n s.hub_steps) (n (length s.asks)) (flat_map ask_bytes s.asks) (rule_bytes (has_rules job) job)) (whole.taken [] empty)

@@ -3,6 +3,7 @@ pub mod Sizes
 pub mod Writing
 pub mod Faulting
 pub mod Cutting
+pub mod Pieces
 pub mod Numbers
 pub mod Whole
 pub mod Hashing

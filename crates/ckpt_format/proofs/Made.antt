@@ -1,5 +1,5 @@
 -- What stands in a checkpoint, by what it was made of.
-use Rattle.std.proofs.Common.{◌≡◌, ℕ, zero, suc, ◌+◌, ◌-◌, ◌*◌, ◌<◌, ◌≤◌, false, List, [], ◌∷◌, ◌++◌, length, get_or, take, drop, map, codes, None, refl, sym, ap, subst, ◌∙◌, arith, append_assoc, length-append}
+use Rattle.std.proofs.Common.{◌≡◌, ℕ, zero, suc, ◌+◌, ◌-◌, ◌*◌, ◌^◌, ◌<◌, ◌≤◌, ◌⊎◌, false, List, ◌++◌, length, get_or, take, drop, map, codes, None, refl, sym, ap, subst, inl, inr, ◌∙◌, arith, append_assoc, length-append}
 use Rattle.std.specs.Prelude.{slice_range, nat_lt, nat_le}
 use Rattle.std.specs.List.{flat_map, AllByRecursion}
 use Rattle.std.specs.Int.{w32, to_be_bytes}
@@ -8,15 +8,18 @@ use Rattle.std.proofs.lemmas.List.{drop_at, length-map, same_lists, take_at}
 use Rattle.sha2.specs.Sha256.{sha256}
 use Rattle.audit_model.specs.Below.{map_below}
 use Rattle.audit_model.specs.declared.outcome.Outcome.{Outcome}
-use Rattle.checkpoint_definitions.specs.Checkpoint.{AreRising, IsCheckpoint, IsOutcome, checkpoint, checkpoint_body, checkpoint_fault, number_at, outcome_bytes, stated_count, stated_id}
-use Rattle.checkpoint_definitions.specs.Slots.{outcome_at, outcomes_in}
+use Rattle.std.proofs.lemmas.List.Elements.{All-from_recursion}
+use Rattle.audit_model.specs.Trajectory.{no_bins}
+use Rattle.checkpoint_definitions.specs.Checkpoint.{AreRising, HoldsBins, IsCheckpoint, IsOutcome, checkpoint, checkpoint_body, checkpoint_fault, has_bins, number_at, outcome_bytes, outcome_size, stated_count, stated_id, stated_version}
+use Rattle.checkpoint_definitions.specs.Slots.{outcome_in, outcomes_in}
 use Rattle.plan_core.proofs.Firsts.{none_first_below}
 use Rattle.dual_graph.proofs.Rows.{length-map_below, get_or-map_below}
 use Rattle.ckpt_format.specs.Faults.{is_unordered}
 use Rattle.ckpt_format.specs.Laws.{StandsIn}
 use Rattle.ckpt_format.proofs.Cutting.{part-mid}
-use Rattle.ckpt_format.proofs.Numbers.{reread_32, reread_outcome}
-use Rattle.ckpt_format.proofs.Sizes.{length-checkpoint, length-checkpoint_body, length-outcome_bytes}
+use Rattle.ckpt_format.proofs.Numbers.{AreHeld, outcome_by, reread_32, reread_outcome}
+use Rattle.ckpt_format.proofs.Pieces.{piece_apart}
+use Rattle.ckpt_format.proofs.Sizes.{each_sized, length-checkpoint, length-checkpoint_body}
 use Rattle.ckpt_format.proofs.Whole.{id_in, rising_at}
 use Rattle.ckpt_format.proofs.Faulting.{none-from_IsFaultless}
 
@@ -42,67 +45,64 @@ magic_apart m v d g c o s = simp append_assoc
 
 -- ---- the outcomes
 
-outcome_reread : (p q : List ℕ) (outcomes : List Outcome) (a k : ℕ) (d : Outcome) → AllByRecursion IsOutcome outcomes → length p ≡ a → k < length outcomes
-    → outcome_at (p ++ (flat_map outcome_bytes outcomes ++ q)) (a + 44 * k) ≡ get_or outcomes k d
-outcome_reread p q [] a k d each e l = absurd (omega arith)
-outcome_reread p q (o ∷ rest) a zero d each e l =
-    let at : a + 44 * zero ≡ a = omega arith in
-    let apart : p ++ ((outcome_bytes o ++ flat_map outcome_bytes rest) ++ q) ≡ p ++ (outcome_bytes o ++ (flat_map outcome_bytes rest ++ q)) =
-    ap (λ (ys : List ℕ). p ++ ys) (append_assoc (outcome_bytes o) (flat_map outcome_bytes rest) q) in
-    ap (outcome_at (p ++ (flat_map outcome_bytes (o ∷ rest) ++ q))) at ∙ ap (λ (bytes : List ℕ). outcome_at bytes a) apart
-    ∙ reread_outcome p (flat_map outcome_bytes rest ++ q) o a each.0 e
-outcome_reread p q (o ∷ rest) a (suc k) d each e l =
-    let at : a + 44 * suc k ≡ a + 44 + 44 * k = omega arith in
-    let apart : p ++ ((outcome_bytes o ++ flat_map outcome_bytes rest) ++ q) ≡ (p ++ outcome_bytes o) ++ (flat_map outcome_bytes rest ++ q) =
-    shifted p (outcome_bytes o) (flat_map outcome_bytes rest) q in
-    let longer : length (p ++ outcome_bytes o) ≡ a + 44 = omega (arith, length-append p (outcome_bytes o), length-outcome_bytes o each.0.four) in
-    ap (outcome_at (p ++ (flat_map outcome_bytes (o ∷ rest) ++ q))) at ∙ ap (λ (bytes : List ℕ). outcome_at bytes (a + 44 + 44 * k)) apart
-    ∙ outcome_reread (p ++ outcome_bytes o) q rest (a + 44) k d each.1 longer (omega arith)
-  where
-    shifted : (p x y q : List ℕ) → p ++ ((x ++ y) ++ q) ≡ (p ++ x) ++ (y ++ q)
-    shifted p x y q = simp append_assoc
+-- bins that are not written are 0
+held_at : (version : ℕ) (outcomes : List Outcome) (k : ℕ) (d : Outcome) → HoldsBins version outcomes → k < length outcomes → AreHeld (has_bins version) (get_or outcomes k d).bins
+held_at version outcomes k d (inl two) l = subst (λ v. AreHeld (has_bins v) (get_or outcomes k d).bins) (sym two) tt
+held_at version outcomes k d (inr (one, each)) l =
+    subst (λ v. AreHeld (has_bins v) (get_or outcomes k d).bins) (sym one) (All-from_recursion (λ o. o.bins ≡ no_bins) outcomes each k d l)
 
-outcomes_reread : (bytes p q : List ℕ) (outcomes : List Outcome) → bytes ≡ p ++ (flat_map outcome_bytes outcomes ++ q) → length p ≡ 52 → AllByRecursion IsOutcome outcomes
-    → map_below (length outcomes) (λ k. outcome_at bytes (52 + 44 * k)) ≡ outcomes
-outcomes_reread bytes p q outcomes is e each =
-    let outcome = λ (k : ℕ). outcome_at bytes (52 + 44 * k) in
-    let many = length-map_below (length outcomes) outcome in
-    same_lists (map_below (length outcomes) outcome) outcomes many (λ k d l.
+version_below : (version : ℕ) (outcomes : List Outcome) → HoldsBins version outcomes → version < 2 ^ 32
+version_below version outcomes (inl two) = omega (arith, two)
+version_below version outcomes (inr (one, each)) = omega (arith, one)
+
+outcomes_reread : (bytes p q : List ℕ) (version : ℕ) (outcomes : List Outcome) → bytes ≡ p ++ (flat_map (outcome_bytes version) outcomes ++ q) → length p ≡ 52
+    → stated_version bytes ≡ version → HoldsBins version outcomes → AllByRecursion IsOutcome outcomes → map_below (length outcomes) (outcome_in bytes) ≡ outcomes
+outcomes_reread bytes p q version outcomes is e states held each =
+    let with_bins = has_bins version in
+    let many = length-map_below (length outcomes) (outcome_in bytes) in
+    same_lists (map_below (length outcomes) (outcome_in bytes)) outcomes many (λ k d l.
     let inside : k < length outcomes = omega (arith, many) in
-    get_or-map_below (length outcomes) outcome k d inside ∙ ap (λ (ys : List ℕ). outcome_at ys (52 + 44 * k)) is ∙ outcome_reread p q outcomes 52 k d each e inside)
+    let at = 52 + outcome_size version * k in
+    let apart = piece_apart (outcome_bytes version) (outcome_size version) p q outcomes 52 k d (each_sized with_bins outcomes each) e inside in
+    get_or-map_below (length outcomes) (outcome_in bytes) k d inside
+    ∙ ap (λ v. outcome_by (has_bins v) bytes (52 + outcome_size v * k)) states
+    ∙ ap (λ (ys : List ℕ). outcome_by with_bins ys at) (is ∙ apart.spelled)
+    ∙ reread_outcome with_bins apart.front apart.back (get_or outcomes k d) at (All-from_recursion IsOutcome outcomes each k d inside) (held_at version outcomes k d held inside) apart.size)
 
 -- ---- all that stands in a checkpoint
 
-pub record IsMade (bytes digest : List ℕ) (generation : ℕ) (outcomes : List Outcome) : Type 0 where
-  pub size : length bytes ≡ 84 + 44 * length outcomes
+pub record IsMade (bytes : List ℕ) (version : ℕ) (digest : List ℕ) (generation : ℕ) (outcomes : List Outcome) : Type 0 where
+  pub size : length bytes ≡ 84 + outcome_size version * length outcomes
   pub magic : take 8 bytes ≡ codes "DISTCKPT"
-  pub version : number_at w32 8 bytes ≡ 1
   pub count : stated_count bytes ≡ length outcomes
-  pub stands : StandsIn bytes digest generation outcomes
+  pub stands : StandsIn bytes version digest generation outcomes
   pub last : drop (length bytes - 32) bytes ≡ sha256 (take (length bytes - 32) bytes)
 
-spelled : (digest : List ℕ) (generation : ℕ) (outcomes : List Outcome)
-    → checkpoint digest generation outcomes ≡ codes "DISTCKPT" ++ to_be_bytes w32 1 ++ digest ++ to_be_bytes w32 generation ++ to_be_bytes w32 (length outcomes)
-    ++ flat_map outcome_bytes outcomes ++ sha256 (checkpoint_body digest generation outcomes)
+spelled : (version : ℕ) (digest : List ℕ) (generation : ℕ) (outcomes : List Outcome)
+    → checkpoint version digest generation outcomes
+    ≡ codes "DISTCKPT" ++ to_be_bytes w32 version ++ digest ++ to_be_bytes w32 generation ++ to_be_bytes w32 (length outcomes)
+    ++ flat_map (outcome_bytes version) outcomes ++ sha256 (checkpoint_body version digest generation outcomes)
 unfolding checkpoint
-spelled digest generation outcomes = refl
+spelled version digest generation outcomes = refl
 
-pub IsMade-from_checkpoint : (bytes digest : List ℕ) (generation : ℕ) (outcomes : List Outcome)
-    → IsCheckpoint bytes digest generation outcomes → IsMade bytes digest generation outcomes
-IsMade-from_checkpoint bytes digest generation outcomes is =
+pub IsMade-from_checkpoint : (bytes : List ℕ) (version : ℕ) (digest : List ℕ) (generation : ℕ) (outcomes : List Outcome)
+    → IsCheckpoint bytes version digest generation outcomes → IsMade bytes version digest generation outcomes
+IsMade-from_checkpoint bytes version digest generation outcomes is =
     let m = codes "DISTCKPT" in
-    let v = to_be_bytes w32 1 in
+    let v = to_be_bytes w32 version in
     let g = to_be_bytes w32 generation in
     let c = to_be_bytes w32 (length outcomes) in
-    let o = flat_map outcome_bytes outcomes in
-    let body = checkpoint_body digest generation outcomes in
+    let o = flat_map (outcome_bytes version) outcomes in
+    let body = checkpoint_body version digest generation outcomes in
     let s = sha256 body in
-    let whole : bytes ≡ m ++ v ++ digest ++ g ++ c ++ o ++ s = is.spelled ∙ spelled digest generation outcomes in
-    let size : length bytes ≡ 84 + 44 * length outcomes = ap length is.spelled ∙ length-checkpoint digest generation outcomes is.digest_length is.each in
-    let front : length body ≡ length bytes - 32 = omega (arith, length-checkpoint_body digest generation outcomes is.digest_length is.each) in
+    let whole : bytes ≡ m ++ v ++ digest ++ g ++ c ++ o ++ s = is.spelled ∙ spelled version digest generation outcomes in
+    let size : length bytes ≡ 84 + outcome_size version * length outcomes = ap length is.spelled ∙ length-checkpoint version digest generation outcomes is.digest_length is.each in
+    let front : length body ≡ length bytes - 32 = omega (arith, length-checkpoint_body version digest generation outcomes is.digest_length is.each) in
     let to_digest : length (m ++ v ++ digest) ≡ 44 = length-append (m ++ v) digest ∙ ap (λ n. 12 + n) is.digest_length in
     let to_generation : length (m ++ v ++ digest ++ g) ≡ 48 = length-append (m ++ v ++ digest) g ∙ ap (λ n. n + 4) to_digest in
     let to_count : length (m ++ v ++ digest ++ g ++ c) ≡ 52 = length-append (m ++ v ++ digest ++ g) c ∙ ap (λ n. n + 4) to_generation in
+    let states : stated_version bytes ≡ version =
+    ap (number_at w32 8) (whole ∙ version_apart m v digest g c o s) ∙ reread_32 m (digest ++ g ++ c ++ o ++ s) version 8 (version_below version outcomes is.bins_held) refl in
     let counted : stated_count bytes ≡ length outcomes =
     ap (number_at w32 48) (whole ∙ count_apart m v digest g c o s) ∙ reread_32 (m ++ v ++ digest ++ g) (o ++ s) (length outcomes) 48 (omega (arith, is.few)) to_generation in
     let first_part : take (length bytes - 32) bytes ≡ body = ap (take (length bytes - 32)) whole ∙ take_at body s (length bytes - 32) front in
@@ -110,12 +110,13 @@ IsMade-from_checkpoint bytes digest generation outcomes is =
     record {
       size = size;
       magic = ap (take 8) (whole ∙ magic_apart m v digest g c o s) ∙ take_at m (v ++ digest ++ g ++ c ++ o ++ s) 8 refl;
-      version = ap (number_at w32 8) (whole ∙ version_apart m v digest g c o s) ∙ reread_32 m (digest ++ g ++ c ++ o ++ s) 1 8 (omega arith) refl;
       count = counted;
       stands = record {
+        version_at = states;
         digest_at = ap (λ (ys : List ℕ). slice_range ys 12 44) (whole ∙ digest_apart m v digest g c o s) ∙ part-mid (m ++ v) digest (g ++ c ++ o ++ s) 12 44 refl (ap (λ n. 12 + n) is.digest_length);
         generation_at = ap (number_at w32 44) (whole ∙ generation_apart m v digest g c o s) ∙ reread_32 (m ++ v ++ digest) (c ++ o ++ s) generation 44 (omega (arith, is.generation_below)) to_digest;
-        outcomes_at = ap (λ n. map_below n (λ k. outcome_at bytes (52 + 44 * k))) counted ∙ outcomes_reread bytes (m ++ v ++ digest ++ g ++ c) s outcomes (whole ∙ outcomes_apart m v digest g c o s) to_count is.each;
+        outcomes_at = ap (λ n. map_below n (outcome_in bytes)) counted
+            ∙ outcomes_reread bytes (m ++ v ++ digest ++ g ++ c) s version outcomes (whole ∙ outcomes_apart m v digest g c o s) to_count states is.bins_held is.each;
       };
       last = last_part ∙ ap sha256 (sym first_part);
     }
@@ -132,21 +133,25 @@ in_order bytes ids (suc k) rising many each l =
     subst (λ n. stated_id bytes n < stated_id bytes (suc k)) (sym before) (omega (arith, next, each k (omega arith), each (suc k) l)) in
     and_right (nat_lt 0 (suc k)) (nat_le (stated_id bytes (suc k)) (stated_id bytes (suc k - 1))) (lt-leb (stated_id bytes (suc k)) (stated_id bytes (suc k - 1)) above)
 
-pub none-from_checkpoint : (bytes digest : List ℕ) (generation : ℕ) (outcomes : List Outcome)
-    → IsCheckpoint bytes digest generation outcomes → checkpoint_fault bytes ≡ None
-none-from_checkpoint bytes digest generation outcomes is =
-    let made = IsMade-from_checkpoint bytes digest generation outcomes is in
+known : (stated version : ℕ) (outcomes : List Outcome) → stated ≡ version → HoldsBins version outcomes → (stated ≡ 1) ⊎ (stated ≡ 2)
+known stated version outcomes is (inl two) = inr (is ∙ two)
+known stated version outcomes is (inr (one, each)) = inl (is ∙ one)
+
+pub none-from_checkpoint : (bytes : List ℕ) (version : ℕ) (digest : List ℕ) (generation : ℕ) (outcomes : List Outcome)
+    → IsCheckpoint bytes version digest generation outcomes → checkpoint_fault bytes ≡ None
+none-from_checkpoint bytes version digest generation outcomes is =
+    let made = IsMade-from_checkpoint bytes version digest generation outcomes is in
     let id = λ (o : Outcome). o.id in
     let ids = map id (outcomes_in bytes) in
-    let many : length ids ≡ stated_count bytes = length-map (outcomes_in bytes) id ∙ length-map_below (stated_count bytes) (λ k. outcome_at bytes (52 + 44 * k)) in
+    let many : length ids ≡ stated_count bytes = length-map (outcomes_in bytes) id ∙ length-map_below (stated_count bytes) (outcome_in bytes) in
     let rising : AreRising ids = subst (λ (os : List Outcome). AreRising (map id os)) (sym made.stands.outcomes_at) is.rising in
     none-from_IsFaultless bytes (record {
       head = record {
         magic = made.magic;
-        version = made.version;
+        version = known (stated_version bytes) version outcomes made.stands.version_at is.bins_held;
         generation = subst (λ n. n < 3) (sym made.stands.generation_at) is.generation_below;
         few = subst (λ n. n ≤ 100000) (sym made.count) is.few;
-        size = made.size ∙ ap (λ n. 84 + 44 * n) (sym made.count);
+        size = made.size ∙ ap (λ n. 84 + outcome_size version * n) (sym made.count) ∙ ap (λ v. 84 + outcome_size v * stated_count bytes) (sym made.stands.version_at);
       };
       ordered = none_first_below (stated_count bytes) (is_unordered bytes) (λ place l. in_order bytes ids place rising many (id_in bytes) l);
       last = made.last;

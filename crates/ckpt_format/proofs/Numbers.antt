@@ -1,15 +1,34 @@
 -- Numbers and outcomes at places of some bytes.
-use Rattle.std.proofs.Common.{◌≡◌, ℕ, ℤ, ◌+◌, ◌<◌, ◌≤◌, ◌^◌, List, [], ◌∷◌, ◌++◌, length, refl, sym, ap, ◌∙◌, arith, append_assoc, append-nil, length-append}
-use Rattle.std.specs.Prelude.{slice_range, FitsSigned}
+use Rattle.std.proofs.Common.{◌≡◌, ℕ, ℤ, ◌+◌, ◌*◌, ◌<◌, ◌≤◌, ◌^◌, Bool, true, false, List, [], ◌∷◌, ◌++◌, length, get_or, refl, sym, ap, subst, ◌∙◌, arith, add-one, append_assoc, append-nil, length-append, lit≤, take, drop, ◌-◌}
+use Rattle.std.specs.Prelude.{slice_range, FitsSigned, ⊤}
 use Rattle.std.specs.List.{flat_map, AllByRecursion}
 use Rattle.std.specs.Int.{w32, w64, to_be_bytes, from_be_bytes, cast_unsigned, cast_signed}
 use Rattle.std.proofs.lemmas.Nat.{be_bytes_4, be_bytes_8, from_be_bytes-to_be_bytes_4, from_be_bytes-to_be_bytes_8}
 use Rattle.std.proofs.Math.Facts.{Fits-of_z, sfits_to_z}
 use Rattle.std.proofs.lemmas.Int.{of_z-to_z, to_z-of_z}
+use Rattle.std.proofs.lemmas.List.{same_lists}
+use Rattle.std.proofs.lemmas.List.Elements.{All-from_get_or, All-from_recursion, recursion_from_All}
+use Rattle.audit_model.specs.Below.{map_below}
 use Rattle.audit_model.specs.declared.outcome.Outcome.{Outcome}
-use Rattle.checkpoint_definitions.specs.Checkpoint.{IsOutcome, number_at, outcome_bytes}
-use Rattle.checkpoint_definitions.specs.Slots.{outcome_at}
+use Rattle.audit_model.specs.Trajectory.{no_bins}
+use Rattle.checkpoint_definitions.specs.Checkpoint.{IsOutcome, bin_bytes, number_at}
+use Rattle.checkpoint_definitions.specs.Slots.{bins_at}
+use Rattle.dual_graph.proofs.Rows.{length-map_below, get_or-map_below}
+use Rattle.ckpt_format.specs.Written.{bytes_by, size_by}
 use Rattle.ckpt_format.proofs.Cutting.{AreBytes, join-parts, length-part, part-bytes, part-mid}
+use Rattle.ckpt_format.proofs.Pieces.{piece_apart, pieces_joined}
+use Rattle.ckpt_format.proofs.Sizes.{few_bytes, length-even_pieces}
+
+-- the outcome whose bytes begin at a place, by whether its bins are written
+abbrev pub outcome_by : Bool → List ℕ → ℕ → Outcome
+outcome_by with_bins bytes at = record {
+  id = number_at w32 at bytes;
+  moved = number_at w64 (at + 4) bytes;
+  values =
+      cast_signed w64 (number_at w64 (at + 12) bytes) ∷ cast_signed w64 (number_at w64 (at + 20) bytes)
+      ∷ cast_signed w64 (number_at w64 (at + 28) bytes) ∷ cast_signed w64 (number_at w64 (at + 36) bytes) ∷ [];
+  bins = bins_at with_bins bytes (at + 44);
+}
 
 -- ---- bytes, read and written again
 
@@ -54,9 +73,20 @@ values_of_four : (f : ℤ → List ℕ) (v w x y : ℤ) (a b c d : List ℕ) →
     → flat_map f (v ∷ w ∷ x ∷ y ∷ []) ≡ a ++ (b ++ (c ++ (d ++ [])))
 values_of_four f v w x y a b c d p q r s = rw (p, q, r, s)
 
--- an outcome
-pub rewritten_outcome : (bytes : List ℕ) (a b : ℕ) → AreBytes bytes → a + 44 ≡ b → b ≤ length bytes → outcome_bytes (outcome_at bytes a) ≡ slice_range bytes a b
-rewritten_outcome bytes a b each e l =
+-- bins
+rewritten_bins : (with_bins : Bool) (bytes : List ℕ) (a b : ℕ) → AreBytes bytes → a + 44 ≡ b → a + size_by with_bins ≤ length bytes
+    → bin_bytes with_bins (bins_at with_bins bytes b) ≡ slice_range bytes b (a + size_by with_bins)
+rewritten_bins true bytes a b each e l =
+    let number = λ (k : ℕ). number_at w32 (b + 4 * k) bytes in
+    let joined = pieces_joined (to_be_bytes w32) number 4 b 9 bytes
+    (λ k m. rewritten_32 bytes (b + 4 * k) (b + 4 * (k + 1)) each (omega arith) (omega arith) ∙ ap (λ c. slice_range bytes (b + 4 * k) (b + 4 * c)) (add-one k)) (omega arith) in
+    joined ∙ ap (slice_range bytes b) (omega arith)
+rewritten_bins false bytes a b each e l = let none : 0 ≡ a + 44 - b = omega arith in ap (λ m. take m (drop b bytes)) none
+
+-- an outcome without its bins
+rewritten_bare : (bytes : List ℕ) (a b : ℕ) → AreBytes bytes → a + 44 ≡ b → b ≤ length bytes
+    → (let o = outcome_by false bytes a in to_be_bytes w32 o.id ++ to_be_bytes w64 o.moved ++ flat_map (λ v. to_be_bytes w64 (cast_unsigned w64 v)) o.values) ≡ slice_range bytes a b
+rewritten_bare bytes a b each e l =
     let value = λ (k : ℕ). cast_signed w64 (number_at w64 k bytes) in
     let spelled = λ (v : ℤ). to_be_bytes w64 (cast_unsigned w64 v) in
     let values : flat_map spelled (value (a + 12) ∷ value (a + 20) ∷ value (a + 28) ∷ value (a + 36) ∷ []) ≡ slice_range bytes (a + 12) b =
@@ -73,17 +103,43 @@ rewritten_outcome bytes a b each e l =
     joined : (x y z p q r : List ℕ) → x ≡ p → y ≡ q → z ≡ r → x ++ y ++ z ≡ p ++ q ++ r
     joined x y z p q r i m v = rw (i, m, v)
 
+-- an outcome
+pub rewritten_outcome : (with_bins : Bool) (bytes : List ℕ) (a b : ℕ) → AreBytes bytes → a + size_by with_bins ≡ b → b ≤ length bytes
+    → bytes_by with_bins (outcome_by with_bins bytes a) ≡ slice_range bytes a b
+rewritten_outcome with_bins bytes a b each e l =
+    let few = few_bytes with_bins in
+    let o = outcome_by with_bins bytes a in
+    let bins = bin_bytes with_bins o.bins in
+    ap (λ (ys : List ℕ). ys ++ bins) (rewritten_bare bytes a (a + 44) each refl (omega (arith, few.0)))
+    ∙ ap (λ (ys : List ℕ). slice_range bytes a (a + 44) ++ ys) (rewritten_bins with_bins bytes a (a + 44) each refl (omega arith))
+    ∙ join-parts bytes a (a + 44) (a + size_by with_bins) (omega arith) (omega (arith, few.0)) (omega arith)
+    ∙ ap (slice_range bytes a) e
+
 -- what its fields hold
-pub outcome_at-IsOutcome : (bytes : List ℕ) (a : ℕ) → AreBytes bytes → IsOutcome (outcome_at bytes a)
-outcome_at-IsOutcome bytes a each = record {
+pub outcome_by-IsOutcome : (with_bins : Bool) (bytes : List ℕ) (a : ℕ) → AreBytes bytes → IsOutcome (outcome_by with_bins bytes a)
+outcome_by-IsOutcome with_bins bytes a each = record {
   id = number_at-below_32 bytes a each;
   moved = number_at-below_64 bytes (a + 4) each;
   four = refl;
   values = (fits (a + 12), (fits (a + 20), (fits (a + 28), (fits (a + 36), tt))));
+  nine = nine with_bins;
+  bins = below with_bins;
 }
   where
     fits : (k : ℕ) → FitsSigned w64 (cast_signed w64 (number_at w64 k bytes))
     fits k = sfits_to_z {w = w64} {n = number_at w64 k bytes} (record { fits = number_at-below_64 bytes k each })
+
+    nine : (b : Bool) → length (bins_at b bytes (a + 44)) ≡ 9
+    nine true = refl
+    nine false = refl
+
+    below : (b : Bool) → AllByRecursion (λ n. n < 2 ^ 32) (bins_at b bytes (a + 44))
+    below true =
+        let number = λ (i : ℕ). number_at w32 (a + 44 + 4 * i) bytes in
+        let each_below : (k : ℕ) → k < 9 → get_or (map_below 9 number) k 0 < 2 ^ 32 =
+        λ k l. subst (λ n. n < 2 ^ 32) (sym (get_or-map_below 9 number k 0 l)) (number_at-below_32 bytes (a + 44 + 4 * k) each) in
+        recursion_from_All (λ n. n < 2 ^ 32) (map_below 9 number) (All-from_get_or (λ n. n < 2 ^ 32) (map_below 9 number) 0 each_below)
+    below false = (lit≤ tt, (lit≤ tt, (lit≤ tt, (lit≤ tt, (lit≤ tt, (lit≤ tt, (lit≤ tt, (lit≤ tt, (lit≤ tt, tt)))))))))
 
 -- ---- numbers, written and read again
 
@@ -145,29 +201,64 @@ reread_values p q (v ∷ w ∷ x ∷ y ∷ []) a b c d four fits e f g h =
     four_same : (a b c d v w x y : ℤ) → a ≡ v → b ≡ w → c ≡ x → d ≡ y → a ∷ b ∷ c ∷ d ∷ [] ≡ v ∷ w ∷ x ∷ y ∷ []
     four_same a b c d v w x y i j k l = rw (i, j, k, l)
 
+-- numbers
+reread_numbers : (p q ns : List ℕ) (a : ℕ) → AllByRecursion (λ n. n < 2 ^ 32) ns → length p ≡ a
+    → map_below (length ns) (λ k. number_at w32 (a + 4 * k) (p ++ (flat_map (to_be_bytes w32) ns ++ q))) ≡ ns
+reread_numbers p q ns a each e =
+    let number = λ (k : ℕ). number_at w32 (a + 4 * k) (p ++ (flat_map (to_be_bytes w32) ns ++ q)) in
+    let many = length-map_below (length ns) number in
+    same_lists (map_below (length ns) number) ns many (λ k d l.
+    let inside : k < length ns = omega (arith, many) in
+    let apart = piece_apart (to_be_bytes w32) 4 p q ns a k d (all_four ns) e inside in
+    get_or-map_below (length ns) number k d inside
+    ∙ ap (number_at w32 (a + 4 * k)) apart.spelled
+    ∙ reread_32 apart.front apart.back (get_or ns k d) (a + 4 * k) (All-from_recursion (λ n. n < 2 ^ 32) ns each k d inside) apart.size)
+  where
+    all_four : (ns : List ℕ) → AllByRecursion (λ n. length (to_be_bytes w32 n) ≡ 4) ns
+    all_four [] = tt
+    all_four (n ∷ ns) = (refl, all_four ns)
+
+-- bins that are not written are 0
+abbrev pub AreHeld : Bool → List ℕ → Type 0
+AreHeld true bins = ⊤
+AreHeld false bins = bins ≡ no_bins
+
+reread_bins : (with_bins : Bool) (p q bins : List ℕ) (a : ℕ) → length bins ≡ 9 → AllByRecursion (λ n. n < 2 ^ 32) bins → AreHeld with_bins bins → length p ≡ a
+    → bins_at with_bins (p ++ (bin_bytes with_bins bins ++ q)) a ≡ bins
+reread_bins true p q bins a nine each held e =
+    ap (λ n. map_below n (λ k. number_at w32 (a + 4 * k) (p ++ (flat_map (to_be_bytes w32) bins ++ q)))) (sym nine) ∙ reread_numbers p q bins a each e
+reread_bins false p q bins a nine each held e = sym held
+
 -- an outcome
-outcome_apart : (p i m v q : List ℕ) → p ++ (i ++ m ++ v ++ q) ≡ p ++ (i ++ (m ++ (v ++ q)))
-outcome_apart p i m v q = simp append_assoc
+outcome_apart : (p i m v b q : List ℕ) → p ++ (i ++ m ++ v ++ b ++ q) ≡ p ++ (i ++ (m ++ (v ++ (b ++ q))))
+outcome_apart p i m v b q = simp append_assoc
 
-moved_apart : (p i m v q : List ℕ) → p ++ (i ++ m ++ v ++ q) ≡ (p ++ i) ++ (m ++ (v ++ q))
-moved_apart p i m v q = simp append_assoc
+moved_apart : (p i m v b q : List ℕ) → p ++ (i ++ m ++ v ++ b ++ q) ≡ (p ++ i) ++ (m ++ (v ++ (b ++ q)))
+moved_apart p i m v b q = simp append_assoc
 
-values_apart : (p i m v q : List ℕ) → p ++ (i ++ m ++ v ++ q) ≡ (p ++ i ++ m) ++ (v ++ q)
-values_apart p i m v q = simp append_assoc
+values_apart : (p i m v b q : List ℕ) → p ++ (i ++ m ++ v ++ b ++ q) ≡ (p ++ i ++ m) ++ (v ++ (b ++ q))
+values_apart p i m v b q = simp append_assoc
 
-same_outcome : (i j m n : ℕ) (v w : List ℤ) → i ≡ j → m ≡ n → v ≡ w
-    → let left : Outcome = record { id = i; moved = m; values = v } in let right : Outcome = record { id = j; moved = n; values = w } in left ≡ right
-same_outcome i j m n v w e f g = rw (e, f, g)
+bins_apart : (p i m v b q : List ℕ) → p ++ (i ++ m ++ v ++ b ++ q) ≡ (p ++ i ++ m ++ v) ++ (b ++ q)
+bins_apart p i m v b q = simp append_assoc
 
-pub reread_outcome : (p q : List ℕ) (o : Outcome) (a : ℕ) → IsOutcome o → length p ≡ a → outcome_at (p ++ (outcome_bytes o ++ q)) a ≡ o
-reread_outcome p q o a is e =
+same_outcome : (i j m n : ℕ) (v w : List ℤ) (b c : List ℕ) → i ≡ j → m ≡ n → v ≡ w → b ≡ c
+    → let left : Outcome = record { id = i; moved = m; values = v; bins = b } in let right : Outcome = record { id = j; moved = n; values = w; bins = c } in left ≡ right
+same_outcome i j m n v w b c e f g h = rw (e, f, g, h)
+
+pub reread_outcome : (with_bins : Bool) (p q : List ℕ) (o : Outcome) (a : ℕ) → IsOutcome o → AreHeld with_bins o.bins → length p ≡ a
+    → outcome_by with_bins (p ++ (bytes_by with_bins o ++ q)) a ≡ o
+reread_outcome with_bins p q o a is held e =
     let i = to_be_bytes w32 o.id in
     let m = to_be_bytes w64 o.moved in
     let v = flat_map spelled o.values in
+    let b = bin_bytes with_bins o.bins in
     let four : length (p ++ i) ≡ a + 4 = length-append p i ∙ ap (λ n. n + 4) e in
     let twelve : length (p ++ i ++ m) ≡ a + 12 = length-append (p ++ i) m ∙ ap (λ n. n + 8) four ∙ omega arith in
-    let id = ap (number_at w32 a) (outcome_apart p i m v q) ∙ reread_32 p (m ++ (v ++ q)) o.id a is.id e in
-    let moved = ap (number_at w64 (a + 4)) (moved_apart p i m v q) ∙ reread_64 (p ++ i) (v ++ q) o.moved (a + 4) is.moved four in
-    let values = ap (λ (bytes : List ℕ). value_at (a + 12) bytes ∷ value_at (a + 20) bytes ∷ value_at (a + 28) bytes ∷ value_at (a + 36) bytes ∷ []) (values_apart p i m v q)
-    ∙ reread_values (p ++ i ++ m) q o.values (a + 12) (a + 20) (a + 28) (a + 36) is.four is.values twelve (omega arith) (omega arith) (omega arith) in
-    same_outcome _ _ _ _ _ _ id moved values
+    let all : length (p ++ i ++ m ++ v) ≡ a + 44 = omega (arith, length-append (p ++ i ++ m) v, twelve, length-even_pieces spelled 8 o.values (λ n. refl), is.four) in
+    let id = ap (number_at w32 a) (outcome_apart p i m v b q) ∙ reread_32 p (m ++ (v ++ (b ++ q))) o.id a is.id e in
+    let moved = ap (number_at w64 (a + 4)) (moved_apart p i m v b q) ∙ reread_64 (p ++ i) (v ++ (b ++ q)) o.moved (a + 4) is.moved four in
+    let values = ap (λ (bytes : List ℕ). value_at (a + 12) bytes ∷ value_at (a + 20) bytes ∷ value_at (a + 28) bytes ∷ value_at (a + 36) bytes ∷ []) (values_apart p i m v b q)
+    ∙ reread_values (p ++ i ++ m) (b ++ q) o.values (a + 12) (a + 20) (a + 28) (a + 36) is.four is.values twelve (omega arith) (omega arith) (omega arith) in
+    let bins = ap (λ (bytes : List ℕ). bins_at with_bins bytes (a + 44)) (bins_apart p i m v b q) ∙ reread_bins with_bins (p ++ i ++ m ++ v) q o.bins (a + 44) is.nine is.bins held all in
+    same_outcome _ _ _ _ _ _ _ _ id moved values bins

@@ -1,5 +1,5 @@
 -- How many bytes the parts of a checkpoint have.
-use Rattle.std.proofs.Common.{◌≡◌, ℕ, ◌+◌, ◌*◌, ◌<◌, ◌≤◌, List, [], ◌∷◌, ◌++◌, length, take, ap, refl, arith, length-append, ◌∙◌}
+use Rattle.std.proofs.Common.{◌≡◌, ℕ, ◌+◌, ◌*◌, ◌<◌, ◌≤◌, Bool, true, false, List, [], ◌∷◌, ◌++◌, length, take, ap, refl, arith, length-append, ◌∙◌}
 use Rattle.std.proofs.lemmas.List.{length-take-le}
 use Rattle.std.proofs.Math.Nat.{mul-le-mul_left, mul-add}
 use Rattle.std.specs.List.{flat_map, AllByRecursion}
@@ -8,8 +8,8 @@ use Rattle.sha2.specs.Sha256.{sha256}
 use Rattle.sha2.proofs.Facts256.{length-sha256}
 use Rattle.audit_model.specs.Room.{RoomyBytes}
 use Rattle.audit_model.specs.declared.outcome.Outcome.{Outcome}
-use Rattle.checkpoint_definitions.specs.Checkpoint.{IsOutcome, checkpoint, checkpoint_body, outcome_bytes}
-use Rattle.ckpt_format.specs.Written.{Appends, head_bytes}
+use Rattle.checkpoint_definitions.specs.Checkpoint.{IsOutcome, bin_bytes, checkpoint, checkpoint_body, has_bins, outcome_bytes, outcome_size}
+use Rattle.ckpt_format.specs.Written.{Appends, bytes_by, head_bytes, size_by}
 
 -- pieces of one length
 pub length-pieces : {X : Type 0} (f : X → List ℕ) (n : ℕ) (xs : List X) → AllByRecursion (λ x. length (f x) ≡ n) xs → length (flat_map f xs) ≡ n * length xs
@@ -36,40 +36,60 @@ room_for_next f n xs i a b l even room done =
     let next : n * (i + 1) ≤ n * length xs = mul-le-mul_left n (omega arith) in
     omega (arith, used, next, mul-add n i 1, done.spare)
 
--- an outcome
-pub length-outcome_bytes : (o : Outcome) → length o.values ≡ 4 → length (outcome_bytes o) ≡ 44
-length-outcome_bytes o four =
+-- an outcome without its bins, and its bins
+pub length-bare_bytes : (o : Outcome) → length o.values ≡ 4
+    → length (to_be_bytes w32 o.id ++ to_be_bytes w64 o.moved ++ flat_map (λ v. to_be_bytes w64 (cast_unsigned w64 v)) o.values) ≡ 44
+length-bare_bytes o four =
     let values = length-even_pieces (λ v. to_be_bytes w64 (cast_unsigned w64 v)) 8 o.values (λ v. refl) in
     let head : length (to_be_bytes w32 o.id ++ to_be_bytes w64 o.moved) ≡ 12 = refl in
     omega (arith, four, values, head, length-append (to_be_bytes w32 o.id ++ to_be_bytes w64 o.moved) (flat_map (λ v. to_be_bytes w64 (cast_unsigned w64 v)) o.values))
 
+length-bin_bytes : (with_bins : Bool) (bins : List ℕ) → length bins ≡ 9 → 44 + length (bin_bytes with_bins bins) ≡ size_by with_bins
+length-bin_bytes true bins nine = let numbers = length-even_pieces (to_be_bytes w32) 4 bins (λ n. refl) in omega (arith, nine, numbers)
+length-bin_bytes false bins nine = refl
+
+-- an outcome
+pub length-bytes_by : (with_bins : Bool) (o : Outcome) → IsOutcome o → length (bytes_by with_bins o) ≡ size_by with_bins
+length-bytes_by with_bins o is =
+    let bare = length-bare_bytes o is.four in
+    let bins = length-bin_bytes with_bins o.bins is.nine in
+    omega (arith, bare, bins, length-append (to_be_bytes w32 o.id ++ to_be_bytes w64 o.moved ++ flat_map (λ v. to_be_bytes w64 (cast_unsigned w64 v)) o.values) (bin_bytes with_bins o.bins))
+
+-- from 44 to 80 bytes
+pub few_bytes : (with_bins : Bool) → (44 ≤ size_by with_bins) × (size_by with_bins ≤ 80)
+few_bytes true = (omega arith, omega arith)
+few_bytes false = (omega arith, omega arith)
+
+-- each of some outcomes
+pub each_sized : (with_bins : Bool) (outcomes : List Outcome) → AllByRecursion IsOutcome outcomes → AllByRecursion (λ o. length (bytes_by with_bins o) ≡ size_by with_bins) outcomes
+each_sized with_bins [] each = tt
+each_sized with_bins (o ∷ os) each = (length-bytes_by with_bins o each.0, each_sized with_bins os each.1)
+
 -- outcomes
-pub length-outcomes : (outcomes : List Outcome) → AllByRecursion IsOutcome outcomes → length (flat_map outcome_bytes outcomes) ≡ 44 * length outcomes
-length-outcomes [] each = refl
-length-outcomes (o ∷ os) each =
-    let rest = length-outcomes os each.1 in
-    let one = length-outcome_bytes o each.0.four in
-    omega (arith, rest, one, length-append (outcome_bytes o) (flat_map outcome_bytes os))
+pub length-outcomes : (version : ℕ) (outcomes : List Outcome) → AllByRecursion IsOutcome outcomes
+    → length (flat_map (outcome_bytes version) outcomes) ≡ outcome_size version * length outcomes
+length-outcomes version outcomes each =
+    length-pieces (outcome_bytes version) (outcome_size version) outcomes (each_sized (has_bins version) outcomes each)
 
 -- what stands before the outcomes
-pub length-head_bytes : (digest : List ℕ) (generation count : ℕ) → length digest ≡ 32 → length (head_bytes digest generation count) ≡ 52
-length-head_bytes digest generation count wide =
+pub length-head_bytes : (version : ℕ) (digest : List ℕ) (generation count : ℕ) → length digest ≡ 32 → length (head_bytes version digest generation count) ≡ 52
+length-head_bytes version digest generation count wide =
     let first : length (digest ++ to_be_bytes w32 generation) ≡ 36 = length-append digest (to_be_bytes w32 generation) ∙ ap (λ n. n + 4) wide in
     let both : length (digest ++ to_be_bytes w32 generation ++ to_be_bytes w32 count) ≡ 40 =
     length-append (digest ++ to_be_bytes w32 generation) (to_be_bytes w32 count) ∙ ap (λ n. n + 4) first in
     omega (arith, both)
 
 -- a checkpoint
-pub length-checkpoint_body : (digest : List ℕ) (generation : ℕ) (outcomes : List Outcome) → length digest ≡ 32 → AllByRecursion IsOutcome outcomes
-    → length (checkpoint_body digest generation outcomes) ≡ 52 + 44 * length outcomes
-length-checkpoint_body digest generation outcomes wide each =
-    let whole = length-append (head_bytes digest generation (length outcomes)) (flat_map outcome_bytes outcomes) in
-    omega (arith, whole, length-head_bytes digest generation (length outcomes) wide, length-outcomes outcomes each)
+pub length-checkpoint_body : (version : ℕ) (digest : List ℕ) (generation : ℕ) (outcomes : List Outcome) → length digest ≡ 32 → AllByRecursion IsOutcome outcomes
+    → length (checkpoint_body version digest generation outcomes) ≡ 52 + outcome_size version * length outcomes
+length-checkpoint_body version digest generation outcomes wide each =
+    let whole = length-append (head_bytes version digest generation (length outcomes)) (flat_map (outcome_bytes version) outcomes) in
+    omega (arith, whole, length-head_bytes version digest generation (length outcomes) wide, length-outcomes version outcomes each)
 
-pub length-checkpoint : (digest : List ℕ) (generation : ℕ) (outcomes : List Outcome) → length digest ≡ 32 → AllByRecursion IsOutcome outcomes
-    → length (checkpoint digest generation outcomes) ≡ 84 + 44 * length outcomes
+pub length-checkpoint : (version : ℕ) (digest : List ℕ) (generation : ℕ) (outcomes : List Outcome) → length digest ≡ 32 → AllByRecursion IsOutcome outcomes
+    → length (checkpoint version digest generation outcomes) ≡ 84 + outcome_size version * length outcomes
 unfolding checkpoint
-length-checkpoint digest generation outcomes wide each =
-    let body = checkpoint_body digest generation outcomes in
+length-checkpoint version digest generation outcomes wide each =
+    let body = checkpoint_body version digest generation outcomes in
     let whole = length-append body (sha256 body) in
-    omega (arith, whole, length-checkpoint_body digest generation outcomes wide each, length-sha256 body)
+    omega (arith, whole, length-checkpoint_body version digest generation outcomes wide each, length-sha256 body)

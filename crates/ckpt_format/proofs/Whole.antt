@@ -1,25 +1,27 @@
 -- Bytes without a fault are a checkpoint, and a checkpoint gives back what was written.
-use Rattle.std.proofs.Common.{◌≡◌, ℕ, zero, suc, ◌+◌, ◌-◌, ◌*◌, ◌<◌, ◌≤◌, false, List, [], ◌∷◌, ◌++◌, length, get_or, take, drop, map, codes, None, refl, sym, ap, subst, inl, inr, ◌∙◌, arith, append-nil}
+use Rattle.std.proofs.Common.{◌≡◌, ℕ, zero, suc, ◌+◌, ◌-◌, ◌*◌, ◌<◌, ◌≤◌, ◌⊎◌, false, List, [], ◌∷◌, ◌++◌, length, get_or, take, drop, map, codes, None, refl, sym, ap, subst, inl, inr, ◌∙◌, arith}
 use Rattle.std.specs.Prelude.{slice_range, nat_lt, nat_le}
 use Rattle.std.specs.List.{flat_map, AllByRecursion}
 use Rattle.std.specs.Int.{w32, to_be_bytes}
 use Rattle.std.proofs.lemmas.Bool.{and_cases, lt-ltb, leb-false, false≢true}
 use Rattle.std.proofs.lemmas.List.{take-append-drop, get_or-map, length-map}
-use Rattle.std.proofs.lemmas.List.Concat.{flat_map-append}
 use Rattle.std.proofs.lemmas.List.Elements.{All-from_get_or, recursion_from_All}
 use Rattle.std.proofs.lemmas.Slice.{between_from_start}
+use Rattle.std.proofs.Math.Nat.{mul-le-mul_left}
 use Rattle.sha2.specs.Sha256.{sha256}
 use Rattle.audit_model.specs.Below.{map_below}
 use Rattle.audit_model.specs.First.{first_below}
 use Rattle.audit_model.specs.declared.outcome.Outcome.{Outcome}
-use Rattle.checkpoint_definitions.specs.Checkpoint.{AreRising, IsCheckpoint, IsOutcome, checkpoint, checkpoint_body, number_at, outcome_bytes, stated_count, stated_id}
-use Rattle.checkpoint_definitions.specs.Slots.{outcome_at, outcomes_in}
+use Rattle.audit_model.specs.Trajectory.{no_bins}
+use Rattle.checkpoint_definitions.specs.Checkpoint.{AreRising, HoldsBins, IsCheckpoint, IsOutcome, checkpoint, checkpoint_body, has_bins, number_at, outcome_bytes, outcome_size, outcome_start, stated_count, stated_id, stated_version}
+use Rattle.checkpoint_definitions.specs.Slots.{bins_at, outcome_in, outcomes_in}
 use Rattle.dual_graph.proofs.Rows.{length-map_below, get_or-map_below}
 use Rattle.plan_core.proofs.Firsts.{first_below_none}
 use Rattle.ckpt_format.specs.Faults.{is_unordered}
 use Rattle.ckpt_format.proofs.Cutting.{AreBytes, join-parts, part-bytes, length-part}
 use Rattle.ckpt_format.proofs.Faulting.{HasHead}
-use Rattle.ckpt_format.proofs.Numbers.{outcome_at-IsOutcome, rewritten_32, rewritten_outcome}
+use Rattle.ckpt_format.proofs.Numbers.{outcome_by-IsOutcome, rewritten_32, rewritten_outcome}
+use Rattle.ckpt_format.proofs.Pieces.{pieces_joined}
 
 -- ---- ids that rise
 
@@ -37,17 +39,14 @@ rising_at (x ∷ y ∷ rest) (suc k) rising l = rising_at (y ∷ rest) k rising.
 -- ---- from bytes
 
 -- the outcomes
-outcomes_rewritten : (bytes : List ℕ) (count : ℕ) → AreBytes bytes → 52 + 44 * count ≤ length bytes
-    → flat_map outcome_bytes (map_below count (λ k. outcome_at bytes (52 + 44 * k))) ≡ slice_range bytes 52 (52 + 44 * count)
-outcomes_rewritten bytes zero each l = refl
-outcomes_rewritten bytes (suc n) each l =
-    let outcome = λ (k : ℕ). outcome_at bytes (52 + 44 * k) in
-    let before = outcomes_rewritten bytes n each (omega arith) in
-    let last : outcome_bytes (outcome n) ≡ slice_range bytes (52 + 44 * n) (52 + 44 * suc n) = rewritten_outcome bytes (52 + 44 * n) (52 + 44 * suc n) each (omega arith) l in
-    flat_map-append outcome_bytes (map_below n outcome) (outcome n ∷ [])
-    ∙ ap (λ (ys : List ℕ). flat_map outcome_bytes (map_below n outcome) ++ ys) (append-nil (outcome_bytes (outcome n)) ∙ last)
-    ∙ ap (λ (ys : List ℕ). ys ++ slice_range bytes (52 + 44 * n) (52 + 44 * suc n)) before
-    ∙ join-parts bytes 52 (52 + 44 * n) (52 + 44 * suc n) (omega arith) (omega arith) l
+outcomes_rewritten : (bytes : List ℕ) (count : ℕ) → AreBytes bytes → outcome_start bytes count ≤ length bytes
+    → flat_map (outcome_bytes (stated_version bytes)) (map_below count (outcome_in bytes)) ≡ slice_range bytes 52 (outcome_start bytes count)
+outcomes_rewritten bytes count each l =
+    let version = stated_version bytes in
+    let size = outcome_size version in
+    pieces_joined (outcome_bytes version) (outcome_in bytes) size 52 count bytes (λ k m.
+    let next : size * suc k ≤ size * count = mul-le-mul_left size m in
+    rewritten_outcome (has_bins version) bytes (52 + size * k) (52 + size * suc k) each (omega arith) (omega (arith, next))) l
 
 -- six parts in a row
 join_six : (xs m v d g c o : List ℕ) (end : ℕ) → 52 ≤ end → end ≤ length xs → m ≡ slice_range xs 0 8 → v ≡ slice_range xs 8 12 → d ≡ slice_range xs 12 44
@@ -64,24 +63,24 @@ join_six xs m v d g c o end low high em ev ed eg ec eo =
 
 -- all but the digest at the end
 body_rewritten : (bytes : List ℕ) → AreBytes bytes → HasHead bytes
-    → checkpoint_body (slice_range bytes 12 44) (number_at w32 44 bytes) (outcomes_in bytes) ≡ take (52 + 44 * stated_count bytes) bytes
+    → checkpoint_body (stated_version bytes) (slice_range bytes 12 44) (number_at w32 44 bytes) (outcomes_in bytes) ≡ take (outcome_start bytes (stated_count bytes)) bytes
 body_rewritten bytes each head =
     let size = head.size in
-    let count = length-map_below (stated_count bytes) (λ k. outcome_at bytes (52 + 44 * k)) in
-    let version : to_be_bytes w32 1 ≡ slice_range bytes 8 12 = ap (to_be_bytes w32) (sym head.version) ∙ rewritten_32 bytes 8 12 each refl (omega arith) in
+    let count = length-map_below (stated_count bytes) (outcome_in bytes) in
+    let version : to_be_bytes w32 (stated_version bytes) ≡ slice_range bytes 8 12 = rewritten_32 bytes 8 12 each refl (omega arith) in
     let generation : to_be_bytes w32 (number_at w32 44 bytes) ≡ slice_range bytes 44 48 = rewritten_32 bytes 44 48 each refl (omega arith) in
     let counted : to_be_bytes w32 (length (outcomes_in bytes)) ≡ slice_range bytes 48 52 = ap (to_be_bytes w32) count ∙ rewritten_32 bytes 48 52 each refl (omega arith) in
     let outcomes = outcomes_rewritten bytes (stated_count bytes) each (omega arith) in
-    join_six bytes (codes "DISTCKPT") (to_be_bytes w32 1) (slice_range bytes 12 44) (to_be_bytes w32 (number_at w32 44 bytes)) (to_be_bytes w32 (length (outcomes_in bytes)))
-    (flat_map outcome_bytes (outcomes_in bytes)) (52 + 44 * stated_count bytes) (omega arith) (omega arith) (sym head.magic) version refl generation counted outcomes
+    join_six bytes (codes "DISTCKPT") (to_be_bytes w32 (stated_version bytes)) (slice_range bytes 12 44) (to_be_bytes w32 (number_at w32 44 bytes)) (to_be_bytes w32 (length (outcomes_in bytes)))
+    (flat_map (outcome_bytes (stated_version bytes)) (outcomes_in bytes)) (outcome_start bytes (stated_count bytes)) (omega arith) (omega arith) (sym head.magic) version refl generation counted outcomes
 
 rewritten : (bytes : List ℕ) → AreBytes bytes → HasHead bytes → drop (length bytes - 32) bytes ≡ sha256 (take (length bytes - 32) bytes)
-    → bytes ≡ checkpoint (slice_range bytes 12 44) (number_at w32 44 bytes) (outcomes_in bytes)
+    → bytes ≡ checkpoint (stated_version bytes) (slice_range bytes 12 44) (number_at w32 44 bytes) (outcomes_in bytes)
 unfolding checkpoint
 rewritten bytes each head last =
     let size = head.size in
-    let end : length bytes - 32 ≡ 52 + 44 * stated_count bytes = omega arith in
-    let body : take (length bytes - 32) bytes ≡ checkpoint_body (slice_range bytes 12 44) (number_at w32 44 bytes) (outcomes_in bytes) =
+    let end : length bytes - 32 ≡ outcome_start bytes (stated_count bytes) = omega arith in
+    let body : take (length bytes - 32) bytes ≡ checkpoint_body (stated_version bytes) (slice_range bytes 12 44) (number_at w32 44 bytes) (outcomes_in bytes) =
     ap (λ n. take n bytes) end ∙ sym (body_rewritten bytes each head) in
     sym (take-append-drop (length bytes - 32) bytes)
     ∙ ap (λ (ys : List ℕ). take (length bytes - 32) bytes ++ ys) last
@@ -91,7 +90,7 @@ rewritten bytes each head last =
 pub id_in : (bytes : List ℕ) (k : ℕ) → k < stated_count bytes → get_or (map (λ o. o.id) (outcomes_in bytes)) k 0 ≡ stated_id bytes k
 id_in bytes k l =
     let id = λ (o : Outcome). o.id in
-    let outcome = λ (i : ℕ). outcome_at bytes (52 + 44 * i) in
+    let outcome = outcome_in bytes in
     get_or-map id (outcomes_in bytes) k (outcome 0) 0 (omega (arith, length-map_below (stated_count bytes) outcome))
     ∙ ap id (get_or-map_below (stated_count bytes) outcome k (outcome 0) l)
 
@@ -101,7 +100,7 @@ ids_rise bytes none =
     let count = stated_count bytes in
     let id = λ (o : Outcome). o.id in
     let outcomes = outcomes_in bytes in
-    let many : length (map id outcomes) ≡ count = length-map outcomes id ∙ length-map_below count (λ k. outcome_at bytes (52 + 44 * k)) in
+    let many : length (map id outcomes) ≡ count = length-map outcomes id ∙ length-map_below count (outcome_in bytes) in
     rising_from_places (map id outcomes) (λ k l.
     let inside : suc k < count = omega arith in
     let passes = first_below_none count (is_unordered bytes) (suc k) none inside in
@@ -120,17 +119,32 @@ ids_rise bytes none =
 -- each outcome that is read is one
 outcomes_in-IsOutcome : (bytes : List ℕ) → AreBytes bytes → AllByRecursion IsOutcome (outcomes_in bytes)
 outcomes_in-IsOutcome bytes each =
-    let outcome = λ (k : ℕ). outcome_at bytes (52 + 44 * k) in
+    let outcome = outcome_in bytes in
     recursion_from_All IsOutcome (outcomes_in bytes) (All-from_get_or IsOutcome (outcomes_in bytes) (outcome 0) (λ k l.
-    subst IsOutcome (sym (get_or-map_below (stated_count bytes) outcome k (outcome 0) (omega (arith, length-map_below (stated_count bytes) outcome)))) (outcome_at-IsOutcome bytes (52 + 44 * k) each)))
+    subst IsOutcome (sym (get_or-map_below (stated_count bytes) outcome k (outcome 0) (omega (arith, length-map_below (stated_count bytes) outcome))))
+    (outcome_by-IsOutcome (has_bins (stated_version bytes)) bytes (outcome_start bytes k) each)))
+
+-- in the first version no bins are read
+outcomes_in-bare : (bytes : List ℕ) → stated_version bytes ≡ 1 → AllByRecursion (λ o. o.bins ≡ no_bins) (outcomes_in bytes)
+outcomes_in-bare bytes one =
+    let outcome = outcome_in bytes in
+    let count = stated_count bytes in
+    recursion_from_All (λ o. o.bins ≡ no_bins) (outcomes_in bytes) (All-from_get_or (λ o. o.bins ≡ no_bins) (outcomes_in bytes) (outcome 0) (λ k l.
+    ap (λ (o : Outcome). o.bins) (get_or-map_below count outcome k (outcome 0) (omega (arith, length-map_below count outcome)))
+    ∙ ap (λ v. bins_at (has_bins v) bytes (outcome_start bytes k + 44)) one))
+
+bins_held : (bytes : List ℕ) → (stated_version bytes ≡ 1) ⊎ (stated_version bytes ≡ 2) → HoldsBins (stated_version bytes) (outcomes_in bytes)
+bins_held bytes (inl one) = inr (one, outcomes_in-bare bytes one)
+bins_held bytes (inr two) = inl two
 
 -- what is read of bytes without a fault
 pub read_as_checkpoint : (bytes : List ℕ) → AreBytes bytes → HasHead bytes → first_below (stated_count bytes) (is_unordered bytes) ≡ None
     → drop (length bytes - 32) bytes ≡ sha256 (take (length bytes - 32) bytes)
-    → IsCheckpoint bytes (slice_range bytes 12 44) (number_at w32 44 bytes) (outcomes_in bytes)
+    → IsCheckpoint bytes (stated_version bytes) (slice_range bytes 12 44) (number_at w32 44 bytes) (outcomes_in bytes)
 read_as_checkpoint bytes each head ordered last =
     let size = head.size in
-    let many = length-map_below (stated_count bytes) (λ k. outcome_at bytes (52 + 44 * k)) in record {
+    let many = length-map_below (stated_count bytes) (outcome_in bytes) in record {
+      bins_held = bins_held bytes head.version;
       digest_length = length-part bytes 12 44 (omega arith) (omega arith);
       digest_bytes = recursion_from_All (λ b. b < 256) (slice_range bytes 12 44) (All-from_get_or (λ b. b < 256) (slice_range bytes 12 44) 0 (λ k l. part-bytes bytes 12 44 each k));
       generation_below = head.generation;

@@ -1,17 +1,37 @@
 -- A checkpoint that is written part by part.
-use Rattle.std.proofs.Common.{◌≡◌, ℕ, List, [], ◌++◌, length, ap, ◌∙◌}
-use Rattle.std.specs.List.{flat_map}
+use Rattle.std.proofs.Common.{◌≡◌, ℕ, true, List, [], ◌∷◌, ◌++◌, length, refl, ap, ap₂, ◌∙◌}
+use Rattle.std.specs.Prelude.{◌==◌, IsTrue, replicate}
+use Rattle.std.specs.List.{flat_map, list_all, AllByRecursion}
+use Rattle.std.proofs.lemmas.Bool.{and_parts, eqb-true}
 use Rattle.sha2.specs.Sha256.{sha256}
 use Rattle.audit_model.specs.Room.{RoomyBytes}
 use Rattle.audit_model.specs.declared.outcome.Outcome.{Outcome}
-use Rattle.checkpoint_definitions.specs.Checkpoint.{checkpoint, checkpoint_body, outcome_bytes}
+use Rattle.audit_model.specs.Run.{is_bare}
+use Rattle.audit_model.specs.Trajectory.{no_bins}
+use Rattle.checkpoint_definitions.specs.Checkpoint.{IsOutcome, checkpoint, checkpoint_body, outcome_bytes}
 use Rattle.ckpt_format.specs.Written.{Appends, head_bytes}
 
-pub written : (start a b c : RoomyBytes) (digest : List ℕ) (generation : ℕ) (outcomes : List Outcome) → start.items ≡ []
-    → Appends start a (head_bytes digest generation (length outcomes)) → Appends a b (flat_map outcome_bytes outcomes) → Appends b c (sha256 b.items)
-    → c.items ≡ checkpoint digest generation outcomes
+pub written : (start a b c : RoomyBytes) (version : ℕ) (digest : List ℕ) (generation : ℕ) (outcomes : List Outcome) → start.items ≡ []
+    → Appends start a (head_bytes version digest generation (length outcomes)) → Appends a b (flat_map (outcome_bytes version) outcomes)
+    → Appends b c (sha256 b.items) → c.items ≡ checkpoint version digest generation outcomes
 unfolding checkpoint
-written start a b c digest generation outcomes empty head rest last =
-    let front : a.items ≡ head_bytes digest generation (length outcomes) = head.items ∙ ap (λ (xs : List ℕ). xs ++ head_bytes digest generation (length outcomes)) empty in
-    let body : b.items ≡ checkpoint_body digest generation outcomes = rest.items ∙ ap (λ (xs : List ℕ). xs ++ flat_map outcome_bytes outcomes) front in
+written start a b c version digest generation outcomes empty head rest last =
+    let front : a.items ≡ head_bytes version digest generation (length outcomes) =
+    head.items ∙ ap (λ (xs : List ℕ). xs ++ head_bytes version digest generation (length outcomes)) empty in
+    let body : b.items ≡ checkpoint_body version digest generation outcomes =
+    rest.items ∙ ap (λ (xs : List ℕ). xs ++ flat_map (outcome_bytes version) outcomes) front in
     last.items ∙ ap (λ (xs : List ℕ). xs ++ sha256 xs) body
+
+-- numbers of which each is 0
+zeros : (ns : List ℕ) → list_all (λ n. n == 0) ns ≡ true → ns ≡ replicate (length ns) 0
+zeros [] all = refl
+zeros (n ∷ ns) all =
+    let parts = and_parts (n == 0) (list_all (λ n. n == 0) ns) all in
+    ap₂ (λ m ms. m ∷ ms) (eqb-true n 0 parts.0) (zeros ns parts.1)
+
+-- outcomes whose bins are all 0
+pub all_bare : (outcomes : List Outcome) → AllByRecursion IsOutcome outcomes → IsTrue (list_all is_bare outcomes) → AllByRecursion (λ o. o.bins ≡ no_bins) outcomes
+all_bare [] each bare = tt
+all_bare (o ∷ os) each bare =
+    let parts = and_parts (is_bare o) (list_all is_bare os) bare in
+    (zeros o.bins parts.0 ∙ ap (λ n. replicate n 0) each.0.nine, all_bare os each.1 parts.1)

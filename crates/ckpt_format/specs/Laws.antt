@@ -3,38 +3,42 @@ use Rattle.std.specs.Prelude.{◌≡◌, ℕ, ◌+◌, ◌*◌, ◌<◌, ◌≤�
 use Rattle.std.specs.Int.{w32}
 use Rattle.std.specs.List.{All, AllPairs}
 use Rattle.audit_model.specs.declared.outcome.Outcome.{Outcome}
-use Rattle.checkpoint_definitions.specs.Checkpoint.{AreRising, IsCheckpoint, checkpoint_fault, number_at}
+use Rattle.checkpoint_definitions.specs.Checkpoint.{AreRising, IsCheckpoint, checkpoint_fault, number_at, outcome_size, stated_version}
 use Rattle.checkpoint_definitions.specs.Slots.{outcomes_in, checkpoint_limit}
 
--- the bytes are the checkpoint of some digest, generation and outcomes
+-- the bytes are the checkpoint of some version, digest, generation and outcomes
 abbrev pub IsSomeCheckpoint : List ℕ → Type 0
-IsSomeCheckpoint bytes = (digest : List ℕ) × (generation : ℕ) × (outcomes : List Outcome) × IsCheckpoint bytes digest generation outcomes
+IsSomeCheckpoint bytes =
+    (version : ℕ) × (digest : List ℕ) × (generation : ℕ) × (outcomes : List Outcome) × IsCheckpoint bytes version digest generation outcomes
 
 -- bytes have no fault exactly where they are a checkpoint
 abbrev pub FaultlessAreCheckpoints : Type 0
 FaultlessAreCheckpoints = (bytes : List ℕ) → All (λ b. b < 256) bytes → (checkpoint_fault bytes ≡ None) ↔ IsSomeCheckpoint bytes
 
 -- what stands at the places of a checkpoint
-pub record StandsIn (bytes digest : List ℕ) (generation : ℕ) (outcomes : List Outcome) : Type 0 where
+pub record StandsIn (bytes : List ℕ) (version : ℕ) (digest : List ℕ) (generation : ℕ) (outcomes : List Outcome) : Type 0 where
+  pub version_at : stated_version bytes ≡ version
   pub digest_at : slice_range bytes 12 44 ≡ digest
   pub generation_at : number_at w32 44 bytes ≡ generation
   pub outcomes_at : outcomes_in bytes ≡ outcomes
 
 -- what a checkpoint was made of stands at its places
 abbrev pub CheckpointsAreRead : Type 0
-CheckpointsAreRead = (bytes digest : List ℕ) (generation : ℕ) (outcomes : List Outcome)
-    → IsCheckpoint bytes digest generation outcomes → StandsIn bytes digest generation outcomes
+CheckpointsAreRead = (bytes : List ℕ) (version : ℕ) (digest : List ℕ) (generation : ℕ) (outcomes : List Outcome)
+    → IsCheckpoint bytes version digest generation outcomes → StandsIn bytes version digest generation outcomes
 
--- bytes are the checkpoint of one digest, one generation and one list of outcomes
+-- bytes are the checkpoint of one version, one digest, one generation and one list of outcomes
 abbrev pub CheckpointsAreDetermined : Type 0
-CheckpointsAreDetermined = (bytes digest digest' : List ℕ) (generation generation' : ℕ) (outcomes outcomes' : List Outcome)
-    → IsCheckpoint bytes digest generation outcomes → IsCheckpoint bytes digest' generation' outcomes'
-    → (digest ≡ digest') × (generation ≡ generation') × (outcomes ≡ outcomes')
+CheckpointsAreDetermined =
+    (bytes : List ℕ) (version version' : ℕ) (digest digest' : List ℕ) (generation generation' : ℕ) (outcomes outcomes' : List Outcome)
+    → IsCheckpoint bytes version digest generation outcomes → IsCheckpoint bytes version' digest' generation' outcomes'
+    → (version ≡ version') × (digest ≡ digest') × (generation ≡ generation') × (outcomes ≡ outcomes')
 
 -- how many bytes a checkpoint has, and that they are within the limit
 abbrev pub CheckpointsHaveLength : Type 0
-CheckpointsHaveLength = (bytes digest : List ℕ) (generation : ℕ) (outcomes : List Outcome) → IsCheckpoint bytes digest generation outcomes
-    → (length bytes ≡ 84 + 44 * length outcomes) × (length bytes ≤ checkpoint_limit)
+CheckpointsHaveLength = (bytes : List ℕ) (version : ℕ) (digest : List ℕ) (generation : ℕ) (outcomes : List Outcome)
+    → IsCheckpoint bytes version digest generation outcomes
+    → (length bytes ≡ 84 + outcome_size version * length outcomes) × (length bytes ≤ checkpoint_limit)
 
 -- ids of which each is below all later ones rise
 abbrev pub RisingPairsRise : Type 0

@@ -1,7 +1,9 @@
 -- What is written of a checkpoint, part by part.
-use Rattle.std.specs.Prelude.{◌≡◌, ℕ, ◌+◌, List, ◌++◌, length, codes}
-use Rattle.std.specs.Int.{w32, to_be_bytes}
+use Rattle.std.specs.Prelude.{◌≡◌, ℕ, ◌+◌, Bool, cond, List, ◌++◌, length, codes, flat_map}
+use Rattle.std.specs.Int.{w32, w64, to_be_bytes, cast_unsigned}
 use Rattle.audit_model.specs.Room.{RoomyBytes}
+use Rattle.audit_model.specs.declared.outcome.Outcome.{Outcome}
+use Rattle.checkpoint_definitions.specs.Checkpoint.{bin_bytes}
 
 -- the bytes were appended, and took no more than the room that there was
 pub record Appends (old new : RoomyBytes) (bytes : List ℕ) : Type 0 where
@@ -9,6 +11,14 @@ pub record Appends (old new : RoomyBytes) (bytes : List ℕ) : Type 0 where
   pub spare : new.spare + length bytes ≡ old.spare
 
 -- what stands before the outcomes
-abbrev pub head_bytes : List ℕ → ℕ → ℕ → List ℕ
-head_bytes digest generation count =
-    codes "DISTCKPT" ++ to_be_bytes w32 1 ++ digest ++ to_be_bytes w32 generation ++ to_be_bytes w32 count
+abbrev pub head_bytes : ℕ → List ℕ → ℕ → ℕ → List ℕ
+head_bytes version digest generation count =
+    codes "DISTCKPT" ++ to_be_bytes w32 version ++ digest ++ to_be_bytes w32 generation ++ to_be_bytes w32 count
+
+-- an outcome, by whether its bins are written, and how many bytes it has then
+abbrev pub bytes_by : Bool → Outcome → List ℕ
+bytes_by with_bins o =
+    to_be_bytes w32 o.id ++ to_be_bytes w64 o.moved ++ flat_map (λ v. to_be_bytes w64 (cast_unsigned w64 v)) o.values ++ bin_bytes with_bins o.bins
+
+abbrev pub size_by : Bool → ℕ
+size_by with_bins = cond with_bins 80 44

@@ -1,21 +1,23 @@
 //! Reading a checkpoint.
 
-ghost use Rattle.std.specs.Prelude.{◌≡◌, ◌+◌, ◌*◌, ◌≤◌, ◌⊎◌, Err, None, Some, length, IfOk, IfErr, IfSome, OnOk};
+ghost use Rattle.std.specs.Prelude.{◌≡◌, ◌≤◌, ◌⊎◌, Err, None, Some, length, IfOk, IfErr, IfSome, OnOk};
 ghost use Rattle.audit_model.specs.Below.{map_below};
 ghost use Rattle.audit_model.specs.declared.fault.CkptFault.TheVariants as fault;
-ghost use Rattle.checkpoint_definitions.specs.Checkpoint.{IsCheckpoint, checkpoint_fault};
-ghost use Rattle.checkpoint_definitions.specs.Slots.{outcome_at};
+ghost use Rattle.checkpoint_definitions.specs.Checkpoint.{IsCheckpoint, checkpoint_fault, outcome_start};
+ghost use Rattle.checkpoint_definitions.specs.Slots.{outcome_in};
 
 use crate::fault::fault_of;
-use crate::places::{array_at, outcome_at, u32_at};
+use crate::places::{array_at, outcome_in, u32_at};
 use audit_model::buffers::OutcomeList;
 use audit_model::fault::CkptFault;
 use audit_model::memory::Memory;
 use std::alloc::Global;
 
-/// What a checkpoint holds: the digest of its job, its generation, and outcomes by rising id.
+/// What a checkpoint holds: the version of its format, the digest of its job, its generation, and outcomes by rising id. In the first
+/// version all bins are 0.
 #[derive(Drop)]
 pub struct Checkpoint {
+    pub version: u32,
     pub digest: [u8; 32],
     pub generation: u8,
     pub outcomes: OutcomeList,
@@ -26,14 +28,14 @@ pub struct Checkpoint {
 /// # Errors
 ///
 /// - `TooShort`: there are fewer bytes than in a checkpoint without outcomes.
-/// - `BadMagic`, `BadVersion`, `BadGeneration`: the bytes do not begin as a checkpoint of this version, or the
+/// - `BadMagic`, `BadVersion`, `BadGeneration`: the bytes do not begin as a checkpoint of either version, or the
 ///   generation is above 2.
 /// - `BadCount`: there are too many outcomes, or not as many bytes as they take.
 /// - `BadOrder`: the outcome at this place, the least such, has no greater id than the one before it.
 /// - `BadDigest`: the last 32 bytes are not the digest of those before them.
 /// - `Memory`: the bytes are a checkpoint, and there was no memory for its outcomes.
 pub fn decode(alloc: Global, bytes: &[u8]) -> Result<Checkpoint, CkptFault>
-    ensures ok { IfOk result (λ c. IsCheckpoint bytes.now c.digest c.generation c.outcomes.items) }
+    ensures ok { IfOk result (λ c. IsCheckpoint bytes.now c.version c.digest c.generation c.outcomes.items) }
     ensures faultless { OnOk result (checkpoint_fault bytes.now ≡ None) }
     ensures err { IfErr result (λ f. (f ≡ fault.Memory) ⊎ (checkpoint_fault bytes.now ≡ Some f)) }
     ensures refused { IfSome (checkpoint_fault bytes.now) (λ f. result ≡ Err f) }
@@ -47,12 +49,13 @@ pub fn decode(alloc: Global, bytes: &[u8]) -> Result<Checkpoint, CkptFault>
 /// The checkpoint that the bytes without a fault are.
 fn read(alloc: Global, bytes: &[u8]) -> Result<Checkpoint, CkptFault>
     requires { checkpoint_fault bytes.now ≡ None }
-    ensures ok { IfOk result (λ c. IsCheckpoint bytes.now c.digest c.generation c.outcomes.items) }
+    ensures ok { IfOk result (λ c. IsCheckpoint bytes.now c.version c.digest c.generation c.outcomes.items) }
     ensures err { IfErr result (λ f. f ≡ fault.Memory) }
 {
     match outcomes_in(alloc, bytes, u32_at(bytes, 48)) {
         Err(_) => Err(CkptFault::Memory),
         Ok(outcomes) => Ok(Checkpoint {
+            version: u32_at(bytes, 8),
             digest: array_at(bytes, 12),
             generation: u32_at(bytes, 44) as u8,
             outcomes,
@@ -62,12 +65,12 @@ fn read(alloc: Global, bytes: &[u8]) -> Result<Checkpoint, CkptFault>
 
 /// The first outcomes.
 fn outcomes_in(alloc: Global, bytes: &[u8], count: u32) -> Result<OutcomeList, Memory>
-    requires { 52 + 44 * count ≤ length bytes.now }
-    ensures { IfOk result (λ l. l.items ≡ map_below count (λ k. outcome_at bytes.now (52 + 44 * k))) }
+    requires { outcome_start bytes.now count ≤ length bytes.now }
+    ensures { IfOk result (λ l. l.items ≡ map_below count (outcome_in bytes.now)) }
 {
     let mut outcomes = OutcomeList::with_room(alloc, count as usize)?;
-    for place in 0..count as usize {
-        outcomes.push(outcome_at(bytes, 52 + 44 * place))?;
+    for place in 0..count {
+        outcomes.push(outcome_in(bytes, place))?;
     }
     Ok(outcomes)
 }

@@ -6,9 +6,10 @@ ghost use Rattle.audit_model.specs.Below.{map_below};
 ghost use Rattle.audit_model.specs.Graph.{IsGraph, count_edges};
 ghost use Rattle.audit_model.specs.JobOf.{IsJob};
 ghost use Rattle.checkpoint_definitions.specs.Checkpoint as definition;
-ghost use Rattle.checkpoint_definitions.specs.Checkpoint.{edge_bytes, unit_bytes, score_code, tail_code};
-ghost use Rattle.ckpt_format.specs.Hashed.{Hashes, ask_bytes, counts_bytes, edges_from, setting_bytes};
+ghost use Rattle.checkpoint_definitions.specs.Checkpoint.{digest_name, edge_bytes, region_bytes, unit_bytes, score_code, tail_code};
+ghost use Rattle.ckpt_format.specs.Hashed.{Hashes, ask_bytes, counts_bytes, edges_from, has_limits, limit_bytes, setting_bytes};
 
+use audit_model::rules::Rules;
 use audit_model::setting::{Ask, Score, Setting, Tail};
 use dual_graph::graph::Graph;
 use plan_core::job::Job;
@@ -19,22 +20,42 @@ pub fn job_digest(job: &Job) -> [u8; 32]
     ensures { result ≡ definition.job_digest job.now }
 {
     let mut hasher = Sha256::new();
-    hash_counts(&mut hasher, job);
+    let limited = has_limits(job.rules());
+    hash_counts(&mut hasher, limited, job);
     hash_edges(&mut hasher, job.graph());
     hash_units(&mut hasher, job);
     hash_setting(&mut hasher, job.setting());
+    hash_limits(&mut hasher, limited, job.rules());
     hasher.finalize()
 }
 
-/// Takes in how many units, edges and districts there are.
-fn hash_counts(hasher: &mut Sha256, job: &Job)
-    ensures bytes { Hashes hasher.old hasher.new (counts_bytes job.now.graph.units (count_edges job.now.graph (λ u v. true)) job.now.districts) }
+/// Whether the rules limit the cut edges, or have regions.
+fn has_limits(rules: &Rules) -> bool
+    ensures { result ≡ has_limits rules.now }
+{
+    rules.max_cut < 400_000 || rules.regions.len() != 0
+}
+
+/// Takes in the name of the format, and how many units, edges and districts there are.
+fn hash_counts(hasher: &mut Sha256, limited: bool, job: &Job)
+    ensures bytes { Hashes hasher.old hasher.new (counts_bytes limited job.now.graph.units (count_edges job.now.graph (λ u v. true)) job.now.districts) }
     ensures sound { IsJob job.now }
 {
-    hasher.update("district-job 1");
+    hash_name(hasher, limited);
     hash_u32(hasher, job.units());
     hash_u32(hasher, job.graph().edges());
     hash_u32(hasher, job.districts());
+}
+
+/// Takes in the name of the format: the second where there are limits.
+fn hash_name(hasher: &mut Sha256, limited: bool)
+    ensures { Hashes hasher.old hasher.new (digest_name limited) }
+{
+    if limited {
+        hasher.update("district-job 2");
+    } else {
+        hasher.update("district-job 1");
+    }
 }
 
 /// Takes in each edge, its smaller end first.
@@ -95,6 +116,35 @@ fn hash_setting(hasher: &mut Sha256, setting: &Setting)
     hash_u32(hasher, setting.hub_steps);
     hash_u32(hasher, setting.asks.len() as u32);
     hash_asks(hasher, setting.asks.as_slice());
+}
+
+/// Takes in the limits of the rules, where there are any.
+fn hash_limits(hasher: &mut Sha256, limited: bool, rules: &Rules)
+    ensures { Hashes hasher.old hasher.new (limit_bytes limited rules.now) }
+{
+    if limited {
+        hash_u32(hasher, rules.max_cut);
+        hash_regions(hasher, rules.max_split, rules.regions.as_slice());
+    }
+}
+
+/// Takes in the limit of the regions and the region of each unit, where there are regions.
+fn hash_regions(hasher: &mut Sha256, max_split: u32, regions: &[u32])
+    ensures { Hashes hasher.old hasher.new (region_bytes max_split regions.now) }
+{
+    if !regions.is_empty() {
+        hash_u32(hasher, max_split);
+        hash_numbers(hasher, regions);
+    }
+}
+
+/// Takes in numbers, four bytes each.
+fn hash_numbers(hasher: &mut Sha256, numbers: &[u32])
+    ensures { Hashes hasher.old hasher.new (flat_map (to_be_bytes w32) numbers.now) }
+{
+    for number in numbers {
+        hash_u32(hasher, *number);
+    }
 }
 
 /// Takes in the score and the tail of each ask.

@@ -1,11 +1,12 @@
 //! Writing a checkpoint.
 
-ghost use Rattle.std.specs.Prelude.{◌≡◌, ◌+◌, ◌*◌, ◌<◌, ◌≤◌, length, map, flat_map, FitsSigned};
-ghost use Rattle.std.specs.List.{AllByRecursion};
+ghost use Rattle.std.specs.Prelude.{◌≡◌, ◌+◌, ◌*◌, ◌^◌, ◌<◌, ◌≤◌, IsTrue, length, map, flat_map, FitsSigned};
+ghost use Rattle.std.specs.List.{AllByRecursion, list_all};
 ghost use Rattle.std.specs.Int.{w32, w64, to_be_bytes, cast_unsigned};
 ghost use Rattle.sha2.specs.Sha256.{sha256};
-ghost use Rattle.checkpoint_definitions.specs.Checkpoint.{AreRising, IsCheckpoint, IsOutcome, checkpoint, outcome_bytes};
-ghost use Rattle.ckpt_format.specs.Written.{Appends, head_bytes};
+ghost use Rattle.audit_model.specs.Run.{is_bare};
+ghost use Rattle.checkpoint_definitions.specs.Checkpoint.{AreRising, HoldsBins, IsCheckpoint, IsOutcome, bin_bytes, checkpoint, outcome_bytes, outcome_size};
+ghost use Rattle.ckpt_format.specs.Written.{Appends, bytes_by, head_bytes, size_by};
 
 use audit_model::buffers::Bytes;
 use audit_model::outcome::Outcome;
@@ -14,58 +15,108 @@ use sha2::{Digest, Sha256};
 /// The bytes with which each checkpoint begins.
 pub(crate) const MAGIC: [u8; 8] = *b"DISTCKPT";
 
-/// The version of the format.
-pub(crate) const VERSION: u32 = 1;
-
-/// Makes `out` the checkpoint of a job's digest, a generation and outcomes. It takes no memory.
+/// Makes `out` the checkpoint of a job's digest, a generation and outcomes, in the second version of the format. It takes no memory.
 pub fn encode(digest: &[u8; 32], generation: u8, outcomes: &[Outcome], out: &mut Bytes)
     requires generation { generation < 3 }
     requires few { length outcomes.now ≤ 100000 }
     requires rising { AreRising (map (λ o. o.id) outcomes.now) }
+    requires room { 84 + 80 * length outcomes.now ≤ length out.old.items + out.old.spare }
+    ensures bytes { out.new.items ≡ checkpoint 2 digest.now generation outcomes.now }
+    ensures length { length out.new.items ≡ 84 + 80 * length outcomes.now }
+    ensures room { length out.new.items + out.new.spare ≡ length out.old.items + out.old.spare }
+    ensures sound { IsCheckpoint out.new.items 2 digest.now generation outcomes.now }
+{
+    encode_as(2, digest, generation, outcomes, out);
+}
+
+/// Makes `out` the checkpoint of a job's digest, a generation and outcomes without bins, in the first version of the format. It takes no
+/// memory.
+pub fn encode_old(digest: &[u8; 32], generation: u8, outcomes: &[Outcome], out: &mut Bytes)
+    requires generation { generation < 3 }
+    requires few { length outcomes.now ≤ 100000 }
+    requires rising { AreRising (map (λ o. o.id) outcomes.now) }
+    requires bare { IsTrue (list_all is_bare outcomes.now) }
     requires room { 84 + 44 * length outcomes.now ≤ length out.old.items + out.old.spare }
-    ensures bytes { out.new.items ≡ checkpoint digest.now generation outcomes.now }
+    ensures bytes { out.new.items ≡ checkpoint 1 digest.now generation outcomes.now }
     ensures length { length out.new.items ≡ 84 + 44 * length outcomes.now }
     ensures room { length out.new.items + out.new.spare ≡ length out.old.items + out.old.spare }
-    ensures sound { IsCheckpoint out.new.items digest.now generation outcomes.now }
+    ensures sound { IsCheckpoint out.new.items 1 digest.now generation outcomes.now }
+{
+    encode_as(1, digest, generation, outcomes, out);
+}
+
+/// Makes `out` the checkpoint of a version. Of versions but the second the bins are left out.
+fn encode_as(version: u32, digest: &[u8; 32], generation: u8, outcomes: &[Outcome], out: &mut Bytes)
+    requires generation { generation < 3 }
+    requires few { length outcomes.now ≤ 100000 }
+    requires rising { AreRising (map (λ o. o.id) outcomes.now) }
+    requires room { 84 + outcome_size version * length outcomes.now ≤ length out.old.items + out.old.spare }
+    ensures bytes { out.new.items ≡ checkpoint version digest.now generation outcomes.now }
+    ensures length { length out.new.items ≡ 84 + outcome_size version * length outcomes.now }
+    ensures room { length out.new.items + out.new.spare ≡ length out.old.items + out.old.spare }
+    ensures each { AllByRecursion IsOutcome outcomes.now }
+    ensures sound { HoldsBins version outcomes.now → IsCheckpoint out.new.items version digest.now generation outcomes.now }
 {
     out.clear();
-    append_head(out, digest, generation, outcomes.len() as u32);
-    append_outcomes(out, outcomes);
+    append_head(out, version, digest, generation, outcomes.len() as u32);
+    append_outcomes(out, version, outcomes);
     append_digest(out);
 }
 
 /// Appends what stands before the outcomes.
-fn append_head(out: &mut Bytes, digest: &[u8; 32], generation: u8, count: u32)
+fn append_head(out: &mut Bytes, version: u32, digest: &[u8; 32], generation: u8, count: u32)
     requires { 52 ≤ out.old.spare }
-    ensures { Appends out.old out.new (head_bytes digest.now generation count) }
+    ensures { Appends out.old out.new (head_bytes version digest.now generation count) }
 {
     append(out, &MAGIC);
-    append_u32(out, VERSION);
+    append_u32(out, version);
     append(out, digest);
     append_u32(out, u32::from(generation));
     append_u32(out, count);
 }
 
 /// Appends the outcomes.
-fn append_outcomes(out: &mut Bytes, outcomes: &[Outcome])
-    requires { 44 * length outcomes.now ≤ out.old.spare }
-    ensures bytes { Appends out.old out.new (flat_map outcome_bytes outcomes.now) }
+fn append_outcomes(out: &mut Bytes, version: u32, outcomes: &[Outcome])
+    requires { outcome_size version * length outcomes.now ≤ out.old.spare }
+    ensures bytes { Appends out.old out.new (flat_map (outcome_bytes version) outcomes.now) }
     ensures sound { AllByRecursion IsOutcome outcomes.now }
 {
     for outcome in outcomes {
-        append_outcome(out, outcome);
+        append_outcome(out, version == 2, outcome);
     }
 }
 
-/// Appends an outcome: its id, its moves and its values.
-fn append_outcome(out: &mut Bytes, outcome: &Outcome)
-    requires { 44 ≤ out.old.spare }
-    ensures bytes { Appends out.old out.new (outcome_bytes outcome.now) }
+/// Appends an outcome: its id, its moves and its values, and its bins where they are written.
+fn append_outcome(out: &mut Bytes, with_bins: bool, outcome: &Outcome)
+    requires { size_by with_bins ≤ out.old.spare }
+    ensures bytes { Appends out.old out.new (bytes_by with_bins outcome.now) }
     ensures sound { IsOutcome outcome.now }
 {
     append_u32(out, outcome.id);
     append_u64(out, outcome.moved);
     append_values(out, &outcome.values);
+    append_bins(out, with_bins, &outcome.bins);
+}
+
+/// Appends bins where they are written.
+fn append_bins(out: &mut Bytes, with_bins: bool, bins: &[u32; 9])
+    requires { IsTrue with_bins → 36 ≤ out.old.spare }
+    ensures bytes { Appends out.old out.new (bin_bytes with_bins bins.now) }
+    ensures sound { AllByRecursion (λ n. n < 2 ^ 32) bins.now }
+{
+    if with_bins {
+        append_numbers(out, bins);
+    }
+}
+
+/// Appends numbers.
+fn append_numbers(out: &mut Bytes, numbers: &[u32])
+    requires { 4 * length numbers.now ≤ out.old.spare }
+    ensures { Appends out.old out.new (flat_map (to_be_bytes w32) numbers.now) }
+{
+    for number in numbers {
+        append_u32(out, *number);
+    }
 }
 
 /// Appends values.

@@ -1,12 +1,12 @@
 //! Why bytes are no checkpoint.
 
-ghost use Rattle.std.specs.Prelude.{◌≡◌, ◌+◌, ◌*◌, ◌≤◌, length};
+ghost use Rattle.std.specs.Prelude.{◌≡◌, ◌+◌, ◌≤◌, length};
 ghost use Rattle.audit_model.specs.First.{first_below};
-ghost use Rattle.checkpoint_definitions.specs.Checkpoint.{checkpoint_fault, stated_id};
+ghost use Rattle.checkpoint_definitions.specs.Checkpoint.{checkpoint_fault, outcome_start, stated_id};
 ghost use Rattle.ckpt_format.specs.Faults.{count_fault, order_fault, digest_fault, head_fault, is_unordered};
 
-use crate::encode::{MAGIC, VERSION};
-use crate::places::{array_at, u32_at};
+use crate::encode::MAGIC;
+use crate::places::{array_at, outcome_size, outcome_start, u32_at};
 use audit_model::fault::CkptFault;
 use sha2::{Digest, Sha256};
 
@@ -35,21 +35,21 @@ fn head_fault(bytes: &[u8]) -> Option<CkptFault>
         return Some(CkptFault::BadMagic);
     }
     let version = u32_at(bytes, 8);
-    if version != VERSION {
+    if version != 1 && version != 2 {
         return Some(CkptFault::BadVersion(version));
     }
     let generation = u32_at(bytes, 44);
     if generation > 2 {
         return Some(CkptFault::BadGeneration(generation));
     }
-    count_fault(u32_at(bytes, 48), bytes.len() as u64)
+    count_fault(version, u32_at(bytes, 48), bytes.len() as u64)
 }
 
 /// The fault of a number of outcomes in so many bytes.
-fn count_fault(count: u32, length: u64) -> Option<CkptFault>
-    ensures { result ≡ count_fault count length }
+fn count_fault(version: u32, count: u32, length: u64) -> Option<CkptFault>
+    ensures { result ≡ count_fault version count length }
 {
-    if count > 100_000 || length != 84 + 44 * u64::from(count) {
+    if count > 100_000 || length != 84 + outcome_size(version) as u64 * u64::from(count) {
         Some(CkptFault::BadCount { count, length })
     } else {
         None
@@ -58,7 +58,7 @@ fn count_fault(count: u32, length: u64) -> Option<CkptFault>
 
 /// The fault of the least place whose id is not greater than the one before it.
 fn order_fault(bytes: &[u8], count: u32) -> Option<CkptFault>
-    requires { 52 + 44 * count ≤ length bytes.now }
+    requires { outcome_start bytes.now count ≤ length bytes.now }
     ensures { result ≡ order_fault bytes.now count }
 {
     first_unordered(bytes, count).map(CkptFault::BadOrder)
@@ -66,7 +66,7 @@ fn order_fault(bytes: &[u8], count: u32) -> Option<CkptFault>
 
 /// The least place whose id is not greater than the one before it.
 fn first_unordered(bytes: &[u8], count: u32) -> Option<u32>
-    requires { 52 + 44 * count ≤ length bytes.now }
+    requires { outcome_start bytes.now count ≤ length bytes.now }
     ensures { result ≡ first_below count (is_unordered bytes.now) }
 {
     for place in 1..count {
@@ -79,10 +79,10 @@ fn first_unordered(bytes: &[u8], count: u32) -> Option<u32>
 
 /// The id of the outcome at a place.
 fn id_at(bytes: &[u8], place: u32) -> u32
-    requires { 52 + 44 * place + 44 ≤ length bytes.now }
+    requires { outcome_start bytes.now (place + 1) ≤ length bytes.now }
     ensures { result ≡ stated_id bytes.now place }
 {
-    u32_at(bytes, 52 + 44 * place as usize)
+    u32_at(bytes, outcome_start(bytes, place))
 }
 
 /// The fault of a digest that is not that of all bytes before it.

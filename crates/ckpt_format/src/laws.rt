@@ -2,22 +2,22 @@
 
 ghost use Rattle.ckpt_format.specs.Laws.{FaultlessAreCheckpoints, CheckpointsAreRead, CheckpointsAreDetermined, CheckpointsHaveLength, RisingPairsRise};
 
-/// Bytes have no fault exactly where they are the checkpoint of some digest, generation and outcomes.
+/// Bytes have no fault exactly where they are the checkpoint of some version, digest, generation and outcomes.
 pub fn faultless_bytes_are_checkpoints()
     ensures { FaultlessAreCheckpoints }
 {}
 
-/// What a checkpoint was made of stands at its places, so that what `encode` wrote is what `decode` reads.
+/// What a checkpoint was made of stands at its places, so that what `encode` or `encode_old` wrote is what `decode` reads.
 pub fn checkpoints_are_read()
     ensures { CheckpointsAreRead }
 {}
 
-/// Bytes are the checkpoint of one digest, one generation and one list of outcomes.
+/// Bytes are the checkpoint of one version, one digest, one generation and one list of outcomes.
 pub fn checkpoints_are_determined()
     ensures { CheckpointsAreDetermined }
 {}
 
-/// A checkpoint has 84 bytes and 44 for each outcome, at most 4,400,084.
+/// A checkpoint has 84 bytes and for each outcome 44 in the first version and 80 in the second, at most 8,000,084.
 pub fn checkpoints_have_a_length()
     ensures { CheckpointsHaveLength }
 {}

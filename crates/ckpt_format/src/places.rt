@@ -1,9 +1,10 @@
 //! What stands at a place of some bytes.
 
-ghost use Rattle.std.specs.Prelude.{◌≡◌, ◌+◌, ◌≤◌, length, slice_range};
+ghost use Rattle.std.specs.Prelude.{◌≡◌, ◌+◌, ◌*◌, ◌≤◌, IsTrue, length, slice_range};
 ghost use Rattle.std.specs.Int.{w32, w64, cast_signed};
-ghost use Rattle.checkpoint_definitions.specs.Checkpoint.{number_at};
-ghost use Rattle.checkpoint_definitions.specs.Slots.{outcome_at};
+ghost use Rattle.audit_model.specs.Below.{map_below};
+ghost use Rattle.checkpoint_definitions.specs.Checkpoint.{number_at, outcome_size, outcome_start, stated_version};
+ghost use Rattle.checkpoint_definitions.specs.Slots.{bins_at, outcome_at, outcome_in};
 
 use audit_model::outcome::Outcome;
 
@@ -41,9 +42,34 @@ fn i64_at(bytes: &[u8], at: usize) -> i64
     u64_at(bytes, at).cast_signed()
 }
 
+/// How many bytes an outcome has in a version of the format.
+pub(crate) fn outcome_size(version: u32) -> usize
+    ensures value { result ≡ outcome_size version }
+    ensures few { result ≤ 80 }
+{
+    if version == 2 { 80 } else { 44 }
+}
+
+/// Where the outcome at a place begins.
+pub(crate) fn outcome_start(bytes: &[u8], place: u32) -> usize
+    requires { 12 ≤ length bytes.now }
+    ensures { result ≡ outcome_start bytes.now place }
+{
+    52 + outcome_size(u32_at(bytes, 8)) * place as usize
+}
+
+/// The outcome at a place of a checkpoint, from 0.
+pub(crate) fn outcome_in(bytes: &[u8], place: u32) -> Outcome
+    requires { outcome_start bytes.now (place + 1) ≤ length bytes.now }
+    ensures { result ≡ outcome_in bytes.now place }
+{
+    outcome_at(bytes, outcome_start(bytes, place))
+}
+
 /// The outcome whose bytes begin at a place.
-pub(crate) fn outcome_at(bytes: &[u8], at: usize) -> Outcome
-    requires { at + 44 ≤ length bytes.now }
+fn outcome_at(bytes: &[u8], at: usize) -> Outcome
+    requires version { 12 ≤ length bytes.now }
+    requires room { at + outcome_size (stated_version bytes.now) ≤ length bytes.now }
     ensures { result ≡ outcome_at bytes.now at }
 {
     Outcome {
@@ -55,5 +81,32 @@ pub(crate) fn outcome_at(bytes: &[u8], at: usize) -> Outcome
             i64_at(bytes, at + 28),
             i64_at(bytes, at + 36),
         ],
+        bins: bins_of(bytes, u32_at(bytes, 8) == 2, at + 44),
     }
+}
+
+/// The bins that begin at a place, where there are any.
+fn bins_of(bytes: &[u8], present: bool, at: usize) -> [u32; 9]
+    requires { IsTrue present → at + 36 ≤ length bytes.now }
+    ensures { result ≡ bins_at present bytes.now at }
+{
+    if present { bins_at(bytes, at) } else { [0; 9] }
+}
+
+/// The nine numbers of four bytes from a place on.
+fn bins_at(bytes: &[u8], at: usize) -> [u32; 9]
+    requires { at + 36 ≤ length bytes.now }
+    ensures { result ≡ map_below 9 (λ k. number_at w32 (at + 4 * k) bytes.now) }
+{
+    [
+        u32_at(bytes, at),
+        u32_at(bytes, at + 4),
+        u32_at(bytes, at + 8),
+        u32_at(bytes, at + 12),
+        u32_at(bytes, at + 16),
+        u32_at(bytes, at + 20),
+        u32_at(bytes, at + 24),
+        u32_at(bytes, at + 28),
+        u32_at(bytes, at + 32),
+    ]
 }

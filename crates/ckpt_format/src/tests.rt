@@ -1,13 +1,12 @@
 //! Small checkpoints and a small job, with bytes and digests that another program computed.
 
-ghost use Rattle.std.specs.Prelude.{◌≡◌, ◌<◌, IfOk, length};
+ghost use Rattle.std.specs.Prelude.{◌≡◌, ◌≤◌, IfOk, length};
 ghost use Rattle.audit_model.specs.Limits.{AreWithin, IsSetting};
 
 use crate::decode::decode;
 use crate::digest::job_digest;
-use crate::encode::encode;
+use crate::encode::{encode, encode_old};
 use audit_model::buffers::Bytes;
-use audit_model::fault::CkptFault;
 use audit_model::lists::{AskList, LabelList, NumList, UnitList};
 use audit_model::memory::Memory;
 use audit_model::outcome::{Counts, Outcome};
@@ -24,9 +23,10 @@ const FOUND: Outcome = Outcome {
     id: 0,
     moved: 3,
     values: [4, 8, 0, 0],
+    bins: [0; 9],
 };
 
-// The checkpoint of a digest of zeros, generation 1 and that outcome.
+// The checkpoint of the first version of a digest of zeros, generation 1 and that outcome.
 const CHECKPOINT: [u8; 128] = [
     0x44, 0x49, 0x53, 0x54, 0x43, 0x4b, 0x50, 0x54, 0x00, 0x00, 0x00, 0x01, 0x00, 0x00, 0x00, 0x00,
     0x00, 0x00, 0x00, 0x00, 0x00, 0x00, 0x00, 0x00, 0x00, 0x00, 0x00, 0x00, 0x00, 0x00, 0x00, 0x00,
@@ -38,10 +38,22 @@ const CHECKPOINT: [u8; 128] = [
     0x7d, 0xb6, 0xfe, 0x88, 0x2f, 0x77, 0x00, 0x4d, 0xb8, 0x2e, 0xc7, 0xe7, 0x20, 0x3c, 0x6c, 0xe2,
 ];
 
+// The digest at the end of that checkpoint in the second version.
+const OF_NEW: [u8; 32] = [
+    0xa6, 0xbf, 0x26, 0xb6, 0x13, 0x85, 0x93, 0x5c, 0xa1, 0x53, 0x23, 0x59, 0xfd, 0x61, 0xc2, 0xf9,
+    0xc3, 0xa9, 0xe4, 0xcb, 0x49, 0x4c, 0x98, 0x0e, 0x2b, 0xf3, 0x94, 0x6b, 0x63, 0xeb, 0x98, 0x7c,
+];
+
 // The digest of the checkpoint of two outcomes.
 const OF_TWO: [u8; 32] = [
     0x3c, 0x3f, 0xe5, 0x0d, 0xcf, 0xe8, 0x5c, 0x48, 0x17, 0x19, 0xbf, 0xb4, 0x7d, 0x42, 0xff, 0x6b,
     0xbe, 0xf4, 0x3f, 0xba, 0x41, 0x86, 0x37, 0x1f, 0x57, 0x35, 0xeb, 0xcd, 0x20, 0x6b, 0xb0, 0x8b,
+];
+
+// The digest of the checkpoint of the second version of two outcomes, of which one has bins.
+const OF_BINS: [u8; 32] = [
+    0xa1, 0x3e, 0xf7, 0x89, 0x0a, 0x37, 0xd9, 0x40, 0x51, 0x1d, 0xe7, 0xef, 0xb8, 0xcb, 0x6d, 0x42,
+    0x31, 0x99, 0xa6, 0xcf, 0x89, 0x54, 0xbb, 0x8c, 0x23, 0xd1, 0xe1, 0x3e, 0x64, 0x78, 0x16, 0xf6,
 ];
 
 const COUNTED: [u8; 32] = [
@@ -55,44 +67,25 @@ const OF_JOB: [u8; 32] = [
     0x72, 0xa0, 0x92, 0x44, 0xda, 0x4c, 0x99, 0x79, 0x0f, 0xf3, 0xb2, 0xe6, 0x3f, 0x60, 0xb8, 0x84,
 ];
 
-/// The checkpoint with another byte at a place.
-fn with_byte(place: usize, byte: u8) -> [u8; 128]
-    requires { place < 128 }
-{
-    let mut bytes = CHECKPOINT;
-    bytes[place] = byte;
-    bytes
-}
-
-/// The checkpoint with a byte more.
-fn longer() -> [u8; 129] {
-    let mut bytes = [0; 129];
-    bytes[..128].copy_from_slice(&CHECKPOINT);
-    bytes
-}
-
-/// Two records of id 0.
-fn doubled() -> [u8; 172] {
-    let mut bytes = [0; 172];
-    bytes[..96].copy_from_slice(&CHECKPOINT[..96]);
-    bytes[51] = 2;
-    bytes
-}
-
-/// Why the bytes are refused.
-fn fault(alloc: Global, bytes: &[u8]) -> Option<CkptFault> {
-    decode(alloc, bytes).err()
-}
+// The digest of that job where it may cut 399,999 edges.
+const OF_LIMIT: [u8; 32] = [
+    0x72, 0x31, 0xa0, 0xaf, 0xd9, 0x10, 0xde, 0x35, 0xcc, 0x08, 0x7d, 0x17, 0x25, 0x73, 0xaa, 0x78,
+    0xfb, 0xb3, 0x1e, 0xeb, 0x54, 0xb8, 0xb9, 0xd9, 0x16, 0xa7, 0xc9, 0xaa, 0xcd, 0xd8, 0xf8, 0x36,
+];
 
 #[test]
 fn one_outcome_is_written_and_read(rt: HostRuntime) -> Result<(), Fail> {
     let mut out = Bytes::with_room(rt.alloc(), 128)?;
-    encode(&[0; 32], 1, &[FOUND], &mut out);
+    encode_old(&[0; 32], 1, &[FOUND], &mut out);
     assert_eq!(rt; out.as_slice(), CHECKPOINT.as_slice());
     let checkpoint = decode(rt.alloc(), out.as_slice())?;
+    assert_eq!(rt; checkpoint.version, 1);
     assert_eq!(rt; checkpoint.digest, [0; 32]);
     assert_eq!(rt; checkpoint.generation, 1);
     assert_eq!(rt; checkpoint.outcomes.as_slice(), [FOUND].as_slice());
+    let mut new = Bytes::with_room(rt.alloc(), 164)?;
+    encode(&[0; 32], 1, &[FOUND], &mut new);
+    assert_eq!(rt; &new.as_slice()[132..], OF_NEW.as_slice());
     Ok(())
 }
 
@@ -102,14 +95,16 @@ fn two_outcomes_with_numbers_of_each_sign(rt: HostRuntime) -> Result<(), Fail> {
         id: 7,
         moved: 5,
         values: [-1, 2, -3, 4],
+        bins: [0; 9],
     };
     let second = Outcome {
         id: 0x0102_0304,
         moved: 1 << 40,
         values: [i64::MAX, i64::MIN, 0, 9],
+        bins: [0; 9],
     };
     let mut out = Bytes::with_room(rt.alloc(), 172)?;
-    encode(&COUNTED, 2, &[first, second], &mut out);
+    encode_old(&COUNTED, 2, &[first, second], &mut out);
     assert_eq!(rt; Sha256::digest(out.as_slice()), OF_TWO);
     assert_eq!(rt; &out.as_slice()[64..72], [0xff; 8].as_slice());
     let checkpoint = decode(rt.alloc(), out.as_slice())?;
@@ -118,32 +113,25 @@ fn two_outcomes_with_numbers_of_each_sign(rt: HostRuntime) -> Result<(), Fail> {
 }
 
 #[test]
-fn each_fault_is_named(rt: HostRuntime) -> Result<(), Fail> {
-    let alloc = rt.alloc();
-    assert_eq!(rt;
-        fault(alloc, &CHECKPOINT[..83]),
-        Some(CkptFault::TooShort(83))
-    );
-    assert_eq!(rt;
-        fault(alloc, &with_byte(7, b'U')),
-        Some(CkptFault::BadMagic)
-    );
-    assert_eq!(rt;
-        fault(alloc, &with_byte(11, 2)),
-        Some(CkptFault::BadVersion(2))
-    );
-    assert_eq!(rt;
-        fault(alloc, &with_byte(47, 3)),
-        Some(CkptFault::BadGeneration(3))
-    );
-    let count = CkptFault::BadCount {
-        count: 1,
-        length: 129,
+fn bins_are_written_and_read(rt: HostRuntime) -> Result<(), Fail> {
+    let first = Outcome {
+        id: 7,
+        moved: 5,
+        values: [-1, 2, -3, 4],
+        bins: [0, 1, 2, 3, 4, 5, 6, 7, u32::MAX],
     };
-    assert_eq!(rt; fault(alloc, &longer()), Some(count));
-    assert_eq!(rt; fault(alloc, &doubled()), Some(CkptFault::BadOrder(1)));
-    let changed = fault(alloc, &with_byte(95, 1));
-    assert!(rt; matches!(changed, Some(CkptFault::BadDigest { .. })));
+    let second = Outcome {
+        id: 0x0102_0304,
+        moved: 1 << 40,
+        values: [i64::MAX, i64::MIN, 0, 9],
+        bins: [0; 9],
+    };
+    let mut out = Bytes::with_room(rt.alloc(), 244)?;
+    encode(&COUNTED, 2, &[first, second], &mut out);
+    assert_eq!(rt; Sha256::digest(out.as_slice()), OF_BINS);
+    let checkpoint = decode(rt.alloc(), out.as_slice())?;
+    assert_eq!(rt; checkpoint.version, 2);
+    assert_eq!(rt; checkpoint.outcomes.as_slice(), [first, second].as_slice());
     Ok(())
 }
 
@@ -188,8 +176,9 @@ fn path_of_four(alloc: Global) -> Result<Parsed, Memory>
     })
 }
 
-/// Gaps and medians of three walks and two ends.
-fn setting(alloc: Global) -> Result<Setting, Memory>
+/// Gaps and medians of three walks and two ends, with a limit on cut edges.
+fn setting(alloc: Global, max_cut: u32) -> Result<Setting, Memory>
+    requires { max_cut ≤ 400000 }
     ensures { IfOk result (λ s. IsSetting s) }
 {
     let mut asks = AskList::new(alloc);
@@ -221,13 +210,27 @@ fn setting(alloc: Global) -> Result<Setting, Memory>
         save_every: 0,
         resume: false,
         size: 0,
+        max_cut,
+        shift: false,
+        stop: 0,
+        serial: false,
+        region: Text::new(alloc),
+        max_split: 200,
     })
 }
 
 #[test]
 fn digest_of_a_path_of_four(rt: HostRuntime) -> Result<(), Fail> {
     let alloc = rt.alloc();
-    let job = Job::new(alloc, path_of_four(alloc)?, setting(alloc)?)?;
+    let job = Job::new(alloc, path_of_four(alloc)?, setting(alloc, 400_000)?)?;
     assert_eq!(rt; job_digest(&job), OF_JOB);
+    Ok(())
+}
+
+#[test]
+fn digest_with_a_limit(rt: HostRuntime) -> Result<(), Fail> {
+    let alloc = rt.alloc();
+    let job = Job::new(alloc, path_of_four(alloc)?, setting(alloc, 399_999)?)?;
+    assert_eq!(rt; job_digest(&job), OF_LIMIT);
     Ok(())
 }

@@ -1,43 +1,76 @@
 -- What honest slots give, and when they stay honest.
-use Rattle.std.proofs.Common.{◌≡◌, ℕ, zero, suc, ◌<◌, List, [], Option, Some, None, sym, subst, inl, inr, arith}
+use Rattle.std.proofs.Common.{◌≡◌, ℕ, zero, suc, ◌<◌, ◌⊎◌, Bool, true, false, List, [], get_or, Option, Some, None, refl, sym, subst, inl, inr, ◌∙◌, arith}
+use Rattle.std.specs.Prelude.{option_map}
 use Rattle.std.proofs.lemmas.List.Elements.{All-nil}
 use Rattle.std.proofs.lemmas.Option.{none-some, same_Some}
 use Rattle.audit_io.specs.Slots.{Stored}
 use Rattle.audit_model.specs.declared.outcome.Outcome.{Outcome}
 use Rattle.audit_model.specs.Job.{Job}
-use Rattle.audit_model.specs.Run.{IsRight, total}
-use Rattle.audit_model.specs.Trajectory.{Draws, outcome}
+use Rattle.audit_model.specs.Run.{IsHonest, IsRight, taken_up, total}
+use Rattle.audit_model.specs.Trajectory.{Draws, bare, outcome_with, whole}
 use Rattle.checkpoint_definitions.specs.Slots.{IsHonestSlot, Slot, absent, broken, newest, opening_of, other, ours, outcomes_of_slot, slot_of}
-use Rattle.ckpt_store.specs.Laws.{HonestSlotsOpenRight, IsNotOurs, StopsLeaveHonestSlots}
+use Rattle.ckpt_store.specs.Laws.{HonestSlotsOpenRight, IsNotOurs, RightIsHonest, StopsLeaveHonestSlots}
 
-nothing_is_right : (job : Job) (draws : Draws) → IsRight job draws []
-nothing_is_right job draws = record {
+nothing_is_honest : (job : Job) (draws : Draws) → IsHonest job draws []
+nothing_is_honest job draws = record {
   apart = λ i j d l m. absurd (omega arith);
   below = All-nil (λ o. o.id < total job);
-  found = All-nil (λ o. o ≡ outcome job draws o.id);
+  found = All-nil (λ o. (o ≡ whole job draws o.id) ⊎ (o ≡ bare (whole job draws o.id)));
 }
 
 -- the outcomes of an honest slot
-right_from_slot : (job : Job) (draws : Draws) (slot : Slot) (outcomes : List Outcome) → IsHonestSlot job draws slot → outcomes_of_slot slot ≡ Some outcomes → IsRight job draws outcomes
-right_from_slot job draws absent outcomes honest is = subst (IsRight job draws) (same_Some [] outcomes is) (nothing_is_right job draws)
-right_from_slot job draws (broken f) outcomes honest is = absurd (none-some outcomes is)
-right_from_slot job draws (other d g) outcomes honest is = absurd (none-some outcomes is)
-right_from_slot job draws (ours g os) outcomes honest is = subst (IsRight job draws) (same_Some os outcomes is) honest
+honest_from_slot : (job : Job) (draws : Draws) (slot : Slot) (outcomes : List Outcome) → IsHonestSlot job draws slot → outcomes_of_slot slot ≡ Some outcomes → IsHonest job draws outcomes
+honest_from_slot job draws absent outcomes honest is = subst (IsHonest job draws) (same_Some [] outcomes is) (nothing_is_honest job draws)
+honest_from_slot job draws (broken f) outcomes honest is = absurd (none-some outcomes is)
+honest_from_slot job draws (other d g) outcomes honest is = absurd (none-some outcomes is)
+honest_from_slot job draws (ours g os) outcomes honest is = subst (IsHonest job draws) (same_Some os outcomes is) honest
 
-right_from_opening : (job : Job) (draws : Draws) (first second : Slot) (number : Option ℕ) (outcomes : List Outcome)
-    → IsHonestSlot job draws first → IsHonestSlot job draws second → opening_of first second number ≡ Some outcomes → IsRight job draws outcomes
-right_from_opening job draws first second (Some zero) outcomes one two is = right_from_slot job draws first outcomes one is
-right_from_opening job draws first second (Some (suc n)) outcomes one two is = right_from_slot job draws second outcomes two is
-right_from_opening job draws absent absent None outcomes one two is = subst (IsRight job draws) (same_Some [] outcomes is) (nothing_is_right job draws)
-right_from_opening job draws absent (broken f) None outcomes one two is = absurd (none-some outcomes is)
-right_from_opening job draws absent (other d g) None outcomes one two is = absurd (none-some outcomes is)
-right_from_opening job draws absent (ours g os) None outcomes one two is = absurd (none-some outcomes is)
-right_from_opening job draws (broken f) second None outcomes one two is = absurd (none-some outcomes is)
-right_from_opening job draws (other d g) second None outcomes one two is = absurd (none-some outcomes is)
-right_from_opening job draws (ours g os) second None outcomes one two is = absurd (none-some outcomes is)
+honest_from_opening : (job : Job) (draws : Draws) (first second : Slot) (number : Option ℕ) (outcomes : List Outcome)
+    → IsHonestSlot job draws first → IsHonestSlot job draws second → opening_of first second number ≡ Some outcomes → IsHonest job draws outcomes
+honest_from_opening job draws first second (Some zero) outcomes one two is = honest_from_slot job draws first outcomes one is
+honest_from_opening job draws first second (Some (suc n)) outcomes one two is = honest_from_slot job draws second outcomes two is
+honest_from_opening job draws absent absent None outcomes one two is = subst (IsHonest job draws) (same_Some [] outcomes is) (nothing_is_honest job draws)
+honest_from_opening job draws absent (broken f) None outcomes one two is = absurd (none-some outcomes is)
+honest_from_opening job draws absent (other d g) None outcomes one two is = absurd (none-some outcomes is)
+honest_from_opening job draws absent (ours g os) None outcomes one two is = absurd (none-some outcomes is)
+honest_from_opening job draws (broken f) second None outcomes one two is = absurd (none-some outcomes is)
+honest_from_opening job draws (other d g) second None outcomes one two is = absurd (none-some outcomes is)
+honest_from_opening job draws (ours g os) second None outcomes one two is = absurd (none-some outcomes is)
 
-pub honest_slots_open_right : HonestSlotsOpenRight
-honest_slots_open_right job draws first second outcomes one two is = right_from_opening job draws first second (newest first second) outcomes one two is
+-- what a run goes on from, of honest outcomes, is right
+abbrev pub GoesOnRightly : Type 0
+GoesOnRightly = (job : Job) (draws : Draws) (outcomes : List Outcome) → IsHonest job draws outcomes
+    → IsRight job draws (taken_up job.setting.shift job.setting.walks outcomes)
+
+right_from_taken : GoesOnRightly → (job : Job) (draws : Draws) (held : Option (List Outcome)) (outcomes : List Outcome)
+    → ((os : List Outcome) → held ≡ Some os → IsHonest job draws os) → option_map (taken_up job.setting.shift job.setting.walks) held ≡ Some outcomes
+    → IsRight job draws outcomes
+right_from_taken law job draws None outcomes honest is = absurd (none-some outcomes is)
+right_from_taken law job draws (Some os) outcomes honest is =
+    subst (IsRight job draws) (same_Some (taken_up job.setting.shift job.setting.walks os) outcomes is) (law job draws os (honest os refl))
+
+pub honest_slots_open_right : GoesOnRightly → HonestSlotsOpenRight
+honest_slots_open_right law job draws first second outcomes one two is =
+    right_from_taken law job draws (opening_of first second (newest first second)) outcomes
+    (λ os held. honest_from_opening job draws first second (newest first second) os one two held) is
+
+-- ---- what is right is honest
+
+-- an outcome that is found with bins or without
+abbrev pub BareHaveNoBins : Type 0
+BareHaveNoBins = (job : Job) (draws : Draws) (id : ℕ) → bare (whole job draws id) ≡ outcome_with false job draws id
+
+found_by : BareHaveNoBins → (job : Job) (draws : Draws) (shift : Bool) (o : Outcome) → o ≡ outcome_with shift job draws o.id
+    → (o ≡ whole job draws o.id) ⊎ (o ≡ bare (whole job draws o.id))
+found_by law job draws true o is = inl is
+found_by law job draws false o is = inr (is ∙ sym (law job draws o.id))
+
+pub right_is_honest : BareHaveNoBins → RightIsHonest
+right_is_honest law job draws outcomes right = record {
+  apart = right.apart;
+  below = right.below;
+  found = λ k d l. found_by law job draws job.setting.shift (get_or outcomes k d) (right.found k d l);
+}
 
 -- ---- a stop in a save
 

@@ -1,5 +1,5 @@
 -- What a checkpoint is for a job is what its bytes are.
-use Rattle.std.proofs.Common.{◌≡◌, ℕ, ◌+◌, ◌*◌, ◌≤◌, Bool, true, false, not, List, length, Option, Some, None, refl, sym, ap, ◌∙◌, subst, inl, inr, arith}
+use Rattle.std.proofs.Common.{◌≡◌, ℕ, ◌≤◌, Bool, true, false, not, List, length, Option, Some, None, refl, sym, ap, ◌∙◌, subst, inl, inr, arith}
 use Rattle.std.specs.Prelude.{◌⊎◌, Result, Ok, Err, IfOk, OnOk, bytes_eq}
 use Rattle.std.specs.Int.{w32}
 use Rattle.std.proofs.lemmas.Bool.{le-ltb}
@@ -13,7 +13,7 @@ use Rattle.audit_model.specs.First.{first_below}
 use Rattle.audit_model.specs.Job.{Job}
 use Rattle.audit_model.specs.Run.{fits}
 use Rattle.checkpoint_definitions.specs.Checkpoint.{checkpoint_fault, number_at, stated_count}
-use Rattle.checkpoint_definitions.specs.Slots.{ours, other, checkpoint_limit, outcome_at, outcomes_in, slot_of, slot_of_bytes, slot_of_checkpoint, slot_of_digest, slot_of_ours}
+use Rattle.checkpoint_definitions.specs.Slots.{ours, other, checkpoint_limit, outcome_in, outcomes_in, slot_of, slot_of_bytes, slot_of_checkpoint, slot_of_digest, slot_of_ours}
 use Rattle.ckpt_format.specs.declared.decode.Checkpoint.{Checkpoint}
 use Rattle.ckpt_format.specs.Laws.{StandsIn}
 use Rattle.ckpt_store.specs.Fitting.{HasFitOutcomes, is_unfit, judged, judged_digest, judged_ours}
@@ -24,21 +24,21 @@ use Rattle.ckpt_store.proofs.Fits.{is_unfit_at}
 
 -- the least place of an outcome that does not fit, by the bytes and by the list
 first_same : (job : Job) (bytes : List ℕ)
-    → first_below (stated_count bytes) (λ k. not (fits job (outcome_at bytes (52 + 44 * k)))) ≡ first_below (length (outcomes_in bytes)) (is_unfit job (outcomes_in bytes))
+    → first_below (stated_count bytes) (λ k. not (fits job (outcome_in bytes k))) ≡ first_below (length (outcomes_in bytes)) (is_unfit job (outcomes_in bytes))
 first_same job bytes =
     let count = stated_count bytes in
-    let outcome = λ (k : ℕ). outcome_at bytes (52 + 44 * k) in
+    let outcome = outcome_in bytes in
     let many : length (outcomes_in bytes) ≡ count = length-map_below count outcome in
     first_below_same count (λ k. not (fits job (outcome k))) (is_unfit job (outcomes_in bytes))
     (λ k l. sym (is_unfit_at job (outcomes_in bytes) k (outcome 0) (omega (arith, many)) ∙ ap (λ (o : Outcome). not (fits job o)) (get_or-map_below count outcome k (outcome 0) l)))
     ∙ ap (λ n. first_below n (is_unfit job (outcomes_in bytes))) (sym many)
 
-by_first : (bytes : List ℕ) (c : Checkpoint) → StandsIn bytes c.digest c.generation c.outcomes.items → (o : Option ℕ) → slot_of_ours bytes o ≡ judged_ours c o
+by_first : (bytes : List ℕ) (c : Checkpoint) → StandsIn bytes c.version c.digest c.generation c.outcomes.items → (o : Option ℕ) → slot_of_ours bytes o ≡ judged_ours c o
 by_first bytes c stands None =
     ap (λ g. ours g (outcomes_in bytes)) stands.generation_at ∙ ap (λ (os : List Outcome). ours c.generation os) stands.outcomes_at
 by_first bytes c stands (Some place) = refl
 
-by_digest : (job : Job) (bytes : List ℕ) (c : Checkpoint) → StandsIn bytes c.digest c.generation c.outcomes.items → (b : Bool) → slot_of_digest job bytes b ≡ judged_digest job c b
+by_digest : (job : Job) (bytes : List ℕ) (c : Checkpoint) → StandsIn bytes c.version c.digest c.generation c.outcomes.items → (b : Bool) → slot_of_digest job bytes b ≡ judged_digest job c b
 by_digest job bytes c stands false =
     ap (λ (d : List ℕ). other d (number_at w32 44 bytes)) stands.digest_at ∙ ap (λ g. other c.digest g) stands.generation_at
 by_digest job bytes c stands true =
@@ -53,7 +53,7 @@ slot_of_fault job digest bytes o l e =
 
 -- the slot of a checkpoint
 pub slot_of_read : (job : Job) (digest bytes : List ℕ) (c : Checkpoint) → length bytes ≤ checkpoint_limit → checkpoint_fault bytes ≡ None
-    → StandsIn bytes c.digest c.generation c.outcomes.items → judged job digest c ≡ slot_of job digest (Some bytes)
+    → StandsIn bytes c.version c.digest c.generation c.outcomes.items → judged job digest c ≡ slot_of job digest (Some bytes)
 slot_of_read job digest bytes c l e stands =
     sym (slot_of_fault job digest bytes None l e
     ∙ ap (λ (d : List ℕ). slot_of_digest job bytes (bytes_eq d digest)) stands.digest_at

@@ -32,8 +32,8 @@ judged_as_ours job c fit =
     ap (judged_digest job c) ((bytes_eq-Decides c.digest c.digest).1 refl) ∙ ap (judged_ours c) (none_unfit job c.outcomes.items fit)
 
 pub checkpoints_are_ours : CheckpointsAreOurs
-checkpoints_are_ours job bytes digest generation outcomes is fit =
-    let c : Checkpoint = record { digest = digest; generation = generation; outcomes = record { items = outcomes; spare = 0 } } in
-    let size = (checkpoints_have_length bytes digest generation outcomes is).1 in
-    sym (slot_of_read job digest bytes c size (none-from_checkpoint bytes digest generation outcomes is) (checkpoints_are_read bytes digest generation outcomes is))
+checkpoints_are_ours job bytes version digest generation outcomes is fit =
+    let c : Checkpoint = record { version = version; digest = digest; generation = generation; outcomes = record { items = outcomes; spare = 0 } } in
+    let size = (checkpoints_have_length bytes version digest generation outcomes is).1 in
+    sym (slot_of_read job digest bytes c size (none-from_checkpoint bytes version digest generation outcomes is) (checkpoints_are_read bytes version digest generation outcomes is))
     ∙ judged_as_ours job c fit

@@ -104,13 +104,13 @@ replaced_for job digest before after (suc n) same =
     ap (λ (s : Stored). newest (slot_of job digest s) (slot_of job digest after.one_slot)) kept
 
 -- a slot with a checkpoint is the job's
-slot_of_saved : (job : Job) (bytes digest : List ℕ) (generation : ℕ) (outcomes : List Outcome) (s : Stored)
-    → IsCheckpoint bytes digest generation outcomes → IsTrue (list_all (fits job) outcomes) → s ≡ Some bytes → slot_of job digest s ≡ ours generation outcomes
-slot_of_saved job bytes digest generation outcomes s is fit holds = ap (slot_of job digest) holds ∙ checkpoints_are_ours job bytes digest generation outcomes is fit
+slot_of_saved : (job : Job) (bytes : List ℕ) (version : ℕ) (digest : List ℕ) (generation : ℕ) (outcomes : List Outcome) (s : Stored)
+    → IsCheckpoint bytes version digest generation outcomes → IsTrue (list_all (fits job) outcomes) → s ≡ Some bytes → slot_of job digest s ≡ ours generation outcomes
+slot_of_saved job bytes version digest generation outcomes s is fit holds = ap (slot_of job digest) holds ∙ checkpoints_are_ours job bytes version digest generation outcomes is fit
 
 pub saved_slots_are_newest : SavedSlotsAreNewest
-saved_slots_are_newest job digest before after number generation outcomes at is fit holds same =
-    let slot = slot_of_saved job (checkpoint digest generation outcomes) digest generation outcomes (stored after number) is fit holds in
+saved_slots_are_newest job version digest before after number generation outcomes at is fit holds same =
+    let slot = slot_of_saved job (checkpoint version digest generation outcomes) version digest generation outcomes (stored after number) is fit holds in
     record {
       bytes = holds;
       slot = slot;
@@ -132,8 +132,8 @@ newest_beside job digest (suc n) generation after l is =
     }
 
 -- the slots after a save that did not fail, where the keeper tells them
-pub newest_where_told : (bytes digest : List ℕ) (number generation : ℕ) (outcomes : List Outcome) (told : Option Pair) → number < 2
-    → IsCheckpoint bytes digest generation outcomes → HoldsBytes told number bytes → IfTold told (IsNewestForFitJobs digest number generation outcomes)
-newest_where_told bytes digest number generation outcomes None l is holds = tt
-newest_where_told bytes digest number generation outcomes (Some after) l is holds =
-    λ job fit. newest_beside job digest number generation after l (ap generation_of (slot_of_saved job bytes digest generation outcomes (stored after number) is fit holds))
+pub newest_where_told : (bytes : List ℕ) (version : ℕ) (digest : List ℕ) (number generation : ℕ) (outcomes : List Outcome) (told : Option Pair) → number < 2
+    → IsCheckpoint bytes version digest generation outcomes → HoldsBytes told number bytes → IfTold told (IsNewestForFitJobs digest number generation outcomes)
+newest_where_told bytes version digest number generation outcomes None l is holds = tt
+newest_where_told bytes version digest number generation outcomes (Some after) l is holds =
+    λ job fit. newest_beside job digest number generation after l (ap generation_of (slot_of_saved job bytes version digest generation outcomes (stored after number) is fit holds))

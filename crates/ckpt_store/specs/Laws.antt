@@ -4,7 +4,7 @@ use Rattle.std.specs.List.{list_all}
 use Rattle.audit_io.specs.Slots.{Pair, other_stored, stored}
 use Rattle.audit_model.specs.declared.outcome.Outcome.{Outcome}
 use Rattle.audit_model.specs.Job.{Job}
-use Rattle.audit_model.specs.Run.{IsRight, fits}
+use Rattle.audit_model.specs.Run.{IsHonest, IsRight, fits}
 use Rattle.audit_model.specs.Trajectory.{Draws}
 use Rattle.checkpoint_definitions.specs.Checkpoint.{IsCheckpoint, checkpoint}
 use Rattle.checkpoint_definitions.specs.Slots.{IsAfterStop, IsHonestSlot, Slot, absent, broken, generation_of, newest, opening, other, ours, place, slot_of}
@@ -30,8 +30,8 @@ place_for job digest p = place (slot_of job digest p.zero_slot) (slot_of job dig
 
 -- a checkpoint of outcomes that all fit a job is the job's, where the job is looked for by the checkpoint's digest
 abbrev pub CheckpointsAreOurs : Type 0
-CheckpointsAreOurs = (job : Job) (bytes digest : List ℕ) (generation : ℕ) (outcomes : List Outcome)
-    → IsCheckpoint bytes digest generation outcomes → IsTrue (list_all (fits job) outcomes)
+CheckpointsAreOurs = (job : Job) (bytes : List ℕ) (version : ℕ) (digest : List ℕ) (generation : ℕ) (outcomes : List Outcome)
+    → IsCheckpoint bytes version digest generation outcomes → IsTrue (list_all (fits job) outcomes)
     → slot_of job digest (Some bytes) ≡ ours generation outcomes
 
 -- whatever both slots are, an intact slot of the generation and in the slot of the place is the newest
@@ -41,18 +41,18 @@ WrittenSlotsAreNewest = (first second new : Slot) (number generation : ℕ)
     → newest_of_both (replaced number new first second) ≡ Some number
 
 -- the slot that was written is the job's, with these outcomes, and the newest
-pub record IsSavedAs (job : Job) (digest : List ℕ) (number generation : ℕ) (outcomes : List Outcome) (after : Pair) : Type 0 where
-  pub bytes : stored after number ≡ Some (checkpoint digest generation outcomes)
+pub record IsSavedAs (job : Job) (version : ℕ) (digest : List ℕ) (number generation : ℕ) (outcomes : List Outcome) (after : Pair) : Type 0 where
+  pub bytes : stored after number ≡ Some (checkpoint version digest generation outcomes)
   pub slot : slot_of job digest (stored after number) ≡ ours generation outcomes
   pub newest : newest_for job digest after ≡ Some number
 
 -- a checkpoint that was written to the place of a job's slots, and no other slot, is in the newest slot
 abbrev pub SavedSlotsAreNewest : Type 0
-SavedSlotsAreNewest = (job : Job) (digest : List ℕ) (before after : Pair) (number generation : ℕ) (outcomes : List Outcome)
+SavedSlotsAreNewest = (job : Job) (version : ℕ) (digest : List ℕ) (before after : Pair) (number generation : ℕ) (outcomes : List Outcome)
     → place_for job digest before ≡ (number, generation)
-    → IsCheckpoint (checkpoint digest generation outcomes) digest generation outcomes → IsTrue (list_all (fits job) outcomes)
-    → stored after number ≡ Some (checkpoint digest generation outcomes) → stored after (1 - number) ≡ stored before (1 - number)
-    → IsSavedAs job digest number generation outcomes after
+    → IsCheckpoint (checkpoint version digest generation outcomes) version digest generation outcomes → IsTrue (list_all (fits job) outcomes)
+    → stored after number ≡ Some (checkpoint version digest generation outcomes) → stored after (1 - number) ≡ stored before (1 - number)
+    → IsSavedAs job version digest number generation outcomes after
 
 -- the slot with this number is the newest for the job where the other one is not intact, and where it has the generation before this one
 pub record IsNewestWhere (job : Job) (digest : List ℕ) (number generation : ℕ) (other_slot : Slot) (after : Pair) : Type 0 where
@@ -66,10 +66,14 @@ IsNewestForFitJobs digest number generation outcomes after = (job : Job) → IsT
 
 -- ---- honest slots
 
--- outcomes from honest slots with which a run may start were found by the job's trajectories
+-- what the job's trajectories find is honest
+abbrev pub RightIsHonest : Type 0
+RightIsHonest = (job : Job) (draws : Draws) (outcomes : List Outcome) → IsRight job draws outcomes → IsHonest job draws outcomes
+
+-- outcomes from honest slots with which a run may start are what the job's trajectories find
 abbrev pub HonestSlotsOpenRight : Type 0
 HonestSlotsOpenRight = (job : Job) (draws : Draws) (first second : Slot) (outcomes : List Outcome)
-    → IsHonestSlot job draws first → IsHonestSlot job draws second → opening true first second ≡ Some outcomes
+    → IsHonestSlot job draws first → IsHonestSlot job draws second → opening true job.setting first second ≡ Some outcomes
     → IsRight job draws outcomes
 
 -- the slot holds no checkpoint of the job

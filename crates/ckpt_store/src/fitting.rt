@@ -1,11 +1,11 @@
 //! Whether outcomes could be those of a job.
 
-ghost use Rattle.std.specs.Prelude.{◌≡◌, ◌+◌, ◌≤◌, ◌&&◌, ◌||◌, not, nat_lt, nat_le, pos, int_le, drop, length};
+ghost use Rattle.std.specs.Prelude.{◌≡◌, ◌+◌, ◌≤◌, ◌&&◌, ◌||◌, not, nat_lt, nat_le, pos, int_le, drop, length, sum};
 ghost use Rattle.std.specs.List.{list_all};
 ghost use Rattle.std.specs.Ordering.{int_eq};
 ghost use Rattle.audit_model.specs.Below.{all_below};
 ghost use Rattle.audit_model.specs.First.{first_below};
-ghost use Rattle.audit_model.specs.Run.{fits, steps_of, total};
+ghost use Rattle.audit_model.specs.Run.{bins_fit, fits, is_bare, steps_of, total};
 ghost use Rattle.audit_model.specs.Trajectory.{value_at};
 ghost use Rattle.ckpt_store.specs.Fitting.{is_unfit};
 
@@ -29,7 +29,10 @@ pub(crate) fn first_unfit(job: &Job, outcomes: &[Outcome]) -> Option<u32>
 fn fits(job: &Job, outcome: &Outcome) -> bool
     ensures { result ≡ fits job.now outcome.now }
 {
-    is_within(job, outcome) && ends_in_zeros(job, outcome) && counts_visits(job, outcome)
+    is_within(job, outcome)
+        && ends_in_zeros(job, outcome)
+        && counts_visits(job, outcome)
+        && has_fit_bins(job, outcome)
 }
 
 /// Whether the id is one of the job's, with no more moves than its trajectory has steps.
@@ -96,4 +99,30 @@ fn is_visit(value: i64, steps: u32) -> bool
     ensures { result ≡ (int_le (pos 1) value && int_le value (pos (steps + 1))) }
 {
     1 <= value && value <= i64::from(steps) + 1
+}
+
+/// Whether the bins are all 0, or those of a walk that add up to its number of visits.
+fn has_fit_bins(job: &Job, outcome: &Outcome) -> bool
+    ensures { result ≡ bins_fit (nat_lt outcome.now.id job.now.setting.walks) job.now outcome.now }
+{
+    let setting = job.setting();
+    is_bare(outcome)
+        || outcome.id < setting.walks && sum_of(&outcome.bins) == u64::from(setting.steps) + 1
+}
+
+fn is_bare(outcome: &Outcome) -> bool
+    ensures { result ≡ is_bare outcome.now }
+{
+    outcome.bins.iter().all(|bin| *bin == 0)
+}
+
+/// The sum of bins.
+fn sum_of(bins: &[u32; 9]) -> u64
+    ensures { result ≡ sum bins.now }
+{
+    let mut all = 0;
+    for bin in bins {
+        all += u64::from(*bin);
+    }
+    all
 }

@@ -1,6 +1,8 @@
 //! Laws of the slots of a keeper, each the contract of a function that does nothing.
 
-ghost use Rattle.ckpt_store.specs.Laws.{CheckpointsAreOurs, HonestSlotsOpenRight, SavedSlotsAreNewest, StopsLeaveHonestSlots, WrittenSlotsAreNewest};
+ghost use Rattle.ckpt_store.specs.Laws.{CheckpointsAreOurs, HonestSlotsOpenRight, RightIsHonest, SavedSlotsAreNewest, StopsLeaveHonestSlots, WrittenSlotsAreNewest};
+
+use model_laws::laws::{bare_outcomes_have_no_bins, honest_runs_go_on_rightly};
 
 /// A checkpoint is the job's where the job is looked for by its digest and all its outcomes fit the job.
 pub fn checkpoints_are_ours()
@@ -17,10 +19,19 @@ pub fn saved_slots_are_newest()
     ensures { SavedSlotsAreNewest }
 {}
 
-/// Outcomes from honest slots with which a run may start were found by the job's trajectories.
+/// What a job's trajectories find is honest: each outcome is whole or without its bins.
+pub fn right_outcomes_are_honest()
+    ensures { RightIsHonest }
+{
+    bare_outcomes_have_no_bins();
+}
+
+/// Outcomes from honest slots with which a run may start are what the job's trajectories find.
 pub fn honest_slots_open_right()
     ensures { HonestSlotsOpenRight }
-{}
+{
+    honest_runs_go_on_rightly();
+}
 
 /// A stop in a save leaves honest slots, where its own slot is as before, or is none of the job's, or is honest.
 pub fn a_stop_in_a_save_leaves_honest_slots()

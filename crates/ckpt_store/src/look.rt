@@ -16,7 +16,7 @@ use plan_core::job::Job;
 use std::alloc::Global;
 
 /// The most bytes of a checkpoint.
-const LIMIT: u64 = 4_400_084;
+const LIMIT: u64 = 8_000_084;
 
 /// Why a slot was not looked at.
 #[derive(Clone, Copy, Debug, PartialEq, Eq)]

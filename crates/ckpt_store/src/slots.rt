@@ -2,7 +2,7 @@
 
 ghost use Rattle.std.specs.Prelude.{◌≡◌, ◌<◌, Some, None, MatchResult};
 ghost use Rattle.checkpoint_definitions.specs.Slots as definition;
-ghost use Rattle.ckpt_store.specs.View.{newest_answer, newest_seen, opening_seen, is_absent, opened, outcomes_held, place_seen, slot_view, without_intact};
+ghost use Rattle.ckpt_store.specs.View.{held_seen, newest_answer, newest_seen, is_absent, opened, outcomes_held, place_seen, slot_view, without_intact};
 
 use audit_model::fault::CkptFault;
 use ckpt_format::decode::Checkpoint;
@@ -124,7 +124,7 @@ impl Slots {
     /// - `OtherJob`: the newest slot holds a checkpoint of another job.
     pub fn newest(self, wanted: &[u8; 32]) -> Result<Option<Checkpoint>, StoreFault>
         ensures answer { result ≡ newest_answer self wanted.now }
-        ensures opening { MatchResult result (λ c. opening_seen self ≡ Some (outcomes_held c)) (λ _. opening_seen self ≡ None) }
+        ensures held { MatchResult result (λ c. held_seen self ≡ Some (outcomes_held c)) (λ _. held_seen self ≡ None) }
     {
         match self.newest_number() {
             None => self.without_intact(),

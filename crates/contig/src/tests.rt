@@ -86,49 +86,6 @@ fn ring(rt: HostRuntime) {
     assert!(rt; found == Ok(Some((false, true, true))));
 }
 
-// The middle of a path parts its district.
-#[test]
-fn middle(rt: HostRuntime) {
-    let found = answers(rt.alloc(), &[(0, 1), (1, 2)], &[0, 0, 0], 1);
-    assert!(rt; found == Ok(Some((false, false, false))));
-}
-
-// A unit that is alone in its district.
-#[test]
-fn alone(rt: HostRuntime) {
-    let found = answers(rt.alloc(), &[(0, 1), (1, 2)], &[0, 1, 0], 1);
-    assert!(rt; found == Ok(Some((false, false, false))));
-}
-
-// A corner of three rows of three, whose two neighbours are not adjacent.
-#[test]
-fn corner(rt: HostRuntime) {
-    let pairs = [
-        (0, 1),
-        (0, 3),
-        (1, 2),
-        (1, 4),
-        (2, 5),
-        (3, 4),
-        (3, 6),
-        (4, 5),
-        (4, 7),
-        (5, 8),
-        (6, 7),
-        (7, 8),
-    ];
-    let found = answers(rt.alloc(), &pairs, &[1, 0, 0, 0, 0, 0, 0, 0, 0], 8);
-    assert!(rt; found == Ok(Some((false, true, true))));
-}
-
-// A triangle with a unit of another district beside its first: the certificate is enough.
-#[test]
-fn triangle(rt: HostRuntime) {
-    let pairs = [(0, 1), (0, 2), (0, 3), (1, 2)];
-    let found = answers(rt.alloc(), &pairs, &[0, 0, 0, 1], 0);
-    assert!(rt; found == Ok(Some((true, true, true))));
-}
-
 // A hub of a ring of eighteen has more neighbours than there are labels.
 #[test]
 fn wheel(rt: HostRuntime) {

@@ -6,8 +6,7 @@ use Rattle.std.proofs.lemmas.List.{ext_get_or, get_or-set_same, get_or-set_other
 use Rattle.audit_model.specs.Below.{count_below, sum_below, map_below}
 use Rattle.dual_graph.proofs.Rows.{length-map_below, get_or-map_below}
 use Rattle.audit_model.specs.Graph.{Graph, IsGraph, adjacent}
-use Rattle.audit_model.specs.Plan.{in_district, district_sum}
-use Rattle.audit_model.specs.Score.{cut_edges}
+use Rattle.audit_model.specs.Plan.{in_district, district_sum, cut_edges}
 use Rattle.model_laws.proofs.Below.{count_below_same}
 use Rattle.district_sums.specs.Following.{apart_of}
 use Rattle.district_sums.proofs.Summing.{part_small}

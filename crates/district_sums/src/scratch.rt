@@ -3,8 +3,8 @@
 ghost use Rattle.std.specs.Prelude.{◌≡◌, ℕ, ◌^◌, ◌<◌, ◌≤◌, ◌==◌, ◌&&◌, not, true, length, slice_index, All};
 ghost use Rattle.audit_model.specs.Below.{count_below, map_below};
 ghost use Rattle.audit_model.specs.Graph.{IsGraph, adjacent, count_edges};
-ghost use Rattle.audit_model.specs.Plan.{district_sum};
-ghost use Rattle.audit_model.specs.Score.{cut_edges, sums_of};
+ghost use Rattle.audit_model.specs.Plan.{cut_edges, district_sum};
+ghost use Rattle.audit_model.specs.Score.{sums_of};
 ghost use Rattle.district_sums.specs.Following.{AreInputs, apart_of};
 
 use audit_model::lists::{NumList, UnitList};
@@ -53,8 +53,8 @@ fn others_below(g: &Graph, plan: &[u32], unit: u32, bound: u32) -> u32
     others as u32
 }
 
-/// How many edges are cut.
-fn count_cut(g: &Graph, plan: &[u32]) -> u32
+/// How many edges a plan cuts. It takes no memory.
+pub fn count_cut(g: &Graph, plan: &[u32]) -> u32
     requires graph { IsGraph g.now }
     requires plan { length plan.now ≡ g.now.units }
     requires few { count_edges g.now (λ u v. true) ≤ 400000 }

@@ -1,14 +1,16 @@
--- A proposal is a move exactly where its pair is open, both populations stay within the bounds, and the unit may leave its district.
+-- A proposal is a move exactly where its pair is open, both populations stay within the bounds, the plan after it meets the rules, and the
+-- unit may leave its district.
 use Rattle.std.proofs.Common.{◌≡◌, ℕ, ◌+◌, ◌<◌, ◌≤◌, Bool, true, false, cond, not, ◌&&◌, ◌==◌, List, [], ◌∷◌, length, get_or, set, refl, sym, ap, ◌∙◌, subst, inl, inr, arith, length-set}
 use Rattle.std.specs.Prelude.{◌⊎◌}
 use Rattle.std.proofs.lemmas.Bool.{cases_eq, eq-eqb, eqb-true, ne_eqb, and_right, both_ways, cond-true, cond-false, not_from_true, not_from_false}
 use Rattle.std.proofs.lemmas.List.{get_or-set_same, get_or-set_other}
 use Rattle.audit_model.specs.Graph.{Graph, IsGraph, adjacent, IsIn}
-use Rattle.audit_model.specs.Job.{Job}
+use Rattle.audit_model.specs.Job.{Job, rules}
 use Rattle.audit_model.specs.JobOf.{IsJob}
 use Rattle.audit_model.specs.Local.{stays_behind, MayLeave}
+use Rattle.audit_model.specs.Meets.{Meets}
 use Rattle.audit_model.specs.Path.{IsPath, HasPath, IsConnected}
-use Rattle.audit_model.specs.Plan.{in_district, district_sum, IsBalanced, IsLegal, least_population, greatest_population}
+use Rattle.audit_model.specs.Plan.{in_district, district_sum, cut_edges, IsBalanced, IsLegal, least_population, greatest_population}
 use Rattle.model_laws.proofs.Accepted.{balanced_between}
 use Rattle.contig.proofs.Paths.{path_one, path_before, path_after, path_joined, path_within, first_in}
 use Rattle.district_sums.proofs.Shifted.{shifted_sum}
@@ -182,8 +184,9 @@ module _ (job : Job) (plan : List ℕ) (u d : ℕ) (sound : IsJob job) (legal : 
     ]
   ]
 
-  pub is_move : is_open job.graph plan u d ≡ true → Keeps → MayLeave job.graph plan u → IsMove job plan u d
-  is_move beside keeps leaves = record {
+  pub is_move : is_open job.graph plan u d ≡ true → Keeps → Meets (rules job) (cut_edges job.graph (set plan u d)) (set plan u d) → MayLeave job.graph plan u
+      → IsMove job plan u d
+  is_move beside keeps meets leaves = record {
     elsewhere = off;
     legal = record {
       complete = length-set plan u d ∙ legal.complete;
@@ -193,6 +196,7 @@ module _ (job : Job) (plan : List ℕ) (u d : ℕ) (sound : IsJob job) (legal : 
       ];
       connected = connected_after beside leaves;
       balanced = balanced_after keeps;
+      meeting = meets;
     };
   }
 

@@ -6,7 +6,7 @@ ghost use Rattle.audit_model.specs.Local.{IsLocal};
 ghost use Rattle.audit_model.specs.Plan.{IsLegal, district_sum, least_population, greatest_population};
 ghost use Rattle.audit_model.specs.Step.{next};
 ghost use Rattle.district_sums.specs.Following.{StandsFor, districts_in};
-ghost use Rattle.flip_kernel.specs.Held.{IsMove, KeepsBounds, ProposesOpen, sums_in};
+ghost use Rattle.flip_kernel.specs.Held.{IsMove, KeepsBounds, LimitsNothing, ProposesOpen, sums_in};
 ghost use Rattle.flip_kernel.specs.Openings.{is_open};
 
 use crate::openings::Openings;
@@ -79,8 +79,9 @@ fn are_kept(low: u64, high: u64, people: u64, from: u64, to: u64) -> bool
 }
 
 impl State {
-    /// The start plan of a job.
+    /// The start plan of a job whose rules limit nothing.
     pub fn new(alloc: Global, job: &Job) -> Result<State, Memory>
+        requires { LimitsNothing job.now }
         ensures job { IfOk result (λ s. s.job ≡ job.now) }
         ensures plan { IfOk result (λ s. s.plan ≡ job.now.start) }
     {

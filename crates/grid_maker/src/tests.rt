@@ -70,6 +70,12 @@ fn setting(alloc: Global) -> Result<Setting, Memory>
         save_every: 0,
         resume: false,
         size: 1,
+        max_cut: 400_000,
+        shift: false,
+        stop: 0,
+        serial: false,
+        region: Text::new(alloc),
+        max_split: 200,
     })
 }
 

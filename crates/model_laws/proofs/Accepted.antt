@@ -3,23 +3,26 @@ use Rattle.std.proofs.Common.{◌≡◌, ℕ, zero, suc, ◌+◌, ◌-◌, ◌*�
 use Rattle.std.specs.Prelude.{◌↔◌, slice_index, option_map}
 use Rattle.std.specs.Option.{option_or}
 use Rattle.std.proofs.Math.Nat.{mul_comm}
-use Rattle.std.proofs.lemmas.Bool.{cases_eq, cond-false, leb-true, le-leb, not-false, not_from_true}
+use Rattle.std.proofs.lemmas.Bool.{cases_eq, cond-false, leb-true, le-leb, le-ltb, ltb-false, not-false, not_from_true}
 use Rattle.std.proofs.lemmas.Nat.{mul-le, div-add-mod', le-div}
+use Rattle.audit_model.specs.Below.{above_all}
 use Rattle.audit_model.specs.First.{first_some, first_below}
 use Rattle.audit_model.specs.Job.{Job, total_population}
-use Rattle.audit_model.specs.JobOf.{lacks_votes, is_unbalanced, is_parted, votes_fault, bounds_fault, path_fault, out_of_bounds, disconnected, plan_fault}
-use Rattle.audit_model.specs.declared.fault.PlanFault.TheVariants.{NoVotes}
+use Rattle.audit_model.specs.JobOf.{lacks_votes, is_unbalanced, is_parted, cuts_too_many, is_oversplit, votes_fault, bounds_fault, path_fault, cut_fault, split_fault, out_of_bounds, disconnected, oversplit, plan_fault}
+use Rattle.audit_model.specs.declared.fault.PlanFault.TheVariants.{NoVotes, TooManyCut}
+use Rattle.audit_model.specs.Meets.{split_of}
 use Rattle.audit_model.specs.Path.{is_connected}
-use Rattle.audit_model.specs.Plan.{in_district, district_sum, IsBalanced, IsLegal, is_balanced, least_population, greatest_population}
+use Rattle.audit_model.specs.Plan.{in_district, district_sum, cut_edges, IsBalanced, IsLegal, is_balanced, least_population, greatest_population}
 use Rattle.audit_model.specs.Rounded.{quotient_up}
 use Rattle.model_laws.proofs.Connected.{connected_passes, passes_connected}
 use Rattle.model_laws.proofs.Least.{quotient_up_is_least}
 use Rattle.model_laws.proofs.Legal.{balanced_passes, passes_balanced}
+use Rattle.model_laws.proofs.Meeting.{splits_from}
 
 -- ---- the bounds
 
 -- a product is enough exactly from the rounded quotient on
-enough_from : (a b p : ℕ) → 0 < b → (a ≤ b * p) ↔ (quotient_up a b ≤ p)
+pub enough_from : (a b p : ℕ) → 0 < b → (a ≤ b * p) ↔ (quotient_up a b ≤ p)
 enough_from a b p above =
     let least = quotient_up_is_least a b above in (
       λ h. least.least p (le-leb a (p * b) (omega (arith, h, mul_comm b p))),
@@ -30,7 +33,7 @@ enough_from a b p above =
     )
 
 -- a product is small enough exactly up to the quotient
-small_up_to : (b c p : ℕ) → 0 < b → (b * p ≤ c) ↔ (p ≤ c / b)
+pub small_up_to : (b c p : ℕ) → 0 < b → (b * p ≤ c) ↔ (p ≤ c / b)
 small_up_to b c p above = (
   λ h. le-div p c b above (omega (arith, h, mul_comm b p)),
   λ h.
@@ -79,12 +82,15 @@ none_first_below (suc n) test each =
 
 -- ---- which start plans are accepted
 
-no_fault_parts : (job : Job) → plan_fault job ≡ None → (votes_fault job ≡ None) × (bounds_fault job ≡ None) × (path_fault job ≡ None)
+no_fault_parts : (job : Job) → plan_fault job ≡ None
+    → (votes_fault job ≡ None) × (bounds_fault job ≡ None) × (path_fault job ≡ None) × (cut_fault job ≡ None) × (split_fault job ≡ None)
 no_fault_parts job h =
-    let first = option_or_none (votes_fault job) (first_some (bounds_fault job ∷ path_fault job ∷ [])) h in
-    let second = option_or_none (bounds_fault job) (first_some (path_fault job ∷ [])) first.1 in
-    let third = option_or_none (path_fault job) (first_some []) second.1 in
-    (first.0, second.0, third.0)
+    let first = option_or_none (votes_fault job) (first_some (bounds_fault job ∷ path_fault job ∷ cut_fault job ∷ split_fault job ∷ [])) h in
+    let second = option_or_none (bounds_fault job) (first_some (path_fault job ∷ cut_fault job ∷ split_fault job ∷ [])) first.1 in
+    let third = option_or_none (path_fault job) (first_some (cut_fault job ∷ split_fault job ∷ [])) second.1 in
+    let fourth = option_or_none (cut_fault job) (first_some (split_fault job ∷ [])) third.1 in
+    let fifth = option_or_none (split_fault job) (first_some []) fourth.1 in
+    (first.0, second.0, third.0, fourth.0, fifth.0)
 
 -- with no fault there are votes where they are asked for, and the start plan is legal
 pub accepted_is_legal : (job : Job) → length job.start ≡ job.graph.units
@@ -102,16 +108,31 @@ accepted_is_legal job complete in_range h =
         balanced = λ d l. passes_balanced job (district_sum job.counts.population job.start d)
             (not-false (is_balanced job (district_sum job.counts.population job.start d))
             (first_below_none job.districts (is_unbalanced job) d (option_map_none (out_of_bounds job) (first_below job.districts (is_unbalanced job)) parts.1) l));
+        meeting = record {
+          few_cuts = ltb-false job.setting.max_cut (cut_edges job.graph job.start)
+              (cond_some_none (cuts_too_many job) (TooManyCut (cut_edges job.graph job.start) job.setting.max_cut) parts.3);
+          few_splits = splits_from job.regions job.start job.setting.max_split (λ region l.
+              ltb-false job.setting.max_split (split_of job.regions job.start region)
+              (first_below_none (above_all job.regions) (is_oversplit job) region
+              (option_map_none (oversplit job) (first_below (above_all job.regions) (is_oversplit job)) parts.4) l));
+        };
       },
     )
 
 -- and the other way round
 pub legal_is_accepted : (job : Job) → lacks_votes job ≡ false → IsLegal job job.start → plan_fault job ≡ None
 legal_is_accepted job votes legal =
-    ap (λ o. option_or o (first_some (bounds_fault job ∷ path_fault job ∷ []))) (cond-false (lacks_votes job) (Some NoVotes) None votes)
-    ∙ ap (λ o. option_or (option_map (out_of_bounds job) o) (first_some (path_fault job ∷ [])))
+    ap (λ o. option_or o (first_some (bounds_fault job ∷ path_fault job ∷ cut_fault job ∷ split_fault job ∷ [])))
+    (cond-false (lacks_votes job) (Some NoVotes) None votes)
+    ∙ ap (λ o. option_or (option_map (out_of_bounds job) o) (first_some (path_fault job ∷ cut_fault job ∷ split_fault job ∷ [])))
     (none_first_below job.districts (is_unbalanced job) (λ d l. not_from_true (is_balanced job (district_sum job.counts.population job.start d))
     (balanced_passes job (district_sum job.counts.population job.start d) (legal.balanced d l))))
-    ∙ ap (λ o. option_or (option_map (disconnected job) o) (first_some []))
+    ∙ ap (λ o. option_or (option_map (disconnected job) o) (first_some (cut_fault job ∷ split_fault job ∷ [])))
     (none_first_below job.districts (is_parted job) (λ d l. not_from_true (is_connected job.graph (in_district job.start d))
     (connected_passes job.graph (in_district job.start d) (legal.connected d l))))
+    ∙ ap (λ o. option_or o (first_some (split_fault job ∷ [])))
+    (cond-false (cuts_too_many job) (Some (TooManyCut (cut_edges job.graph job.start) job.setting.max_cut)) None
+    (le-ltb job.setting.max_cut (cut_edges job.graph job.start) legal.meeting.few_cuts))
+    ∙ ap (λ o. option_or (option_map (oversplit job) o) (first_some []))
+    (none_first_below (above_all job.regions) (is_oversplit job) (λ region l.
+    le-ltb job.setting.max_split (split_of job.regions job.start region) (legal.meeting.few_splits region)))

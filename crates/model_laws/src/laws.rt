@@ -1,26 +1,39 @@
 //! Laws of the definitions, each the contract of a function that does nothing.
 
-ghost use Rattle.std.specs.Prelude.{◌||◌, ◌≡◌, None, slice_index, length, IsFalse, ℕ, ◌*◌, ◌/◌, ◌^◌, ◌<◌, ◌≤◌, nat_le, Bool, List, ◌↔◌, IsTrue};
+ghost use Rattle.std.specs.Prelude.{◌||◌, ◌≡◌, None, true, false, [], slice_index, length, IsFalse, ℕ, ◌+◌, ◌-◌, ◌*◌, ◌/◌, ◌^◌, ◌<◌, ◌≤◌, nat_le, Bool, List, ◌++◌, ℤ, ◌↔◌, IsTrue};
 ghost use Rattle.audit_model.specs.Apart.{AllApart};
-ghost use Rattle.audit_model.specs.Graph.{Graph};
-ghost use Rattle.audit_model.specs.Job.{Job};
+ghost use Rattle.audit_model.specs.Graph.{Graph, IsIn, count_edges, has};
+ghost use Rattle.audit_model.specs.Job.{Job, rules, total_population};
 ghost use Rattle.audit_model.specs.JobOf.{lacks_votes, plan_fault};
 ghost use Rattle.audit_model.specs.Least.{IsLeast};
 ghost use Rattle.audit_model.specs.Local.{IsLocal, IsSimple, MayLeave};
 ghost use Rattle.audit_model.specs.Machine.{Machine, IsRun, started, state_after};
 ghost use Rattle.audit_model.specs.declared.outcome.Event.{Event};
-ghost use Rattle.audit_model.specs.Path.{IsConnected, is_connected};
-ghost use Rattle.audit_model.specs.Plan.{in_district, IsBalanced, IsLegal, is_legal, least_population, greatest_population};
+ghost use Rattle.audit_model.specs.declared.rules.Rules.{Rules};
+ghost use Rattle.audit_model.specs.Meets.{Meets, meets_rules};
+ghost use Rattle.audit_model.specs.Path.{HasPath, IsConnected, is_connected, reached};
+ghost use Rattle.audit_model.specs.Plan.{in_district, cut_edges, IsBalanced, IsLegal, is_legal, least_population, greatest_population};
 ghost use Rattle.audit_model.specs.declared.outcome.Outcome.{Outcome};
-ghost use Rattle.audit_model.specs.Graph.{has};
-ghost use Rattle.audit_model.specs.Run.{total, has_id, run_ids, full, IsRight};
+ghost use Rattle.audit_model.specs.Run.{total, has_id, run_ids, full, fits, taken_up, IsHonest, IsRight};
 ghost use Rattle.audit_model.specs.Step.{next, ways, mirrored};
+ghost use Rattle.audit_model.specs.declared.setting.Tail.{Tail};
+ghost use Rattle.audit_model.specs.Stopping.{count_in_tail, stop};
 ghost use Rattle.audit_model.specs.Test.{bound, p_value};
-ghost use Rattle.audit_model.specs.Trajectory.{Draws, sequence, visit};
+ghost use Rattle.audit_model.specs.Trajectory.{Draws, bare, outcome_with, sequence, visit, whole};
 
 /// The test of connectedness answers whether any two units of the set have a path.
 pub fn is_connected_decides()
     ensures { (g : Graph) (inside : ℕ → Bool) → IsTrue (is_connected g inside) ↔ IsConnected g inside }
+{}
+
+/// The units that a search reaches from a unit of a set are those to which a path within it leads.
+pub fn reached_decides()
+    ensures { (g : Graph) (inside : ℕ → Bool) (x v : ℕ) → IsIn g inside x → IsTrue (has (reached g inside x) v) ↔ HasPath g inside x v }
+{}
+
+/// The test of the rules answers whether a plan that cuts so many edges meets them.
+pub fn meets_rules_decides()
+    ensures { (rules : Rules) (cut : ℕ) (plan : List ℕ) → IsTrue (meets_rules rules cut plan) ↔ Meets rules cut plan }
 {}
 
 /// The test of legality answers whether the plan is legal.
@@ -60,10 +73,37 @@ pub fn visits_stay_legal()
     ensures { (job : Job) (draws : ℕ → ℕ) (plan : List ℕ) (i : ℕ) → IsLegal job plan → IsLegal job (visit job draws plan i) }
 {}
 
-/// A population is within the bounds exactly from the least to the greatest.
+/// An outcome without its bins is what is found where no bins are asked for.
+pub fn bare_outcomes_have_no_bins()
+    ensures { (job : Job) (draws : Draws) (id : ℕ) → bare (whole job draws id) ≡ outcome_with false job draws id }
+{}
+
+/// What a run goes on from, of outcomes that were found with bins or without, is what its trajectories find.
+pub fn honest_runs_go_on_rightly()
+    ensures { (job : Job) (draws : Draws) (outcomes : List Outcome) → IsHonest job draws outcomes →
+        IsRight job draws (taken_up job.setting.shift job.setting.walks outcomes) }
+{}
+
+/// An outcome that fits a job fits it without its bins.
+pub fn bare_outcomes_fit()
+    ensures { (job : Job) (o : Outcome) → IsTrue (fits job o) → IsTrue (fits job (bare o)) }
+{}
+
+/// With no regions, and no fewer cut edges allowed than there are edges, each plan meets the rules.
+pub fn default_rules_limit_nothing()
+    ensures { (job : Job) (plan : List ℕ) → count_edges job.graph (λ u v. true) ≤ job.setting.max_cut → job.regions ≡ [] →
+        Meets (rules job) (cut_edges job.graph plan) plan }
+{}
+
+/// A population is within the bounds exactly from the least to the greatest: one is the least that is large enough, and the other the
+/// greatest that is small enough.
 pub fn bounds_are_two_numbers()
-    ensures { (job : Job) (population : ℕ) → 0 < job.districts →
+    ensures both { (job : Job) (population : ℕ) → 0 < job.districts →
         IsBalanced job population ↔ ((least_population job ≤ population) × (population ≤ greatest_population job)) }
+    ensures lower { (job : Job) (population : ℕ) → 0 < job.districts →
+        ((10000 - job.setting.slack) * total_population job ≤ 10000 * job.districts * population) ↔ (least_population job ≤ population) }
+    ensures upper { (job : Job) (population : ℕ) → 0 < job.districts →
+        (10000 * job.districts * population ≤ (10000 + job.setting.slack) * total_population job) ↔ (population ≤ greatest_population job) }
 {}
 
 /// A start plan is refused for no other reasons than missing votes and that it is not legal.
@@ -83,6 +123,12 @@ pub fn resumed_runs_add_up()
     ensures { (job : Job) (draws : Draws) (opening : List Outcome) (budget : ℕ) → IsRight job draws opening →
         ((id : ℕ) → id < total job → IsTrue (has_id opening id || has (run_ids job opening budget) id)) →
         full job draws opening budget ≡ sequence job draws }
+{}
+
+/// Where enough values are in the tail, no value after them changes where a test stops that stops early.
+pub fn stops_are_settled()
+    ensures { (tail : Tail) (start : ℤ) (values later : List ℤ) (enough : ℕ) → enough ≤ count_in_tail tail start values →
+        stop tail start (values ++ later) enough ≡ stop tail start values enough }
 {}
 
 /// After any events, halts among them, the ids of a run are as they should be.

@@ -1,4 +1,5 @@
 -- The line that tells why a run ended without a whole report.
+-- This project's formats. Each text goes on with the rest of its line, as the code writes it.
 use Rattle.std.specs.Prelude.{ℕ, List, [], ◌∷◌, ◌++◌, codes, decimal}
 use Rattle.hex.specs.Hex.{encode_lower}
 use Rattle.audit_model.specs.declared.fault.CkptFault.{CkptFault}
@@ -11,18 +12,25 @@ use Rattle.audit_model.specs.declared.fault.Part.{Part}
 use Rattle.audit_model.specs.declared.fault.Part.TheVariants as part
 use Rattle.audit_model.specs.declared.fault.PlanFault.{PlanFault}
 use Rattle.audit_model.specs.declared.fault.PlanFault.TheVariants as plan
+use Rattle.audit_model.specs.declared.fault.RegionFault.{RegionFault}
+use Rattle.audit_model.specs.declared.fault.RegionFault.TheVariants as region
+use Rattle.audit_model.specs.declared.fault.TableFault.{TableFault}
+use Rattle.audit_model.specs.declared.fault.TableFault.TheVariants as table
 use Rattle.audit_model.specs.declared.fault.WordFault.{WordFault}
 use Rattle.audit_model.specs.declared.fault.WordFault.TheVariants as word
 use Rattle.audit_model.specs.declared.setting.Columns.{Columns}
+use Rattle.audit_model.specs.Names.{name_text}
 use Rattle.checkpoint_definitions.specs.Slots.{Slot, absent, broken, other, ours}
-use Rattle.text_definitions.specs.Words.{name_text}
 
--- why a run ended
+-- why a run ended; regions with the name of their column, and the plan of a table with its name
 pub data Ending : Type 0 where
   bad_words : WordFault → Ending
   too_many_bytes : Ending
   bad_graph : GraphFault → Ending
+  bad_regions : List ℕ → RegionFault → Ending
+  bad_table : TableFault → Ending
   bad_plan : PlanFault → Ending
+  bad_plan_named : List ℕ → PlanFault → Ending
   no_memory : Ending
   read_fault : Ending
   write_fault : Ending
@@ -73,6 +81,24 @@ graph_note columns (graph.BadLabel i) rest = codes "node " ++ (decimal i ++ (cod
 graph_note columns (graph.DistrictCount n) rest = decimal n ++ (codes " districts, not 2 to 200" ++ rest)
 graph_note columns graph.Memory rest = codes "memory" ++ rest
 
+abbrev pub region_note : List ℕ → RegionFault → List ℕ → List ℕ
+region_note column (region.Missing i) rest = codes "node " ++ (decimal i ++ (codes " has no column " ++ (column ++ rest)))
+region_note column (region.BadLabel i) rest = codes "node " ++ (decimal i ++ (codes " has no usable label in column " ++ (column ++ rest)))
+region_note column (region.TooMany n) rest = decimal n ++ (codes " regions, more than 5000" ++ rest)
+region_note column region.Memory rest = codes "memory" ++ rest
+
+abbrev pub table_note : TableFault → List ℕ → List ℕ
+table_note (table.Unreadable r) rest = codes "record " ++ (decimal r ++ (codes " is unreadable" ++ rest))
+table_note table.NoHeader rest = codes "no header" ++ rest
+table_note (table.TooManyPlans n) rest = decimal n ++ (codes " plans, more than 16" ++ rest)
+table_note (table.BadName i) rest = codes "plan " ++ (decimal i ++ (codes " has no usable name" ++ rest))
+table_note (table.SharedId i j) rest = codes "units " ++ (decimal i ++ (codes " and " ++ (decimal j ++ (codes " share an id" ++ rest))))
+table_note (table.UnknownId r) rest = codes "record " ++ (decimal r ++ (codes " names no unit" ++ rest))
+table_note (table.Twice r) rest = codes "record " ++ (decimal r ++ (codes " repeats a unit" ++ rest))
+table_note (table.MissingUnit u) rest = codes "unit " ++ (decimal u ++ (codes " is missing" ++ rest))
+table_note (table.DistrictCount i n) rest = codes "plan " ++ (decimal i ++ (codes " has " ++ (decimal n ++ (codes " districts, not 2 to 200" ++ rest))))
+table_note table.Memory rest = codes "memory" ++ rest
+
 abbrev pub plan_note : PlanFault → List ℕ → List ℕ
 plan_note plan.NoVotes rest = codes "no votes" ++ rest
 plan_note (plan.OutOfBounds d population low high) rest =
@@ -80,6 +106,9 @@ plan_note (plan.OutOfBounds d population low high) rest =
     ++ (codes ", outside " ++ (decimal low ++ (codes " to " ++ (decimal high ++ rest)))))))
 plan_note (plan.Disconnected d one far) rest =
     codes "district " ++ (decimal d ++ (codes " has no path from unit " ++ (decimal one ++ (codes " to unit " ++ (decimal far ++ rest)))))
+plan_note (plan.TooManyCut cut most) rest = decimal cut ++ (codes " cut edges, more than " ++ (decimal most ++ rest))
+plan_note (plan.TooManySplit q districts most) rest =
+    codes "region " ++ (decimal q ++ (codes " lies in " ++ (decimal districts ++ (codes " districts, more than " ++ (decimal most ++ rest)))))
 plan_note plan.Memory rest = codes "memory" ++ rest
 
 abbrev pub fault_name : CkptFault → List ℕ
@@ -106,7 +135,10 @@ abbrev pub note_text : Columns → Ending → List ℕ → List ℕ
 note_text columns (bad_words f) rest = codes "words: " ++ (word_note f rest)
 note_text columns too_many_bytes rest = codes "graph: more than 67108864 bytes" ++ rest
 note_text columns (bad_graph f) rest = codes "graph: " ++ (graph_note columns f rest)
+note_text columns (bad_regions column f) rest = codes "graph: " ++ (region_note column f rest)
+note_text columns (bad_table f) rest = codes "table: " ++ (table_note f rest)
 note_text columns (bad_plan f) rest = codes "plan: " ++ (plan_note f rest)
+note_text columns (bad_plan_named name f) rest = codes "plan " ++ (name ++ (codes ": " ++ (plan_note f rest)))
 note_text columns no_memory rest = codes "memory" ++ rest
 note_text columns read_fault rest = codes "read fault" ++ rest
 note_text columns write_fault rest = codes "write fault" ++ rest

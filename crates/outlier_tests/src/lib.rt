@@ -98,6 +98,7 @@ mod tests {
             id: 0,
             moved: 0,
             values: [value, 0, 0, 0],
+            bins: [0; 9],
         }
     }
 }

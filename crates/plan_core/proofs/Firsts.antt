@@ -4,7 +4,7 @@ use Rattle.std.specs.Option.{option_or}
 use Rattle.std.proofs.lemmas.Bool.{cases_eq}
 use Rattle.audit_model.specs.First.{first_below}
 
-none_or : {A : Type 0} (o p : Option A) → o ≡ None → option_or o p ≡ p
+pub none_or : {A : Type 0} (o p : Option A) → o ≡ None → option_or o p ≡ p
 none_or None p h = refl
 none_or (Some x) p h = cc
 
@@ -41,11 +41,11 @@ first_below_same (suc n) p q same =
 some_is_not_none : {A : Type 0} (x : A) → Some x ≡ None → ⊥
 some_is_not_none x h = cc
 
-option_or_none : {A : Type 0} (a b : Option A) → option_or a b ≡ None → (a ≡ None) × (b ≡ None)
+pub option_or_none : {A : Type 0} (a b : Option A) → option_or a b ≡ None → (a ≡ None) × (b ≡ None)
 option_or_none None b h = (refl, h)
 option_or_none (Some x) b h = absurd (some_is_not_none x h)
 
-cond_some_none : {A : Type 0} (b : Bool) (x : A) → cond b (Some x) None ≡ None → b ≡ false
+pub cond_some_none : {A : Type 0} (b : Bool) (x : A) → cond b (Some x) None ≡ None → b ≡ false
 cond_some_none true x h = absurd (some_is_not_none x h)
 cond_some_none false x h = refl
 

@@ -1,24 +1,27 @@
 -- What the refusals of a plan say of it.
-use Rattle.std.proofs.Common.{◌≡◌, ℕ, ◌<◌, Bool, true, false, not, ◌&&◌, List, length, get_or, Option, Some, None, refl, sym, ap, ◌∙◌, subst, inl, inr}
+use Rattle.std.proofs.Common.{◌≡◌, ℕ, ◌<◌, [], ◌∷◌, Bool, true, false, not, ◌&&◌, List, length, get_or, Option, Some, None, refl, sym, ap, ◌∙◌, subst, inl, inr}
 use Rattle.std.specs.Prelude.{◌↔◌, is_none, is_some, option_map, unwrap_or, ◌⊎◌, Result, Ok, Err, IfOk, MatchResult}
-use Rattle.std.proofs.lemmas.Bool.{and_parts, and_from, cases_Bool, cond-true, cond-false, not-false, not_from_true, not_from_false}
+use Rattle.std.proofs.lemmas.Bool.{and_parts, and_from, cases_Bool, cond-true, cond-false, le-ltb, ltb-false, not-false, not_from_true, not_from_false}
 use Rattle.audit_model.specs.declared.fault.PlanFault.{PlanFault}
-use Rattle.audit_model.specs.declared.fault.PlanFault.TheVariants.{Disconnected, Memory}
+use Rattle.audit_model.specs.declared.fault.PlanFault.TheVariants.{Disconnected, TooManyCut, Memory}
 use Rattle.audit_model.specs.declared.setting.Setting.{Setting}
-use Rattle.audit_model.specs.First.{first_below}
+use Rattle.audit_model.specs.Below.{above_all}
+use Rattle.audit_model.specs.First.{first_some, first_below}
 use Rattle.audit_model.specs.Graph.{Graph}
 use Rattle.audit_model.specs.Job.{Job}
-use Rattle.audit_model.specs.JobOf.{IsJob, job_from, job_of, job_or, is_unbalanced, is_parted, out_of_bounds, disconnected, bounds_fault, path_fault, plan_fault}
+use Rattle.audit_model.specs.JobOf.{IsJob, job_from, job_of, job_or, is_unbalanced, is_parted, cuts_too_many, is_oversplit, out_of_bounds, disconnected, oversplit, bounds_fault, path_fault, cut_fault, split_fault, plan_fault}
 use Rattle.audit_model.specs.Limits.{IsWithinLimits}
+use Rattle.audit_model.specs.Meets.{split_of}
 use Rattle.audit_model.specs.Parsed.{Parsed}
 use Rattle.audit_model.specs.Path.{is_connected}
-use Rattle.audit_model.specs.Plan.{IsLegal, is_legal, in_district, district_sum, is_balanced}
+use Rattle.audit_model.specs.Plan.{IsLegal, is_legal, in_district, district_sum, cut_edges, is_balanced}
 use Rattle.model_laws.proofs.Accepted.{accepted_is_legal}
 use Rattle.model_laws.proofs.Connected.{connected_passes, passes_connected}
 use Rattle.model_laws.proofs.Legal.{balanced_passes, passes_balanced, legal_passes, passes_legal}
-use Rattle.plan_core.specs.Input.{with_start}
+use Rattle.model_laws.proofs.Meeting.{splits_from}
+use Rattle.plan_core.specs.Input.{with_start, shape_fault}
 use Rattle.plan_core.specs.Parting.{least_in, parted_in, parting_of}
-use Rattle.plan_core.proofs.Firsts.{first_below_here, first_below_none, none_first_below}
+use Rattle.plan_core.proofs.Firsts.{none_or, option_or_none, cond_some_none, first_below_here, first_below_none, none_first_below}
 use Rattle.plan_core.proofs.Parted.{same_bool}
 
 -- ---- the refusal of a parted district
@@ -72,53 +75,82 @@ and_second : (a b : Bool) → a ≡ true → (a && b) ≡ b
 and_second true b h = refl
 and_second false b h = cc
 
-module _ (job : Job) (plan : List ℕ) (complete : length plan ≡ job.graph.units) (in_range : (u : ℕ) → u < job.graph.units → get_or plan u 0 < job.districts) where
-  accepted : bounds_fault (with_start job plan) ≡ None → path_fault (with_start job plan) ≡ None → IsLegal job plan
-  accepted bounds paths = record {
-    complete = complete;
-    in_range = in_range;
-    connected = λ d l. passes_connected job.graph (in_district plan d)
-        (not-false (is_connected job.graph (in_district plan d))
-        (first_below_none job.districts (is_parted (with_start job plan)) d
-        (option_map_none (disconnected (with_start job plan)) (first_below job.districts (is_parted (with_start job plan))) paths) l));
-    balanced = λ d l. passes_balanced job (district_sum job.counts.population plan d)
-        (not-false (is_balanced job (district_sum job.counts.population plan d))
-        (first_below_none job.districts (is_unbalanced (with_start job plan)) d
-        (option_map_none (out_of_bounds (with_start job plan)) (first_below job.districts (is_unbalanced (with_start job plan))) bounds) l));
-  }
+-- no refusal but for votes and populations is none of each kind
+shape_parts : (job : Job) → shape_fault job ≡ None → (path_fault job ≡ None) × (cut_fault job ≡ None) × (split_fault job ≡ None)
+shape_parts job h =
+    let first = option_or_none (path_fault job) (first_some (cut_fault job ∷ split_fault job ∷ [])) h in
+    let second = option_or_none (cut_fault job) (first_some (split_fault job ∷ [])) first.1 in
+    (first.0, second.0, (option_or_none (split_fault job) (first_some []) second.1).0)
 
-  unrefused : IsLegal job plan → (bounds_fault (with_start job plan) ≡ None) × (path_fault (with_start job plan) ≡ None)
+parts_shape : (job : Job) → path_fault job ≡ None → cut_fault job ≡ None → split_fault job ≡ None → shape_fault job ≡ None
+parts_shape job paths cut splits =
+    none_or (path_fault job) (first_some (cut_fault job ∷ split_fault job ∷ [])) paths
+    ∙ none_or (cut_fault job) (first_some (split_fault job ∷ [])) cut
+    ∙ none_or (split_fault job) (first_some []) splits
+
+module _ (job : Job) (plan : List ℕ) (complete : length plan ≡ job.graph.units) (in_range : (u : ℕ) → u < job.graph.units → get_or plan u 0 < job.districts) where
+  accepted : bounds_fault (with_start job plan) ≡ None → shape_fault (with_start job plan) ≡ None → IsLegal job plan
+  accepted bounds shape =
+      let parts = shape_parts (with_start job plan) shape in
+      record {
+        complete = complete;
+        in_range = in_range;
+        connected = λ d l. passes_connected job.graph (in_district plan d)
+            (not-false (is_connected job.graph (in_district plan d))
+            (first_below_none job.districts (is_parted (with_start job plan)) d
+            (option_map_none (disconnected (with_start job plan)) (first_below job.districts (is_parted (with_start job plan))) parts.0) l));
+        balanced = λ d l. passes_balanced job (district_sum job.counts.population plan d)
+            (not-false (is_balanced job (district_sum job.counts.population plan d))
+            (first_below_none job.districts (is_unbalanced (with_start job plan)) d
+            (option_map_none (out_of_bounds (with_start job plan)) (first_below job.districts (is_unbalanced (with_start job plan))) bounds) l));
+        meeting = record {
+          few_cuts = ltb-false job.setting.max_cut (cut_edges job.graph plan)
+              (cond_some_none (cuts_too_many (with_start job plan)) (TooManyCut (cut_edges job.graph plan) job.setting.max_cut) parts.1);
+          few_splits = splits_from job.regions plan job.setting.max_split (λ region l.
+              ltb-false job.setting.max_split (split_of job.regions plan region)
+              (first_below_none (above_all job.regions) (is_oversplit (with_start job plan)) region
+              (option_map_none (oversplit (with_start job plan)) (first_below (above_all job.regions) (is_oversplit (with_start job plan))) parts.2) l));
+        };
+      }
+
+  unrefused : IsLegal job plan → (bounds_fault (with_start job plan) ≡ None) × (shape_fault (with_start job plan) ≡ None)
   unrefused legal = (
     ap (option_map (out_of_bounds (with_start job plan)))
         (none_first_below job.districts (is_unbalanced (with_start job plan)) (λ d l. not_from_true (is_balanced job (district_sum job.counts.population plan d))
         (balanced_passes job (district_sum job.counts.population plan d) (legal.balanced d l)))),
-    ap (option_map (disconnected (with_start job plan)))
+    parts_shape (with_start job plan)
+        (ap (option_map (disconnected (with_start job plan)))
         (none_first_below job.districts (is_parted (with_start job plan)) (λ d l. not_from_true (is_connected job.graph (in_district plan d))
-        (connected_passes job.graph (in_district plan d) (legal.connected d l)))),
+        (connected_passes job.graph (in_district plan d) (legal.connected d l)))))
+        (cond-false (cuts_too_many (with_start job plan)) (Some (TooManyCut (cut_edges job.graph plan) job.setting.max_cut)) None
+        (le-ltb job.setting.max_cut (cut_edges job.graph plan) legal.meeting.few_cuts))
+        (ap (option_map (oversplit (with_start job plan)))
+        (none_first_below (above_all job.regions) (is_oversplit (with_start job plan)) (λ region l.
+        le-ltb job.setting.max_split (split_of job.regions plan region) (legal.meeting.few_splits region)))),
   )
 
-  judged : (r : Bool) → r ≡ (is_none (bounds_fault (with_start job plan)) && is_none (path_fault (with_start job plan))) → (r ≡ true) ↔ IsLegal job plan
+  judged : (r : Bool) → r ≡ (is_none (bounds_fault (with_start job plan)) && is_none (shape_fault (with_start job plan))) → (r ≡ true) ↔ IsLegal job plan
   judged r is = (
     λ h.
-        let parts = and_parts (is_none (bounds_fault (with_start job plan))) (is_none (path_fault (with_start job plan))) (sym is ∙ h) in
-        accepted (none_passes (bounds_fault (with_start job plan)) parts.0) (none_passes (path_fault (with_start job plan)) parts.1),
+        let parts = and_parts (is_none (bounds_fault (with_start job plan))) (is_none (shape_fault (with_start job plan))) (sym is ∙ h) in
+        accepted (none_passes (bounds_fault (with_start job plan)) parts.0) (none_passes (shape_fault (with_start job plan)) parts.1),
     λ legal.
         let parts = unrefused legal in
-        is ∙ and_from (is_none (bounds_fault (with_start job plan))) (is_none (path_fault (with_start job plan)))
-        (passes_none (bounds_fault (with_start job plan)) parts.0) (passes_none (path_fault (with_start job plan)) parts.1),
+        is ∙ and_from (is_none (bounds_fault (with_start job plan))) (is_none (shape_fault (with_start job plan)))
+        (passes_none (bounds_fault (with_start job plan)) parts.0) (passes_none (shape_fault (with_start job plan)) parts.1),
   )
 
-  judged_same : (r : Bool) → r ≡ (is_none (bounds_fault (with_start job plan)) && is_none (path_fault (with_start job plan))) → r ≡ is_legal job plan
+  judged_same : (r : Bool) → r ≡ (is_none (bounds_fault (with_start job plan)) && is_none (shape_fault (with_start job plan))) → r ≡ is_legal job plan
   judged_same r is =
       same_bool r (is_legal job plan) (λ h. legal_passes job plan ((judged r is).0 h)) (λ h. (judged r is).1 (passes_legal job plan h))
 
   -- the first refusal is there
   module _ (bounds : Option PlanFault) (bounds_is : bounds ≡ bounds_fault (with_start job plan)) (r : Bool) (some : is_some bounds ≡ not r) where
     module _ (off : r ≡ false) where
-      refused : r ≡ (is_none (bounds_fault (with_start job plan)) && is_none (path_fault (with_start job plan)))
+      refused : r ≡ (is_none (bounds_fault (with_start job plan)) && is_none (shape_fault (with_start job plan)))
       refused =
           let none : is_none (bounds_fault (with_start job plan)) ≡ false = sym (ap is_none bounds_is) ∙ sym (turned (is_some bounds) r some) ∙ off in
-          off ∙ sym (and_first (is_none (bounds_fault (with_start job plan))) (is_none (path_fault (with_start job plan))) none)
+          off ∙ sym (and_first (is_none (bounds_fault (with_start job plan))) (is_none (shape_fault (with_start job plan))) none)
 
       pub refused_decides : (r ≡ true) ↔ IsLegal job plan
       refused_decides = judged r refused
@@ -127,12 +159,12 @@ module _ (job : Job) (plan : List ℕ) (complete : length plan ≡ job.graph.uni
       refused_same = judged_same r refused
 
     -- there is none, and the second decides
-    module _ (on : r ≡ true) (paths : Option PlanFault) (paths_is : paths ≡ path_fault (with_start job plan)) (q : Bool) (other : is_some paths ≡ not q) where
-      tried : q ≡ (is_none (bounds_fault (with_start job plan)) && is_none (path_fault (with_start job plan)))
+    module _ (on : r ≡ true) (paths : Option PlanFault) (paths_is : paths ≡ shape_fault (with_start job plan)) (q : Bool) (other : is_some paths ≡ not q) where
+      tried : q ≡ (is_none (bounds_fault (with_start job plan)) && is_none (shape_fault (with_start job plan)))
       tried =
           let none : is_none (bounds_fault (with_start job plan)) ≡ true = sym (ap is_none bounds_is) ∙ sym (turned (is_some bounds) r some) ∙ on in
           turned (is_some paths) q other ∙ ap is_none paths_is
-          ∙ sym (and_second (is_none (bounds_fault (with_start job plan))) (is_none (path_fault (with_start job plan))) none)
+          ∙ sym (and_second (is_none (bounds_fault (with_start job plan))) (is_none (shape_fault (with_start job plan))) none)
 
       pub tried_decides : (q ≡ true) ↔ IsLegal job plan
       tried_decides = judged q tried
@@ -147,13 +179,14 @@ accepted_is_job job within none =
     let parts = accepted_is_legal job within.input.complete within.input.in_range none in
     record { within = within; votes = parts.0; legal = parts.1 }
 
-pub job_of_none : (parsed : Parsed) (setting : Setting) → plan_fault (job_from parsed setting) ≡ None → job_of parsed setting ≡ Ok (job_from parsed setting)
-unfolding job_of
-job_of_none parsed setting none = ap (job_or (job_from parsed setting)) none
+module _ (parsed : Parsed) (setting : Setting) (regions : List ℕ) where
+  pub job_of_none : plan_fault (job_from parsed setting regions) ≡ None → job_of parsed setting regions ≡ Ok (job_from parsed setting regions)
+  unfolding job_of
+  job_of_none none = ap (job_or (job_from parsed setting regions)) none
 
-pub job_of_some : (parsed : Parsed) (setting : Setting) (fault : PlanFault) → plan_fault (job_from parsed setting) ≡ Some fault → job_of parsed setting ≡ Err fault
-unfolding job_of
-job_of_some parsed setting fault some = ap (job_or (job_from parsed setting)) some
+  pub job_of_some : (fault : PlanFault) → plan_fault (job_from parsed setting regions) ≡ Some fault → job_of parsed setting regions ≡ Err fault
+  unfolding job_of
+  job_of_some fault some = ap (job_or (job_from parsed setting regions)) some
 
 -- what was made of a job, or want of memory
 module _ (job : Job) where

@@ -4,5 +4,6 @@ pub mod Judged
 pub mod Parted
 pub mod Paths
 pub mod Searching
+pub mod Splitting
 pub mod Voted
 pub mod Started

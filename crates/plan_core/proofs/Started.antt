@@ -4,7 +4,7 @@ use Rattle.std.specs.Prelude.{IfSome}
 use Rattle.std.specs.List.{slice_get}
 use Rattle.audit_model.specs.declared.setting.Ask.{Ask}
 use Rattle.audit_model.specs.declared.setting.Command.{Command}
-use Rattle.audit_model.specs.declared.setting.Command.TheVariants.{Check, Run, Make}
+use Rattle.audit_model.specs.declared.setting.Command.TheVariants.{Check, Run, Make, Plans}
 use Rattle.audit_model.specs.declared.setting.Setting.{Setting}
 use Rattle.audit_model.specs.Job.{Job}
 use Rattle.audit_model.specs.JobOf.{IsJob}
@@ -16,6 +16,7 @@ few_of : (command : Command) (s : Setting) → IsSettingOf command s → length 
 few_of Check s h = omega (arith, ap (λ (asks : List Ask). length asks) h.no_asks)
 few_of Run s h = h.few_asks
 few_of Make s h = h.few_asks
+few_of Plans s h = h.few_asks
 
 pub few_asks : (job : Job) → IsJob job → length job.setting.asks ≤ 4
 few_asks job sound = few_of job.setting.command job.setting sound.within.setting.command

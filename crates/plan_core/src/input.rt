@@ -2,27 +2,30 @@
 
 ghost use Rattle.std.specs.Prelude.{◌≡◌, ◌<◌, ℕ, length, slice_index, IfOk};
 ghost use Rattle.std.specs.List.{list_any};
-ghost use Rattle.audit_model.specs.Job.{total_population, total_votes};
-ghost use Rattle.audit_model.specs.JobOf.{is_gap, lacks_votes, bounds_fault, path_fault, plan_fault, job_from};
+ghost use Rattle.audit_model.specs.Job.{total_population, total_votes, rules};
+ghost use Rattle.audit_model.specs.JobOf.{is_gap, lacks_votes, bounds_fault, path_fault, cut_fault, split_fault, plan_fault, job_from};
 ghost use Rattle.audit_model.specs.Limits.{IsWithinLimits};
 ghost use Rattle.audit_model.specs.Plan.{least_population, greatest_population};
 ghost use Rattle.dual_graph.specs.Read.{parsed_of};
 
 use crate::bounds::{first_outside, limits_of};
 use crate::search::parting;
+use crate::splits::first_split;
 use crate::sums::{district_sums, sum_of};
 use audit_model::fault::PlanFault;
 use audit_model::lists::UnitList;
 use audit_model::memory::Memory;
 use audit_model::outcome::Counts;
+use audit_model::rules::Rules;
 use audit_model::setting::{Ask, Score, Setting};
+use district_sums::scratch::count_cut;
 use dual_graph::graph::Graph;
 use dual_graph::marks::Marks;
 use dual_graph::parsed::Parsed;
 use std::alloc::Global;
 use std::marker::Model;
 
-/// A graph with its counts, a plan to start from that need not be legal, and a setting.
+/// A graph with its counts, a plan to start from that need not be legal, a setting and the rules for plans.
 #[derive(Drop)]
 pub struct Input {
     graph: Graph,
@@ -30,6 +33,7 @@ pub struct Input {
     start: UnitList,
     districts: u32,
     setting: Setting,
+    rules: Rules,
     population: u64,
     votes: u64,
 }
@@ -41,10 +45,11 @@ impl Model for Input {
 
     ghost use Rattle.plan_core.specs.Input.{IsInput};
 
-    ghost view = { λ i. record { graph = i.graph; counts = i.counts; start = i.start; districts = i.districts; setting = i.setting } };
+    ghost view = { λ i. record { graph = i.graph; counts = i.counts; start = i.start; districts = i.districts; setting = i.setting; regions = i.rules.regions } };
 
     ghost invariant = { λ i. IsInput
-        (record { graph = i.graph; counts = i.counts; start = i.start; districts = i.districts; setting = i.setting }) i.population i.votes };
+        (record { graph = i.graph; counts = i.counts; start = i.start; districts = i.districts; setting = i.setting; regions = i.rules.regions })
+        i.rules i.population i.votes };
 }
 
 /// Whether the score is the gap.
@@ -65,13 +70,18 @@ fn asks_gap(asks: &[Ask]) -> bool
 }
 
 impl Input {
-    ghost use Rattle.plan_core.specs.Input.{with_start};
+    ghost use Rattle.plan_core.specs.Input.{with_start, shape_fault};
 
-    /// What was read of a graph, with a setting.
-    pub fn new(parsed: Parsed, setting: Setting) -> Input
-        requires { IsWithinLimits (job_from (parsed_of parsed) setting) }
-        ensures { result ≡ job_from (parsed_of parsed) setting }
+    /// What was read of a graph, with a setting and the regions of the units.
+    pub fn new(parsed: Parsed, setting: Setting, regions: UnitList) -> Input
+        requires { IsWithinLimits (job_from (parsed_of parsed) setting regions) }
+        ensures { result ≡ job_from (parsed_of parsed) setting regions }
     {
+        let rules = Rules {
+            max_cut: setting.max_cut,
+            regions,
+            max_split: setting.max_split,
+        };
         let population = sum_of(parsed.counts.population.as_slice());
         let votes = sum_of(parsed.counts.first.as_slice())
             + sum_of(parsed.counts.second.as_slice());
@@ -81,6 +91,7 @@ impl Input {
             start: parsed.start,
             districts: parsed.labels.len() as u32,
             setting,
+            rules,
             population,
             votes,
         }
@@ -119,6 +130,13 @@ impl Input {
         ensures { result.now ≡ self.now.setting }
     {
         &self.setting
+    }
+
+    /// The rules that a plan is to meet.
+    pub fn rules(&self) -> &Rules
+        ensures { result.now ≡ rules self.now }
+    {
+        &self.rules
     }
 
     /// The population of all units.
@@ -161,7 +179,7 @@ impl Input {
     }
 
     /// The refusal of a plan whose districts are not all connected.
-    pub fn path_fault(&self, plan: &[u32], marks: &mut Marks) -> Option<PlanFault>
+    fn path_fault(&self, plan: &[u32], marks: &mut Marks) -> Option<PlanFault>
         requires complete { length plan.now ≡ self.now.graph.units }
         requires marks { marks.old.units ≡ self.now.graph.units }
         ensures units { marks.new.units ≡ self.now.graph.units }
@@ -179,6 +197,47 @@ impl Input {
         None
     }
 
+    /// The refusal of a plan that cuts too many edges.
+    fn cut_fault(&self, plan: &[u32]) -> Option<PlanFault>
+        requires { length plan.now ≡ self.now.graph.units }
+        ensures { result ≡ cut_fault (with_start self.now plan.now) }
+    {
+        let cut = count_cut(&self.graph, plan);
+        if self.rules.max_cut < cut {
+            return Some(PlanFault::TooManyCut {
+                cut,
+                most: self.rules.max_cut,
+            });
+        }
+        None
+    }
+
+    /// The refusal of a plan that splits a region among too many districts.
+    fn split_fault(&self, plan: &[u32]) -> Option<PlanFault>
+        requires complete { length plan.now ≡ self.now.graph.units }
+        requires in_range { (u : ℕ) → u < self.now.graph.units → slice_index plan.now u < self.now.districts }
+        ensures { result ≡ split_fault (with_start self.now plan.now) }
+    {
+        first_split(self.rules.regions.as_slice(), plan, self.rules.max_split)
+    }
+
+    /// The first refusal of a plan but for votes and populations.
+    pub fn shape_fault(&self, plan: &[u32], marks: &mut Marks) -> Option<PlanFault>
+        requires complete { length plan.now ≡ self.now.graph.units }
+        requires in_range { (u : ℕ) → u < self.now.graph.units → slice_index plan.now u < self.now.districts }
+        requires marks { marks.old.units ≡ self.now.graph.units }
+        ensures units { marks.new.units ≡ self.now.graph.units }
+        ensures fault { result ≡ shape_fault (with_start self.now plan.now) }
+    {
+        if let Some(fault) = self.path_fault(plan, marks) {
+            return Some(fault);
+        }
+        if let Some(fault) = self.cut_fault(plan) {
+            return Some(fault);
+        }
+        self.split_fault(plan)
+    }
+
     /// The first reason to refuse the plan to start from.
     pub fn plan_fault(&self, alloc: Global) -> Result<Option<PlanFault>, Memory>
         ensures { IfOk result (λ fault. fault ≡ plan_fault self.now) }
@@ -191,6 +250,6 @@ impl Input {
             return Ok(Some(fault));
         }
         let mut marks = Marks::new(alloc, self.graph.units())?;
-        Ok(self.path_fault(plan, &mut marks))
+        Ok(self.shape_fault(plan, &mut marks))
     }
 }

@@ -1,9 +1,9 @@
 //! The job of a run.
 
-ghost use Rattle.std.specs.Prelude.{◌≡◌, ◌+◌, ◌<◌, ◌↔◌, ◌⊎◌, ℕ, Ok, Err, length, slice_index, pos, IsTrue, IfOk, IfSome, MatchResult};
+ghost use Rattle.std.specs.Prelude.{◌≡◌, ◌+◌, ◌<◌, ◌↔◌, ◌⊎◌, ℕ, [], Ok, Err, length, slice_index, pos, IsTrue, IfOk, IfSome, MatchResult};
 ghost use Rattle.std.specs.List.{slice_get, slice_index_or};
 ghost use Rattle.audit_model.specs.declared.fault.PlanFault.TheVariants as plan;
-ghost use Rattle.audit_model.specs.Job.{total_population, total_votes};
+ghost use Rattle.audit_model.specs.Job.{total_population, total_votes, rules};
 ghost use Rattle.audit_model.specs.JobOf.{IsJob, job_from, job_of};
 ghost use Rattle.audit_model.specs.Limits.{IsWithinLimits};
 ghost use Rattle.audit_model.specs.Plan.{IsLegal, is_legal, least_population, greatest_population};
@@ -15,6 +15,7 @@ use crate::values::start_values;
 use audit_model::fault::PlanFault;
 use audit_model::lists::UnitList;
 use audit_model::outcome::Counts;
+use audit_model::rules::Rules;
 use audit_model::setting::Setting;
 use dual_graph::graph::Graph;
 use dual_graph::marks::Marks;
@@ -25,7 +26,7 @@ use std::marker::Model;
 #[cfg(test)]
 mod tests;
 
-/// A graph with the counts of its units, a legal plan to start from, and a setting.
+/// A graph with the counts of its units, a legal plan to start from, a setting and the rules for plans.
 #[derive(Drop)]
 pub struct Job {
     input: Input,
@@ -53,7 +54,7 @@ fn entry(values: &[i64], place: usize) -> i64
 }
 
 impl Job {
-    /// The job of what was read of a graph and a setting.
+    /// The job of what was read of a graph and a setting. It has no regions.
     ///
     /// # Errors
     ///
@@ -61,14 +62,30 @@ impl Job {
     /// - `OutOfBounds`: the least district whose population is outside the bounds.
     /// - `Disconnected`: the least district that is not connected, with its least unit and the least one
     ///   to which no path within the district leads from there.
+    /// - `TooManyCut`: how many edges the plan cuts, which are more than the setting allows.
     /// - `Memory`: there was no memory for the search, or for the sums of the plan.
     pub fn new(alloc: Global, parsed: Parsed, setting: Setting) -> Result<Job, PlanFault>
-        requires within { IsWithinLimits (job_from (parsed_of parsed) setting) }
-        ensures job { MatchResult result (λ job. job_of (parsed_of parsed) setting ≡ Ok job)
-            (λ fault. (fault ≡ plan.Memory) ⊎ (job_of (parsed_of parsed) setting ≡ Err fault)) }
+        requires within { IsWithinLimits (job_from (parsed_of parsed) setting []) }
+        ensures job { MatchResult result (λ job. job_of (parsed_of parsed) setting [] ≡ Ok job)
+            (λ fault. (fault ≡ plan.Memory) ⊎ (job_of (parsed_of parsed) setting [] ≡ Err fault)) }
         ensures sound { IfOk result (λ job. IsJob job) }
     {
-        let input = Input::new(parsed, setting);
+        Job::with_regions(alloc, parsed, setting, UnitList::new(alloc))
+    }
+
+    /// The job of what was read of a graph, a setting and the regions of the units, of which there may be none.
+    fn with_regions(
+        alloc: Global,
+        parsed: Parsed,
+        setting: Setting,
+        regions: UnitList,
+    ) -> Result<Job, PlanFault>
+        requires within { IsWithinLimits (job_from (parsed_of parsed) setting regions) }
+        ensures job { MatchResult result (λ job. job_of (parsed_of parsed) setting regions ≡ Ok job)
+            (λ fault. (fault ≡ plan.Memory) ⊎ (job_of (parsed_of parsed) setting regions ≡ Err fault)) }
+        ensures sound { IfOk result (λ job. IsJob job) }
+    {
+        let input = Input::new(parsed, setting, regions);
         match input.plan_fault(alloc) {
             Err(_) => Err(PlanFault::Memory),
             Ok(Some(fault)) => Err(fault),
@@ -96,7 +113,8 @@ impl Job {
     }
 
     /// Whether a plan is legal: each district has a unit, is connected and has a population within the
-    /// bounds. It takes no memory; the marks are left with what was marked last.
+    /// bounds, and the plan meets the rules. It takes no memory; the marks are left with what was marked
+    /// last.
     pub fn legal(&self, plan: &[u32], marks: &mut Marks) -> bool
         requires complete { length plan.now ≡ self.now.graph.units }
         requires in_range { (u : ℕ) → u < self.now.graph.units → slice_index plan.now u < self.now.districts }
@@ -105,7 +123,7 @@ impl Job {
         ensures decides { IsTrue result ↔ IsLegal self.now plan.now }
         ensures marks { marks.new.units ≡ marks.old.units }
     {
-        self.input.bounds_fault(plan).is_none() && self.input.path_fault(plan, marks).is_none()
+        self.input.bounds_fault(plan).is_none() && self.input.shape_fault(plan, marks).is_none()
     }
 
     /// The graph.
@@ -143,6 +161,13 @@ impl Job {
         ensures { result.now ≡ self.now.setting }
     {
         self.input.setting()
+    }
+
+    /// The rules that a plan is to meet.
+    pub fn rules(&self) -> &Rules
+        ensures { result.now ≡ rules self.now }
+    {
+        self.input.rules()
     }
 
     /// How many units there are.

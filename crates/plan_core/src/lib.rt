@@ -1,9 +1,10 @@
-//! A job: a graph with its counts, a legal plan to start from, and a setting.
+//! A job: a graph with its counts, a legal plan to start from, a setting and rules.
 #![tactic(auto)]
 
 mod bounds;
 mod input;
 pub mod job;
 mod search;
+mod splits;
 mod sums;
 mod values;

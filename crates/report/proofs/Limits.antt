@@ -2,7 +2,7 @@
 use Rattle.std.proofs.Common.{ℕ, ◌+◌, ◌*◌, ◌^◌, ◌≤◌, List, length, sum, ap, arith}
 use Rattle.std.proofs.lemmas.List.Sums.{sum_by-le}
 use Rattle.audit_model.specs.declared.setting.Command.{Command}
-use Rattle.audit_model.specs.declared.setting.Command.TheVariants.{Check, Run, Make}
+use Rattle.audit_model.specs.declared.setting.Command.TheVariants.{Check, Run, Make, Plans}
 use Rattle.audit_model.specs.declared.setting.Setting.{Setting}
 use Rattle.audit_model.specs.Job.{Job, total_votes}
 use Rattle.audit_model.specs.JobOf.{IsJob}
@@ -22,6 +22,7 @@ of_command : (c : Command) (s : Setting) → IsSettingOf c s → IsSmall s
 of_command Check s h = record { few = omega arith; few_steps = omega arith; few_hub_steps = omega arith; few_asks = omega (arith, ap length h.no_asks) }
 of_command Run s h = of_run s h
 of_command Make s h = of_run s h
+of_command Plans s h = of_run s h
 
 pub small : (job : Job) → IsJob job → IsSmall job.setting
 small job h = of_command job.setting.command job.setting h.within.setting.command

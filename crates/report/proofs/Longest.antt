@@ -1,11 +1,11 @@
 -- How many bytes a report has at most.
-use Rattle.std.proofs.Common.{◌≡◌, ℕ, zero, suc, ◌+◌, ◌-◌, ◌*◌, ◌/◌, ◌^◌, ◌<◌, ◌≤◌, true, List, [], ◌∷◌, ◌++◌, length, flat_map, filter, refl, ap, sym, ◌∙◌, subst, arith, length-append, codes, decimal, get_or, drop, take, zero-add, ℤ, pos, negsuc, unsigned_abs}
+use Rattle.std.proofs.Common.{◌≡◌, ℕ, zero, suc, ◌+◌, ◌-◌, ◌*◌, ◌^◌, ◌<◌, ◌≤◌, true, List, [], ◌∷◌, ◌++◌, length, flat_map, filter, ap, sym, ◌∙◌, subst, arith, length-append, codes, decimal, get_or, take, zero-add, ℤ, pos, negsuc, unsigned_abs, None}
 use Rattle.std.specs.Prelude.{nat_lt, nat_le}
 use Rattle.std.specs.Fmt.{signed_decimal}
-use Rattle.std.specs.List.{All, enumerate_from}
+use Rattle.std.specs.List.{All}
 use Rattle.std.proofs.Math.Facts.{leb_yes}
 use Rattle.std.proofs.Math.Nat.{div-le_self}
-use Rattle.std.proofs.lemmas.Bool.{le-leb, leb-true, lt-ltb}
+use Rattle.std.proofs.lemmas.Bool.{le-leb, lt-ltb}
 use Rattle.std.proofs.lemmas.Fmt.{length-decimal-le}
 use Rattle.std.proofs.lemmas.List.{length-take-le, get_or-take}
 use Rattle.std.proofs.lemmas.List.FromFn.{length-enumerate_from, get_or-enumerate_from}
@@ -29,12 +29,15 @@ use Rattle.audit_model.specs.Test.{bound, p_value}
 use Rattle.audit_model.specs.Trajectory.{in_tail, plan_value, rank, value_at}
 use Rattle.model_laws.proofs.Least.{bound_is_least}
 use Rattle.text_definitions.specs.Names.{score_name, tail_name}
-use Rattle.text_definitions.specs.Report.{line, fraction, billionths, graph_line, population_line, setting_line, walk_line, walk_lines, ends_line, ends_lines, placed_asks, report}
-use Rattle.report.specs.Outcomes.{AreOutcomesOf, HasCounts, IsCount, AreEndsOf}
-use Rattle.report.specs.Parts.{head, key_line, lines_of}
+use Rattle.audit_model.specs.Stopping.{placed_asks}
+use Rattle.text_definitions.specs.Report.{line, fraction, billionths, graph_line, population_line, setting_line, walk_line, walk_lines, ends_line, ends_lines, report}
+use Rattle.report.specs.Outcomes.{AreOutcomesOf, HasCounts, IsCount}
+use Rattle.report.specs.Parts.{head, key_line, lines_of, plain_text}
+use Rattle.report.specs.Plain.{IsPlain}
 use Rattle.report.proofs.Limits.{small, votes}
+use Rattle.report.proofs.Plainly.{report_is_plain}
 use Rattle.report.proofs.Sorted.{fit_at, id_at, count, walks_first, ends_last, ends_sound}
-use Rattle.report.proofs.Widths.{length-decimal_any, length-fraction, length-billionths, width, length-line, length-flat_map-le}
+use Rattle.report.proofs.Widths.{length-decimal_any, length-fraction, length-billionths, length-line, length-flat_map-le}
 
 -- ---- the words of an ask
 
@@ -226,10 +229,8 @@ length-head job h =
 parts-le : (a b c d : List ℕ) (m n k : ℕ) → length a ≤ 1000 → length b ≤ m → length c ≤ n → length d ≤ 4 → 1004 + m + n ≤ k → length (a ++ b ++ c ++ d) ≤ k
 parts-le a b c d m n k la lb lc ld most = simp length-append (omega arith)
 
-pub report-le : (job : Job) (os : List Outcome) → IsJob job → AreOutcomesOf job os
-    → length (report job os) ≤ 1024 + (job.setting.walks + 1) * length job.setting.asks * 200
-unfolding report
-report-le job os h all_of =
+plain-le : (job : Job) (os : List Outcome) → IsJob job → AreOutcomesOf job os → length (plain_text job os) ≤ 1024 + (job.setting.walks + 1) * length job.setting.asks * 200
+plain-le job os h all_of =
     let asks = length job.setting.asks in
     let walks = job.setting.walks in
     parts-le (head job) (walk_lines job os) (ends_lines job.setting.ends job os) (line (codes "end" ∷ [])) (walks * (asks * 200)) (asks * 200)
@@ -238,6 +239,10 @@ report-le job os h all_of =
   where
     products : (w a : ℕ) → 1004 + w * (a * 200) + a * 200 ≤ 1024 + (w + 1) * a * 200
     products w a = grind arith
+
+pub report-le : (job : Job) (os : List Outcome) → IsJob job → IsPlain job → AreOutcomesOf job os
+    → length (report job os [] None) ≤ 1024 + (job.setting.walks + 1) * length job.setting.asks * 200
+report-le job os h plain all_of = rw (report_is_plain job os plain) (plain-le job os h all_of)
 
 -- what is enough for any report is below 90 million bytes
 pub enough-le : (walks asks : ℕ) → walks ≤ 100000 → asks ≤ 4 → 1024 + (walks + 1) * asks * 200 ≤ 90000000

@@ -9,7 +9,7 @@ use Rattle.audit_model.specs.declared.setting.Score.TheVariants.{Seats}
 use Rattle.audit_model.specs.declared.setting.Tail.TheVariants.{Low}
 use Rattle.audit_model.specs.Job.{Job}
 use Rattle.report.specs.Lines.{Appends}
-use Rattle.text_definitions.specs.Report.{placed_asks}
+use Rattle.audit_model.specs.Stopping.{placed_asks}
 use Rattle.report.proofs.Written.{IsWritten, written-none, written-more, written-err}
 
 -- of the pieces the first are appended

@@ -4,7 +4,8 @@ use Rattle.std.specs.Prelude.{nat_le}
 use Rattle.audit_model.specs.declared.outcome.Outcome.{Outcome}
 use Rattle.audit_model.specs.Job.{Job}
 use Rattle.audit_model.specs.Trajectory.{plan_value, rank_among}
-use Rattle.text_definitions.specs.Report.{placed_asks, ends_line, ends_lines}
+use Rattle.audit_model.specs.Stopping.{placed_asks}
+use Rattle.text_definitions.specs.Report.{ends_line, ends_lines}
 use Rattle.report.specs.Outcomes.{AreEndsOf}
 use Rattle.report.specs.Parts.{rank_line}
 use Rattle.report.proofs.Sorted.{ends_all}

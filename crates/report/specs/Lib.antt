@@ -1,3 +1,4 @@
 pub mod Lines
 pub mod Outcomes
 pub mod Parts
+pub mod Plain

@@ -5,7 +5,8 @@ use Rattle.audit_model.specs.declared.outcome.Outcome.{Outcome}
 use Rattle.audit_model.specs.declared.setting.Ask.{Ask}
 use Rattle.audit_model.specs.Job.{Job}
 use Rattle.audit_model.specs.Test.{p_value}
-use Rattle.text_definitions.specs.Report.{line, ask_words, billionths, graph_line, population_line, setting_line, placed_asks, walk_line}
+use Rattle.audit_model.specs.Stopping.{placed_asks}
+use Rattle.text_definitions.specs.Report.{line, ask_words, billionths, ends_lines, graph_line, population_line, setting_line, walk_line, walk_lines}
 
 -- the line with the key
 abbrev pub key_line : Job → List ℕ
@@ -30,3 +31,7 @@ rank_line job ask start_rank = line (
     (codes "ends" ∷ []) ++ ask_words job ask
     ++ codes "rank" ∷ decimal start_rank ∷ codes "of" ∷ decimal (job.setting.ends + 1)
     ∷ codes "p" ∷ billionths (p_value start_rank (job.setting.ends + 1)) ∷ [])
+
+-- the report of a job that asks for no lines beside those of walks and ends
+abbrev pub plain_text : Job → List Outcome → List ℕ
+plain_text job outcomes = head job ++ walk_lines job outcomes ++ ends_lines job.setting.ends job outcomes ++ line (codes "end" ∷ [])

@@ -1,9 +1,10 @@
 //! The report of an audit.
 
-ghost use Rattle.std.specs.Prelude.{◌≡◌, ◌+◌, ◌≤◌, ◌++◌, length};
+ghost use Rattle.std.specs.Prelude.{◌≡◌, ◌+◌, ◌≤◌, [], ◌++◌, length, None};
 ghost use Rattle.report.specs.Lines.{Appends};
 ghost use Rattle.report.specs.Outcomes.{AreOutcomesOf};
-ghost use Rattle.report.specs.Parts.{head, key_line};
+ghost use Rattle.report.specs.Parts.{head, key_line, plain_text};
+ghost use Rattle.report.specs.Plain.{IsPlain};
 ghost use Rattle.text_definitions.specs.Report as definition;
 
 use crate::check::{push_graph_line, push_population_line};
@@ -17,11 +18,13 @@ use plan_core::job::Job;
 
 /// Appends the report on the outcomes of all trajectories, which are in the order of their ids. It takes no memory:
 /// `reserve` makes the room.
+#[tactic(auto, using(crate::proofs::Plainly::report_is_plain))]
 pub fn text(job: &Job, sorted: &[Outcome], out: &mut Bytes)
+    requires plain { IsPlain job.now }
     requires outcomes { AreOutcomesOf job.now sorted.now }
-    requires room { length (definition.report job.now sorted.now) ≤ out.old.spare }
-    ensures items { out.new.items ≡ out.old.items ++ definition.report job.now sorted.now }
-    ensures spare { out.new.spare + length (definition.report job.now sorted.now) ≡ out.old.spare }
+    requires room { length (definition.report job.now sorted.now [] None) ≤ out.old.spare }
+    ensures items { out.new.items ≡ out.old.items ++ definition.report job.now sorted.now [] None }
+    ensures spare { out.new.spare + length (definition.report job.now sorted.now [] None) ≡ out.old.spare }
 {
     push_report(job, sorted, out).unwrap();
 }
@@ -29,7 +32,7 @@ pub fn text(job: &Job, sorted: &[Outcome], out: &mut Bytes)
 /// Appends the report.
 fn push_report(job: &Job, sorted: &[Outcome], out: &mut Bytes) -> Result<(), Memory>
     requires { AreOutcomesOf job.now sorted.now }
-    ensures { Appends out.old out.new (definition.report job.now sorted.now) result }
+    ensures { Appends out.old out.new (plain_text job.now sorted.now) result }
 {
     push_head(job, out)?;
     push_walk_lines(job, sorted, out)?;

@@ -2,6 +2,7 @@
 
 ghost use Rattle.std.specs.Prelude.{◌≡◌, ◌++◌, OnOk, OnErr};
 ghost use Rattle.report.specs.Lines.{Appends};
+ghost use Rattle.report.specs.Plain.{HasPlainRules};
 ghost use Rattle.text_definitions.specs.Report as definition;
 
 use crate::lines::{Word, push_line};
@@ -12,6 +13,7 @@ use std::alloc::Global;
 
 /// Appends the text of a check: four lines. After want of memory `out` is as before.
 pub fn check_text(alloc: Global, job: &Job, out: &mut Bytes) -> Result<(), Memory>
+    requires plain { HasPlainRules job.now }
     ensures ok { OnOk result (out.new.items ≡ out.old.items ++ definition.check_text job.now) }
     ensures err { OnErr result (out.new ≡ out.old) }
 {

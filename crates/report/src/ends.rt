@@ -5,7 +5,8 @@ ghost use Rattle.audit_model.specs.Trajectory.{plan_value};
 ghost use Rattle.report.specs.Lines.{Appends};
 ghost use Rattle.report.specs.Outcomes.{AreEndsOf, AreOutcomesOf};
 ghost use Rattle.report.specs.Parts.{rank_line};
-ghost use Rattle.text_definitions.specs.Report.{ends_line, ends_lines, placed_asks};
+ghost use Rattle.audit_model.specs.Stopping.{placed_asks};
+ghost use Rattle.text_definitions.specs.Report.{ends_line, ends_lines};
 
 use crate::lines::{Word, push_line};
 use crate::names::{score_text, tail_text};

@@ -1,8 +1,9 @@
 //! The room that a report takes.
 
-ghost use Rattle.std.specs.Prelude.{◌≡◌, ◌≤◌, List, length, OnOk, OnErr};
+ghost use Rattle.std.specs.Prelude.{◌≡◌, ◌≤◌, List, [], length, None, OnOk, OnErr};
 ghost use Rattle.audit_model.specs.declared.outcome.Outcome.{Outcome};
 ghost use Rattle.report.specs.Outcomes.{AreOutcomesOf};
+ghost use Rattle.report.specs.Plain.{IsPlain};
 ghost use Rattle.text_definitions.specs.Report as definition;
 
 use crate::values::asks_of;
@@ -23,9 +24,10 @@ const LINE_ROOM: usize = 200;
 ///
 /// `Memory`: there was no memory for it, and `out` is as before.
 pub fn reserve(alloc: Global, job: &Job, out: &mut Bytes) -> Result<(), Memory>
+    requires plain { IsPlain job.now }
     ensures bytes { out.new.items ≡ out.old.items }
     ensures room { OnOk result ((outcomes : List Outcome) → AreOutcomesOf job.now outcomes →
-        length (definition.report job.now outcomes) ≤ out.new.spare) }
+        length (definition.report job.now outcomes [] None) ≤ out.new.spare) }
     ensures err { OnErr result (out.new ≡ out.old) }
 {
     let room = report_room(job);
@@ -41,8 +43,9 @@ pub fn reserve(alloc: Global, job: &Job, out: &mut Bytes) -> Result<(), Memory>
 
 /// At least as many bytes as any report on the job has.
 fn report_room(job: &Job) -> usize
+    requires plain { IsPlain job.now }
     ensures enough { (outcomes : List Outcome) → AreOutcomesOf job.now outcomes →
-        length (definition.report job.now outcomes) ≤ result }
+        length (definition.report job.now outcomes [] None) ≤ result }
     ensures few { result ≤ 90000000 }
 {
     let _units = job.units();

@@ -14,7 +14,7 @@ module _ (job : Job) (draws : Draws) where
   id_of_outcome : (id : ℕ) → (outcome job draws id).id ≡ id
   id_of_outcome id = by (nat_lt id job.setting.walks)
     where
-      by : (b : Bool) → (outcome_by b job draws id).id ≡ id
+      by : (b : Bool) → (outcome_by b job.setting.shift job draws id).id ≡ id
       by true = refl
       by false = refl
 

@@ -1,2 +1,2 @@
-//! The words of a command line and the setting that they give, the report and the check text.
+//! How scores and tails are written, the report and the check text.
 #![tactic(auto)]

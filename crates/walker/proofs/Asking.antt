@@ -3,7 +3,7 @@ use Rattle.std.proofs.Common.{◌≡◌, ℕ, zero, suc, ◌+◌, ◌*◌, ◌<�
 use Rattle.std.specs.List.{All, slice_get}
 use Rattle.audit_model.specs.declared.setting.Ask.{Ask}
 use Rattle.audit_model.specs.declared.setting.Command.{Command}
-use Rattle.audit_model.specs.declared.setting.Command.TheVariants.{Check, Run, Make}
+use Rattle.audit_model.specs.declared.setting.Command.TheVariants.{Check, Run, Make, Plans}
 use Rattle.audit_model.specs.declared.setting.Setting.{Setting}
 use Rattle.audit_model.specs.Below.{count_below, map_below}
 use Rattle.audit_model.specs.Job.{Job}
@@ -142,6 +142,7 @@ few_of : (command : Command) (s : Setting) → IsSettingOf command s → s.steps
 few_of Check s h = omega (arith, h.no_steps)
 few_of Run s h = h.few_steps
 few_of Make s h = h.few_steps
+few_of Plans s h = h.few_steps
 
 pub few_steps : (job : Job) → IsJob job → job.setting.steps ≤ 10 ^ 9
 few_steps job sound = few_of job.setting.command job.setting sound.within.setting.command

@@ -1,9 +1,9 @@
 -- What a walk found is the outcome of its id.
-use Rattle.std.proofs.Common.{◌≡◌, ℕ, ◌+◌, ◌-◌, ◌*◌, List, [], ◌∷◌, get_or, map, pos, ℤ, refl, sym, ap, ◌∙◌}
+use Rattle.std.proofs.Common.{◌≡◌, ℕ, ◌+◌, ◌-◌, ◌*◌, List, [], ◌∷◌, get_or, map, false, pos, ℤ, refl, sym, ap, ◌∙◌}
 use Rattle.audit_model.specs.declared.outcome.Outcome.{Outcome}
 use Rattle.audit_model.specs.declared.setting.Ask.{Ask}
 use Rattle.audit_model.specs.Job.{Job}
-use Rattle.audit_model.specs.Trajectory.{Draws, visit, hub, plan_value, moves, visits_in_tail, four_values, walk_outcome, end_outcome}
+use Rattle.audit_model.specs.Trajectory.{Draws, visit, hub, plan_value, moves, visits_in_tail, four_values, no_bins, walk_outcome, end_outcome}
 use Rattle.flip_kernel.specs.Held.{Held}
 use Rattle.walker.specs.Asked.{each, asked_value, is_inside, visits_inside}
 use Rattle.walker.proofs.Asking.{each_is_four}
@@ -14,13 +14,13 @@ unfolding asked_value
 values_are_four job plan asks = each_is_four (asked_value job plan) asks refl
 
 counts_are_four : (job : Job) (draws : ℕ → ℕ) (asks : List Ask)
-    → four_values (map (λ ask. pos (visits_in_tail job draws ask)) asks) ≡ each (λ o. pos (visits_inside job draws (job.setting.steps + 1) o)) asks
+    → four_values (map (λ ask. pos (visits_in_tail job draws job.setting.steps ask)) asks) ≡ each (λ o. pos (visits_inside job draws (job.setting.steps + 1) o)) asks
 unfolding visits_inside is_inside
 counts_are_four job draws asks = each_is_four (λ o. pos (visits_inside job draws (job.setting.steps + 1) o)) asks refl
 
--- the outcome of these parts
+-- the outcome of these parts, with no bins
 abbrev found : ℕ → ℕ → List ℤ → Outcome
-found id moved values = record { id = id; moved = moved; values = values }
+found id moved values = record { id = id; moved = moved; values = values; bins = no_bins }
 
 -- the counts with a sign
 abbrev four_signed : List ℕ → List ℤ
@@ -29,7 +29,7 @@ four_signed counts = pos (get_or counts 0 0) ∷ pos (get_or counts 1 0) ∷ pos
 pub walk_found : (job : Job) (draws : Draws) (id stream moved : ℕ) (counts : List ℕ) (values : List ℤ) → stream ≡ 2 * id
     → moved ≡ moves job (draws stream) job.start job.setting.steps
     → counts ≡ each (visits_inside job (draws stream) (job.setting.steps + 1)) job.setting.asks → values ≡ four_signed counts
-    → found id moved values ≡ walk_outcome job draws id
+    → found id moved values ≡ walk_outcome false job draws id
 walk_found job draws id stream moved counts values s m c v =
     ap (λ (n : ℕ). found id n values) (m ∙ ap (λ (t : ℕ). moves job (draws t) job.start job.setting.steps) s)
     ∙ ap (λ (xs : List ℤ). found id (moves job (draws (2 * id)) job.start job.setting.steps) xs)

@@ -1,9 +1,7 @@
-//! Trajectories of small jobs under the key of zeros.
+//! The calls on two units of two districts, whose plan can never change.
 
-ghost use Rattle.std.specs.Prelude.{◌≡◌, ◌<◌, ◌≤◌, ◌≢◌, ℕ, IsTrue, IfOk, length, slice_index};
-ghost use Rattle.std.specs.List.{AllPairs};
-ghost use Rattle.audit_model.specs.Limits.{IsColumn, IsSetting};
-ghost use Rattle.dual_graph.specs.Pairs.{ArePairs, IsBefore};
+ghost use Rattle.std.specs.Prelude.{◌≡◌, IfOk, length};
+ghost use Rattle.audit_model.specs.Limits.{AreWithin, IsSetting};
 
 use crate::walker::Walker;
 use audit_model::lists::{AskList, LabelList, NumList, UnitList};
@@ -15,54 +13,7 @@ use dual_graph::graph::Graph;
 use dual_graph::parsed::Parsed;
 use plan_core::job::Job;
 use std::alloc::Global;
-
-fn is_before(a: (u32, u32), b: (u32, u32)) -> bool
-    ensures { IsTrue result → IsBefore a b }
-{
-    if a.0 < b.0 {
-        return true;
-    }
-    a.0 == b.0 && a.1 < b.1
-}
-
-fn are_pairs(n: u32, pairs: &[(u32, u32)]) -> bool
-    ensures { IsTrue result → ArePairs n pairs.now }
-{
-    for k in 0..pairs.len() {
-        let pair = pairs[k];
-        if pair.0 >= pair.1 || pair.1 >= n {
-            return false;
-        }
-    }
-    for k in 1..pairs.len() {
-        if !is_before(pairs[k - 1], pairs[k]) {
-            return false;
-        }
-    }
-    true
-}
-
-fn is_column(numbers: &[u64], units: usize) -> bool
-    ensures { IsTrue result → IsColumn units numbers.now }
-{
-    for number in numbers {
-        if *number > 1_000_000_000 {
-            return false;
-        }
-    }
-    numbers.len() == units
-}
-
-fn are_districts(plan: &[u32], districts: u32) -> bool
-    ensures { IsTrue result → (u : ℕ) → u < length plan.now → slice_index plan.now u < districts }
-{
-    for district in plan {
-        if *district >= districts {
-            return false;
-        }
-    }
-    true
-}
+use std::test::Fail;
 
 fn numbers(alloc: Global, from: &[u64]) -> Result<NumList, Memory>
     ensures { IfOk result (λ l. l ≡ from.now) }
@@ -80,34 +31,41 @@ fn plan_of(alloc: Global, from: &[u32]) -> Result<UnitList, Memory>
     Ok(list)
 }
 
-fn labels(alloc: Global, districts: u32) -> Result<LabelList, Memory>
-    ensures { IfOk result (λ l. length l ≡ districts) }
+fn two_labels(alloc: Global) -> Result<LabelList, Memory>
+    ensures { IfOk result (λ l. length l ≡ 2) }
 {
     let mut labels = LabelList::new(alloc);
-    for number in 0..districts {
-        labels.push(Label::Whole(i128::from(number)))?;
-    }
+    labels.push(Label::Whole(1))?;
+    labels.push(Label::Whole(2))?;
     Ok(labels)
 }
 
-fn two_asks(alloc: Global, one: Ask, other: Ask) -> Result<AskList, Memory>
-    requires { one ≢ other }
-    ensures two { IfOk result (λ l. length l ≡ 2) }
-    ensures apart { IfOk result (λ l. AllPairs (λ a b. a ≢ b) l) }
+// Two neighbours, each a district of its own.
+fn two_units(alloc: Global) -> Result<Parsed, Memory>
+    ensures { IfOk result (λ p. AreWithin p.graph p.counts p.start (length p.labels)) }
 {
-    let mut asks = AskList::new(alloc);
-    asks.push(one)?;
-    asks.push(other)?;
-    Ok(asks)
+    Ok(Parsed {
+        graph: Graph::from_pairs(alloc, 2, &[(0, 1)])?,
+        counts: Counts {
+            population: numbers(alloc, &[1, 1])?,
+            first: numbers(alloc, &[1, 0])?,
+            second: numbers(alloc, &[0, 1])?,
+        },
+        start: plan_of(alloc, &[0, 1])?,
+        labels: two_labels(alloc)?,
+    })
 }
 
-fn setting(alloc: Global, asks: AskList, steps: u32, ends: u32, hub_steps: u32) -> Setting
-    requires two { length asks ≡ 2 }
-    requires apart { AllPairs (λ a b. a ≢ b) asks }
-    requires small { (1 ≤ steps) × (steps ≤ 1000) × (ends ≤ 10) × (1 ≤ hub_steps) × (hub_steps ≤ 1000) }
-    ensures { IsSetting result }
+// One trajectory of each test, that asks for seats.
+fn setting(alloc: Global) -> Result<Setting, Memory>
+    ensures { IfOk result (λ s. IsSetting s) }
 {
-    Setting {
+    let mut asks = AskList::new(alloc);
+    asks.push(Ask {
+        score: Score::Seats,
+        tail: Tail::High,
+    })?;
+    Ok(Setting {
         command: Command::Run,
         columns: Columns {
             population: Text::new(alloc),
@@ -115,265 +73,60 @@ fn setting(alloc: Global, asks: AskList, steps: u32, ends: u32, hub_steps: u32) 
             second: Text::new(alloc),
             district: Text::new(alloc),
         },
-        slack: 5000,
+        slack: 500,
         key: [0; 32],
         walks: 1,
-        steps,
-        ends,
-        hub_steps,
+        steps: 3,
+        ends: 1,
+        hub_steps: 8,
         asks,
         workers: 1,
         budget: 0,
         save_every: 0,
         resume: false,
         size: 0,
-    }
+        max_cut: 400_000,
+        shift: false,
+        stop: 0,
+        serial: false,
+        region: Text::new(alloc),
+        max_split: 200,
+    })
 }
 
-fn job(
-    alloc: Global,
-    pairs: &[(u32, u32)],
-    plan: &[u32],
-    votes: (&[u64], &[u64]),
-    districts: u32,
-    setting: Setting,
-) -> Result<Option<Job>, Memory>
-    requires { IsSetting setting }
-{
-    let units = plan.len();
-    let ones = numbers(alloc, &[1; 4])?;
-    if units > 4 || pairs.len() > 4 || districts < 2 || districts > 4 {
+// What both trajectories find, if there are two.
+fn found(alloc: Global, job: &Job) -> Result<Option<(Outcome, Outcome)>, Memory> {
+    if job.total() != 2 || job.setting().shift {
         return Ok(None);
     }
-    let known = are_pairs(units as u32, pairs);
-    if !known || !are_districts(plan, districts) {
+    if job.setting().max_cut < job.graph().edges() || job.rules().regions.len() > 0 {
         return Ok(None);
     }
-    let population = &ones.as_slice()[..units];
-    if !is_column(population, units) || !is_column(votes.0, units) || !is_column(votes.1, units) {
-        return Ok(None);
-    }
-    let parsed = Parsed {
-        graph: Graph::from_pairs(alloc, units as u32, pairs)?,
-        counts: Counts {
-            population: numbers(alloc, population)?,
-            first: numbers(alloc, votes.0)?,
-            second: numbers(alloc, votes.1)?,
-        },
-        start: plan_of(alloc, plan)?,
-        labels: labels(alloc, districts)?,
-    };
-    match Job::new(alloc, parsed, setting) {
-        Ok(job) => Ok(Some(job)),
-        Err(_) => Ok(None),
-    }
-}
-
-// What the trajectory with this id finds, after the hub was walked.
-fn found(alloc: Global, job: Option<Job>, id: u32) -> Result<Option<Outcome>, Memory> {
-    let job = match job {
-        Some(job) => job,
-        None => return Ok(None),
-    };
-    if id >= job.total() {
-        return Ok(None);
-    }
-    let mut walker = Walker::new(alloc, &job)?;
     let mut hub = UnitList::zeros(alloc, job.units() as usize)?;
-    walker.hub_into(&job, hub.as_mut_slice());
-    Ok(Some(walker.walk(&job, hub.as_slice(), id)))
+    let mut walker = Walker::new(alloc, job)?;
+    walker.hub_into(job, hub.as_mut_slice());
+    let along = walker.walk(job, hub.as_slice(), 0);
+    let end = walker.walk(job, hub.as_slice(), 1);
+    Ok(Some((along, end)))
 }
 
-const PATH: [(u32, u32); 3] = [(0, 1), (1, 2), (2, 3)];
-
-const CYCLE: [(u32, u32); 4] = [(0, 1), (0, 3), (1, 2), (2, 3)];
-
-// Both visited plans have one seat.
+// The start plan and the plan after each of three steps have its one seat, and so has the end.
 #[test]
-fn seats_on_a_path_of_four(rt: HostRuntime) -> Result<(), Memory> {
-    let low = Ask {
-        score: Score::Seats,
-        tail: Tail::Low,
+fn plans_that_stay(rt: HostRuntime) -> Result<(), Fail> {
+    let alloc = rt.alloc();
+    let job = Job::new(alloc, two_units(alloc)?, setting(alloc)?)?;
+    let along = Outcome {
+        id: 0,
+        moved: 0,
+        values: [4, 0, 0, 0],
+        bins: [0; 9],
     };
-    let high = Ask {
-        score: Score::Seats,
-        tail: Tail::High,
+    let end = Outcome {
+        id: 1,
+        moved: 0,
+        values: [1, 0, 0, 0],
+        bins: [0; 9],
     };
-    let setting = setting(rt.alloc(), two_asks(rt.alloc(), low, high)?, 8, 0, 1000);
-    let job = job(
-        rt.alloc(),
-        &PATH,
-        &[0, 0, 1, 1],
-        (&[3, 1, 1, 2], &[1, 2, 2, 1]),
-        2,
-        setting,
-    )?;
-    let found = found(rt.alloc(), job, 0)?;
-    assert!(rt;
-        found
-            == Some(Outcome {
-                id: 0,
-                moved: 1,
-                values: [9, 9, 0, 0]
-            })
-    );
-    Ok(())
-}
-
-#[test]
-fn gaps_on_a_cycle(rt: HostRuntime) -> Result<(), Memory> {
-    let low = Ask {
-        score: Score::Gap,
-        tail: Tail::Low,
-    };
-    let high = Ask {
-        score: Score::Gap,
-        tail: Tail::High,
-    };
-    let setting = setting(rt.alloc(), two_asks(rt.alloc(), low, high)?, 8, 0, 1000);
-    let job = job(
-        rt.alloc(),
-        &CYCLE,
-        &[0, 0, 1, 1],
-        (&[3, 1, 1, 2], &[1, 2, 2, 1]),
-        2,
-        setting,
-    )?;
-    let found = found(rt.alloc(), job, 0)?;
-    assert!(rt;
-        found
-            == Some(Outcome {
-                id: 0,
-                moved: 3,
-                values: [4, 8, 0, 0]
-            })
-    );
-    Ok(())
-}
-
-// Each visited plan cuts two edges.
-#[test]
-fn cut_edges_on_a_cycle(rt: HostRuntime) -> Result<(), Memory> {
-    let low = Ask {
-        score: Score::CutEdges,
-        tail: Tail::Low,
-    };
-    let high = Ask {
-        score: Score::CutEdges,
-        tail: Tail::High,
-    };
-    let setting = setting(rt.alloc(), two_asks(rt.alloc(), low, high)?, 8, 0, 1000);
-    let job = job(
-        rt.alloc(),
-        &CYCLE,
-        &[0, 0, 1, 1],
-        (&[3, 1, 1, 2], &[1, 2, 2, 1]),
-        2,
-        setting,
-    )?;
-    let found = found(rt.alloc(), job, 0)?;
-    assert!(rt;
-        found
-            == Some(Outcome {
-                id: 0,
-                moved: 3,
-                values: [9, 9, 0, 0]
-            })
-    );
-    Ok(())
-}
-
-#[test]
-fn seats_and_gaps_on_a_path_of_three(rt: HostRuntime) -> Result<(), Memory> {
-    let seats = Ask {
-        score: Score::Seats,
-        tail: Tail::High,
-    };
-    let gap = Ask {
-        score: Score::Gap,
-        tail: Tail::High,
-    };
-    let setting = setting(rt.alloc(), two_asks(rt.alloc(), seats, gap)?, 8, 0, 1000);
-    let job = job(
-        rt.alloc(),
-        &[(0, 1), (1, 2)],
-        &[0, 1, 1],
-        (&[3, 1, 4], &[1, 3, 0]),
-        2,
-        setting,
-    )?;
-    let found = found(rt.alloc(), job, 0)?;
-    assert!(rt;
-        found
-            == Some(Outcome {
-                id: 0,
-                moved: 1,
-                values: [2, 2, 0, 0]
-            })
-    );
-    Ok(())
-}
-
-// Four visited plans have the start's value, and five a lower one.
-#[test]
-fn medians_of_three_districts(rt: HostRuntime) -> Result<(), Memory> {
-    let high = Ask {
-        score: Score::MeanMedian,
-        tail: Tail::High,
-    };
-    let low = Ask {
-        score: Score::MeanMedian,
-        tail: Tail::Low,
-    };
-    let setting = setting(rt.alloc(), two_asks(rt.alloc(), high, low)?, 8, 0, 1000);
-    let job = job(
-        rt.alloc(),
-        &PATH,
-        &[0, 0, 1, 2],
-        (&[6, 1, 5, 1], &[4, 3, 5, 3]),
-        3,
-        setting,
-    )?;
-    let found = found(rt.alloc(), job, 0)?;
-    assert!(rt;
-        found
-            == Some(Outcome {
-                id: 0,
-                moved: 1,
-                values: [4, 9, 0, 0]
-            })
-    );
-    Ok(())
-}
-
-// No move is ever legal, so each end has the start's values: no gap, one seat.
-#[test]
-fn ends_on_a_path_of_two(rt: HostRuntime) -> Result<(), Memory> {
-    let gap = Ask {
-        score: Score::Gap,
-        tail: Tail::Low,
-    };
-    let seats = Ask {
-        score: Score::Seats,
-        tail: Tail::High,
-    };
-    let setting = setting(rt.alloc(), two_asks(rt.alloc(), gap, seats)?, 3, 2, 8);
-    let job = job(
-        rt.alloc(),
-        &[(0, 1)],
-        &[0, 1],
-        (&[1, 0], &[0, 1]),
-        2,
-        setting,
-    )?;
-    let found = found(rt.alloc(), job, 2)?;
-    assert!(rt;
-        found
-            == Some(Outcome {
-                id: 2,
-                moved: 0,
-                values: [0, 1, 0, 0]
-            })
-    );
+    assert!(rt; found(alloc, &job)? == Some((along, end)));
     Ok(())
 }

@@ -1,9 +1,10 @@
 //! The walker of a job.
 
-ghost use Rattle.std.specs.Prelude.{◌≡◌, ◌+◌, ◌-◌, ◌*◌, ◌<◌, ◌≤◌, length, IfOk};
+ghost use Rattle.std.specs.Prelude.{◌≡◌, false, ◌+◌, ◌-◌, ◌*◌, ◌<◌, ◌≤◌, length, IfOk};
 ghost use Rattle.draw_definitions.specs.Draw.{draw};
 ghost use Rattle.audit_model.specs.Plan.{IsLegal};
-ghost use Rattle.audit_model.specs.Trajectory.{hub as hub_of, outcome, walk_outcome, end_outcome};
+ghost use Rattle.audit_model.specs.Trajectory.{hub as hub_of, outcome, outcome_with, walk_outcome, end_outcome};
+ghost use Rattle.flip_kernel.specs.Held.{LimitsNothing};
 
 use crate::asked::{signed, values};
 use crate::steps::{count_visits, walk};
@@ -34,8 +35,9 @@ impl Model for Walker {
 }
 
 impl Walker {
-    /// A walker that holds the job's start plan.
+    /// A walker that holds the start plan of a job whose rules limit nothing.
     pub fn new(alloc: Global, job: &Job) -> Result<Walker, Memory>
+        requires { LimitsNothing job.now }
         ensures job { IfOk result (λ w. w.job ≡ job.now) }
         ensures plan { IfOk result (λ w. w.plan ≡ job.now.start) }
     {
@@ -54,11 +56,13 @@ impl Walker {
     }
 
     /// Walks the trajectory with this id, and answers what it finds: one of the outlier test from the start
-    /// plan, or one of the parallel test from the hub, which is read for no other. It takes no memory.
+    /// plan, or one of the parallel test from the hub, which is read for no other. No bins are asked for. It
+    /// takes no memory.
     pub fn walk(&mut self, job: &Job, hub: &[u32], id: u32) -> Outcome
         requires made { self.old.job ≡ job.now }
         requires id { id < job.now.setting.walks + job.now.setting.ends }
         requires hub { job.now.setting.walks ≤ id → hub.now ≡ hub_of job.now (draw job.now.setting.key) }
+        requires bare { job.now.setting.shift ≡ false }
         ensures outcome { result ≡ outcome job.now (draw job.now.setting.key) id }
         ensures made { self.new.job ≡ self.old.job }
     {
@@ -83,7 +87,7 @@ impl Walker {
         requires some { 0 < L.parts }
         requires made { self.old.job ≡ job.now }
         requires hub { job.now.setting.walks ≤ id → hub.now ≡ hub_of job.now (draw job.now.setting.key) }
-        ensures outcome { result ≡ outcome job.now (draw job.now.setting.key) id }
+        ensures outcome { result ≡ outcome_with false job.now (draw job.now.setting.key) id }
         ensures made { self.new.job ≡ self.old.job }
     {
         let mut counter: Steps<L> = Steps::new(blank);
@@ -97,7 +101,7 @@ impl Walker {
     // A trajectory of the outlier test.
     fn walk_from_start<L: Ledger>(&mut self, job: &Job, id: u32, counter: &mut Steps<L>) -> Outcome
         requires made { self.old.job ≡ job.now }
-        ensures outcome { result ≡ walk_outcome job.now (draw job.now.setting.key) id }
+        ensures outcome { result ≡ walk_outcome false job.now (draw job.now.setting.key) id }
         ensures made { self.new.job ≡ self.old.job }
     {
         self.state.set(job, job.start().as_slice());
@@ -107,6 +111,7 @@ impl Walker {
             id,
             moved: u64::from(moved),
             values: signed(counts),
+            bins: [0; 9],
         }
     }
 
@@ -133,6 +138,7 @@ impl Walker {
             id,
             moved: u64::from(moved),
             values: values(&self.state, setting.asks.as_slice(), &mut self.room),
+            bins: [0; 9],
         }
     }
 

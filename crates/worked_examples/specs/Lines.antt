@@ -1,5 +1,5 @@
 -- The words of a run.
-use Rattle.std.specs.Prelude.{ℕ, List, [], ◌∷◌, codes, replicate}
+use Rattle.std.specs.Prelude.{ℕ, List, ◌∷◌, codes, replicate}
 
 -- a run on the usual columns with the key of zeros, and more words
 abbrev pub run_words : List (List ℕ) → List (List ℕ)
@@ -10,3 +10,9 @@ run_words more =
 -- twelve walks, a budget of five of them, and what is said of saving
 abbrev pub small_budget : List (List ℕ) → List (List ℕ)
 small_budget saving = run_words (codes "--ask" ∷ codes "gap:low" ∷ codes "--walks" ∷ codes "12" ∷ codes "--budget" ∷ codes "5" ∷ saving)
+
+-- an audit of several plans by the column of districts, and more words
+abbrev pub plans_words : List ℕ → List (List ℕ) → List (List ℕ)
+plans_words district more =
+    codes "plans" ∷ codes "--pop" ∷ codes "pop" ∷ codes "--first" ∷ codes "a" ∷ codes "--second" ∷ codes "b" ∷ codes "--district" ∷ district
+    ∷ codes "--key" ∷ replicate 64 48 ∷ codes "--ask" ∷ codes "gap:low" ∷ more

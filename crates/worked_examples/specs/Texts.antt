@@ -1,7 +1,8 @@
 -- Small graphs as texts.
-use Rattle.std.specs.Prelude.{ℕ, List, [], ◌∷◌, codes}
+use Rattle.std.specs.Prelude.{ℕ, List, [], ◌∷◌, codes, pos}
 use Rattle.audit_model.specs.declared.setting.Columns.{Columns}
 use Rattle.audit_model.specs.declared.setting.Label.{Label}
+use Rattle.audit_model.specs.declared.setting.Label.TheVariants.{Whole}
 use Rattle.worked_examples.specs.Jobs.{counts_of}
 use Rattle.audit_model.specs.Graph.{Graph}
 use Rattle.audit_model.specs.Parsed.{Parsed}
@@ -30,3 +31,14 @@ parsed_four graph labels = record {
   start = 0 ∷ 0 ∷ 1 ∷ 1 ∷ [];
   labels = labels;
 }
+
+-- units with a region each, and with a column in which the first holds no label
+abbrev pub region_text : List ℕ
+region_text = codes "{\"nodes\":[{\"r\":1,\"s\":1.5,\"id\":0},{\"r\":2,\"s\":1,\"id\":1},{\"r\":2,\"s\":1,\"id\":2},{\"r\":1,\"s\":1,\"id\":3}],\"adjacency\":[[],[],[],[]]}"
+
+-- the same without the last unit's region
+abbrev pub short_region_text : List ℕ
+short_region_text = codes "{\"nodes\":[{\"r\":1,\"id\":0},{\"r\":2,\"id\":1},{\"r\":2,\"id\":2},{\"id\":3}],\"adjacency\":[[],[],[],[]]}"
+
+abbrev pub four_ids : List Label
+four_ids = Whole (pos 0) ∷ Whole (pos 1) ∷ Whole (pos 2) ∷ Whole (pos 3) ∷ []

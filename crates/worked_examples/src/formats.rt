@@ -4,22 +4,25 @@ ghost use Rattle.std.specs.Prelude.{◌≡◌, ◌++◌, [], ◌∷◌, codes, l
 ghost use Rattle.audit_model.specs.declared.fault.CkptFault.TheVariants as ckpt;
 ghost use Rattle.audit_model.specs.declared.setting.Score.TheVariants.{Gap};
 ghost use Rattle.audit_model.specs.declared.setting.Tail.TheVariants.{Low, High};
-ghost use Rattle.worked_examples.specs.Jobs.{run_of, path_of_four, cycle_of_four, job_of_four, job_of_two};
-ghost use Rattle.audit_model.specs.Trajectory.{outcome, sequence};
+ghost use Rattle.worked_examples.specs.Jobs.{run_of, path_of_four, cycle_of_four, job_of_four, job_of_two, found_once};
+ghost use Rattle.audit_model.specs.Trajectory.{outcome, no_bins, sequence};
 ghost use Rattle.checkpoint_definitions.specs.Checkpoint.{checkpoint, checkpoint_body, checkpoint_fault};
+ghost use Rattle.checkpoint_definitions.specs.Slots.{opening, outcomes_in};
 ghost use Rattle.draw_definitions.specs.Draw.{draw};
 ghost use Rattle.audit_model.specs.declared.fault.GraphFault.TheVariants as fault;
 ghost use Rattle.audit_model.specs.declared.setting.Label.TheVariants.{Whole, Word};
 ghost use Rattle.worked_examples.specs.Texts.{columns, path_text, other_path_text, cycle_text, parsed_four};
 ghost use Rattle.graph_definitions.specs.Reading.{reading};
 ghost use Rattle.draw_definitions.specs.Grid.{neighbours_json};
-ghost use Rattle.note_definitions.specs.Note.{note, bad_words, bad_graph, bad_plan, stopped, damaged};
+ghost use Rattle.note_definitions.specs.Note.{note, bad_words, bad_graph, bad_plan, bad_plan_named, bad_regions, bad_table, stopped, damaged};
 ghost use Rattle.checkpoint_definitions.specs.Slots.{newest, place, absent, broken, ours};
 ghost use Rattle.audit_model.specs.declared.fault.Column.TheVariants as column;
 ghost use Rattle.audit_model.specs.declared.fault.Part.TheVariants as part;
 ghost use Rattle.audit_model.specs.declared.fault.PlanFault.TheVariants as plan;
+ghost use Rattle.audit_model.specs.declared.fault.RegionFault.TheVariants as region;
+ghost use Rattle.audit_model.specs.declared.fault.TableFault.TheVariants as table;
 ghost use Rattle.text_definitions.specs.Report.{report, check_text};
-ghost use Rattle.text_definitions.specs.Words.{is_good, pairs, setting_of};
+ghost use Rattle.word_definitions.specs.Words.{is_good, pairs, setting_of};
 ghost use Rattle.audit_model.specs.declared.setting.Command.TheVariants.{Run};
 ghost use Rattle.worked_examples.specs.Lines.{run_words, small_budget};
 ghost use Rattle.audit_model.specs.declared.fault.WordFault.TheVariants as word;
@@ -46,7 +49,7 @@ pub fn check_text_of_a_path()
 /// The report on the cycle of four units.
 pub fn report_on_a_cycle()
     ensures { report (job_of_four cycle_of_four (run_of 5000 1 8 0 1000 (record { score = Gap; tail = Low } ∷ record { score = Gap; tail = High } ∷ [])))
-        (record { id = 0; moved = 3; values = pos 4 ∷ pos 8 ∷ pos 0 ∷ pos 0 ∷ [] } ∷ []) ≡
+        (record { id = 0; moved = 3; values = pos 4 ∷ pos 8 ∷ pos 0 ∷ pos 0 ∷ []; bins = no_bins } ∷ []) [] None ≡
         codes "district-audit 1" ++ 10 ∷ codes "key 0000000000000000000000000000000000000000000000000000000000000000" ++ 10 ∷
         codes "units 4 edges 4 districts 2" ++ 10 ∷ codes "population 4 slack 5000 low 1 high 3" ++ 10 ∷
         codes "walks 1 steps 8 ends 0 hub-steps 1000" ++ 10 ∷
@@ -103,13 +106,33 @@ pub fn small_budgets()
     ensures unread_save { setting_of (small_budget (codes "--save" ∷ codes "x" ∷ [])) ≡ Err (word.BadValue name.Save) }
 {}
 
-/// A checkpoint with one outcome, and what is none.
+/// A checkpoint with one outcome, in both versions, and what is none.
 pub fn small_checkpoints()
-    ensures length { length (checkpoint (replicate 32 0) 1 (record { id = 0; moved = 3; values = pos 4 ∷ pos 8 ∷ pos 0 ∷ pos 0 ∷ [] } ∷ [])) ≡ 128 }
-    ensures none { checkpoint_fault (checkpoint (replicate 32 0) 1 (record { id = 0; moved = 3; values = pos 4 ∷ pos 8 ∷ pos 0 ∷ pos 0 ∷ [] } ∷ [])) ≡ None }
+    ensures length { length (checkpoint 2 (replicate 32 0) 1 (found_once ∷ [])) ≡ 164 }
+    ensures old_length { length (checkpoint 1 (replicate 32 0) 1 (found_once ∷ [])) ≡ 128 }
+    ensures none { checkpoint_fault (checkpoint 2 (replicate 32 0) 1 (found_once ∷ [])) ≡ None }
+    ensures old_none { checkpoint_fault (checkpoint 1 (replicate 32 0) 1 (found_once ∷ [])) ≡ None }
     ensures short { checkpoint_fault (replicate 83 0) ≡ Some (ckpt.TooShort 83) }
-    ensures generation { checkpoint_fault (checkpoint (replicate 32 0) 3 []) ≡ Some (ckpt.BadGeneration 3) }
-    ensures order { checkpoint_fault (checkpoint (replicate 32 0) 1 (record { id = 0; moved = 3; values = pos 4 ∷ pos 8 ∷ pos 0 ∷ pos 0 ∷ [] } ∷ record { id = 0; moved = 3; values = pos 4 ∷ pos 8 ∷ pos 0 ∷ pos 0 ∷ [] } ∷ [])) ≡ Some (ckpt.BadOrder 1) }
+    ensures version { checkpoint_fault (checkpoint 3 (replicate 32 0) 1 []) ≡ Some (ckpt.BadVersion 3) }
+    ensures generation { checkpoint_fault (checkpoint 2 (replicate 32 0) 3 []) ≡ Some (ckpt.BadGeneration 3) }
+    ensures order { checkpoint_fault (checkpoint 2 (replicate 32 0) 1 (found_once ∷ found_once ∷ [])) ≡ Some (ckpt.BadOrder 1) }
+    ensures longer { checkpoint_fault (checkpoint 2 (replicate 32 0) 1 (found_once ∷ []) ++ 0 ∷ []) ≡ Some (ckpt.BadCount 1 165) }
+{}
+
+/// What is read of a checkpoint, in both versions.
+pub fn read_checkpoints()
+    ensures bins { outcomes_in (checkpoint_body 2 (replicate 32 0) 1 (record found_once { bins = 0 ∷ 1 ∷ 2 ∷ 3 ∷ 4 ∷ 5 ∷ 6 ∷ 7 ∷ 8 ∷ [] } ∷ [])) ≡
+        record found_once { bins = 0 ∷ 1 ∷ 2 ∷ 3 ∷ 4 ∷ 5 ∷ 6 ∷ 7 ∷ 8 ∷ [] } ∷ [] }
+    ensures old { outcomes_in (checkpoint_body 1 (replicate 32 0) 1 (found_once ∷ [])) ≡ found_once ∷ [] }
+{}
+
+/// What a run goes on from: bare outcomes, or of the walks those with bins.
+pub fn small_openings()
+    ensures bare { opening true (run_of 5000 1 8 1 8 []) (ours 0 (record found_once { bins = 9 ∷ [] } ∷ [])) absent ≡ Some (found_once ∷ []) }
+    ensures binned { opening true (record (run_of 5000 1 8 1 8 []) { shift = true }) (ours 0 (found_once ∷ record found_once { id = 1 } ∷ [])) absent ≡
+        Some (record found_once { id = 1 } ∷ []) }
+    ensures fresh { opening false (run_of 5000 1 8 1 8 []) (ours 0 (found_once ∷ [])) absent ≡ Some [] }
+    ensures torn { opening true (run_of 5000 1 8 1 8 []) (broken (ckpt.TooShort 40)) absent ≡ None }
 {}
 
 /// Some lines that tell why a run ended.
@@ -118,6 +141,11 @@ pub fn small_notes()
     ensures graph { note columns (bad_graph (fault.Missing 3 column.Second)) ≡ codes "graph: node 3 has no column b" ++ 10 ∷ [] }
     ensures plan { note columns (bad_plan (plan.OutOfBounds 2 4 3 3)) ≡ codes "plan: district 2 has population 4, outside 3 to 3" ++ 10 ∷ [] }
     ensures parted { note columns (bad_plan (plan.Disconnected 0 0 2)) ≡ codes "plan: district 0 has no path from unit 0 to unit 2" ++ 10 ∷ [] }
+    ensures cut { note columns (bad_plan (plan.TooManyCut 3 2)) ≡ codes "plan: 3 cut edges, more than 2" ++ 10 ∷ [] }
+    ensures split { note columns (bad_plan (plan.TooManySplit 0 2 1)) ≡ codes "plan: region 0 lies in 2 districts, more than 1" ++ 10 ∷ [] }
+    ensures region { note columns (bad_regions (codes "r") (region.Missing 3)) ≡ codes "graph: node 3 has no column r" ++ 10 ∷ [] }
+    ensures table { note columns (bad_table (table.Twice 4)) ≡ codes "table: record 4 repeats a unit" ++ 10 ∷ [] }
+    ensures named { note columns (bad_plan_named (codes "p") (plan.Disconnected 0 0 2)) ≡ codes "plan p: district 0 has no path from unit 0 to unit 2" ++ 10 ∷ [] }
     ensures stopped { note columns (stopped 5 12) ≡ codes "stopped: 5 of 12 done" ++ 10 ∷ [] }
     ensures slots { note columns (damaged (broken (ckpt.TooShort 40)) absent) ≡ codes "checkpoint: slot 0 too short, slot 1 absent" ++ 10 ∷ [] }
 {}
@@ -138,13 +166,13 @@ pub fn first_neighbours_of_a_grid()
 /// What the trajectory on the cycle finds, with the draws of its own stream.
 pub fn drawn_outcome()
     ensures { outcome (job_of_four cycle_of_four (run_of 5000 1 8 0 1000 (record { score = Gap; tail = Low } ∷ record { score = Gap; tail = High } ∷ []))) (draw (replicate 32 0)) 0
-        ≡ record { id = 0; moved = 3; values = pos 4 ∷ pos 8 ∷ pos 0 ∷ pos 0 ∷ [] } }
+        ≡ record { id = 0; moved = 3; values = pos 4 ∷ pos 8 ∷ pos 0 ∷ pos 0 ∷ []; bins = no_bins } }
 {}
 
 /// What one thread finds on two units, where no plan but the first is legal, and the whole report on it.
 pub fn report_on_two_units()
     ensures { report (job_of_two (run_of 500 1 3 2 8 (record { score = Gap; tail = Low } ∷ [])))
-        (sequence (job_of_two (run_of 500 1 3 2 8 (record { score = Gap; tail = Low } ∷ []))) (draw (replicate 32 0))) ≡
+        (sequence (job_of_two (run_of 500 1 3 2 8 (record { score = Gap; tail = Low } ∷ []))) (draw (replicate 32 0))) [] None ≡
         codes "district-audit 1" ++ 10 ∷ codes "key 0000000000000000000000000000000000000000000000000000000000000000" ++ 10 ∷
         codes "units 2 edges 1 districts 2" ++ 10 ∷ codes "population 2 slack 500 low 1 high 1" ++ 10 ∷
         codes "walks 1 steps 3 ends 2 hub-steps 8" ++ 10 ∷

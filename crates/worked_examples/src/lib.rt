@@ -2,4 +2,7 @@
 #![tactic(auto)]
 
 pub mod formats;
+pub mod further;
 pub mod model;
+pub mod rules;
+pub mod tables;

@@ -16,7 +16,7 @@ ghost use Rattle.audit_model.specs.Plan.{is_legal};
 ghost use Rattle.audit_model.specs.Proposal.{proposal};
 ghost use Rattle.audit_model.specs.Score.{value, sums_of};
 ghost use Rattle.audit_model.specs.Test.{bound, p_value};
-ghost use Rattle.audit_model.specs.Trajectory.{visit, outcome, plan_value, rank_among};
+ghost use Rattle.audit_model.specs.Trajectory.{visit, outcome, no_bins, plan_value, rank_among};
 
 /// The last draws propose nothing, so that each unit and district has as many draws.
 pub fn last_draws_propose_nothing()
@@ -42,11 +42,11 @@ pub fn visits_on_a_path()
 /// What the trajectory on the path finds, and the one on the cycle.
 pub fn small_outcomes()
     ensures path { outcome (job_of_four path_of_four (run_of 5000 1 8 0 1000 (record { score = Seats; tail = Low } ∷ []))) first_draws_alone 0
-        ≡ record { id = 0; moved = 1; values = pos 9 ∷ pos 0 ∷ pos 0 ∷ pos 0 ∷ [] } }
+        ≡ record { id = 0; moved = 1; values = pos 9 ∷ pos 0 ∷ pos 0 ∷ pos 0 ∷ []; bins = no_bins } }
     ensures cycle { outcome (job_of_four cycle_of_four (run_of 5000 1 8 0 1000 (record { score = Gap; tail = Low } ∷ record { score = Gap; tail = High } ∷ []))) first_draws_alone 0
-        ≡ record { id = 0; moved = 3; values = pos 4 ∷ pos 8 ∷ pos 0 ∷ pos 0 ∷ [] } }
+        ≡ record { id = 0; moved = 3; values = pos 4 ∷ pos 8 ∷ pos 0 ∷ pos 0 ∷ []; bins = no_bins } }
     ensures cut { outcome (job_of_four cycle_of_four (run_of 5000 1 8 0 1000 (record { score = CutEdges; tail = Low } ∷ []))) first_draws_alone 0
-        ≡ record { id = 0; moved = 3; values = pos 9 ∷ pos 0 ∷ pos 0 ∷ pos 0 ∷ [] } }
+        ≡ record { id = 0; moved = 3; values = pos 9 ∷ pos 0 ∷ pos 0 ∷ pos 0 ∷ []; bins = no_bins } }
 {}
 
 /// The scores of three districts.
@@ -92,6 +92,7 @@ pub fn refused_plans()
       start = 0 ∷ 1 ∷ 2 ∷ [];
       districts = 3;
       setting = run_of 1000 1 8 0 1000 [];
+      regions = [];
     }) ≡ Some (OutOfBounds 2 4 3 3) }
     ensures parted { plan_fault (record {
       graph = path_of_three;
@@ -99,15 +100,16 @@ pub fn refused_plans()
       start = 0 ∷ 1 ∷ 0 ∷ [];
       districts = 2;
       setting = run_of 5000 1 8 0 1000 [];
+      regions = [];
     }) ≡ Some (Disconnected 0 0 2) }
 {}
 
 /// What the trajectory on three units finds, and the one with three districts.
 pub fn more_outcomes()
     ensures three { outcome (job_of_three (run_of 5000 1 8 0 1000 (record { score = Seats; tail = High } ∷ record { score = Gap; tail = High } ∷ []))) first_draws_alone 0
-        ≡ record { id = 0; moved = 1; values = pos 2 ∷ pos 2 ∷ pos 0 ∷ pos 0 ∷ [] } }
+        ≡ record { id = 0; moved = 1; values = pos 2 ∷ pos 2 ∷ pos 0 ∷ pos 0 ∷ []; bins = no_bins } }
     ensures districts { outcome (job_of_three_districts (run_of 5000 1 8 0 1000 (record { score = MeanMedian; tail = High } ∷ []))) first_draws_alone 0
-        ≡ record { id = 0; moved = 1; values = pos 4 ∷ pos 0 ∷ pos 0 ∷ pos 0 ∷ [] } }
+        ≡ record { id = 0; moved = 1; values = pos 4 ∷ pos 0 ∷ pos 0 ∷ pos 0 ∷ []; bins = no_bins } }
 {}
 
 /// The scores of the plans of these jobs.
@@ -148,6 +150,6 @@ pub fn small_sums()
 
 /// The rank of a start among three outcomes.
 pub fn small_ranks()
-    ensures low { rank_among Low (negsuc 0) 0 (record { id = 1; moved = 0; values = negsuc 6 ∷ [] } ∷ record { id = 2; moved = 0; values = pos 5 ∷ [] } ∷ record { id = 3; moved = 0; values = negsuc 0 ∷ [] } ∷ []) ≡ 3 }
-    ensures high { rank_among High (negsuc 0) 0 (record { id = 1; moved = 0; values = negsuc 6 ∷ [] } ∷ record { id = 2; moved = 0; values = pos 5 ∷ [] } ∷ record { id = 3; moved = 0; values = negsuc 0 ∷ [] } ∷ []) ≡ 3 }
+    ensures low { rank_among Low (negsuc 0) 0 (record { id = 1; moved = 0; values = negsuc 6 ∷ []; bins = no_bins } ∷ record { id = 2; moved = 0; values = pos 5 ∷ []; bins = no_bins } ∷ record { id = 3; moved = 0; values = negsuc 0 ∷ []; bins = no_bins } ∷ []) ≡ 3 }
+    ensures high { rank_among High (negsuc 0) 0 (record { id = 1; moved = 0; values = negsuc 6 ∷ []; bins = no_bins } ∷ record { id = 2; moved = 0; values = pos 5 ∷ []; bins = no_bins } ∷ record { id = 3; moved = 0; values = negsuc 0 ∷ []; bins = no_bins } ∷ []) ≡ 3 }
 {}

@@ -1,13 +1,12 @@
-//! The report on four units round a square.
+//! The texts on two units whose plan can never change.
 
-ghost use Rattle.std.specs.Prelude.{◌≡◌, ◌≢◌, length, IfOk};
-ghost use Rattle.std.specs.List.{AllPairs};
+ghost use Rattle.std.specs.Prelude.{◌≡◌, length, IfOk};
 ghost use Rattle.audit_model.specs.Limits.{AreWithin, IsSetting};
 
 use crate::audit::text;
+use crate::check::check_text;
 use crate::room::reserve;
 use audit_model::buffers::Bytes;
-use audit_model::fault::PlanFault;
 use audit_model::lists::{AskList, LabelList, NumList, UnitList};
 use audit_model::memory::Memory;
 use audit_model::outcome::{Counts, Outcome};
@@ -21,11 +20,16 @@ use std::test::Fail;
 
 const REPORT: &str = "district-audit 1
 key 0000000000000000000000000000000000000000000000000000000000000000
-units 4 edges 4 districts 2
-population 4 slack 5000 low 1 high 3
-walks 1 steps 8 ends 0 hub-steps 1000
-walk 0 moved 3 gap low start -1/26 count 4 of 9 bound 0.942809042
-walk 0 moved 3 gap high start -1/26 count 8 of 9 bound 1.333333334
+units 2 edges 1 districts 2
+population 2 slack 500 low 1 high 1
+walks 1 steps 3 ends 0 hub-steps 8
+walk 0 moved 0 seats high start 1/1 count 4 of 4 bound 1.414213563
+end
+";
+
+const CHECK: &str = "plan-check 1
+units 2 edges 1 districts 2
+population 2 slack 500 low 1 high 1
 end
 ";
 
@@ -57,46 +61,32 @@ fn labels(alloc: Global) -> Result<LabelList, Memory>
     Ok(labels)
 }
 
-/// What is read of four units round a square, in two districts.
-fn square(alloc: Global) -> Result<Parsed, Memory>
+/// Two neighbours, each a district of its own.
+fn two_units(alloc: Global) -> Result<Parsed, Memory>
     ensures { IfOk result (λ parsed. AreWithin parsed.graph parsed.counts parsed.start (length parsed.labels)) }
 {
     Ok(Parsed {
-        graph: Graph::from_pairs(alloc, 4, &[(0, 1), (0, 3), (1, 2), (2, 3)])?,
+        graph: Graph::from_pairs(alloc, 2, &[(0, 1)])?,
         counts: Counts {
-            population: numbers(alloc, &[1, 1, 1, 1])?,
-            first: numbers(alloc, &[3, 1, 1, 2])?,
-            second: numbers(alloc, &[1, 2, 2, 1])?,
+            population: numbers(alloc, &[1, 1])?,
+            first: numbers(alloc, &[1, 0])?,
+            second: numbers(alloc, &[0, 1])?,
         },
-        start: plan(alloc, &[0, 0, 1, 1])?,
+        start: plan(alloc, &[0, 1])?,
         labels: labels(alloc)?,
     })
 }
 
-/// The gap in both tails.
-fn gaps(alloc: Global) -> Result<AskList, Memory>
-    ensures two { IfOk result (λ asks. length asks ≡ 2) }
-    ensures apart { IfOk result (λ asks. AllPairs (λ a b. a ≢ b) asks) }
+/// One trajectory of three steps, that asks for seats.
+fn setting(alloc: Global) -> Result<Setting, Memory>
+    ensures { IfOk result (λ setting. IsSetting setting) }
 {
     let mut asks = AskList::new(alloc);
     asks.push(Ask {
-        score: Score::Gap,
-        tail: Tail::Low,
-    })?;
-    asks.push(Ask {
-        score: Score::Gap,
+        score: Score::Seats,
         tail: Tail::High,
     })?;
-    Ok(asks)
-}
-
-/// One trajectory of eight steps.
-fn setting(alloc: Global, asks: AskList) -> Setting
-    requires two { length asks ≡ 2 }
-    requires apart { AllPairs (λ a b. a ≢ b) asks }
-    ensures { IsSetting result }
-{
-    Setting {
+    Ok(Setting {
         command: Command::Run,
         columns: Columns {
             population: Text::new(alloc),
@@ -104,43 +94,41 @@ fn setting(alloc: Global, asks: AskList) -> Setting
             second: Text::new(alloc),
             district: Text::new(alloc),
         },
-        slack: 5000,
+        slack: 500,
         key: [0; 32],
         walks: 1,
-        steps: 8,
+        steps: 3,
         ends: 0,
-        hub_steps: 1000,
+        hub_steps: 8,
         asks,
         workers: 1,
         budget: 0,
         save_every: 0,
         resume: false,
         size: 0,
-    }
+        max_cut: 400_000,
+        shift: false,
+        stop: 0,
+        serial: false,
+        region: Text::new(alloc),
+        max_split: 200,
+    })
 }
 
-/// The job of the square.
-fn job(alloc: Global) -> Result<Job, PlanFault> {
-    let Ok(parsed) = square(alloc) else {
-        return Err(PlanFault::Memory);
-    };
-    let Ok(asks) = gaps(alloc) else {
-        return Err(PlanFault::Memory);
-    };
-    Job::new(alloc, parsed, setting(alloc, asks))
-}
-
-/// The report on what the one trajectory of eight steps finds, if the job has no other.
+/// The report on what the one trajectory of three steps finds, if the job has no other.
 fn report(alloc: Global, job: &Job) -> Result<Option<Bytes>, Memory> {
     let setting = job.setting();
-    let lengths = setting.steps == 8 && setting.asks.len() == 2;
-    if !lengths || setting.walks != 1 || setting.ends != 0 {
+    let lengths = setting.steps == 3 && setting.asks.len() == 1;
+    let plain = setting.max_cut == 400_000 && !setting.shift && setting.stop == 0;
+    let counted = setting.walks == 1 && setting.ends == 0;
+    if !lengths || !plain || !counted || job.rules().regions.len() != 0 {
         return Ok(None);
     }
     let found = Outcome {
         id: 0,
-        moved: 3,
-        values: [4, 8, 0, 0],
+        moved: 0,
+        values: [4, 0, 0, 0],
+        bins: [0; 9],
     };
     let mut out = Bytes::new(alloc);
     reserve(alloc, job, &mut out)?;
@@ -148,11 +136,25 @@ fn report(alloc: Global, job: &Job) -> Result<Option<Bytes>, Memory> {
     Ok(Some(out))
 }
 
+/// The check text, if the job has no rules beside population and connectedness.
+fn check(alloc: Global, job: &Job) -> Result<Option<Bytes>, Memory> {
+    if job.setting().max_cut != 400_000 || job.rules().regions.len() != 0 {
+        return Ok(None);
+    }
+    let mut out = Bytes::new(alloc);
+    check_text(alloc, job, &mut out)?;
+    Ok(Some(out))
+}
+
 #[test]
-fn gaps_of_a_square(rt: HostRuntime) -> Result<(), Fail> {
-    let job = job(rt.alloc())?;
-    let report = report(rt.alloc(), &job)?;
+fn two_units_that_stay(rt: HostRuntime) -> Result<(), Fail> {
+    let alloc = rt.alloc();
+    let job = Job::new(alloc, two_units(alloc)?, setting(alloc)?)?;
+    let report = report(alloc, &job)?;
     let bytes = report.as_ref().map(Bytes::as_slice);
     assert!(rt; bytes == Some(REPORT.as_bytes()));
+    let check = check(alloc, &job)?;
+    let bytes = check.as_ref().map(Bytes::as_slice);
+    assert!(rt; bytes == Some(CHECK.as_bytes()));
     Ok(())
 }

@@ -1,22 +1,23 @@
-use Rattle.std.proofs.Common.{◌≡◌, true, refl, arith}
-use Rattle.audit_run.proofs.Finished.{refused_ends}
-use Rattle.audit_run.proofs.Started.{resumed_opening}
+use Rattle.std.proofs.Common.{◌≡◌, ◌∙◌, List, Option, Some, map, true, refl, subst, ap, arith}
+use Rattle.audit_model.specs.declared.outcome.Outcome.{Outcome}
+use Rattle.audit_model.specs.Run.{is_bare}
+use Rattle.audit_model.specs.Trajectory.{bare}
+use Rattle.audit_run.proofs.Finished.{no_memory_ends, refused_ends}
+use Rattle.audit_run.proofs.Started.{opens_bare, taken_none}
 use Rattle.audit_run.proofs.opening.open_found.Goals as goal
 
 pub returns-in-Ok : goal.returns-in-Ok
-returns-in-Ok c = λ k told.
-    let resumes : c.args.job.now.setting.resume ≡ true = grind (arith, c.setting.ensures, c.if-not-setting.false) in
-    let fit = c.in-Ok.ensures.fit c.args.job.now c.requires.fit.0 c.requires.fit.1 in
-    record {
-      same = refl;
-      opened = record {
-        opened = resumed_opening c.args.job.now c.args.digest k.slots c.args.slots _ c.requires.digest resumes told c.in-Ok.ensures.opening fit;
-        fit = fit;
-        target = c.target_of-target.ensures k.slots told;
-      };
-    }
+returns-in-Ok c = λ k told out. no_memory_ends c.args.job.now out k k refl refl refl
 
-pub returns-in-Err : goal.returns-in-Err
-returns-in-Err c = λ k told out.
+pub returns-in-Ok-without_bins : goal.returns-in-Ok-without_bins
+returns-in-Ok-without_bins c = λ k told.
     let resumes : c.args.job.now.setting.resume ≡ true = grind (arith, c.setting.ensures, c.if-not-setting.false) in
-    refused_ends c.args.job.now c.args.digest c.args.slots c.requires.digest resumes out k _ c.requires.run.walking told c.in-Err.ensures.opening c.in-Err.ensures.refused
+    opens_bare c.args.job.now c.requires.run c.args.digest k c.args.slots _ _ _ c.requires.digest resumes told c.in-Ok.ensures.held
+    (c.in-Ok.ensures.fit c.args.job.now c.requires.fit.0 c.requires.fit.1) (c.in-Ok-without_bins.ensures ∙ ap (λ (os : List Outcome). map bare os) c.as_slice.ensures)
+    _ refl refl (c.target_of-target.ensures k.slots told)
+
+pub returns : goal.returns
+returns c = λ k told out.
+    let resumes : c.args.job.now.setting.resume ≡ true = grind (arith, c.setting.ensures, c.if-not-setting.false) in
+    refused_ends c.args.job.now c.args.digest c.args.slots c.requires.digest resumes out k _ c.requires.run.walking told
+    (taken_none c.args.job.now c.args.slots c.in-Err.ensures.held) c.in-Err.ensures.refused

@@ -1,9 +1,13 @@
 use Rattle.std.proofs.Common.{sym, subst}
 use Rattle.audit_run.specs.Running.{SavedBy}
 use Rattle.audit_run.specs.World.{kept}
+use Rattle.audit_run.proofs.Running.{bare_list}
 use Rattle.audit_run.proofs.Saved.{saves_last}
 use Rattle.audit_run.proofs.Started.{target_told}
 use Rattle.audit_run.proofs.run.save_last.Goals as goal
+
+pub save-requires-clause-bare : goal.save-requires-clause-bare
+save-requires-clause-bare g c = bare_list c.args.outcomes.now c.requires.bare
 
 pub returns-in-Some : goal.returns-in-Some
 returns-in-Some g c = λ opening full.

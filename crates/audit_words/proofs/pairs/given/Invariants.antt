@@ -1,8 +1,8 @@
 use Rattle.std.proofs.Common.{◌≡◌, drop, find, bytes_eq}
 use Rattle.audit_words.specs.Spoken.{pairs_in}
-use Rattle.text_definitions.specs.Words as definition
+use Rattle.audit_model.specs.Names.{name_text}
 use Rattle.audit_words.proofs.pairs.given.Given as goal
 
 abbrev pub invariant-loop-k : goal.invariant-loop-k
-invariant-loop-k l = find (λ pair. bytes_eq pair.0 (definition.name_text l.name)) (pairs_in l.words)
-    ≡ find (λ pair. bytes_eq pair.0 (definition.name_text l.name)) (drop l.k (pairs_in l.words))
+invariant-loop-k l = find (λ pair. bytes_eq pair.0 (name_text l.name)) (pairs_in l.words)
+    ≡ find (λ pair. bytes_eq pair.0 (name_text l.name)) (drop l.k (pairs_in l.words))

@@ -1,7 +1,7 @@
 use Rattle.std.proofs.Common.{◌≡◌, true, sym, bytes_eq, arith}
 use Rattle.audit_model.specs.declared.setting.Command.TheVariants as command
 use Rattle.audit_words.specs.Spoken.{pairs_in}
-use Rattle.text_definitions.specs.Words as definition
+use Rattle.word_definitions.specs.Words as definition
 use Rattle.audit_words.proofs.Finding.{any_below-has}
 use Rattle.audit_words.proofs.pairs.is_repeated.Goals as goal
 

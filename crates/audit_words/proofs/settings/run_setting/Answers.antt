@@ -7,7 +7,7 @@ use Rattle.hex.specs.Hex.{decode_sized}
 use Rattle.audit_model.specs.declared.fault.Name.{Name}
 use Rattle.audit_model.specs.declared.fault.Name.TheVariants as name
 use Rattle.audit_model.specs.declared.setting.Command.TheVariants as command
-use Rattle.text_definitions.specs.Words as definition
+use Rattle.word_definitions.specs.Words as definition
 use Rattle.audit_words.specs.Spoken.{pairs_in}
 use Rattle.audit_words.proofs.Goodness.{asks_of-good, number-bounds}
 use Rattle.audit_words.proofs.settings.run_setting.Goals as goal
@@ -31,4 +31,4 @@ returns c =
     c.number_at-7.ensures (omega (arith, (number-bounds 0 100000 (text name.Budget) (and_parts (definition.is_number 0 100000 (text name.Budget)) (definition.covers_walks command.Check (pairs_in c.args.words.now)) c.requires.budget).0).1)) in
     let save : c.number_at-8.result ≡ number name.Save = c.number_at-8.ensures (omega (arith, (number-bounds 0 100000 (text name.Save) c.requires.save).1)) in
     let resume : c.eq.result ≡ bytes_eq (text name.Resume) (codes "yes") = c.eq.ensures ∙ ap (λ t. bytes_eq t (codes "yes")) c.text_of-3.ensures in
-    rw (slack, key, walks, steps, ends, hub_steps, asks, workers, budget, save, resume) refl
+    rw (slack, key, walks, steps, ends, hub_steps, asks, workers, budget, save, resume, c.new.ensures) refl

@@ -1,6 +1,6 @@
 use Rattle.std.proofs.Common.{◌≡◌, drop, find, is_none}
 use Rattle.audit_words.specs.Spoken.{pairs_in}
-use Rattle.text_definitions.specs.Words as definition
+use Rattle.word_definitions.specs.Words as definition
 use Rattle.audit_words.proofs.words.judge_missing.Given as goal
 
 abbrev pub invariant-loop-name : goal.invariant-loop-name

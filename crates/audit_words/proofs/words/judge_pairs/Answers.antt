@@ -3,7 +3,7 @@ use Rattle.std.proofs.lemmas.Result.{err_from_is_err_and}
 use Rattle.audit_model.specs.First.{first_some_below}
 use Rattle.audit_words.specs.Spoken.{pairs_in}
 use Rattle.audit_words.proofs.Finding.{first_some_below-stops, first_some_below-none}
-use Rattle.text_definitions.specs.Words as definition
+use Rattle.word_definitions.specs.Words as definition
 use Rattle.audit_words.proofs.words.judge_pairs.Goals as goal
 
 pub returns-in_err-judge_pair : goal.returns-in_err-judge_pair

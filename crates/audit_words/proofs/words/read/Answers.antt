@@ -4,8 +4,9 @@ use Rattle.audit_model.specs.declared.fault.WordFault.TheVariants as fault
 use Rattle.audit_model.specs.Limits.{IsSetting}
 use Rattle.audit_words.specs.Spoken.{spoken, pairs_in}
 use Rattle.audit_words.proofs.Accepted.{IsSetting-good}
+use Rattle.audit_words.proofs.Goodness.{AreReadable-good}
 use Rattle.audit_words.proofs.Reading.{spoken-empty, setting_of-no_words, setting_of-other_word, setting_of-command, refused_by_pairs, refused_by_names, refused_by_values, taken}
-use Rattle.text_definitions.specs.Words as definition
+use Rattle.word_definitions.specs.Words as definition
 use Rattle.audit_words.proofs.words.read.Goals as goal
 
 pub returns-in_default-clause-exact : goal.returns-in_default-clause-exact
@@ -57,5 +58,10 @@ returns-in-Ok-clause-exact c =
     whole ∙ taken c.in-Some-command_of.command (pairs_in c.in-Some.rest.now) c.in_ok-judge_pairs.ensures c.in_ok-judge_missing.ensures c.in_ok-judge_values.ensures
     ∙ ap (λ s. Ok s) (sym c.in-Ok.ensures)
 
+pub setting_for-requires : goal.setting_for-requires
+setting_for-requires c = AreReadable-good c.as_str.result.now c.in-Some-command_of.command (pairs_in c.in-Some.rest.now) c.in-Some-command_of.ensures c.in_ok-judge_values.ensures
+
 pub returns-in-Ok-clause-within : goal.returns-in-Ok-clause-within
-returns-in-Ok-clause-within c = subst IsSetting (sym c.in-Ok.ensures) (IsSetting-good c.in-Some-command_of.command (pairs_in c.in-Some.rest.now) c.in_ok-judge_values.ensures)
+returns-in-Ok-clause-within c =
+    let readable = AreReadable-good c.as_str.result.now c.in-Some-command_of.command (pairs_in c.in-Some.rest.now) c.in-Some-command_of.ensures c.in_ok-judge_values.ensures in
+    subst IsSetting (sym c.in-Ok.ensures) (IsSetting-good c.in-Some-command_of.command (pairs_in c.in-Some.rest.now) readable)

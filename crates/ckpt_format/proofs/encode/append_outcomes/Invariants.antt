@@ -7,6 +7,6 @@ use Rattle.ckpt_format.proofs.encode.append_outcomes.Given as goal
 
 abbrev pub invariant-loop-outcome : goal.invariant-loop-outcome
 invariant-loop-outcome l = record {
-  bytes : Appends l.fn.out l.out (flat_map outcome_bytes (take l.outcome-index l.outcomes));
+  bytes : Appends l.fn.out l.out (flat_map (outcome_bytes l.version) (take l.outcome-index l.outcomes));
   sound : All IsOutcome (take l.outcome-index l.outcomes);
 }

@@ -1,6 +1,6 @@
-use Rattle.std.proofs.Common.{sym, ap, ◌∙◌, arith}
+use Rattle.std.proofs.Common.{◌≤◌, length, sym, ap, subst, ◌∙◌, arith}
 use Rattle.std.specs.Option.{option_or}
-use Rattle.checkpoint_definitions.specs.Checkpoint.{stated_count}
+use Rattle.checkpoint_definitions.specs.Checkpoint.{outcome_start, stated_count}
 use Rattle.ckpt_format.specs.Faults.{order_fault, digest_fault}
 use Rattle.ckpt_format.proofs.Faulting.{fault_of_few, fault_of_many, head_is_right}
 use Rattle.ckpt_format.proofs.fault.fault_of.Goals as goal
@@ -10,8 +10,9 @@ returns-then-bytes-lt84 c = sym (fault_of_few c.args.bytes.now c.if-bytes-lt84.t
 
 pub order_fault-requires : goal.order_fault-requires
 order_fault-requires c =
-    let head = head_is_right c.args.bytes.now (sym c.in-None.ensures) in
-    omega (arith, head.size, c.u32_at.ensures)
+    let bytes = c.args.bytes.now in
+    let head = head_is_right bytes (sym c.in-None.ensures) in
+    subst (λ n. outcome_start bytes n ≤ length bytes) (sym c.u32_at.ensures) (omega (arith, head.size))
 
 pub returns-in-Some : goal.returns-in-Some
 returns-in-Some c =

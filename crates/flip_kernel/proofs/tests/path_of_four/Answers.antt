@@ -1,4 +1,4 @@
-use Rattle.std.proofs.Common.{rules, ◌≡◌, ℕ, zero, suc, ◌<◌, ◌≤◌, ◌^◌, true, List, [], ◌∷◌, length, get_or, inl, sym, ap, subst, ◌∙◌, arith, add-one}
+use Rattle.std.proofs.Common.{rules, ◌≡◌, ℕ, zero, suc, ◌<◌, ◌≤◌, ◌^◌, true, List, [], ◌∷◌, length, get_or, inl, refl, sym, ap, subst, ◌∙◌, arith, add-one}
 use Rattle.std.specs.List.{All}
 use Rattle.audit_model.specs.declared.setting.Label.{Label}
 use Rattle.audit_model.specs.declared.setting.Setting.{Setting}
@@ -56,6 +56,7 @@ within_limits : (g : Graph) (population first second start : List ℕ) (labels :
       start = start;
       districts = length labels;
       setting = setting;
+      regions = [];
     })
 within_limits g population first second start labels setting four sound three p f s at two is = record {
   input = record {
@@ -71,6 +72,7 @@ within_limits g population first second start labels setting four sound three p 
     in_range = λ u l. subst (λ (n : ℕ). get_or start u 0 < n) (sym two) (subst (λ (xs : List ℕ). get_or xs u 0 < 2) (sym at) (district_at u));
   };
   setting = is;
+  regions = record { width = inl refl; few = search rules };
 }
 
 pub from_pairs-requires-clause-pairs : goal.from_pairs-requires-clause-pairs

@@ -2,11 +2,10 @@ use Rattle.std.proofs.Common.{◌++◌, ◌∷◌, [], codes}
 use Rattle.std.proofs.lemmas.Result.{err_from_is_err_and}
 use Rattle.report.specs.Parts.{head}
 use Rattle.report.proofs.Written.{appends-two, appends-err}
-use Rattle.text_definitions.specs.Report.{report, line, walk_lines, ends_lines}
+use Rattle.text_definitions.specs.Report.{line, walk_lines, ends_lines}
 use Rattle.report.proofs.audit.push_report.Goals as goal
 
 pub returns-in_err-push_head : goal.returns-in_err-push_head
-unfolding report
 returns-in_err-push_head c =
     let job = c.args.job.now in
     let walks = walk_lines job c.args.sorted.now in
@@ -19,7 +18,6 @@ returns-in_err-push_head c =
     (appends-err c.args.out.now out (head job ++ walks) ends e (appends-err c.args.out.now out (head job) walks e c.in_err-push_head.ensures)))
 
 pub returns-in_err-push_walk_lines : goal.returns-in_err-push_walk_lines
-unfolding report
 returns-in_err-push_walk_lines c =
     let job = c.args.job.now in
     let walks = walk_lines job c.args.sorted.now in
@@ -33,7 +31,6 @@ returns-in_err-push_walk_lines c =
     (appends-two c.args.out.now c.push_head.new.out out (head job) walks _ c.in_ok-push_head.ensures c.in_err-push_walk_lines.ensures)))
 
 pub returns-in_err-push_ends_lines : goal.returns-in_err-push_ends_lines
-unfolding report
 returns-in_err-push_ends_lines c =
     let job = c.args.job.now in
     let walks = walk_lines job c.args.sorted.now in
@@ -48,7 +45,6 @@ returns-in_err-push_ends_lines c =
     c.in_err-push_ends_lines.ensures))
 
 pub returns : goal.returns
-unfolding report
 returns c =
     let job = c.args.job.now in
     let walks = walk_lines job c.args.sorted.now in

@@ -11,6 +11,6 @@ returns c =
     let walks : c.setting.result.now.walks ≡ job.setting.walks = ap (λ s. s.walks) c.setting.ensures in
     let asks : length c.asks_of.result.now ≡ length job.setting.asks = ap length c.asks_of.ensures.value in
     record {
-      enough = λ os h. rw (walks, asks) (report-le job os sound h);
+      enough = λ os h. rw (walks, asks) (report-le job os sound c.requires.plain h);
       few = rw (walks, asks) (enough-le job.setting.walks (length job.setting.asks) (omega (arith, limits.few)) limits.few_asks);
     }

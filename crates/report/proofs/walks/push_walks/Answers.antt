@@ -6,7 +6,7 @@ use Rattle.report.proofs.Pieces.{pieces-more, pieces-err}
 use Rattle.report.proofs.walks.push_walks.Goals as goal
 
 blank : Outcome
-blank = record { id = 0; moved = 0; values = [] }
+blank = record { id = 0; moved = 0; values = []; bins = [] }
 
 pub loop-found-preserved : goal.loop-found-preserved
 unfolding blank

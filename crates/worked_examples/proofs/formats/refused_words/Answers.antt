@@ -1,7 +1,7 @@
 use Rattle.std.proofs.Common.{refl}
 use Rattle.std.specs.Fmt.{digits}
 use Rattle.hex.specs.Hex.{decode_pairs}
-use Rattle.text_definitions.specs.Words.{setting_of}
+use Rattle.word_definitions.specs.Words.{setting_of}
 use Rattle.worked_examples.proofs.formats.refused_words.Goals as goal
 
 pub returns-clause-none : goal.returns-clause-none

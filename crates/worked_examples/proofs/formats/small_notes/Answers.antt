@@ -18,6 +18,26 @@ pub returns-clause-parted : goal.returns-clause-parted
 unfolding digits
 returns-clause-parted c = refl
 
+pub returns-clause-cut : goal.returns-clause-cut
+unfolding digits
+returns-clause-cut c = refl
+
+pub returns-clause-split : goal.returns-clause-split
+unfolding digits
+returns-clause-split c = refl
+
+pub returns-clause-region : goal.returns-clause-region
+unfolding digits
+returns-clause-region c = refl
+
+pub returns-clause-table : goal.returns-clause-table
+unfolding digits
+returns-clause-table c = refl
+
+pub returns-clause-named : goal.returns-clause-named
+unfolding digits
+returns-clause-named c = refl
+
 pub returns-clause-stopped : goal.returns-clause-stopped
 unfolding digits
 returns-clause-stopped c = refl

@@ -1,7 +1,6 @@
 use Rattle.std.proofs.Common.{◌≡◌, ℕ, ◌+◌, ◌-◌, ◌<◌, List, length, get_or, ap, ◌∙◌, arith}
 use Rattle.std.proofs.Math.ListN.{set}
-use Rattle.audit_model.specs.Plan.{district_sum}
-use Rattle.audit_model.specs.Score.{cut_edges}
+use Rattle.audit_model.specs.Plan.{district_sum, cut_edges}
 use Rattle.dual_graph.proofs.Rows.{get_or-map_below}
 use Rattle.district_sums.specs.Following.{Following, apart_of}
 use Rattle.district_sums.proofs.Shifted.{places, shifted_cut}

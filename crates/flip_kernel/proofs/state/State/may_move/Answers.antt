@@ -1,10 +1,11 @@
-use Rattle.std.proofs.Common.{◌≡◌, ℕ, Bool, List, get_or, sym, ap, ◌∙◌, subst}
+use Rattle.std.proofs.Common.{◌≡◌, ℕ, Bool, List, get_or, set, sym, ap, ◌∙◌, subst}
 use Rattle.std.specs.Prelude.{◌↔◌, IsTrue}
 use Rattle.std.proofs.lemmas.Bool.{both_ways, false≢true}
 use Rattle.audit_model.specs.Graph.{Graph}
 use Rattle.audit_model.specs.Local.{MayLeave}
 use Rattle.audit_model.specs.Path.{IsConnected}
 use Rattle.audit_model.specs.Plan.{in_district}
+use Rattle.model_laws.proofs.Meeting.{default_meets}
 use Rattle.flip_kernel.specs.Held.{Held}
 use Rattle.flip_kernel.proofs.Beside.{open_elsewhere}
 use Rattle.flip_kernel.proofs.Holding.{held_for}
@@ -55,6 +56,7 @@ returns-clause-moves g c =
     let off = open_elsewhere job.graph plan c.args.unit c.args.district c.requires.beside in
     let leaves = leaves_of c.may_leave.result c.graph.result.now job.graph c.as_slice.result.now plan c.args.unit c.graph.ensures (c.as_slice.ensures ∙ at) c.may_leave.ensures.leaves in
     let keeps = c.keeps_bounds.ensures.0 c.if-not-keeps_bounds.false in (
-      λ may. is_move job plan c.args.unit c.args.district held.numbers.sound held.legal c.requires.unit c.requires.district off c.requires.beside keeps (leaves.0 may),
+      λ may. is_move job plan c.args.unit c.args.district held.numbers.sound held.legal c.requires.unit c.requires.district off c.requires.beside keeps
+          (default_meets job (set plan c.args.unit c.args.district) held.free.edges held.free.regions) (leaves.0 may),
       λ move. leaves.1 (move_leaves job plan c.args.unit c.args.district held.numbers.sound held.legal c.requires.unit c.requires.district off move),
     )

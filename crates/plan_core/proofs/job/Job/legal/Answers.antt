@@ -1,7 +1,7 @@
 use Rattle.std.proofs.Common.{◌≡◌, ℕ, List, subst}
 use Rattle.audit_model.specs.Job.{Job}
-use Rattle.audit_model.specs.JobOf.{bounds_fault, path_fault}
-use Rattle.plan_core.specs.Input.{with_start}
+use Rattle.audit_model.specs.JobOf.{bounds_fault}
+use Rattle.plan_core.specs.Input.{with_start, shape_fault}
 use Rattle.plan_core.proofs.Judged.{refused_decides, refused_same, tried_decides, tried_same}
 use Rattle.plan_core.proofs.job.Job.legal.Goals as goal
 
@@ -10,18 +10,18 @@ returns-then-is_none-clause-value c =
     let job : Job = c.args.self.now in
     let plan : List ℕ = c.args.plan.now in
     let bounds : c.bounds_fault.result ≡ bounds_fault (with_start job plan) = subst (λ (j : Job). c.bounds_fault.result ≡ bounds_fault (with_start j plan)) c.self.view_is c.bounds_fault.ensures in
-    let paths : c.path_fault.result ≡ path_fault (with_start job plan) = subst (λ (j : Job). c.path_fault.result ≡ path_fault (with_start j plan)) c.self.view_is c.path_fault.ensures.fault in
+    let paths : c.shape_fault.result ≡ shape_fault (with_start job plan) = subst (λ (j : Job). c.shape_fault.result ≡ shape_fault (with_start j plan)) c.self.view_is c.shape_fault.ensures.fault in
     tried_same job plan c.requires.complete c.requires.in_range c.bounds_fault.result bounds c.is_none.result c.is_none.ensures c.if-is_none.true
-    c.path_fault.result paths c.is_none-then-is_none.result c.is_none-then-is_none.ensures
+    c.shape_fault.result paths c.is_none-then-is_none.result c.is_none-then-is_none.ensures
 
 pub returns-then-is_none-clause-decides : goal.returns-then-is_none-clause-decides
 returns-then-is_none-clause-decides c =
     let job : Job = c.args.self.now in
     let plan : List ℕ = c.args.plan.now in
     let bounds : c.bounds_fault.result ≡ bounds_fault (with_start job plan) = subst (λ (j : Job). c.bounds_fault.result ≡ bounds_fault (with_start j plan)) c.self.view_is c.bounds_fault.ensures in
-    let paths : c.path_fault.result ≡ path_fault (with_start job plan) = subst (λ (j : Job). c.path_fault.result ≡ path_fault (with_start j plan)) c.self.view_is c.path_fault.ensures.fault in
+    let paths : c.shape_fault.result ≡ shape_fault (with_start job plan) = subst (λ (j : Job). c.shape_fault.result ≡ shape_fault (with_start j plan)) c.self.view_is c.shape_fault.ensures.fault in
     tried_decides job plan c.requires.complete c.requires.in_range c.bounds_fault.result bounds c.is_none.result c.is_none.ensures c.if-is_none.true
-    c.path_fault.result paths c.is_none-then-is_none.result c.is_none-then-is_none.ensures
+    c.shape_fault.result paths c.is_none-then-is_none.result c.is_none-then-is_none.ensures
 
 pub returns-else-is_none-clause-value : goal.returns-else-is_none-clause-value
 returns-else-is_none-clause-value c =

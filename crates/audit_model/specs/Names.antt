@@ -1,0 +1,29 @@
+-- How the names that the words may set are spelled.
+use Rattle.std.specs.Prelude.{ℕ, List, codes}
+use Rattle.audit_model.specs.declared.fault.Name.{Name}
+use Rattle.audit_model.specs.declared.fault.Name.TheVariants.{Pop, First, Second, District, Size, Slack, Key, Walks, Steps, Ends, HubSteps, Ask, Workers, Budget, Save, Resume, MaxCut, Shift, Stop, Serial, Region, MaxSplit}
+
+-- the spelling of a name
+abbrev pub name_text : Name → List ℕ
+name_text Pop = codes "--pop"
+name_text First = codes "--first"
+name_text Second = codes "--second"
+name_text District = codes "--district"
+name_text Size = codes "--size"
+name_text Slack = codes "--slack"
+name_text Key = codes "--key"
+name_text Walks = codes "--walks"
+name_text Steps = codes "--steps"
+name_text Ends = codes "--ends"
+name_text HubSteps = codes "--hub-steps"
+name_text Ask = codes "--ask"
+name_text Workers = codes "--workers"
+name_text Budget = codes "--budget"
+name_text Save = codes "--save"
+name_text Resume = codes "--resume"
+name_text MaxCut = codes "--max-cut"
+name_text Shift = codes "--shift"
+name_text Stop = codes "--stop"
+name_text Serial = codes "--serial"
+name_text Region = codes "--region"
+name_text MaxSplit = codes "--max-split"

@@ -1,0 +1,60 @@
+//! A judge by a stored closure.
+
+ghost use Rattle.std.specs.Prelude.{◌≡◌, ◌<◌, ◌^◌, [], ⊤, nat_le, Bool, true};
+ghost use Rattle.std.specs.Fn.{FnReturnsAt};
+ghost use Rattle.audit_model.specs.declared.outcome.SumsView.{SumsView as Sums};
+
+use crate::judge::Judge;
+use audit_model::outcome::SumsView;
+use audit_model::rules::Rules;
+
+/// A closure that tests the cut edges of a plan, beside the fact that it may be called on all sums and answers whether there are no more
+/// than the rules allow.
+#[derive(Drop)]
+pub struct Guard<F> {
+    test: F,
+    rules: Rules,
+}
+
+impl<F: Fn(&SumsView) -> bool + Drop> Guard<F> {
+    /// A judge by a closure that answers whether the cut edges are no more than the rules allow. There are no regions.
+    pub fn new(test: F, rules: Rules) -> Guard<F>
+        requires callable { F.IsAlwaysCallable test }
+        requires answers { (sums : Sums) (answer : Bool) → sums.cut < 2 ^ 32 → FnReturnsAt F.Fn test sums answer → answer ≡ nat_le sums.cut rules.max_cut }
+        requires no_regions { rules.regions ≡ [] }
+        ensures rules { result.rules ≡ rules }
+        ensures test { result.test ≡ test }
+    {
+        Guard { test, rules }
+    }
+
+    /// Whether the cut edges are no more than the rules allow.
+    pub fn allows(&self, sums: &SumsView) -> bool
+        requires callable { F.IsAlwaysCallable self.now.test }
+        requires answers { (sums : Sums) (answer : Bool) → sums.cut < 2 ^ 32 → FnReturnsAt F.Fn self.now.test sums answer → answer ≡ nat_le sums.cut self.now.rules.max_cut }
+        ensures { result ≡ nat_le sums.now.cut self.now.rules.max_cut }
+    {
+        let _cut = sums.cut;
+        (self.test)(sums)
+    }
+}
+
+impl<F: Fn(&SumsView) -> bool + Drop> Judge for Guard<F> {
+    ghost rules = { λ g. g.rules };
+
+    ghost takes = { λ g units districts. true };
+
+    ghost keeps = { λ g. F.IsAlwaysCallable g.test
+        × ((sums : Sums) (answer : Bool) → sums.cut < 2 ^ 32 → FnReturnsAt F.Fn g.test sums answer → answer ≡ nat_le sums.cut g.rules.max_cut)
+        × (g.rules.regions ≡ []) };
+
+    ghost stands = { λ g plan. ⊤ };
+
+    fn permits(&self, _after: &[u32], sums: &SumsView, _u: u32, _from: u32) -> bool {
+        self.allows(sums)
+    }
+
+    fn moved(&mut self, _after: &[u32], _u: u32, _from: u32) {}
+
+    fn reset(&mut self, _plan: &[u32]) {}
+}

@@ -1,0 +1,90 @@
+-- The test of the rules answers whether a plan meets them.
+use Rattle.std.proofs.Common.{◌≡◌, ℕ, zero, suc, ◌<◌, ◌≤◌, Bool, true, false, cond, not, ◌&&◌, List, [], ◌∷◌, length, refl, ap, inl, inr, arith}
+use Rattle.std.specs.Prelude.{◌==◌, nat_le, slice_index}
+use Rattle.std.proofs.lemmas.Bool.{and_left, and_parts, and_from, or_from, cases_lt, cond-false, leb-true, le-leb, ne_eqb}
+use Rattle.audit_model.specs.declared.rules.Rules.{Rules}
+use Rattle.audit_model.specs.Below.{above_all, any_below, count_below, sum_below}
+use Rattle.audit_model.specs.Graph.{Graph, adjacent, count_edges}
+use Rattle.audit_model.specs.Job.{Job, rules}
+use Rattle.audit_model.specs.Meets.{Meets, are_whole, lies_in, meets_rules, split_of}
+use Rattle.audit_model.specs.Plan.{cut_edges}
+use Rattle.model_laws.proofs.Below.{all_below_at, all_below_from, count_below_into}
+
+-- each number of a list is below the one above all
+pub below_above_all : (xs : List ℕ) (u : ℕ) → u < length xs → slice_index xs u < above_all xs
+below_above_all [] u l = absurd (omega arith)
+below_above_all (x ∷ xs) zero l = omega arith
+below_above_all (x ∷ xs) (suc u) l = let rest = below_above_all xs u (omega arith) in omega (arith, rest)
+
+-- where none passes
+any_below_none : (n : ℕ) (test : ℕ → Bool) → ((k : ℕ) → k < n → test k ≡ false) → any_below n test ≡ false
+any_below_none zero test none = refl
+any_below_none (suc n) test none = or_from (any_below n test) (test n) (any_below_none n test (λ k l. none k (omega arith))) (none n (omega arith))
+
+pub count_below_none : (n : ℕ) (test : ℕ → Bool) → ((k : ℕ) → k < n → test k ≡ false) → count_below n test ≡ 0
+unfolding count_below
+count_below_none zero test none = refl
+count_below_none (suc n) test none =
+    let before = count_below_none n test (λ k l. none k (omega arith)) in
+    let last : cond {A = ℕ} (test n) 1 0 ≡ 0 = cond-false {A = ℕ} (test n) 1 0 (none n (omega arith)) in
+    omega (arith, before, last)
+
+-- a region of no unit lies in no district
+pub no_split : (regions plan : List ℕ) (region : ℕ) → above_all regions ≤ region → split_of regions plan region ≡ 0
+no_split regions plan region past = count_below_none (above_all plan) (lies_in regions plan region) (λ district below.
+    any_below_none (length regions) (λ u. (slice_index regions u == region) && (slice_index plan u == district)) (λ u l.
+    and_left (slice_index regions u == region) (slice_index plan u == district)
+    (ne_eqb (slice_index regions u) region (λ e. omega (arith, e, below_above_all regions u l)))))
+
+pub meets_passes : (rules : Rules) (cut : ℕ) (plan : List ℕ) → Meets rules cut plan → meets_rules rules cut plan ≡ true
+meets_passes rules cut plan h =
+    and_from (nat_le cut rules.max_cut) (are_whole rules.regions rules.max_split plan)
+    (le-leb cut rules.max_cut h.few_cuts)
+    (all_below_from (above_all rules.regions) (λ region. nat_le (split_of rules.regions plan region) rules.max_split)
+    (λ region l. le-leb (split_of rules.regions plan region) rules.max_split (h.few_splits region)))
+
+-- what holds of the regions below the bound holds of all
+pub splits_from : (regions plan : List ℕ) (most : ℕ) → ((region : ℕ) → region < above_all regions → split_of regions plan region ≤ most)
+    → (region : ℕ) → split_of regions plan region ≤ most
+splits_from regions plan most each region = elim (cases_lt region (above_all regions)) [
+  | inl l ↦ each region l
+  | inr past ↦ omega (arith, no_split regions plan region past)
+]
+
+pub passes_meets : (rules : Rules) (cut : ℕ) (plan : List ℕ) → meets_rules rules cut plan ≡ true → Meets rules cut plan
+passes_meets rules cut plan h =
+    let parts = and_parts (nat_le cut rules.max_cut) (are_whole rules.regions rules.max_split plan) h in
+    record {
+      few_cuts = leb-true cut rules.max_cut parts.0;
+      few_splits = splits_from rules.regions plan rules.max_split (λ region l. leb-true (split_of rules.regions plan region) rules.max_split
+          (all_below_at (above_all rules.regions) (λ region. nat_le (split_of rules.regions plan region) rules.max_split) region parts.1 l));
+    }
+
+-- ---- the rules by default
+
+-- fewer pass a test that asks more
+count_below_more : (n : ℕ) (p q : ℕ → Bool) → ((k : ℕ) → p k ≡ true → q k ≡ true) → count_below n p ≤ count_below n q
+count_below_more n p q more = count_below_into n n p q (λ k. k) (λ k l h. (l, more k h)) (λ j k lj lk hj hk e. e)
+
+sum_below_more : (n : ℕ) (f g : ℕ → ℕ) → ((k : ℕ) → f k ≤ g k) → sum_below n f ≤ sum_below n g
+sum_below_more zero f g more = omega arith
+sum_below_more (suc n) f g more = let before = sum_below_more n f g more in let last = more n in omega (arith, before, last)
+
+-- no more edges are cut than there are
+pub cut_edges_few : (g : Graph) (plan : List ℕ) → cut_edges g plan ≤ count_edges g (λ u v. true)
+cut_edges_few g plan = sum_below_more g.units
+    (λ v. count_below v (λ u. adjacent g u v && not (slice_index plan u == slice_index plan v)))
+    (λ v. count_below v (λ u. adjacent g u v && true))
+    (λ v. count_below_more v (λ u. adjacent g u v && not (slice_index plan u == slice_index plan v)) (λ u. adjacent g u v && true)
+    (λ u h. and_from (adjacent g u v) true (and_parts (adjacent g u v) (not (slice_index plan u == slice_index plan v)) h).0 refl))
+
+-- with no regions, and no fewer edges allowed than there are, each plan meets the rules
+pub default_meets : (job : Job) (plan : List ℕ) → count_edges job.graph (λ u v. true) ≤ job.setting.max_cut → job.regions ≡ []
+    → Meets (rules job) (cut_edges job.graph plan) plan
+default_meets job plan enough none =
+    let few = cut_edges_few job.graph plan in
+    let no_region : above_all job.regions ≡ 0 = ap above_all none in
+    record {
+      few_cuts = omega (arith, few, enough);
+      few_splits = λ region. let split = no_split job.regions plan region (omega (arith, no_region)) in omega (arith, split);
+    }
