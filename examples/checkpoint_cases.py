@@ -23,10 +23,15 @@ End = namedtuple("End", "status begun out note")
 
 
 class Keeper:
-    """Two slots, each bytes or None, and the numbers of the load and of the save that fail."""
+    """Two slots, each bytes or None, and the numbers of the load and of the save that fail.
 
-    def __init__(self, slots, failing_load, failing_save):
-        self.slots, self.failing_load, self.failing_save = list(slots), failing_load, failing_save
+    A save is N, or N/KEPT for a stop within it, which leaves so many bytes; then no later save changes anything.
+    """
+
+    def __init__(self, slots, failing_load, save):
+        self.slots, self.failing_load = list(slots), failing_load
+        self.failing_save, _, kept = save.partition("/")
+        self.failing_save, self.kept = int(self.failing_save), int(kept) if kept else None
         self.saves = 0
 
     def load_all(self):
@@ -36,6 +41,10 @@ class Keeper:
     def save(self, slot, data):
         """Whether the save went well; a save that fails leaves the first half."""
         self.saves += 1
+        if self.kept is not None and self.saves >= self.failing_save:
+            if self.saves == self.failing_save:
+                self.slots[slot] = data[:self.kept]
+            return False
         is_good = self.saves != self.failing_save
         self.slots[slot] = data if is_good else data[:len(data) // 2]
         return is_good
@@ -91,6 +100,23 @@ def bad_name(setting):
     return None if setting.given.get("--resume", "no") in ("yes", "no") else "--resume"
 
 
+def saved_in_turn(every, slots, keeper, wanted, founds):
+    """Whether no save failed: one each time that so many more were posted, and a last one unless the last post was saved.
+
+    founds has what is known after each number of posts, from none on.
+    """
+    if not every:
+        return True
+    posts, answers, at = len(founds) - 1, {}, place(slots)
+    due = range(every, posts + 1, every)
+    for count in [*due, posts]:
+        if not answers.get(count):
+            is_good = keeper.save(at[0], checkpoint(wanted, at[1], founds[count]))
+            answers[count] = answers.get(count, True) and is_good
+            at = (1 - at[0], (at[1] + 1) % 3) if is_good else at
+    return all(answers.values())
+
+
 def walked(setting, job, slots, keeper, room):
     """How a run ends over the slots that it looked at, if it did."""
     wanted, is_resumed = digest(job, setting), setting.given.get("--resume") == "yes"
@@ -99,11 +125,10 @@ def walked(setting, job, slots, keeper, room):
         return End(8, 0, "", refusal)
     every = dict(enumerate(outcomes(job, *setting.trajectories())))
     todo = [number for number in every if number not in found][:int(setting.given.get("--budget", "100000"))]
-    found = {**found, **{number: every[number] for number in todo}}
-    is_saved = True
-    if setting.given.get("--save", "0") != "0":
-        slot, generation = place(slots)
-        is_saved = keeper.save(slot, checkpoint(wanted, generation, found))
+    posts = [{number: every[number] for number in todo[:count]} for count in range(len(todo) + 1)]
+    founds = [{**found, **post} for post in posts]
+    is_saved = saved_in_turn(int(setting.given.get("--save", "0")), slots, keeper, wanted, founds)
+    found = {**found, **posts[-1]}
     text = ""
     if len(found) == setting.total:
         text = report_of(job, *setting.trajectories(), [found[number] for number in sorted(found)])
@@ -156,7 +181,7 @@ def text_of(folder, line, before):
     """What a line prints, and the slots that it leaves."""
     zero, one, load, save, room, file, *words = line.split()
     slots = [slot_of(folder, said, slot) for said, slot in zip((zero, one), before)]
-    keeper = Keeper(slots, int(load), int(save))
+    keeper = Keeper(slots, int(load), save)
     end = audit(words, (folder / file).read_text(), keeper, int(room))
     lines = [line, f"status {end.status}", f"{end.begun} had begun", end.out + end.note]
     lines += [shown(number, data) for number, data in enumerate(keeper.slots)]

@@ -2,8 +2,9 @@
 
 Usage: python3 compare_chains.py PROGRAM [GRAPHS [SEED]]
 PROGRAM is the built program. Graphs, plans and keys are drawn as in compare_walks.py (20, if not said). Each audit is made once in one
-piece, and once as a chain of runs over real files in a folder of its own: each run has a drawn budget and a drawn number of workers, some
-are killed after a drawn time, and after some a drawn byte of a drawn file is changed. A run that finds no intact file is begun afresh.
+piece, and once as a chain of runs over real files in a folder of its own: each run has a drawn budget, a drawn number of workers and a drawn
+number of walks after which it saves, some are killed (as by kill -9) after a drawn time, and after some a drawn byte of a drawn file is changed. A
+run that finds no intact file is begun afresh. The newest file never has fewer outcomes after a run that resumed than before it.
 Ends with status 0 where all reports are the same, and prints how many runs there were.
 """
 import pathlib
@@ -13,6 +14,7 @@ import sys
 import tempfile
 
 import compare_walks
+from checkpoints import fault, generation_and_count
 
 SLOTS = ("audit-0.ckpt", "audit-1.ckpt")
 
@@ -34,6 +36,15 @@ def spoil(chance, folder):
         file.write_bytes(content)
 
 
+def saved(folder):
+    """How many outcomes the newest file has, 0 where no file is intact."""
+    files = [pathlib.Path(folder, name) for name in SLOTS]
+    heads = [generation_and_count(file.read_bytes()) if file.exists() and fault(file.read_bytes()) is None else None for file in files]
+    if None in heads:
+        return max(head[1] if head else 0 for head in heads)
+    return heads[1][1] if heads[1][0] == (heads[0][0] + 1) % 3 else heads[0][1]
+
+
 def run(program, words, text, folder, limit):
     """The status and the output of a run, or None where it was killed."""
     try:
@@ -47,12 +58,16 @@ def chain(chance, program, words, text, folder, counts):
     """The output of the run of a chain that ends with status 0."""
     resume = "no"
     while True:
-        more = ["--save", "1", "--resume", resume, "--budget", str(chance.randint(0, 9)), "--workers", str(chance.randint(1, 4))]
-        limit = chance.uniform(0.001, 0.02) if chance.random() < 0.3 else 60
+        more = ["--save", str(chance.randint(1, 3)), "--resume", resume, "--budget", str(chance.randint(0, 30)), "--workers", str(chance.randint(1, 4))]
+        limit = chance.uniform(0.001, 0.03) if chance.random() < 0.6 else 60
+        before = saved(folder)
         answer = run(program, words + more, text, folder, limit)
         counts["runs"] += 1
+        if resume == "yes" and saved(folder) < before:
+            return f"a resumed run left {saved(folder)} of {before} outcomes"
         if answer is None:
             counts["killed"] += 1
+            counts["within"] += saved(folder) > before
         elif answer[0] == 0:
             return answer[1]
         elif answer[0] == 8:
@@ -68,7 +83,7 @@ def main(program, graphs="20", seed="1"):
     program = str(pathlib.Path(program).resolve())
     chance = random.Random(int(seed))
     same = 0
-    counts = {"runs": 0, "killed": 0, "refused": 0}
+    counts = {"runs": 0, "killed": 0, "within": 0, "refused": 0}
     for number in range(int(graphs)):
         job = compare_walks.drawn_job(chance)
         numbers = (chance.randint(1, 30), chance.randint(20, 20000), chance.randint(0, 20), chance.randint(10, 5000))
@@ -81,8 +96,8 @@ def main(program, graphs="20", seed="1"):
             same += 1
         else:
             print(f"graph {number} of seed {seed}: wanted\n{wanted[1]}{wanted[2]}but found\n{found}")
-    print(f"same in {same} of {graphs} chains of {counts['runs']} runs, of which {counts['killed']} were killed"
-          f" and {counts['refused']} refused damaged files")
+    print(f"same in {same} of {graphs} chains of {counts['runs']} runs, of which {counts['killed']} were killed,"
+          f" {counts['within']} of them after they had saved more, and {counts['refused']} refused damaged files")
     return 0 if same == int(graphs) else 1
 
 

@@ -2,8 +2,9 @@
 
 Usage: python3 compare_walks.py PROGRAM [GRAPHS [SEED]]
 PROGRAM is the built program. Each graph (20, if not said) is a drawn grid with diagonals and holes, with drawn districts, populations
-and votes, as networkx writes it. The plain program here keeps nothing along a walk: for each proposal it builds the changed plan, asks
-networkx whether each of its districts is connected, adds up populations, and computes each score from all units and edges again.
+and votes, as networkx writes it; half of them have a drawn limit on cut edges. The plain program here keeps nothing along a walk: for
+each proposal it builds the changed plan, asks networkx whether each of its districts is connected, adds up populations, counts the cut
+edges, and computes each score from all units and edges again.
 Ends with status 0 where all reports are the same, and prints how many were.
 """
 import json
@@ -16,6 +17,7 @@ import sys
 import networkx
 
 BILLION = 10 ** 9
+NO_LIMIT = 400_000
 
 
 def quarter(x, a, b, c, d):
@@ -47,11 +49,15 @@ def draws(key, stream):
 
 
 class Job:
-    def __init__(self, graph, plan, people, first, second, districts, slack, key):
+    def __init__(self, graph, plan, people, first, second, districts, slack, key, max_cut=NO_LIMIT):
         self.graph, self.plan, self.people, self.first, self.second = graph, plan, people, first, second
         self.districts, self.slack, self.key = districts, slack, key
         self.units = len(plan)
         self.total = sum(people)
+        self.max_cut = max_cut
+
+    def cut_edges(self, plan):
+        return sum(plan[u] != plan[v] for u, v in self.graph.edges)
 
     def is_legal(self, plan):
         for d in range(self.districts):
@@ -61,7 +67,7 @@ class Job:
             amount = 10000 * self.districts * sum(self.people[u] for u in members)
             if not (10000 - self.slack) * self.total <= amount <= (10000 + self.slack) * self.total:
                 return False
-        return True
+        return self.cut_edges(plan) <= self.max_cut
 
     def after(self, plan, draw):
         pairs = self.units * self.districts
@@ -89,7 +95,7 @@ class Job:
         if score == "gap":
             return sum(3 * b - a if a > b else b - 3 * a for a, b in pairs)
         if score == "cut-edges":
-            return sum(plan[u] != plan[v] for u, v in self.graph.edges)
+            return self.cut_edges(plan)
         shares = sorted(a * BILLION // (a + b) if a + b else BILLION // 2 for a, b in pairs)
         count = self.districts
         return count * (shares[(count - 1) // 2] + shares[count // 2]) - 2 * sum(shares)
@@ -137,6 +143,7 @@ def report_of(job, walks, steps, ends, hub_steps, asks, found):
     lines = ["district-audit 1", "key " + job.key.hex(),
              f"units {job.units} edges {job.graph.number_of_edges()} districts {job.districts}",
              f"population {job.total} slack {job.slack} low {low} high {high}",
+             *([f"max-cut {job.max_cut}"] if job.max_cut < NO_LIMIT else []),
              f"walks {walks} steps {steps} ends {ends} hub-steps {hub_steps}"]
     start = [job.value(job.plan, score) for score, _ in asks]
     words = [f"{score} {tail} start {first}/{job.denominator(score)}" for first, (score, tail) in zip(start, asks)]
@@ -191,6 +198,8 @@ def drawn_job(chance):
     for slack in range(1000, 10001, 1000):
         job = Job(graph, plan, people, first, second, districts, slack, key)
         if job.is_legal(plan):
+            if chance.random() < 0.5:
+                job.max_cut = job.cut_edges(plan) + chance.randint(0, 3)
             return job
     return drawn_job(chance)
 
@@ -207,6 +216,8 @@ def found(program, job, numbers, asks, workers):
              "--key", job.key.hex(), "--workers", str(workers), "--ask", ",".join(":".join(ask) for ask in asks)]
     for name, number in zip(("--walks", "--steps", "--ends", "--hub-steps"), numbers):
         words += [name, str(number)]
+    if job.max_cut < NO_LIMIT:
+        words += ["--max-cut", str(job.max_cut)]
     run = subprocess.run([program, *words], input=document(job), capture_output=True, text=True)
     return run.stdout + run.stderr
 

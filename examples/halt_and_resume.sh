@@ -1,8 +1,8 @@
 #!/bin/bash
 # Halts and resumes a run of the real program over real files, and compares its report with that of one run without saving.
 #
-# Two runs end with their budget used up, and the third, resumed, writes the report. Says nothing and ends with 0 where all is as it
-# has to be; else it says in one line on standard error what is not, and ends with 1.
+# Two runs end with their budget used up, and the third, resumed, writes the report; each saves after every second walk, and at its end.
+# Says nothing and ends with 0 where all is as it has to be; else it says in one line on standard error what is not, and ends with 1.
 # The program is crates/audit_program/out/audit_program, which rt ci and rt run leave there; where it is not there, rt run builds it.
 
 here=$(cd "$(dirname "$0")" && pwd) || exit 1
@@ -44,9 +44,10 @@ slot() {
 run first 7 "stopped: 5 of 12 done" --save 2 --budget 5
 [ ! -s "$room/first.out" ] || fail "the first run wrote a report"
 slot 0 304 first
+slot 1 260 first
 run second 7 "stopped: 10 of 12 done" --save 2 --budget 5 --resume yes
 [ ! -s "$room/second.out" ] || fail "the second run wrote a report"
-slot 0 304 second
+slot 0 480 second
 slot 1 524 second
 run third 0 "" --save 2 --budget 5 --resume yes
 slot 0 612 third

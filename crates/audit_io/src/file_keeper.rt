@@ -139,6 +139,8 @@ impl<R: Files + Drop> FileKeeper<R> {
 impl<R: Files + Drop> Keeper for FileKeeper<R> {
     ghost slots = { λ _. None };
 
+    ghost tried = { λ _. None };
+
     ghost load_faults = { λ k. k.load_faults };
 
     ghost save_faults = { λ k. k.save_faults };

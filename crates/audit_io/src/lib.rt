@@ -12,7 +12,9 @@ pub mod mem_source;
 pub mod sink;
 pub mod source;
 pub mod std_adapters;
+pub mod stop_keeper;
 pub mod sure;
 pub mod sure_keeper;
 #[cfg(test)]
 mod tests;
+mod tries;

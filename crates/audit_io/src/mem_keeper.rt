@@ -1,12 +1,15 @@
 //! A keeper in memory, of which some calls fail.
 
-ghost use Rattle.std.specs.Prelude.{◌≡◌, ◌<◌, ◌≤◌, ◌+◌, ◌-◌, ◌^◌, ◌/◌, ◌↔◌, IfOk, OnOk, OnErr, IsErr, Err, Some, option_map, Contains, min, take, length};
+ghost use Rattle.std.specs.Prelude.{◌≡◌, ◌<◌, ◌≤◌, ◌+◌, ◌-◌, ◌^◌, ◌/◌, ◌↔◌, ◌∷◌, [], ◌++◌, IfOk, OnOk, OnErr, IsErr, Err, Some, option_map, Contains, min, take, length, is_ok};
 ghost use Rattle.audit_io.specs.Faults.{HasCause, HasLoadCause};
 ghost use Rattle.audit_io.specs.Slots.{Loads, LoadsWithin, KeepsOther, HoldsBytes, stored};
+ghost use Rattle.audit_io.specs.Stops.{with_part, with_try};
+ghost use Rattle.audit_io.specs.Tries.{try_of};
 
 use crate::keeper::{Keeper, LoadError};
 use crate::mem_slot::MemSlot;
 use crate::source::Failed;
+use crate::tries::{Save, Tries};
 use audit_model::buffers::Bytes;
 use audit_model::lists::NumList;
 use audit_model::memory::Memory;
@@ -24,6 +27,7 @@ pub struct MemKeeper {
     saves: u64,
     load_faults: u64,
     save_faults: u64,
+    tried: Tries,
 }
 
 impl Model for MemKeeper {
@@ -39,6 +43,7 @@ impl Model for MemKeeper {
       saves = k.saves;
       load_faults = k.load_faults;
       save_faults = k.save_faults;
+      tried = k.tried.items;
     } };
 }
 
@@ -59,6 +64,7 @@ impl MemKeeper {
           saves = 0;
           load_faults = 0;
           save_faults = 0;
+          tried = [];
         }) }
     {
         Ok(MemKeeper {
@@ -70,6 +76,7 @@ impl MemKeeper {
             saves: 0,
             load_faults: 0,
             save_faults: 0,
+            tried: Tries::new(),
         })
     }
 
@@ -90,10 +97,41 @@ impl MemKeeper {
     {
         self.at(slot).bytes()
     }
+
+    // Leaves the first bytes of a save, or all where there are fewer, and counts nothing.
+    pub(crate) fn leave_part(&mut self, slot: u8, bytes: &[u8], kept: u32)
+        requires slot { slot < 2 }
+        requires few { length bytes.now ≤ 4400084 }
+        ensures { self.new ≡ with_part self.old slot bytes.now kept }
+    {
+        self.tried = self.tried.and(&Save {
+            slot,
+            bytes,
+            succeeded: false,
+        });
+        let part = &bytes[..bytes.len().min(kept as usize)];
+        match slot {
+            0 => self.zero.save(part),
+            _ => self.one.save(part),
+        }
+    }
+
+    // A save of which nothing comes here.
+    pub(crate) fn leave_none(&mut self, slot: u8, bytes: &[u8])
+        ensures { self.new ≡ with_try self.old slot bytes.now }
+    {
+        self.tried = self.tried.and(&Save {
+            slot,
+            bytes,
+            succeeded: false,
+        });
+    }
 }
 
 impl Keeper for MemKeeper {
     ghost slots = { λ k. Some k.slots };
+
+    ghost tried = { λ k. Some k.tried };
 
     ghost load_faults = { λ k. k.load_faults };
 
@@ -106,6 +144,7 @@ impl Keeper for MemKeeper {
         ensures slots { self.new.slots ≡ self.old.slots }
         ensures cause { HasLoadCause self.old.load_faults self.new.load_faults result }
         ensures saves { self.new.save_faults ≡ self.old.save_faults }
+        ensures tried { self.new.tried ≡ self.old.tried }
         ensures fails { (result ≡ Err LoadError.Failed) ↔ Contains self.old.load_fails self.new.loads }
         ensures calls { self.new.loads ≡ min (self.old.loads + 1) (2 ^ 64 - 1) }
         ensures same { (self.new.load_fails ≡ self.old.load_fails) × (self.new.save_fails ≡ self.old.save_fails) × (self.new.saves ≡ self.old.saves) }
@@ -126,6 +165,7 @@ impl Keeper for MemKeeper {
         ensures other { KeepsOther (Some self.old.slots) (Some self.new.slots) slot }
         ensures cause { HasCause self.old.save_faults self.new.save_faults result }
         ensures loads { self.new.load_faults ≡ self.old.load_faults }
+        ensures tried { self.new.tried ≡ self.old.tried ++ try_of slot bytes.now (is_ok result) ∷ [] }
         ensures fails { IsErr result ↔ Contains self.old.save_fails self.new.saves }
         ensures half { OnErr result (stored self.new.slots slot ≡ Some (take (length bytes.now / 2) bytes.now)) }
         ensures calls { self.new.saves ≡ min (self.old.saves + 1) (2 ^ 64 - 1) }
@@ -138,6 +178,11 @@ impl Keeper for MemKeeper {
             0 => self.zero.save(&bytes[..kept]),
             _ => self.one.save(&bytes[..kept]),
         }
+        self.tried = self.tried.and(&Save {
+            slot,
+            bytes,
+            succeeded: !fails,
+        });
         if fails {
             self.save_faults = self.save_faults.saturating_add(1);
             return Err(Failed);

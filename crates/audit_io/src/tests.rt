@@ -9,6 +9,7 @@ use crate::mem_source::MemSource;
 use crate::sink::Sink;
 use crate::source::{Failed, Source};
 use crate::std_adapters::{ReadSource, WriteSink};
+use crate::stop_keeper::StopKeeper;
 use crate::sure::{SureSink, SureSource};
 use crate::sure_keeper::SureKeeper;
 use audit_model::buffers::Bytes;
@@ -161,5 +162,22 @@ fn std_reader_is_a_source(rt: HostRuntime) -> Result<(), Fail> {
 fn std_writer_is_a_sink(rt: HostRuntime) -> Result<(), Fail> {
     let mut sink = WriteSink::new(Vec::<u8>::new(rt.alloc()));
     assert_eq!(rt; sink.write(b"abc"), Ok(3));
+    Ok(())
+}
+
+#[test]
+fn keeper_stops_within_a_save(rt: HostRuntime) -> Result<(), Fail> {
+    let alloc = rt.alloc();
+    let fails = NumList::new(alloc);
+    let inner = MemKeeper::new(alloc, None, None, fails, NumList::new(alloc))?;
+    let mut keeper = StopKeeper::new(inner, 2, 3);
+    assert_eq!(rt; keeper.save(0, b"first"), Ok(()));
+    assert_eq!(rt; keeper.save(1, b"second"), Err(Failed));
+    assert_eq!(rt; keeper.save(0, b"third"), Err(Failed));
+    let mut room = Bytes::new(alloc);
+    assert_eq!(rt; keeper.load(0, 9, &mut room), Ok(true));
+    assert_eq!(rt; room.as_slice(), b"first".as_slice());
+    let inner = keeper.into_inner();
+    assert_eq!(rt; inner.slot(1), Some(b"sec".as_slice()));
     Ok(())
 }

@@ -41,6 +41,14 @@ module _ (words : List (List ℕ)) (before after : World) where
   unsaved (Some save_fault) u h0 h5 h7 h9 = absurd (h9 refl)
   unsaved r u h0 h5 h7 h9 = u.slots
 
+  untried : (r : Option Ending) → LeavesUntouched words before after (marks_of r) → status_of r ≢ 0 → status_of r ≢ 5 → status_of r ≢ 7 → status_of r ≢ 9
+      → after.keeper.tried ≡ before.keeper.tried
+  untried None u h0 h5 h7 h9 = absurd (h0 refl)
+  untried (Some write_fault) u h0 h5 h7 h9 = absurd (h5 refl)
+  untried (Some (stopped done all)) u h0 h5 h7 h9 = absurd (h7 refl)
+  untried (Some save_fault) u h0 h5 h7 h9 = absurd (h9 refl)
+  untried r u h0 h5 h7 h9 = u.tried
+
   no_load_fault : (s : Setting) → setting_of words ≡ Ok s → IsFalse (loads s) → IsLoadFault words before after → ⊥
   no_load_fault s e off c =
       let same : c.job.setting ≡ s = same_setting words _ _ c.prepared.accepted.words_are e in
@@ -58,11 +66,13 @@ module _ (words : List (List ℕ)) (before after : World) where
   alone_at r c u = record {
     unwritten = unwritten r u;
     unsaved = unsaved r u;
+    untried = untried r u;
     refused_words = λ h. same_at _ before.source after.source (passes_none _ (setting_of words) h) u.source;
     not_reading = λ s e off. same_at _ before.source after.source (passes_not (λ s. is_reading s.command) words s e off) u.source;
     not_saving = λ s e off. (
       same_at _ before.keeper.slots after.keeper.slots (and_none _ _ (passes_not saves words s e off)) u.slots,
       same_at _ before.keeper.save_faults after.keeper.save_faults (and_none _ _ (passes_not saves words s e off)) u.save_faults,
+      same_at _ before.keeper.tried after.keeper.tried (and_none _ _ (passes_not saves words s e off)) u.tried,
     );
     not_loading = unloaded r c u;
   }

@@ -59,13 +59,15 @@ module _ (words : List (List ℕ)) (before after : Stream) (job : Job) (p : IsPr
 
   -- nothing of the rest was touched but the marked
   left : (out out' : Stream) (k l : Kept) (marks : Marks) → SameUnless marks.wrote out.bytes out'.bytes
-      → SameUnless (marks.saved && passes saves (setting_of words)) k.slots l.slots → marks.read_failed ≡ false → SameUnless marks.write_failed out.faults out'.faults
+      → SameUnless (marks.saved && passes saves (setting_of words)) k.slots l.slots
+      → SameUnless (marks.saved && passes saves (setting_of words)) k.tried l.tried → marks.read_failed ≡ false → SameUnless marks.write_failed out.faults out'.faults
       → SameUnless marks.load_failed k.load_faults l.load_faults → SameUnless (marks.save_failed && passes saves (setting_of words)) k.save_faults l.save_faults
       → LeavesUntouched words (world before out k) (world after out' l) marks
-  left out out' k l marks wrote slots reads writes loaded saved = record {
+  left out out' k l marks wrote slots tried reads writes loaded saved = record {
     source = source_left;
     out = wrote;
     slots = slots;
+    tried = tried;
     read_faults = subst (λ b. SameUnless b before.faults after.faults) (sym reads) (read_count _ before after p.read);
     write_faults = writes;
     load_faults = loaded;
@@ -74,19 +76,19 @@ module _ (words : List (List ℕ)) (before after : Stream) (job : Job) (p : IsPr
 
 -- ---- runs that do not start
 
-pub load_fault_ends : (job : Job) (out : Stream) (k l : Kept) → IsTrue (loads job.setting) → l.slots ≡ k.slots → l.save_faults ≡ k.save_faults
+pub load_fault_ends : (job : Job) (out : Stream) (k l : Kept) → IsTrue (loads job.setting) → l.slots ≡ k.slots → l.tried ≡ k.tried → l.save_faults ≡ k.save_faults
     → Rose k.load_faults l.load_faults → Finishes job out out k l ended.LoadFault
-load_fault_ends job out k l loading slots saved rose = λ words before after p. record {
+load_fault_ends job out k l loading slots tried saved rose = λ words before after p. record {
   cause = record { job = job; prepared = p; loading = loading; rose = rose };
-  untouched = left words before after job p out out k l _ refl slots refl refl tt saved;
+  untouched = left words before after job p out out k l _ refl slots tried refl refl tt saved;
   line_is = refl;
 }
 
-pub no_memory_ends : (job : Job) (out : Stream) (k l : Kept) → l.slots ≡ k.slots → l.save_faults ≡ k.save_faults → l.load_faults ≡ k.load_faults
+pub no_memory_ends : (job : Job) (out : Stream) (k l : Kept) → l.slots ≡ k.slots → l.tried ≡ k.tried → l.save_faults ≡ k.save_faults → l.load_faults ≡ k.load_faults
     → Finishes job out out k l ended.NoMemory
-no_memory_ends job out k l slots saved loaded = λ words before after p. record {
+no_memory_ends job out k l slots tried saved loaded = λ words before after p. record {
   cause = tt;
-  untouched = left words before after job p out out k l _ refl slots refl refl loaded saved;
+  untouched = left words before after job p out out k l _ refl slots tried refl refl loaded saved;
   line_is = refl;
 }
 
@@ -129,7 +131,7 @@ module _ (job : Job) (digest : List ℕ) (slots : Slots) (is : digest ≡ job_di
       undefined = undefined k.slots seen no_opening;
       told_so = are_damaged k.slots seen none;
     };
-    untouched = left words before after job p out out k k _ refl refl refl refl refl refl;
+    untouched = left words before after job p out out k k _ refl refl refl refl refl refl refl;
     line_is = refl;
   }
 
@@ -143,7 +145,7 @@ module _ (job : Job) (digest : List ℕ) (slots : Slots) (is : digest ≡ job_di
       undefined = undefined k.slots seen no_opening;
       told_so = is_other k.slots found seen o;
     };
-    untouched = left words before after job p out out k k _ refl refl refl refl refl refl;
+    untouched = left words before after job p out out k k _ refl refl refl refl refl refl refl;
     line_is = refl;
   }
 
@@ -193,14 +195,14 @@ module _ (job : Job) (run : IsRun job) (opening outcomes : List Outcome) (all : 
   -- what the last save leaves in the slots, as the ends tell it
   saves_all : (before after : Stream) (made : Type 0) (result : Result (Unit {0}) Failed) → (made → result ≡ Ok tt) → SavesLast job opening k l result
       → SavesAll made job (world before out k) (world after out' l)
-  saves_all before after made (Ok done) e s = record { outcomes = opening; opened = opened; kept = s.kept; beside = s.beside; placed = λ _. s.placed; newest_is = λ _. s.newest_is }
+  saves_all before after made (Ok done) e s = record { outcomes = opening; opened = opened; kept = s.kept; in_turn = λ _. s.in_turn; newest_is = λ _. s.newest_is; tried = s.tried }
   saves_all before after made (Err failed) e s = record {
     outcomes = opening;
     opened = opened;
     kept = s.kept;
-    beside = s.beside;
-    placed = λ m. absurd (not_made (e m));
+    in_turn = λ m. absurd (not_made (e m));
     newest_is = λ m. absurd (not_made (e m));
+    tried = s.tried;
   }
     where
       not_made : ◌≡◌ {A = Result (Unit {0}) Failed} (Err failed) (Ok tt) → ⊥
@@ -215,6 +217,10 @@ module _ (job : Job) (run : IsRun job) (opening outcomes : List Outcome) (all : 
   slots_left : (b : Bool) (result : Result (Unit {0}) Failed) → SavedBy b job opening k l result → SameUnless b k.slots l.slots
   slots_left false result s = ap (λ (x : Kept). x.slots) s.0
   slots_left true result s = tt
+
+  tried_left : (b : Bool) (result : Result (Unit {0}) Failed) → SavedBy b job opening k l result → SameUnless b k.tried l.tried
+  tried_left false result s = ap (λ (x : Kept). x.tried) s.0
+  tried_left true result s = tt
 
   loads_left : (b : Bool) (result : Result (Unit {0}) Failed) → SavedBy b job opening k l result → l.load_faults ≡ k.load_faults
   loads_left false result s = ap (λ (x : Kept). x.load_faults) s.0
@@ -248,7 +254,8 @@ module _ (job : Job) (run : IsRun job) (opening outcomes : List Outcome) (all : 
       written = text_written true before after whole w;
       saved = saves_where before after ⊤ (saves job.setting) (Ok tt) (λ _. refl) s;
     };
-    untouched = left words before after job p out out' k l _ tt (saved_left words before after job p _ _ (slots_left (saves job.setting) (Ok tt) s)) refl writes
+    untouched = left words before after job p out out' k l _ tt (saved_left words before after job p _ _ (slots_left (saves job.setting) (Ok tt) s))
+        (saved_left words before after job p _ _ (tried_left (saves job.setting) (Ok tt) s)) refl writes
         (loads_left (saves job.setting) (Ok tt) s) (passed_count (saves job.setting) s);
     line_is = refl;
   }
@@ -264,7 +271,8 @@ module _ (job : Job) (run : IsRun job) (opening outcomes : List Outcome) (all : 
       saved = saves_where before after (NoSaveFailed (world before out k) (world after out' l)) (saves job.setting) result (made_by (saves job.setting) result s) s;
       rose = writes;
     };
-    untouched = left words before after job p out out' k l _ tt (saved_left words before after job p _ _ (slots_left (saves job.setting) result s)) refl tt
+    untouched = left words before after job p out out' k l _ tt (saved_left words before after job p _ _ (slots_left (saves job.setting) result s))
+        (saved_left words before after job p _ _ (tried_left (saves job.setting) result s)) refl tt
         (loads_left (saves job.setting) result s) (saved_left words before after job p _ _ (count_left (saves job.setting) result s));
     line_is = refl;
   }
@@ -285,10 +293,11 @@ module _ (job : Job) (run : IsRun job) (opening outcomes : List Outcome) (all : 
           outcomes = opening;
           opened = opened;
           kept = last.kept;
-          beside = last.beside;
+          tried = last.tried;
           rose = last.cause.failed;
         };
-        untouched = left words before after job p out out' k l _ tt (saved_left words before after job p _ _ (slots_left (saves job.setting) (Err f) s)) refl writes
+        untouched = left words before after job p out out' k l _ tt (saved_left words before after job p _ _ (slots_left (saves job.setting) (Err f) s))
+            (saved_left words before after job p _ _ (tried_left (saves job.setting) (Err f) s)) refl writes
             (loads_left (saves job.setting) (Err f) s) (saved_left words before after job p _ _ (count_left (saves job.setting) (Err f) s));
         line_is = refl;
       }
@@ -330,7 +339,8 @@ module _ (job : Job) (run : IsRun job) (opening outcomes : List Outcome) (all : 
           saved = saves_all job run opening outcomes all out out k l opened before after ⊤ (Ok tt) (λ _. refl) last;
         };
         untouched = left words before after job p out out k l _ refl
-            (saved_left words before after job p _ _ (slots_left job run opening outcomes all out out k l opened (saves job.setting) (Ok tt) s)) refl refl
+            (saved_left words before after job p _ _ (slots_left job run opening outcomes all out out k l opened (saves job.setting) (Ok tt) s))
+            (saved_left words before after job p _ _ (tried_left job run opening outcomes all out out k l opened (saves job.setting) (Ok tt) s)) refl refl
             (loads_left job run opening outcomes all out out k l opened (saves job.setting) (Ok tt) s) (passed_count job run opening outcomes all out out k l opened (saves job.setting) s);
         line_is = refl;
       }
@@ -349,11 +359,12 @@ module _ (job : Job) (run : IsRun job) (opening outcomes : List Outcome) (all : 
           outcomes = opening;
           opened = opened;
           kept = last.kept;
-          beside = last.beside;
+          tried = last.tried;
           rose = last.cause.failed;
         };
         untouched = left words before after job p out out k l _ tt
-            (saved_left words before after job p _ _ (slots_left job run opening outcomes all out out k l opened (saves job.setting) (Err f) s)) refl refl
+            (saved_left words before after job p _ _ (slots_left job run opening outcomes all out out k l opened (saves job.setting) (Err f) s))
+            (saved_left words before after job p _ _ (tried_left job run opening outcomes all out out k l opened (saves job.setting) (Err f) s)) refl refl
             (loads_left job run opening outcomes all out out k l opened (saves job.setting) (Err f) s)
             (saved_left words before after job p _ _ (count_left job run opening outcomes all out out k l opened (saves job.setting) (Err f) s));
         line_is = refl;

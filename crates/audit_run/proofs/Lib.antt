@@ -1,14 +1,12 @@
 pub mod Alone
 pub mod Causing
 pub mod Chained
-pub mod Completing
 pub mod Counting
-pub mod Crossing
+pub mod Desked
 pub mod Ending
 pub mod Finished
 pub mod Following
 pub mod Found
-pub mod Gathering
 pub mod Judging
 pub mod Lines
 pub mod Listing
@@ -18,7 +16,6 @@ pub mod Preparing
 pub mod Reruns
 pub mod Running
 pub mod Saved
-pub mod Sharing
 pub mod Started
 pub mod Statuses
 pub mod Streams

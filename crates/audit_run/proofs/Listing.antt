@@ -8,7 +8,7 @@ use Rattle.audit_model.specs.declared.outcome.Outcome.{Outcome}
 use Rattle.audit_model.specs.Below.{filter_below}
 use Rattle.audit_model.specs.Job.{Job}
 use Rattle.audit_model.specs.Run.{total, has_id, run_ids}
-use Rattle.audit_run.specs.Walks.{IsTodo}
+use Rattle.claim_crew.specs.Walks.{IsTodo}
 
 -- each is below the bound and passes the test
 pub each_passes : (n : ℕ) (test : ℕ → Bool) → All (λ id. (id < n) × (test id ≡ true)) (filter_below n test)

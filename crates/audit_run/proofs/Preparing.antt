@@ -50,6 +50,7 @@ module _ (words : List (List ℕ)) (setting : Setting) (before after : Stream) (
     source = source_by words setting before after accepted same;
     out = refl;
     slots = refl;
+    tried = refl;
     read_faults = count;
     write_faults = refl;
     load_faults = refl;

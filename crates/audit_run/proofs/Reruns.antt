@@ -9,7 +9,9 @@ use Rattle.audit_model.specs.Graph.{count_edges}
 use Rattle.std.specs.Ordering.{int_eq}
 use Rattle.std.specs.Io.KnownBytes.{Appends}
 use Rattle.std.proofs.Math.Path.{fun_ext}
+use Rattle.audit_io.specs.Faults.{Rose}
 use Rattle.audit_io.specs.Slots.{Pair, Stored}
+use Rattle.audit_io.specs.Tries.{Try}
 use Rattle.audit_model.specs.declared.outcome.Outcome.{Outcome}
 use Rattle.audit_model.specs.declared.setting.Ask.{Ask}
 use Rattle.audit_model.specs.declared.fault.CkptFault.{CkptFault}
@@ -22,16 +24,19 @@ use Rattle.audit_model.specs.Step.{next}
 use Rattle.audit_model.specs.Trajectory.{Draws, bare, bin_of, four_values, in_tail, no_bins, outcome, outcome_by, plan_seats, plan_value, sequence, value_at, visit, whole}
 use Rattle.checkpoint_definitions.specs.Checkpoint.{checkpoint_fault, digest_name, edge_bytes, has_rules, job_digest, rule_bytes, score_code, stated_count, tail_code, unit_bytes}
 use Rattle.checkpoint_definitions.specs.Slots.{IsHonestSlot, Slot, absent, broken, checkpoint_limit, other, ours, outcome_in, slot_of, slot_of_bytes, slot_of_checkpoint, slot_of_digest, slot_of_ours}
-use Rattle.ckpt_store.specs.Laws.{StopsLeaveHonestSlots}
+use Rattle.ckpt_store.specs.Histories.{AreCarriedOut, SavesKeepTheNewest, SavesLeaveHonestSlots, stopped_in}
+use Rattle.ckpt_store.specs.Laws.{IsNotOurs}
 use Rattle.draw_definitions.specs.Draw.{draw}
 use Rattle.hex.specs.Hex.{encode_lower}
 use Rattle.text_definitions.specs.Report.{ends_lines, graph_line, line, population_line, report, rule_lines, serial_lines, setting_line, shift_line, stop_line, test_lines, thread_report, title_line, walk_lines}
-use Rattle.audit_run.specs.Chain.{AreHonestOf}
-use Rattle.audit_run.specs.Rerun.{AreAlike, ChainsWriteOneReport, Event, IsEvent, IsLink, Link, RerunsAreAlike, WroteOneThreads, cut_off, job_in, ran, rerun, slots_after}
+use Rattle.audit_run.specs.Chain.{AreHonestOf, ResumesHonestly, TriesOver}
+use Rattle.audit_run.specs.Ends.{IfBothKnown, place_of}
+use Rattle.audit_run.specs.Rerun.{AreAlike, ChainsWriteOneReport, Event, IsEvent, IsLink, IsRunOver, Link, RerunsAreAlike, StopsKeepTheNewest, WroteOneThreads, job_in, ran, rerun, slots_after, stopped}
 use Rattle.audit_run.specs.Running.{HasDefaults}
 use Rattle.audit_run.specs.World.{IfKnown}
 use Rattle.audit_run.proofs.Plain.{plain_report}
 use Rattle.audit_run.proofs.Words.{accepted_words_have_defaults}
+use Rattle.audit_run.proofs.Chained.{rises_or_not}
 
 -- ---- outcomes, by whatever visits a plan
 
@@ -174,7 +179,7 @@ module _ (job : Job) (workers budget save_every : ℕ) (resume : Bool) where
   thread_report_same : HasDefaults job.setting → (draws : Draws) → thread_report again draws ≡ thread_report job draws
   unfolding thread_report
   thread_report_same plain draws =
-      sym (plain_report again (record { cut_limit = plain.cut_limit; no_bins = plain.no_bins; no_stop = plain.no_stop; no_serial = plain.no_serial }) draws (sequence again draws))
+      sym (plain_report again (record { no_bins = plain.no_bins; no_stop = plain.no_stop; no_serial = plain.no_serial }) draws (sequence again draws))
       ∙ report_same (sequence again draws) [] None
       ∙ ap (λ (os : List Outcome). report job os [] None) (sequence_same draws)
       ∙ plain_report job plain draws (sequence job draws)
@@ -246,43 +251,76 @@ reruns_are_alike job workers budget save_every resume = record {
   same_honest = honest_same job workers budget save_every resume;
 }
 
+-- ---- a stop
+
+pub stops_keep_the_newest : SavesKeepTheNewest → StopsKeepTheNewest
+stops_keep_the_newest law job before after p told now t n q out =
+    law job (job_digest job) p q (place_of job p).0 (place_of job p).1 t.tries n refl t.in_turn out
+
 -- ---- chains
 
 -- the job is a rerun of its rerun
 back_again : (job : Job) (l : Link) → AreAlike (job_in job l) job
 back_again job l = reruns_are_alike (job_in job l) job.setting.workers job.setting.budget job.setting.save_every job.setting.resume
 
-module _ (job : Job) (p : Pair) (l : Link) (honest : AreHonestOf job p) (link : IsLink job p l) where
+-- all that was tried, as it ended
+stopped_after : (tries : List Try) → stopped_in (length tries) tries ≡ tries
+stopped_after [] = refl
+stopped_after (t ∷ tries) = ap (λ (ts : List Try). t ∷ ts) (stopped_after tries)
+
+module _ (law : SavesLeaveHonestSlots) (job : Job) (p : Pair) (l : Link) (honest : AreHonestOf job p) where
   honest_here : AreHonestOf (job_in job l) p
   honest_here = honest_same job l.workers l.budget l.save_every l.resume p honest
 
-  link_stays : AreHonestOf job l.slots
-  link_stays = (back_again job l).same_honest l.slots (link.promised.stays (job_in job l) p l.slots link.the_job link.found link.left honest_here link.untorn)
+  resumes : (o : IsRunOver job p l) → ResumesHonestly (job_in job l) l.before
+  resumes o = λ _. subst (λ (s : Option Pair). IfKnown s (AreHonestOf (job_in job l))) (sym o.found) honest_here
 
-  plain_again : HasDefaults (job_in job l).setting
-  plain_again = accepted_words_have_defaults l.words (job_in job l).setting link.the_job.told.words_are
+  defaults_again : IsRunOver job p l → HasDefaults (job_in job l).setting
+  defaults_again o = accepted_words_have_defaults l.words (job_in job l).setting o.the_job.told.words_are
 
-  plain_here : HasDefaults job.setting
-  plain_here = record { cut_limit = plain_again.cut_limit; no_bins = plain_again.no_bins; no_stop = plain_again.no_stop; no_serial = plain_again.no_serial }
+  defaults_here : IsRunOver job p l → HasDefaults job.setting
+  defaults_here o = record { no_bins = (defaults_again o).no_bins; no_stop = (defaults_again o).no_stop; no_serial = (defaults_again o).no_serial }
 
-  link_wrote : WroteOneThreads job (ran l)
-  link_wrote z =
+  tries_of : (o : IsRunOver job p l) → TriesOver (job_in job l) l.before l.after p o.told o.now
+  tries_of o = both_told l.before.keeper.tried l.after.keeper.tried o.told o.now (TriesOver (job_in job l) l.before l.after p) o.told_is o.now_is (o.tried (job_in job l) p o.the_job o.found)
+    where
+      both_told : (a b : Option (List Try)) (x y : List Try) (P : List Try → List Try → Type 0) → a ≡ Some x → b ≡ Some y → IfBothKnown a b P → P x y
+      both_told a b x y P e f h = subst (λ (s : Option (List Try)). IfBothKnown s (Some y) P) e (subst (λ (s : Option (List Try)). IfBothKnown a s P) f h)
+
+  stays_where : (o : IsRunOver job p l) (n : ℕ) (q : Pair)
+      → AreCarriedOut IsNotOurs (job_in job l) (job_digest (job_in job l)) p (stopped_in n (tries_of o).tries) q → AreHonestOf job q
+  stays_where o n q out =
+      (back_again job l).same_honest q
+      (law (job_in job l) (draw (job_in job l).setting.key) (job_digest (job_in job l)) p q (tries_of o).tries n ((tries_of o).right (resumes o)) out honest_here)
+
+  link_stays : IsLink job p l → AreHonestOf job l.slots
+  link_stays link = by (rises_or_not l.before.keeper.save_faults l.after.keeper.save_faults)
+    where
+      by : Rose l.before.keeper.save_faults l.after.keeper.save_faults ⊎ (Rose l.before.keeper.save_faults l.after.keeper.save_faults → ⊥) → AreHonestOf job l.slots
+      by (inl rose) =
+          let t = tries_of link.over in
+          stays_where link.over (length t.tries) l.slots
+          (subst (λ (ts : List Try). AreCarriedOut IsNotOurs (job_in job l) (job_digest (job_in job l)) p ts l.slots) (sym (stopped_after t.tries)) (link.carried rose t))
+      by (inr calm) =
+          (back_again job l).same_honest l.slots (link.promised.stays (job_in job l) p l.slots link.over.the_job link.over.found link.left honest_here calm)
+
+  link_wrote : IsLink job p l → WroteOneThreads job (ran l)
+  link_wrote link z =
       subst (λ (text : List ℕ). Appends l.before.out.bytes l.after.out.bytes text)
-      (thread_report_same job l.workers l.budget l.save_every l.resume plain_here (draw job.setting.key))
-      (link.promised.one_thread (job_in job l) l.opening (link.started z)
-      (λ resumes. subst (λ (s : Option Pair). IfKnown s (AreHonestOf (job_in job l))) (sym link.found) honest_here) z)
+      (thread_report_same job l.workers l.budget l.save_every l.resume (defaults_here link.over) (draw job.setting.key))
+      (link.promised.one_thread (job_in job l) l.opening (link.started z) (resumes link.over) z)
 
-event_stays : StopsLeaveHonestSlots → (job : Job) (p : Pair) (e : Event) → AreHonestOf job p → IsEvent job p e → AreHonestOf job (slots_after e)
-event_stays stop job p (ran l) honest is = link_stays job p l honest is
-event_stays stop job p (cut_off number q) honest is = stop job (draw job.setting.key) (job_digest job) p q number is.stopped is.untorn.left honest
+event_stays : SavesLeaveHonestSlots → (job : Job) (p : Pair) (e : Event) → AreHonestOf job p → IsEvent job p e → AreHonestOf job (slots_after e)
+event_stays law job p (ran l) honest is = link_stays law job p l honest is
+event_stays law job p (stopped l n q) honest is = stays_where law job p l honest is.over n q (is.carried (tries_of law job p l honest is.over))
 
-event_wrote : (job : Job) (p : Pair) (e : Event) → AreHonestOf job p → IsEvent job p e → WroteOneThreads job e
-event_wrote job p (ran l) honest is = link_wrote job p l honest is
-event_wrote job p (cut_off number q) honest is = tt
+event_wrote : SavesLeaveHonestSlots → (job : Job) (p : Pair) (e : Event) → AreHonestOf job p → IsEvent job p e → WroteOneThreads job e
+event_wrote law job p (ran l) honest is = link_wrote law job p l honest is
+event_wrote law job p (stopped l n q) honest is = tt
 
-pub chains_write_one_report : StopsLeaveHonestSlots → ChainsWriteOneReport
-chains_write_one_report stop job p [] honest chain = tt
-chains_write_one_report stop job p (e ∷ events) honest chain = (
-  event_wrote job p e honest chain.0,
-  chains_write_one_report stop job (slots_after e) events (event_stays stop job p e honest chain.0) chain.1,
+pub chains_write_one_report : SavesLeaveHonestSlots → ChainsWriteOneReport
+chains_write_one_report law job p [] honest chain = tt
+chains_write_one_report law job p (e ∷ events) honest chain = (
+  event_wrote law job p e honest chain.0,
+  chains_write_one_report law job (slots_after e) events (event_stays law job p e honest chain.0) chain.1,
 )

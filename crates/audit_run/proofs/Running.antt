@@ -20,12 +20,10 @@ use Rattle.checkpoint_definitions.specs.Checkpoint.{AreRising}
 use Rattle.ckpt_store.specs.Fitting.{AreFit}
 use Rattle.draw_definitions.specs.Draw.{draw}
 use Rattle.outcome_book.specs.Booked.{AreApart}
-use Rattle.report.specs.Outcomes.{AreOutcomesOf}
+use Rattle.report.specs.Outcomes.{AreOutcomesOf, AreStopsBy, AreStopsOf, IsSerialBy, IsSerialOf, reported, reported_by}
 use Rattle.audit_run.specs.Ends.{IsPrepared, is_walking, leaves_work, lacking, full_of}
-use Rattle.flip_kernel.specs.Held.{LimitsNothing}
-use Rattle.report.specs.Plain.{HasPlainRules, IsPlain}
 use Rattle.audit_run.specs.Running.{AreAll, IsRun}
-use Rattle.audit_run.specs.Walks.{found}
+use Rattle.claim_crew.specs.Walks.{found}
 use Rattle.audit_run.specs.World.{Stream}
 use Rattle.audit_run.proofs.Counting.{lacking_rest}
 use Rattle.audit_run.proofs.Found.{outcome_bare, outcome_fits, outcome_id}
@@ -56,21 +54,16 @@ prepared_run words before after job p walking =
       no_regions = accepted_regions job.setting p.accepted.bytes job p.accepted.judged_so;
     }
 
--- a job that was prepared has no rules but those of every job
-pub prepared_plain : (words : List (List ℕ)) (before after : Stream) (job : Job) → IsPrepared words before after job → HasPlainRules job
-prepared_plain words before after job p = record {
-  max_cut = (accepted_words_have_defaults words job.setting p.accepted.words_are).cut_limit;
-  regions = accepted_regions job.setting p.accepted.bytes job p.accepted.judged_so;
-}
+-- no test stops early, and none is serial
+pub no_stops : (job : Job) → IsRun job → AreStopsOf job []
+no_stops job run = subst (λ (n : ℕ). AreStopsBy n job []) (sym run.plain.no_stop) refl
 
--- its rules limit nothing
-pub limits_nothing : (job : Job) → IsRun job → LimitsNothing job
-limits_nothing job run = record { edges = omega (arith, run.sound.within.input.edges, run.plain.cut_limit); regions = run.no_regions }
+pub no_serial : (job : Job) → IsRun job → IsSerialOf job None
+no_serial job run = subst (λ (b : Bool). IsSerialBy b job None) (sym run.plain.no_serial) tt
 
--- and it asks for no further lines
-pub is_plain : (job : Job) → IsRun job → IsPlain job
-is_plain job run =
-    record { rules = record { max_cut = run.plain.cut_limit; regions = run.no_regions }; shift = run.plain.no_bins; stop = run.plain.no_stop }
+-- so the report is on all trajectories
+pub reports_all : (job : Job) → IsRun job → reported job ≡ total job
+reports_all job run = ap (λ (n : ℕ). reported_by n job) run.plain.no_stop
 
 at_most : (b : Bool) (x : ℕ) → length (cond b (x ∷ []) []) ≤ 1
 at_most true x = omega arith
@@ -259,8 +252,9 @@ full_ids job opening none =
     (every_id job opening none) (kept_id job opening)
 
 -- as many outcomes as trajectories are one of each
-pub whole_outcomes : (job : Job) (opening outcomes : List Outcome) → AreAll job opening outcomes → total job ≤ length outcomes → AreOutcomesOf job outcomes
-whole_outcomes job opening outcomes all whole = record {
-  ids = ap (λ os. map (λ o. o.id) os) all.full ∙ full_ids job opening (whole_leaves job opening outcomes all whole);
+pub whole_outcomes : (job : Job) → IsRun job → (opening outcomes : List Outcome) → AreAll job opening outcomes → total job ≤ length outcomes → AreOutcomesOf job outcomes
+whole_outcomes job run opening outcomes all whole = record {
+  ids = ap (λ os. map (λ o. o.id) os) all.full ∙ full_ids job opening (whole_leaves job opening outcomes all whole)
+      ∙ ap (λ n. map_below n (λ id. id)) (sym (reports_all job run));
   fitting = fit_list job outcomes all.fit.fit;
 }

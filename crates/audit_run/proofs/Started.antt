@@ -1,5 +1,5 @@
 -- With what a run starts.
-use Rattle.std.proofs.Common.{◌≡◌, ℕ, zero, suc, ◌<◌, ◌&&◌, not, Bool, true, false, cond, List, [], ◌∷◌, map, length, get_or, Option, Some, None, Result, Ok, Err, refl, sym, subst, ap, ◌∙◌, arith}
+use Rattle.std.proofs.Common.{◌≡◌, ℕ, zero, suc, ◌<◌, ◌≤◌, ◌&&◌, not, Bool, true, false, cond, List, [], ◌∷◌, map, get_or, Option, Some, None, Result, Ok, Err, refl, sym, subst, ap, ◌∙◌, arith}
 use Rattle.std.specs.Prelude.{◌==◌, IsTrue, option_map}
 use Rattle.std.specs.List.{All}
 use Rattle.std.proofs.lemmas.List.{length-map}
@@ -78,11 +78,37 @@ no_target job slots none = subst (λ b. IsTarget b job slots None) (sym (saves_n
 pub some_target : (job : Job) (slots : Option Pair) (t : Target) → IsRun job → (job.setting.save_every ≡ 0 → ⊥) → IsPlaced job slots t → IsTarget (saves job.setting) job slots (Some t)
 some_target job slots t run some placed = subst (λ b. IsTarget b job slots (Some t)) (sym (saves_some job run some)) placed
 
+-- where there is no place, the run saves nothing
+pub no_target_told : (b : Bool) (job : Job) (slots : Option Pair) (o : Option Target) → o ≡ None → IsTarget b job slots o → b ≡ false
+no_target_told false job slots o e is = refl
+no_target_told true job slots None e is = absurd is
+no_target_told true job slots (Some t) e is = cc
+
 -- where there is a place, the run saves there
 pub target_told : (b : Bool) (job : Job) (slots : Option Pair) (o : Option Target) (t : Target) → o ≡ Some t → IsTarget b job slots o → (b ≡ true) × IsPlaced job slots t
 target_told b job slots None t e is = cc
 target_told false job slots (Some x) t e is = absurd is
 target_told true job slots (Some x) t e is = let same : x ≡ t = cc in (refl, subst (λ (y : Target). IsPlaced job slots y) same is)
+
+-- a run that saves has a number after which it does
+pub saves_every : (job : Job) → saves job.setting ≡ true → 1 ≤ job.setting.save_every
+saves_every job is = by job.setting.save_every refl
+  where
+    by : (n : ℕ) → job.setting.save_every ≡ n → 1 ≤ n
+    by zero none = absurd (both (saves job.setting) (saves_not job none) is)
+      where
+        both : (b : Bool) → b ≡ false → b ≡ true → ⊥
+        both true e f = cc
+        both false e f = cc
+    by (suc n) e = omega arith
+
+-- the place that was told
+pub place_told_for : (job : Job) (slots : Option Pair) (t : Target) → IsPlaced job slots t → IfTold slots (λ p. place_of job p ≡ (t.place.slot, t.place.generation))
+place_told_for job None t placed = tt
+place_told_for job (Some p) t placed = sym placed.told
+
+pub placed_known : (job : Job) (slots : Option Pair) (t : Target) → IsPlaced job slots t → IfKnown slots (λ p. (t.place.slot, t.place.generation) ≡ place_of job p)
+placed_known job slots t placed = placed.told
 
 place_by : (job : Job) (told : Option Pair) (slots : Slots) (t : Target) → t.digest ≡ job_digest job → (t.place.slot, t.place.generation) ≡ place_seen slots
     → IfTold told (λ p. AreSlots job t.digest p slots) → IfKnown told (λ p. (t.place.slot, t.place.generation) ≡ place_of job p)
@@ -241,14 +267,8 @@ refused_seen slots wanted (OtherJob found digest) e = other_seen slots wanted fo
 
 -- ---- the keeper as it was
 
-abbrev kept_of : Option Pair → ℕ → ℕ → Kept
-kept_of slots load_faults save_faults = record { slots = slots; load_faults = load_faults; save_faults = save_faults }
-
-pub same_kept : (k l : Kept) → l.slots ≡ k.slots → l.load_faults ≡ k.load_faults → l.save_faults ≡ k.save_faults → l ≡ k
-same_kept k l slots loads saves =
-    ap (λ (x : Option Pair). kept_of x l.load_faults l.save_faults) slots
-    ∙ ap (λ (x : ℕ). kept_of k.slots x l.save_faults) loads
-    ∙ ap (λ (x : ℕ). kept_of k.slots k.load_faults x) saves
+pub same_kept : (k l : Kept) → l.slots ≡ k.slots → l.tried ≡ k.tried → l.load_faults ≡ k.load_faults → l.save_faults ≡ k.save_faults → l ≡ k
+same_kept k l slots tried loads saves i = record { slots = slots i; tried = tried i; load_faults = loads i; save_faults = saves i }
 
 -- after a look that changed nothing, the run starts or ends as from the keeper as it was
 pub opens_later : (job : Job) (k l : Kept) (result : Result Opening Ended) → l ≡ k → Opens job k k result → Opens job k l result

@@ -158,10 +158,10 @@ accepted_size words setting e make = let s = accepted_words words setting e in s
 -- ---- what no words ask for yet
 
 plain_by : (command : Command) (words : List Pair) → HasDefaults (setting_for command words)
-plain_by Check words = record { cut_limit = refl; no_bins = refl; no_stop = refl; no_serial = refl }
-plain_by Run words = record { cut_limit = refl; no_bins = refl; no_stop = refl; no_serial = refl }
-plain_by Make words = record { cut_limit = refl; no_bins = refl; no_stop = refl; no_serial = refl }
-plain_by Plans words = record { cut_limit = refl; no_bins = refl; no_stop = refl; no_serial = refl }
+plain_by Check words = record { no_bins = refl; no_stop = refl; no_serial = refl }
+plain_by Run words = record { no_bins = refl; no_stop = refl; no_serial = refl }
+plain_by Make words = record { no_bins = refl; no_stop = refl; no_serial = refl }
+plain_by Plans words = record { no_bins = refl; no_stop = refl; no_serial = refl }
 
 pub accepted_words_have_defaults : (words : List (List ℕ)) (setting : Setting) → setting_of words ≡ Ok setting → HasDefaults setting
 accepted_words_have_defaults words setting e = let s = accepted_words words setting e in subst HasDefaults s.same (plain_by s.command s.words)

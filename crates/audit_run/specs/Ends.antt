@@ -1,6 +1,6 @@
 -- How a call may end: for each reason, what caused it, what it wrote, and what it left untouched.
-use Rattle.std.specs.Prelude.{◌≡◌, ◌⊎◌, ℕ, suc, ◌+◌, ◌<◌, ◌≤◌, ◌==◌, ◌&&◌, ◌||◌, Bool, true, false, not, IsTrue, IsFalse, nat_lt, List, [], length, map, take, ⊤, Option, Some, None, option_map, Result, Ok, Err}
-use Rattle.std.specs.List.{list_all, All, Contains}
+use Rattle.std.specs.Prelude.{◌≡◌, ◌⊎◌, ℕ, suc, ◌+◌, ◌-◌, ◌*◌, ◌%◌, ◌^◌, ◌<◌, ◌≤◌, ◌==◌, min, ◌&&◌, ◌||◌, Bool, true, false, not, IsTrue, IsFalse, nat_lt, List, [], ◌++◌, length, map, take, ⊤, Option, Some, None, option_map, Result, Ok, Err}
+use Rattle.std.specs.List.{list_all, All, AllPairs, Contains}
 use Rattle.std.specs.Io.KnownBytes.{Appends, IsAtEnd}
 use Rattle.audit_model.specs.declared.fault.WordFault.{WordFault}
 use Rattle.audit_model.specs.declared.outcome.Outcome.{Outcome}
@@ -12,19 +12,25 @@ use Rattle.audit_model.specs.Below.{filter_below}
 use Rattle.audit_model.specs.Job.{Job}
 use Rattle.audit_model.specs.JobOf.{IsJob}
 use Rattle.audit_model.specs.Apart.{AllApart}
-use Rattle.audit_model.specs.Run.{total, has_id, full, fits}
+use Rattle.audit_model.specs.Run.{total, has_id, run_ids, full, fits, IsRight}
 use Rattle.audit_model.specs.Trajectory.{outcome}
-use Rattle.checkpoint_definitions.specs.Checkpoint.{checkpoint, job_digest}
+use Rattle.checkpoint_definitions.specs.Checkpoint.{IsCheckpoint, checkpoint, job_digest}
+use Rattle.ckpt_store.specs.declared.slots.Place.{Place}
+use Rattle.ckpt_store.specs.Histories.{AreInTurn, IsRightSave}
+use Rattle.desk_crew.specs.Ran.{IsLater, failed_of}
 use Rattle.draw_definitions.specs.Draw.{draw}
 use Rattle.note_definitions.specs.Note.{Ending, bad_words, too_many_bytes, bad_graph, bad_regions, bad_table, bad_plan, bad_plan_named, no_memory, read_fault, write_fault, load_fault, stopped, damaged, other_job, save_fault, note}
 use Rattle.text_definitions.specs.Report.{full_report, check_text}
 use Rattle.checkpoint_definitions.specs.Slots.{Slot, other, ours, slot_of, opening, newest, place, slot_at}
 use Rattle.word_definitions.specs.Words.{setting_of}
+use Rattle.tally_desk.specs.Homes.{moved}
+use Rattle.tally_desk.specs.InTurn.{saves_of}
 use Rattle.audit_io.specs.Faults.{Rose}
-use Rattle.audit_io.specs.Slots.{Pair, stored, other_stored}
+use Rattle.audit_io.specs.Slots.{Pair, stored}
+use Rattle.audit_io.specs.Tries.{Try}
 use Rattle.audit_run.specs.Accepted.{IsAccepted, IsRefused, columns_of, most_bytes}
 use Rattle.audit_run.specs.Ended.{status_of}
-use Rattle.audit_run.specs.World.{Stream, World, IfKnown}
+use Rattle.audit_run.specs.World.{Stream, Kept, World, IfKnown}
 
 -- ---- what the words ask for
 
@@ -135,18 +141,25 @@ IsNewest job outcomes p =
     (n : ℕ) × (newest (slot_of job (job_digest job) p.zero_slot) (slot_of job (job_digest job) p.one_slot) ≡ Some n)
     × ((g : ℕ) × (g < 3) × (stored p n ≡ Some (checkpoint 1 (job_digest job) g outcomes)))
 
--- an outcome of the opening, or what the trajectory of an id finds that the opening lacks
+-- an outcome of the opening, or what the trajectory of an id finds that the opening lacks and that is to be walked
 abbrev pub IsOpeningOrFound : Job → List Outcome → Outcome → Type 0
 IsOpeningOrFound job outcomes o =
-    Contains outcomes o ⊎ (IsFalse (has_id outcomes o.id) × (o.id < total job) × (o ≡ outcome job (draw job.setting.key) o.id))
+    Contains outcomes o
+    ⊎ (IsFalse (has_id outcomes o.id) × (o.id < total job) × Contains (run_ids job outcomes job.setting.budget) o.id × (o ≡ outcome job (draw job.setting.key) o.id))
 
--- the slot is a checkpoint of the job with this generation, of the opening and of so many ids that the opening lacks
-pub record IsPartly (job : Job) (outcomes : List Outcome) (count generation : ℕ) (slot : Option (List ℕ)) : Type 0 where
-  pub saved : List Outcome
-  pub bytes_are : slot ≡ Some (checkpoint 1 (job_digest job) generation saved)
+-- these are all outcomes of the opening, and so many others
+pub record HoldsPart (job : Job) (outcomes : List Outcome) (count : ℕ) (saved : List Outcome) : Type 0 where
   pub each : All (IsOpeningOrFound job outcomes) saved
   pub opening_kept : All (Contains saved) outcomes
   pub counted : length saved ≡ length outcomes + count
+
+-- the slot is a checkpoint of the job with this generation, of the opening and of so many ids that the opening lacks, and is read as that
+pub record IsPartly (job : Job) (outcomes : List Outcome) (count generation : ℕ) (slot : Option (List ℕ)) : Type 0 where
+  pub saved : List Outcome
+  pub bytes_are : slot ≡ Some (checkpoint 1 (job_digest job) generation saved)
+  pub sound : IsCheckpoint (checkpoint 1 (job_digest job) generation saved) 1 (job_digest job) generation saved
+  pub slot_is : slot_of job (job_digest job) slot ≡ ours generation saved
+  pub holds : HoldsPart job outcomes count saved
 
 -- of two slots of which one was intact, one is the newest slot as it was, or a checkpoint of the opening and of ids that it lacks
 abbrev pub KeepsASlot : Job → List Outcome → Pair → Pair → Type 0
@@ -158,14 +171,47 @@ KeepsASlot job outcomes p q =
 abbrev pub place_of : Job → Pair → ℕ × ℕ
 place_of job p = place (slot_of job (job_digest job) p.zero_slot) (slot_of job (job_digest job) p.one_slot)
 
--- the slot beside that place is as it was
-abbrev pub KeepsBeside : Job → Pair → Pair → Type 0
-KeepsBeside job p q = other_stored q (place_of job p).0 ≡ other_stored p (place_of job p).0
+-- how many saves a run makes: one each time that as many ids were walked as was asked for, and a last one where the last id had none
+abbrev pub count_of_saves : Job → List Outcome → ℕ
+count_of_saves job outcomes = saves_of (length (run_ids job outcomes job.setting.budget)) job.setting.save_every
 
--- the slot at that place is the checkpoint of these outcomes, with the generation of the place, and is read as that
-pub record SavesAt (job : Job) (outcomes : List Outcome) (p q : Pair) : Type 0 where
-  pub bytes_are : stored q (place_of job p).0 ≡ Some (checkpoint 1 (job_digest job) (place_of job p).1 outcomes)
-  pub slot_is : slot_of job (job_digest job) (stored q (place_of job p).0) ≡ ours (place_of job p).1 outcomes
+-- the place of the last of them: after each the place moves to the other slot and the next generation of three in turn
+abbrev pub last_place : Job → List Outcome → Pair → Place
+last_place job outcomes p = moved (count_of_saves job outcomes - 1) (record { slot = (place_of job p).0; generation = (place_of job p).1 })
+
+-- so many saves were made, the last at this place: it is the checkpoint of the opening and of all that was walked, is read as that, and is the
+-- newest; where it is the only one, the other slot is as it was, and elsewhere the other slot is the save before
+pub record SavesInTurnAt (job : Job) (outcomes : List Outcome) (p q : Pair) (at : Place) (count : ℕ) : Type 0 where
+  pub last : stored q at.slot ≡ Some (checkpoint 1 (job_digest job) at.generation (full_of job outcomes))
+  pub last_is : slot_of job (job_digest job) (stored q at.slot) ≡ ours at.generation (full_of job outcomes)
+  pub newest_is : newest (slot_of job (job_digest job) q.zero_slot) (slot_of job (job_digest job) q.one_slot) ≡ Some at.slot
+  pub only : count ≡ 1 → stored q (1 - at.slot) ≡ stored p (1 - at.slot)
+  pub before_last : 1 < count → IsPartly job outcomes ((count - 1) * job.setting.save_every) ((at.generation + 2) % 3) (stored q (1 - at.slot))
+
+abbrev pub SavesInTurn : Job → List Outcome → Pair → Pair → Type 0
+SavesInTurn job outcomes p q = SavesInTurnAt job outcomes p q (last_place job outcomes p) (count_of_saves job outcomes)
+
+-- ---- what was tried
+
+-- a save that was tried: a checkpoint of the job, of the opening and of what the trajectories of ids find that the opening lacks
+pub record IsTryOf (job : Job) (outcomes : List Outcome) (t : Try) : Type 0 where
+  pub generation : ℕ
+  pub count : ℕ
+  pub saved : List Outcome
+  pub sound : IsCheckpoint t.bytes 1 (job_digest job) generation saved
+  pub holds : HoldsPart job outcomes count saved
+
+-- the saves of a run over these slots, and whether each succeeded: they are all that its keeper was asked for since; each went to the place
+-- of these slots, which moved on after each that succeeded; each holds no less than those before it, and more than those of them that succeeded;
+-- the keeper's count covers those that failed; and where the opening is right, so are they
+pub record TriesOf (job : Job) (outcomes : List Outcome) (p : Pair) (faults faults_now : ℕ) (told now : List Try) : Type 0 where
+  pub tries : List Try
+  pub appended : now ≡ told ++ tries
+  pub in_turn : AreInTurn job (job_digest job) (place_of job p).0 (place_of job p).1 tries
+  pub each : All (IsTryOf job outcomes) tries
+  pub growing : AllPairs IsLater tries
+  pub covered : min (faults + failed_of tries) (2 ^ 64 - 1) ≤ faults_now
+  pub right : IsRight job (draw job.setting.key) outcomes → All (λ t. IsRightSave job (draw job.setting.key) (job_digest job) t.bytes) tries
 
 -- what is known of both, where both are told
 abbrev pub IfBothKnown : {A : Type 0} → Option A → Option A → (A → A → Type 0) → Type 0
@@ -173,15 +219,19 @@ IfBothKnown None y P = ⊤
 IfBothKnown (Some x) None P = ⊥
 IfBothKnown (Some x) (Some y) P = P x y
 
--- the slots after a run that saves: where the save was made, the checkpoint of the opening and of all that was walked is at its place and
--- in the newest slot; and whether it was made or failed, nothing else was written
+-- what a run that saves has tried, where its keeper tells
+abbrev pub TriesTold : Job → List Outcome → Kept → Kept → Type 0
+TriesTold job outcomes before after = IfKnown before.slots (λ p. IfBothKnown before.tried after.tried (TriesOf job outcomes p before.save_faults after.save_faults))
+
+-- the slots after a run that saves, and what it has tried: where each save was made, they were made in turn, and the checkpoint of the opening
+-- and of all that was walked is in the newest slot
 pub record SavesAll (made : Type 0) (job : Job) (before after : World) : Type 0 where
   pub outcomes : List Outcome
   pub opened : IsOpening job before.keeper.slots outcomes
   pub kept : IfBothKnown before.keeper.slots after.keeper.slots (KeepsASlot job outcomes)
-  pub beside : IfBothKnown before.keeper.slots after.keeper.slots (KeepsBeside job)
-  pub placed : made → IfBothKnown before.keeper.slots after.keeper.slots (SavesAt job (full_of job outcomes))
+  pub in_turn : made → IfBothKnown before.keeper.slots after.keeper.slots (SavesInTurn job outcomes)
   pub newest_is : made → IfBothKnown before.keeper.slots after.keeper.slots (λ p q. IsNewest job (full_of job outcomes) q)
+  pub tried : TriesTold job outcomes before.keeper after.keeper
 
 abbrev pub SavesWhere : Bool → Type 0 → Job → World → World → Type 0
 SavesWhere false made job before after = after.keeper.slots ≡ before.keeper.slots
@@ -273,7 +323,7 @@ pub record IsSaveFault (words : List (List ℕ)) (before after : World) : Type 0
   pub outcomes : List Outcome
   pub opened : IsOpening job before.keeper.slots outcomes
   pub kept : IfBothKnown before.keeper.slots after.keeper.slots (KeepsASlot job outcomes)
-  pub beside : IfBothKnown before.keeper.slots after.keeper.slots (KeepsBeside job)
+  pub tried : TriesTold job outcomes before.keeper after.keeper
   pub rose : Rose before.keeper.save_faults after.keeper.save_faults
 
 -- why a call ended
@@ -332,12 +382,13 @@ marks_of (Some (damaged first second)) = no_marks
 marks_of (Some (other_job found wanted)) = no_marks
 marks_of (Some save_fault) = record no_marks { wrote = true; saved = true; save_failed = true }
 
--- the source is touched only where it is read, the slots only where the run saves, `out` only where a text was to be written;
+-- the source is touched only where it is read, the slots only where the run saves, and only then is a save tried, `out` only where a text was to be written;
 -- and no failed call is passed over: each count is as before, but that of the call whose fault is told, or of a save before a write fault
 pub record LeavesUntouched (words : List (List ℕ)) (before after : World) (marks : Marks) : Type 0 where
   pub source : SameUnless (passes (λ s. is_reading s.command) (setting_of words)) before.source after.source
   pub out : SameUnless marks.wrote before.out.bytes after.out.bytes
   pub slots : SameUnless (marks.saved && passes saves (setting_of words)) before.keeper.slots after.keeper.slots
+  pub tried : SameUnless (marks.saved && passes saves (setting_of words)) before.keeper.tried after.keeper.tried
   pub read_faults : SameUnless marks.read_failed before.source.faults after.source.faults
   pub write_faults : SameUnless marks.write_failed before.out.faults after.out.faults
   pub load_faults : SameUnless marks.load_failed before.keeper.load_faults after.keeper.load_faults

@@ -1,9 +1,9 @@
 pub mod Accepted
 pub mod Causes
 pub mod Chain
-pub mod Crews
 pub mod Ended
 pub mod Ends
+pub mod Guards
 pub mod Headline
 pub mod Left
 pub mod Rerun
@@ -11,5 +11,4 @@ pub mod Running
 pub mod Said
 pub mod Steps
 pub mod Visits
-pub mod Walks
 pub mod World

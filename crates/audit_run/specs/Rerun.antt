@@ -3,17 +3,18 @@ use Rattle.std.specs.Prelude.{◌≡◌, ℕ, Bool, List, [], ◌∷◌, ⊤, Op
 use Rattle.std.specs.Io.KnownBytes.{Appends}
 use Rattle.audit_io.specs.Faults.{Rose}
 use Rattle.audit_io.specs.Slots.{Pair}
+use Rattle.audit_io.specs.Tries.{Try}
 use Rattle.audit_model.specs.declared.outcome.Outcome.{Outcome}
 use Rattle.audit_model.specs.Job.{Job}
 use Rattle.audit_model.specs.Run.{fits}
 use Rattle.audit_model.specs.Trajectory.{Draws, outcome, sequence}
 use Rattle.checkpoint_definitions.specs.Checkpoint.{job_digest}
-use Rattle.checkpoint_definitions.specs.Slots.{IsAfterStop}
+use Rattle.ckpt_store.specs.Histories.{AreCarriedOut, IsNotIntact, KeepsNewest, stopped_in}
+use Rattle.ckpt_store.specs.Laws.{IsNotOurs}
 use Rattle.draw_definitions.specs.Draw.{draw}
 use Rattle.text_definitions.specs.Report.{report, thread_report}
 use Rattle.audit_run.specs.Causes.{IsTheJob}
-use Rattle.audit_run.specs.Chain.{AreHonestOf, IsUntorn, StaysHonest}
-use Rattle.audit_run.specs.Ends.{place_of}
+use Rattle.audit_run.specs.Chain.{AreHonestOf, StaysHonest, TriedRightly, TriesOver}
 use Rattle.audit_run.specs.Headline.{StartsWith}
 use Rattle.audit_run.specs.World.{World}
 
@@ -35,9 +36,17 @@ pub record AreAlike (job other : Job) : Type 0 where
 abbrev pub RerunsAreAlike : Type 0
 RerunsAreAlike = (job : Job) (workers budget save_every : ℕ) (resume : Bool) → AreAlike job (rerun job workers budget save_every resume)
 
+-- ---- a stop
+
+-- A stop keeps the newest slot of before, or leaves a newer one: the last save that succeeded, or a later one that failed and had left all its
+-- bytes. What failed or was cut off is asked to be no intact checkpoint.
+abbrev pub StopsKeepTheNewest : Type 0
+StopsKeepTheNewest = (job : Job) (before after : World) (p : Pair) (told now : List Try) (t : TriesOver job before after p told now) (n : ℕ) (q : Pair)
+    → AreCarriedOut IsNotIntact job (job_digest job) p (stopped_in n t.tries) q → KeepsNewest job (job_digest job) p (stopped_in n t.tries) q
+
 -- ---- chains
 
--- a run that ended: its words, its outside before and after, its status, how the job was run, with what it started, and the slots that it left
+-- a run as it ended, or would have ended: its words, its outside before and after, its status, how the job was run, with what it started, and the slots that it left
 pub record Link : Type 0 where
   pub words : List (List ℕ)
   pub before : World
@@ -54,32 +63,43 @@ pub record Link : Type 0 where
 abbrev pub job_in : Job → Link → Job
 job_in job l = rerun job l.workers l.budget l.save_every l.resume
 
--- it is a run of the job over these slots, of which all holds that the top call promises; where a save failed, the slot that it wrote to
--- holds by no chance another checkpoint of the job
-pub record IsLink (job : Job) (p : Pair) (l : Link) : Type 0 where
-  pub promised : StaysHonest l.words l.before l.after l.status
+-- a run of the job over these slots, of which its keeper told what was tried before and after it, and all holds that the top call promises
+pub record IsRunOver (job : Job) (p : Pair) (l : Link) : Type 0 where
+  pub tried : TriedRightly l.words l.before l.after
   pub the_job : IsTheJob l.words l.before (job_in job l)
   pub found : l.before.keeper.slots ≡ Some p
+  pub told : List Try
+  pub told_is : l.before.keeper.tried ≡ Some told
+  pub now : List Try
+  pub now_is : l.after.keeper.tried ≡ Some now
+
+-- the run ended; where a save failed, each save left its bytes whole where it succeeded, and where it failed, what was there, its first bytes or all
+-- of them, or no checkpoint of the job: this is asked of the keeper alone
+pub record IsLink (job : Job) (p : Pair) (l : Link) : Type 0 where
+  pub over : IsRunOver job p l
+  pub promised : StaysHonest l.words l.before l.after l.status
   pub left : l.after.keeper.slots ≡ Some l.slots
   pub started : l.status ≡ 0 → StartsWith l.words l.before (job_in job l) l.opening
-  pub untorn : Rose l.before.keeper.save_faults l.after.keeper.save_faults → IsUntorn (job_in job l) p l.slots (place_of (job_in job l) p).0
+  pub carried : Rose l.before.keeper.save_faults l.after.keeper.save_faults → (t : TriesOver (job_in job l) l.before l.after p over.told over.now)
+      → AreCarriedOut IsNotOurs (job_in job l) (job_digest (job_in job l)) p t.tries l.slots
 
--- a run was stopped within a save to the slot with this number, and left these slots
-pub record IsStop (job : Job) (p q : Pair) (number : ℕ) : Type 0 where
-  pub stopped : IsAfterStop number p.zero_slot p.one_slot q.zero_slot q.one_slot
-  pub untorn : IsUntorn job p q number
+-- the run was stopped, when so many of its saves had ended, within the next one or before it, and left these slots
+pub record IsStop (job : Job) (p : Pair) (l : Link) (n : ℕ) (q : Pair) : Type 0 where
+  pub over : IsRunOver job p l
+  pub carried : (t : TriesOver (job_in job l) l.before l.after p over.told over.now)
+      → AreCarriedOut IsNotOurs (job_in job l) (job_digest (job_in job l)) p (stopped_in n t.tries) q
 
 pub data Event : Type 0 where
   ran : Link → Event
-  cut_off : ℕ → Pair → Event
+  stopped : Link → ℕ → Pair → Event
 
 abbrev pub slots_after : Event → Pair
 slots_after (ran l) = l.slots
-slots_after (cut_off number q) = q
+slots_after (stopped l n q) = q
 
 abbrev pub IsEvent : Job → Pair → Event → Type 0
 IsEvent job p (ran l) = IsLink job p l
-IsEvent job p (cut_off number q) = IsStop job p q number
+IsEvent job p (stopped l n q) = IsStop job p l n q
 
 -- runs of the job, one after the other, each over the slots that the one before left
 abbrev pub IsChain : Job → Pair → List Event → Type 0
@@ -89,7 +109,7 @@ IsChain job p (e ∷ events) = IsEvent job p e × IsChain job (slots_after e) ev
 -- a run that ended with status 0 has written the report that one thread gives by walking each trajectory once
 abbrev pub WroteOneThreads : Job → Event → Type 0
 WroteOneThreads job (ran l) = l.status ≡ 0 → Appends l.before.out.bytes l.after.out.bytes (thread_report job (draw job.setting.key))
-WroteOneThreads job (cut_off number q) = ⊤
+WroteOneThreads job (stopped l n q) = ⊤
 
 abbrev pub AllWroteOneThreads : Job → List Event → Type 0
 AllWroteOneThreads job [] = ⊤

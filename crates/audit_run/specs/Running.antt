@@ -6,6 +6,7 @@ use Rattle.audit_io.specs.Faults.{HasCause}
 use Rattle.audit_io.specs.Slots.{Pair}
 use Rattle.audit_model.specs.declared.outcome.Outcome.{Outcome}
 use Rattle.audit_model.specs.declared.setting.Setting.{Setting}
+use Rattle.audit_model.specs.declared.rules.Rules.{Rules}
 use Rattle.audit_model.specs.Job.{Job}
 use Rattle.audit_model.specs.JobOf.{IsJob}
 use Rattle.audit_model.specs.Run.{is_bare, total, run_ids}
@@ -16,6 +17,7 @@ use Rattle.ckpt_store.specs.declared.slots.StoreFault.{StoreFault}
 use Rattle.ckpt_store.specs.declared.slots.StoreFault.TheVariants as fault
 use Rattle.ckpt_store.specs.Fitting.{AreFit}
 use Rattle.ckpt_store.specs.View.{newest_seen, slot_view}
+use Rattle.desk_crew.specs.Crews.{IsCrew as IsDeskCrew}
 use Rattle.report.specs.Outcomes.{AreOutcomesOf}
 use Rattle.text_definitions.specs.Report.{report}
 use Rattle.audit_run.specs.declared.ended.Ended.{Ended}
@@ -23,16 +25,15 @@ use Rattle.audit_run.specs.declared.ended.Ended.TheVariants as ended
 use Rattle.audit_run.specs.declared.opening.Opening.{Opening}
 use Rattle.audit_run.specs.declared.opening.Target.{Target}
 use Rattle.audit_run.specs.declared.run.Ready.{Ready}
+use Rattle.audit_run.specs.declared.run.Saving.{Saving}
 use Rattle.audit_run.specs.declared.run.Walked.{Walked}
-use Rattle.audit_run.specs.Crews.{IsCrew}
-use Rattle.audit_run.specs.Ends.{IfBothKnown, IsNewest, IsOpening, KeepsASlot, KeepsBeside, SavesAt, full_of, is_walking, place_of, saves}
+use Rattle.audit_run.specs.Ends.{IfBothKnown, IsNewest, IsOpening, KeepsASlot, SavesInTurn, TriesTold, full_of, is_walking, place_of, saves}
 use Rattle.audit_run.specs.Steps.{Finishes}
-use Rattle.audit_run.specs.Walks.{IsTodo}
+use Rattle.claim_crew.specs.Walks.{IsTodo}
 use Rattle.audit_run.specs.World.{Stream, Kept, IfKnown}
 
 -- what no words ask for yet has its default
 pub record HasDefaults (s : Setting) : Type 0 where
-  pub cut_limit : s.max_cut ≡ 400000
   pub no_bins : s.shift ≡ false
   pub no_stop : s.stop ≡ 0
   pub no_serial : s.serial ≡ false
@@ -102,23 +103,20 @@ Opens job before after (Err why) = (out : Stream) → Finishes job out out befor
 abbrev pub HasReportRoom : Job → ℕ → Type 0
 HasReportRoom job spare = (outcomes : List Outcome) → AreOutcomesOf job outcomes → length (report job outcomes [] None) ≤ spare
 
--- the list has room for a checkpoint of the job, where one is to be written
-abbrev pub HasSaveRoom : Bool → Job → ℕ → Type 0
-HasSaveRoom false job room = ⊤
-HasSaveRoom true job room = 84 + 44 * total job ≤ room
-
--- a book of the opening's outcomes, the ids that are walked, workers for them, and room for all outcomes, for the report on them and for
--- their checkpoint
+-- a book of the opening's outcomes, the ids that are walked, and room for all outcomes and for the report on them
 pub record IsReadyFor (job : Job) (outcomes : List Outcome) (ready : Ready) : Type 0 where
   pub total_is : ready.book.total ≡ total job
   pub kept : ready.book.outcomes ≡ outcomes
   pub ids : ready.todo ≡ run_ids job outcomes job.setting.budget
   pub todo : IsTodo job outcomes ready.todo
-  pub crew : IsCrew job (length ready.todo) ready.crew
   pub room : ready.book.total ≤ length ready.sorted.items + ready.sorted.spare
   pub blank : ready.text.items ≡ []
   pub report_room : HasReportRoom job ready.text.spare
-  pub save_room : HasSaveRoom (saves job.setting) job (length ready.room.items + ready.room.spare)
+
+-- workers over a desk, and room for a checkpoint of all outcomes
+pub record IsSavingFor {J : Type 0} (keeps : J → Type 0) (stands : J → List ℕ → Type 0) (takes : J → ℕ → ℕ → Bool) (by : J → Rules) (job : Job) (s : Saving J) : Type 0 where
+  pub crew : IsDeskCrew job keeps stands takes by job.setting.workers s.crew
+  pub room : 84 + 44 * total job ≤ length s.room.items + s.room.spare
 
 -- ---- what it leaves
 
@@ -142,23 +140,22 @@ pub record AreAll (job : Job) (opening outcomes : List Outcome) : Type 0 where
   pub bare : All (λ o. IsTrue (is_bare o)) outcomes
   pub start : AreFit job opening
 
--- the checkpoint of all outcomes went to its place, unless the save failed; the other slot is as it was
+-- checkpoints were saved in turn, the last of all outcomes, unless a save failed
 pub record SavesLast (job : Job) (opening : List Outcome) (before after : Kept) (result : Result (Unit {0}) Failed) : Type 0 where
   pub kept : IfBothKnown before.slots after.slots (KeepsASlot job opening)
-  pub beside : IfBothKnown before.slots after.slots (KeepsBeside job)
-  pub placed : OnOk result (IfBothKnown before.slots after.slots (SavesAt job (full_of job opening)))
+  pub in_turn : OnOk result (IfBothKnown before.slots after.slots (SavesInTurn job opening))
   pub newest_is : OnOk result (IfBothKnown before.slots after.slots (λ p q. IsNewest job (full_of job opening) q))
   pub cause : HasCause before.save_faults after.save_faults result
   pub loads : after.load_faults ≡ before.load_faults
+  pub tried : TriesTold job opening before after
 
--- nothing was to be saved, or the last save was made
+-- nothing was to be saved, or all was saved that was due
 abbrev pub SavedBy : Bool → Job → List Outcome → Kept → Kept → Result (Unit {0}) Failed → Type 0
 SavedBy false job opening before after result = (after ≡ before) × (result ≡ Ok tt)
 SavedBy true job opening before after result = SavesLast job opening before after result
 
--- all outcomes of a run that started with the opening's, and room for the report on them and for their checkpoint
+-- all outcomes of a run that started with the opening's, and room for the report on them
 pub record HasWalked (job : Job) (opening : List Outcome) (w : Walked) : Type 0 where
   pub all : AreAll job opening w.sorted.items
   pub blank : w.text.items ≡ []
   pub report_room : HasReportRoom job w.text.spare
-  pub save_room : HasSaveRoom (saves job.setting) job (length w.room.items + w.room.spare)

@@ -3,7 +3,7 @@
 ghost use Rattle.std.specs.Prelude.{◌≡◌, IsTrue};
 ghost use Rattle.audit_model.specs.declared.setting.Command.TheVariants.{Check};
 ghost use Rattle.audit_run.specs.Causes.{HasCauses, IsComplete};
-ghost use Rattle.audit_run.specs.Chain.{StaysHonest};
+ghost use Rattle.audit_run.specs.Chain.{StaysHonest, TriedRightly};
 ghost use Rattle.audit_run.specs.Ends.{EndsFor, is_walking};
 ghost use Rattle.audit_run.specs.Headline.{WritesWhole};
 ghost use Rattle.audit_run.specs.Left.{LeavesAlone};
@@ -12,7 +12,6 @@ ghost use Rattle.audit_run.specs.Running.{IsRun};
 ghost use Rattle.audit_run.specs.Visits.{VisitsLegal};
 ghost use Rattle.audit_run.specs.World.{Kept, stream, kept, world};
 ghost use Rattle.audit_words.specs.Spoken.{spoken};
-ghost use Rattle.report.specs.Plain.{HasPlainRules};
 
 use crate::ended::Ended;
 use crate::note::tell;
@@ -25,9 +24,7 @@ use audit_io::sink::Sink;
 use audit_io::source::Source;
 use audit_model::buffers::Bytes;
 use audit_model::setting::Command;
-use ckpt_store::laws::{
-    a_stop_in_a_save_leaves_honest_slots, honest_slots_open_right, right_outcomes_are_honest,
-};
+use ckpt_store::laws::{honest_slots_open_right, right_outcomes_are_honest};
 use plan_core::job::Job;
 use report::check::check_text;
 use std::alloc::Global;
@@ -36,8 +33,7 @@ use std::thread::Threads;
 
 // Writes the text of a check.
 fn finish_check<K: Sink>(alloc: Global, job: &Job, out: &mut K) -> Ended
-    requires check { job.now.setting.command ≡ Check }
-    requires plain { HasPlainRules job.now }
+    requires { job.now.setting.command ≡ Check }
     ensures { (keeper : Kept) → Finishes job.now (stream K.taken K.faults out.old) (stream K.taken K.faults out.new) keeper keeper result }
 {
     let mut text = Bytes::new(alloc);
@@ -51,25 +47,23 @@ fn finish_check<K: Sink>(alloc: Global, job: &Job, out: &mut K) -> Ended
 }
 
 // Does what the command asks for, with this job.
-fn finish<R: Threads + Sync, K: Sink, C: Keeper + Send, G: Gate + Sync>(
+fn finish<R: Threads + Wait + Sync, K: Sink, C: Keeper + Send, G: Gate + Sync>(
     rt: &R,
     alloc: Global,
     job: &Job,
     out: &mut K,
-    mut keeper: C,
+    keeper: C,
     gate: &G,
 ) -> (Ended, C)
     requires run { IsTrue (is_walking job.now.setting.command) → IsRun job.now }
-    requires plain { HasPlainRules job.now }
     ensures { Finishes job.now (stream K.taken K.faults out.old) (stream K.taken K.faults out.new)
-        (kept C.slots C.load_faults C.save_faults keeper) (kept C.slots C.load_faults C.save_faults result.1) result.0 }
+        (kept C.slots C.tried C.load_faults C.save_faults keeper) (kept C.slots C.tried C.load_faults C.save_faults result.1) result.0 }
 {
     match job.setting().command {
         Command::Check => (finish_check(alloc, job, out), keeper),
-        Command::Run | Command::Make | Command::Plans => {
-            let why = finish_run(rt, alloc, job, out, &mut keeper, gate);
-            (why, keeper)
-        }
+        Command::Run | Command::Make | Command::Plans => finish_run(
+            rt, alloc, job, out, keeper, gate,
+        ),
     }
 }
 
@@ -96,29 +90,31 @@ pub fn audit<
     gate: &G,
 ) -> (u8, C)
     ensures ends { EndsFor (spoken words.now)
-        (world (stream S.left S.faults graph.old) (stream K.taken K.faults out.old) (kept C.slots C.load_faults C.save_faults keeper))
-        (world (stream S.left S.faults graph.new) (stream K.taken K.faults out.new) (kept C.slots C.load_faults C.save_faults result.1))
+        (world (stream S.left S.faults graph.old) (stream K.taken K.faults out.old) (kept C.slots C.tried C.load_faults C.save_faults keeper))
+        (world (stream S.left S.faults graph.new) (stream K.taken K.faults out.new) (kept C.slots C.tried C.load_faults C.save_faults result.1))
         (stream N.taken N.faults note.old) (stream N.taken N.faults note.new) result.0 }
     ensures written { WritesWhole (spoken words.now)
-        (world (stream S.left S.faults graph.old) (stream K.taken K.faults out.old) (kept C.slots C.load_faults C.save_faults keeper))
-        (world (stream S.left S.faults graph.new) (stream K.taken K.faults out.new) (kept C.slots C.load_faults C.save_faults result.1)) result.0 }
+        (world (stream S.left S.faults graph.old) (stream K.taken K.faults out.old) (kept C.slots C.tried C.load_faults C.save_faults keeper))
+        (world (stream S.left S.faults graph.new) (stream K.taken K.faults out.new) (kept C.slots C.tried C.load_faults C.save_faults result.1)) result.0 }
     ensures causes { HasCauses (spoken words.now)
-        (world (stream S.left S.faults graph.old) (stream K.taken K.faults out.old) (kept C.slots C.load_faults C.save_faults keeper))
-        (world (stream S.left S.faults graph.new) (stream K.taken K.faults out.new) (kept C.slots C.load_faults C.save_faults result.1)) result.0 }
+        (world (stream S.left S.faults graph.old) (stream K.taken K.faults out.old) (kept C.slots C.tried C.load_faults C.save_faults keeper))
+        (world (stream S.left S.faults graph.new) (stream K.taken K.faults out.new) (kept C.slots C.tried C.load_faults C.save_faults result.1)) result.0 }
     ensures complete { IsComplete (spoken words.now)
-        (world (stream S.left S.faults graph.old) (stream K.taken K.faults out.old) (kept C.slots C.load_faults C.save_faults keeper))
-        (world (stream S.left S.faults graph.new) (stream K.taken K.faults out.new) (kept C.slots C.load_faults C.save_faults result.1)) result.0 }
+        (world (stream S.left S.faults graph.old) (stream K.taken K.faults out.old) (kept C.slots C.tried C.load_faults C.save_faults keeper))
+        (world (stream S.left S.faults graph.new) (stream K.taken K.faults out.new) (kept C.slots C.tried C.load_faults C.save_faults result.1)) result.0 }
     ensures left_alone { LeavesAlone (spoken words.now)
-        (world (stream S.left S.faults graph.old) (stream K.taken K.faults out.old) (kept C.slots C.load_faults C.save_faults keeper))
-        (world (stream S.left S.faults graph.new) (stream K.taken K.faults out.new) (kept C.slots C.load_faults C.save_faults result.1)) result.0 }
+        (world (stream S.left S.faults graph.old) (stream K.taken K.faults out.old) (kept C.slots C.tried C.load_faults C.save_faults keeper))
+        (world (stream S.left S.faults graph.new) (stream K.taken K.faults out.new) (kept C.slots C.tried C.load_faults C.save_faults result.1)) result.0 }
     ensures chain { StaysHonest (spoken words.now)
-        (world (stream S.left S.faults graph.old) (stream K.taken K.faults out.old) (kept C.slots C.load_faults C.save_faults keeper))
-        (world (stream S.left S.faults graph.new) (stream K.taken K.faults out.new) (kept C.slots C.load_faults C.save_faults result.1)) result.0 }
+        (world (stream S.left S.faults graph.old) (stream K.taken K.faults out.old) (kept C.slots C.tried C.load_faults C.save_faults keeper))
+        (world (stream S.left S.faults graph.new) (stream K.taken K.faults out.new) (kept C.slots C.tried C.load_faults C.save_faults result.1)) result.0 }
+    ensures tried { TriedRightly (spoken words.now)
+        (world (stream S.left S.faults graph.old) (stream K.taken K.faults out.old) (kept C.slots C.tried C.load_faults C.save_faults keeper))
+        (world (stream S.left S.faults graph.new) (stream K.taken K.faults out.new) (kept C.slots C.tried C.load_faults C.save_faults result.1)) }
     ensures legal { VisitsLegal (spoken words.now) (S.left graph.old) }
 {
     honest_slots_open_right();
     right_outcomes_are_honest();
-    a_stop_in_a_save_leaves_honest_slots();
     match prepare(alloc, words, graph) {
         Ok(job) => {
             let (why, keeper) = finish(rt, alloc, &job, out, keeper, gate);

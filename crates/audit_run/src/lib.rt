@@ -2,8 +2,8 @@
 #![tactic(auto)]
 
 pub mod audit;
-pub mod crew;
 pub mod ended;
+mod judges;
 pub mod laws;
 pub mod note;
 pub mod opening;
@@ -11,6 +11,4 @@ pub mod prepare;
 pub mod reading;
 pub mod run;
 pub mod todo;
-pub mod walking;
-mod worker;
 pub mod writing;

@@ -116,7 +116,7 @@ fn open_found(alloc: Global, job: &Job, slots: Slots, digest: [u8; 32]) -> Resul
 fn look_and_open<C: Keeper>(alloc: Global, job: &Job, keeper: &mut C) -> Result<Opening, Ended>
     requires run { IsRun job.now }
     requires loading { IsTrue (loads job.now.setting) }
-    ensures { Opens job.now (kept C.slots C.load_faults C.save_faults keeper.old) (kept C.slots C.load_faults C.save_faults keeper.new) result }
+    ensures { Opens job.now (kept C.slots C.tried C.load_faults C.save_faults keeper.old) (kept C.slots C.tried C.load_faults C.save_faults keeper.new) result }
 {
     let digest = job_digest(job);
     let mut room = Bytes::new(alloc);
@@ -131,7 +131,7 @@ fn look_and_open<C: Keeper>(alloc: Global, job: &Job, keeper: &mut C) -> Result<
 /// saves or resumes, and none is changed.
 pub fn open<C: Keeper>(alloc: Global, job: &Job, keeper: &mut C) -> Result<Opening, Ended>
     requires { IsRun job.now }
-    ensures { Opens job.now (kept C.slots C.load_faults C.save_faults keeper.old) (kept C.slots C.load_faults C.save_faults keeper.new) result }
+    ensures { Opens job.now (kept C.slots C.tried C.load_faults C.save_faults keeper.old) (kept C.slots C.tried C.load_faults C.save_faults keeper.new) result }
 {
     let setting = job.setting();
     if setting.resume || setting.save_every != 0 {

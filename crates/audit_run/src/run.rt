@@ -1,10 +1,9 @@
 //! A run: all its memory is taken, then it walks, saves and writes the report.
 
-use crate::crew::{Crew, recruit};
 use crate::ended::Ended;
+use crate::judges::guards;
 use crate::opening::{Opening, Target, open};
 use crate::todo::todo_of;
-use crate::walking::walk_run;
 use crate::writing::write_all;
 use audit_io::gate::Gate;
 use audit_io::keeper::Keeper;
@@ -13,54 +12,52 @@ use audit_io::source::Failed;
 use audit_model::buffers::{Bytes, OutcomeList};
 use audit_model::lists::UnitList;
 use audit_model::memory::Memory;
-use audit_model::outcome::Outcome;
-use ckpt_store::laws::saved_slots_are_newest;
-use ckpt_store::save::save;
+use audit_model::outcome::{Outcome, SumsView};
+use ckpt_store::laws::checkpoints_are_ours;
+use claim_crew::crew::{Crew, recruit};
+use claim_crew::walking::walk_run;
+use desk_crew::crew::Crew as DeskCrew;
+use desk_crew::laws::{run_tries_are_right, saves_hold_parts};
+use desk_crew::ran::{Ran, run_over};
+use flip_guard::judge::Judge;
 use outcome_book::book::Book;
+use outcome_book::laws::outcomes_by_id_are_mapped;
 use plan_core::job::Job;
 use std::alloc::Global;
+use std::sync::Wait;
 use std::thread::Threads;
+use tally_desk::handing::{DeskPlan, Refused};
 
-/// All memory of a run: a book of the outcomes with which it starts, the ids to walk, the workers, and room for the outcomes by rising id,
-/// for the report on them and for their checkpoint.
+/// What each run holds before it walks: a book of the outcomes with which it starts, the ids to walk, and room for the outcomes by rising id
+/// and for the report on them.
 #[derive(Drop)]
 pub struct Ready {
     pub(crate) book: Book,
     pub(crate) todo: UnitList,
-    pub(crate) crew: Crew,
     pub(crate) sorted: OutcomeList,
     pub(crate) text: Bytes,
-    pub(crate) room: Bytes,
 }
 
-/// All outcomes of a run by rising id, and room for the report on them and for their checkpoint.
+/// All outcomes of a run by rising id, and room for the report on them.
 #[derive(Drop)]
 pub struct Walked {
     pub(crate) sorted: OutcomeList,
     pub(crate) text: Bytes,
-    pub(crate) room: Bytes,
 }
 
-ghost use Rattle.std.specs.Prelude.{◌≡◌, ◌+◌, ◌≤◌, All, IfOk, IsTrue, List, [], length};
+ghost use Rattle.std.specs.Prelude.{◌≡◌, ◌<◌, ◌≤◌, ◌^◌, nat_le, All, Bool, IfOk, IsTrue, List, [], length, true, false, vec_len};
+ghost use Rattle.std.specs.Fn.{FnReturnsAt};
+ghost use Rattle.audit_model.specs.declared.outcome.SumsView.{SumsView as Sums};
+ghost use Rattle.walker.specs.Judges.{AreJudges};
 ghost use Rattle.audit_model.specs.declared.outcome.Outcome as model;
 ghost use Rattle.audit_model.specs.Run.{is_bare, total};
 ghost use Rattle.ckpt_store.specs.Fitting.{AreFit};
 ghost use Rattle.report.specs.Outcomes.{AreOutcomesOf};
-ghost use Rattle.audit_run.specs.Ends.{IsOpening, full_of, saves};
-ghost use Rattle.audit_run.specs.Running.{AreAll, HasReportRoom, HasSaveRoom, HasWalked, IsOpened, IsReadyFor, IsRun, IsTarget, SavedBy, ended_by, stopped_by};
+ghost use Rattle.claim_crew.specs.Crews.{IsCrew};
+ghost use Rattle.audit_run.specs.Ends.{IsOpening, saves};
+ghost use Rattle.audit_run.specs.Running.{AreAll, HasReportRoom, HasWalked, IsOpened, IsPlaced, IsReadyFor, IsRun, IsSavingFor, SavedBy, ended_by, stopped_by};
 ghost use Rattle.audit_run.specs.Steps.{Finishes};
 ghost use Rattle.audit_run.specs.World.{Kept, stream, kept};
-
-// Room for a checkpoint of all outcomes, where the run saves.
-fn room_to_save(alloc: Global, job: &Job) -> Result<Bytes, Memory>
-    requires { IsRun job.now }
-    ensures { IfOk result (λ b. HasSaveRoom (saves job.now.setting) job.now (length b.items + b.spare)) }
-{
-    if job.setting().save_every == 0 {
-        return Ok(Bytes::new(alloc));
-    }
-    Bytes::with_room(alloc, 84 + 44 * job.total() as usize)
-}
 
 // The book of a run that starts with these outcomes.
 fn book_of(alloc: Global, job: &Job, outcomes: &[Outcome]) -> Result<Book, Memory>
@@ -74,54 +71,23 @@ fn book_of(alloc: Global, job: &Job, outcomes: &[Outcome]) -> Result<Book, Memor
     Ok(book)
 }
 
-// Takes all memory of a run that starts with these outcomes.
+// What a run holds that starts with these outcomes.
 fn make_ready(alloc: Global, job: &Job, outcomes: &[Outcome]) -> Result<Ready, Memory>
     requires run { IsRun job.now }
     requires fit { AreFit job.now outcomes.now }
     ensures { IfOk result (IsReadyFor job.now outcomes.now) }
 {
-    let setting = job.setting();
     let book = book_of(alloc, job, outcomes)?;
-    let todo = todo_of(alloc, job, &book, setting.budget)?;
-    let crew = recruit(alloc, job, todo.len() as u32, setting.workers)?;
+    let todo = todo_of(alloc, job, &book, job.setting().budget)?;
     let sorted = OutcomeList::with_room(alloc, job.total() as usize)?;
     let mut text = Bytes::new(alloc);
     report::reserve(alloc, job, &mut text)?;
-    let room = room_to_save(alloc, job)?;
     Ok(Ready {
         book,
         todo,
-        crew,
         sorted,
         text,
-        room,
     })
-}
-
-// Saves the outcomes, where the run saves. It takes no memory but the keeper's.
-fn save_last<C: Keeper>(
-    keeper: &mut C,
-    job: &Job,
-    target: Option<Target>,
-    outcomes: &[Outcome],
-    room: &mut Bytes,
-) -> Result<(), Failed>
-    requires target { IsTarget (saves job.now.setting) job.now (C.slots keeper.old) target }
-    requires fit { AreFit job.now outcomes.now }
-    requires few { length outcomes.now ≤ total job.now }
-    requires bare { All (λ o. IsTrue (is_bare o)) outcomes.now }
-    requires room { HasSaveRoom (saves job.now.setting) job.now (length room.old.items + room.old.spare) }
-    ensures { (opening : List model.Outcome) → outcomes.now ≡ full_of job.now opening
-        → SavedBy (saves job.now.setting) job.now opening (kept C.slots C.load_faults C.save_faults keeper.old) (kept C.slots C.load_faults C.save_faults keeper.new) result }
-{
-    match target {
-        None => Ok(()),
-        Some(target) => {
-            let mut place = target.place;
-            saved_slots_are_newest();
-            save(keeper, &mut place, &target.digest, outcomes, room)
-        }
-    }
 }
 
 // How a run ends that leaves work.
@@ -167,76 +133,287 @@ fn end_run<K: Sink>(
     if done < total {
         return stop(done, total, saved);
     }
-    report::text(job, sorted, &mut text);
+    report::text(job, sorted, &[], None, &mut text);
     let written = write_all(out, text.as_slice());
     end(written, saved)
 }
 
 // Walks what is to be walked. It takes no memory.
-fn walk<R: Threads + Sync, G: Gate + Sync>(rt: &R, job: &Job, ready: Ready, gate: &G) -> Walked
+fn walk<R: Threads + Sync, J: Judge + Send, G: Gate + Sync>(
+    rt: &R,
+    job: &Job,
+    ready: Ready,
+    crew: Crew<J>,
+    gate: &G,
+) -> Walked
     requires run { IsRun job.now }
     requires fit { AreFit job.now ready.book.outcomes }
     requires bare { All (λ o. IsTrue (is_bare o)) ready.book.outcomes }
     requires ready { IsReadyFor job.now ready.book.outcomes ready }
+    requires crew { IsCrew J.keeps J.stands J.takes J.rules job.now (length ready.todo) crew }
     ensures { HasWalked job.now ready.book.outcomes result }
 {
     let Ready {
         mut book,
         todo,
-        crew,
         mut sorted,
         text,
-        room,
     } = ready;
     walk_run(rt, job, todo.as_slice(), gate, crew, &mut book, &mut sorted);
-    Walked { sorted, text, room }
+    Walked { sorted, text }
 }
 
-// Walks what is to be walked, saves, and writes the report where nothing is left. It takes no memory but the keeper's.
-fn walk_and_end<R: Threads + Sync, K: Sink, C: Keeper, G: Gate + Sync>(
+// Walks what is to be walked, and writes the report where nothing is left. It takes no memory.
+fn walk_and_end<R: Threads + Sync, K: Sink, J: Judge + Send, G: Gate + Sync>(
     rt: &R,
     job: &Job,
-    opening: &Opening,
+    opening: &[Outcome],
     ready: Ready,
+    crew: Crew<J>,
     out: &mut K,
-    keeper: &mut C,
     gate: &G,
 ) -> Ended
     requires run { IsRun job.now }
-    requires opened { IsOpened job.now (C.slots keeper.old) opening.now }
-    requires ready { IsReadyFor job.now opening.now.outcomes.items ready }
-    ensures { Finishes job.now (stream K.taken K.faults out.old) (stream K.taken K.faults out.new)
-        (kept C.slots C.load_faults C.save_faults keeper.old) (kept C.slots C.load_faults C.save_faults keeper.new) result }
+    requires unsaved { saves job.now.setting ≡ false }
+    requires fit { AreFit job.now opening.now }
+    requires bare { All (λ o. IsTrue (is_bare o)) opening.now }
+    requires ready { IsReadyFor job.now opening.now ready }
+    requires crew { IsCrew J.keeps J.stands J.takes J.rules job.now (length ready.todo) crew }
+    ensures { (k : Kept) → IsOpening job.now k.slots opening.now → Finishes job.now (stream K.taken K.faults out.old) (stream K.taken K.faults out.new) k k result }
 {
-    let Walked {
-        sorted,
-        text,
-        mut room,
-    } = walk(rt, job, ready, gate);
-    let saved = save_last(keeper, job, opening.target, sorted.as_slice(), &mut room);
-    end_run(job, sorted.as_slice(), text, saved, out)
+    let Walked { sorted, text } = walk(rt, job, ready, crew, gate);
+    end_run(job, sorted.as_slice(), text, Ok(()), out)
 }
 
-/// Looks with what the run starts, takes all its memory, walks as many trajectories as the budget allows, saves, and writes the report where
-/// all are done.
-pub fn finish_run<R: Threads + Sync, K: Sink, C: Keeper, G: Gate + Sync>(
+// Takes the rest of the memory of a run that saves nothing, walks as many trajectories as the budget allows, and writes the report.
+fn finish_unsaved<R: Threads + Sync, K: Sink, J: Judge + Send, G: Gate + Sync>(
+    rt: &R,
+    alloc: Global,
+    job: &Job,
+    opening: &[Outcome],
+    judges: Vec<J>,
+    out: &mut K,
+    gate: &G,
+) -> Ended
+    requires run { IsRun job.now }
+    requires judges { AreJudges job.now J.keeps J.takes J.rules judges.items }
+    requires workers { vec_len judges ≡ job.now.setting.workers }
+    requires unsaved { saves job.now.setting ≡ false }
+    requires fit { AreFit job.now opening.now }
+    requires bare { All (λ o. IsTrue (is_bare o)) opening.now }
+    ensures { (k : Kept) → IsOpening job.now k.slots opening.now → Finishes job.now (stream K.taken K.faults out.old) (stream K.taken K.faults out.new) k k result }
+{
+    let ready = match make_ready(alloc, job, opening) {
+        Ok(ready) => ready,
+        Err(_) => return Ended::NoMemory,
+    };
+    match recruit(alloc, job, ready.todo.len() as u32, judges) {
+        Ok(crew) => walk_and_end(rt, job, opening, ready, crew, out, gate),
+        Err(_) => Ended::NoMemory,
+    }
+}
+
+// All that walking and saving takes beside what each run holds: the workers, and room for a checkpoint.
+#[derive(Drop)]
+struct Saving<J> {
+    crew: DeskCrew<J>,
+    room: Bytes,
+}
+
+// Takes it.
+fn make_saving<J: Judge>(alloc: Global, job: &Job, judges: Vec<J>) -> Result<Saving<J>, Memory>
+    requires run { IsRun job.now }
+    requires judges { AreJudges job.now J.keeps J.takes J.rules judges.items }
+    requires workers { vec_len judges ≡ job.now.setting.workers }
+    ensures { IfOk result (IsSavingFor J.keeps J.stands J.takes J.rules job.now) }
+{
+    let crew = desk_crew::crew::recruit(alloc, job, judges)?;
+    let room = Bytes::with_room(alloc, 84 + 44 * job.total() as usize)?;
+    Ok(Saving { crew, room })
+}
+
+// Walks what is to be walked and saves, and writes the report where nothing is left. Where there is no memory for the desk, nothing was walked or
+// saved.
+fn save_and_end<
+    R: Threads + Wait + Sync,
+    K: Sink,
+    C: Keeper + Send,
+    J: Judge + Send,
+    G: Gate + Sync,
+>(
+    rt: &R,
+    alloc: Global,
+    job: &Job,
+    opening: &Opening,
+    target: Target,
+    ready: Ready,
+    saving: Saving<J>,
+    out: &mut K,
+    keeper: C,
+    gate: &G,
+) -> (Ended, C)
+    requires run { IsRun job.now }
+    requires saved { saves job.now.setting ≡ true }
+    requires placed { IsPlaced job.now (C.slots keeper) target }
+    requires opened { IsOpening job.now (C.slots keeper) opening.now.outcomes.items }
+    requires fit { AreFit job.now opening.now.outcomes.items }
+    requires bare { All (λ o. IsTrue (is_bare o)) opening.now.outcomes.items }
+    requires ready { IsReadyFor job.now opening.now.outcomes.items ready }
+    requires saving { IsSavingFor J.keeps J.stands J.takes J.rules job.now saving }
+    ensures { Finishes job.now (stream K.taken K.faults out.old) (stream K.taken K.faults out.new)
+        (kept C.slots C.tried C.load_faults C.save_faults keeper) (kept C.slots C.tried C.load_faults C.save_faults result.1) result.0 }
+{
+    run_tries_are_right();
+    saves_hold_parts();
+    checkpoints_are_ours();
+    outcomes_by_id_are_mapped();
+    let Ready {
+        book,
+        todo,
+        mut sorted,
+        text,
+    } = ready;
+    let Saving { crew, mut room } = saving;
+    let digest = target.digest;
+    let plan = DeskPlan {
+        digest,
+        save_every: job.setting().save_every,
+        place: target.place,
+    };
+    match run_over(
+        rt,
+        alloc,
+        job,
+        plan,
+        todo,
+        crew,
+        book,
+        keeper,
+        gate,
+        &mut sorted,
+        &mut room,
+    ) {
+        Ok(ran) => {
+            let Ran { keeper, saved } = ran;
+            let why = end_run(job, sorted.as_slice(), text, saved, out);
+            (why, keeper)
+        }
+        Err(Refused { book: _, keeper }) => (Ended::NoMemory, keeper),
+    }
+}
+
+// Takes the rest of the memory of a run that saves, walks as many trajectories as the budget allows and saves, and writes the report where all
+// are done.
+fn finish_saved<
+    R: Threads + Wait + Sync,
+    K: Sink,
+    C: Keeper + Send,
+    J: Judge + Send,
+    G: Gate + Sync,
+>(
+    rt: &R,
+    alloc: Global,
+    job: &Job,
+    opening: &Opening,
+    target: Target,
+    judges: Vec<J>,
+    out: &mut K,
+    keeper: C,
+    gate: &G,
+) -> (Ended, C)
+    requires run { IsRun job.now }
+    requires judges { AreJudges job.now J.keeps J.takes J.rules judges.items }
+    requires workers { vec_len judges ≡ job.now.setting.workers }
+    requires saved { saves job.now.setting ≡ true }
+    requires placed { IsPlaced job.now (C.slots keeper) target }
+    requires opened { IsOpening job.now (C.slots keeper) opening.now.outcomes.items }
+    requires fit { AreFit job.now opening.now.outcomes.items }
+    requires bare { All (λ o. IsTrue (is_bare o)) opening.now.outcomes.items }
+    ensures { Finishes job.now (stream K.taken K.faults out.old) (stream K.taken K.faults out.new)
+        (kept C.slots C.tried C.load_faults C.save_faults keeper) (kept C.slots C.tried C.load_faults C.save_faults result.1) result.0 }
+{
+    let ready = match make_ready(alloc, job, opening.outcomes.as_slice()) {
+        Ok(ready) => ready,
+        Err(_) => return (Ended::NoMemory, keeper),
+    };
+    match make_saving(alloc, job, judges) {
+        Ok(saving) => save_and_end(
+            rt, alloc, job, opening, target, ready, saving, out, keeper, gate,
+        ),
+        Err(_) => (Ended::NoMemory, keeper),
+    }
+}
+
+// Does the rest of a run that starts so, with a judge for each worker.
+fn finish_judged<
+    R: Threads + Wait + Sync,
+    K: Sink,
+    C: Keeper + Send,
+    J: Judge + Send,
+    G: Gate + Sync,
+>(
+    rt: &R,
+    alloc: Global,
+    job: &Job,
+    opening: Opening,
+    judges: Vec<J>,
+    out: &mut K,
+    keeper: C,
+    gate: &G,
+) -> (Ended, C)
+    requires run { IsRun job.now }
+    requires opened { IsOpened job.now (C.slots keeper) opening }
+    requires judges { AreJudges job.now J.keeps J.takes J.rules judges.items }
+    requires workers { vec_len judges ≡ job.now.setting.workers }
+    ensures { Finishes job.now (stream K.taken K.faults out.old) (stream K.taken K.faults out.new)
+        (kept C.slots C.tried C.load_faults C.save_faults keeper) (kept C.slots C.tried C.load_faults C.save_faults result.1) result.0 }
+{
+    match opening.target {
+        None => {
+            let why = finish_unsaved(
+                rt,
+                alloc,
+                job,
+                opening.outcomes.as_slice(),
+                judges,
+                out,
+                gate,
+            );
+            (why, keeper)
+        }
+        Some(target) => finish_saved(rt, alloc, job, &opening, target, judges, out, keeper, gate),
+    }
+}
+
+/// Looks with what the run starts, takes all its memory, walks as many trajectories as the budget allows, saves now and then and at the end where
+/// the setting asks for it, and writes the report where all are done.
+pub fn finish_run<R: Threads + Wait + Sync, K: Sink, C: Keeper + Send, G: Gate + Sync>(
     rt: &R,
     alloc: Global,
     job: &Job,
     out: &mut K,
-    keeper: &mut C,
+    mut keeper: C,
     gate: &G,
-) -> Ended
+) -> (Ended, C)
     requires { IsRun job.now }
     ensures { Finishes job.now (stream K.taken K.faults out.old) (stream K.taken K.faults out.new)
-        (kept C.slots C.load_faults C.save_faults keeper.old) (kept C.slots C.load_faults C.save_faults keeper.new) result }
+        (kept C.slots C.tried C.load_faults C.save_faults keeper) (kept C.slots C.tried C.load_faults C.save_faults result.1) result.0 }
 {
-    let opening = match open(alloc, job, keeper) {
+    let opening = match open(alloc, job, &mut keeper) {
         Ok(opening) => opening,
-        Err(why) => return why,
+        Err(why) => return (why, keeper),
     };
-    match make_ready(alloc, job, opening.outcomes.as_slice()) {
-        Err(_) => Ended::NoMemory,
-        Ok(ready) => walk_and_end(rt, job, &opening, ready, out, keeper, gate),
+    let max_cut = job.rules().max_cut;
+    let max_split = job.rules().max_split;
+    let workers = job.setting().workers;
+    match guards(
+        alloc,
+        move |sums: &SumsView| sums.cut <= max_cut,
+        max_cut,
+        max_split,
+        workers,
+    ) {
+        Ok(judges) => finish_judged(rt, alloc, job, opening, judges, out, keeper, gate),
+        Err(_) => (Ended::NoMemory, keeper),
     }
 }

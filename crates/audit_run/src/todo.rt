@@ -2,7 +2,7 @@
 
 ghost use Rattle.std.specs.Prelude.{◌≡◌, IfOk};
 ghost use Rattle.audit_model.specs.Run.{total, run_ids};
-ghost use Rattle.audit_run.specs.Walks.{IsTodo};
+ghost use Rattle.claim_crew.specs.Walks.{IsTodo};
 
 use audit_model::lists::UnitList;
 use audit_model::memory::Memory;

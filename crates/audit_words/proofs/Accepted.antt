@@ -7,7 +7,7 @@ use Rattle.std.specs.Result.{result_ok}
 use Rattle.hex.specs.Hex.{decode_sized}
 use Rattle.hex.proofs.HexLemmas.{decode_sized-ok, decode_sized-twice, decode_of-ok}
 use Rattle.audit_model.specs.Limits.{IsSetting, IsSettingOf, IsRunSetting}
-use Rattle.audit_model.specs.declared.fault.Name.TheVariants.{Slack, Key, Walks, Steps, Ends, HubSteps, Ask, Workers}
+use Rattle.audit_model.specs.declared.fault.Name.TheVariants.{Slack, Key, Walks, Steps, Ends, HubSteps, Ask, Workers, MaxCut}
 use Rattle.audit_model.specs.declared.setting.Ask.{Ask as AskOf}
 use Rattle.audit_model.specs.declared.setting.Command.{Command}
 use Rattle.audit_model.specs.declared.setting.Command.TheVariants.{Check, Run, Make, Plans}
@@ -87,7 +87,7 @@ IsSetting-run : (command : Command) (words : List Pair) → AreGood words → Is
 IsSetting-run command words good is = record {
   slack = (number-bounds 0 10000 (text_of Check words Slack) good.slack).1;
   key = length-key (text_of Check words Key) good.key;
-  max_cut = omega arith;
+  max_cut = (number-bounds 0 400000 (text_of Check words MaxCut) good.max_cut).1;
   some_splits = omega arith;
   few_splits = omega arith;
   command = is;
@@ -95,9 +95,9 @@ IsSetting-run command words good is = record {
 
 pub IsSetting-good : (command : Command) (words : List Pair) → AreReadable command words → IsSetting (setting_for command words)
 IsSetting-good Check words good = record {
-  slack = (number-bounds 0 10000 (text_of Check words Slack) good).1;
+  slack = (number-bounds 0 10000 (text_of Check words Slack) good.0).1;
   key = refl;
-  max_cut = omega arith;
+  max_cut = (number-bounds 0 400000 (text_of Check words MaxCut) good.1).1;
   some_splits = omega arith;
   few_splits = omega arith;
   command = record {
@@ -114,7 +114,7 @@ IsSetting-good Run words good = IsSetting-run Run words good (IsRunSetting-good 
 IsSetting-good Make words good = record {
   slack = (number-bounds 0 10000 (text_of Check words Slack) good.0.slack).1;
   key = length-key (text_of Check words Key) good.0.key;
-  max_cut = omega arith;
+  max_cut = (number-bounds 0 400000 (text_of Check words MaxCut) good.0.max_cut).1;
   some_splits = omega arith;
   few_splits = omega arith;
   command = IsRunSetting-made words (IsRunSetting-good Make words good.0);

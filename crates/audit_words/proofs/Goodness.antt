@@ -1,15 +1,15 @@
 -- What good values are, and the setting that they give.
-use Rattle.std.proofs.Common.{◌≡◌, ◌∙◌, ℕ, ◌≤◌, Bool, true, false, not, cond, List, [], ◌∷◌, length, find, ap, refl, sym, Option, Some, None, option_map}
+use Rattle.std.proofs.Common.{◌≡◌, ◌∙◌, ℕ, zero, suc, ◌<◌, ◌≤◌, get_or, drop, arith, Bool, true, false, not, cond, List, [], ◌∷◌, length, find, ap, refl, sym, Option, Some, None, option_map}
 use Rattle.std.proofs.lemmas.Bool.{and_parts, false≢true, leb-true}
 use Rattle.std.specs.Prelude.{◌&&◌, nat_le, is_some, unwrap_or, bytes_eq, codes}
 use Rattle.std.specs.List.{filter_map}
 use Rattle.audit_model.specs.declared.fault.Name.{Name}
-use Rattle.audit_model.specs.declared.fault.Name.TheVariants.{Size, Slack, Key, Walks, Steps, Ends, HubSteps, Ask, Workers, Budget, Save, Resume}
+use Rattle.audit_model.specs.declared.fault.Name.TheVariants.{Pop, Size, Slack, Key, Walks, Steps, Ends, HubSteps, Ask, Workers, Budget, Save, Resume, MaxCut}
 use Rattle.audit_model.specs.declared.fault.WordFault.TheVariants.{BadValue}
 use Rattle.audit_model.specs.declared.setting.Ask.{Ask as AskOf}
 use Rattle.audit_model.specs.declared.setting.Command.TheVariants.{Check, Run, Make, Plans}
 use Rattle.audit_model.specs.declared.setting.Command.{Command}
-use Rattle.word_definitions.specs.Words.{Pair, all_different, are_asks, ask_of, asks_of, command_of, is_good, is_number, number_of, parts_between}
+use Rattle.word_definitions.specs.Words.{Pair, all_different, are_asks, ask_of, asks_of, command_of, is_good, is_number, names_of, number_of, parts_between}
 use Rattle.audit_words.specs.Judged.{AreGood, AreReadable, fault_of_values}
 use Rattle.audit_words.proofs.Asking.{filter_map-ask_of}
 
@@ -45,37 +45,33 @@ passed : (good : Bool) (name : Name) (o : Option Name) → option_map BadValue (
 passed true name o h = (refl, h)
 passed false name o h = absurd (cc)
 
-pub find-last : (good : Name → Bool) (name : Name) (names : List Name) → option_map BadValue (find (λ n. not (good n)) (name ∷ names)) ≡ None
+find-last : (good : Name → Bool) (name : Name) (names : List Name) → option_map BadValue (find (λ n. not (good n)) (name ∷ names)) ≡ None
     → (good name ≡ true) × (option_map BadValue (find (λ n. not (good n)) names) ≡ None)
 find-last good name names h = passed (good name) name (find (λ n. not (good n)) names) h
 
+-- each of the names has a good value
+find-all : (good : Name → Bool) (names : List Name) → option_map BadValue (find (λ n. not (good n)) names) ≡ None → (k : ℕ) → k < length names → good (get_or names k Pop) ≡ true
+find-all good [] h k l = absurd (omega arith)
+find-all good (name ∷ names) h zero l = (find-last good name names h).0
+find-all good (name ∷ names) h (suc k) l = find-all good names (find-last good name names h).1 k (omega arith)
+
 AreGood-values : (words : List Pair) → option_map BadValue (find (λ name. not (is_good Check words name))
-    (Slack ∷ Key ∷ Walks ∷ Steps ∷ Ends ∷ HubSteps ∷ Ask ∷ Workers ∷ Budget ∷ Save ∷ Resume ∷ [])) ≡ None → AreGood words
+    (Slack ∷ Key ∷ Walks ∷ Steps ∷ Ends ∷ HubSteps ∷ Ask ∷ Workers ∷ Budget ∷ Save ∷ Resume ∷ MaxCut ∷ [])) ≡ None → AreGood words
 AreGood-values words h =
-    let good = is_good Check words in
-    let slack = find-last good Slack (Key ∷ Walks ∷ Steps ∷ Ends ∷ HubSteps ∷ Ask ∷ Workers ∷ Budget ∷ Save ∷ Resume ∷ []) h in
-    let key = find-last good Key (Walks ∷ Steps ∷ Ends ∷ HubSteps ∷ Ask ∷ Workers ∷ Budget ∷ Save ∷ Resume ∷ []) slack.1 in
-    let walks = find-last good Walks (Steps ∷ Ends ∷ HubSteps ∷ Ask ∷ Workers ∷ Budget ∷ Save ∷ Resume ∷ []) key.1 in
-    let steps = find-last good Steps (Ends ∷ HubSteps ∷ Ask ∷ Workers ∷ Budget ∷ Save ∷ Resume ∷ []) walks.1 in
-    let ends = find-last good Ends (HubSteps ∷ Ask ∷ Workers ∷ Budget ∷ Save ∷ Resume ∷ []) steps.1 in
-    let hub_steps = find-last good HubSteps (Ask ∷ Workers ∷ Budget ∷ Save ∷ Resume ∷ []) ends.1 in
-    let ask = find-last good Ask (Workers ∷ Budget ∷ Save ∷ Resume ∷ []) hub_steps.1 in
-    let workers = find-last good Workers (Budget ∷ Save ∷ Resume ∷ []) ask.1 in
-    let budget = find-last good Budget (Save ∷ Resume ∷ []) workers.1 in
-    let save = find-last good Save (Resume ∷ []) budget.1 in
-    let resume = find-last good Resume [] save.1 in
+    let good = find-all (is_good Check words) (Slack ∷ Key ∷ Walks ∷ Steps ∷ Ends ∷ HubSteps ∷ Ask ∷ Workers ∷ Budget ∷ Save ∷ Resume ∷ MaxCut ∷ []) h in
     record {
-      slack = slack.0;
-      key = key.0;
-      walks = walks.0;
-      steps = steps.0;
-      ends = ends.0;
-      hub_steps = hub_steps.0;
-      ask = ask.0;
-      workers = workers.0;
-      budget = budget.0;
-      save = save.0;
-      resume = resume.0;
+      slack = good 0 (omega arith);
+      key = good 1 (omega arith);
+      walks = good 2 (omega arith);
+      steps = good 3 (omega arith);
+      ends = good 4 (omega arith);
+      hub_steps = good 5 (omega arith);
+      ask = good 6 (omega arith);
+      workers = good 7 (omega arith);
+      budget = good 8 (omega arith);
+      save = good 9 (omega arith);
+      resume = good 10 (omega arith);
+      max_cut = good 11 (omega arith);
     }
 
 -- no word spells the command of several plans
@@ -90,9 +86,11 @@ not_plans word h = chosen (bytes_eq word (codes "check")) (bytes_eq word (codes 
 
 -- where no value of a command that a word spells is bad, those of its setting are good
 pub AreReadable-good : (word : List ℕ) (command : Command) (words : List Pair) → Some command ≡ command_of word → fault_of_values command words ≡ None → AreReadable command words
-AreReadable-good word Check words spells h = (find-last (is_good Check words) Slack [] h).0
+AreReadable-good word Check words spells h =
+    let good = find-all (is_good Check words) (names_of Check) h in
+    (good 4 (omega arith), good 5 (omega arith))
 AreReadable-good word Run words spells h = AreGood-values words h
 AreReadable-good word Make words spells h =
-    let size = find-last (is_good Make words) Size (Slack ∷ Key ∷ Walks ∷ Steps ∷ Ends ∷ HubSteps ∷ Ask ∷ Workers ∷ Budget ∷ Save ∷ Resume ∷ []) h in
+    let size = find-last (is_good Make words) Size (drop 1 (names_of Make)) h in
     (AreGood-values words size.1, size.0)
 AreReadable-good word Plans words spells h = absurd (not_plans word spells)

@@ -6,5 +6,6 @@ pub mod Numbers
 pub mod Order
 pub mod Pairing
 pub mod Parting
+pub mod Powers
 pub mod Reading
 pub mod Spelling

@@ -2,7 +2,7 @@
 use Rattle.std.specs.Prelude.{◌≡◌, true, not, is_none, find, List, length, Option, option_map}
 use Rattle.audit_model.specs.First.{first_some_below}
 use Rattle.audit_model.specs.declared.fault.Name.{Name}
-use Rattle.audit_model.specs.declared.fault.Name.TheVariants.{Size, Slack, Key, Walks, Steps, Ends, HubSteps, Ask, Workers, Budget, Save, Resume, Stop, Serial}
+use Rattle.audit_model.specs.declared.fault.Name.TheVariants.{Size, Slack, Key, Walks, Steps, Ends, HubSteps, Ask, Workers, Budget, Save, Resume, MaxCut, Stop, Serial}
 use Rattle.audit_model.specs.declared.fault.WordFault.{WordFault}
 use Rattle.audit_model.specs.declared.fault.WordFault.TheVariants.{MissingName, BadValue}
 use Rattle.audit_model.specs.declared.setting.Command.{Command}
@@ -42,10 +42,11 @@ pub record AreGood (words : List Pair) : Type 0 where
   pub budget : is_good Check words Budget ≡ true
   pub save : is_good Check words Save ≡ true
   pub resume : is_good Check words Resume ≡ true
+  pub max_cut : is_good Check words MaxCut ≡ true
 
 -- the values from which the setting of a command is made are good
 abbrev pub AreReadable : Command → List Pair → Type 0
-AreReadable Check words = is_good Check words Slack ≡ true
+AreReadable Check words = (is_good Check words Slack ≡ true) × (is_good Check words MaxCut ≡ true)
 AreReadable Run words = AreGood words
 AreReadable Make words = AreGood words × (is_good Make words Size ≡ true)
 AreReadable Plans words = AreGood words

@@ -1,6 +1,7 @@
 //! What the words give for each name, and whether it may be.
 
 ghost use Rattle.std.specs.Prelude.{◌≡◌, ◌+◌, ◌^◌, ◌<◌};
+ghost use Rattle.audit_model.specs.Power.{is_power_of_two};
 ghost use Rattle.audit_model.specs.declared.fault.Name.TheVariants as name;
 ghost use Rattle.audit_model.specs.declared.setting.Command.TheVariants as command;
 ghost use Rattle.audit_words.specs.Judged.{RestsOnGood};
@@ -9,7 +10,7 @@ ghost use Rattle.word_definitions.specs.Words as definition;
 
 use crate::asks::are_asks;
 use crate::pairs::text_of;
-use crate::values::{is_answer, is_number, is_one_line, is_power_of_two, key_of, number_within};
+use crate::values::{is_answer, is_number, is_one_line, key_of, number_within};
 use audit_model::fault::Name;
 use audit_model::setting::Command;
 
@@ -68,8 +69,14 @@ fn divides_draws(words: &[String]) -> bool
     requires steps { definition.number_at command.Check (pairs_in words.now) name.Steps < 2 ^ 32 }
     ensures { result ≡ definition.divides_draws command.Check (pairs_in words.now) }
 {
-    text_of(words, Name::Serial) != "yes"
-        || is_power_of_two(u64::from(number_at(words, Name::Steps)) + 1)
+    text_of(words, Name::Serial) != "yes" || has_power_of_two_plans(number_at(words, Name::Steps))
+}
+
+/// Whether a run of so many steps visits as many plans as a power of two.
+fn has_power_of_two_plans(steps: u32) -> bool
+    ensures { result ≡ is_power_of_two (steps + 1) }
+{
+    (u64::from(steps) + 1).is_power_of_two()
 }
 
 /// Whether there are regions, where they may be split less than the default says.

@@ -6,15 +6,16 @@ ghost use Rattle.word_definitions.specs.Words as definition;
 use audit_model::fault::Name;
 use audit_model::setting::Command;
 
-const OF_CHECK: [Name; 5] = [
+const OF_CHECK: [Name; 6] = [
     Name::Pop,
     Name::First,
     Name::Second,
     Name::District,
     Name::Slack,
+    Name::MaxCut,
 ];
 
-const OF_RUN: [Name; 15] = [
+const OF_RUN: [Name; 16] = [
     Name::Pop,
     Name::First,
     Name::Second,
@@ -30,9 +31,10 @@ const OF_RUN: [Name; 15] = [
     Name::Budget,
     Name::Save,
     Name::Resume,
+    Name::MaxCut,
 ];
 
-const OF_MAKE: [Name; 12] = [
+const OF_MAKE: [Name; 13] = [
     Name::Size,
     Name::Slack,
     Name::Key,
@@ -45,6 +47,7 @@ const OF_MAKE: [Name; 12] = [
     Name::Budget,
     Name::Save,
     Name::Resume,
+    Name::MaxCut,
 ];
 
 /// The value of a name that is not given, where the name may be left out.

@@ -53,7 +53,8 @@ fn columns_of_grid(alloc: Global) -> Result<Columns, Memory>
 
 /// The setting of a check.
 fn check_setting(alloc: Global, words: &[String]) -> Result<Setting, Memory>
-    requires { definition.is_good command.Check (pairs_in words.now) name.Slack ≡ true }
+    requires slack { definition.is_good command.Check (pairs_in words.now) name.Slack ≡ true }
+    requires max_cut { definition.is_good command.Check (pairs_in words.now) name.MaxCut ≡ true }
     ensures { IfOk result (λ setting. setting ≡ definition.setting_for command.Check (pairs_in words.now)) }
 {
     Ok(Setting {
@@ -71,7 +72,7 @@ fn check_setting(alloc: Global, words: &[String]) -> Result<Setting, Memory>
         save_every: 0,
         resume: false,
         size: 0,
-        max_cut: 400_000,
+        max_cut: number_at(words, Name::MaxCut),
         shift: false,
         stop: 0,
         serial: false,
@@ -106,7 +107,7 @@ fn run_setting(
         save_every: number_at(words, Name::Save),
         resume: text_of(words, Name::Resume) == "yes",
         size,
-        max_cut: 400_000,
+        max_cut: number_at(words, Name::MaxCut),
         shift: false,
         stop: 0,
         serial: false,

@@ -3,7 +3,6 @@
 ghost use Rattle.std.specs.Prelude.{◌≡◌, ◌||◌, None, cond, codes, bytes_eq};
 ghost use Rattle.std.specs.Result.{result_ok};
 ghost use Rattle.hex.specs.Hex.{decode_sized};
-ghost use Rattle.audit_model.specs.Power as power;
 ghost use Rattle.word_definitions.specs.Words as definition;
 
 use audit_model::setting::Command;
@@ -52,16 +51,4 @@ pub fn is_one_line(command: Command, text: &str) -> bool
         Command::Check | Command::Run | Command::Make => true,
         Command::Plans => !text.as_bytes().contains(&b'\n'),
     }
-}
-
-/// Whether the number is a power of two.
-pub fn is_power_of_two(number: u64) -> bool
-    ensures { result ≡ power.is_power_of_two number }
-{
-    for k in 0..64_u32 {
-        if 1_u64 << k == number {
-            return true;
-        }
-    }
-    false
 }

@@ -33,7 +33,7 @@ second_is_newest before = cond-true ((before + 1) % 3 == (before + 1) % 3) (Some
 -- ---- the place by the generations
 
 -- where the next checkpoint goes, by the generations of both slots
-abbrev place_of : Option ℕ → Option ℕ → ℕ × ℕ
+abbrev pub place_of : Option ℕ → Option ℕ → ℕ × ℕ
 place_of None None = (0, 0)
 place_of None (Some h) = (0, (h + 1) % 3)
 place_of (Some g) None = (1, (g + 1) % 3)
@@ -45,7 +45,7 @@ beside_newest : (first second : Slot) (follows : Bool)
 beside_newest first second true = refl
 beside_newest first second false = refl
 
-place_by_generations : (first second : Slot) → place first second ≡ place_of (generation_of first) (generation_of second)
+pub place_by_generations : (first second : Slot) → place first second ≡ place_of (generation_of first) (generation_of second)
 place_by_generations absent absent = refl
 place_by_generations absent (broken e) = refl
 place_by_generations absent (other d h) = refl

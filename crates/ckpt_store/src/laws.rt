@@ -1,5 +1,6 @@
 //! Laws of the slots of a keeper, each the contract of a function that does nothing.
 
+ghost use Rattle.ckpt_store.specs.Histories.{SavesKeepTheNewest, SavesLeaveHonestSlots};
 ghost use Rattle.ckpt_store.specs.Laws.{CheckpointsAreOurs, HonestSlotsOpenRight, RightIsHonest, SavedSlotsAreNewest, StopsLeaveHonestSlots, WrittenSlotsAreNewest};
 
 use model_laws::laws::{bare_outcomes_have_no_bins, honest_runs_go_on_rightly};
@@ -36,4 +37,16 @@ pub fn honest_slots_open_right()
 /// A stop in a save leaves honest slots, where its own slot is as before, or is none of the job's, or is honest.
 pub fn a_stop_in_a_save_leaves_honest_slots()
     ensures { StopsLeaveHonestSlots }
+{}
+
+/// However many of right saves were carried out, and wherever each failed or was stopped, they leave honest slots honest.
+pub fn saves_leave_honest_slots()
+    ensures { SavesLeaveHonestSlots }
+{
+    right_outcomes_are_honest();
+}
+
+/// Saves in turn keep the newest slot of before or make a newer one, wherever each failed or was stopped.
+pub fn saves_keep_the_newest()
+    ensures { SavesKeepTheNewest }
 {}

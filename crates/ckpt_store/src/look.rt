@@ -45,6 +45,7 @@ pub fn look<C: Keeper>(
     ensures slots { C.slots keeper.new ≡ C.slots keeper.old }
     ensures cause { HasLookCause (C.load_faults keeper.old) (C.load_faults keeper.new) result }
     ensures saves { C.save_faults keeper.new ≡ C.save_faults keeper.old }
+    ensures tried { C.tried keeper.new ≡ C.tried keeper.old }
 {
     let zero = look_at(alloc, keeper, 0, job, digest, room)?;
     let one = look_at(alloc, keeper, 1, job, digest, room)?;
@@ -66,6 +67,7 @@ fn look_at<C: Keeper>(
     ensures slots { C.slots keeper.new ≡ C.slots keeper.old }
     ensures cause { HasLookCause (C.load_faults keeper.old) (C.load_faults keeper.new) result }
     ensures saves { C.save_faults keeper.new ≡ C.save_faults keeper.old }
+    ensures tried { C.tried keeper.new ≡ C.tried keeper.old }
 {
     match keeper.load(slot, LIMIT, room) {
         Ok(found) => judge_loaded(alloc, job, digest, found, room.as_slice()),

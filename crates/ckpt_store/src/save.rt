@@ -1,9 +1,10 @@
 //! Saving a checkpoint.
 
-ghost use Rattle.std.specs.Prelude.{◌≡◌, ◌+◌, ◌-◌, ◌*◌, ◌%◌, ◌<◌, ◌≤◌, IsTrue, length, map, OnErr, OnOk};
+ghost use Rattle.std.specs.Prelude.{◌≡◌, ◌+◌, ◌-◌, ◌*◌, ◌%◌, ◌<◌, ◌≤◌, IsTrue, length, map, OnErr, OnOk, is_ok};
 ghost use Rattle.std.specs.List.{list_all};
 ghost use Rattle.audit_io.specs.Faults.{HasCause};
 ghost use Rattle.audit_io.specs.Slots.{HoldsBytes, IfTold, KeepsOther};
+ghost use Rattle.audit_io.specs.Tries.{tried_too};
 ghost use Rattle.audit_model.specs.Run.{is_bare};
 ghost use Rattle.checkpoint_definitions.specs.Checkpoint.{AreRising, IsCheckpoint, checkpoint};
 ghost use Rattle.ckpt_store.specs.Laws.{IsNewestForFitJobs};
@@ -42,6 +43,7 @@ pub fn save<C: Keeper>(
     ensures other { KeepsOther (C.slots keeper.old) (C.slots keeper.new) place.old.slot }
     ensures cause { HasCause (C.save_faults keeper.old) (C.save_faults keeper.new) result }
     ensures loads { C.load_faults keeper.new ≡ C.load_faults keeper.old }
+    ensures tried { C.tried keeper.new ≡ tried_too (C.tried keeper.old) place.old.slot (checkpoint 1 digest.now place.old.generation outcomes.now) (is_ok result) }
     ensures room { length room.new.items + room.new.spare ≡ length room.old.items + room.old.spare }
 {
     encode_old(digest, place.generation, outcomes, room);

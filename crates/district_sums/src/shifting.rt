@@ -1,7 +1,8 @@
 //! What changes where one unit moves.
 
-ghost use Rattle.std.specs.Prelude.{◌≡◌, ◌≢◌, ℕ, ◌+◌, ◌^◌, ◌<◌, ◌≤◌, cond, IsTrue, length, slice_index, slice_set, All};
-ghost use Rattle.audit_model.specs.Below.{map_below};
+ghost use Rattle.std.specs.Prelude.{◌≡◌, ◌≢◌, ℕ, ◌+◌, ◌^◌, ◌<◌, ◌≤◌, ◌==◌, ◌&&◌, not, cond, IsTrue, length, slice_index, slice_set, All};
+ghost use Rattle.audit_model.specs.Below.{count_below, map_below};
+ghost use Rattle.audit_model.specs.Graph.{adjacent};
 ghost use Rattle.audit_model.specs.Limits.{IsColumn};
 ghost use Rattle.audit_model.specs.Plan.{district_sum};
 ghost use Rattle.district_sums.specs.Following.{AreAdded, apart_of};
@@ -113,4 +114,21 @@ pub(crate) fn shift_apart(g: &Graph, plan: &[u32], u: u32, d: u32, apart: &mut U
     ensures { apart.new ≡ map_below g.now.units (apart_of g.now (slice_set plan.now u d)) }
 {
     recount(g, plan, u, d, apart.as_mut_slice());
+}
+
+/// How many neighbours of a unit are in other districts than this.
+#[inline]
+pub(crate) fn others_than(g: &Graph, plan: &[u32], unit: u32, district: u32) -> u32
+    requires plan { length plan.now ≡ g.now.units }
+    requires unit { unit < g.now.units }
+    ensures { result ≡ count_below g.now.units (λ v. adjacent g.now unit v && not (slice_index plan.now v == district)) }
+{
+    let _units = g.units();
+    let mut others = 0usize;
+    for other in g.neighbours(unit) {
+        if plan[*other as usize] != district {
+            others += 1;
+        }
+    }
+    others as u32
 }

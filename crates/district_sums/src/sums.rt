@@ -1,10 +1,13 @@
 //! Sums that follow a plan.
 
-ghost use Rattle.std.specs.Prelude.{◌≡◌, ◌<◌, length, slice_set, IfOk};
-ghost use Rattle.district_sums.specs.Following.{AreInputs, StandsFor, StandsForSome, districts_in};
+ghost use Rattle.std.specs.Prelude.{◌≡◌, ◌≢◌, ◌<◌, length, slice_index, slice_set, IfOk};
+ghost use Rattle.audit_model.specs.Below.{map_below};
+ghost use Rattle.audit_model.specs.Plan.{cut_edges};
+ghost use Rattle.audit_model.specs.Score.{sums_of};
+ghost use Rattle.district_sums.specs.Following.{AreInputs, StandsFor, StandsForSome, apart_of, districts_in};
 
 use crate::scratch::{refill_apart, refill_view};
-use crate::shifting::{shift_apart, shift_counts};
+use crate::shifting::{others_than, shift_apart, shift_counts};
 use audit_model::lists::{NumList, UnitList};
 use audit_model::memory::Memory;
 use audit_model::outcome::{Counts, SumsView};
@@ -73,6 +76,47 @@ impl Sums {
         let after = self.apart.as_slice()[u as usize];
         self.view.cut = self.view.cut + after - before;
         plan[u as usize] = d;
+    }
+
+    /// How many edges the plan cuts with a unit in this district. It reads the unit's neighbours alone.
+    #[inline]
+    pub fn cut_after(&self, g: &Graph, plan: &[u32], u: u32, d: u32) -> u32
+        requires plan { length plan.now ≡ g.now.units }
+        requires unit { u < g.now.units }
+        requires cut { self.now.view.cut ≡ cut_edges g.now plan.now }
+        requires apart { self.now.apart ≡ map_below g.now.units (apart_of g.now plan.now) }
+        ensures { result ≡ cut_edges g.now (slice_set plan.now u d) }
+    {
+        let _units = g.units();
+        let _edges = g.edges();
+        let before = self.apart.as_slice()[u as usize];
+        self.view.cut + others_than(g, plan, u, d) - before
+    }
+
+    /// Moves a unit to another district in the sums of the districts alone: the plan with it there cuts so many edges.
+    #[inline]
+    pub fn shift_view(
+        &mut self,
+        _g: &Graph,
+        counts: &Counts,
+        plan: &[u32],
+        u: u32,
+        d: u32,
+        cut: u32,
+    )
+        requires inputs { AreInputs _g.now counts.now (districts_in self.old) plan.now }
+        requires view { self.old.view ≡ sums_of _g.now counts.now (districts_in self.old) plan.now }
+        requires unit { u < _g.now.units }
+        requires district { d < districts_in self.old }
+        requires elsewhere { slice_index plan.now u ≢ d }
+        requires cut { cut ≡ cut_edges _g.now (slice_set plan.now u d) }
+        ensures districts { districts_in self.new ≡ districts_in self.old }
+        ensures view { self.new.view ≡ sums_of _g.now counts.now (districts_in self.old) (slice_set plan.now u d) }
+        ensures apart { self.new.apart ≡ self.old.apart }
+    {
+        let _units = _g.units();
+        shift_counts(counts, plan, u, d, &mut self.view);
+        self.view.cut = cut;
     }
 
     /// Makes the sums those of another plan. It takes no memory.

@@ -2,6 +2,7 @@ pub mod Beside
 pub mod Dividing
 pub mod Flipping
 pub mod Holding
+pub mod Judging
 pub mod Moves
 pub mod Proposing
 pub mod Tables

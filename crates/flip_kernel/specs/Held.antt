@@ -1,7 +1,6 @@
 -- What a state holds: a job, and a plan that is legal for it.
-use Rattle.std.specs.Prelude.{◌≡◌, ◌≢◌, ℕ, ◌+◌, ◌<◌, ◌≤◌, Bool, true, IsTrue, Some, List, [], length, slice_index, slice_set}
+use Rattle.std.specs.Prelude.{◌≡◌, ◌≢◌, ℕ, ◌+◌, ◌<◌, ◌≤◌, Bool, IsTrue, Some, List, length, slice_index, slice_set}
 use Rattle.audit_model.specs.declared.outcome.SumsView.{SumsView}
-use Rattle.audit_model.specs.Graph.{count_edges}
 use Rattle.audit_model.specs.Job.{Job}
 use Rattle.audit_model.specs.Plan.{IsLegal}
 use Rattle.audit_model.specs.Proposal.{proposal}
@@ -19,13 +18,7 @@ pub record Held : Type 0 where
 abbrev pub sums_in : Job → List ℕ → SumsView
 sums_in job plan = sums_of job.graph job.counts job.districts plan
 
--- the job's rules limit nothing: as many cut edges are allowed as there are edges, and there are no regions
-pub record LimitsNothing (job : Job) : Type 0 where
-  pub edges : count_edges job.graph (λ u v. true) ≤ job.setting.max_cut
-  pub regions : job.regions ≡ []
-
--- the plan is legal, the sums are its sums, there are marks for all units, the table tells which pairs are open, the numbers are the job's, and its rules
--- limit nothing
+-- the plan is legal, the sums are its sums, there are marks for all units, the table tells which pairs are open, and the numbers are the job's
 pub record IsHeld (job : Job) (plan : List ℕ) (sums : Following) (marks : ℕ) (table : List Bool) (pairs : Pairs) (low high : ℕ) : Type 0 where
   pub legal : IsLegal job plan
   pub places : districts_in sums ≡ job.districts
@@ -33,7 +26,6 @@ pub record IsHeld (job : Job) (plan : List ℕ) (sums : Following) (marks : ℕ)
   pub marked : marks ≡ job.graph.units
   pub opened : IsTable job.graph plan job.districts table
   pub numbers : AreNumbersOf job pairs low high
-  pub free : LimitsNothing job
 
 -- the draw proposes the unit for the district, which is open to it
 pub record ProposesOpen (job : Job) (plan : List ℕ) (draw unit district : ℕ) : Type 0 where

@@ -1,4 +1,5 @@
 pub mod Blocks
 pub mod Flags
 pub mod Held
+pub mod Judged
 pub mod Openings

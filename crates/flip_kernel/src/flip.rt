@@ -5,9 +5,11 @@ ghost use Rattle.audit_model.specs.Local.{IsLocal};
 ghost use Rattle.audit_model.specs.Proposal.{proposal};
 ghost use Rattle.audit_model.specs.Plan.{IsLegal};
 ghost use Rattle.audit_model.specs.Step.{next, mirrored};
+ghost use Rattle.flip_kernel.specs.Judged.{IsSeated, held_of};
 
 use crate::state::State;
 use audit_model::steps::Steps;
+use flip_guard::judge::Judge;
 use plan_core::job::Job;
 use std::marker::Brand;
 use std::sync::ledger::{Blank, Ledger};
@@ -16,14 +18,21 @@ use std::sync::ledger::{Blank, Ledger};
 /// searches: none where the unit's neighbours in its district are connected among themselves, and at
 /// most one elsewhere.
 #[inline]
-pub fn try_flip<L: Ledger>(job: &Job, state: &mut State, draw: u64, steps: &mut Steps<L>) -> bool
-    requires { state.old.job ≡ job.now }
-    ensures next { state.new ≡ record state.old { plan = next job.now state.old.plan draw } }
-    ensures held { IsFalse result ↔ (state.new.plan ≡ state.old.plan) }
+pub fn try_flip<J: Judge, L: Ledger>(
+    job: &Job,
+    state: &mut State<J>,
+    draw: u64,
+    steps: &mut Steps<L>,
+) -> bool
+    requires made { (held_of state.old).job ≡ job.now }
+    requires seated { IsSeated job.now J.keeps J.stands J.takes J.rules state.old }
+    ensures next { held_of state.new ≡ record (held_of state.old) { plan = next job.now (held_of state.old).plan draw } }
+    ensures seated { IsSeated job.now J.keeps J.stands J.takes J.rules state.new }
+    ensures held { IsFalse result ↔ ((held_of state.new).plan ≡ (held_of state.old).plan) }
 
     ensures searches { (steps.old ≤ steps.new) × (steps.new ≤ steps.old + 1) }
     ensures local { (unit district : ℕ) → proposal job.now.graph.units job.now.districts draw ≡ Some (unit, district) →
-        IsLocal job.now.graph state.old.plan unit → steps.new ≡ steps.old }
+        IsLocal job.now.graph (held_of state.old).plan unit → steps.new ≡ steps.old }
 {
     match state.proposed(draw) {
         None => false,
@@ -33,14 +42,15 @@ pub fn try_flip<L: Ledger>(job: &Job, state: &mut State, draw: u64, steps: &mut 
 
 // The draw itself where it moves no unit. Elsewhere the place in its block is that of the unit's old district.
 // Only tests are made, and no move; their searches have a counter of their own.
-fn led_back<L: Ledger>(job: &Job, state: &mut State, draw: u64, blank: Blank) -> u64
+fn led_back<J: Judge, L: Ledger>(job: &Job, state: &mut State<J>, draw: u64, blank: Blank) -> u64
     requires name { blank.name ≡ L.name }
     requires parts { blank.parts ≡ L.parts }
     requires some { 0 < L.parts }
-    requires made { state.old.job ≡ job.now }
-    ensures value { result ≡ mirrored job.now state.old.plan draw }
+    requires made { (held_of state.old).job ≡ job.now }
+    requires seated { IsSeated job.now J.keeps J.stands J.takes J.rules state.old }
+    ensures value { result ≡ mirrored job.now (held_of state.old).plan draw }
     ensures same { state.new ≡ state.old }
-    ensures legal { IsLegal job.now state.old.plan }
+    ensures legal { IsLegal job.now (held_of state.old).plan }
 {
     let _units = job.units();
     let plan = state.plan();
@@ -60,17 +70,18 @@ fn led_back<L: Ledger>(job: &Job, state: &mut State, draw: u64, blank: Blank) ->
 
 /// The draw itself where it moves no unit, and elsewhere the draw of the same block that leads back. The
 /// state is as before, and no memory is taken.
-pub fn mirror(job: &Job, state: &mut State, draw: u64) -> u64
-    requires { state.old.job ≡ job.now }
-    ensures value { result ≡ mirrored job.now state.old.plan draw }
+pub fn mirror<J: Judge>(job: &Job, state: &mut State<J>, draw: u64) -> u64
+    requires made { (held_of state.old).job ≡ job.now }
+    requires seated { IsSeated job.now J.keeps J.stands J.takes J.rules state.old }
+    ensures value { result ≡ mirrored job.now (held_of state.old).plan draw }
     ensures same { state.new ≡ state.old }
 
-    ensures held { next job.now state.old.plan draw ≡ state.old.plan → result ≡ draw }
+    ensures held { next job.now (held_of state.old).plan draw ≡ (held_of state.old).plan → result ≡ draw }
     ensures moved { (unit district : ℕ) → proposal job.now.graph.units job.now.districts draw ≡ Some (unit, district) →
-        ¬ (next job.now state.old.plan draw ≡ state.old.plan) →
-        result ≡ draw - draw % (job.now.graph.units * job.now.districts) + (unit * job.now.districts + slice_index state.old.plan unit) }
-    ensures back { next job.now (next job.now state.old.plan draw) result ≡ state.old.plan }
-    ensures again { mirrored job.now (next job.now state.old.plan draw) result ≡ draw }
+        ¬ (next job.now (held_of state.old).plan draw ≡ (held_of state.old).plan) →
+        result ≡ draw - draw % (job.now.graph.units * job.now.districts) + (unit * job.now.districts + slice_index (held_of state.old).plan unit) }
+    ensures back { next job.now (next job.now (held_of state.old).plan draw) result ≡ (held_of state.old).plan }
+    ensures again { mirrored job.now (next job.now (held_of state.old).plan draw) result ≡ draw }
 {
-    led_back::<Brand>(job, state, draw, Blank::new(1))
+    led_back::<J, Brand>(job, state, draw, Blank::new(1))
 }

@@ -1,181 +1,86 @@
-//! A plan that is legal for a job, with its sums and its open pairs.
+//! A legal plan of a job beside a judge that stands for it.
 
-ghost use Rattle.std.specs.Prelude.{◌≡◌, ◌≢◌, ◌+◌, ◌<◌, ◌≤◌, ◌↔◌, length, slice_index, slice_set, IfOk, MatchOption, IsTrue, IsFalse};
-ghost use Rattle.audit_model.specs.JobOf.{IsJob};
+ghost use Rattle.std.specs.Prelude.{◌≡◌, ◌+◌, ◌<◌, ◌≤◌, ◌↔◌, slice_set, IfOk, MatchOption, IsTrue, IsFalse};
+ghost use Rattle.audit_model.specs.Job.{rules};
 ghost use Rattle.audit_model.specs.Local.{IsLocal};
-ghost use Rattle.audit_model.specs.Plan.{IsLegal, district_sum, least_population, greatest_population};
+ghost use Rattle.audit_model.specs.Plan.{IsLegal};
 ghost use Rattle.audit_model.specs.Step.{next};
-ghost use Rattle.district_sums.specs.Following.{StandsFor, districts_in};
-ghost use Rattle.flip_kernel.specs.Held.{IsMove, KeepsBounds, LimitsNothing, ProposesOpen, sums_in};
+ghost use Rattle.flip_kernel.specs.Held.{IsMove, ProposesOpen, sums_in};
+ghost use Rattle.flip_kernel.specs.Judged.{IsSeated, TakesPlansOf, held_of};
 ghost use Rattle.flip_kernel.specs.Openings.{is_open};
 
-use crate::openings::Openings;
-use crate::proposal::Pairs;
+use crate::board::Board;
 use audit_model::lists::UnitList;
 use audit_model::memory::Memory;
 use audit_model::outcome::SumsView;
 use audit_model::steps::Steps;
-use contig::leave::may_leave;
-use district_sums::sums::Sums;
-use dual_graph::marks::Marks;
+use flip_guard::judge::Judge;
 use plan_core::job::Job;
 use std::alloc::Global;
-use std::marker::Model;
-use std::snapshot::Snapshot;
 use std::sync::ledger::Ledger;
 
-/// A job's plan, which is legal for it, with its sums, the pairs that are open, and room for a search.
+/// A job's plan, which is legal for it, with its sums and room for a search, and a judge that is asked before the plan changes.
 #[derive(Drop)]
-pub struct State {
-    job: Snapshot<Job>,
-    plan: UnitList,
-    sums: Sums,
-    marks: Marks,
-    openings: Openings,
-    pairs: Pairs,
-    low: u64,
-    high: u64,
+pub struct State<J> {
+    board: Board,
+    judge: J,
 }
 
-impl Model for State {
-    ghost use Rattle.flip_kernel.specs.Held.{Held, IsHeld};
-
-    ghost Value = { Held };
-
-    ghost view = { λ s. record { job = s.job.value; plan = s.plan } };
-
-    ghost invariant = { λ s. IsHeld s.job.value s.plan s.sums s.marks.units s.openings s.pairs s.low s.high };
-}
-
-/// Moves a unit to a district in the plan and in its sums.
-fn shift(job: &Job, sums: &mut Sums, plan: &mut UnitList, unit: u32, district: u32)
-    requires legal { IsLegal job.now plan.old }
-    requires places { districts_in sums.old ≡ job.now.districts }
-    requires stands { StandsFor job.now.graph job.now.counts plan.old sums.old }
-    requires unit { unit < job.now.graph.units }
-    requires district { district < job.now.districts }
-    ensures plan { plan.new ≡ slice_set plan.old unit district }
-    ensures places { districts_in sums.new ≡ job.now.districts }
-    ensures stands { StandsFor job.now.graph job.now.counts plan.new sums.new }
-{
-    let _units = job.units();
-    sums.shift(
-        job.graph(),
-        job.counts(),
-        plan.as_mut_slice(),
-        unit,
-        district,
-    );
-}
-
-/// Whether the bounds are kept where people leave one district and join another, by the populations before.
-#[inline]
-fn are_kept(low: u64, high: u64, people: u64, from: u64, to: u64) -> bool
-    requires people { people ≤ from }
-    requires from { from ≤ high }
-    ensures { IsTrue result ↔ KeepsBounds low high people from to }
-{
-    from - people >= low && to <= high - people
-}
-
-impl State {
-    /// The start plan of a job whose rules limit nothing.
-    pub fn new(alloc: Global, job: &Job) -> Result<State, Memory>
-        requires { LimitsNothing job.now }
-        ensures job { IfOk result (λ s. s.job ≡ job.now) }
-        ensures plan { IfOk result (λ s. s.plan ≡ job.now.start) }
+impl<J: Judge> State<J> {
+    /// The start plan of a job, and a judge that judges by the job's rules.
+    pub fn new(alloc: Global, job: &Job, judge: J) -> Result<State<J>, Memory>
+        requires kept { J.keeps judge }
+        requires rules { J.rules judge ≡ rules job.now }
+        requires plans { TakesPlansOf job.now (J.takes judge) }
+        ensures job { IfOk result (λ s. (held_of s).job ≡ job.now) }
+        ensures plan { IfOk result (λ s. (held_of s).plan ≡ job.now.start) }
+        ensures seated { IfOk result (λ s. IsSeated job.now J.keeps J.stands J.takes J.rules s) }
     {
-        let units = job.units();
-        let districts = job.districts();
-        let plan = job.start().copy()?;
-        let sums = Sums::of(alloc, job.graph(), job.counts(), districts, plan.as_slice())?;
-        let marks = Marks::new(alloc, units)?;
-        let mut openings = Openings::none(alloc, units, districts)?;
-        openings.refill(job.graph(), plan.as_slice(), districts);
-        let (low, high) = job.limits();
-        Ok(State {
-            job: Snapshot::of(job),
-            plan,
-            sums,
-            marks,
-            openings,
-            pairs: Pairs::of(units, districts),
-            low,
-            high,
-        })
+        let board = Board::new(alloc, job)?;
+        let mut judge = judge;
+        judge.reset(job.start().as_slice());
+        Ok(State { board, judge })
     }
 
     /// Holds another legal plan. It takes no memory.
     pub fn set(&mut self, job: &Job, plan: &[u32])
-        requires made { self.old.job ≡ job.now }
+        requires made { (held_of self.old).job ≡ job.now }
+        requires seated { IsSeated job.now J.keeps J.stands J.takes J.rules self.old }
         requires legal { IsLegal job.now plan.now }
-        ensures { self.new ≡ record self.old { plan = plan.now } }
+        ensures held { held_of self.new ≡ record (held_of self.old) { plan = plan.now } }
+        ensures seated { IsSeated job.now J.keeps J.stands J.takes J.rules self.new }
     {
-        self.plan.as_mut_slice().copy_from_slice(plan);
-        self.sums.refill(job.graph(), job.counts(), plan);
-        self.openings
-            .refill(job.graph(), plan, self.pairs.districts);
+        self.board.set(job, plan);
+        self.judge.reset(plan);
     }
 
     /// The plan.
     #[inline]
     pub fn plan(&self) -> &UnitList
-        ensures value { result.now ≡ self.now.plan }
-        ensures legal { IsLegal self.now.job self.now.plan }
+        ensures value { result.now ≡ (held_of self.now).plan }
+        ensures legal { IsLegal (held_of self.now).job (held_of self.now).plan }
     {
-        &self.plan
+        self.board.plan()
     }
 
     /// The plan's sums.
     #[inline]
     pub fn view(&self) -> &SumsView
-        ensures { result.now ≡ sums_in self.now.job self.now.plan }
+        ensures { result.now ≡ sums_in (held_of self.now).job (held_of self.now).plan }
     {
-        self.sums.view()
+        self.board.view()
     }
 
-    /// The unit and the district that a draw proposes, where the pair is open. No other draw changes the plan.
+    /// The unit and the district that a draw proposes, where the pair is open.
     #[inline]
     pub(crate) fn proposed(&self, draw: u64) -> Option<(u32, u32)>
-        ensures { MatchOption result (next self.now.job self.now.plan draw ≡ self.now.plan)
-            (λ pair. ProposesOpen self.now.job self.now.plan draw pair.0 pair.1) }
+        ensures { MatchOption result (next (held_of self.now).job (held_of self.now).plan draw ≡ (held_of self.now).plan)
+            (λ pair. ProposesOpen (held_of self.now).job (held_of self.now).plan draw pair.0 pair.1) }
     {
-        match self.pairs.place(draw) {
-            None => None,
-            Some(place) => {
-                if !self.openings.has(place as usize) {
-                    return None;
-                }
-                let pair = place as u32;
-                Some((pair / self.pairs.districts, pair % self.pairs.districts))
-            }
-        }
+        self.board.proposed(draw)
     }
 
-    /// Whether both districts stay within the population bounds where the unit moves.
-    fn keeps_bounds(&self, job: &Job, unit: u32, district: u32) -> bool
-        requires made { self.now.job ≡ job.now }
-        requires unit { unit < job.now.graph.units }
-        requires district { district < job.now.districts }
-        requires elsewhere { slice_index self.now.plan unit ≢ district }
-        ensures { IsTrue result ↔ KeepsBounds (least_population job.now) (greatest_population job.now) (slice_index job.now.counts.population unit)
-            (district_sum job.now.counts.population self.now.plan (slice_index self.now.plan unit)) (district_sum job.now.counts.population self.now.plan district) }
-    {
-        let _units = job.units();
-        let people = job.counts().population.as_slice()[unit as usize];
-        let home = self.plan.as_slice()[unit as usize];
-        let populations = self.sums.view().population.as_slice();
-        are_kept(
-            self.low,
-            self.high,
-            people,
-            populations[home as usize],
-            populations[district as usize],
-        )
-    }
-
-    /// Whether the unit can move to the district, which is open to it: the plan is legal then. The populations are tested
-    /// first, and the counter is that of the searches.
+    /// Whether the unit can move to the district, which is open to it. The counter is that of the searches.
     pub(crate) fn may_move<L: Ledger>(
         &mut self,
         job: &Job,
@@ -183,44 +88,32 @@ impl State {
         district: u32,
         steps: &mut Steps<L>,
     ) -> bool
-        requires made { self.old.job ≡ job.now }
+        requires made { (held_of self.old).job ≡ job.now }
+        requires seated { IsSeated job.now J.keeps J.stands J.takes J.rules self.old }
         requires unit { unit < job.now.graph.units }
         requires district { district < job.now.districts }
-        requires beside { IsTrue (is_open job.now.graph self.old.plan unit district) }
-        ensures moves { IsTrue result ↔ IsMove job.now self.old.plan unit district }
+        requires beside { IsTrue (is_open job.now.graph (held_of self.old).plan unit district) }
+        ensures moves { IsTrue result ↔ IsMove job.now (held_of self.old).plan unit district }
         ensures same { self.new ≡ self.old }
         ensures searches { (steps.old ≤ steps.new) × (steps.new ≤ steps.old + 1) }
-        ensures local { IsLocal job.now.graph self.old.plan unit → steps.new ≡ steps.old }
+        ensures local { IsLocal job.now.graph (held_of self.old).plan unit → steps.new ≡ steps.old }
     {
-        if !self.keeps_bounds(job, unit, district) {
-            return false;
-        }
-        may_leave(
-            job.graph(),
-            self.plan.as_slice(),
-            unit,
-            &mut self.marks,
-            steps,
-        )
+        self.board.may_move(job, &self.judge, unit, district, steps)
     }
 
     /// Moves the unit to the district, which it can.
     fn make_move(&mut self, job: &Job, unit: u32, district: u32)
-        requires made { self.old.job ≡ job.now }
+        requires made { (held_of self.old).job ≡ job.now }
+        requires seated { IsSeated job.now J.keeps J.stands J.takes J.rules self.old }
         requires unit { unit < job.now.graph.units }
         requires district { district < job.now.districts }
-        requires legal { IsLegal job.now (slice_set self.old.plan unit district) }
-        ensures { self.new ≡ record self.old { plan = slice_set self.old.plan unit district } }
+        requires legal { IsLegal job.now (slice_set (held_of self.old).plan unit district) }
+        ensures held { held_of self.new ≡ record (held_of self.old) { plan = slice_set (held_of self.old).plan unit district } }
+        ensures seated { IsSeated job.now J.keeps J.stands J.takes J.rules self.new }
     {
-        let home = self.plan.as_slice()[unit as usize];
-        shift(job, &mut self.sums, &mut self.plan, unit, district);
-        self.openings.renew(
-            job.graph(),
-            self.plan.as_slice(),
-            self.pairs.districts,
-            unit,
-            home,
-        );
+        let home = self.board.plan().as_slice()[unit as usize];
+        self.board.make_move(job, unit, district);
+        self.judge.moved(self.board.plan().as_slice(), unit, home);
     }
 
     /// Moves the unit to the district, which is open to it, where it can, and tells whether it did.
@@ -232,15 +125,17 @@ impl State {
         district: u32,
         steps: &mut Steps<L>,
     ) -> bool
-        requires made { self.old.job ≡ job.now }
+        requires made { (held_of self.old).job ≡ job.now }
+        requires seated { IsSeated job.now J.keeps J.stands J.takes J.rules self.old }
         requires unit { unit < job.now.graph.units }
         requires district { district < job.now.districts }
-        requires beside { IsTrue (is_open job.now.graph self.old.plan unit district) }
-        ensures moves { IsTrue result ↔ IsMove job.now self.old.plan unit district }
-        ensures moved { IsTrue result → self.new ≡ record self.old { plan = slice_set self.old.plan unit district } }
-        ensures held { IsFalse result → self.new ≡ self.old }
+        requires beside { IsTrue (is_open job.now.graph (held_of self.old).plan unit district) }
+        ensures moves { IsTrue result ↔ IsMove job.now (held_of self.old).plan unit district }
+        ensures moved { IsTrue result → held_of self.new ≡ record (held_of self.old) { plan = slice_set (held_of self.old).plan unit district } }
+        ensures held { IsFalse result → held_of self.new ≡ held_of self.old }
+        ensures seated { IsSeated job.now J.keeps J.stands J.takes J.rules self.new }
         ensures searches { (steps.old ≤ steps.new) × (steps.new ≤ steps.old + 1) }
-        ensures local { IsLocal job.now.graph self.old.plan unit → steps.new ≡ steps.old }
+        ensures local { IsLocal job.now.graph (held_of self.old).plan unit → steps.new ≡ steps.old }
     {
         if !self.may_move(job, unit, district, steps) {
             return false;

@@ -2,18 +2,22 @@
 
 ghost use Rattle.std.specs.Prelude.{◌≡◌, ◌<◌, ◌∷◌, [], IfOk, length};
 ghost use Rattle.audit_model.specs.Limits.{IsSetting};
+ghost use Rattle.flip_kernel.specs.Judged.{IsSeated, held_of};
 
 use crate::flip::{mirror, try_flip};
 use crate::proposal::propose;
 use crate::state::State;
 use audit_model::lists::{AskList, LabelList, NumList, UnitList};
 use audit_model::memory::Memory;
-use audit_model::outcome::Counts;
+use audit_model::outcome::{Counts, SumsView};
+use audit_model::rules::Rules;
 use audit_model::setting::{Columns, Command, Label, Setting};
 use audit_model::steps::Steps;
 use audit_model::text::Text;
 use dual_graph::graph::Graph;
 use dual_graph::parsed::Parsed;
+use flip_guard::guard::Guard;
+use flip_guard::judge::Judge;
 use plan_core::job::Job;
 use std::alloc::Global;
 use std::marker::Brand;
@@ -108,52 +112,59 @@ fn proposals_near_the_last_draw(rt: HostRuntime) {
 }
 
 // One step from the plan that is held, with a counter of its own.
-fn step<L: Ledger>(job: &Job, state: &mut State, draw: u64, blank: Blank) -> bool
+fn step<J: Judge, L: Ledger>(job: &Job, state: &mut State<J>, draw: u64, blank: Blank) -> bool
     requires name { blank.name ≡ L.name }
     requires parts { blank.parts ≡ L.parts }
     requires some { 0 < L.parts }
-    requires made { state.old.job ≡ job.now }
-    ensures { state.new.job ≡ job.now }
+    requires made { (held_of state.old).job ≡ job.now }
+    requires seated { IsSeated job.now J.keeps J.stands J.takes J.rules state.old }
+    ensures made { (held_of state.new).job ≡ job.now }
+    ensures seated { IsSeated job.now J.keeps J.stands J.takes J.rules state.new }
 {
     let mut steps: Steps<L> = Steps::new(blank);
     try_flip(job, state, draw, &mut steps)
 }
 
 // Whether these are the plan that is held, the populations of its two districts and its cut edges.
-fn holds(state: &State, plan: &[u32], population: &[u64], cut: u32) -> bool {
+fn holds<J: Judge>(state: &State<J>, plan: &[u32], population: &[u64], cut: u32) -> bool {
     let view = state.view();
     state.plan().as_slice() == plan && view.population.as_slice() == population && view.cut == cut
 }
 
 // The draw that moves unit 1 has a mirror.
-fn mirrors(job: &Job, state: &mut State) -> bool
-    requires { state.old.job ≡ job.now }
+fn mirrors<J: Judge>(job: &Job, state: &mut State<J>) -> bool
+    requires made { (held_of state.old).job ≡ job.now }
+    requires seated { IsSeated job.now J.keeps J.stands J.takes J.rules state.old }
     ensures { state.new ≡ state.old }
 {
     mirror(job, state, 0x8665eeb269b687c3) == 0x8665eeb269b687c2
 }
 
 // Unit 1 goes to the other district.
-fn goes(job: &Job, state: &mut State) -> bool
-    requires { state.old.job ≡ job.now }
-    ensures { state.new.job ≡ job.now }
+fn goes<J: Judge>(job: &Job, state: &mut State<J>) -> bool
+    requires made { (held_of state.old).job ≡ job.now }
+    requires seated { IsSeated job.now J.keeps J.stands J.takes J.rules state.old }
+    ensures made { (held_of state.new).job ≡ job.now }
+    ensures seated { IsSeated job.now J.keeps J.stands J.takes J.rules state.new }
 {
-    if !step::<Brand>(job, state, 0x8665eeb269b687c3, Blank::new(1)) {
+    if !step::<J, Brand>(job, state, 0x8665eeb269b687c3, Blank::new(1)) {
         return false;
     }
     holds(state, &[0, 1, 1, 1], &[1, 3], 1)
 }
 
 // The plan that a job starts with again.
-fn begins_again(job: &Job, state: &mut State) -> bool
-    requires { state.old.job ≡ job.now }
+fn begins_again<J: Judge>(job: &Job, state: &mut State<J>) -> bool
+    requires made { (held_of state.old).job ≡ job.now }
+    requires seated { IsSeated job.now J.keeps J.stands J.takes J.rules state.old }
 {
     state.set(job, job.start().as_slice());
     holds(state, &[0, 0, 1, 1], &[2, 2], 1)
 }
 
-fn walks(job: &Job, state: &mut State) -> bool
-    requires { state.old.job ≡ job.now }
+fn walks<J: Judge>(job: &Job, state: &mut State<J>) -> bool
+    requires made { (held_of state.old).job ≡ job.now }
+    requires seated { IsSeated job.now J.keeps J.stands J.takes J.rules state.old }
 {
     if !mirrors(job, state) {
         return false;
@@ -166,10 +177,17 @@ fn walks(job: &Job, state: &mut State) -> bool
 
 fn run(alloc: Global) -> Result<bool, Memory> {
     let job = path_of_four(alloc)?;
-    if job.setting().max_cut < job.graph().edges() || job.rules().regions.len() > 0 {
+    if job.rules().regions.len() > 0 {
         return Ok(false);
     }
-    let mut state = State::new(alloc, &job)?;
+    let max_cut = job.rules().max_cut;
+    let rules = Rules {
+        max_cut,
+        regions: UnitList::new(alloc),
+        max_split: job.rules().max_split,
+    };
+    let guard = Guard::new(move |sums: &SumsView| sums.cut <= max_cut, rules);
+    let mut state = State::new(alloc, &job, guard)?;
     Ok(walks(&job, &mut state))
 }
 

@@ -1,8 +1,9 @@
 pub mod Limits
 pub mod Longest
 pub mod Pieces
-pub mod Plainly
 pub mod Ranked
+pub mod Regions
 pub mod Sorted
+pub mod Wholly
 pub mod Widths
 pub mod Written

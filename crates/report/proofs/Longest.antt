@@ -1,16 +1,17 @@
 -- How many bytes a report has at most.
-use Rattle.std.proofs.Common.{◌≡◌, ℕ, zero, suc, ◌+◌, ◌-◌, ◌*◌, ◌^◌, ◌<◌, ◌≤◌, true, List, [], ◌∷◌, ◌++◌, length, flat_map, filter, ap, sym, ◌∙◌, subst, arith, length-append, codes, decimal, get_or, take, zero-add, ℤ, pos, negsuc, unsigned_abs, None}
-use Rattle.std.specs.Prelude.{nat_lt, nat_le}
+use Rattle.std.proofs.Common.{◌≡◌, ℕ, zero, suc, ◌+◌, ◌-◌, ◌*◌, ◌^◌, ◌<◌, ◌≤◌, true, List, [], ◌∷◌, ◌++◌, length, flat_map, filter, refl, ap, sym, ◌∙◌, subst, arith, length-append, codes, decimal, get_or, take, zero-add, ℤ, pos, negsuc, unsigned_abs}
+use Rattle.std.specs.Prelude.{nat_lt, nat_le, slice_index, sum_by, zip, Bool, false, Option, Some, None}
 use Rattle.std.specs.Fmt.{signed_decimal}
 use Rattle.std.specs.List.{All}
 use Rattle.std.proofs.Math.Facts.{leb_yes}
 use Rattle.std.proofs.Math.Nat.{div-le_self}
-use Rattle.std.proofs.lemmas.Bool.{le-leb, lt-ltb}
+use Rattle.std.proofs.lemmas.Bool.{cond_both, le-leb, lt-ltb}
 use Rattle.std.proofs.lemmas.Fmt.{length-decimal-le}
 use Rattle.std.proofs.lemmas.List.{length-take-le, get_or-take}
 use Rattle.std.proofs.lemmas.List.FromFn.{length-enumerate_from, get_or-enumerate_from}
 use Rattle.std.proofs.lemmas.List.Sums.{count_by-le-length}
 use Rattle.std.proofs.lemmas.Nat.{mul-le}
+use Rattle.std.proofs.lemmas.Slice.Zip.{get_or-zip, length-zip}
 use Rattle.hex.specs.Hex.{encode_lower, lower_digits}
 use Rattle.hex.proofs.HexLemmas.{length-encode_with}
 use Rattle.audit_model.specs.declared.outcome.Outcome.{Outcome}
@@ -22,21 +23,20 @@ use Rattle.audit_model.specs.declared.setting.Tail.TheVariants.{Low, High}
 use Rattle.audit_model.specs.Graph.{count_edges}
 use Rattle.audit_model.specs.Job.{Job, total_population, total_votes}
 use Rattle.audit_model.specs.JobOf.{IsJob}
+use Rattle.audit_model.specs.Meets.{region_count}
 use Rattle.audit_model.specs.Plan.{least_population, greatest_population}
-use Rattle.audit_model.specs.Run.{total, steps_of}
+use Rattle.audit_model.specs.Run.{steps_of}
 use Rattle.audit_model.specs.Score.{denominator}
 use Rattle.audit_model.specs.Test.{bound, p_value}
 use Rattle.audit_model.specs.Trajectory.{in_tail, plan_value, rank, value_at}
-use Rattle.model_laws.proofs.Least.{bound_is_least}
+use Rattle.model_laws.proofs.Least.{bound_is_least, quotient_up_is_least}
 use Rattle.text_definitions.specs.Names.{score_name, tail_name}
 use Rattle.audit_model.specs.Stopping.{placed_asks}
-use Rattle.text_definitions.specs.Report.{line, fraction, billionths, graph_line, population_line, setting_line, walk_line, walk_lines, ends_line, ends_lines, report}
-use Rattle.report.specs.Outcomes.{AreOutcomesOf, HasCounts, IsCount}
-use Rattle.report.specs.Parts.{head, key_line, lines_of, plain_text}
-use Rattle.report.specs.Plain.{IsPlain}
+use Rattle.text_definitions.specs.Report.{line, fraction, billionths, graph_line, population_line, cut_line, split_line, rule_lines, setting_line, walk_line, walk_lines, ends_line, ends_lines, stop_line, title_line, shift_line, stopped_line, test_lines, serial_line, serial_lines, report}
+use Rattle.report.specs.Outcomes.{AreOutcomesOf, AreStops, AreStopsBy, AreStopsOf, HasCounts, IsCount, IsRank, IsSerialBy, IsSerialOf, IsStop}
+use Rattle.report.specs.Parts.{head, key_line, lines_of}
 use Rattle.report.proofs.Limits.{small, votes}
-use Rattle.report.proofs.Plainly.{report_is_plain}
-use Rattle.report.proofs.Sorted.{fit_at, id_at, count, walks_first, ends_last, ends_sound}
+use Rattle.report.proofs.Sorted.{fit_at, id_at, walks_first, walks_within, ends_last, ends_sound}
 use Rattle.report.proofs.Widths.{length-decimal_any, length-fraction, length-billionths, length-line, length-flat_map-le}
 
 -- ---- the words of an ask
@@ -115,20 +115,20 @@ walk_line-le job found place ask h o l =
 p_value-lt : (r all : ℕ) → r ≤ 100001 → all ≤ 100001 → p_value r all < 10 ^ 18
 p_value-lt r all few most = let quotient = div-le_self (r * 10 ^ 9 + all - 1) all in omega (arith, quotient)
 
-rank-le : (job : Job) (os : List Outcome) (place : ℕ) (ask : Ask) → AreOutcomesOf job os → rank job ask place os ≤ job.setting.ends + 1
-rank-le job os place ask h =
+rank-le : (job : Job) (os : List Outcome) (place : ℕ) (ask : Ask) → job.setting.stop ≡ 0 → AreOutcomesOf job os → rank job ask place os ≤ job.setting.ends + 1
+rank-le job os place ask none h =
     let ends = filter (λ o. nat_le job.setting.walks o.id) os in
     let among = count_by-le-length (λ o. in_tail ask.tail (value_at o place) (plan_value job job.start ask.score)) ends in
-    let all : length ends ≡ job.setting.ends = ap length (ends_last job os h) ∙ (ends_sound job os h).count in
+    let all : length ends ≡ job.setting.ends = ap length (ends_last job os h) ∙ (ends_sound job os none h).count in
     omega (arith, among, all)
 
-ends_line-le : (job : Job) (os : List Outcome) (place : ℕ) (ask : Ask) → IsJob job → AreOutcomesOf job os → length (ends_line job os (place, ask)) ≤ 200
-ends_line-le job os place ask h all_of =
+ends_line-le : (job : Job) (os : List Outcome) (place : ℕ) (ask : Ask) → IsJob job → job.setting.stop ≡ 0 → AreOutcomesOf job os → length (ends_line job os (place, ask)) ≤ 200
+ends_line-le job os place ask h none all_of =
     let all = job.setting.ends + 1 in
     let r = rank job ask place os in
     let limits = small job h in
     let most : all ≤ 100001 = omega (arith, limits.few) in
-    let within : r ≤ all = rank-le job os place ask all_of in
+    let within : r ≤ all = rank-le job os place ask none all_of in
     let whole = length-line (codes "ends") (
     score_name ask.score ∷ tail_name ask.tail ∷ codes "start" ∷ start_fraction job ask.score
     ∷ codes "rank" ∷ decimal r ∷ codes "of" ∷ decimal all ∷ codes "p" ∷ billionths (p_value r all) ∷ []) in
@@ -159,8 +159,8 @@ short : (job : Job) (os : List Outcome) (k : ℕ) (d : Outcome) → IsJob job �
     → IsShort job (get_or (take job.setting.walks os) k d)
 short job os k d h all_of l =
     let limits = small job h in
-    let all : length os ≡ total job = count job os all_of in
-    let width : length (take job.setting.walks os) ≡ job.setting.walks = length-take-le job.setting.walks os (omega arith) in
+    let within = walks_within job os all_of in
+    let width : length (take job.setting.walks os) ≡ job.setting.walks = length-take-le job.setting.walks os within in
     let below : k < job.setting.walks = omega arith in
     let o = get_or os k d in
     let fits = fit_at job os k d all_of (omega arith) in
@@ -174,19 +174,92 @@ short job os k d h all_of l =
 walk_lines-le : (job : Job) (os : List Outcome) → IsJob job → AreOutcomesOf job os → length (walk_lines job os) ≤ job.setting.walks * (length job.setting.asks * 200)
 walk_lines-le job os h all_of =
     let firsts = take job.setting.walks os in
-    let all : length os ≡ total job = count job os all_of in
-    let width : length firsts ≡ job.setting.walks = length-take-le job.setting.walks os (omega arith) in
+    let width : length firsts ≡ job.setting.walks = length-take-le job.setting.walks os (walks_within job os all_of) in
     let many = length-flat_map-le (lines_of job) (length job.setting.asks * 200) firsts
     (λ k d l. lines_of-le job (get_or firsts k d) h (short job os k d h all_of l)) in
     let same : length (walk_lines job os) ≡ length (flat_map (lines_of job) firsts) = ap (λ xs. length (flat_map (lines_of job) xs)) (walks_first job os all_of) in
     subst (λ (n : ℕ). length (walk_lines job os) ≤ n * (length job.setting.asks * 200)) width (omega (arith, same, many))
 
-ends_lines-le : (n : ℕ) (job : Job) (os : List Outcome) → IsJob job → AreOutcomesOf job os → length (ends_lines n job os) ≤ length job.setting.asks * 200
-ends_lines-le zero job os h all_of = omega arith
-ends_lines-le (suc n) job os h all_of =
+ends_lines-le : (n : ℕ) (job : Job) (os : List Outcome) → IsJob job → job.setting.stop ≡ 0 → AreOutcomesOf job os → length (ends_lines n job os) ≤ length job.setting.asks * 200
+ends_lines-le zero job os h none all_of = omega arith
+ends_lines-le (suc n) job os h none all_of =
     let many = length-flat_map-le (ends_line job os) 200 (placed_asks job)
-    (each_placed job (λ k ask. length (ends_line job os (k, ask)) ≤ 200) (λ k ask l. ends_line-le job os k ask h all_of)) in
+    (each_placed job (λ k ask. length (ends_line job os (k, ask)) ≤ 200) (λ k ask l. ends_line-le job os k ask h none all_of)) in
     subst (λ (n : ℕ). length (flat_map (ends_line job os) (placed_asks job)) ≤ n * 200) (length-enumerate_from 0 job.setting.asks) many
+
+-- ---- a line of a test that stops
+
+stopped_line-le : (job : Job) (ask : Ask) (stop : List ℕ) → IsJob job → IsStop job.setting.ends stop → length (stopped_line job (ask, stop)) ≤ 200
+stopped_line-le job ask stop h is =
+    let place = slice_index stop 0 in
+    let top = slice_index stop 1 in
+    let of = slice_index stop 2 in
+    let limits = small job h in
+    let part = decimal top ++ 47 ∷ decimal of in
+    let whole = length-line (codes "stop") (
+    score_name ask.score ∷ tail_name ask.tail ∷ codes "start" ∷ start_fraction job ask.score
+    ∷ codes "place" ∷ decimal place ∷ codes "value" ∷ part ∷ codes "p" ∷ billionths (p_value top of) ∷ []) in
+    let score = length-score ask.score in
+    let tail = length-tail ask.tail in
+    let start = length-start job ask.score h in
+    let placed = length-decimal-le 6 place (omega arith) (omega (arith, is.place, limits.few)) (omega arith) in
+    let above = length-decimal-le 6 top (omega arith) (omega (arith, is.part, is.of, limits.few)) (omega arith) in
+    let below = length-decimal-le 6 of (omega arith) (omega (arith, is.of, limits.few)) (omega arith) in
+    let both = length-append (decimal top) (47 ∷ decimal of) in
+    let billionth = length-billionths (p_value top of) (p_value-lt top of (omega (arith, is.part, is.of, limits.few)) (omega (arith, is.of, limits.few))) in
+    omega (arith, whole, score, tail, start, placed, above, below, both, billionth)
+
+stopped_lines-le : (job : Job) (stops : List (List ℕ)) → IsJob job → AreStops job stops
+    → length (flat_map (stopped_line job) (zip job.setting.asks stops)) ≤ length job.setting.asks * 200
+stopped_lines-le job stops h are =
+    let asks = job.setting.asks in
+    let count : length (zip asks stops) ≡ length asks = length-zip asks stops ∙ omega (arith, are.count) in
+    let many = length-flat_map-le (stopped_line job) 200 (zip asks stops) (λ k d l.
+    let inside : k < length asks = omega (arith, l, count) in
+    let within : k < length stops = omega (arith, inside, are.count) in
+    subst (λ (a : Ask × List ℕ). length (stopped_line job a) ≤ 200) (sym (get_or-zip asks stops k d inside within))
+    (stopped_line-le job (get_or asks k d.0) (get_or stops k d.1) h (are.each k d.1 within))) in
+    subst (λ (n : ℕ). length (flat_map (stopped_line job) (zip asks stops)) ≤ n * 200) count many
+
+test_lines-le : (n : ℕ) (job : Job) (os : List Outcome) (stops : List (List ℕ)) → IsJob job → job.setting.stop ≡ n → AreOutcomesOf job os → AreStopsBy n job stops
+    → length (test_lines n job os stops) ≤ length job.setting.asks * 200
+test_lines-le zero job os stops h is all_of none = ends_lines-le job.setting.ends job os h is all_of
+test_lines-le (suc n) job os stops h is all_of are = stopped_lines-le job stops h are
+
+-- ---- a line of the serial test
+
+-- the part is at most 1
+p_value-small : (r all : ℕ) → 1 ≤ all → r ≤ all → p_value r all < 10 ^ 18
+p_value-small r all some within =
+    let least = (quotient_up_is_least (r * 10 ^ 9) all (omega (arith, some))).least (10 ^ 9) (le-leb (r * 10 ^ 9) (10 ^ 9 * all) (omega (arith, within))) in
+    omega (arith, least)
+
+serial_line-le : (job : Job) (place : ℕ) (ranks : List ℕ) (k : ℕ) (ask : Ask) → IsJob job → place ≤ job.setting.steps → IsRank job.setting.steps (slice_index ranks k)
+    → length (serial_line job place ranks (k, ask)) ≤ 200
+serial_line-le job place ranks k ask h within is =
+    let all = job.setting.steps + 1 in
+    let r = slice_index ranks k in
+    let limits = small job h in
+    let whole = length-line (codes "serial") (
+    score_name ask.score ∷ tail_name ask.tail ∷ codes "start" ∷ start_fraction job ask.score
+    ∷ codes "place" ∷ decimal place ∷ codes "rank" ∷ decimal r ∷ codes "of" ∷ decimal all ∷ codes "p" ∷ billionths (p_value r all) ∷ []) in
+    let score = length-score ask.score in
+    let tail = length-tail ask.tail in
+    let start = length-start job ask.score h in
+    let placed = length-decimal-le 10 place (omega arith) (omega (arith, within, limits.few_steps)) (omega arith) in
+    let ranked = length-decimal-le 10 r (omega arith) (omega (arith, is.few, limits.few_steps)) (omega arith) in
+    let of = length-decimal-le 10 all (omega arith) (omega (arith, limits.few_steps)) (omega arith) in
+    let billionth = length-billionths (p_value r all) (p_value-small r all (omega arith) is.few) in
+    omega (arith, whole, score, tail, start, placed, ranked, of, billionth)
+
+serial_lines-le : (b : Bool) (job : Job) (serial : Option (ℕ × List ℕ)) → IsJob job → IsSerialBy b job serial → length (serial_lines job serial) ≤ length job.setting.asks * 200
+serial_lines-le false job None h is = omega arith
+serial_lines-le false job (Some found) h is = absurd is
+serial_lines-le true job None h is = absurd is
+serial_lines-le true job (Some found) h is =
+    let many = length-flat_map-le (serial_line job found.0 found.1) 200 (placed_asks job)
+    (each_placed job (λ k ask. length (serial_line job found.0 found.1 (k, ask)) ≤ 200) (λ k ask l. serial_line-le job found.0 found.1 k ask h is.0 (is.1 k l))) in
+    subst (λ (n : ℕ). length (flat_map (serial_line job found.0 found.1) (placed_asks job)) ≤ n * 200) (length-enumerate_from 0 job.setting.asks) many
 
 -- ---- the other lines
 
@@ -216,36 +289,83 @@ length-setting_line job =
     ∷ codes "ends" ∷ decimal job.setting.ends ∷ codes "hub-steps" ∷ decimal job.setting.hub_steps ∷ []) in
     omega (arith, whole, length-decimal_any job.setting.walks, length-decimal_any job.setting.steps, length-decimal_any job.setting.ends, length-decimal_any job.setting.hub_steps)
 
-joined-le : (a b c d e : List ℕ) (n : ℕ) → length a + length b + length c + length d + length e ≤ n → length (a ++ b ++ c ++ d ++ e) ≤ n
-joined-le a b c d e n h = simp length-append h
+length-title_line : (b : Bool) → length (title_line b) ≤ 17
+length-title_line true = omega arith
+length-title_line false = omega arith
 
-length-head : (job : Job) → IsJob job → length (head job) ≤ 1000
+length-cut_line : (job : Job) → length (cut_line job) ≤ 73
+length-cut_line job =
+    let whole = length-line (codes "max-cut") (decimal job.setting.max_cut ∷ []) in
+    let most = length-decimal_any job.setting.max_cut in
+    cond_both {A = List ℕ} (nat_lt job.setting.max_cut 400000) (line (codes "max-cut" ∷ decimal job.setting.max_cut ∷ [])) [] (λ t. length t ≤ 73)
+    (λ _. omega (arith, whole, most)) (λ _. omega arith)
+
+length-split_line : (most : ℕ) (regions : List ℕ) → length (split_line most regions) ≤ 148
+length-split_line most [] = omega arith
+length-split_line most (r ∷ rest) =
+    let count = region_count (r ∷ rest) in
+    let whole = length-line (codes "max-split") (decimal most ∷ codes "regions" ∷ decimal count ∷ []) in
+    omega (arith, whole, length-decimal_any most, length-decimal_any count)
+
+length-rule_lines : (job : Job) → length (rule_lines job) ≤ 221
+length-rule_lines job =
+    let both = length-append (cut_line job) (split_line job.setting.max_split job.regions) in
+    omega (arith, both, length-cut_line job, length-split_line job.setting.max_split job.regions)
+
+length-stop_line : (n : ℕ) → length (stop_line n) ≤ 70
+length-stop_line zero = omega arith
+length-stop_line (suc n) = let whole = length-line (codes "stop") (decimal (suc n) ∷ []) in omega (arith, whole, length-decimal_any (suc n))
+
+length-shift_line : (b : Bool) (os : List Outcome) → length (shift_line b os) ≤ 591
+length-shift_line false os = omega arith
+length-shift_line true os =
+    let bin : ℕ → ℕ = λ k. sum_by (λ o. slice_index o.bins k) os in
+    let whole = length-line (codes "shift") (
+    decimal (bin 0) ∷ decimal (bin 1) ∷ decimal (bin 2) ∷ decimal (bin 3) ∷ decimal (bin 4) ∷ decimal (bin 5) ∷ decimal (bin 6) ∷ decimal (bin 7) ∷ decimal (bin 8) ∷ []) in
+    omega (
+      arith,
+      whole,
+      length-decimal_any (bin 0),
+      length-decimal_any (bin 1),
+      length-decimal_any (bin 2),
+      length-decimal_any (bin 3),
+      length-decimal_any (bin 4),
+      length-decimal_any (bin 5),
+      length-decimal_any (bin 6),
+      length-decimal_any (bin 7),
+      length-decimal_any (bin 8),
+    )
+
+joined-le : (a b c d e f g : List ℕ) (n : ℕ) → length a + length b + length c + length d + length e + length f + length g ≤ n → length (a ++ b ++ c ++ d ++ e ++ f ++ g) ≤ n
+joined-le a b c d e f g n h = simp length-append h
+
+length-head : (job : Job) → IsJob job → length (head job) ≤ 1200
 length-head job h =
-    joined-le (line (codes "district-audit 1" ∷ [])) (key_line job) (graph_line job) (population_line job) (setting_line job) 1000
-    (omega (arith, length-key_line job h, length-graph_line job, length-population_line job, length-setting_line job))
+    joined-le (title_line job.setting.shift) (key_line job) (graph_line job) (population_line job) (rule_lines job) (setting_line job) (stop_line job.setting.stop) 1200
+    (omega (arith, length-title_line job.setting.shift, length-key_line job h, length-graph_line job, length-population_line job, length-rule_lines job, length-setting_line job, length-stop_line job.setting.stop))
 
 -- ---- all of it
 
-parts-le : (a b c d : List ℕ) (m n k : ℕ) → length a ≤ 1000 → length b ≤ m → length c ≤ n → length d ≤ 4 → 1004 + m + n ≤ k → length (a ++ b ++ c ++ d) ≤ k
-parts-le a b c d m n k la lb lc ld most = simp length-append (omega arith)
+parts-le : (a b c d e f : List ℕ) (l m n k : ℕ) → length a ≤ 1200 → length b ≤ l → length c ≤ 591 → length d ≤ m → length e ≤ n → length f ≤ 4 → 1795 + l + m + n ≤ k
+    → length (a ++ b ++ c ++ d ++ e ++ f) ≤ k
+parts-le a b c d e f l m n k la lb lc ld le lf most = simp length-append (omega arith)
 
-plain-le : (job : Job) (os : List Outcome) → IsJob job → AreOutcomesOf job os → length (plain_text job os) ≤ 1024 + (job.setting.walks + 1) * length job.setting.asks * 200
-plain-le job os h all_of =
+pub report-le : (job : Job) (os : List Outcome) (stops : List (List ℕ)) (serial : Option (ℕ × List ℕ)) → IsJob job → AreOutcomesOf job os → AreStopsOf job stops → IsSerialOf job serial
+    → length (report job os stops serial) ≤ 2048 + (job.setting.walks + 2) * length job.setting.asks * 200
+unfolding report
+report-le job os stops serial h all_of stopped found =
     let asks = length job.setting.asks in
     let walks = job.setting.walks in
-    parts-le (head job) (walk_lines job os) (ends_lines job.setting.ends job os) (line (codes "end" ∷ [])) (walks * (asks * 200)) (asks * 200)
-    (1024 + (walks + 1) * asks * 200)
-    (length-head job h) (walk_lines-le job os h all_of) (ends_lines-le job.setting.ends job os h all_of) (omega arith) (products walks asks)
+    parts-le (head job) (walk_lines job os) (shift_line job.setting.shift os) (test_lines job.setting.stop job os stops) (serial_lines job serial) (line (codes "end" ∷ []))
+    (walks * (asks * 200)) (asks * 200) (asks * 200) (2048 + (walks + 2) * asks * 200)
+    (length-head job h) (walk_lines-le job os h all_of) (length-shift_line job.setting.shift os) (test_lines-le job.setting.stop job os stops h refl all_of stopped)
+    (serial_lines-le job.setting.serial job serial h found) (omega arith) (products walks asks)
   where
-    products : (w a : ℕ) → 1004 + w * (a * 200) + a * 200 ≤ 1024 + (w + 1) * a * 200
+    products : (w a : ℕ) → 1795 + w * (a * 200) + a * 200 + a * 200 ≤ 2048 + (w + 2) * a * 200
     products w a = grind arith
 
-pub report-le : (job : Job) (os : List Outcome) → IsJob job → IsPlain job → AreOutcomesOf job os
-    → length (report job os [] None) ≤ 1024 + (job.setting.walks + 1) * length job.setting.asks * 200
-report-le job os h plain all_of = rw (report_is_plain job os plain) (plain-le job os h all_of)
-
 -- what is enough for any report is below 90 million bytes
-pub enough-le : (walks asks : ℕ) → walks ≤ 100000 → asks ≤ 4 → 1024 + (walks + 1) * asks * 200 ≤ 90000000
+pub enough-le : (walks asks : ℕ) → walks ≤ 100000 → asks ≤ 4 → 2048 + (walks + 2) * asks * 200 ≤ 90000000
 enough-le walks asks few four =
-    let product = mul-le (walks + 1) asks 100001 4 (omega arith) four in
+    let product = mul-le (walks + 2) asks 100002 4 (omega arith) four in
     omega (arith, product)

@@ -1,6 +1,8 @@
 -- A list of pieces that are appended one by one.
 use Rattle.std.proofs.Common.{◌≡◌, ℕ, suc, ◌+◌, ◌<◌, ◌≤◌, drop, get_or, add-one, zero-add, drop-cons, List, [], ◌++◌, length, flat_map, refl, ap, sym, ◌∙◌, subst, arith, append-nil, length-append, Ok, Err}
 use Rattle.std.proofs.lemmas.List.{drop_all}
+use Rattle.std.specs.Prelude.{zip}
+use Rattle.std.proofs.lemmas.Slice.Zip.{get_or-zip, length-zip}
 use Rattle.std.proofs.lemmas.List.FromFn.{length-enumerate_from, get_or-enumerate_from}
 use Rattle.audit_model.specs.Room.{RoomyBytes}
 use Rattle.audit_model.specs.declared.memory.Memory.{Memory}
@@ -70,3 +72,23 @@ placed_within job asks place e l = omega (arith, length-enumerate_from 0 job.set
 
 pub placed_all : (job : Job) (asks : List Ask) (place : ℕ) → asks ≡ job.setting.asks → length asks ≤ place → length (placed_asks job) ≤ place
 placed_all job asks place e l = omega (arith, length-enumerate_from 0 job.setting.asks, ap length e)
+
+-- ---- the asks, each with the stop of its test
+
+pub zipped : (job : Job) (asks : List Ask) (stops : List (List ℕ)) (place : ℕ) → asks ≡ job.setting.asks → length stops ≡ length job.setting.asks → place < length asks
+    → get_or (zip job.setting.asks stops) place (no_ask, []) ≡ (get_or asks place no_ask, get_or stops place [])
+zipped job asks stops place e count l =
+    let inside : place < length job.setting.asks = subst (λ xs. place < length xs) e l in
+    get_or-zip job.setting.asks stops place (no_ask, []) inside (omega (arith, inside, count))
+    ∙ ap (λ xs. (get_or xs place no_ask, get_or stops place [])) (sym e)
+
+zipped_length : (job : Job) (stops : List (List ℕ)) → length stops ≡ length job.setting.asks → length (zip job.setting.asks stops) ≡ length job.setting.asks
+zipped_length job stops count = length-zip job.setting.asks stops ∙ omega (arith, count)
+
+pub zipped_within : (job : Job) (asks : List Ask) (stops : List (List ℕ)) (place : ℕ) → asks ≡ job.setting.asks → length stops ≡ length job.setting.asks → place < length asks
+    → place < length (zip job.setting.asks stops)
+zipped_within job asks stops place e count l = omega (arith, zipped_length job stops count, ap length e)
+
+pub zipped_all : (job : Job) (asks : List Ask) (stops : List (List ℕ)) (place : ℕ) → asks ≡ job.setting.asks → length stops ≡ length job.setting.asks → length asks ≤ place
+    → length (zip job.setting.asks stops) ≤ place
+zipped_all job asks stops place e count l = omega (arith, zipped_length job stops count, ap length e)

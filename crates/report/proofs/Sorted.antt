@@ -16,7 +16,7 @@ use Rattle.audit_model.specs.Job.{Job}
 use Rattle.audit_model.specs.Run.{total, bins_fit, fits, steps_of}
 use Rattle.audit_model.specs.Trajectory.{value_at}
 use Rattle.model_laws.proofs.Below.{all_below_at}
-use Rattle.report.specs.Outcomes.{AreOutcomesOf, HasCounts, IsCount, AreEndsOf}
+use Rattle.report.specs.Outcomes.{AreOutcomesOf, HasCounts, IsCount, AreEndsOf, reported, reported_by}
 
 -- the numbers below a bound are those from 0 on
 pub map_below-is : (n : ℕ) → map_below n (λ id. id) ≡ range_with_len 0 n
@@ -70,25 +70,42 @@ lasts w a (suc n) (o ∷ os) e =
           ∙ ap (λ k. o ∷ drop k os) none_later ∙ ap (λ k. drop k (o ∷ os)) (sym none)
     ]
 
-ids : (job : Job) (os : List Outcome) → AreOutcomesOf job os → map (λ o. o.id) os ≡ range_with_len 0 (total job)
-ids job os h = h.ids ∙ map_below-is (total job)
+-- the outlier trajectories are among those that are reported
+walks_reported : (h : ℕ) (job : Job) → job.setting.walks ≤ reported_by h job
+walks_reported zero job = omega arith
+walks_reported (suc h) job = omega arith
 
--- there are as many as trajectories
-pub count : (job : Job) (os : List Outcome) → AreOutcomesOf job os → length os ≡ total job
-count job os h = sym (length-map os (λ (o : Outcome). o.id)) ∙ ap length (ids job os h) ∙ length-range_with_len 0 (total job)
+reported_within : (h : ℕ) (job : Job) → reported_by h job ≤ total job
+reported_within zero job = omega arith
+reported_within (suc h) job = omega arith
+
+ids : (job : Job) (os : List Outcome) → AreOutcomesOf job os → map (λ o. o.id) os ≡ range_with_len 0 (reported job)
+ids job os h = h.ids ∙ map_below-is (reported job)
+
+-- there are as many as trajectories that are reported
+count : (job : Job) (os : List Outcome) → AreOutcomesOf job os → length os ≡ reported job
+count job os h = sym (length-map os (λ (o : Outcome). o.id)) ∙ ap length (ids job os h) ∙ length-range_with_len 0 (reported job)
+
+-- no more than trajectories
+pub few : (job : Job) (os : List Outcome) → AreOutcomesOf job os → length os ≤ total job
+few job os h = let all = count job os h in omega (arith, all, reported_within job.setting.stop job)
 
 -- the outcome at a place has it as its id
 pub id_at : (job : Job) (os : List Outcome) (k : ℕ) (d : Outcome) → AreOutcomesOf job os → k < length os → (get_or os k d).id ≡ k
 id_at job os k d h l =
     let mapped = get_or-map (λ o. o.id) os k d 0 l in
-    let numbered = get_or-range_with_len 0 (total job) k 0 (omega (arith, count job os h)) in
+    let numbered = get_or-range_with_len 0 (reported job) k 0 (subst (λ n. k < n) (count job os h) l) in
     sym mapped ∙ ap (λ ids. get_or ids k 0) (ids job os h) ∙ numbered ∙ zero-add k
 
 pub walks_first : (job : Job) (os : List Outcome) → AreOutcomesOf job os → filter (λ o. nat_lt o.id job.setting.walks) os ≡ take job.setting.walks os
-walks_first job os h = firsts job.setting.walks 0 (total job) os (ids job os h) ∙ ap (λ k. take k os) (sub-zero job.setting.walks)
+walks_first job os h = firsts job.setting.walks 0 (reported job) os (ids job os h) ∙ ap (λ k. take k os) (sub-zero job.setting.walks)
 
 pub ends_last : (job : Job) (os : List Outcome) → AreOutcomesOf job os → filter (λ o. nat_le job.setting.walks o.id) os ≡ drop job.setting.walks os
-ends_last job os h = lasts job.setting.walks 0 (total job) os (ids job os h) ∙ ap (λ k. drop k os) (sub-zero job.setting.walks)
+ends_last job os h = lasts job.setting.walks 0 (reported job) os (ids job os h) ∙ ap (λ k. drop k os) (sub-zero job.setting.walks)
+
+-- there is an outcome at least for each that is not of the parallel test
+pub walks_within : (job : Job) (os : List Outcome) → AreOutcomesOf job os → job.setting.walks ≤ length os
+walks_within job os h = let all = count job os h in omega (arith, all, walks_reported job.setting.stop job)
 
 -- what fits has a number of visits for each ask
 is_count : (steps : ℕ) (v : ℤ) → (int_le (pos 1) v && int_le v (pos (steps + 1))) ≡ true → IsCount steps v
@@ -129,16 +146,16 @@ fit_at job os k d h l = fits_parts job (get_or os k d) (AllPass-from_list_all (f
 
 pub walks_counted : (job : Job) (os : List Outcome) → AreOutcomesOf job os → All (HasCounts job) (take job.setting.walks os)
 walks_counted job os h k d l =
-    let all : length os ≡ total job = count job os h in
-    let short : length (take job.setting.walks os) ≡ job.setting.walks = length-take-le job.setting.walks os (omega arith) in
+    let all = walks_within job os h in
+    let short : length (take job.setting.walks os) ≡ job.setting.walks = length-take-le job.setting.walks os all in
     let below : k < job.setting.walks = omega arith in
     let is : (get_or os k d).id ≡ k = id_at job os k d h (omega arith) in
     subst (HasCounts job) (sym (get_or-take job.setting.walks os k d below))
     ((fit_at job os k d h (omega arith)).counts (lt-ltb (get_or os k d).id job.setting.walks (omega arith)))
 
-pub ends_sound : (job : Job) (os : List Outcome) → AreOutcomesOf job os → AreEndsOf job (drop job.setting.walks os)
-ends_sound job os h =
-    let all : length os ≡ total job = count job os h in
+pub ends_sound : (job : Job) (os : List Outcome) → job.setting.stop ≡ 0 → AreOutcomesOf job os → AreEndsOf job (drop job.setting.walks os)
+ends_sound job os none h =
+    let all : length os ≡ total job = count job os h ∙ ap (λ n. reported_by n job) none in
     record {
       count = omega (arith, length-drop job.setting.walks os);
       ids = λ k d l.
@@ -147,10 +164,6 @@ ends_sound job os h =
           let moved : get_or (drop job.setting.walks os) k d ≡ get_or os (job.setting.walks + k) d = get_or-drop job.setting.walks os k d in
           subst (λ (o : Outcome). job.setting.walks ≤ o.id) (sym moved) (omega arith);
     }
-
--- the job has a trajectory at least for each that is not of the parallel test
-pub walks_within : (job : Job) (os : List Outcome) → AreOutcomesOf job os → job.setting.walks ≤ length os
-walks_within job os h = let all : length os ≡ total job = count job os h in omega arith
 
 -- no end is left out
 pub ends_all : (w : ℕ) (os : List Outcome) → All (λ o. w ≤ o.id) os → filter (λ o. nat_le w o.id) os ≡ os

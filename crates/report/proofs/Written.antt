@@ -79,12 +79,12 @@ pub empty : (words : List Word) → length words ≡ 0 → words ≡ []
 empty [] h = refl
 empty (word ∷ words) h = absurd (omega arith)
 
--- four texts in turn, appended at once
-pub appended-four : (start one two three last out new a b c d : List ℕ) → start ≡ [] → one ≡ start ++ a → two ≡ one ++ b → three ≡ two ++ c → last ≡ three ++ d → new ≡ out ++ last
-    → new ≡ out ++ (((a ++ b) ++ c) ++ d)
-appended-four start one two three last out new a b c d hs h1 h2 h3 h4 h =
-    let whole : last ≡ (((start ++ a) ++ b) ++ c) ++ d = cc in
-    let all : (((start ++ a) ++ b) ++ c) ++ d ≡ ((a ++ b) ++ c) ++ d = rw hs refl in
+-- five texts in turn, appended at once
+pub appended-five : (start one two three four last out new a b c d e : List ℕ) → start ≡ [] → one ≡ start ++ a → two ≡ one ++ b → three ≡ two ++ c → four ≡ three ++ d → last ≡ four ++ e → new ≡ out ++ last
+    → new ≡ out ++ ((((a ++ b) ++ c) ++ d) ++ e)
+appended-five start one two three four last out new a b c d e hs h1 h2 h3 h4 h5 h =
+    let whole : last ≡ ((((start ++ a) ++ b) ++ c) ++ d) ++ e = cc in
+    let all : ((((start ++ a) ++ b) ++ c) ++ d) ++ e ≡ (((a ++ b) ++ c) ++ d) ++ e = rw hs refl in
     h ∙ ap (λ t. out ++ t) (whole ∙ all)
 
 -- the same text, given otherwise

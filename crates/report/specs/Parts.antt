@@ -1,12 +1,12 @@
 -- Parts of the report.
-use Rattle.std.specs.Prelude.{ℕ, List, [], ◌∷◌, ◌++◌, ◌+◌, codes, decimal, flat_map}
+use Rattle.std.specs.Prelude.{ℕ, List, [], ◌∷◌, ◌++◌, ◌+◌, codes, decimal, flat_map, Option}
 use Rattle.hex.specs.Hex.{encode_lower}
 use Rattle.audit_model.specs.declared.outcome.Outcome.{Outcome}
 use Rattle.audit_model.specs.declared.setting.Ask.{Ask}
 use Rattle.audit_model.specs.Job.{Job}
 use Rattle.audit_model.specs.Test.{p_value}
 use Rattle.audit_model.specs.Stopping.{placed_asks}
-use Rattle.text_definitions.specs.Report.{line, ask_words, billionths, ends_lines, graph_line, population_line, setting_line, walk_line, walk_lines}
+use Rattle.text_definitions.specs.Report.{line, ask_words, billionths, graph_line, population_line, rule_lines, serial_lines, setting_line, shift_line, stop_line, test_lines, title_line, walk_line, walk_lines}
 
 -- the line with the key
 abbrev pub key_line : Job → List ℕ
@@ -15,11 +15,13 @@ key_line job = line (codes "key" ∷ encode_lower job.setting.key ∷ [])
 -- the lines before those of the asks
 abbrev pub head : Job → List ℕ
 head job =
-    line (codes "district-audit 1" ∷ [])
+    title_line job.setting.shift
     ++ key_line job
     ++ graph_line job
     ++ population_line job
+    ++ rule_lines job
     ++ setting_line job
+    ++ stop_line job.setting.stop
 
 -- the lines of an outlier trajectory, one for each ask
 abbrev pub lines_of : Job → Outcome → List ℕ
@@ -32,6 +34,20 @@ rank_line job ask start_rank = line (
     ++ codes "rank" ∷ decimal start_rank ∷ codes "of" ∷ decimal (job.setting.ends + 1)
     ∷ codes "p" ∷ billionths (p_value start_rank (job.setting.ends + 1)) ∷ [])
 
--- the report of a job that asks for no lines beside those of walks and ends
-abbrev pub plain_text : Job → List Outcome → List ℕ
-plain_text job outcomes = head job ++ walk_lines job outcomes ++ ends_lines job.setting.ends job outcomes ++ line (codes "end" ∷ [])
+-- the line of an ask, whose start plan stands at this place of the serial test's run and has this rank
+abbrev pub place_line : Job → ℕ → Ask → ℕ → List ℕ
+place_line job place ask rank = line (
+    (codes "serial" ∷ []) ++ ask_words job ask
+    ++ codes "place" ∷ decimal place
+    ∷ codes "rank" ∷ decimal rank ∷ codes "of" ∷ decimal (job.setting.steps + 1)
+    ∷ codes "p" ∷ billionths (p_value rank (job.setting.steps + 1)) ∷ [])
+
+-- the report, part by part
+abbrev pub whole : Job → List Outcome → List (List ℕ) → Option (ℕ × List ℕ) → List ℕ
+whole job outcomes stops serial =
+    head job
+    ++ walk_lines job outcomes
+    ++ shift_line job.setting.shift outcomes
+    ++ test_lines job.setting.stop job outcomes stops
+    ++ serial_lines job serial
+    ++ line (codes "end" ∷ [])

@@ -1,42 +1,62 @@
 //! The report of an audit.
 
-ghost use Rattle.std.specs.Prelude.{◌≡◌, ◌+◌, ◌≤◌, [], ◌++◌, length, None};
+ghost use Rattle.std.specs.Prelude.{◌≡◌, ◌+◌, ◌≤◌, ◌++◌, length};
 ghost use Rattle.report.specs.Lines.{Appends};
-ghost use Rattle.report.specs.Outcomes.{AreOutcomesOf};
-ghost use Rattle.report.specs.Parts.{head, key_line, plain_text};
-ghost use Rattle.report.specs.Plain.{IsPlain};
+ghost use Rattle.report.specs.Outcomes.{AreOutcomesOf, AreStopsOf, IsSerialOf};
+ghost use Rattle.report.specs.Parts.{head, key_line, whole};
 ghost use Rattle.text_definitions.specs.Report as definition;
 
 use crate::check::{push_graph_line, push_population_line};
-use crate::ends::push_ends_lines;
 use crate::lines::{Word, push_line};
+use crate::rules::push_rule_lines;
+use crate::serial::push_serial_lines;
+use crate::shift::push_shift_line;
+use crate::stops::push_test_lines;
 use crate::walks::push_walk_lines;
 use audit_model::buffers::Bytes;
 use audit_model::memory::Memory;
 use audit_model::outcome::Outcome;
 use plan_core::job::Job;
 
-/// Appends the report on the outcomes of all trajectories, which are in the order of their ids. It takes no memory:
-/// `reserve` makes the room.
-#[tactic(auto, using(crate::proofs::Plainly::report_is_plain))]
-pub fn text(job: &Job, sorted: &[Outcome], out: &mut Bytes)
-    requires plain { IsPlain job.now }
+/// Appends the report on the outcomes, which are in the order of their ids: of all trajectories, or where the test stops early of
+/// the outlier trajectories alone. The stops have a place, and a p-value's numerator and denominator, for each ask, and the
+/// serial test a place and a rank for each ask. It takes no memory: `reserve` makes the room.
+#[tactic(auto, using(crate::proofs::Wholly::report_is_whole))]
+pub fn text(
+    job: &Job,
+    sorted: &[Outcome],
+    stops: &[[u32; 3]],
+    serial: Option<(u32, [u64; 4])>,
+    out: &mut Bytes,
+)
     requires outcomes { AreOutcomesOf job.now sorted.now }
-    requires room { length (definition.report job.now sorted.now [] None) ≤ out.old.spare }
-    ensures items { out.new.items ≡ out.old.items ++ definition.report job.now sorted.now [] None }
-    ensures spare { out.new.spare + length (definition.report job.now sorted.now [] None) ≡ out.old.spare }
+    requires stops { AreStopsOf job.now stops.now }
+    requires serial { IsSerialOf job.now serial }
+    requires room { length (definition.report job.now sorted.now stops.now serial) ≤ out.old.spare }
+    ensures items { out.new.items ≡ out.old.items ++ definition.report job.now sorted.now stops.now serial }
+    ensures spare { out.new.spare + length (definition.report job.now sorted.now stops.now serial) ≡ out.old.spare }
 {
-    push_report(job, sorted, out).unwrap();
+    push_report(job, sorted, stops, serial, out).unwrap();
 }
 
 /// Appends the report.
-fn push_report(job: &Job, sorted: &[Outcome], out: &mut Bytes) -> Result<(), Memory>
-    requires { AreOutcomesOf job.now sorted.now }
-    ensures { Appends out.old out.new (plain_text job.now sorted.now) result }
+fn push_report(
+    job: &Job,
+    sorted: &[Outcome],
+    stops: &[[u32; 3]],
+    serial: Option<(u32, [u64; 4])>,
+    out: &mut Bytes,
+) -> Result<(), Memory>
+    requires outcomes { AreOutcomesOf job.now sorted.now }
+    requires stops { AreStopsOf job.now stops.now }
+    requires serial { IsSerialOf job.now serial }
+    ensures { Appends out.old out.new (whole job.now sorted.now stops.now serial) result }
 {
     push_head(job, out)?;
     push_walk_lines(job, sorted, out)?;
-    push_ends_lines(job, sorted, out)?;
+    push_shift_line(job, sorted, out)?;
+    push_test_lines(job, sorted, stops, out)?;
+    push_serial_lines(job, serial, out)?;
     push_line(out, &[Word::Text("end")])
 }
 
@@ -44,11 +64,25 @@ fn push_report(job: &Job, sorted: &[Outcome], out: &mut Bytes) -> Result<(), Mem
 fn push_head(job: &Job, out: &mut Bytes) -> Result<(), Memory>
     ensures { Appends out.old out.new (head job.now) result }
 {
-    push_line(out, &[Word::Text("district-audit 1")])?;
+    push_title_line(job, out)?;
     push_key_line(job, out)?;
     push_graph_line(job, out)?;
     push_population_line(job, out)?;
-    push_setting_line(job, out)
+    push_rule_lines(job, out)?;
+    push_setting_line(job, out)?;
+    push_stop_line(job, out)
+}
+
+/// Appends the first line, which tells whether there is one of seats.
+fn push_title_line(job: &Job, out: &mut Bytes) -> Result<(), Memory>
+    ensures { Appends out.old out.new (definition.title_line job.now.setting.shift) result }
+{
+    let title = if job.setting().shift {
+        "district-audit 2"
+    } else {
+        "district-audit 1"
+    };
+    push_line(out, &[Word::Text(title)])
 }
 
 /// Appends the line with the key.
@@ -76,6 +110,17 @@ fn push_setting_line(job: &Job, out: &mut Bytes) -> Result<(), Memory>
             Word::Number(u64::from(setting.hub_steps)),
         ],
     )
+}
+
+/// Appends the line with the number of ends at which a test stops, where one stops early.
+fn push_stop_line(job: &Job, out: &mut Bytes) -> Result<(), Memory>
+    ensures { Appends out.old out.new (definition.stop_line job.now.setting.stop) result }
+{
+    let enough = job.setting().stop;
+    if enough == 0 {
+        return Ok(());
+    }
+    push_line(out, &[Word::Text("stop"), Word::Number(u64::from(enough))])
 }
 
 #[cfg(test)]

@@ -2,18 +2,17 @@
 
 ghost use Rattle.std.specs.Prelude.{◌≡◌, ◌++◌, OnOk, OnErr};
 ghost use Rattle.report.specs.Lines.{Appends};
-ghost use Rattle.report.specs.Plain.{HasPlainRules};
 ghost use Rattle.text_definitions.specs.Report as definition;
 
 use crate::lines::{Word, push_line};
+use crate::rules::push_rule_lines;
 use audit_model::buffers::Bytes;
 use audit_model::memory::Memory;
 use plan_core::job::Job;
 use std::alloc::Global;
 
-/// Appends the text of a check: four lines. After want of memory `out` is as before.
+/// Appends the text of a check. After want of memory `out` is as before.
 pub fn check_text(alloc: Global, job: &Job, out: &mut Bytes) -> Result<(), Memory>
-    requires plain { HasPlainRules job.now }
     ensures ok { OnOk result (out.new.items ≡ out.old.items ++ definition.check_text job.now) }
     ensures err { OnErr result (out.new ≡ out.old) }
 {
@@ -21,6 +20,7 @@ pub fn check_text(alloc: Global, job: &Job, out: &mut Bytes) -> Result<(), Memor
     push_line(&mut text, &[Word::Text("plan-check 1")])?;
     push_graph_line(job, &mut text)?;
     push_population_line(job, &mut text)?;
+    push_rule_lines(job, &mut text)?;
     push_line(&mut text, &[Word::Text("end")])?;
     out.append(text.as_slice())
 }

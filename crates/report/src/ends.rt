@@ -21,7 +21,8 @@ use plan_core::job::Job;
 
 /// Appends a line for each ask, where there are trajectories of the parallel test.
 pub fn push_ends_lines(job: &Job, sorted: &[Outcome], out: &mut Bytes) -> Result<(), Memory>
-    requires { AreOutcomesOf job.now sorted.now }
+    requires outcomes { AreOutcomesOf job.now sorted.now }
+    requires all { job.now.setting.stop ≡ 0 }
     ensures { Appends out.old out.new (ends_lines job.now.setting.ends job.now sorted.now) result }
 {
     if job.setting().ends == 0 {

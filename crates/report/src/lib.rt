@@ -9,6 +9,10 @@ pub mod names;
 pub mod numbers;
 pub mod outcomes;
 pub mod room;
+pub mod rules;
+pub mod serial;
+pub mod shift;
+pub mod stops;
 #[cfg(test)]
 mod tests;
 pub mod values;

@@ -18,7 +18,8 @@ pub fn walks_of<'a>(job: &Job, sorted: &'a [Outcome]) -> &'a [Outcome]
 
 /// The outcomes of the trajectories of the parallel test.
 pub fn ends_of<'a>(job: &Job, sorted: &'a [Outcome]) -> &'a [Outcome]
-    requires { AreOutcomesOf job.now sorted.now }
+    requires outcomes { AreOutcomesOf job.now sorted.now }
+    requires all { job.now.setting.stop ≡ 0 }
     ensures all { result.now ≡ filter (λ o. nat_le job.now.setting.walks o.id) sorted.now }
     ensures sound { AreEndsOf job.now result.now }
 {

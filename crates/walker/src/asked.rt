@@ -4,9 +4,11 @@ ghost use Rattle.std.specs.Prelude.{◌≡◌, ◌+◌, ◌<◌, ◌^◌, ◌∷
 ghost use Rattle.std.specs.List.{slice_get};
 ghost use Rattle.audit_model.specs.JobOf.{IsJob};
 ghost use Rattle.audit_model.specs.Trajectory.{plan_value};
+ghost use Rattle.flip_kernel.specs.Judged.{held_of};
 ghost use Rattle.walker.specs.Asked.{each, asked_value, inside};
 
 use audit_model::setting::{Ask, Score};
+use flip_guard::judge::Judge;
 use flip_kernel::state::State;
 use outlier_tests::in_tail;
 use scores::value;
@@ -20,10 +22,10 @@ pub struct Tally {
 }
 
 /// The numerator of a score of the held plan.
-fn held_value(state: &State, score: Score, room: &mut [u64]) -> i64
-    requires sound { IsJob state.now.job }
+fn held_value<J: Judge>(state: &State<J>, score: Score, room: &mut [u64]) -> i64
+    requires sound { IsJob (held_of state.now).job }
     requires room { length room.old ≡ 200 }
-    ensures { result ≡ plan_value state.now.job state.now.plan score }
+    ensures { result ≡ plan_value (held_of state.now).job (held_of state.now).plan score }
 {
     let _plan = state.plan();
     value(score, state.view(), room)
@@ -31,10 +33,10 @@ fn held_value(state: &State, score: Score, room: &mut [u64]) -> i64
 
 /// The value of the ask at a place for the held plan.
 #[tactic(auto, unfolding(crate::specs::Asked::asked_value))]
-fn value_at(state: &State, asks: &[Ask], place: usize, room: &mut [u64]) -> i64
-    requires sound { IsJob state.now.job }
+fn value_at<J: Judge>(state: &State<J>, asks: &[Ask], place: usize, room: &mut [u64]) -> i64
+    requires sound { IsJob (held_of state.now).job }
     requires room { length room.old ≡ 200 }
-    ensures { result ≡ asked_value state.now.job state.now.plan (slice_get asks.now place) }
+    ensures { result ≡ asked_value (held_of state.now).job (held_of state.now).plan (slice_get asks.now place) }
 {
     match asks.get(place) {
         None => 0,
@@ -43,10 +45,10 @@ fn value_at(state: &State, asks: &[Ask], place: usize, room: &mut [u64]) -> i64
 }
 
 /// The value of each ask for the held plan.
-pub fn values(state: &State, asks: &[Ask], room: &mut [u64]) -> [i64; 4]
-    requires sound { IsJob state.now.job }
+pub fn values<J: Judge>(state: &State<J>, asks: &[Ask], room: &mut [u64]) -> [i64; 4]
+    requires sound { IsJob (held_of state.now).job }
     requires room { length room.old ≡ 200 }
-    ensures { result ≡ each (asked_value state.now.job state.now.plan) asks.now }
+    ensures { result ≡ each (asked_value (held_of state.now).job (held_of state.now).plan) asks.now }
 {
     [
         value_at(state, asks, 0, room),
@@ -58,11 +60,17 @@ pub fn values(state: &State, asks: &[Ask], room: &mut [u64]) -> [i64; 4]
 
 /// One where the held plan is in the tail of the ask at a place, by the start plan's value.
 #[tactic(auto, unfolding(crate::specs::Asked::asked_value, crate::specs::Asked::inside, crate::specs::Asked::is_inside))]
-fn inside_at(state: &State, asks: &[Ask], place: usize, start: i64, room: &mut [u64]) -> u32
-    requires sound { IsJob state.now.job }
+fn inside_at<J: Judge>(
+    state: &State<J>,
+    asks: &[Ask],
+    place: usize,
+    start: i64,
+    room: &mut [u64],
+) -> u32
+    requires sound { IsJob (held_of state.now).job }
     requires room { length room.old ≡ 200 }
-    requires start { start ≡ asked_value state.now.job state.now.job.start (slice_get asks.now place) }
-    ensures { result ≡ inside state.now.job state.now.plan (slice_get asks.now place) }
+    requires start { start ≡ asked_value (held_of state.now).job (held_of state.now).job.start (slice_get asks.now place) }
+    ensures { result ≡ inside (held_of state.now).job (held_of state.now).plan (slice_get asks.now place) }
 {
     match asks.get(place) {
         None => 0,
@@ -84,12 +92,12 @@ pub fn signed(counts: [u32; 4]) -> [i64; 4]
 
 impl Tally {
     /// The tally of the start plan, which is held, alone.
-    pub fn new(state: &State, asks: &[Ask], room: &mut [u64]) -> Tally
-        requires sound { IsJob state.now.job }
+    pub fn new<J: Judge>(state: &State<J>, asks: &[Ask], room: &mut [u64]) -> Tally
+        requires sound { IsJob (held_of state.now).job }
         requires room { length room.old ≡ 200 }
-        requires start { state.now.plan ≡ state.now.job.start }
-        ensures start { result.start ≡ each (asked_value state.now.job state.now.job.start) asks.now }
-        ensures inside { result.inside ≡ each (inside state.now.job state.now.plan) asks.now }
+        requires start { (held_of state.now).plan ≡ (held_of state.now).job.start }
+        ensures start { result.start ≡ each (asked_value (held_of state.now).job (held_of state.now).job.start) asks.now }
+        ensures inside { result.inside ≡ each (inside (held_of state.now).job (held_of state.now).plan) asks.now }
         ensures counts { result.counts ≡ result.inside }
     {
         let start = values(state, asks, room);
@@ -104,12 +112,12 @@ impl Tally {
     }
 
     /// Tests the plan that is held now.
-    pub fn renew(&mut self, state: &State, asks: &[Ask], room: &mut [u64])
-        requires sound { IsJob state.now.job }
+    pub fn renew<J: Judge>(&mut self, state: &State<J>, asks: &[Ask], room: &mut [u64])
+        requires sound { IsJob (held_of state.now).job }
         requires room { length room.old ≡ 200 }
-        requires start { self.old.start ≡ each (asked_value state.now.job state.now.job.start) asks.now }
+        requires start { self.old.start ≡ each (asked_value (held_of state.now).job (held_of state.now).job.start) asks.now }
         ensures start { self.new.start ≡ self.old.start }
-        ensures inside { self.new.inside ≡ each (inside state.now.job state.now.plan) asks.now }
+        ensures inside { self.new.inside ≡ each (inside (held_of state.now).job (held_of state.now).plan) asks.now }
         ensures counts { self.new.counts ≡ self.old.counts }
     {
         self.inside = [

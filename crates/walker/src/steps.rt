@@ -5,11 +5,13 @@ ghost use Rattle.draw_definitions.specs.Draw.{draw};
 ghost use Rattle.audit_model.specs.JobOf.{IsJob};
 ghost use Rattle.audit_model.specs.Step.{next};
 ghost use Rattle.audit_model.specs.Trajectory.{visit, moves};
+ghost use Rattle.flip_kernel.specs.Judged.{IsSeated, held_of};
 ghost use Rattle.walker.specs.Asked.{each, asked_value, inside, visits_inside};
 
 use crate::asked::Tally;
 use audit_model::steps::Steps;
 use chacha_draws::Draws;
+use flip_guard::judge::Judge;
 use flip_kernel::flip::try_flip;
 use flip_kernel::state::State;
 use plan_core::job::Job;
@@ -17,11 +19,18 @@ use std::sync::ledger::Ledger;
 
 /// Makes one step, and tells whether it changed the plan.
 #[inline]
-fn step<L: Ledger>(job: &Job, state: &mut State, draws: &mut Draws, counter: &mut Steps<L>) -> bool
-    requires made { state.old.job ≡ job.now }
+fn step<J: Judge, L: Ledger>(
+    job: &Job,
+    state: &mut State<J>,
+    draws: &mut Draws,
+    counter: &mut Steps<L>,
+) -> bool
+    requires made { (held_of state.old).job ≡ job.now }
+    requires seated { IsSeated job.now J.keeps J.stands J.takes J.rules state.old }
     requires place { draws.old.place < 2 ^ 32 }
-    ensures plan { state.new ≡ record state.old { plan = next job.now state.old.plan (draw draws.old.key draws.old.stream draws.old.place) } }
-    ensures moved { result ≡ not (bytes_eq state.old.plan state.new.plan) }
+    ensures plan { held_of state.new ≡ record (held_of state.old) { plan = next job.now (held_of state.old).plan (draw draws.old.key draws.old.stream draws.old.place) } }
+    ensures seated { IsSeated job.now J.keeps J.stands J.takes J.rules state.new }
+    ensures moved { result ≡ not (bytes_eq (held_of state.old).plan (held_of state.new).plan) }
     ensures draws { draws.new ≡ record draws.old { place = draws.old.place + 1 } }
 {
     let draw = draws.next();
@@ -30,25 +39,27 @@ fn step<L: Ledger>(job: &Job, state: &mut State, draws: &mut Draws, counter: &mu
 
 /// Makes one step, tests the plan where it changed, and tells whether it did.
 #[inline]
-fn visit_next<L: Ledger>(
+fn visit_next<J: Judge, L: Ledger>(
     job: &Job,
-    state: &mut State,
+    state: &mut State<J>,
     draws: &mut Draws,
     tally: &mut Tally,
     room: &mut [u64],
     counter: &mut Steps<L>,
 ) -> bool
-    requires made { state.old.job ≡ job.now }
+    requires made { (held_of state.old).job ≡ job.now }
+    requires seated { IsSeated job.now J.keeps J.stands J.takes J.rules state.old }
     requires place { draws.old.place < 2 ^ 32 }
     requires sound { IsJob job.now }
     requires room { length room.old ≡ 200 }
     requires start { tally.old.start ≡ each (asked_value job.now job.now.start) job.now.setting.asks }
-    requires inside { tally.old.inside ≡ each (inside job.now state.old.plan) job.now.setting.asks }
-    ensures plan { state.new ≡ record state.old { plan = next job.now state.old.plan (draw draws.old.key draws.old.stream draws.old.place) } }
-    ensures moved { result ≡ not (bytes_eq state.old.plan state.new.plan) }
+    requires inside { tally.old.inside ≡ each (inside job.now (held_of state.old).plan) job.now.setting.asks }
+    ensures plan { held_of state.new ≡ record (held_of state.old) { plan = next job.now (held_of state.old).plan (draw draws.old.key draws.old.stream draws.old.place) } }
+    ensures seated { IsSeated job.now J.keeps J.stands J.takes J.rules state.new }
+    ensures moved { result ≡ not (bytes_eq (held_of state.old).plan (held_of state.new).plan) }
     ensures draws { draws.new ≡ record draws.old { place = draws.old.place + 1 } }
     ensures start { tally.new.start ≡ tally.old.start }
-    ensures inside { tally.new.inside ≡ each (inside job.now state.new.plan) job.now.setting.asks }
+    ensures inside { tally.new.inside ≡ each (inside job.now (held_of state.new).plan) job.now.setting.asks }
     ensures counts { tally.new.counts ≡ tally.old.counts }
 {
     let moved = step(job, state, draws, counter);
@@ -59,16 +70,18 @@ fn visit_next<L: Ledger>(
 }
 
 /// Makes this many steps along a stream from its first draw on, and counts those that change the plan.
-pub fn walk<L: Ledger>(
+pub fn walk<J: Judge, L: Ledger>(
     job: &Job,
-    state: &mut State,
+    state: &mut State<J>,
     stream: u64,
     steps: u32,
     counter: &mut Steps<L>,
 ) -> u32
-    requires made { state.old.job ≡ job.now }
-    ensures plan { state.new ≡ record state.old { plan = visit job.now (draw job.now.setting.key stream) state.old.plan steps } }
-    ensures moved { result ≡ moves job.now (draw job.now.setting.key stream) state.old.plan steps }
+    requires made { (held_of state.old).job ≡ job.now }
+    requires seated { IsSeated job.now J.keeps J.stands J.takes J.rules state.old }
+    ensures plan { held_of state.new ≡ record (held_of state.old) { plan = visit job.now (draw job.now.setting.key stream) (held_of state.old).plan steps } }
+    ensures seated { IsSeated job.now J.keeps J.stands J.takes J.rules state.new }
+    ensures moved { result ≡ moves job.now (draw job.now.setting.key stream) (held_of state.old).plan steps }
 {
     let setting = job.setting();
     let mut draws = Draws::new(setting.key, stream);
@@ -82,17 +95,19 @@ pub fn walk<L: Ledger>(
 /// Walks the outlier trajectory of a stream from the start plan, which is held. It answers how many steps
 /// changed the plan, and for each ask how many of the visited plans are in its tail, the start plan among
 /// them. Scores are computed only where the plan changed.
-pub fn count_visits<L: Ledger>(
+pub fn count_visits<J: Judge, L: Ledger>(
     job: &Job,
-    state: &mut State,
+    state: &mut State<J>,
     stream: u64,
     room: &mut [u64],
     counter: &mut Steps<L>,
 ) -> (u32, [u32; 4])
-    requires made { state.old.job ≡ job.now }
-    requires start { state.old.plan ≡ job.now.start }
+    requires made { (held_of state.old).job ≡ job.now }
+    requires seated { IsSeated job.now J.keeps J.stands J.takes J.rules state.old }
+    requires start { (held_of state.old).plan ≡ job.now.start }
     requires room { length room.old ≡ 200 }
-    ensures made { state.new.job ≡ job.now }
+    ensures made { (held_of state.new).job ≡ job.now }
+    ensures seated { IsSeated job.now J.keeps J.stands J.takes J.rules state.new }
     ensures moved { result.0 ≡ moves job.now (draw job.now.setting.key stream) job.now.start job.now.setting.steps }
     ensures counts { result.1 ≡ each (visits_inside job.now (draw job.now.setting.key stream) (job.now.setting.steps + 1)) job.now.setting.asks }
 {

@@ -6,11 +6,13 @@ ghost use Rattle.audit_model.specs.Limits.{AreWithin, IsSetting};
 use crate::walker::Walker;
 use audit_model::lists::{AskList, LabelList, NumList, UnitList};
 use audit_model::memory::Memory;
-use audit_model::outcome::{Counts, Outcome};
+use audit_model::outcome::{Counts, Outcome, SumsView};
+use audit_model::rules::Rules;
 use audit_model::setting::{Ask, Columns, Command, Label, Score, Setting, Tail};
 use audit_model::text::Text;
 use dual_graph::graph::Graph;
 use dual_graph::parsed::Parsed;
+use flip_guard::guard::Guard;
 use plan_core::job::Job;
 use std::alloc::Global;
 use std::test::Fail;
@@ -99,11 +101,18 @@ fn found(alloc: Global, job: &Job) -> Result<Option<(Outcome, Outcome)>, Memory>
     if job.total() != 2 || job.setting().shift {
         return Ok(None);
     }
-    if job.setting().max_cut < job.graph().edges() || job.rules().regions.len() > 0 {
+    if job.rules().regions.len() > 0 {
         return Ok(None);
     }
+    let max_cut = job.rules().max_cut;
+    let rules = Rules {
+        max_cut,
+        regions: UnitList::new(alloc),
+        max_split: job.rules().max_split,
+    };
+    let guard = Guard::new(move |sums: &SumsView| sums.cut <= max_cut, rules);
     let mut hub = UnitList::zeros(alloc, job.units() as usize)?;
-    let mut walker = Walker::new(alloc, job)?;
+    let mut walker = Walker::new(alloc, job, guard)?;
     walker.hub_into(job, hub.as_mut_slice());
     let along = walker.walk(job, hub.as_slice(), 0);
     let end = walker.walk(job, hub.as_slice(), 1);

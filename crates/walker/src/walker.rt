@@ -4,7 +4,9 @@ ghost use Rattle.std.specs.Prelude.{◌≡◌, false, ◌+◌, ◌-◌, ◌*◌,
 ghost use Rattle.draw_definitions.specs.Draw.{draw};
 ghost use Rattle.audit_model.specs.Plan.{IsLegal};
 ghost use Rattle.audit_model.specs.Trajectory.{hub as hub_of, outcome, outcome_with, walk_outcome, end_outcome};
-ghost use Rattle.flip_kernel.specs.Held.{LimitsNothing};
+ghost use Rattle.audit_model.specs.Job.{rules};
+ghost use Rattle.flip_kernel.specs.Judged.{TakesPlansOf};
+ghost use Rattle.walker.specs.Seated.{IsSeated, held_of};
 
 use crate::asked::{signed, values};
 use crate::steps::{count_visits, walk};
@@ -12,45 +14,41 @@ use audit_model::lists::UnitList;
 use audit_model::memory::Memory;
 use audit_model::outcome::Outcome;
 use audit_model::steps::Steps;
+use flip_guard::judge::Judge;
 use flip_kernel::state::State;
 use plan_core::job::Job;
 use std::alloc::Global;
-use std::marker::{Brand, Model};
+use std::marker::Brand;
 use std::sync::ledger::{Blank, Ledger};
 
-/// What walks the trajectories of a job. It holds a plan that is legal for the job, and all memory that
+/// What walks the trajectories of a job. It holds a plan that is legal for the job, a judge that stands for it, and all memory that
 /// walking takes.
 #[derive(Drop)]
-pub struct Walker {
-    state: State,
+pub struct Walker<J> {
+    state: State<J>,
     room: [u64; 200],
 }
 
-impl Model for Walker {
-    ghost use Rattle.flip_kernel.specs.Held.{Held};
-
-    ghost Value = { Held };
-
-    ghost view = { λ w. w.state };
-}
-
-impl Walker {
-    /// A walker that holds the start plan of a job whose rules limit nothing.
-    pub fn new(alloc: Global, job: &Job) -> Result<Walker, Memory>
-        requires { LimitsNothing job.now }
-        ensures job { IfOk result (λ w. w.job ≡ job.now) }
-        ensures plan { IfOk result (λ w. w.plan ≡ job.now.start) }
+impl<J: Judge> Walker<J> {
+    /// A walker that holds the job's start plan, and a judge that judges by the job's rules.
+    pub fn new(alloc: Global, job: &Job, judge: J) -> Result<Walker<J>, Memory>
+        requires kept { J.keeps judge }
+        requires rules { J.rules judge ≡ rules job.now }
+        requires plans { TakesPlansOf job.now (J.takes judge) }
+        ensures job { IfOk result (λ w. (held_of w).job ≡ job.now) }
+        ensures plan { IfOk result (λ w. (held_of w).plan ≡ job.now.start) }
+        ensures seated { IfOk result (λ w. IsSeated job.now J.keeps J.stands J.takes J.rules w) }
     {
         Ok(Walker {
-            state: State::new(alloc, job)?,
+            state: State::new(alloc, job, judge)?,
             room: [0; 200],
         })
     }
 
     /// The plan that is held.
     pub fn plan(&self) -> &UnitList
-        ensures value { result.now ≡ self.now.plan }
-        ensures legal { IsLegal self.now.job self.now.plan }
+        ensures value { result.now ≡ (held_of self.now).plan }
+        ensures legal { IsLegal (held_of self.now).job (held_of self.now).plan }
     {
         self.state.plan()
     }
@@ -59,22 +57,26 @@ impl Walker {
     /// plan, or one of the parallel test from the hub, which is read for no other. No bins are asked for. It
     /// takes no memory.
     pub fn walk(&mut self, job: &Job, hub: &[u32], id: u32) -> Outcome
-        requires made { self.old.job ≡ job.now }
+        requires made { (held_of self.old).job ≡ job.now }
+        requires seated { IsSeated job.now J.keeps J.stands J.takes J.rules self.old }
         requires id { id < job.now.setting.walks + job.now.setting.ends }
         requires hub { job.now.setting.walks ≤ id → hub.now ≡ hub_of job.now (draw job.now.setting.key) }
         requires bare { job.now.setting.shift ≡ false }
         ensures outcome { result ≡ outcome job.now (draw job.now.setting.key) id }
-        ensures made { self.new.job ≡ self.old.job }
+        ensures made { (held_of self.new).job ≡ job.now }
+        ensures seated { IsSeated job.now J.keeps J.stands J.takes J.rules self.new }
     {
         self.walk_by::<Brand>(job, hub, id, Blank::new(1))
     }
 
     /// Writes the plan from which the trajectories of the parallel test start. It takes no memory.
     pub fn hub_into(&mut self, job: &Job, hub: &mut [u32])
-        requires made { self.old.job ≡ job.now }
+        requires made { (held_of self.old).job ≡ job.now }
+        requires seated { IsSeated job.now J.keeps J.stands J.takes J.rules self.old }
         requires units { length hub.old ≡ job.now.graph.units }
         ensures hub { hub.new ≡ hub_of job.now (draw job.now.setting.key) }
-        ensures made { self.new.job ≡ self.old.job }
+        ensures made { (held_of self.new).job ≡ job.now }
+        ensures seated { IsSeated job.now J.keeps J.stands J.takes J.rules self.new }
     {
         self.walk_to_hub::<Brand>(job, Blank::new(1));
         hub.copy_from_slice(self.state.plan().as_slice());
@@ -85,10 +87,12 @@ impl Walker {
         requires name { blank.name ≡ L.name }
         requires parts { blank.parts ≡ L.parts }
         requires some { 0 < L.parts }
-        requires made { self.old.job ≡ job.now }
+        requires made { (held_of self.old).job ≡ job.now }
+        requires seated { IsSeated job.now J.keeps J.stands J.takes J.rules self.old }
         requires hub { job.now.setting.walks ≤ id → hub.now ≡ hub_of job.now (draw job.now.setting.key) }
         ensures outcome { result ≡ outcome_with false job.now (draw job.now.setting.key) id }
-        ensures made { self.new.job ≡ self.old.job }
+        ensures made { (held_of self.new).job ≡ job.now }
+        ensures seated { IsSeated job.now J.keeps J.stands J.takes J.rules self.new }
     {
         let mut counter: Steps<L> = Steps::new(blank);
         if id < job.setting().walks {
@@ -100,9 +104,11 @@ impl Walker {
 
     // A trajectory of the outlier test.
     fn walk_from_start<L: Ledger>(&mut self, job: &Job, id: u32, counter: &mut Steps<L>) -> Outcome
-        requires made { self.old.job ≡ job.now }
+        requires made { (held_of self.old).job ≡ job.now }
+        requires seated { IsSeated job.now J.keeps J.stands J.takes J.rules self.old }
         ensures outcome { result ≡ walk_outcome false job.now (draw job.now.setting.key) id }
-        ensures made { self.new.job ≡ self.old.job }
+        ensures made { (held_of self.new).job ≡ job.now }
+        ensures seated { IsSeated job.now J.keeps J.stands J.takes J.rules self.new }
     {
         self.state.set(job, job.start().as_slice());
         let stream = 2 * u64::from(id);
@@ -123,11 +129,13 @@ impl Walker {
         id: u32,
         counter: &mut Steps<L>,
     ) -> Outcome
-        requires made { self.old.job ≡ job.now }
+        requires made { (held_of self.old).job ≡ job.now }
+        requires seated { IsSeated job.now J.keeps J.stands J.takes J.rules self.old }
         requires id { job.now.setting.walks ≤ id }
         requires hub { hub.now ≡ hub_of job.now (draw job.now.setting.key) }
         ensures outcome { result ≡ end_outcome job.now (draw job.now.setting.key) id }
-        ensures made { self.new.job ≡ self.old.job }
+        ensures made { (held_of self.new).job ≡ job.now }
+        ensures seated { IsSeated job.now J.keeps J.stands J.takes J.rules self.new }
     {
         let _units = job.units();
         let setting = job.setting();
@@ -147,8 +155,10 @@ impl Walker {
         requires name { blank.name ≡ L.name }
         requires parts { blank.parts ≡ L.parts }
         requires some { 0 < L.parts }
-        requires made { self.old.job ≡ job.now }
-        ensures { self.new ≡ record self.old { plan = hub_of job.now (draw job.now.setting.key) } }
+        requires made { (held_of self.old).job ≡ job.now }
+        requires seated { IsSeated job.now J.keeps J.stands J.takes J.rules self.old }
+        ensures held { held_of self.new ≡ record (held_of self.old) { plan = hub_of job.now (draw job.now.setting.key) } }
+        ensures seated { IsSeated job.now J.keeps J.stands J.takes J.rules self.new }
     {
         let mut counter: Steps<L> = Steps::new(blank);
         self.state.set(job, job.start().as_slice());

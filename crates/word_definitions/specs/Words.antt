@@ -26,9 +26,10 @@ use Rattle.text_definitions.specs.Names.{score_name, tail_name}
 
 -- the names that a command takes, in the order of the table
 abbrev pub names_of : Command → List Name
-names_of Check = Pop ∷ First ∷ Second ∷ District ∷ Slack ∷ []
-names_of Run = Pop ∷ First ∷ Second ∷ District ∷ Slack ∷ Key ∷ Walks ∷ Steps ∷ Ends ∷ HubSteps ∷ Ask ∷ Workers ∷ Budget ∷ Save ∷ Resume ∷ []
-names_of Make = Size ∷ Slack ∷ Key ∷ Walks ∷ Steps ∷ Ends ∷ HubSteps ∷ Ask ∷ Workers ∷ Budget ∷ Save ∷ Resume ∷ []
+names_of Check = Pop ∷ First ∷ Second ∷ District ∷ Slack ∷ MaxCut ∷ []
+names_of Run =
+    Pop ∷ First ∷ Second ∷ District ∷ Slack ∷ Key ∷ Walks ∷ Steps ∷ Ends ∷ HubSteps ∷ Ask ∷ Workers ∷ Budget ∷ Save ∷ Resume ∷ MaxCut ∷ []
+names_of Make = Size ∷ Slack ∷ Key ∷ Walks ∷ Steps ∷ Ends ∷ HubSteps ∷ Ask ∷ Workers ∷ Budget ∷ Save ∷ Resume ∷ MaxCut ∷ []
 names_of Plans = []
 
 -- the value of a name that is not given, where it may be left out
@@ -244,7 +245,7 @@ module _ (command : Command) (words : List Pair) where
     save_every = number_at Save;
     resume = is_yes Resume;
     size = 0;
-    max_cut = 400000;
+    max_cut = number_at MaxCut;
     shift = false;
     stop = 0;
     serial = false;
@@ -269,7 +270,7 @@ setting_for Check words = record {
   save_every = 0;
   resume = false;
   size = 0;
-  max_cut = 400000;
+  max_cut = number_at Check words MaxCut;
   shift = false;
   stop = 0;
   serial = false;

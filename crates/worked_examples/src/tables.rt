@@ -1,19 +1,23 @@
 //! Examples of regions and tables that are read, and of the words that go with them, computed by the definitions.
 
 ghost use Rattle.std.specs.Prelude.{◌≡◌, ◌++◌, [], ◌∷◌, codes, pos, Ok, Err};
+ghost use Rattle.audit_model.specs.declared.fault.Name.TheVariants as name;
 ghost use Rattle.audit_model.specs.declared.fault.PlanFault.TheVariants.{Disconnected};
 ghost use Rattle.audit_model.specs.declared.fault.RegionFault.TheVariants as region;
 ghost use Rattle.audit_model.specs.declared.fault.TableFault.TheVariants as table;
+ghost use Rattle.audit_model.specs.declared.fault.WordFault.TheVariants as word;
 ghost use Rattle.audit_model.specs.declared.setting.Label.TheVariants.{Whole, Word};
-ghost use Rattle.audit_model.specs.declared.setting.Score.TheVariants.{Seats};
+ghost use Rattle.audit_model.specs.declared.setting.Score.TheVariants.{Seats, Gap};
 ghost use Rattle.audit_model.specs.declared.setting.Tail.TheVariants.{Low};
 ghost use Rattle.audit_model.specs.JobOf.{job_with};
 ghost use Rattle.audit_model.specs.Several.{named_jobs};
 ghost use Rattle.audit_model.specs.Trajectory.{no_bins, outcome};
 ghost use Rattle.graph_definitions.specs.Regions.{id_reading, region_reading};
 ghost use Rattle.table_definitions.specs.Table.{graph_part, table_part, table_reading};
+ghost use Rattle.word_definitions.specs.Words.{setting_of};
 ghost use Rattle.worked_examples.specs.Jobs.{run_of, path_of_four, job_of_four, first_draws_alone};
-ghost use Rattle.worked_examples.specs.Texts.{path_text, region_text, short_region_text, four_ids};
+ghost use Rattle.worked_examples.specs.Lines.{run_words};
+ghost use Rattle.worked_examples.specs.Texts.{columns, path_text, region_text, short_region_text, four_ids};
 
 /// The regions of a path, the first refusal where a unit has none, and the ids of the units.
 pub fn small_regions()
@@ -56,4 +60,17 @@ pub fn jobs_of_plans()
     ensures refused { job_with (job_of_four path_of_four (run_of 5000 1 8 0 1000 [])) (0 ∷ 1 ∷ 0 ∷ 0 ∷ []) (Word (codes "A") ∷ Word (codes "B") ∷ []) ≡ Err (Disconnected 0 0 2) }
     ensures named { named_jobs (job_of_four path_of_four (run_of 5000 1 8 0 1000 [])) (record { name = codes "p"; start = 0 ∷ 1 ∷ 0 ∷ 0 ∷ []; labels = Word (codes "A") ∷ Word (codes "B") ∷ [] } ∷ []) ≡
         Err (codes "p", Disconnected 0 0 2) }
+{}
+
+/// Words that are refused beside those of plain runs.
+pub fn more_refused_words()
+    ensures many_cut { setting_of (run_words (codes "--ask" ∷ codes "gap:low" ∷ codes "--max-cut" ∷ codes "400001" ∷ [])) ≡ Err (word.BadValue name.MaxCut) }
+    ensures zero_in_front { setting_of (run_words (codes "--ask" ∷ codes "gap:low" ∷ codes "--max-cut" ∷ codes "02" ∷ [])) ≡ Err (word.BadValue name.MaxCut) }
+{}
+
+/// Words that are accepted beside those of plain runs.
+pub fn more_accepted_words()
+    ensures { setting_of (run_words (codes "--slack" ∷ codes "5000" ∷ codes "--steps" ∷ codes "7" ∷ codes "--ask" ∷ codes "gap:low" ∷ codes "--ends" ∷ codes "3"
+        ∷ codes "--max-cut" ∷ codes "2" ∷ [])) ≡
+        Ok (record (run_of 5000 1 7 3 1000 (record { score = Gap; tail = Low } ∷ [])) { columns = columns; max_cut = 2 }) }
 {}

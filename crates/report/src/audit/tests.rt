@@ -119,9 +119,9 @@ fn setting(alloc: Global) -> Result<Setting, Memory>
 fn report(alloc: Global, job: &Job) -> Result<Option<Bytes>, Memory> {
     let setting = job.setting();
     let lengths = setting.steps == 3 && setting.asks.len() == 1;
-    let plain = setting.max_cut == 400_000 && !setting.shift && setting.stop == 0;
+    let plain = !setting.shift && setting.stop == 0 && !setting.serial;
     let counted = setting.walks == 1 && setting.ends == 0;
-    if !lengths || !plain || !counted || job.rules().regions.len() != 0 {
+    if !lengths || !plain || !counted {
         return Ok(None);
     }
     let found = Outcome {
@@ -132,17 +132,7 @@ fn report(alloc: Global, job: &Job) -> Result<Option<Bytes>, Memory> {
     };
     let mut out = Bytes::new(alloc);
     reserve(alloc, job, &mut out)?;
-    text(job, &[found], &mut out);
-    Ok(Some(out))
-}
-
-/// The check text, if the job has no rules beside population and connectedness.
-fn check(alloc: Global, job: &Job) -> Result<Option<Bytes>, Memory> {
-    if job.setting().max_cut != 400_000 || job.rules().regions.len() != 0 {
-        return Ok(None);
-    }
-    let mut out = Bytes::new(alloc);
-    check_text(alloc, job, &mut out)?;
+    text(job, &[found], &[], None, &mut out);
     Ok(Some(out))
 }
 
@@ -153,8 +143,8 @@ fn two_units_that_stay(rt: HostRuntime) -> Result<(), Fail> {
     let report = report(alloc, &job)?;
     let bytes = report.as_ref().map(Bytes::as_slice);
     assert!(rt; bytes == Some(REPORT.as_bytes()));
-    let check = check(alloc, &job)?;
-    let bytes = check.as_ref().map(Bytes::as_slice);
-    assert!(rt; bytes == Some(CHECK.as_bytes()));
+    let mut out = Bytes::new(alloc);
+    check_text(alloc, &job, &mut out)?;
+    assert!(rt; out.as_slice() == CHECK.as_bytes());
     Ok(())
 }

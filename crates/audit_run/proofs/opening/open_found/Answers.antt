@@ -1,13 +1,12 @@
-use Rattle.std.proofs.Common.{◌≡◌, ◌∙◌, List, Option, Some, map, true, refl, subst, ap, arith}
+use Rattle.std.proofs.Common.{◌≡◌, ◌∙◌, List, map, true, refl, ap, arith}
 use Rattle.audit_model.specs.declared.outcome.Outcome.{Outcome}
-use Rattle.audit_model.specs.Run.{is_bare}
 use Rattle.audit_model.specs.Trajectory.{bare}
 use Rattle.audit_run.proofs.Finished.{no_memory_ends, refused_ends}
 use Rattle.audit_run.proofs.Started.{opens_bare, taken_none}
 use Rattle.audit_run.proofs.opening.open_found.Goals as goal
 
 pub returns-in-Ok : goal.returns-in-Ok
-returns-in-Ok c = λ k told out. no_memory_ends c.args.job.now out k k refl refl refl
+returns-in-Ok c = λ k told out. no_memory_ends c.args.job.now out k k refl refl refl refl
 
 pub returns-in-Ok-without_bins : goal.returns-in-Ok-without_bins
 returns-in-Ok-without_bins c = λ k told.

@@ -1,5 +1,5 @@
 use Rattle.std.proofs.Common.{◌∙◌, refl, sym, subst}
-use Rattle.audit_run.specs.Walks.{IsWithin}
+use Rattle.claim_crew.specs.Walks.{IsWithin}
 use Rattle.audit_run.proofs.Running.{are_all}
 use Rattle.audit_run.proofs.run.walk.Goals as goal
 
@@ -10,5 +10,4 @@ returns g c = record {
       c.walk_run.ensures.full c.walk_run.ensures.all c.walk_run.ensures.rising;
   blank = c.requires.ready.blank;
   report_room = c.requires.ready.report_room;
-  save_room = c.requires.ready.save_room;
 }

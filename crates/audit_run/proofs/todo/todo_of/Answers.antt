@@ -1,7 +1,7 @@
 use Rattle.std.proofs.Common.{◌≡◌, ◌∙◌, sym, ap, subst, not, take, arith}
 use Rattle.audit_model.specs.Below.{filter_below}
 use Rattle.audit_model.specs.Run.{total, has_id}
-use Rattle.audit_run.specs.Walks.{IsTodo}
+use Rattle.claim_crew.specs.Walks.{IsTodo}
 use Rattle.audit_run.proofs.Listing.{run_ids_fit}
 use Rattle.audit_run.proofs.todo.todo_of.Goals as goal
 

@@ -8,17 +8,17 @@ use Rattle.flip_kernel.proofs.flip.try_flip.Goals as goal
 pub returns-in-Some-clause-next : goal.returns-in-Some-clause-next
 returns-in-Some-clause-next g c =
     let job = c.args.job.now in
-    let old : Held = c.args.state.now in
+    let old : Held = c.args.state.now.board in
     let offer : ProposesOpen old.job old.plan c.args.draw c.in-Some.unit c.in-Some.district = c.in-Some.ensures in
-    flip_next job old c.flip.new.self c.args.draw c.in-Some.unit c.in-Some.district c.flip.result
-    (subst (λ (j : Job). proposal j.graph.units j.districts c.args.draw ≡ Some (c.in-Some.unit, c.in-Some.district)) c.requires offer.proposed) offer.inside
+    flip_next job old c.flip.new.self.board c.args.draw c.in-Some.unit c.in-Some.district c.flip.result
+    (subst (λ (j : Job). proposal j.graph.units j.districts c.args.draw ≡ Some (c.in-Some.unit, c.in-Some.district)) c.requires.made offer.proposed) offer.inside
     c.flip.ensures.moves c.flip.ensures.moved c.flip.ensures.held
 
 pub returns-in-Some-clause-held : goal.returns-in-Some-clause-held
 returns-in-Some-clause-held g c =
     let job = c.args.job.now in
-    let old : Held = c.args.state.now in
+    let old : Held = c.args.state.now.board in
     let offer : ProposesOpen old.job old.plan c.args.draw c.in-Some.unit c.in-Some.district = c.in-Some.ensures in
-    flip_held job old c.flip.new.self c.args.draw c.in-Some.unit c.in-Some.district c.flip.result
-    (subst (λ (j : Job). proposal j.graph.units j.districts c.args.draw ≡ Some (c.in-Some.unit, c.in-Some.district)) c.requires offer.proposed) offer.inside
+    flip_held job old c.flip.new.self.board c.args.draw c.in-Some.unit c.in-Some.district c.flip.result
+    (subst (λ (j : Job). proposal j.graph.units j.districts c.args.draw ≡ Some (c.in-Some.unit, c.in-Some.district)) c.requires.made offer.proposed) offer.inside
     c.flip.ensures.moves c.flip.ensures.moved c.flip.ensures.held

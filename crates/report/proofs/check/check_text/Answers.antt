@@ -1,14 +1,15 @@
 use Rattle.std.proofs.Common.{◌++◌, ◌∙◌, ◌∷◌, [], ap, codes}
 use Rattle.std.proofs.lemmas.Result.{on_ok_weaker}
-use Rattle.report.proofs.Plainly.{check_is_plain}
-use Rattle.report.proofs.Written.{appended-four}
-use Rattle.text_definitions.specs.Report.{line, graph_line, population_line}
+use Rattle.report.proofs.Written.{appended-five}
+use Rattle.text_definitions.specs.Report.{check_text, line, graph_line, population_line, rule_lines}
 use Rattle.report.proofs.check.check_text.Goals as goal
 
 pub returns-clause-ok : goal.returns-clause-ok
+unfolding check_text
 returns-clause-ok c =
-    rw (check_is_plain c.args.job.now c.requires.plain) (on_ok_weaker c.append.result (λ e.
-    appended-four c.new-text.result.items c.push_line.new.out.items c.push_graph_line.new.out.items c.push_population_line.new.out.items c.push_line-2.new.out.items c.args.out.now.items c.append.new.self.items
-    (line (codes "plan-check 1" ∷ [])) (graph_line c.args.job.now) (population_line c.args.job.now) (line (codes "end" ∷ []))
-    c.new-text.ensures c.in_ok-push_line.ensures.ok c.in_ok-push_graph_line.ensures.ok c.in_ok-push_population_line.ensures.ok c.in_ok-push_line-2.ensures.ok
-    (e ∙ ap (λ t. c.args.out.now.items ++ t) c.as_slice.ensures)) c.append.ensures.ok)
+    on_ok_weaker c.append.result (λ e.
+    appended-five c.new-text.result.items c.push_line.new.out.items c.push_graph_line.new.out.items c.push_population_line.new.out.items c.push_rule_lines.new.out.items c.push_line-2.new.out.items
+    c.args.out.now.items c.append.new.self.items
+    (line (codes "plan-check 1" ∷ [])) (graph_line c.args.job.now) (population_line c.args.job.now) (rule_lines c.args.job.now) (line (codes "end" ∷ []))
+    c.new-text.ensures c.in_ok-push_line.ensures.ok c.in_ok-push_graph_line.ensures.ok c.in_ok-push_population_line.ensures.ok c.in_ok-push_rule_lines.ensures.ok c.in_ok-push_line-2.ensures.ok
+    (e ∙ ap (λ t. c.args.out.now.items ++ t) c.as_slice.ensures)) c.append.ensures.ok

@@ -11,6 +11,6 @@ returns c =
     let walks : c.setting.result.now.walks ≡ job.setting.walks = ap (λ s. s.walks) c.setting.ensures in
     let asks : length c.asks_of.result.now ≡ length job.setting.asks = ap length c.asks_of.ensures.value in
     record {
-      enough = λ os h. rw (walks, asks) (report-le job os sound c.requires.plain h);
+      enough = λ os stops serial h stopped found. rw (walks, asks) (report-le job os stops serial sound h stopped found);
       few = rw (walks, asks) (enough-le job.setting.walks (length job.setting.asks) (omega (arith, limits.few)) limits.few_asks);
     }

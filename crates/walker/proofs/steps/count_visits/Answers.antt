@@ -10,11 +10,12 @@ pub loop-place-init : goal.loop-place-init
 loop-place-init g c =
     let job = c.args.job.now in
     record {
+      seated = c.requires.seated;
       walked =
-          walked_none job job.setting.key c.args.stream job.start c.args.state.now c.new-draws.result c.requires.made c.requires.start
+          walked_none job job.setting.key c.args.stream job.start c.args.state.now.board c.new-draws.result c.requires.made c.requires.start
           (c.new-draws.ensures.key ∙ ap (λ (s : Setting). s.key) c.setting-setting.ensures) c.new-draws.ensures.stream c.new-draws.ensures.place;
       counted =
-          counted_none job job.setting.key c.args.stream c.new-tally.result c.args.state.now.job c.args.state.now.plan c.as_slice.result.now c.requires.made c.requires.start
+          counted_none job job.setting.key c.args.stream c.new-tally.result c.args.state.now.board.job c.args.state.now.board.plan c.as_slice.result.now c.requires.made c.requires.start
           (c.as_slice.ensures ∙ ap (λ (s : Setting). s.asks) c.setting-setting.ensures)
           c.new-tally.ensures.start c.new-tally.ensures.inside c.new-tally.ensures.counts;
     }
@@ -47,23 +48,24 @@ overflow_add-moved g c =
 pub count-requires : goal.count-requires
 count-requires g c =
     let job = c.args.job.now in
-    counts_fit job job.setting.key c.args.stream c.loop-place.place c.loop-place.state.plan c.loop-place.tally c.loop-place.invariant.counted
-    c.visit_next.new.state.plan c.visit_next.new.tally c.visit_next.ensures.start c.visit_next.ensures.inside c.visit_next.ensures.counts
+    counts_fit job job.setting.key c.args.stream c.loop-place.place c.loop-place.state.board.plan c.loop-place.tally c.loop-place.invariant.counted
+    c.visit_next.new.state.board.plan c.visit_next.new.tally c.visit_next.ensures.start c.visit_next.ensures.inside c.visit_next.ensures.counts
     (omega (arith, c.loop-place-test.true, ap (λ (s : Setting). s.steps) c.setting-setting.ensures, few_steps job c.units-units.ensures.sound))
 
 pub loop-place-preserved : goal.loop-place-preserved
 loop-place-preserved g c =
     let job = c.args.job.now in
     let walked =
-    walked_more job job.setting.key c.args.stream job.start c.loop-place.place c.loop-place.state c.loop-place.draws c.loop-place.moved
-    c.loop-place.invariant.walked c.visit_next.new.state c.visit_next.new.draws c.visit_next.ensures.plan c.visit_next.ensures.draws
+    walked_more job job.setting.key c.args.stream job.start c.loop-place.place c.loop-place.state.board c.loop-place.draws c.loop-place.moved
+    c.loop-place.invariant.walked c.visit_next.new.state.board c.visit_next.new.draws c.visit_next.ensures.plan c.visit_next.ensures.draws
     (c.loop-place.moved + c.from-moved.result) c.visit_next.result c.visit_next.ensures.moved
     (ap (λ (n : ℕ). c.loop-place.moved + n) (c.from-moved.ensures ∙ byte_cond c.visit_next.result)) in
     record {
+      seated = c.visit_next.ensures.seated;
       walked = walked;
       counted =
-          counted_more job job.setting.key c.args.stream c.loop-place.place c.loop-place.state.plan c.loop-place.tally c.loop-place.invariant.counted
-          c.visit_next.new.state.plan c.visit_next.new.tally c.visit_next.ensures.start c.visit_next.ensures.inside c.visit_next.ensures.counts
+          counted_more job job.setting.key c.args.stream c.loop-place.place c.loop-place.state.board.plan c.loop-place.tally c.loop-place.invariant.counted
+          c.visit_next.new.state.board.plan c.visit_next.new.tally c.visit_next.ensures.start c.visit_next.ensures.inside c.visit_next.ensures.counts
           c.count.new.self c.count.ensures.start c.count.ensures.inside c.count.ensures.counts walked.visited;
     }
 

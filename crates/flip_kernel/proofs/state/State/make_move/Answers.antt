@@ -1,20 +1,16 @@
-use Rattle.std.proofs.Common.{◌≡◌, ℕ, Bool, List, get_or, sym, ap, ◌∙◌, subst}
-use Rattle.audit_model.specs.Graph.{Graph}
+use Rattle.std.proofs.Common.{ℕ, List, get_or, ap, subst, ◌∙◌}
 use Rattle.audit_model.specs.Job.{Job}
+use Rattle.audit_model.specs.Plan.{IsLegal}
 use Rattle.flip_kernel.specs.Held.{Held}
-use Rattle.flip_kernel.specs.Openings.{IsTable}
-use Rattle.flip_kernel.proofs.Holding.{put_back}
+use Rattle.flip_kernel.proofs.Judging.{judged_after}
 use Rattle.flip_kernel.proofs.state.State.make_move.Goals as goal
 
--- the same table, of equal graphs, plans and numbers of districts
-table_of : (g h : Graph) (p q : List ℕ) (m n : ℕ) (table : List Bool) → g ≡ h → p ≡ q → m ≡ n → IsTable g p m table → IsTable h q n table
-table_of g h p q m n table eg ep em is =
-    subst (λ (x : Graph). IsTable x q n table) eg (subst (λ (x : List ℕ). IsTable g x n table) ep (subst (λ (x : ℕ). IsTable g p x table) em is))
-
-pub renew-requires-clause-table : goal.renew-requires-clause-table
-renew-requires-clause-table c =
-    let s = c.self.inside in
-    let same : s.job.value ≡ c.args.job.now = ap (λ (h : Held). h.job) c.self.view_is ∙ c.requires.made in
-    let back = put_back s.plan c.as_slice-2.result.now c.args.unit c.args.district _ (c.as_slice-2.ensures ∙ c.shift.ensures.plan) (ap (λ (p : List ℕ). get_or p c.args.unit 0) c.as_slice.ensures) in
-    table_of s.job.value.graph c.graph.result.now s.plan _ s.job.value.districts s.pairs.districts s.openings
-    (ap (λ (j : Job). j.graph) same ∙ sym c.graph.ensures) (sym back) (sym c.self.invariant.numbers.districts) c.self.invariant.opened
+pub moved-requires-clause-after : goal.moved-requires-clause-after
+moved-requires-clause-after g c =
+    let old : Held = c.args.self.now.board in
+    let legal : IsLegal c.args.job.now old.plan = subst (λ (j : Job). IsLegal j old.plan) c.requires.made c.plan.ensures.legal in
+    judged_after c.args.job.now (g.J.Judge.takes c.args.self.now.judge) (g.J.Judge.stands c.args.self.now.judge) c.requires.seated.taken old.plan
+    legal.complete legal.in_range c.requires.seated.stood c.as_slice-2.result.now c.args.unit c.args.district
+    (get_or c.as_slice.result.now c.args.unit 0) c.requires.unit c.requires.district
+    (c.as_slice-2.ensures ∙ c.plan-2.ensures.value ∙ ap (λ (h : Held). h.plan) c.make_move.ensures)
+    (ap (λ (p : List ℕ). get_or p c.args.unit 0) (c.as_slice.ensures ∙ c.plan.ensures.value))

@@ -1,8 +1,9 @@
-use Rattle.std.proofs.Common.{arith}
-use Rattle.flip_kernel.proofs.Holding.{some_units}
+use Rattle.std.proofs.Common.{ℕ, List, sym, subst}
+use Rattle.audit_model.specs.Plan.{IsLegal}
+use Rattle.flip_kernel.proofs.Judging.{plan_taken}
 use Rattle.flip_kernel.proofs.state.State.new.Goals as goal
 
-pub of-requires-3-clause-units : goal.of-requires-3-clause-units
-of-requires-3-clause-units c =
-    let sound = c.units-units.ensures.sound in
-    (omega (arith, some_units c.args.job.now sound, c.units-units.ensures.units), omega (arith, sound.within.input.units, c.units-units.ensures.units))
+pub reset-requires-clause-plan : goal.reset-requires-clause-plan
+reset-requires-clause-plan g c =
+    let legal : IsLegal c.args.job.now c.as_slice.result.now = subst (λ (p : List ℕ). IsLegal c.args.job.now p) (sym c.as_slice.ensures) c.start.ensures.legal in
+    plan_taken c.args.job.now (g.J.Judge.takes c.args.judge) c.requires.plans c.as_slice.result.now legal.complete legal.in_range

@@ -1,0 +1,83 @@
+-- The shares of workers, one after the other, go into a book.
+use Rattle.std.proofs.Common.{◌≡◌, ◌∙◌, sym, ap, subst, ℕ, ◌<◌, ◌≤◌, Bool, List, [], ◌∷◌, ◌++◌, length, length-append, map, take, get_or, All, AllPairs, append_assoc, arith}
+use Rattle.std.specs.Prelude.{◌≢◌, IsFalse}
+use Rattle.std.proofs.Math.Seq.{get_or-append_seam}
+use Rattle.std.proofs.lemmas.List.{map-append, get_or-take, get_or_append_left, length-take}
+use Rattle.audit_model.specs.declared.outcome.Outcome.{Outcome}
+use Rattle.audit_model.specs.Job.{Job}
+use Rattle.audit_model.specs.Run.{total, has_id}
+use Rattle.outcome_book.specs.Booked.{AreApart}
+use Rattle.claim_counter.specs.declared.claims.Claims.{Claims}
+use Rattle.claim_counter.specs.Records.{AreDifferentBelow}
+use Rattle.claim_counter.specs.Passes.{own, size_of}
+use Rattle.claim_crew.specs.declared.worker.Worker.{Worker}
+use Rattle.audit_model.specs.declared.rules.Rules.{Rules}
+use Rattle.walker.specs.declared.walker.Walker.{Walker}
+use Rattle.walker.specs.Seated.{IsSeated, held_of}
+use Rattle.claim_crew.specs.Crews.{IsDone, IsReady}
+use Rattle.claim_crew.specs.Walks.{found_at, Lacks, IsTodo, IsWithin}
+use Rattle.claim_crew.proofs.Sharing.{share_within, share_apart, share_absent, lacks_others}
+
+pub popped_last : {A : Type 0} (P : A → Type 0) (all rest : List A) (x : A) → All P all → all ≡ rest ++ x ∷ [] → P x
+popped_last P all rest x each is =
+    subst P (ap (λ xs. get_or xs (length rest) x) is ∙ get_or-append_seam rest x [] x)
+    (each (length rest) x (omega (arith, ap length is, length-append rest (x ∷ []))))
+
+pub popped_rest : {A : Type 0} (P : A → Type 0) (all rest : List A) (x : A) → All P all → all ≡ rest ++ x ∷ [] → All P rest
+popped_rest P all rest x each is k d inside =
+    subst P (ap (λ xs. get_or xs k d) is ∙ get_or_append_left rest (x ∷ []) d k inside)
+    (each k d (omega (arith, ap length is, length-append rest (x ∷ []))))
+
+-- a worker that has walked the hub is as ready as before
+pub hub_walked : {J : Type 0} (keeps : J → Type 0) (stands : J → List ℕ → Type 0) (takes : J → ℕ → ℕ → Bool) (by : J → Rules) (job : Job) (c : Claims) (w : Worker J)
+    → IsReady keeps stands takes by job c w → (walker : Walker J) → (held_of walker).job ≡ job → IsSeated job keeps stands takes by walker
+    → IsReady keeps stands takes by job c (record w { walker = walker })
+hub_walked keeps stands takes by job c w ready walker made seated =
+    record { made = made; seated = seated; pass = ready.pass; fresh = ready.fresh; empty = ready.empty; room = ready.room }
+
+-- what was lent and came back whole
+pub taken_all : {A : Type 0} (P : A → Type 0) (n : ℕ) (new rest : List A) → All P new → n ≤ length new → All P (take n (new ++ rest))
+taken_all P n new rest each enough = λ k d inside.
+    let within : k < n = omega (arith, inside, length-take n (new ++ rest)) in
+    subst P (sym (get_or-take n (new ++ rest) k d within ∙ get_or_append_left new rest d k (omega (arith, within, enough)))) (each k d (omega (arith, within, enough)))
+
+module _ {J : Type 0} (job : Job) (todo : List ℕ) (c : Claims) (w : Worker J) (done : IsDone job todo c w) (count : (size_of c).limit ≡ length todo) where
+  abbrev places : List ℕ
+  places = (own w.pass).claims
+
+  different : AreDifferentBelow (length todo) places
+  different = subst (λ n. AreDifferentBelow n places) count done.different
+
+  pub done_within : IsWithin job todo → (t : ℕ) → t ≡ total job → All (λ o. o.id < t) w.share.items
+  done_within within t is =
+      subst (λ n. All (λ (o : Outcome). o.id < n) w.share.items) (sym is)
+      (subst (All (λ (o : Outcome). o.id < total job)) (sym done.shared) (share_within job todo places different within))
+
+  pub done_apart : AllPairs (λ a b. a ≢ b) todo → AreApart w.share.items
+  done_apart apart = subst AreApart (sym done.shared) (share_apart job todo places different apart)
+
+  absent_from : (now : List Outcome) (before : List ℕ) → AreDifferentBelow (length todo) (before ++ places) → Lacks now todo before
+      → All (λ o. IsFalse (has_id now o.id)) w.share.items
+  absent_from now before together lacks =
+      subst (All (λ (o : Outcome). IsFalse (has_id now o.id))) (sym done.shared) (share_absent job todo before places now together different lacks)
+
+  pub first_absent : (kept : List Outcome) → IsTodo job kept todo → All (λ o. IsFalse (has_id kept o.id)) w.share.items
+  first_absent kept is = absent_from kept [] different (λ k inside none. is.absent k 0 inside)
+
+  pub more_absent : (kept now : List Outcome) (before : List ℕ) → IsTodo job kept todo → AreDifferentBelow (size_of c).limit before
+      → now ≡ kept ++ map (found_at job todo) before → AreDifferentBelow (size_of c).limit (before ++ places)
+      → All (λ o. IsFalse (has_id now o.id)) w.share.items
+  more_absent kept now before is apart_before holds together =
+      let in_todo : AreDifferentBelow (length todo) before = subst (λ n. AreDifferentBelow n before) count apart_before in
+      absent_from now before (subst (λ n. AreDifferentBelow n (before ++ places)) count together)
+      (subst (λ os. Lacks os todo before) (sym holds) (lacks_others job todo before in_todo kept is))
+
+  -- the book with this share too
+  pub holds_more : (kept now later : List Outcome) (before both : List ℕ) → now ≡ kept ++ map (found_at job todo) before → later ≡ now ++ w.share.items
+      → both ≡ before ++ places → later ≡ kept ++ map (found_at job todo) both
+  holds_more kept now later before both holds merged joined =
+      merged
+      ∙ ap (λ os. os ++ w.share.items) holds
+      ∙ ap (λ os. (kept ++ map (found_at job todo) before) ++ os) done.shared
+      ∙ append_assoc kept (map (found_at job todo) before) (map (found_at job todo) places)
+      ∙ ap (λ os. kept ++ os) (sym (ap (map (found_at job todo)) joined ∙ map-append (found_at job todo) before places))

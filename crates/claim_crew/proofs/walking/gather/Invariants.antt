@@ -1,0 +1,20 @@
+use Rattle.std.proofs.Common.{◌≡◌, ◌+◌, ◌++◌, All, map, vec_len, true}
+use Rattle.claim_counter.specs.Records.{AreDifferentBelow}
+use Rattle.claim_counter.specs.Passes.{own, size_of, BelongsTo}
+use Rattle.claim_crew.specs.Crews.{IsDone}
+use Rattle.claim_crew.specs.Walks.{found_at}
+use Rattle.claim_crew.proofs.walking.gather.Given as goal
+
+abbrev pub invariant-loop-worker : goal.invariant-loop-worker
+invariant-loop-worker g l = record {
+  workers : All (IsDone l.job l.todo l.claims) l.workers.items;
+  pass : BelongsTo l.claims l.pass;
+  ended : (own l.pass).ended ≡ true;
+  seats : (own l.pass).weight + (own l.pass).spare + vec_len l.workers ≡ vec_len l.fn.workers;
+  different : AreDifferentBelow (size_of l.claims).limit (own l.pass).claims;
+  total : l.book.total ≡ l.fn.book.total;
+  outcomes : l.book.outcomes ≡ l.fn.book.outcomes ++ map (found_at l.job l.todo) (own l.pass).claims;
+}
+
+abbrev pub decreases-loop-worker : goal.decreases-loop-worker
+decreases-loop-worker g l = vec_len l.workers

@@ -1,0 +1,7 @@
+pub mod Crossing
+pub mod Found
+pub mod Gathering
+pub mod Growing
+pub mod Holding
+pub mod LastSave
+pub mod Tried

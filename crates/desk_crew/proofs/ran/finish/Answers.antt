@@ -1,0 +1,11 @@
+use Rattle.std.proofs.Common.{ℕ, subst}
+use Rattle.desk_crew.specs.Ran.{BothSaved}
+use Rattle.desk_crew.proofs.LastSave.{has_run}
+use Rattle.desk_crew.proofs.ran.finish.Goals as goal
+
+pub returns : goal.returns
+returns g c = λ parts v k.
+    let last = c.save_rest-rest.ensures in
+    has_run g.C.Keeper.load_faults g.C.Keeper.save_faults g.C.Keeper.slots g.C.Keeper.tried c.unfailed_runs_save_in_turn.ensures parts v c.args.kept c.save_rest-rest.new.kept c.args.digest.now k
+    c.save_rest-rest.new.sorted.items c.save_rest-rest.result c.both-saved.result last.rest
+    (subst (λ (n : ℕ). BothSaved n c.save_rest-rest.result c.both-saved.result) last.rest.failed c.both-saved.ensures) last.sorted last.book last.all last.rising

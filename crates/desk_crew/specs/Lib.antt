@@ -1,0 +1,5 @@
+pub mod Crews
+pub mod Holding
+pub mod Ran
+pub mod Saves
+pub mod Walks

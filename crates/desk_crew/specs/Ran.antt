@@ -1,0 +1,89 @@
+-- What a run leaves that saves while it walks, in terms of the posts at its desk.
+use Rattle.std.specs.Prelude.{◌≡◌, ℕ, ◌+◌, ◌-◌, ◌^◌, ◌<◌, ◌≤◌, ◌⊎◌, min, not, true, List, length, count_by, Option, Result, OnOk, IsErr, IsOk, IsPermutation}
+use Rattle.std.specs.List.{All, AllPairs}
+use Rattle.audit_io.specs.declared.source.Failed.{Failed}
+use Rattle.audit_io.specs.Faults.{HasCause}
+use Rattle.audit_io.specs.Slots.{Pair, stored}
+use Rattle.audit_io.specs.Tries.{Try, tried_all}
+use Rattle.audit_model.specs.declared.outcome.Outcome.{Outcome}
+use Rattle.audit_model.specs.Job.{Job}
+use Rattle.audit_model.specs.Run.{total}
+use Rattle.checkpoint_definitions.specs.Checkpoint.{IsCheckpoint, checkpoint, job_digest}
+use Rattle.ckpt_store.specs.declared.slots.Place.{Place}
+use Rattle.ckpt_store.specs.Histories.{AreInTurn}
+use Rattle.claim_counter.specs.Records.{times}
+use Rattle.outcome_book.specs.Booked.{IsBook, by_id}
+use Rattle.tally_desk.specs.declared.entry.Entry.{Entry}
+use Rattle.tally_desk.specs.Entries.{ids_of}
+use Rattle.tally_desk.specs.Homes.{IfToldThen, booked}
+use Rattle.tally_desk.specs.InTurn.{IsPartSave, SavesInTurn}
+use Rattle.tally_desk.specs.Parts.{IsPlan, Parts}
+
+-- what never changes at the desk of a run, by what it starts with
+abbrev pub starts : {C : Type 0} → (C → ℕ) → (C → ℕ) → (C → Option Pair) → (C → Option (List Try)) → Job → List Outcome → List ℕ → ℕ → ℕ → Place → C → Parts
+starts load_faults save_faults slots history job opening todo save_every seats place keeper = record {
+  job = job;
+  opening = opening;
+  todo = todo;
+  save_every = save_every;
+  seats = seats;
+  place = place;
+  load_faults = load_faults keeper;
+  save_faults = save_faults keeper;
+  slots = slots keeper;
+  tried = history keeper;
+}
+
+-- no save failed exactly where none did at the desk, nor the last one
+pub record BothSaved (failed : ℕ) (rest result : Result (Unit {0}) Failed) : Type 0 where
+  pub ok : IsOk result → (failed ≡ 0) × IsOk rest
+  pub err : IsErr result → (0 < failed) ⊎ IsErr rest
+
+-- the slot beside the place of the first save is as it was, or a slot is a save of the opening and of posts
+abbrev pub KeepsSome : Parts → Pair → Pair → Type 0
+KeepsSome parts p q =
+    (stored q (1 - parts.place.slot) ≡ stored p (1 - parts.place.slot))
+    ⊎ ((at : ℕ) × ((generation : ℕ) × ((count : ℕ) × IsPartSave parts generation count (stored q at))))
+
+-- a save that was tried is the checkpoint of the opening and of posts of ids to do
+pub record IsRunTry (parts : Parts) (t : Try) : Type 0 where
+  pub generation : ℕ
+  pub part : List Entry
+  pub of_todo : (id : ℕ) → times id (ids_of part) ≤ times id parts.todo
+  pub bytes_are : t.bytes ≡ checkpoint 1 (job_digest parts.job) generation (by_id (total parts.job) (booked parts part))
+  pub sound : IsCheckpoint (checkpoint 1 (job_digest parts.job) generation (by_id (total parts.job) (booked parts part)))
+      1 (job_digest parts.job) generation (by_id (total parts.job) (booked parts part))
+
+-- a later save is no shorter than one before it, and longer where that one succeeded
+pub record IsLater (earlier later : Try) : Type 0 where
+  pub no_shorter : length earlier.bytes ≤ length later.bytes
+  pub longer : earlier.succeeded ≡ true → length earlier.bytes < length later.bytes
+
+-- how many of them failed
+abbrev pub failed_of : List Try → ℕ
+failed_of tries = count_by (λ t. not t.succeeded) tries
+
+-- all saves of the run: each is a checkpoint of the opening and of posts, at the place after the last that succeeded, and each later one holds more
+pub record AreRunTries (parts : Parts) (tries : List Try) : Type 0 where
+  pub in_turn : AreInTurn parts.job (job_digest parts.job) parts.place.slot parts.place.generation tries
+  pub each : All (IsRunTry parts) tries
+  pub growing : AllPairs IsLater tries
+
+-- what a run leaves: its posts, all outcomes by rising id, and what is known of the keeper
+pub record HasRun (parts : Parts) (loads_now saves_now : ℕ) (slots_now : Option Pair) (tried_now : Option (List Try)) (sorted : List Outcome)
+    (result : Result (Unit {0}) Failed) : Type 0 where
+  pub plan : IsPlan parts
+  pub posted : List Entry
+  pub all : IsPermutation (ids_of posted) parts.todo
+  pub book : IsBook (record { total = total parts.job; outcomes = booked parts posted })
+  pub sorted_is : sorted ≡ by_id (total parts.job) (booked parts posted)
+  pub sorted_all : IsPermutation (booked parts posted) sorted
+  pub rising : AllPairs (λ a b. a.id < b.id) sorted
+  pub cause : HasCause parts.save_faults saves_now result
+  pub loads : loads_now ≡ parts.load_faults
+  pub in_turn : OnOk result (IfToldThen parts.slots slots_now (λ p q. SavesInTurn parts p q posted))
+  pub keeps : IfToldThen parts.slots slots_now (KeepsSome parts)
+  pub tries : List Try
+  pub tried : tried_now ≡ tried_all parts.tried tries
+  pub are_tries : AreRunTries parts tries
+  pub covered : min (parts.save_faults + failed_of tries) (2 ^ 64 - 1) ≤ saves_now

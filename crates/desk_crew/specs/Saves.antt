@@ -1,0 +1,52 @@
+-- The last save of a run that saves while it walks.
+use Rattle.std.specs.Prelude.{◌≡◌, ℕ, Bool, true, false, List, [], ◌∷◌, ◌++◌, Option, Result, OnOk, is_ok}
+use Rattle.audit_io.specs.declared.source.Failed.{Failed}
+use Rattle.audit_io.specs.Faults.{HasCause}
+use Rattle.audit_io.specs.Slots.{Pair, HoldsBytes, IfTold, KeepsOther}
+use Rattle.audit_io.specs.Tries.{Try, tried_too, try_of}
+use Rattle.audit_model.specs.declared.outcome.Outcome.{Outcome}
+use Rattle.audit_model.specs.Run.{total}
+use Rattle.checkpoint_definitions.specs.Checkpoint.{IsCheckpoint, checkpoint, job_digest}
+use Rattle.ckpt_store.specs.declared.slots.Place.{Place}
+use Rattle.ckpt_store.specs.Laws.{IsNewestForFitJobs}
+use Rattle.outcome_book.specs.Booked.{by_id}
+use Rattle.tally_desk.specs.declared.entry.Entry.{Entry}
+use Rattle.tally_desk.specs.declared.handing.Kept.{Kept}
+use Rattle.tally_desk.specs.Entries.{saves}
+use Rattle.tally_desk.specs.Homes.{booked, moved, tries}
+use Rattle.tally_desk.specs.Parts.{Parts}
+use Rattle.tally_desk.specs.Passes.{IsClosed}
+use Rattle.tally_desk.specs.Views.{PassView}
+
+-- this is what a desk left that was closed, and the digest is the job's
+pub record IsClosedWith {C : Type 0} (load_faults save_faults : C → ℕ) (slots : C → Option Pair) (history : C → Option (List Try)) (parts : Parts) (v : PassView) (kept : Kept C) (digest : List ℕ) : Type 0 where
+  pub closed : IsClosed load_faults save_faults slots history parts v kept.book kept.keeper kept.place kept.failed_saves kept.last_saved
+  pub digest_is : digest ≡ job_digest parts.job
+
+-- a checkpoint of these outcomes was saved at the place, or the save failed
+pub record SavesThese {C : Type 0} (load_faults save_faults : C → ℕ) (slots : C → Option Pair) (history : C → Option (List Try)) (before now : C) (place : Place) (digest : List ℕ)
+    (outcomes : List Outcome) (result : Result (Unit {0}) Failed) : Type 0 where
+  pub sound : IsCheckpoint (checkpoint 1 digest place.generation outcomes) 1 digest place.generation outcomes
+  pub held : OnOk result (HoldsBytes (slots now) place.slot (checkpoint 1 digest place.generation outcomes))
+  pub newest : OnOk result (IfTold (slots now) (IsNewestForFitJobs digest place.slot place.generation outcomes))
+  pub other : KeepsOther (slots before) (slots now) place.slot
+  pub cause : HasCause (save_faults before) (save_faults now) result
+  pub loads : load_faults now ≡ load_faults before
+  pub tried : history now ≡ tried_too (history before) place.slot (checkpoint 1 digest place.generation outcomes) (is_ok result)
+
+-- where a save was made with the last post nothing is done, and elsewhere a last one is made
+pub record SavesLast {C : Type 0} (load_faults save_faults : C → ℕ) (slots : C → Option Pair) (history : C → Option (List Try)) (before now : Kept C) (digest : List ℕ)
+    (outcomes : List Outcome) (result : Result (Unit {0}) Failed) : Type 0 where
+  pub failed : now.failed_saves ≡ before.failed_saves
+  pub saved : before.last_saved ≡ true → (now.keeper ≡ before.keeper) × (is_ok result ≡ true)
+  pub unsaved : before.last_saved ≡ false → SavesThese load_faults save_faults slots history before.keeper now.keeper before.place digest outcomes result
+
+-- all saves that a run over a desk tried: those of its desk, and where none was made with the last post, one of all posts, which succeeded or not
+abbrev pub rest_tries : Bool → Bool → Parts → List Entry → List Try
+rest_tries true succeeded parts posted = []
+rest_tries false succeeded parts posted =
+    let place = moved (saves posted) parts.place in
+    try_of place.slot (checkpoint 1 (job_digest parts.job) place.generation (by_id (total parts.job) (booked parts posted))) succeeded ∷ []
+
+abbrev pub run_tries : Bool → Bool → Parts → List Entry → List Try
+run_tries last_saved succeeded parts posted = tries parts posted ++ rest_tries last_saved succeeded parts posted

@@ -1,0 +1,85 @@
+//! All workers of a run that saves while it walks.
+
+ghost use Rattle.std.specs.Prelude.{◌≡◌, ◌≤◌, ◌<◌, ◌-◌, All, IfOk, [], length, vec_capacity, vec_len};
+ghost use Rattle.tally_desk.specs.Desks.{first_view};
+ghost use Rattle.tally_desk.specs.Founded.{parts_of};
+ghost use Rattle.tally_desk.specs.Passes.{Belongs, view_of};
+ghost use Rattle.desk_crew.specs.Crews.{AreWalkers, IsCrew, IsReady};
+ghost use Rattle.walker.specs.Judges.{AreJudges};
+
+use crate::worker::DeskWorker;
+use audit_io::keeper::Keeper;
+use audit_model::lists::UnitList;
+use audit_model::memory::Memory;
+use flip_guard::judge::Judge;
+use plan_core::job::Job;
+use std::alloc::Global;
+use tally_desk::desk::Desk;
+use tally_desk::laws::posts_stay_whole;
+use tally_desk::pass::DeskPass;
+use walker::walker::Walker;
+
+/// All that walking takes beside the desk: walkers, room for as many workers, and room for the hub.
+#[derive(Drop)]
+pub struct Crew<J> {
+    pub(crate) walkers: Vec<Walker<J>>,
+    pub(crate) workers: Vec<DeskWorker<J>>,
+    pub(crate) hub: UnitList,
+}
+
+// A walker for each judge.
+fn hire<J: Judge>(alloc: Global, job: &Job, mut judges: Vec<J>) -> Result<Vec<Walker<J>>, Memory>
+    requires judges { AreJudges job.now J.keeps J.takes J.rules judges.items }
+    ensures walkers { IfOk result (λ w. AreWalkers job.now J.keeps J.stands J.takes J.rules w.items) }
+    ensures count { IfOk result (λ w. vec_len w ≡ vec_len judges) }
+{
+    let mut walkers = Vec::with_capacity(alloc, judges.len())?;
+    while let Some(judge) = judges.pop() {
+        walkers.push_reserved(Walker::new(alloc, job, judge)?);
+    }
+    Ok(walkers)
+}
+
+/// A worker for each judge, who judges by the rules of the job. The only error is want of memory, and walking takes no more of it.
+pub fn recruit<J: Judge>(alloc: Global, job: &Job, judges: Vec<J>) -> Result<Crew<J>, Memory>
+    requires judges { AreJudges job.now J.keeps J.takes J.rules judges.items }
+    ensures { IfOk result (IsCrew job.now J.keeps J.stands J.takes J.rules (vec_len judges)) }
+{
+    let room = Vec::with_capacity(alloc, judges.len())?;
+    let hub = UnitList::zeros(alloc, job.units() as usize)?;
+    let walkers = hire(alloc, job, judges)?;
+    Ok(Crew {
+        walkers,
+        workers: room,
+        hub,
+    })
+}
+
+// A worker for each walker, with a pass of its own.
+pub(crate) fn seat<C: Keeper, J: Judge>(
+    desk: &Desk<C>,
+    mut pass: DeskPass,
+    mut walkers: Vec<Walker<J>>,
+    mut workers: Vec<DeskWorker<J>>,
+) -> Vec<DeskWorker<J>>
+    requires pass { Belongs desk.now.table.shared.table_id (parts_of C.load_faults C.save_faults C.slots C.tried desk.now.table.shared.key) pass }
+    requires first { view_of pass ≡ first_view (parts_of C.load_faults C.save_faults C.slots C.tried desk.now.table.shared.key) }
+    requires seats { desk.now.table.shared.key.seats ≡ vec_len walkers }
+    requires some { 0 < vec_len walkers }
+    requires walkers { AreWalkers desk.now.table.shared.key.job.value J.keeps J.stands J.takes J.rules walkers.items }
+    requires blank { workers.items ≡ [] }
+    requires room { vec_len walkers ≤ vec_capacity workers }
+    ensures ready { All (IsReady desk.now.table.shared.table_id (parts_of C.load_faults C.save_faults C.slots C.tried desk.now.table.shared.key) J.keeps J.stands J.takes J.rules) result.items }
+    ensures count { vec_len result ≡ vec_len walkers }
+{
+    posts_stay_whole();
+    let Some(last) = walkers.pop() else {
+        unreachable!()
+    };
+    while let Some(walker) = walkers.pop() {
+        let part = desk.split(&mut pass);
+        workers.push_reserved(DeskWorker { walker, pass: part });
+    }
+    workers.push_reserved(DeskWorker { walker: last, pass });
+    workers
+}

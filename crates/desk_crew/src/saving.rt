@@ -1,0 +1,52 @@
+//! What a run does that saved while it walked, after its desk is closed.
+
+ghost use Rattle.std.specs.Prelude.{◌≡◌, ◌+◌, ◌*◌, ◌<◌, ◌≤◌, length, AllPairs, IsPermutation, IsTrue};
+ghost use Rattle.std.specs.List.{list_all};
+ghost use Rattle.audit_model.specs.Run.{is_bare};
+ghost use Rattle.outcome_book.specs.Booked.{IsBook, by_id};
+ghost use Rattle.desk_crew.specs.Saves.{SavesLast};
+
+use audit_io::keeper::Keeper;
+use audit_io::source::Failed;
+use audit_model::buffers::{Bytes, OutcomeList};
+use ckpt_format::laws::rising_pairs_rise;
+use ckpt_store::save;
+use tally_desk::handing::Kept;
+
+/// Makes `sorted` all outcomes by rising id, and saves their checkpoint where none was saved with the last post. It takes no memory but the
+/// keeper's.
+///
+/// # Errors
+///
+/// The keeper failed.
+pub fn save_rest<C: Keeper>(
+    kept: &mut Kept<C>,
+    digest: &[u8; 32],
+    sorted: &mut OutcomeList,
+    room: &mut Bytes,
+) -> Result<(), Failed>
+    requires slot { kept.old.place.slot < 2 }
+    requires generation { kept.old.place.generation < 3 }
+    requires sorted_room { kept.old.book.total ≤ length sorted.old.items + sorted.old.spare }
+    requires save_room { 84 + 44 * kept.old.book.total ≤ length room.old.items + room.old.spare }
+    requires bare { IsTrue (list_all is_bare kept.old.book.outcomes) }
+    ensures book { IsBook kept.old.book }
+    ensures sorted { sorted.new.items ≡ by_id kept.old.book.total kept.old.book.outcomes }
+    ensures all { IsPermutation kept.old.book.outcomes sorted.new.items }
+    ensures rising { AllPairs (λ a b. a.id < b.id) sorted.new.items }
+    ensures rest { SavesLast C.load_faults C.save_faults C.slots C.tried kept.old kept.new digest.now sorted.new.items result }
+{
+    rising_pairs_rise();
+    let _count = kept.book.len();
+    kept.book.sorted_into(sorted);
+    if kept.last_saved {
+        return Ok(());
+    }
+    save::save(
+        &mut kept.keeper,
+        &mut kept.place,
+        digest,
+        sorted.as_slice(),
+        room,
+    )
+}

@@ -1,0 +1,81 @@
+-- How many regions there are, counted by marks.
+use Rattle.std.proofs.Common.{◌≡◌, ℕ, suc, ◌+◌, ◌<◌, ◌≤◌, Bool, true, false, ◌||◌, List, [], ◌∷◌, ◌++◌, length, All, refl, sym, ap, ◌∙◌, subst, cond, inl, inr, arith, set, get_or-set_same, get_or-set_other, add-one}
+use Rattle.std.specs.Prelude.{◌==◌}
+use Rattle.std.specs.List.{slice_index_or}
+use Rattle.std.proofs.lemmas.Bool.{cases_Bool, cases_eq, cond-true, cond-false, eq-eqb, ne_eqb, eqb-true}
+use Rattle.audit_model.specs.Below.{above_all, count_below}
+use Rattle.audit_model.specs.Graph.{has}
+use Rattle.audit_model.specs.Meets.{region_count}
+use Rattle.model_laws.proofs.Below.{count_below_into}
+
+-- ---- the marks
+
+or_no : (b : Bool) → (b || false) ≡ b
+or_no true = refl
+or_no false = refl
+
+has_more : (xs : List ℕ) (x r : ℕ) → has (xs ++ x ∷ []) r ≡ (has xs r || (x == r))
+has_more [] x r = or_no (x == r)
+has_more (y ∷ xs) x r = or_both (y == r) (has (xs ++ x ∷ []) r) (has xs r) (x == r) (has_more xs x r)
+  where
+    or_both : (a b c d : Bool) → b ≡ (c || d) → (a || b) ≡ ((a || c) || d)
+    or_both true b c d h = refl
+    or_both false b c d h = h
+
+or_yes : (b : Bool) → (b || true) ≡ true
+or_yes true = refl
+or_yes false = refl
+
+pub seen_more : (seen : List Bool) (xs : List ℕ) (x r : ℕ) → x < length seen → slice_index_or seen r false ≡ has xs r → slice_index_or (set seen x true) r false ≡ has (xs ++ x ∷ []) r
+seen_more seen xs x r below so_far = elim (cases_eq r x) [
+  | inl e ↦
+      let here : slice_index_or (set seen x true) r false ≡ true = subst (λ t. slice_index_or (set seen x true) t false ≡ true) (sym e) (get_or-set_same seen x true false below) in
+      here ∙ sym (has_more xs x r ∙ ap (λ b. has xs r || b) (eq-eqb x r (sym e)) ∙ or_yes (has xs r))
+  | inr off ↦
+      get_or-set_other seen x r true false off ∙ so_far ∙ sym (has_more xs x r ∙ ap (λ b. has xs r || b) (ne_eqb x r (λ e. off (sym e))) ∙ or_no (has xs r))
+]
+
+-- ---- how many marks
+
+pub counted_none : (test : ℕ → Bool) → 0 ≡ count_below 0 test
+unfolding count_below
+counted_none test = refl
+
+pub counted_on : (n count : ℕ) (test : ℕ → Bool) → count ≡ count_below n test → test n ≡ true → count + 1 ≡ count_below (n + 1) test
+unfolding count_below
+counted_on n count test so_far passes =
+    let last : cond {A = ℕ} (test n) 1 0 ≡ 1 = cond-true {A = ℕ} (test n) 1 0 passes in
+    let more : count_below (n + 1) test ≡ count_below n test + cond {A = ℕ} (test n) 1 0 = rw add-one refl in
+    omega (arith, so_far, last, more)
+
+pub counted_off : (n count : ℕ) (test : ℕ → Bool) → count ≡ count_below n test → test n ≡ false → count ≡ count_below (n + 1) test
+unfolding count_below
+counted_off n count test so_far fails =
+    let last : cond {A = ℕ} (test n) 1 0 ≡ 0 = cond-false {A = ℕ} (test n) 1 0 fails in
+    let more : count_below (n + 1) test ≡ count_below n test + cond {A = ℕ} (test n) 1 0 = rw add-one refl in
+    omega (arith, so_far, last, more)
+
+-- ---- no region has a number past the marks
+
+below_above : (xs : List ℕ) (r : ℕ) → has xs r ≡ true → r < above_all xs
+below_above [] r h = cc
+below_above (x ∷ xs) r h = elim (cases_Bool (x == r)) [
+  | inl here ↦ omega (arith, eqb-true x r here)
+  | inr there ↦ let later : has xs r ≡ true = subst (λ b. (b || has xs r) ≡ true) there h in omega (arith, below_above xs r later)
+]
+
+above_most : (xs : List ℕ) (n : ℕ) → All (λ r. r < n) xs → above_all xs ≤ n
+above_most [] n each = omega arith
+above_most (x ∷ xs) n each =
+    let first : x < n = each 0 0 (omega arith) in
+    let rest = above_most xs n (λ k d l. each (suc k) d (omega arith)) in
+    omega (arith, first, rest)
+
+pub regions_counted : (regions : List ℕ) → All (λ r. r < 5000) regions → count_below 5000 (has regions) ≡ region_count regions
+regions_counted regions few =
+    let test : ℕ → Bool = has regions in
+    let more : count_below 5000 test ≤ count_below (above_all regions) test =
+    count_below_into 5000 (above_all regions) test test (λ k. k) (λ k l h. (below_above regions k h, h)) (λ j k lj lk hj hk e. e) in
+    let fewer : count_below (above_all regions) test ≤ count_below 5000 test =
+    count_below_into (above_all regions) 5000 test test (λ k. k) (λ k l h. (omega (arith, l, above_most regions 5000 few), h)) (λ j k lj lk hj hk e. e) in
+    omega (arith, more, fewer)

@@ -1,0 +1,97 @@
+//! The lines of the rules that plans are to meet.
+
+ghost use Rattle.std.specs.Prelude.{◌≡◌, ◌<◌, ℕ, false, length, All};
+ghost use Rattle.std.specs.List.{slice_index_or};
+ghost use Rattle.audit_model.specs.Below.{count_below};
+ghost use Rattle.audit_model.specs.Graph.{has};
+ghost use Rattle.audit_model.specs.Meets.{region_count};
+ghost use Rattle.report.specs.Lines.{Appends};
+ghost use Rattle.text_definitions.specs.Report as definition;
+
+use crate::lines::{Word, push_line};
+use audit_model::buffers::Bytes;
+use audit_model::memory::Memory;
+use plan_core::job::Job;
+
+/// More than any region's number.
+const REGIONS: usize = 5000;
+
+/// Appends a line for each rule that limits the plans.
+pub fn push_rule_lines(job: &Job, out: &mut Bytes) -> Result<(), Memory>
+    ensures { Appends out.old out.new (definition.rule_lines job.now) result }
+{
+    push_cut_line(job, out)?;
+    push_split_line(job, out)
+}
+
+/// Appends the line with the most cut edges, where they are limited.
+fn push_cut_line(job: &Job, out: &mut Bytes) -> Result<(), Memory>
+    ensures { Appends out.old out.new (definition.cut_line job.now) result }
+{
+    let most = job.setting().max_cut;
+    if most >= 400_000 {
+        return Ok(());
+    }
+    push_line(out, &[Word::Text("max-cut"), Word::Number(u64::from(most))])
+}
+
+/// Appends the line with the limit on splits and the number of regions, where there are any.
+fn push_split_line(job: &Job, out: &mut Bytes) -> Result<(), Memory>
+    ensures { Appends out.old out.new (definition.split_line job.now.setting.max_split job.now.regions) result }
+{
+    let regions = regions_of(job);
+    if regions.is_empty() {
+        return Ok(());
+    }
+    push_line(
+        out,
+        &[
+            Word::Text("max-split"),
+            Word::Number(u64::from(job.setting().max_split)),
+            Word::Text("regions"),
+            Word::Number(u64::from(count_regions(regions))),
+        ],
+    )
+}
+
+/// The regions of the units.
+fn regions_of(job: &Job) -> &[u32]
+    ensures value { result.now ≡ job.now.regions }
+    ensures few { All (λ r. r < 5000) result.now }
+{
+    let _units = job.units();
+    job.rules().regions.as_slice()
+}
+
+/// How many regions there are.
+fn count_regions(regions: &[u32]) -> u32
+    requires { All (λ r. r < 5000) regions.now }
+    ensures { result ≡ region_count regions.now }
+{
+    count_marked(&marked(regions))
+}
+
+/// The numbers that are those of regions.
+fn marked(regions: &[u32]) -> [bool; REGIONS]
+    requires { All (λ r. r < 5000) regions.now }
+    ensures { (r : ℕ) → r < 5000 → slice_index_or result r false ≡ has regions.now r }
+{
+    let mut seen = [false; REGIONS];
+    for &region in regions {
+        seen[region as usize] = true;
+    }
+    seen
+}
+
+/// How many numbers are marked.
+fn count_marked(seen: &[bool; REGIONS]) -> u32
+    ensures { result ≡ count_below 5000 (λ r. slice_index_or seen.now r false) }
+{
+    let mut count = 0;
+    for number in 0..REGIONS {
+        if seen[number] {
+            count += 1;
+        }
+    }
+    count
+}

@@ -1,0 +1,92 @@
+-- The book of the opening and of posts: it lacks what was not posted, its outcomes fit the job, and so do those of any part of it.
+use Rattle.std.proofs.Common.{◌≡◌, ℕ, zero, suc, ◌<◌, ◌≤◌, ◌&&◌, Bool, true, false, cond, List, [], ◌∷◌, ◌++◌, map, Some, refl, sym, ap, ◌∙◌, All, append_assoc, arith}
+use Rattle.std.specs.Prelude.{◌==◌, IsTrue, find, option_to_list}
+use Rattle.std.specs.List.{list_all}
+use Rattle.std.proofs.lemmas.Bool.{and_from, or_from, ne_eqb}
+use Rattle.std.proofs.lemmas.List.{map-append}
+use Rattle.std.proofs.lemmas.List.Folds.{list_all-append, list_any-append}
+use Rattle.audit_model.specs.declared.outcome.Outcome.{Outcome}
+use Rattle.audit_model.specs.Job.{Job}
+use Rattle.audit_model.specs.Run.{total, fits, has_id, is_bare}
+use Rattle.claim_counter.specs.Records.{times}
+use Rattle.outcome_book.specs.Booked.{by_id, with_id}
+use Rattle.tally_desk.specs.declared.entry.Entry.{Entry}
+use Rattle.tally_desk.specs.Entries.{id_of, ids_of, up_to_save}
+use Rattle.tally_desk.specs.Homes.{booked}
+use Rattle.tally_desk.specs.Parts.{Parts, IsPlan, found}
+use Rattle.tally_desk.proofs.Counting.{one, times-cons, one_same}
+use Rattle.tally_desk.proofs.Found.{found_bare, found_fits, found_id}
+use Rattle.tally_desk.proofs.Marking.{ids_up_to_save}
+use Rattle.tally_desk.proofs.Todo.{todo_within, todo_lacked}
+
+pub booked-push : (parts : Parts) (l : List Entry) (e : Entry) → booked parts (l ++ e ∷ []) ≡ booked parts l ++ found parts.job e.id ∷ []
+booked-push parts l e =
+    ap (λ (ids : List ℕ). parts.opening ++ map (found parts.job) ids) (map-append id_of l (e ∷ []))
+    ∙ ap (λ (os : List Outcome). parts.opening ++ os) (map-append (found parts.job) (ids_of l) (e.id ∷ []))
+    ∙ sym (append_assoc parts.opening (map (found parts.job) (ids_of l)) (found parts.job e.id ∷ []))
+
+-- an id that is none of these has none of their outcomes
+absent_of_ids : (job : Job) (ids : List ℕ) (id : ℕ) → times id ids ≡ 0 → has_id (map (found job) ids) id ≡ false
+absent_of_ids job [] id none = refl
+absent_of_ids job (x ∷ ids) id none =
+    let cut = times-cons id x ids in
+    or_from ((found job x).id == id) (has_id (map (found job) ids) id)
+    (ne_eqb (found job x).id id (λ same. let here : one id x ≡ 1 = ap (λ (k : ℕ). one id k) (sym (found_id job x) ∙ same) ∙ one_same id in absurd (omega (arith, none, cut, here))))
+    (absent_of_ids job ids id (omega (arith, none, cut)))
+
+pub absent_of_book : (parts : Parts) → IsPlan parts → (l : List Entry) (id : ℕ) → 0 < times id parts.todo → times id (ids_of l) ≡ 0 → has_id (booked parts l) id ≡ false
+absent_of_book parts plan l id to_do unposted =
+    list_any-append (λ (o : Outcome). o.id == id) parts.opening (map (found parts.job) (ids_of l))
+    ∙ or_from _ _ (todo_lacked parts plan id to_do) (absent_of_ids parts.job (ids_of l) id unposted)
+
+-- ---- what fits
+
+all_from : (test : Outcome → Bool) (os : List Outcome) → All (λ o. IsTrue (test o)) os → list_all test os ≡ true
+all_from test [] all = refl
+all_from test (o ∷ os) all = and_from (test o) (list_all test os) (all 0 o (omega arith)) (all_from test os (λ k d inside. all (suc k) d (omega arith)))
+
+-- what is found of each id passes
+found_all : (test : Outcome → Bool) (job : Job) (ids : List ℕ) → ((id : ℕ) → 0 < times id ids → test (found job id) ≡ true) → list_all test (map (found job) ids) ≡ true
+found_all test job [] each = refl
+found_all test job (x ∷ ids) each =
+    and_from (test (found job x)) (list_all test (map (found job) ids))
+    (each x (omega (arith, times-cons x x ids, one_same x)))
+    (found_all test job ids (λ id some_here. each id (omega (arith, some_here, times-cons id x ids))))
+
+pub booked_fit : (parts : Parts) → IsPlan parts → (l : List Entry) → ((id : ℕ) → times id (ids_of l) ≤ times id parts.todo) → list_all (fits parts.job) (booked parts l) ≡ true
+booked_fit parts plan l of_todo =
+    list_all-append (fits parts.job) parts.opening (map (found parts.job) (ids_of l))
+    ∙ and_from _ _ (all_from (fits parts.job) parts.opening plan.fit)
+    (found_all (fits parts.job) parts.job (ids_of l)
+    (λ id some_here. found_fits parts.job plan.plain plan.few_asks id (todo_within parts plan id (omega (arith, some_here, of_todo id)))))
+
+-- none has bins
+pub booked_bare : (parts : Parts) → IsPlan parts → (l : List Entry) → list_all is_bare (booked parts l) ≡ true
+booked_bare parts plan l =
+    list_all-append is_bare parts.opening (map (found parts.job) (ids_of l))
+    ∙ and_from _ _ (all_from is_bare parts.opening plan.bare)
+    (found_all is_bare parts.job (ids_of l) (λ id some_here. found_bare parts.job plan.plain id))
+
+find_fit : (test search_for : Outcome → Bool) (os : List Outcome) → list_all test os ≡ true → list_all test (option_to_list (find search_for os)) ≡ true
+find_fit test search_for [] all = refl
+find_fit test search_for (o ∷ os) all = by (search_for o) (test o) (list_all test os) refl refl all (find_fit test search_for os)
+  where
+    by : (b c d : Bool) → test o ≡ c → list_all test os ≡ d → (c && d) ≡ true → (list_all test os ≡ true → list_all test (option_to_list (find search_for os)) ≡ true)
+        → list_all test (option_to_list (cond b (Some o) (find search_for os))) ≡ true
+    by true true d here rest both later = and_from (test o) true here refl
+    by false true d here rest both later = later (rest ∙ both)
+    by true false d here rest both later = cc
+    by false false d here rest both later = cc
+
+-- the outcomes by rising id are some of the outcomes
+pub by_id_fit : (test : Outcome → Bool) (n : ℕ) (os : List Outcome) → list_all test os ≡ true → list_all test (by_id n os) ≡ true
+by_id_fit test zero os all = refl
+by_id_fit test (suc n) os all =
+    list_all-append test (by_id n os) (option_to_list (with_id os n))
+    ∙ and_from _ _ (by_id_fit test n os all) (find_fit test (λ o. o.id == n) os all)
+
+pub saved_fit : (parts : Parts) → IsPlan parts → (l : List Entry) (n : ℕ) → ((id : ℕ) → times id (ids_of l) ≤ times id parts.todo)
+    → list_all (fits parts.job) (by_id (total parts.job) (booked parts (up_to_save n l))) ≡ true
+saved_fit parts plan l n of_todo =
+    by_id_fit (fits parts.job) (total parts.job) (booked parts (up_to_save n l))
+    (booked_fit parts plan (up_to_save n l) (λ id. omega (arith, ids_up_to_save id n l, of_todo id)))

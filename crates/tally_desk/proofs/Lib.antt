@@ -1,0 +1,21 @@
+pub mod Booking
+pub mod Bounds
+pub mod Counting
+pub mod Events
+pub mod Found
+pub mod InTurn
+pub mod Machining
+pub mod Marking
+pub mod Permuting
+pub mod Regular
+pub mod Righting
+mod Rows
+pub mod Seating
+pub mod Slotting
+pub mod Steps
+pub mod Tallying
+pub mod Todo
+pub mod Turning
+pub mod Wholes
+pub mod Trying
+pub mod Outlasting

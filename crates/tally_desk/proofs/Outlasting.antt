@@ -1,0 +1,130 @@
+-- The saves of a desk are right and in turn.
+use Rattle.std.proofs.Common.{◌≡◌, ℕ, suc, ◌+◌, ◌-◌, ◌%◌, ◌≤◌, Bool, true, false, cond, List, [], ◌∷◌, ◌++◌, map, refl, sym, ap, ◌∙◌, subst, append_assoc, arith}
+use Rattle.std.specs.List.{All}
+use Rattle.std.proofs.lemmas.Bool.{true≢false}
+use Rattle.std.proofs.lemmas.List.{map-append}
+use Rattle.std.specs.Prelude.{◌==◌}
+use Rattle.std.proofs.lemmas.List.Sums.{sum_by-append}
+use Rattle.std.proofs.lemmas.List.Elements.{All-cons, All-head, All-nil, All-tail}
+use Rattle.audit_io.specs.Tries.{Try}
+use Rattle.audit_model.specs.Run.{IsRight, fits, total}
+use Rattle.checkpoint_definitions.specs.Checkpoint.{job_digest}
+use Rattle.ckpt_store.specs.Histories.{AreInTurn, IsRightSave, IsSaveAt, SavesKeepTheNewest, SavesLeaveHonestSlots}
+use Rattle.claim_counter.specs.Records.{times}
+use Rattle.draw_definitions.specs.Draw.{draw}
+use Rattle.tally_desk.specs.declared.entry.Entry.{Entry}
+use Rattle.tally_desk.specs.Entries.{id_of, ids_of, is_due, saves}
+use Rattle.tally_desk.specs.Homes.{IsSound, Made, booked, made_after, made_with, moved, tries, try_made}
+use Rattle.tally_desk.specs.Outlasting.{StopsKeepTheNewest, StopsLeaveHonestSlots}
+use Rattle.tally_desk.specs.Parts.{IsPlan, Parts}
+use Rattle.tally_desk.proofs.Booking.{booked_fit, by_id_fit}
+use Rattle.tally_desk.proofs.Marking.{saves-push}
+use Rattle.tally_desk.proofs.Righting.{saved_outcomes_are_right}
+
+module _ (parts : Parts) (plan : IsPlan parts) where
+  -- ---- right saves
+
+  abbrev RightTry : Try → Type 0
+  RightTry t = IsRightSave parts.job (draw parts.job.setting.key) (job_digest parts.job) t.bytes
+
+  -- the posts before another are posts of ids to do too
+  fewer : (earlier posted : List Entry) (e : Entry) → ((id : ℕ) → times id (ids_of (earlier ++ e ∷ posted)) ≤ times id parts.todo)
+      → (id : ℕ) → times id (ids_of (earlier ++ e ∷ [])) ≤ times id parts.todo
+  fewer earlier posted e of_todo id =
+      let parted : ids_of (earlier ++ e ∷ posted) ≡ ids_of (earlier ++ e ∷ []) ++ ids_of posted =
+      ap ids_of (sym (append_assoc earlier (e ∷ []) posted)) ∙ map-append id_of (earlier ++ e ∷ []) posted in
+      let sum = ap (times id) parted ∙ sum_by-append (λ (y : ℕ). cond (y == id) 1 0) (ids_of (earlier ++ e ∷ [])) (ids_of posted) in
+      omega (arith, of_todo id, sum)
+
+  right_made : IsRight parts.job (draw parts.job.setting.key) parts.opening → (earlier : List Entry) (e : Entry)
+      → ((id : ℕ) → times id (ids_of (earlier ++ e ∷ [])) ≤ times id parts.todo) → IsSound parts.job (made_with parts earlier e) → RightTry (try_made parts.job (made_with parts earlier e))
+  right_made opening earlier e of_todo sound = record {
+    version = 1;
+    generation = (made_with parts earlier e).generation;
+    outcomes = (made_with parts earlier e).outcomes;
+    sound = sound;
+    fit = by_id_fit (fits parts.job) (total parts.job) (booked parts (earlier ++ e ∷ [])) (booked_fit parts plan (earlier ++ e ∷ []) of_todo);
+    right = saved_outcomes_are_right parts (earlier ++ e ∷ []) plan of_todo opening;
+  }
+
+  right_tries : IsRight parts.job (draw parts.job.setting.key) parts.opening → (posted earlier : List Entry)
+      → ((id : ℕ) → times id (ids_of (earlier ++ posted)) ≤ times id parts.todo) → All (IsSound parts.job) (made_after parts earlier posted)
+      → All RightTry (map (try_made parts.job) (made_after parts earlier posted))
+  right_tries opening [] earlier of_todo sound = All-nil RightTry
+  right_tries opening (e ∷ posted) earlier of_todo sound =
+      by (is_due parts.save_every e) sound (right_tries opening posted (earlier ++ e ∷ []) (λ id. subst (λ (l : List Entry). times id (ids_of l) ≤ times id parts.todo) (sym (append_assoc earlier (e ∷ []) posted)) (of_todo id)))
+    where
+      by : (b : Bool) → All (IsSound parts.job) (cond b (made_with parts earlier e ∷ []) [] ++ made_after parts (earlier ++ e ∷ []) posted)
+          → (All (IsSound parts.job) (made_after parts (earlier ++ e ∷ []) posted) → All RightTry (map (try_made parts.job) (made_after parts (earlier ++ e ∷ []) posted)))
+          → All RightTry (map (try_made parts.job) (cond b (made_with parts earlier e ∷ []) [] ++ made_after parts (earlier ++ e ∷ []) posted))
+      by false all later = later all
+      by true all later =
+          let m = made_with parts earlier e in
+          let rest = made_after parts (earlier ++ e ∷ []) posted in
+          All-cons RightTry (try_made parts.job m) (map (try_made parts.job) rest)
+          (right_made opening earlier e (fewer earlier posted e of_todo) (All-head (IsSound parts.job) m rest all))
+          (later (All-tail (IsSound parts.job) m rest all))
+
+  -- ---- saves in turn
+
+  abbrev InTurnFrom : ℕ → List Made → Type 0
+  InTurnFrom n ms = AreInTurn parts.job (job_digest parts.job) (moved n parts.place).slot (moved n parts.place).generation (map (try_made parts.job) ms)
+
+  next_turn : (earlier : List Entry) (e : Entry) (s : Bool) → e.saved ≡ s → saves (earlier ++ e ∷ []) ≡ cond s (suc (saves earlier)) (saves earlier)
+  next_turn earlier e true is = let more = saves-push earlier e in let one_more = ap (λ (x : Bool). cond {A = ℕ} x 1 0) is in omega (arith, more, one_more)
+  next_turn earlier e false is = let more = saves-push earlier e in let none = ap (λ (x : Bool). cond {A = ℕ} x 1 0) is in omega (arith, more, none)
+
+  save_at : (earlier : List Entry) (e : Entry) → ((id : ℕ) → times id (ids_of (earlier ++ e ∷ [])) ≤ times id parts.todo) → IsSound parts.job (made_with parts earlier e)
+      → IsSaveAt parts.job (job_digest parts.job) (moved (saves earlier) parts.place).slot (moved (saves earlier) parts.place).generation (try_made parts.job (made_with parts earlier e))
+  save_at earlier e of_todo sound = record {
+    slot = refl;
+    version = 1;
+    outcomes = (made_with parts earlier e).outcomes;
+    bytes = refl;
+    sound = sound;
+    fit = by_id_fit (fits parts.job) (total parts.job) (booked parts (earlier ++ e ∷ [])) (booked_fit parts plan (earlier ++ e ∷ []) of_todo);
+  }
+
+  -- the place after this one
+  turn_rest : (earlier : List Entry) (e : Entry) (rest : List Made) (s : Bool) → e.saved ≡ s → InTurnFrom (saves (earlier ++ e ∷ [])) rest
+      → (let at = moved (saves earlier) parts.place in
+      AreInTurn parts.job (job_digest parts.job) (cond s (1 - at.slot) at.slot) (cond s ((at.generation + 1) % 3) at.generation) (map (try_made parts.job) rest))
+  turn_rest earlier e rest true is later = subst (λ (n : ℕ). InTurnFrom n rest) (next_turn earlier e true is) later
+  turn_rest earlier e rest false is later = subst (λ (n : ℕ). InTurnFrom n rest) (next_turn earlier e false is) later
+
+  turn_with : (earlier : List Entry) (e : Entry) (rest : List Made) (b : Bool) → is_due parts.save_every e ≡ b → (e.saved ≡ true → is_due parts.save_every e ≡ true)
+      → ((id : ℕ) → times id (ids_of (earlier ++ e ∷ [])) ≤ times id parts.todo)
+      → All (IsSound parts.job) (cond b (made_with parts earlier e ∷ []) [] ++ rest)
+      → (All (IsSound parts.job) rest → InTurnFrom (saves (earlier ++ e ∷ [])) rest)
+      → InTurnFrom (saves earlier) (cond b (made_with parts earlier e ∷ []) [] ++ rest)
+  turn_with earlier e rest false undue due of_todo sound later =
+      subst (λ (n : ℕ). InTurnFrom n rest) (next_turn earlier e false (unsaved e.saved due)) (later sound)
+    where
+      unsaved : (s : Bool) → (s ≡ true → is_due parts.save_every e ≡ true) → s ≡ false
+      unsaved true h = absurd (true≢false (sym (h refl) ∙ undue))
+      unsaved false h = refl
+  turn_with earlier e rest true is_one due of_todo sound later = (
+    save_at earlier e of_todo (All-head (IsSound parts.job) (made_with parts earlier e) rest sound),
+    turn_rest earlier e rest e.saved refl (later (All-tail (IsSound parts.job) (made_with parts earlier e) rest sound)),
+  )
+
+  in_turn : (posted earlier : List Entry) → ((id : ℕ) → times id (ids_of (earlier ++ posted)) ≤ times id parts.todo)
+      → All (IsSound parts.job) (made_after parts earlier posted)
+      → All (λ e. e.saved ≡ true → is_due parts.save_every e ≡ true) posted → InTurnFrom (saves earlier) (made_after parts earlier posted)
+  in_turn [] earlier of_todo sound due = tt
+  in_turn (e ∷ posted) earlier of_todo sound due =
+      turn_with earlier e (made_after parts (earlier ++ e ∷ []) posted) (is_due parts.save_every e) refl
+      (All-head (λ (x : Entry). x.saved ≡ true → is_due parts.save_every x ≡ true) e posted due) (fewer earlier posted e of_todo) sound
+      (λ rest_sound. in_turn posted (earlier ++ e ∷ [])
+      (λ id. subst (λ (l : List Entry). times id (ids_of l) ≤ times id parts.todo) (sym (append_assoc earlier (e ∷ []) posted)) (of_todo id))
+      rest_sound (All-tail (λ (x : Entry). x.saved ≡ true → is_due parts.save_every x ≡ true) e posted due))
+
+pub stops_leave_honest_slots : SavesLeaveHonestSlots → StopsLeaveHonestSlots
+stops_leave_honest_slots law parts posted before after n posts opening out honest =
+    law parts.job (draw parts.job.setting.key) (job_digest parts.job) before after (tries parts posted) n
+    (right_tries parts posts.plan opening posted [] posts.of_todo posts.sound) out honest
+
+pub stops_keep_the_newest : SavesKeepTheNewest → StopsKeepTheNewest
+stops_keep_the_newest law parts posted before after n posts first out =
+    law parts.job (job_digest parts.job) before after parts.place.slot parts.place.generation (tries parts posted) n first
+    (in_turn parts posts.plan posted [] posts.of_todo posts.sound posts.due) out

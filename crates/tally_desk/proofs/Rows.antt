@@ -1,0 +1,113 @@
+-- The definitions on small runs, by computation.
+use Rattle.std.proofs.Common.{◌≡◌, ℕ, Bool, true, false, List, [], ◌∷◌, refl}
+use Rattle.std.specs.List.{range_with_len}
+use Rattle.ckpt_store.specs.declared.slots.Place.{Place}
+use Rattle.tally_desk.specs.declared.entry.Entry.{Entry}
+use Rattle.tally_desk.specs.Entries.{entry, ids_of, saves, missed, up_to_save, after_save, ends_saved}
+use Rattle.tally_desk.specs.Homes.{moved}
+
+abbrev at : ℕ → ℕ → Place
+at slot generation = record { slot = slot; generation = generation }
+
+abbrev post : ℕ → Bool → Entry
+post ticket saved = entry ticket ticket saved
+
+-- ---- five posts, a save after every second
+
+abbrev five : List Entry
+five = post 0 false ∷ post 1 true ∷ post 2 false ∷ post 3 true ∷ post 4 false ∷ []
+
+five_saves : saves five ≡ 2
+five_saves = refl
+
+-- a last save goes to slot 0 with generation 2, and slot 1 has the first four with generation 1
+five_place : moved (saves five) (at 0 0) ≡ at 0 2
+five_place = refl
+
+five_last : ids_of (up_to_save 2 five) ≡ 0 ∷ 1 ∷ 2 ∷ 3 ∷ []
+five_last = refl
+
+five_next : ids_of (up_to_save 1 five) ≡ 0 ∷ 1 ∷ []
+five_next = refl
+
+five_missed : missed 2 five ≡ 0
+five_missed = refl
+
+five_ends : ends_saved five ≡ false
+five_ends = refl
+
+-- resumed from there: the place is slot 1 with generation 0, and after five more a last save goes to slot 1 with generation 2
+five_more : moved (saves five) (at 1 0) ≡ at 1 2
+five_more = refl
+
+-- resumed again: two posts, and the save with the last of them goes to slot 0 with generation 0
+abbrev two : List Entry
+two = post 0 false ∷ post 1 true ∷ []
+
+two_place : moved (saves two) (at 0 0) ≡ at 1 1
+two_place = refl
+
+two_ends : ends_saved two ≡ true
+two_ends = refl
+
+-- ---- twelve posts, a save after every second, of which the third fails
+
+abbrev six : List Entry
+six = post 0 false ∷ post 1 true ∷ post 2 false ∷ post 3 true ∷ post 4 false ∷ post 5 false ∷ []
+
+abbrev twelve : List Entry
+twelve =
+    post 0 false ∷ post 1 true ∷ post 2 false ∷ post 3 true ∷ post 4 false ∷ post 5 false ∷ post 6 false ∷ post 7 true
+    ∷ post 8 false ∷ post 9 true ∷ post 10 false ∷ post 11 true ∷ []
+
+-- after the failed save nothing is said of the next slot
+six_missed : missed 2 (after_save (saves six) six) ≡ 1
+six_missed = refl
+
+six_place : moved (saves six) (at 0 0) ≡ at 0 2
+six_place = refl
+
+twelve_saves : saves twelve ≡ 5
+twelve_saves = refl
+
+twelve_missed : missed 2 twelve ≡ 1
+twelve_missed = refl
+
+-- slot 0 has generation 1 and all twelve, and slot 1 has generation 0 and the first ten
+twelve_place : moved (saves twelve) (at 0 0) ≡ at 1 2
+twelve_place = refl
+
+twelve_last : ids_of (up_to_save 5 twelve) ≡ range_with_len 0 12
+twelve_last = refl
+
+twelve_next : ids_of (up_to_save 4 twelve) ≡ range_with_len 0 10
+twelve_next = refl
+
+twelve_after : after_save 5 twelve ≡ []
+twelve_after = refl
+
+twelve_ends : ends_saved twelve ≡ true
+twelve_ends = refl
+
+-- ---- three posts: a save after two, after three, and a first save that fails
+
+abbrev three : Bool → Bool → List Entry
+three second third = post 0 false ∷ post 1 second ∷ post 2 third ∷ []
+
+after_two : saves (three true false) ≡ 1
+after_two = refl
+
+after_two_missed : missed 2 (three true false) ≡ 0
+after_two_missed = refl
+
+after_two_ends : ends_saved (three true false) ≡ false
+after_two_ends = refl
+
+after_three_missed : missed 3 (three false true) ≡ 0
+after_three_missed = refl
+
+after_three_ends : ends_saved (three false true) ≡ true
+after_three_ends = refl
+
+first_failed : missed 2 (three false false) ≡ 1
+first_failed = refl

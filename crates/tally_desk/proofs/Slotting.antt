@@ -1,0 +1,172 @@
+-- What one more post does to what is known of the slots.
+use Rattle.std.proofs.Common.{◌≡◌, ℕ, zero, suc, ◌+◌, ◌-◌, ◌%◌, ◌<◌, ◌≤◌, Bool, true, false, cond, List, [], ◌∷◌, ◌++◌, Option, Some, None, refl, sym, ap, ◌∙◌, subst, arith}
+use Rattle.std.specs.List.{list_all}
+use Rattle.std.proofs.lemmas.Bool.{true≢false}
+use Rattle.audit_io.specs.Slots.{Pair, Stored, stored, other_stored}
+use Rattle.audit_model.specs.declared.outcome.Outcome.{Outcome}
+use Rattle.audit_model.specs.Run.{total, fits}
+use Rattle.checkpoint_definitions.specs.Checkpoint.{IsCheckpoint, checkpoint, job_digest}
+use Rattle.checkpoint_definitions.specs.Slots.{generation_of, slot_of}
+use Rattle.ckpt_store.specs.declared.slots.Place.{Place}
+use Rattle.ckpt_store.specs.Laws.{CheckpointsAreOurs, IsNewestForFitJobs, SavedSlotsAreNewest, newest_for, place_for}
+use Rattle.claim_counter.specs.Records.{times}
+use Rattle.outcome_book.specs.Booked.{by_id}
+use Rattle.tally_desk.specs.declared.entry.Entry.{Entry}
+use Rattle.tally_desk.specs.Entries.{entry, ids_of, is_missed, saves, missed, up_to_save, after_save}
+use Rattle.tally_desk.specs.Homes.{IfToldThen, IsSaveOf, SlotsAs, booked, moved, next_place}
+use Rattle.tally_desk.specs.Parts.{Parts, IsPlan}
+use Rattle.tally_desk.proofs.Booking.{saved_fit}
+use Rattle.tally_desk.proofs.Marking.{saves-push, missed-push, up_to_save-kept, up_to_save-all, after_save-kept, ends_saved-push}
+
+-- ---- two slots and three generations
+
+-- the place moves within two slots and three generations
+pub moved_slot : (n : ℕ) (p : Place) → p.slot < 2 → (moved n p).slot < 2
+moved_slot zero p below = below
+moved_slot (suc n) p below = omega arith
+
+mod_three : (g : ℕ) → (g + 1) % 3 < 3
+mod_three g = omega arith
+
+pub moved_generation : (n : ℕ) (p : Place) → p.generation < 3 → (moved n p).generation < 3
+moved_generation zero p below = below
+moved_generation (suc n) p below = mod_three (moved n p).generation
+
+-- beside a slot is the other one
+pub other_is : (q : Pair) (at : ℕ) → at < 2 → other_stored q at ≡ stored q (1 - at)
+other_is q zero below = refl
+other_is q (suc zero) below = refl
+other_is q (suc (suc at)) below = absurd (omega arith)
+
+pub twice_other : (at : ℕ) → at < 2 → 1 - (1 - at) ≡ at
+twice_other at below = omega arith
+
+-- the generation before the next one is this one
+pub before_next : (g : ℕ) → g < 3 → ((g + 1) % 3 + 2) % 3 ≡ g
+before_next zero below = refl
+before_next (suc zero) below = refl
+before_next (suc (suc zero)) below = refl
+before_next (suc (suc (suc g))) below = absurd (omega arith)
+
+-- two before the next one is the one before this one
+pub two_before_next : (g : ℕ) → g < 3 → ((g + 1) % 3 + 1) % 3 ≡ (g + 2) % 3
+two_before_next zero below = refl
+two_before_next (suc zero) below = refl
+two_before_next (suc (suc zero)) below = refl
+two_before_next (suc (suc (suc g))) below = absurd (omega arith)
+
+-- this one follows the one before it
+after_before : (g : ℕ) → g < 3 → g ≡ ((g + 2) % 3 + 1) % 3
+after_before zero below = refl
+after_before (suc zero) below = refl
+after_before (suc (suc zero)) below = refl
+after_before (suc (suc (suc g))) below = absurd (omega arith)
+
+-- ---- told or not
+
+pub told_map : {A : Type 0} (a b : Option A) (P Q : A → A → Type 0) → ((x y : A) → P x y → Q x y) → IfToldThen a b P → IfToldThen a b Q
+told_map None b P Q f h = tt
+told_map (Some x) None P Q f h = h
+told_map (Some x) (Some y) P Q f h = f x y h
+
+cond_none : (b : Bool) → cond {A = ℕ} b 1 0 ≡ 0 → b ≡ false
+cond_none true none = absurd (omega arith)
+cond_none false none = refl
+
+-- ---- a post that is not marked
+
+-- the last slot is as before, and both are where no save was due
+pub unsaved_slots : (parts : Parts) (l : List Entry) (t i : ℕ) (before now after : Pair) (place : Place)
+    → stored after (1 - place.slot) ≡ stored now (1 - place.slot)
+    → (is_missed parts.save_every (entry t i false) ≡ false → after ≡ now)
+    → SlotsAs parts before now place l → SlotsAs parts before after place (l ++ entry t i false ∷ [])
+unsaved_slots parts l t i before now after place last same s =
+    let e = entry t i false in
+    let more = l ++ e ∷ [] in
+    let every = parts.save_every in
+    let count : saves more ≡ saves l = let pushed = saves-push l e in omega arith in
+    let fewer : saves more - 1 ≡ saves l - 1 = ap (λ (n : ℕ). n - 1) count in
+    let kept : (n : ℕ) → n ≤ saves l → up_to_save n more ≡ up_to_save n l = up_to_save-kept l e in
+    let rest : missed every (after_save (saves more) more) ≡ missed every (after_save (saves l) l) + cond (is_missed every e) 1 0 =
+    ap (λ (n : ℕ). missed every (after_save n more)) count ∙ ap (missed every) (after_save-kept l e (saves l) (omega arith))
+    ∙ missed-push every (after_save (saves l) l) e in
+    let unmissed : missed every (after_save (saves more) more) ≡ 0 → after ≡ now = λ none. same (cond_none (is_missed every e) (omega (arith, none, rest))) in
+    let saved_all : up_to_save (saves more) more ≡ up_to_save (saves l) l = ap (λ (n : ℕ). up_to_save n more) count ∙ kept (saves l) (omega arith) in
+    let saved_before : up_to_save (saves more - 1) more ≡ up_to_save (saves l - 1) l = ap (λ (n : ℕ). up_to_save n more) fewer ∙ kept (saves l - 1) (omega arith) in
+    record {
+      last_unsaved = λ none. last ∙ s.last_unsaved (omega (arith, none, count));
+      last_saved = λ some_save.
+          subst (λ (q : List Entry × Stored). IsSaveOf parts ((place.generation + 2) % 3) q.0 q.1) (λ k. (sym saved_all k, sym last k))
+          (s.last_saved (omega (arith, some_save, count)));
+      next_unsaved = λ none few.
+          ap (λ (q : Pair). stored q place.slot) (unmissed none) ∙ s.next_unsaved (omega (arith, none, rest)) (omega (arith, few, count));
+      next_saved = λ none many.
+          subst (λ (q : List Entry × Stored). IsSaveOf parts ((place.generation + 1) % 3) q.0 q.1)
+          (λ k. (sym saved_before k, ap (λ (q : Pair). stored q place.slot) (sym (unmissed none)) k))
+          (s.next_saved (omega (arith, none, rest)) (omega (arith, many, count)));
+      newest = λ ends. absurd (true≢false (sym ends ∙ ends_saved-push false l e));
+    }
+
+-- ---- a post that is marked
+
+-- a checkpoint of any outcomes that fit, at the place and nowhere else, is the newest
+module _ (newest : SavedSlotsAreNewest) (ours : CheckpointsAreOurs) (parts : Parts) (plan : IsPlan parts) (l : List Entry) (before now after : Pair) (place : Place) (slot : place.slot < 2)
+    (generation : place.generation < 3) (at : place ≡ moved (saves l) parts.place)
+    (first : place_for parts.job (job_digest parts.job) before ≡ (parts.place.slot, parts.place.generation)) (of_todo : (id : ℕ) → times id (ids_of l) ≤ times id parts.todo)
+    (outcomes : List Outcome) (fit : list_all (fits parts.job) outcomes ≡ true)
+    (sound : IsCheckpoint (checkpoint 1 (job_digest parts.job) place.generation outcomes) 1 (job_digest parts.job) place.generation outcomes)
+    (held : stored after place.slot ≡ Some (checkpoint 1 (job_digest parts.job) place.generation outcomes)) (last : stored after (1 - place.slot) ≡ stored now (1 - place.slot))
+    (fresh : IsNewestForFitJobs (job_digest parts.job) place.slot place.generation outcomes after) (s : SlotsAs parts before now place l) where
+  pub newest_written : (n : ℕ) → saves l ≡ n → newest_for parts.job (job_digest parts.job) after ≡ Some place.slot
+  newest_written zero none =
+      let here : place ≡ parts.place = at ∙ ap (λ (n : ℕ). moved n parts.place) none in
+      let told : place_for parts.job (job_digest parts.job) before ≡ (place.slot, place.generation) = first ∙ ap (λ (p : Place). (p.slot, p.generation)) (sym here) in
+      (newest parts.job 1 (job_digest parts.job) before after place.slot place.generation outcomes told sound fit held (last ∙ s.last_unsaved none)).newest
+  newest_written (suc n) some_saves =
+      let save = s.last_saved (omega (arith, some_saves)) in
+      let old = by_id (total parts.job) (booked parts (up_to_save (saves l) l)) in
+      let earlier = (place.generation + 2) % 3 in
+      let is : other_stored after place.slot ≡ Some (checkpoint 1 (job_digest parts.job) earlier old) = other_is after place.slot slot ∙ last ∙ save.bytes in
+      let intact : generation_of (slot_of parts.job (job_digest parts.job) (other_stored after place.slot)) ≡ Some earlier =
+      ap (λ (q : Stored). generation_of (slot_of parts.job (job_digest parts.job) q)) is
+      ∙ ap generation_of (ours parts.job (checkpoint 1 (job_digest parts.job) earlier old) 1 (job_digest parts.job) earlier old save.sound (saved_fit parts plan l (saves l) of_todo)) in
+      (fresh parts.job fit).later earlier intact (after_before place.generation generation)
+
+module _ (newest : SavedSlotsAreNewest) (ours : CheckpointsAreOurs) (parts : Parts) (plan : IsPlan parts) (l : List Entry) (t i : ℕ) where
+  abbrev more : List Entry
+  more = l ++ entry t i true ∷ []
+
+  abbrev all_of : List Entry → List Outcome
+  all_of posted = by_id (total parts.job) (booked parts posted)
+
+  abbrev saved_bytes : ℕ → List Entry → List ℕ
+  saved_bytes generation posted = checkpoint 1 (job_digest parts.job) generation (all_of posted)
+
+  module _ (before now after : Pair) (place : Place) (slot : place.slot < 2) (generation : place.generation < 3) (at : place ≡ moved (saves l) parts.place)
+      (first : place_for parts.job (job_digest parts.job) before ≡ (parts.place.slot, parts.place.generation))
+      (of_todo : (id : ℕ) → times id (ids_of l) ≤ times id parts.todo) (fit : list_all (fits parts.job) (all_of more) ≡ true)
+      (sound : IsCheckpoint (saved_bytes place.generation more) 1 (job_digest parts.job) place.generation (all_of more))
+      (held : stored after place.slot ≡ Some (saved_bytes place.generation more)) (last : stored after (1 - place.slot) ≡ stored now (1 - place.slot))
+      (fresh : IsNewestForFitJobs (job_digest parts.job) place.slot place.generation (all_of more) after) (s : SlotsAs parts before now place l) where
+    pub saved_slots : SlotsAs parts before after (next_place place) more
+    saved_slots =
+        let every = parts.save_every in
+        let count : saves more ≡ saves l + 1 = saves-push l (entry t i true) in
+        let back : 1 - (1 - place.slot) ≡ place.slot = twice_other place.slot slot in
+        let saved_all : up_to_save (saves more) more ≡ more = up_to_save-all l t i (saves more) count in
+        let fewer : saves more - 1 ≡ saves l = omega (arith, count) in
+        let saved_before : up_to_save (saves more - 1) more ≡ up_to_save (saves l) l =
+        ap (λ (n : ℕ). up_to_save n more) fewer ∙ up_to_save-kept l (entry t i true) (saves l) (omega arith) in
+        record {
+          last_unsaved = λ none. absurd (omega (arith, none, count));
+          last_saved = λ some_save.
+              subst (λ (q : ℕ × List Entry × Stored). IsSaveOf parts q.0 q.1 q.2)
+              (λ k. (sym (before_next place.generation generation) k, sym saved_all k, stored after (sym back k)))
+              (record { bytes = held; sound = sound });
+          next_unsaved = λ none few. last ∙ s.last_unsaved (omega (arith, few, count));
+          next_saved = λ none many.
+              subst (λ (q : ℕ × List Entry × Stored). IsSaveOf parts q.0 q.1 q.2)
+              (λ k. (sym (two_before_next place.generation generation) k, sym saved_before k, sym last k))
+              (s.last_saved (omega (arith, many, count)));
+          newest = λ ends. newest_written newest ours parts plan l before now after place slot generation at first of_todo (all_of more) fit sound held last fresh s (saves l) refl ∙ ap (λ (n : ℕ). Some n) (sym back);
+        }

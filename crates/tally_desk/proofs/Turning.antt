@@ -1,0 +1,315 @@
+-- One turn keeps what the slot of a desk holds.
+use Rattle.std.proofs.Common.{◌≡◌, ℕ, suc, ◌+◌, ◌-◌, ◌*◌, ◌%◌, ◌^◌, ◌<◌, ◌≤◌, ◌==◌, ◌&&◌, min, not, Bool, true, false, cond, List, [], ◌∷◌, ◌++◌, length, length-append, Option, Some, None, refl, sym, ap, ◌∙◌, subst, arith, vec_capacity}
+use Rattle.std.specs.List.{All, list_all}
+use Rattle.std.proofs.lemmas.List.{length-map, map-append}
+use Rattle.std.proofs.lemmas.List.Sums.{count_by-le-length}
+use Rattle.std.proofs.lemmas.Bool.{true≢false}
+use Rattle.audit_io.specs.Faults.{Counts}
+use Rattle.audit_io.specs.Slots.{Pair, IfTold, HoldsBytes, KeepsOther}
+use Rattle.audit_io.specs.Tries.{Try, tried_all, tried_too}
+use Rattle.audit_model.specs.declared.outcome.Outcome.{Outcome}
+use Rattle.audit_model.specs.Room.{RoomyBytes, RoomyOutcomes}
+use Rattle.audit_model.specs.Run.{total, fits, has_id, is_bare}
+use Rattle.checkpoint_definitions.specs.Checkpoint.{IsCheckpoint, checkpoint, job_digest}
+use Rattle.ckpt_store.specs.declared.slots.Place.{Place}
+use Rattle.ckpt_store.specs.Laws.{CheckpointsAreOurs, IsNewestForFitJobs, SavedSlotsAreNewest}
+use Rattle.claim_counter.specs.Records.{times}
+use Rattle.outcome_book.specs.Booked.{Booked, by_id}
+use Rattle.tally_desk.specs.declared.entry.Entry.{Entry}
+use Rattle.tally_desk.specs.declared.home.Home.{Home}
+use Rattle.tally_desk.specs.Entries.{entry, id_of, ids_of, is_due, is_missed, saves, missed}
+use Rattle.tally_desk.specs.Homes.{HasTurned, IfToldThen, IsSound, KeptAs, MayTurn, SlotsAs, booked, made, moved, next_place, tries}
+use Rattle.tally_desk.specs.Parts.{Parts, IsPlan, IsPlaceFor}
+use Rattle.tally_desk.specs.Saving.{SavedWhereDue, TriedSave, sorted_of}
+use Rattle.tally_desk.proofs.Booking.{absent_of_book, booked-push, booked_bare, booked_fit, by_id_fit}
+use Rattle.tally_desk.proofs.Counting.{length-le, one_more_id}
+use Rattle.tally_desk.proofs.Marking.{missed-push, saves-push}
+use Rattle.tally_desk.proofs.Slotting.{moved_slot, moved_generation, other_is, saved_slots, told_map, unsaved_slots}
+use Rattle.tally_desk.proofs.Trying.{due_sound, due_tries, undue_sound, undue_tries}
+use Rattle.tally_desk.proofs.Todo.{todo_small, todo_within}
+
+-- ---- counts of faults
+
+covered_more : (last start failed now after : ℕ) → min (start + failed) last ≤ now → min (now + 1) last ≤ after → min (start + (failed + 1)) last ≤ after
+covered_more last start failed now after covered rose = omega arith
+
+counts_more : (start now after : ℕ) → Counts start now → Counts now after → Counts start after
+counts_more start now after c d = let first = c.later in let second = d.later in record { later = omega arith; within = λ small. d.within (c.within small) }
+
+-- ---- posts that are due
+
+due_unmissed : (every : ℕ) (e : Entry) → is_due every e ≡ false → is_missed every e ≡ false
+due_unmissed every e not_due = ap (λ (b : Bool). b && not e.saved) not_due
+
+saved_unmissed : (every t i : ℕ) → is_missed every (entry t i true) ≡ false
+saved_unmissed every t i = by (is_due every (entry t i true))
+  where
+    by : (b : Bool) → (b && false) ≡ false
+    by true = refl
+    by false = refl
+
+missed_one : (b : Bool) → b ≡ true → cond {A = ℕ} (b && not false) 1 0 ≡ 1
+missed_one true is = refl
+missed_one false is = cc
+
+count_none : (b : Bool) → b ≡ false → cond {A = ℕ} b 1 0 ≡ 0
+count_none true is = cc
+count_none false is = refl
+
+-- ---- told or not
+
+-- nothing was saved
+told_as_before : (parts : Parts) (l : List Entry) (t i : ℕ) (place : Place) → is_missed parts.save_every (entry t i false) ≡ false → (a b : Option Pair)
+    → IfToldThen a b (λ before now. SlotsAs parts before now place l) → IfToldThen a b (λ before now. SlotsAs parts before now place (l ++ entry t i false ∷ []))
+told_as_before parts l t i place unmissed a b h = told_map a b _ _ (λ before now s. unsaved_slots parts l t i before now now place refl (λ _. refl) s) h
+
+-- a save failed
+told_failed : (parts : Parts) (l : List Entry) (t i : ℕ) (place : Place) → place.slot < 2 → is_missed parts.save_every (entry t i false) ≡ true → (a b c : Option Pair)
+    → IfToldThen a b (λ before now. SlotsAs parts before now place l) → KeepsOther b c place.slot
+    → IfToldThen a c (λ before now. SlotsAs parts before now place (l ++ entry t i false ∷ []))
+told_failed parts l t i place slot is_one None b c h other = tt
+told_failed parts l t i place slot is_one (Some p) None c h other = absurd h
+told_failed parts l t i place slot is_one (Some p) (Some q) None h other = other
+told_failed parts l t i place slot is_one (Some p) (Some q) (Some r) h other =
+    unsaved_slots parts l t i p q r place (sym (other_is r place.slot slot) ∙ other ∙ other_is q place.slot slot) (λ none. absurd (true≢false (sym is_one ∙ none))) h
+
+module _ (newest : SavedSlotsAreNewest) (ours : CheckpointsAreOurs) where
+  -- a save succeeded
+  told_saved : (parts : Parts) (plan : IsPlan parts) (l : List Entry) (t i : ℕ) (place : Place) → place ≡ moved (saves l) parts.place
+      → ((id : ℕ) → times id (ids_of l) ≤ times id parts.todo)
+      → (let all = by_id (total parts.job) (booked parts (l ++ entry t i true ∷ [])) in
+      list_all (fits parts.job) all ≡ true
+      → IsCheckpoint (checkpoint 1 (job_digest parts.job) place.generation all) 1 (job_digest parts.job) place.generation all
+      → (a b c : Option Pair) → IsPlaceFor parts.job a parts.place → IfToldThen a b (λ before now. SlotsAs parts before now place l)
+      → KeepsOther b c place.slot → HoldsBytes c place.slot (checkpoint 1 (job_digest parts.job) place.generation all)
+      → IfTold c (IsNewestForFitJobs (job_digest parts.job) place.slot place.generation all)
+      → IfToldThen a c (λ before now. SlotsAs parts before now (next_place place) (l ++ entry t i true ∷ [])))
+  told_saved parts plan l t i place at of_todo fit sound None b c first h other held fresh = tt
+  told_saved parts plan l t i place at of_todo fit sound (Some p) None c first h other held fresh = absurd h
+  told_saved parts plan l t i place at of_todo fit sound (Some p) (Some q) None first h other held fresh = other
+  told_saved parts plan l t i place at of_todo fit sound (Some p) (Some q) (Some r) first h other held fresh =
+      let slot : place.slot < 2 = subst (λ (x : Place). x.slot < 2) (sym at) (moved_slot (saves l) parts.place plan.slot) in
+      let generation : place.generation < 3 = subst (λ (x : Place). x.generation < 3) (sym at) (moved_generation (saves l) parts.place plan.generation) in
+      saved_slots newest ours parts plan l t i p q r place slot generation at first of_todo fit sound held
+      (sym (other_is r place.slot slot) ∙ other ∙ other_is q place.slot slot) fresh h
+
+-- ---- the turn
+
+module _ {C : Type 0} (load_faults save_faults : C → ℕ) (slots : C → Option Pair) (history : C → Option (List Try)) (parts : Parts) (y : Home C) (l : List Entry) (o : Outcome)
+    (may : MayTurn load_faults save_faults slots history parts y l o) where
+  abbrev next : Bool → List Entry
+  next saved = l ++ entry (length l) o.id saved ∷ []
+
+  next_ids : (saved : Bool) → ids_of (next saved) ≡ ids_of l ++ o.id ∷ []
+  next_ids saved = map-append (λ (e : Entry). e.id) l (entry (length l) o.id saved ∷ [])
+
+  pub next_of_todo : (saved : Bool) (id : ℕ) → times id (ids_of (next saved)) ≤ times id parts.todo
+  next_of_todo saved id =
+      subst (λ (ids : List ℕ). times id ids ≤ times id parts.todo) (sym (next_ids saved)) (one_more_id (ids_of l) parts.todo o.id may.of_todo may.unposted may.to_do id)
+
+  -- there are fewer posts than ids to do
+  pub some_left : length l < length parts.todo
+  some_left =
+      let most = length-le (ids_of l ++ o.id ∷ []) parts.todo (one_more_id (ids_of l) parts.todo o.id may.of_todo may.unposted may.to_do) in
+      omega (arith, most, length-append (ids_of l) (o.id ∷ []), length-map l id_of)
+
+  -- no more saves failed than there are posts
+  pub few_failed : y.failed_saves + 1 < 2 ^ 32
+  few_failed =
+      let left = some_left in let small = todo_small parts may.plan in
+      omega (arith, may.holds.kept.failed_is, count_by-le-length (is_missed parts.save_every) l, left, small)
+
+  pub slot_below : y.place.slot < 2
+  slot_below = subst (λ (x : Place). x.slot < 2) (sym may.holds.kept.place_is) (moved_slot (saves l) parts.place may.plan.slot)
+
+  pub generation_below : y.place.generation < 3
+  generation_below = subst (λ (x : Place). x.generation < 3) (sym may.holds.kept.place_is) (moved_generation (saves l) parts.place may.plan.generation)
+
+  pub total_is : y.book.total ≡ total parts.job
+  total_is = ap (λ (b : Booked). b.total) may.holds.kept.book_is
+
+  pub id_below : o.id < y.book.total
+  id_below = omega (arith, total_is, todo_within parts may.plan o.id may.to_do)
+
+  pub id_absent : has_id y.book.outcomes o.id ≡ false
+  id_absent = ap (λ (b : Booked). has_id b.outcomes o.id) may.holds.kept.book_is ∙ absent_of_book parts may.plan l o.id may.to_do may.unposted
+
+  -- none of the outcomes has bins, nor has this one
+  pub bare_after : (outcomes : List Outcome) → outcomes ≡ y.book.outcomes ++ o ∷ [] → list_all is_bare outcomes ≡ true
+  bare_after outcomes more =
+      ap (list_all is_bare) (more ∙ ap (λ (b : Booked). b.outcomes ++ o ∷ []) may.holds.kept.book_is ∙ ap (λ (x : Outcome). booked parts l ++ x ∷ []) may.right
+      ∙ sym (booked-push parts l (entry (length l) o.id false)))
+      ∙ booked_bare parts may.plan (next false)
+
+  -- what is left to show of the value after the save
+  pub record Done (n : Home C) (saved : Bool) : Type 0 where
+    pub kept : KeptAs load_faults save_faults slots history parts n.book n.keeper n.place n.failed_saves (next saved)
+    pub due : saved ≡ true → is_due parts.save_every (entry (length l) o.id saved) ≡ true
+    pub posted : n.posted ≡ y.posted
+    pub every : n.save_every ≡ parts.save_every
+    pub digest : n.digest ≡ job_digest parts.job
+    pub sorted_room : total parts.job ≤ length n.sorted.items + n.sorted.spare
+    pub save_room : 84 + 44 * total parts.job ≤ length n.room.items + n.room.spare
+
+  module _ (b : Booked) (total_kept : b.total ≡ y.book.total) (outcomes_more : b.outcomes ≡ y.book.outcomes ++ o ∷ []) where
+    abbrev m : Home C
+    m = record y { book = b }
+
+    book_is : (saved : Bool) → b ≡ record { total = total parts.job; outcomes = booked parts (next saved) }
+    book_is saved =
+        let totals : b.total ≡ total parts.job = total_kept ∙ total_is in
+        let outcomes : b.outcomes ≡ booked parts (next saved) =
+        outcomes_more ∙ ap (λ (q : Booked). q.outcomes ++ o ∷ []) may.holds.kept.book_is
+        ∙ ap (λ (x : Outcome). booked parts l ++ x ∷ []) may.right ∙ sym (booked-push parts l (entry (length l) o.id saved)) in
+        λ k. record { total = totals k; outcomes = outcomes k }
+
+    -- nothing was saved, and nothing was due
+    undone : is_due parts.save_every (entry (length l) o.id false) ≡ false → Done m false
+    undone not_due =
+        let k = may.holds.kept in
+        let unmissed = due_unmissed parts.save_every (entry (length l) o.id false) not_due in
+        record {
+          kept = record {
+            book_is = book_is false;
+            failed_is = k.failed_is ∙ (let more = missed-push parts.save_every l (entry (length l) o.id false) in let none = count_none (is_missed parts.save_every (entry (length l) o.id false)) unmissed in
+                let same : missed parts.save_every l ≡ missed parts.save_every (next false) = omega (arith, more, none) in same);
+            covered = k.covered;
+            counts = k.counts;
+            shown = k.shown;
+            loads = k.loads;
+            place_is = k.place_is ∙ ap (λ (n : ℕ). moved n parts.place) (let more = saves-push l (entry (length l) o.id false) in let same : saves l ≡ saves (next false) = omega (arith, more) in same);
+            tried_is = k.tried_is ∙ undue_tries parts parts.tried l (entry (length l) o.id false) not_due;
+            sound = undue_sound parts l (entry (length l) o.id false) not_due k.sound;
+            told = told_as_before parts l (length l) o.id y.place unmissed parts.slots (slots y.keeper) k.told;
+          };
+          due = λ h. absurd (true≢false (sym h));
+          posted = refl;
+          every = may.holds.equipped.every;
+          digest = may.holds.equipped.digest;
+          sorted_room = may.holds.equipped.sorted_room;
+          save_room = may.holds.equipped.save_room;
+        }
+
+    module _ (newest : SavedSlotsAreNewest) (ours : CheckpointsAreOurs) (n : Home C) (was_due : (saved : Bool) → is_due parts.save_every (entry (length l) o.id saved) ≡ true) where
+      -- what a save leaves, and that it was due
+      rest_done : (saved : Bool) → TriedSave load_faults save_faults slots history m n saved → KeptAs load_faults save_faults slots history parts n.book n.keeper n.place n.failed_saves (next saved) → Done n saved
+      rest_done saved tried kept = record {
+        kept = kept;
+        due = λ _. was_due saved;
+        posted = tried.rest.posted;
+        every = tried.rest.every ∙ may.holds.equipped.every;
+        digest = tried.rest.digest ∙ may.holds.equipped.digest;
+        sorted_room = omega (arith, tried.rest.sorted_room, may.holds.equipped.sorted_room);
+        save_room = omega (arith, tried.rest.save_room, may.holds.equipped.save_room);
+      }
+
+      abbrev all : List Outcome
+      all = by_id (total parts.job) (booked parts (next true))
+
+      digests : y.digest ≡ job_digest parts.job
+      digests = may.holds.equipped.digest
+
+      sorted_is : sorted_of m ≡ all
+      sorted_is = ap (λ (q : Booked). by_id q.total q.outcomes) (book_is true)
+
+      -- the history has this save too, whether it succeeded or not
+      history_is : (saved : Bool) → TriedSave load_faults save_faults slots history m n saved → history n.keeper ≡ tried_all parts.tried (tries parts (next saved))
+      history_is saved tried =
+          let k = may.holds.kept in
+          let sorted : sorted_of m ≡ by_id (total parts.job) (booked parts (next saved)) = ap (λ (q : Booked). by_id q.total q.outcomes) (book_is saved) in
+          tried.tried
+          ∙ (λ i. tried_too (k.tried_is i) (k.place_is i).slot (checkpoint 1 (digests i) (k.place_is i).generation (sorted i)) saved)
+          ∙ due_tries parts parts.tried l (entry (length l) o.id saved) (was_due saved)
+
+      sound_is : (saved : Bool) → TriedSave load_faults save_faults slots history m n saved → All (IsSound parts.job) (made parts (next saved))
+      sound_is saved tried =
+          let k = may.holds.kept in
+          let sorted : sorted_of m ≡ by_id (total parts.job) (booked parts (next saved)) = ap (λ (q : Booked). by_id q.total q.outcomes) (book_is saved) in
+          due_sound parts l (entry (length l) o.id saved) (was_due saved)
+          (subst (λ (x : List ℕ × Place × List Outcome). IsCheckpoint (checkpoint 1 x.0 x.1.generation x.2) 1 x.0 x.1.generation x.2) (λ i. (digests i, k.place_is i, sorted i)) tried.sound)
+          k.sound
+
+      saved_kept : TriedSave load_faults save_faults slots history m n true → KeptAs load_faults save_faults slots history parts n.book n.keeper n.place n.failed_saves (next true)
+      saved_kept tried =
+          let k = may.holds.kept in
+          let w = tried.on_ok refl in
+          let e = entry (length l) o.id true in
+          let count : saves (next true) ≡ suc (saves l) = let more = saves-push l e in omega (arith, more) in
+          let none = count_none (is_missed parts.save_every e) (saved_unmissed parts.save_every (length l) o.id) in
+          let same_missed : missed parts.save_every l ≡ missed parts.save_every (next true) = omega (arith, missed-push parts.save_every l e, none) in
+          record {
+            book_is = tried.rest.book ∙ book_is true;
+            failed_is = w.failed ∙ k.failed_is ∙ same_missed;
+            covered = omega (arith, k.covered, w.faults, w.failed);
+            counts = subst (Counts parts.save_faults) (sym w.faults) k.counts;
+            shown = λ rose. let some_failed = k.shown (omega (arith, rose, w.faults)) in omega (arith, some_failed, w.failed);
+            loads = tried.loads ∙ k.loads;
+            place_is = w.place ∙ ap next_place k.place_is ∙ ap (λ (c : ℕ). moved c parts.place) (sym count);
+            tried_is = history_is true tried;
+            sound = sound_is true tried;
+            told = subst (λ (p : Place). IfToldThen parts.slots (slots n.keeper) (λ before now. SlotsAs parts before now p (next true))) (sym w.place)
+                (told_saved newest ours parts may.plan l (length l) o.id y.place k.place_is may.of_todo
+                (by_id_fit (fits parts.job) (total parts.job) (booked parts (next true)) (booked_fit parts may.plan (next true) (next_of_todo true)))
+                (subst (λ (x : List ℕ × List Outcome). IsCheckpoint (checkpoint 1 x.0 y.place.generation x.1) 1 x.0 y.place.generation x.1) (λ i. (digests i, sorted_is i)) tried.sound)
+                parts.slots (slots y.keeper) (slots n.keeper) may.plan.place k.told tried.other
+                (subst (λ (x : List ℕ × List Outcome). HoldsBytes (slots n.keeper) y.place.slot (checkpoint 1 x.0 y.place.generation x.1)) (λ i. (digests i, sorted_is i)) w.held)
+                (subst (λ (x : List ℕ × List Outcome). IfTold (slots n.keeper) (IsNewestForFitJobs x.0 y.place.slot y.place.generation x.1)) (λ i. (digests i, sorted_is i)) w.newest));
+          }
+
+      failed_kept : TriedSave load_faults save_faults slots history m n false → KeptAs load_faults save_faults slots history parts n.book n.keeper n.place n.failed_saves (next false)
+      failed_kept tried =
+          let k = may.holds.kept in
+          let w = tried.on_err refl in
+          let e = entry (length l) o.id false in
+          let is_one : is_missed parts.save_every e ≡ true = ap (λ (d : Bool). d && not false) (was_due false) in
+          let one_more : missed parts.save_every (next false) ≡ missed parts.save_every l + 1 =
+          missed-push parts.save_every l e ∙ ap (λ (c : ℕ). missed parts.save_every l + c) (missed_one (is_due parts.save_every e) (was_due false)) in
+          let same : saves l ≡ saves (next false) = let more = saves-push l e in omega (arith, more) in
+          record {
+            book_is = tried.rest.book ∙ book_is false;
+            failed_is = w.failed ∙ ap (λ (c : ℕ). c + 1) k.failed_is ∙ sym one_more;
+            covered = subst (λ (c : ℕ). min (parts.save_faults + c) (2 ^ 64 - 1) ≤ save_faults n.keeper) (sym w.failed)
+                (covered_more (2 ^ 64 - 1) parts.save_faults y.failed_saves (save_faults y.keeper) (save_faults n.keeper) k.covered w.rose);
+            counts = counts_more parts.save_faults (save_faults y.keeper) (save_faults n.keeper) k.counts tried.counts;
+            shown = λ rose. omega (arith, w.failed);
+            loads = tried.loads ∙ k.loads;
+            place_is = w.place ∙ k.place_is ∙ ap (λ (c : ℕ). moved c parts.place) same;
+            tried_is = history_is false tried;
+            sound = sound_is false tried;
+            told = subst (λ (p : Place). IfToldThen parts.slots (slots n.keeper) (λ before now. SlotsAs parts before now p (next false))) (sym w.place)
+                (told_failed parts l (length l) o.id y.place slot_below is_one parts.slots (slots y.keeper) (slots n.keeper) k.told tried.other);
+          }
+
+      tried_done : (saved : Bool) → TriedSave load_faults save_faults slots history m n saved → Done n saved
+      tried_done true tried = rest_done true tried (saved_kept tried)
+      tried_done false tried = rest_done false tried (failed_kept tried)
+
+    pub done : SavedSlotsAreNewest → CheckpointsAreOurs → (n : Home C) (saved : Bool) → SavedWhereDue load_faults save_faults slots history (length l + 1) m n saved → Done n saved
+    done newest ours n saved s = by (is_due parts.save_every (entry (length l) o.id false)) refl
+      where
+        due_by : (d : Bool) → is_due parts.save_every (entry (length l) o.id false) ≡ d → ((length l + 1) % y.save_every == 0) ≡ d
+        due_by d is = ap (λ (k : ℕ). (length l + 1) % k == 0) may.holds.equipped.every ∙ is
+
+        by : (d : Bool) → is_due parts.save_every (entry (length l) o.id false) ≡ d → Done n saved
+        by false not_due = let was = s.undue (due_by false not_due) in subst (λ (x : Home C × Bool). Done x.0 x.1) (λ k. (sym was.1 k, sym was.0 k)) (undone not_due)
+        by true was_due = tried_done newest ours n (λ _. was_due) saved (s.due (due_by true was_due))
+
+  -- the entry was appended
+  pub turned : (n z : Home C) (saved : Bool) → Done n saved → z.posted.items ≡ n.posted.items ++ entry (length l) o.id saved ∷ []
+      → vec_capacity z.posted ≡ vec_capacity n.posted → z.book ≡ n.book → z.keeper ≡ n.keeper → z.place ≡ n.place → z.failed_saves ≡ n.failed_saves
+      → z.save_every ≡ n.save_every → z.digest ≡ n.digest → z.sorted ≡ n.sorted → z.room ≡ n.room → HasTurned load_faults save_faults slots history parts z l o saved
+  turned n z saved d items capacity book keeper place failed every digest sorted room = record {
+    holds = record {
+      entries = items ∙ ap (λ (q : List Entry). q ++ entry (length l) o.id saved ∷ []) (ap (λ v. v.items) d.posted ∙ may.holds.entries);
+      kept = subst (λ (q : Booked × C × Place × ℕ). KeptAs load_faults save_faults slots history parts q.0 q.1 q.2 q.3 (next saved))
+          (λ k. (sym book k, sym keeper k, sym place k, sym failed k)) d.kept;
+      equipped = record {
+        every = every ∙ d.every;
+        digest = digest ∙ d.digest;
+        entry_room = subst (λ (c : ℕ). length parts.todo ≤ c) (sym (capacity ∙ ap vec_capacity d.posted)) may.holds.equipped.entry_room;
+        sorted_room = subst (λ (q : RoomyOutcomes). total parts.job ≤ length q.items + q.spare) (sym sorted) d.sorted_room;
+        save_room = subst (λ (q : RoomyBytes). 84 + 44 * total parts.job ≤ length q.items + q.spare) (sym room) d.save_room;
+      };
+    };
+    due = d.due;
+  }

@@ -1,0 +1,56 @@
+use Rattle.std.proofs.Common.{arith, sym, ap, subst, ◌∙◌, ◌≡◌, ◌<◌, ℕ, length, get_or}
+use Rattle.std.specs.List.{list_all, range_with_len}
+use Rattle.std.specs.Slots.{slots_items}
+use Rattle.std.proofs.lemmas.List.{length-map}
+use Rattle.std.proofs.lemmas.List.Sorted.{length_permutation}
+use Rattle.atomic_table.specs.Table.{Final, Seen}
+use Rattle.audit_model.specs.Run.{is_bare}
+use Rattle.ckpt_store.specs.declared.slots.Place.{Place}
+use Rattle.outcome_book.specs.Booked.{Booked}
+use mathlib.Core.Option.{some-injective}
+use Rattle.tally_desk.specs.declared.home.Home.{Home}
+use Rattle.tally_desk.specs.Desks.{IsSettled, Tallied}
+use Rattle.tally_desk.specs.Founded.{parts_of}
+use Rattle.tally_desk.specs.Homes.{HomeAs, KeptAs}
+use Rattle.tally_desk.specs.Entries.{ends_saved, id_of, saves}
+use Rattle.tally_desk.specs.Views.{PassView, view_in}
+use Rattle.tally_desk.proofs.Booking.{booked_bare}
+use Rattle.tally_desk.proofs.Permuting.{permutation_from_sums}
+use Rattle.tally_desk.proofs.Slotting.{moved_generation, moved_slot}
+use Rattle.tally_desk.proofs.Steps.{complete, settles}
+use Rattle.tally_desk.proofs.desk.Desk.close.Goals as goal
+
+pub take-home-requires : goal.take-home-requires
+take-home-requires g c =
+    let slots = c.close_with-closed.ensures.counts.1 in
+    let one = c.args.self.one_slot in
+    let full = c.close_with-closed.ensures.values.1 0 (omega arith) (omega arith) in
+    (omega arith, full)
+
+pub returns : goal.returns
+returns g c =
+    let parts = parts_of g.C.Keeper.load_faults g.C.Keeper.save_faults g.C.Keeper.slots g.C.Keeper.tried c.args.self.table.shared.key in
+    let v = view_in c.args.pass.badge.views in
+    let final = subst (λ (u : PassView). Final (Seen (Tallied (HomeAs g.C.Keeper.load_faults g.C.Keeper.save_faults g.C.Keeper.slots g.C.Keeper.tried) parts) c.take_out-seat.result.id u) (slots_items c.close_with-closed.result.words) (slots_items c.close_with-closed.result.slots))
+    (ap (λ m. m.0) c.take_out-seat.ensures.view) c.close_with-closed.ensures.values.2 in
+    let s = settles (HomeAs g.C.Keeper.load_faults g.C.Keeper.save_faults g.C.Keeper.slots g.C.Keeper.tried) parts c.counter_laws.ensures c.take_out-seat.result.id v _ _ final c.args.pass.live c.requires.only c.args.pass.idle in
+    let same : s.0 ≡ c.take-home.result = some-injective _ _ (sym s.1 ∙ c.take-home.ensures.value) in
+    let drawn = get_or (slots_items c.close_with-closed.result.words) 0 0 in
+    let k = subst (λ (h : Home g.row.C.Denot). IsSettled (HomeAs g.C.Keeper.load_faults g.C.Keeper.save_faults g.C.Keeper.slots g.C.Keeper.tried) parts drawn h v) same s.2 in
+    let all = complete (HomeAs g.C.Keeper.load_faults g.C.Keeper.save_faults g.C.Keeper.slots g.C.Keeper.tried) parts drawn c.take-home.result v k c.requires.ended c.requires.posted in
+    let count : length k.posted ≡ length parts.todo = sym (length_permutation _ _ all ∙ length-map k.posted id_of) in
+    let place = c.hand_over.ensures.place ∙ k.holds.kept.place_is in
+    record {
+      plan = k.plan;
+      slot = subst (λ (p : Place). p.slot < 2) (sym place) (moved_slot (saves k.posted) parts.place k.plan.slot);
+      generation = subst (λ (p : Place). p.generation < 3) (sym place) (moved_generation (saves k.posted) parts.place k.plan.generation);
+      posted = k.posted;
+      own_posts = permutation_from_sums v.entries k.posted k.own_posts;
+      in_order = k.in_order ∙ ap (range_with_len 0) count;
+      all = all;
+      due = k.due;
+      kept = subst (λ (q : Booked × g.row.C.Denot × Place × ℕ). KeptAs g.C.Keeper.load_faults g.C.Keeper.save_faults g.C.Keeper.slots g.C.Keeper.tried parts q.0 q.1 q.2 q.3 k.posted)
+          (λ j. (sym c.hand_over.ensures.book j, sym c.hand_over.ensures.keeper j, sym c.hand_over.ensures.place j, sym c.hand_over.ensures.failed j)) k.holds.kept;
+      last = c.hand_over.ensures.last ∙ ap ends_saved k.holds.entries;
+      bare = ap (λ (b : Booked). list_all is_bare b.outcomes) (c.hand_over.ensures.book ∙ k.holds.kept.book_is) ∙ booked_bare parts k.plan k.posted;
+    }

@@ -1,0 +1,21 @@
+use Rattle.std.proofs.Common.{rules, sym, ap, subst, ◌∙◌, ◌<◌, ℕ}
+use Rattle.tally_desk.specs.Homes.{HomeAs}
+use Rattle.tally_desk.proofs.Steps.{join, see}
+use Rattle.tally_desk.proofs.desk.Desk.join.Goals as goal
+
+pub join_seat-requires : goal.join_seat-requires
+join_seat-requires g c =
+    let was = c.take_out-seat.ensures.view in
+    let was' = c.take_out-other.ensures.view in (
+      c.take_out-seat.ensures.table ∙ c.requires.first.of_table,
+      c.take_out-other.ensures.table ∙ c.requires.second.of_table,
+      ap (λ m. m.1) was',
+      search rules,
+      join (HomeAs g.C.Keeper.load_faults g.C.Keeper.save_faults g.C.Keeper.slots g.C.Keeper.tried) _ c.counter_laws.ensures _ _ _ _ (ap (λ m. m.0.parts) was ∙ c.requires.first.of_parts) (subst (λ (n : ℕ). 0 < n) (sym (ap (λ m. m.0.own.weight) was)) c.args.a.live)
+          (subst (λ (n : ℕ). 0 < n) (sym (ap (λ m. m.0.own.weight) was')) c.args.b.live) (ap (λ m. m.0.turn) was ∙ c.args.a.idle) (ap (λ m. m.0.turn) was' ∙ c.args.b.idle),
+    )
+
+pub load-requires : goal.load-requires
+load-requires g c =
+    let was = c.take_out-seat.ensures.view in
+    (c.join_seat.ensures.0 ∙ c.take_out-seat.ensures.table ∙ c.requires.first.of_table, search rules, see (HomeAs g.C.Keeper.load_faults g.C.Keeper.save_faults g.C.Keeper.slots g.C.Keeper.tried) _ _ _ _ (ap (λ m. m.0.parts) c.join_seat.ensures.2 ∙ ap (λ m. m.0.parts) was ∙ c.requires.first.of_parts))

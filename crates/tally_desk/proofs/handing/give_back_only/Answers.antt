@@ -1,0 +1,12 @@
+use Rattle.std.proofs.Common.{arith, ap, ◌∙◌, ◌≡◌, List, [], ◌∷◌, ◌++◌, length}
+use Rattle.tally_desk.specs.declared.home.Home.{Home}
+use Rattle.tally_desk.proofs.Bounds.{nil_from_length}
+use Rattle.tally_desk.proofs.handing.give_back_only.Goals as goal
+
+pub returns : goal.returns
+returns g c =
+    let len = c.in-Some.ensures.len in
+    let ok = c.pop.new.self.ok.0 in
+    let one = c.requires in
+    let none : length c.pop.new.self.items ≡ 0 = omega arith in
+    (c.in-Some.home, c.in-Some.ensures.items ∙ ap (λ (l : List (Home g.row.C.Denot)). l ++ c.in-Some.home ∷ []) (nil_from_length c.pop.new.self.items none), (c.give_back.ensures.book, c.give_back.ensures.keeper))

@@ -1,0 +1,74 @@
+use Rattle.std.proofs.Common.{◌≡◌, ◌∙◌, ◌+◌, ◌<◌, ◌∷◌, [], ◌++◌, ap, arith, refl, sym, subst, length, vec_len, vec_capacity, ℕ}
+use Rattle.tally_desk.specs.Entries.{entry}
+use Rattle.tally_desk.specs.Saving.{SavedWhereDue}
+use Rattle.tally_desk.proofs.Turning.{bare_after, done, few_failed, generation_below, id_absent, id_below, slot_below, some_left, total_is, turned}
+use Rattle.tally_desk.proofs.home.Home.turn.Goals as goal
+
+pub post-requires-clause-below : goal.post-requires-clause-below
+post-requires-clause-below g c =
+    id_below g.C.Keeper.load_faults g.C.Keeper.save_faults g.C.Keeper.slots g.C.Keeper.tried c.requires.0 c.args.self.now c.requires.1.0 c.args.o c.requires.1.1
+
+pub post-requires-clause-absent : goal.post-requires-clause-absent
+post-requires-clause-absent g c =
+    id_absent g.C.Keeper.load_faults g.C.Keeper.save_faults g.C.Keeper.slots g.C.Keeper.tried c.requires.0 c.args.self.now c.requires.1.0 c.args.o c.requires.1.1
+
+pub save_where_due-saved-requires-clause-every : goal.save_where_due-saved-requires-clause-every
+save_where_due-saved-requires-clause-every g c = let may = c.requires.1.1 in omega (arith, may.holds.equipped.every, may.plan.every)
+
+pub save_where_due-saved-requires-clause-slot : goal.save_where_due-saved-requires-clause-slot
+save_where_due-saved-requires-clause-slot g c =
+    slot_below g.C.Keeper.load_faults g.C.Keeper.save_faults g.C.Keeper.slots g.C.Keeper.tried c.requires.0 c.args.self.now c.requires.1.0 c.args.o c.requires.1.1
+
+pub save_where_due-saved-requires-clause-generation : goal.save_where_due-saved-requires-clause-generation
+save_where_due-saved-requires-clause-generation g c =
+    generation_below g.C.Keeper.load_faults g.C.Keeper.save_faults g.C.Keeper.slots g.C.Keeper.tried c.requires.0 c.args.self.now c.requires.1.0 c.args.o c.requires.1.1
+
+pub save_where_due-saved-requires-clause-count : goal.save_where_due-saved-requires-clause-count
+save_where_due-saved-requires-clause-count g c =
+    few_failed g.C.Keeper.load_faults g.C.Keeper.save_faults g.C.Keeper.slots g.C.Keeper.tried c.requires.0 c.args.self.now c.requires.1.0 c.args.o c.requires.1.1
+
+pub save_where_due-saved-requires-clause-sorted_room : goal.save_where_due-saved-requires-clause-sorted_room
+save_where_due-saved-requires-clause-sorted_room g c =
+    let may = c.requires.1.1 in
+    let total = total_is g.C.Keeper.load_faults g.C.Keeper.save_faults g.C.Keeper.slots g.C.Keeper.tried c.requires.0 c.args.self.now c.requires.1.0 c.args.o may in
+    omega (arith, total, may.holds.equipped.sorted_room, c.post.ensures.total)
+
+pub save_where_due-saved-requires-clause-save_room : goal.save_where_due-saved-requires-clause-save_room
+save_where_due-saved-requires-clause-save_room g c =
+    let may = c.requires.1.1 in
+    let total = total_is g.C.Keeper.load_faults g.C.Keeper.save_faults g.C.Keeper.slots g.C.Keeper.tried c.requires.0 c.args.self.now c.requires.1.0 c.args.o may in
+    omega (arith, total, may.holds.equipped.save_room, c.post.ensures.total)
+
+pub save_where_due-saved-requires-clause-bare : goal.save_where_due-saved-requires-clause-bare
+save_where_due-saved-requires-clause-bare g c =
+    bare_after g.C.Keeper.load_faults g.C.Keeper.save_faults g.C.Keeper.slots g.C.Keeper.tried c.requires.0 c.args.self.now c.requires.1.0 c.args.o c.requires.1.1
+    c.post.new.self.outcomes c.post.ensures.outcomes
+
+pub push_reserved-requires : goal.push_reserved-requires
+push_reserved-requires g c =
+    let may = c.requires.1.1 in
+    let posted = c.requires.1.0 in
+    let y = c.args.self.now in
+    let len = y.posted.ok.0 in
+    let ticket : c.len-ticket.result ≡ length posted = omega (arith, c.len-ticket.ensures, len, ap length may.holds.entries) in
+    let left = some_left g.C.Keeper.load_faults g.C.Keeper.save_faults g.C.Keeper.slots g.C.Keeper.tried c.requires.0 y posted c.args.o may in
+    let room : vec_len y.posted < vec_capacity y.posted = omega (arith, len, ap length may.holds.entries, left, may.holds.equipped.entry_room) in
+    let effect = subst (λ (k : ℕ). SavedWhereDue g.C.Keeper.load_faults g.C.Keeper.save_faults g.C.Keeper.slots g.C.Keeper.tried (k + 1) (record y { book = c.post.new.self }) c.save_where_due-saved.new.self c.save_where_due-saved.result)
+    ticket c.save_where_due-saved.ensures in
+    let d = done g.C.Keeper.load_faults g.C.Keeper.save_faults g.C.Keeper.slots g.C.Keeper.tried c.requires.0 y posted c.args.o may c.post.new.self c.post.ensures.total c.post.ensures.outcomes
+    c.saved_slots_are_newest.ensures c.checkpoints_are_ours.ensures c.save_where_due-saved.new.self c.save_where_due-saved.result effect in
+    subst (λ v. vec_len v < vec_capacity v) (sym d.posted) room
+
+pub returns-clause-turned : goal.returns-clause-turned
+returns-clause-turned g c = λ parts posted may.
+    let y = c.args.self.now in
+    let len = y.posted.ok.0 in
+    let saved = c.save_where_due-saved.result in
+    let ticket : c.len-ticket.result ≡ length posted = omega (arith, c.len-ticket.ensures, len, ap length may.holds.entries) in
+    let effect = subst (λ (k : ℕ). SavedWhereDue g.C.Keeper.load_faults g.C.Keeper.save_faults g.C.Keeper.slots g.C.Keeper.tried (k + 1) (record y { book = c.post.new.self }) c.save_where_due-saved.new.self saved)
+    ticket c.save_where_due-saved.ensures in
+    let d = done g.C.Keeper.load_faults g.C.Keeper.save_faults g.C.Keeper.slots g.C.Keeper.tried parts y posted c.args.o may c.post.new.self c.post.ensures.total c.post.ensures.outcomes
+    c.saved_slots_are_newest.ensures c.checkpoints_are_ours.ensures c.save_where_due-saved.new.self saved effect in
+    turned g.C.Keeper.load_faults g.C.Keeper.save_faults g.C.Keeper.slots g.C.Keeper.tried parts y posted c.args.o may c.save_where_due-saved.new.self _ saved d
+    (c.push_reserved.ensures.items ∙ ap (λ (k : ℕ). c.save_where_due-saved.new.self.posted.items ++ entry k c.args.o.id saved ∷ []) ticket)
+    c.push_reserved.ensures.capacity refl refl refl refl refl refl refl refl

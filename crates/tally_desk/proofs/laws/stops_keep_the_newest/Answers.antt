@@ -1,0 +1,5 @@
+use Rattle.tally_desk.proofs.Outlasting.{stops_keep_the_newest}
+use Rattle.tally_desk.proofs.laws.stops_keep_the_newest.Goals as goal
+
+pub returns : goal.returns
+returns c = stops_keep_the_newest c.saves_keep_the_newest.ensures

@@ -1,0 +1,154 @@
+-- What the slot of a desk holds after these posts.
+use Rattle.std.specs.Prelude.{◌≡◌, ℕ, zero, suc, ◌+◌, ◌-◌, ◌*◌, ◌%◌, ◌^◌, ◌<◌, ◌≤◌, min, Bool, true, cond, List, ◌∷◌, [], ◌++◌, length, map, ⊤, Option, Some, None, vec_capacity}
+use Rattle.std.specs.List.{All, range_with_len}
+use Rattle.audit_io.specs.Faults.{Counts}
+use Rattle.audit_io.specs.Slots.{Pair, Stored, stored}
+use Rattle.audit_io.specs.Tries.{Try, tried_all, try_of}
+use Rattle.audit_model.specs.declared.outcome.Outcome.{Outcome}
+use Rattle.audit_model.specs.Job.{Job}
+use Rattle.audit_model.specs.Run.{total}
+use Rattle.checkpoint_definitions.specs.Checkpoint.{IsCheckpoint, checkpoint, job_digest}
+use Rattle.ckpt_store.specs.declared.slots.Place.{Place}
+use Rattle.ckpt_store.specs.Laws.{newest_for}
+use Rattle.claim_counter.specs.Records.{times}
+use Rattle.outcome_book.specs.Booked.{Booked, by_id}
+use Rattle.tally_desk.specs.declared.entry.Entry.{Entry}
+use Rattle.tally_desk.specs.declared.home.Home.{Home}
+use Rattle.tally_desk.specs.Entries.{entry, ids_of, tickets_of, saves, up_to_save, after_save, ends_saved, is_due, missed}
+use Rattle.tally_desk.specs.Parts.{Parts, IsPlan, found}
+
+-- ---- the book
+
+-- the opening's outcomes, and what the trajectories of the posts find
+abbrev pub booked : Parts → List Entry → List Outcome
+booked parts posted = parts.opening ++ map (found parts.job) (ids_of posted)
+
+-- ---- the place
+
+-- the other slot, with the next generation of three in turn
+abbrev pub next_place : Place → Place
+next_place p = record { slot = 1 - p.slot; generation = (p.generation + 1) % 3 }
+
+-- moved on so often
+abbrev pub moved : ℕ → Place → Place
+moved zero p = p
+moved (suc n) p = next_place (moved n p)
+
+-- ---- the saves that were tried
+
+-- a save that was tried: its slot and generation, its outcomes, and whether it succeeded
+pub record Made : Type 0 where
+  pub slot : ℕ
+  pub generation : ℕ
+  pub outcomes : List Outcome
+  pub succeeded : Bool
+
+-- with this post after those: a save of the book at that time, at the place at that time
+abbrev pub made_with : Parts → List Entry → Entry → Made
+made_with parts earlier e = record {
+  slot = (moved (saves earlier) parts.place).slot;
+  generation = (moved (saves earlier) parts.place).generation;
+  outcomes = by_id (total parts.job) (booked parts (earlier ++ e ∷ []));
+  succeeded = e.saved;
+}
+
+-- each post with which a save was due has tried one, whether it is marked or not
+abbrev pub made_after : Parts → List Entry → List Entry → List Made
+made_after parts earlier [] = []
+made_after parts earlier (e ∷ posted) =
+    cond (is_due parts.save_every e) (made_with parts earlier e ∷ []) [] ++ made_after parts (earlier ++ e ∷ []) posted
+
+abbrev pub made : Parts → List Entry → List Made
+made parts posted = made_after parts [] posted
+
+-- its bytes, of the first version, since no outcome has bins
+abbrev pub bytes_made : Job → Made → List ℕ
+bytes_made job m = checkpoint 1 (job_digest job) m.generation m.outcomes
+
+abbrev pub try_made : Job → Made → Try
+try_made job m = try_of m.slot (bytes_made job m) m.succeeded
+
+abbrev pub tries : Parts → List Entry → List Try
+tries parts posted = map (try_made parts.job) (made parts posted)
+
+abbrev pub IsSound : Job → Made → Type 0
+IsSound job m = IsCheckpoint (bytes_made job m) 1 (job_digest job) m.generation m.outcomes
+
+-- ---- the slots of the keeper
+
+-- the slot is the checkpoint, of the first version, of the opening and these posts, with this generation
+pub record IsSaveOf (parts : Parts) (generation : ℕ) (posted : List Entry) (slot : Stored) : Type 0 where
+  pub bytes : slot ≡ Some (checkpoint 1 (job_digest parts.job) generation (by_id (total parts.job) (booked parts posted)))
+  pub sound : IsCheckpoint (checkpoint 1 (job_digest parts.job) generation (by_id (total parts.job) (booked parts posted)))
+      1 (job_digest parts.job) generation (by_id (total parts.job) (booked parts posted))
+
+-- What is known of the slots. The next slot is that of the place, to which the next save goes, and the last slot is the other one.
+pub record SlotsAs (parts : Parts) (before now : Pair) (place : Place) (posted : List Entry) : Type 0 where
+  -- without a save, the last slot is as it was
+  pub last_unsaved : saves posted ≡ 0 → stored now (1 - place.slot) ≡ stored before (1 - place.slot)
+  -- and elsewhere it is the last save, with the generation before the place's
+  pub last_saved : 0 < saves posted → IsSaveOf parts ((place.generation + 2) % 3) (up_to_save (saves posted) posted) (stored now (1 - place.slot))
+  -- a save that failed may leave anything in the next slot, until a later one succeeds
+  pub next_unsaved : missed parts.save_every (after_save (saves posted) posted) ≡ 0 → saves posted < 2
+      → stored now place.slot ≡ stored before place.slot
+  -- and elsewhere it is the last save but one, with the generation before that
+  pub next_saved : missed parts.save_every (after_save (saves posted) posted) ≡ 0 → 2 ≤ saves posted
+      → IsSaveOf parts ((place.generation + 1) % 3) (up_to_save (saves posted - 1) posted) (stored now place.slot)
+  -- where the last of all posts is marked, the last slot is the newest
+  pub newest : ends_saved posted ≡ true → newest_for parts.job (job_digest parts.job) now ≡ Some (1 - place.slot)
+
+-- what is known of both, where the first is told; a keeper that tells goes on telling
+abbrev pub IfToldThen : {A : Type 0} → Option A → Option A → (A → A → Type 0) → Type 0
+IfToldThen None now P = ⊤
+IfToldThen (Some x) None P = ⊥
+IfToldThen (Some x) (Some y) P = P x y
+
+-- ---- the value
+
+module _ {C : Type 0} (load_faults save_faults : C → ℕ) (slots : C → Option Pair) (history : C → Option (List Try)) where
+  -- what a desk keeps after these posts: the book, the keeper, the place and how many saves failed
+  pub record KeptAs (parts : Parts) (book : Booked) (keeper : C) (place : Place) (failed : ℕ) (posted : List Entry) : Type 0 where
+    pub book_is : book ≡ record { total = total parts.job; outcomes = booked parts posted }
+    -- each save that was due and is not marked failed
+    pub failed_is : failed ≡ missed parts.save_every posted
+    -- the keeper counted each of them, or its count stands at its last number
+    pub covered : min (parts.save_faults + failed) (2 ^ 64 - 1) ≤ save_faults keeper
+    pub counts : Counts parts.save_faults (save_faults keeper)
+    -- and no other failed
+    pub shown : parts.save_faults < save_faults keeper → 0 < failed
+    pub loads : load_faults keeper ≡ parts.load_faults
+    pub place_is : place ≡ moved (saves posted) parts.place
+    -- the keeper was asked for these saves and no others
+    pub tried_is : history keeper ≡ tried_all parts.tried (tries parts posted)
+    pub sound : All (IsSound parts.job) (made parts posted)
+    pub told : IfToldThen parts.slots (slots keeper) (λ before now. SlotsAs parts before now place posted)
+
+  -- what the code has beside: how often it saves, the job's digest, and room for all posts, for all outcomes by rising id and for their checkpoint
+  pub record IsEquipped (parts : Parts) (home : Home C) : Type 0 where
+    pub every : home.save_every ≡ parts.save_every
+    pub digest : home.digest ≡ job_digest parts.job
+    pub entry_room : length parts.todo ≤ vec_capacity home.posted
+    pub sorted_room : total parts.job ≤ length home.sorted.items + home.sorted.spare
+    pub save_room : 84 + 44 * total parts.job ≤ length home.room.items + home.room.spare
+
+  -- what the slot holds after these posts
+  pub record HomeAs (parts : Parts) (home : Home C) (posted : List Entry) : Type 0 where
+    pub entries : home.posted.items ≡ posted
+    pub kept : KeptAs parts home.book home.keeper home.place home.failed_saves posted
+    pub equipped : IsEquipped parts home
+
+  -- The outcome may be posted after these posts: the tickets of these are their places, their ids are different ids to do, and the outcome is
+  -- what the trajectory finds of an id to do that none of them has.
+  pub record MayTurn (parts : Parts) (home : Home C) (posted : List Entry) (o : Outcome) : Type 0 where
+    pub plan : IsPlan parts
+    pub holds : HomeAs parts home posted
+    pub in_order : tickets_of posted ≡ range_with_len 0 (length posted)
+    pub of_todo : (id : ℕ) → times id (ids_of posted) ≤ times id parts.todo
+    pub right : o ≡ found parts.job o.id
+    pub to_do : 0 < times o.id parts.todo
+    pub unposted : times o.id (ids_of posted) ≡ 0
+
+  -- the outcome was posted: its entry is the next, marked only where a save was due
+  pub record HasTurned (parts : Parts) (home : Home C) (posted : List Entry) (o : Outcome) (saved : Bool) : Type 0 where
+    pub holds : HomeAs parts home (posted ++ entry (length posted) o.id saved ∷ [])
+    pub due : saved ≡ true → is_due parts.save_every (entry (length posted) o.id saved) ≡ true

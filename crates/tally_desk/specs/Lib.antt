@@ -1,0 +1,14 @@
+pub mod Counter
+pub mod Desks
+pub mod Entries
+pub mod Founded
+pub mod Furnished
+pub mod Homes
+pub mod InTurn
+pub mod Machines
+pub mod Parts
+pub mod Passes
+pub mod Righted
+pub mod Saving
+pub mod Views
+pub mod Outlasting

@@ -1,0 +1,57 @@
+-- What never changes at a desk, and what a desk may be made of.
+use Rattle.std.specs.Prelude.{◌≡◌, ℕ, ◌<◌, ◌≤◌, false, IsTrue, List, length, Option}
+use Rattle.std.specs.List.{All}
+use Rattle.audit_io.specs.Slots.{Pair, IfTold}
+use Rattle.audit_io.specs.Tries.{Try}
+use Rattle.audit_model.specs.declared.outcome.Outcome.{Outcome}
+use Rattle.audit_model.specs.Job.{Job}
+use Rattle.audit_model.specs.Run.{total, fits, is_bare, run_ids}
+use Rattle.audit_model.specs.Trajectory.{outcome}
+use Rattle.checkpoint_definitions.specs.Checkpoint.{job_digest}
+use Rattle.ckpt_store.specs.declared.slots.Place.{Place}
+use Rattle.ckpt_store.specs.Laws.{place_for}
+use Rattle.draw_definitions.specs.Draw.{draw}
+use Rattle.outcome_book.specs.Booked.{IsBook}
+
+-- the job, the outcomes of the book and the ids to do; after how many posts a save is due, how many passes there may be, and where the
+-- first save goes; and what the keeper told when the desk was made: how often loads and saves had failed, its slots,
+-- and the saves that were tried
+pub record Parts : Type 0 where
+  pub job : Job
+  pub opening : List Outcome
+  pub todo : List ℕ
+  pub save_every : ℕ
+  pub seats : ℕ
+  pub place : Place
+  pub load_faults : ℕ
+  pub save_faults : ℕ
+  pub slots : Option Pair
+  pub tried : Option (List Try)
+
+-- what the trajectory with this id finds, by the draws of the job's key
+unfoldable pub found : Job → ℕ → Outcome
+found job id = outcome job (draw job.setting.key) id
+
+-- the place is where the next checkpoint of the job goes, where the slots are told
+abbrev pub IsPlaceFor : Job → Option Pair → Place → Type 0
+IsPlaceFor job slots place = IfTold slots (λ p. place_for job (job_digest job) p ≡ (place.slot, place.generation))
+
+-- the ids are the first of those below the job's total that the opening lacks, by rising id
+abbrev pub IsTodoFor : Job → List Outcome → List ℕ → Type 0
+IsTodoFor job opening todo = (budget : ℕ) × (todo ≡ run_ids job opening budget)
+
+-- what a desk may be made of
+pub record IsPlan (parts : Parts) : Type 0 where
+  pub few_asks : length parts.job.setting.asks ≤ 4
+  pub book : IsBook (record { total = total parts.job; outcomes = parts.opening })
+  pub fit : All (λ o. IsTrue (fits parts.job o)) parts.opening
+  -- the job asks for no bins, and the opening has none, so that each save is of the first version
+  pub plain : parts.job.setting.shift ≡ false
+  pub bare : All (λ o. IsTrue (is_bare o)) parts.opening
+  pub todo : IsTodoFor parts.job parts.opening parts.todo
+  pub every : 1 ≤ parts.save_every
+  pub some_seat : 1 ≤ parts.seats
+  pub few_seats : parts.seats ≤ 33
+  pub slot : parts.place.slot < 2
+  pub generation : parts.place.generation < 3
+  pub place : IsPlaceFor parts.job parts.slots parts.place

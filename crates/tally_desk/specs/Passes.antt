@@ -1,0 +1,83 @@
+-- What clauses say of passes.
+use Rattle.std.specs.Prelude.{◌≡◌, ℕ, ◌+◌, ◌<◌, Bool, IsTrue, List, length, slice_index, Option, Some}
+use Rattle.std.specs.List.{list_all, range_with_len}
+use Rattle.std.specs.List.Sorted.{IsPermutation}
+use Rattle.atomic_table.specs.Seated.{TableId}
+use Rattle.audit_io.specs.Slots.{Pair}
+use Rattle.audit_io.specs.Tries.{Try}
+use Rattle.audit_model.specs.Run.{is_bare}
+use Rattle.ckpt_store.specs.declared.slots.Place.{Place}
+use Rattle.claim_counter.specs.Records.{times, with_claim}
+use Rattle.outcome_book.specs.Booked.{Booked}
+use Rattle.tally_desk.specs.declared.entry.Entry.{Entry}
+use Rattle.tally_desk.specs.declared.pass.DeskPass.{DeskPass}
+use Rattle.tally_desk.specs.Desks.{AreDue, claimed_ids, ended_view, first_view, joined_view, left_view, right_view, with_entry, with_own}
+use Rattle.tally_desk.specs.Entries.{entry, ends_saved, ids_of, tickets_of}
+use Rattle.tally_desk.specs.Homes.{KeptAs}
+use Rattle.tally_desk.specs.Parts.{IsPlan, Parts}
+use Rattle.tally_desk.specs.Views.{PassView, view_in}
+
+-- what the pass knows
+abbrev pub view_of : DeskPass → PassView
+view_of p = view_in p.badge.views
+
+-- the pass is one of the desk's with this table, which was made of these parts
+pub record Belongs (table : TableId) (parts : Parts) (p : DeskPass) : Type 0 where
+  pub of_table : p.badge.table_id ≡ table
+  pub of_parts : (view_of p).parts ≡ Some parts
+
+-- all seats are the pass's: there is no other pass, and what can be split off is split off it
+abbrev pub HasAllSeats : Parts → PassView → Type 0
+HasAllSeats parts v = v.own.weight + v.own.spare ≡ parts.seats
+
+-- the pass drew a place of the list that it did not have, and claims the id there
+pub record Claims (parts : Parts) (id : ℕ) (before now : PassView) : Type 0 where
+  pub place : ℕ
+  pub below : place < length parts.todo
+  pub id_is : id ≡ slice_index parts.todo place
+  pub unclaimed : times id (claimed_ids parts before) ≡ 0
+  pub view : now ≡ with_own before (with_claim place before.own)
+
+-- the pass posted the id
+pub record Posts (id : ℕ) (before now : PassView) : Type 0 where
+  pub ticket : ℕ
+  pub saved : Bool
+  pub view : now ≡ with_entry before (entry ticket id saved)
+
+-- the pass posted each id that it claimed
+abbrev pub HasPostedAll : Parts → PassView → Type 0
+HasPostedAll parts v = (id : ℕ) → times id (ids_of v.entries) ≡ times id (claimed_ids parts v)
+
+-- What a desk leaves that is closed with its only pass, which posted all. These are its posts, by rising ticket: each id to do has one, only those
+-- with which a save was due are marked, and what is handed back is what a desk keeps after them.
+pub record IsClosed {C : Type 0} (load_faults save_faults : C → ℕ) (slots : C → Option Pair) (history : C → Option (List Try)) (parts : Parts) (v : PassView)
+    (book : Booked) (keeper : C) (place : Place) (failed : ℕ) (last_saved : Bool) : Type 0 where
+  pub plan : IsPlan parts
+  pub slot : place.slot < 2
+  pub generation : place.generation < 3
+  pub posted : List Entry
+  pub own_posts : IsPermutation v.entries posted
+  pub in_order : tickets_of posted ≡ range_with_len 0 (length parts.todo)
+  pub all : IsPermutation (ids_of posted) parts.todo
+  pub due : AreDue parts posted
+  pub kept : KeptAs load_faults save_faults slots history parts book keeper place failed posted
+  pub last : last_saved ≡ ends_saved posted
+  -- no outcome of the book has bins
+  pub bare : IsTrue (list_all is_bare book.outcomes)
+
+-- ---- what stays true of a pass that posts what it claims
+
+-- what was claimed may be posted
+pub record MayPost (parts : Parts) (id : ℕ) (v : PassView) : Type 0 where
+  pub claimed : 0 < times id (claimed_ids parts v)
+  pub unposted : times id (ids_of v.entries) ≡ 0
+
+-- a pass that posts what it claims has posted all, also after others were joined to it
+pub record PostsStayWhole : Type 0 where
+  pub first : (parts : Parts) → HasPostedAll parts (first_view parts)
+  pub right : (parts : Parts) (v : PassView) → HasPostedAll parts (right_view v)
+  pub left : (parts : Parts) (v : PassView) → HasPostedAll parts v → HasPostedAll parts (left_view v)
+  pub may : (parts : Parts) (id : ℕ) (v w : PassView) → HasPostedAll parts v → Claims parts id v w → MayPost parts id w
+  pub posted : (parts : Parts) (id : ℕ) (v u w : PassView) → HasPostedAll parts v → Claims parts id v u → Posts id u w → HasPostedAll parts w
+  pub end : (parts : Parts) (v : PassView) → HasPostedAll parts v → HasPostedAll parts (ended_view v)
+  pub join : (parts : Parts) (v w : PassView) → HasPostedAll parts v → HasPostedAll parts w → HasPostedAll parts (joined_view v w)

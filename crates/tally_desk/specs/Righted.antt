@@ -1,0 +1,15 @@
+-- Where the opening is right, so is each checkpoint of a desk.
+use Rattle.std.specs.Prelude.{ℕ, ◌≤◌, List}
+use Rattle.audit_model.specs.Run.{IsRight, total}
+use Rattle.claim_counter.specs.Records.{times}
+use Rattle.draw_definitions.specs.Draw.{draw}
+use Rattle.outcome_book.specs.Booked.{by_id}
+use Rattle.tally_desk.specs.declared.entry.Entry.{Entry}
+use Rattle.tally_desk.specs.Entries.{ids_of}
+use Rattle.tally_desk.specs.Homes.{booked}
+use Rattle.tally_desk.specs.Parts.{IsPlan, Parts}
+
+-- what is saved of a right opening and of posts of ids to do was found by the job's trajectories
+abbrev pub SavedOutcomesAreRight : Type 0
+SavedOutcomesAreRight = (parts : Parts) (posted : List Entry) → IsPlan parts → ((id : ℕ) → times id (ids_of posted) ≤ times id parts.todo)
+    → IsRight parts.job (draw parts.job.setting.key) parts.opening → IsRight parts.job (draw parts.job.setting.key) (by_id (total parts.job) (booked parts posted))

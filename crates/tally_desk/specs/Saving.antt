@@ -1,0 +1,60 @@
+-- What a save of the book does to what the slot of a desk holds.
+use Rattle.std.specs.Prelude.{◌≡◌, ℕ, ◌+◌, ◌%◌, ◌==◌, Bool, true, false, List, length, Option}
+use Rattle.audit_io.specs.Faults.{Counts, Rose}
+use Rattle.audit_io.specs.Slots.{Pair, IfTold, HoldsBytes, KeepsOther}
+use Rattle.audit_io.specs.Tries.{Try, tried_too}
+use Rattle.audit_model.specs.declared.outcome.Outcome.{Outcome}
+use Rattle.checkpoint_definitions.specs.Checkpoint.{IsCheckpoint, checkpoint}
+use Rattle.ckpt_store.specs.Laws.{IsNewestForFitJobs}
+use Rattle.outcome_book.specs.Booked.{by_id}
+use Rattle.tally_desk.specs.declared.home.Home.{Home}
+use Rattle.tally_desk.specs.Homes.{next_place}
+
+module _ {C : Type 0} where
+  -- the outcomes of the book by rising id
+  abbrev pub sorted_of : Home C → List Outcome
+  sorted_of home = by_id home.book.total home.book.outcomes
+
+  -- the checkpoint of them for the place
+  abbrev pub bytes_of : Home C → List ℕ
+  bytes_of home = checkpoint 1 home.digest home.place.generation (sorted_of home)
+
+  -- what a save leaves as it was
+  pub record KeepsRest (before now : Home C) : Type 0 where
+    pub book : now.book ≡ before.book
+    pub posted : now.posted ≡ before.posted
+    pub every : now.save_every ≡ before.save_every
+    pub digest : now.digest ≡ before.digest
+    pub sorted_room : length now.sorted.items + now.sorted.spare ≡ length before.sorted.items + before.sorted.spare
+    pub save_room : length now.room.items + now.room.spare ≡ length before.room.items + before.room.spare
+
+  module _ (load_faults save_faults : C → ℕ) (slots : C → Option Pair) (history : C → Option (List Try)) where
+    -- the save succeeded
+    pub record Saved (before now : Home C) : Type 0 where
+      pub place : now.place ≡ next_place before.place
+      pub failed : now.failed_saves ≡ before.failed_saves
+      pub faults : save_faults now.keeper ≡ save_faults before.keeper
+      pub held : HoldsBytes (slots now.keeper) before.place.slot (bytes_of before)
+      pub newest : IfTold (slots now.keeper) (IsNewestForFitJobs before.digest before.place.slot before.place.generation (sorted_of before))
+
+    -- the save failed
+    pub record FailedSave (before now : Home C) : Type 0 where
+      pub place : now.place ≡ before.place
+      pub failed : now.failed_saves ≡ before.failed_saves + 1
+      pub rose : Rose (save_faults before.keeper) (save_faults now.keeper)
+
+    -- a save was tried
+    pub record TriedSave (before now : Home C) (saved : Bool) : Type 0 where
+      pub rest : KeepsRest before now
+      pub loads : load_faults now.keeper ≡ load_faults before.keeper
+      pub counts : Counts (save_faults before.keeper) (save_faults now.keeper)
+      pub tried : history now.keeper ≡ tried_too (history before.keeper) before.place.slot (bytes_of before) saved
+      pub other : KeepsOther (slots before.keeper) (slots now.keeper) before.place.slot
+      pub sound : IsCheckpoint (bytes_of before) 1 before.digest before.place.generation (sorted_of before)
+      pub on_ok : saved ≡ true → Saved before now
+      pub on_err : saved ≡ false → FailedSave before now
+
+    -- where a save was due after so many posts, it was tried, and elsewhere nothing was done
+    pub record SavedWhereDue (posts : ℕ) (before now : Home C) (saved : Bool) : Type 0 where
+      pub undue : (posts % before.save_every == 0) ≡ false → (saved ≡ false) × (now ≡ before)
+      pub due : (posts % before.save_every == 0) ≡ true → TriedSave before now saved

@@ -1,0 +1,21 @@
+//! The laws of the counter, together.
+
+ghost use Rattle.tally_desk.specs.Counter.{CounterLaws};
+
+use claim_counter::laws::{
+    count_is_bounded, end_keeps, join_keeps, number_keeps, sole_has_all, split_keeps,
+    start_is_counted,
+};
+
+// What each kind of draw keeps.
+pub(crate) fn counter_laws()
+    ensures { CounterLaws }
+{
+    start_is_counted();
+    number_keeps();
+    end_keeps();
+    split_keeps();
+    join_keeps();
+    sole_has_all();
+    count_is_bounded();
+}

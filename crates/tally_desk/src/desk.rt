@@ -1,0 +1,267 @@
+//! The desk.
+ghost use Rattle.std.specs.Prelude.{◌≡◌};
+
+use crate::counter::counter_laws;
+use crate::handing::{DeskPlan, Kept, Refused, furnish, hand_over, open};
+use crate::home::Home;
+use crate::pass::{DeskPass, take_out};
+use crate::rule::{Draw, Look, OnePass, OneTally, Posting, See, Serve, Take};
+use crate::view::{Founding, View};
+use atomic_table::{Seat, Table};
+use audit_io::keeper::Keeper;
+use audit_model::lists::UnitList;
+use audit_model::outcome::Outcome;
+use outcome_book::book::Book;
+use plan_core::job::Job;
+use std::alloc::Global;
+use std::marker::Brand;
+use std::snapshot::Snapshot;
+use std::sync::Wait;
+use std::thread;
+
+/// Gives out the ids of a list to several passes, keeps the book of their outcomes, and saves a checkpoint of it each time that the number of
+/// posts is a multiple. Only a post waits for another.
+#[derive(Drop)]
+pub struct Desk<C: Keeper> {
+    pub(crate) table: Table<Home<C>, View, Founding<C>, OneTally<C>, Global>,
+    todo: UnitList,
+    ghost three_words: { table.shared.table_id.words ≡ 3 },
+    ghost one_slot: { table.shared.table_id.slots ≡ 1 },
+    ghost todo_is: { todo ≡ table.shared.key.todo.value },
+}
+
+impl<C: Keeper> Desk<C> {
+    ghost use Rattle.std.specs.Prelude.{◌≡◌, ◌+◌, ◌-◌, ◌^◌, ◌<◌, ◌≤◌, ◌∷◌, [], ◌++◌, ℕ, IsTrue, All, IfOk, IfErr, IfSome, IfNone, true, false, length, vec_len};
+    ghost use Rattle.audit_model.specs.Run.{fits, is_bare, total};
+    ghost use Rattle.checkpoint_definitions.specs.Checkpoint.{job_digest};
+    ghost use Rattle.claim_counter.specs.Records.{times};
+    ghost use Rattle.tally_desk.specs.Desks.{BeginsTurn, CanPost, HasServed, IsInTurn, IsWaiting, claimed_ids, ended_view, first_view, joined_view, left_view, right_view, with_turn};
+    ghost use Rattle.tally_desk.specs.Entries.{ids_of};
+    ghost use Rattle.tally_desk.specs.Founded.{parts_of};
+    ghost use Rattle.tally_desk.specs.Homes.{HomeAs};
+    ghost use Rattle.tally_desk.specs.Parts.{IsPlaceFor, IsTodoFor, found};
+    ghost use Rattle.tally_desk.specs.Passes.{Belongs, Claims, HasAllSeats, HasPostedAll, IsClosed, Posts, view_of};
+    ghost use Rattle.tally_desk.specs.Views.{waiting};
+
+    /// A desk for the ids of `todo`, which the book lacks, with at most `seats` passes, and the first of these.
+    ///
+    /// # Errors
+    ///
+    /// There was no memory. Nothing was saved.
+    pub fn new(
+        alloc: Global,
+        job: &Job,
+        plan: DeskPlan,
+        todo: UnitList,
+        seats: u32,
+        book: Book,
+        keeper: C,
+    ) -> Result<(Desk<C>, DeskPass), Refused<C>>
+        requires digest { plan.digest ≡ job_digest job.now }
+        requires every { 1 ≤ plan.save_every }
+        requires slot { plan.place.slot < 2 }
+        requires generation { plan.place.generation < 3 }
+        requires place { IsPlaceFor job.now (C.slots keeper) plan.place }
+        requires total { book.total ≡ total job.now }
+        requires fit { All (λ o. IsTrue (fits job.now o)) book.outcomes }
+        requires plain { job.now.setting.shift ≡ false }
+        requires bare { All (λ o. IsTrue (is_bare o)) book.outcomes }
+        requires todo { IsTodoFor job.now book.outcomes todo }
+        requires seats { (1 ≤ seats) × (seats ≤ 33) }
+        ensures parts { IfOk result (λ d. parts_of C.load_faults C.save_faults C.slots C.tried d.0.table.shared.key ≡ record {
+          job = job.now;
+          opening = book.outcomes;
+          todo = todo;
+          save_every = plan.save_every;
+          seats = seats;
+          place = plan.place;
+          load_faults = C.load_faults keeper;
+          save_faults = C.save_faults keeper;
+          slots = C.slots keeper;
+          tried = C.tried keeper;
+        }) }
+        ensures pass { IfOk result (λ d. let parts = parts_of C.load_faults C.save_faults C.slots C.tried d.0.table.shared.key in
+            Belongs d.0.table.shared.table_id parts d.1 × (view_of d.1 ≡ first_view parts)) }
+        ensures refused { IfErr result (λ r. (r.book ≡ book) × (r.keeper ≡ keeper)) }
+    {
+        let _units = job.units();
+        let _len = book.len();
+        let founding = Founding {
+            job: Snapshot::of(job),
+            book: Snapshot::of(&book),
+            todo: Snapshot::of(&todo),
+            save_every: plan.save_every,
+            seats,
+            place: plan.place,
+            keeper: Snapshot::of(&keeper),
+        };
+        let home = match furnish(alloc, job, plan, todo.len(), book, keeper) {
+            Ok(home) => home,
+            Err(refused) => return Err(refused),
+        };
+        match open(alloc, home, &founding) {
+            Ok((table, seat)) => Ok((
+                Desk { table, todo },
+                DeskPass {
+                    badge: seat.into_badge(),
+                    spare: seats - 1,
+                    ended: false,
+                },
+            )),
+            Err(refused) => Err(refused),
+        }
+    }
+
+    /// Draws the next place of the list in one atomic step, and answers its id. No other pass of this desk has it, or ever gets it. `None` says
+    /// that no id was left, and the pass has ended.
+    pub fn claim(&self, pass: &mut DeskPass) -> Option<u32>
+        requires pass { Belongs self.now.table.shared.table_id (parts_of C.load_faults C.save_faults C.slots C.tried self.now.table.shared.key) pass.old }
+        requires before_end { (view_of pass.old).own.ended ≡ false }
+        ensures pass { Belongs self.now.table.shared.table_id (parts_of C.load_faults C.save_faults C.slots C.tried self.now.table.shared.key) pass.new }
+        ensures claimed { IfSome result (λ id. Claims (parts_of C.load_faults C.save_faults C.slots C.tried self.now.table.shared.key) id (view_of pass.old) (view_of pass.new)) }
+        ensures end { IfNone result (view_of pass.new ≡ ended_view (view_of pass.old)) }
+        ensures few { length (view_of pass.new).own.claims ≤ length self.now.table.shared.key.todo.value }
+    {
+        counter_laws();
+        let mut seat = take_out(&mut pass.badge);
+        let drawn = self.table.shared.fetch_add::<Draw>(&mut seat, 0, 1);
+        pass.badge = seat.into_badge();
+        if drawn < self.todo.len() as u64 {
+            Some(self.todo.as_slice()[drawn as usize])
+        } else {
+            pass.ended = true;
+            None
+        }
+    }
+
+    /// Posts the outcome of a claim, under a turn of its own: it looks again until its ticket is served, and parks nobody. It takes no memory but
+    /// the keeper's.
+    pub fn post<R: Wait>(&self, rt: &R, pass: &mut DeskPass, o: Outcome)
+        requires pass { Belongs self.now.table.shared.table_id (parts_of C.load_faults C.save_faults C.slots C.tried self.now.table.shared.key) pass.old }
+        requires claimed { 0 < times o.id (claimed_ids (parts_of C.load_faults C.save_faults C.slots C.tried self.now.table.shared.key) (view_of pass.old)) }
+        requires unposted { times o.id (ids_of (view_of pass.old).entries) ≡ 0 }
+        requires right { o ≡ found self.now.table.shared.key.job.value o.id }
+        ensures pass { Belongs self.now.table.shared.table_id (parts_of C.load_faults C.save_faults C.slots C.tried self.now.table.shared.key) pass.new }
+        ensures posted { Posts o.id (view_of pass.old) (view_of pass.new) }
+    {
+        let mut seat = take_out(&mut pass.badge);
+        let ticket = self.take_ticket::<Brand>(&mut seat, o.id);
+        self.await_turn(rt, &mut seat, ticket, o.id);
+        self.serve(&mut seat, ticket, o);
+        pass.badge = seat.into_badge();
+    }
+
+    // Takes a ticket for the post of this id.
+    fn take_ticket<B: Posting>(&self, seat: &mut Seat<Home<C>, View>, id: u32) -> u64
+        requires name { B.id ≡ id }
+        requires table { seat.old.table_id ≡ self.now.table.shared.table_id }
+        requires empty { seat.old.me.1 ≡ [] }
+        requires post { CanPost (parts_of C.load_faults C.save_faults C.slots C.tried self.now.table.shared.key) seat.old.me.0 id }
+        ensures table { seat.new.table_id ≡ seat.old.table_id }
+        ensures seat { seat.new.me ≡ (with_turn seat.old.me.0 (waiting result id), []) }
+    {
+        self.table.shared.fetch_add::<Take<B>>(seat, 1, 1)
+    }
+
+    // Looks until the ticket is served, and then has the slot.
+    fn await_turn<R: Wait>(&self, rt: &R, seat: &mut Seat<Home<C>, View>, ticket: u64, id: u32)
+        requires table { seat.old.table_id ≡ self.now.table.shared.table_id }
+        requires empty { seat.old.me.1 ≡ [] }
+        requires waits { IsWaiting (parts_of C.load_faults C.save_faults C.slots C.tried self.now.table.shared.key) ticket id seat.old.me.0 }
+        ensures table { seat.new.table_id ≡ seat.old.table_id }
+        ensures begins { BeginsTurn (HomeAs C.load_faults C.save_faults C.slots C.tried) (parts_of C.load_faults C.save_faults C.slots C.tried self.now.table.shared.key) ticket id seat.old.me seat.new.me }
+    {
+        for _ in rt.forever() {
+            if self.table.shared.load::<Look>(seat, 2) == ticket {
+                return;
+            }
+            thread::yield_now();
+        }
+        unreachable!()
+    }
+
+    // Posts the outcome under the turn, and serves the next ticket.
+    fn serve(&self, seat: &mut Seat<Home<C>, View>, ticket: u64, o: Outcome)
+        requires table { seat.old.table_id ≡ self.now.table.shared.table_id }
+        requires right { o ≡ found self.now.table.shared.key.job.value o.id }
+        requires turn { IsInTurn (HomeAs C.load_faults C.save_faults C.slots C.tried) (parts_of C.load_faults C.save_faults C.slots C.tried self.now.table.shared.key) ticket o.id seat.old.me }
+        ensures table { seat.new.table_id ≡ seat.old.table_id }
+        ensures served { HasServed ticket o.id seat.old.me seat.new.me }
+    {
+        let home = seat.slot_mut(&self.table.shared, 0);
+        home.turn(o);
+        self.table.shared.store::<Serve>(seat, 2, ticket + 1);
+    }
+
+    /// One more pass, which has claimed nothing. `pass` can then be split once less.
+    pub fn split(&self, pass: &mut DeskPass) -> DeskPass
+        requires pass { Belongs self.now.table.shared.table_id (parts_of C.load_faults C.save_faults C.slots C.tried self.now.table.shared.key) pass.old }
+        requires spare { 0 < (view_of pass.old).own.spare }
+        ensures rest { Belongs self.now.table.shared.table_id (parts_of C.load_faults C.save_faults C.slots C.tried self.now.table.shared.key) pass.new × (view_of pass.new ≡ left_view (view_of pass.old)) }
+        ensures new { Belongs self.now.table.shared.table_id (parts_of C.load_faults C.save_faults C.slots C.tried self.now.table.shared.key) result × (view_of result ≡ right_view (view_of pass.old)) }
+    {
+        counter_laws();
+        let mut seat = take_out(&mut pass.badge);
+        let other = self.table.shared.split_seat::<OnePass>(&mut seat);
+        pass.badge = seat.into_badge();
+        pass.spare -= 1;
+        DeskPass {
+            badge: other.into_badge(),
+            spare: 0,
+            ended: false,
+        }
+    }
+
+    /// One pass for two, with the claims and the posts of both. It has ended where both have.
+    pub fn join(&self, a: DeskPass, b: DeskPass) -> DeskPass
+        requires first { Belongs self.now.table.shared.table_id (parts_of C.load_faults C.save_faults C.slots C.tried self.now.table.shared.key) a }
+        requires second { Belongs self.now.table.shared.table_id (parts_of C.load_faults C.save_faults C.slots C.tried self.now.table.shared.key) b }
+        ensures pass { Belongs self.now.table.shared.table_id (parts_of C.load_faults C.save_faults C.slots C.tried self.now.table.shared.key) result }
+        ensures both { view_of result ≡ joined_view (view_of a) (view_of b) }
+    {
+        counter_laws();
+        let DeskPass {
+            mut badge,
+            spare,
+            ended,
+        } = a;
+        let DeskPass {
+            badge: mut other_badge,
+            spare: other_spare,
+            ended: other_ended,
+        } = b;
+        let mut seat = take_out(&mut badge);
+        let other = take_out(&mut other_badge);
+        self.table.shared.join_seat::<OnePass>(&mut seat, other);
+        // The step tells nothing of both together: a look does.
+        self.table.shared.load::<See>(&mut seat, 0);
+        DeskPass {
+            badge: seat.into_badge(),
+            spare: spare + other_spare,
+            ended: ended && other_ended,
+        }
+    }
+
+    /// Ends the desk with its only pass, which has ended and has posted all that it claimed.
+    pub fn close(self, pass: DeskPass) -> Kept<C>
+        requires pass { Belongs self.table.shared.table_id (parts_of C.load_faults C.save_faults C.slots C.tried self.table.shared.key) pass }
+        requires only { HasAllSeats (parts_of C.load_faults C.save_faults C.slots C.tried self.table.shared.key) (view_of pass) }
+        requires ended { (view_of pass).own.ended ≡ true }
+        requires posted { HasPostedAll (parts_of C.load_faults C.save_faults C.slots C.tried self.table.shared.key) (view_of pass) }
+        ensures { IsClosed C.load_faults C.save_faults C.slots C.tried (parts_of C.load_faults C.save_faults C.slots C.tried self.table.shared.key) (view_of pass)
+            result.book result.keeper result.place result.failed_saves result.last_saved }
+    {
+        counter_laws();
+        let Desk { table, todo: _ } = self;
+        let DeskPass {
+            mut badge,
+            spare: _,
+            ended: _,
+        } = pass;
+        let seat = take_out(&mut badge);
+        let mut closed = table.close_with(seat);
+        let home = closed.take(0);
+        closed.free();
+        hand_over(home)
+    }
+}

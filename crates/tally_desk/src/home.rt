@@ -1,0 +1,104 @@
+//! What the slot of a desk holds.
+
+use crate::entry::Entry;
+use audit_io::keeper::Keeper;
+use audit_model::buffers::{Bytes, OutcomeList};
+use audit_model::outcome::Outcome;
+use ckpt_format::laws::rising_pairs_rise;
+use ckpt_store::laws::{checkpoints_are_ours, saved_slots_are_newest};
+use ckpt_store::save;
+use ckpt_store::slots::Place;
+use outcome_book::book::Book;
+
+/// The book, the keeper and what was posted; and all that a save takes, so that posting and saving take no memory.
+#[derive(Drop)]
+pub struct Home<C> {
+    pub(crate) book: Book,
+    pub(crate) keeper: C,
+    pub(crate) place: Place,
+    pub(crate) failed_saves: u32,
+    pub(crate) posted: Vec<Entry>,
+    pub(crate) save_every: u32,
+    pub(crate) digest: [u8; 32],
+    pub(crate) sorted: OutcomeList,
+    pub(crate) room: Bytes,
+}
+
+impl<C: Keeper> Home<C> {
+    ghost use Rattle.std.specs.Prelude.{◌≡◌, ◌+◌, ◌*◌, ◌^◌, ◌<◌, ◌≤◌, ◌∷◌, [], ◌++◌, IsFalse, IsTrue, List, length, vec_capacity};
+    ghost use Rattle.std.specs.List.{list_all};
+    ghost use Rattle.audit_model.specs.Run.{is_bare};
+    ghost use Rattle.outcome_book.specs.Booked.{IsBook};
+    ghost use Rattle.tally_desk.specs.declared.entry.Entry as model;
+    ghost use Rattle.tally_desk.specs.Entries.{entry};
+    ghost use Rattle.tally_desk.specs.Homes.{HasTurned, MayTurn};
+    ghost use Rattle.tally_desk.specs.Parts.{Parts};
+    ghost use Rattle.tally_desk.specs.Saving.{SavedWhereDue, TriedSave};
+
+    // Saves a checkpoint of the book. Whether the save succeeded.
+    fn save_book(&mut self) -> bool
+        requires slot { self.old.place.slot < 2 }
+        requires generation { self.old.place.generation < 3 }
+        requires count { self.old.failed_saves + 1 < 2 ^ 32 }
+        requires sorted_room { self.old.book.total ≤ length self.old.sorted.items + self.old.sorted.spare }
+        requires save_room { 84 + 44 * self.old.book.total ≤ length self.old.room.items + self.old.room.spare }
+        requires bare { IsTrue (list_all is_bare self.old.book.outcomes) }
+        ensures { TriedSave C.load_faults C.save_faults C.slots C.tried self.old self.new result }
+    {
+        let _count = self.book.len();
+        self.book.sorted_into(&mut self.sorted);
+        rising_pairs_rise();
+        let saved = save::save(
+            &mut self.keeper,
+            &mut self.place,
+            &self.digest,
+            self.sorted.as_slice(),
+            &mut self.room,
+        );
+        match saved {
+            Ok(()) => true,
+            Err(_) => {
+                self.failed_saves += 1;
+                false
+            }
+        }
+    }
+
+    // Saves a checkpoint of the book where one is due after so many posts. Whether a save was made and succeeded.
+    fn save_where_due(&mut self, posts: u64) -> bool
+        requires every { 1 ≤ self.old.save_every }
+        requires slot { self.old.place.slot < 2 }
+        requires generation { self.old.place.generation < 3 }
+        requires count { self.old.failed_saves + 1 < 2 ^ 32 }
+        requires sorted_room { self.old.book.total ≤ length self.old.sorted.items + self.old.sorted.spare }
+        requires save_room { 84 + 44 * self.old.book.total ≤ length self.old.room.items + self.old.room.spare }
+        requires bare { IsTrue (list_all is_bare self.old.book.outcomes) }
+        ensures { SavedWhereDue C.load_faults C.save_faults C.slots C.tried posts self.old self.new result }
+    {
+        if posts % u64::from(self.save_every) != 0 {
+            return false;
+        }
+        self.save_book()
+    }
+
+    /// Appends an outcome, and saves a checkpoint of the book where one is due: each time that the number of posts is a multiple. Whether a
+    /// save was made and succeeded. It takes no memory but the keeper's.
+    pub fn turn(&mut self, o: Outcome) -> bool
+        requires { (parts : Parts) × ((posted : List model.Entry) × MayTurn C.load_faults C.save_faults C.slots C.tried parts self.old posted o) }
+        ensures turned { (parts : Parts) (posted : List model.Entry) → MayTurn C.load_faults C.save_faults C.slots C.tried parts self.old posted o
+            → HasTurned C.load_faults C.save_faults C.slots C.tried parts self.new posted o result }
+        ensures entry { self.new.posted.items ≡ self.old.posted.items ++ entry (length self.old.posted.items) o.id result ∷ [] }
+    {
+        saved_slots_are_newest();
+        checkpoints_are_ours();
+        let ticket = self.posted.len() as u64;
+        self.book.post(o);
+        let saved = self.save_where_due(ticket + 1);
+        self.posted.push_reserved(Entry {
+            ticket,
+            id: o.id,
+            saved,
+        });
+        saved
+    }
+}

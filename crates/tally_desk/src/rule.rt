@@ -1,0 +1,101 @@
+//! What holds between any two steps of a desk, and what each step tells.
+
+ghost use Rattle.std.specs.Prelude.{ℕ};
+
+use crate::home::Home;
+use crate::view::{Founding, View};
+use atomic_table::{Join, Play, Split, TableRule};
+use audit_io::keeper::Keeper;
+use std::marker::{Brand, PhantomData};
+
+/// The rule.
+pub struct OneTally<C> {
+    keeper: PhantomData<C>,
+}
+
+impl<C: Keeper> TableRule<Home<C>, View, Founding<C>> for OneTally<C> {
+    ghost use Rattle.tally_desk.specs.Desks.{Tallied, first_view};
+    ghost use Rattle.tally_desk.specs.Founded.{parts_of};
+    ghost use Rattle.tally_desk.specs.Homes.{HomeAs};
+
+    ghost holds = { λ key. Tallied (HomeAs C.load_faults C.save_faults C.slots C.tried) (parts_of C.load_faults C.save_faults C.slots C.tried key) };
+
+    ghost first = { λ key. first_view (parts_of C.load_faults C.save_faults C.slots C.tried key) };
+}
+
+/// A draw of the next place.
+pub(crate) struct Draw;
+
+impl<C> Play<Home<C>, View> for Draw {
+    ghost use Rattle.tally_desk.specs.Desks.{DrawsPlace};
+
+    ghost then = { DrawsPlace };
+}
+
+/// Names the id that a pass posts.
+pub(crate) trait Posting {
+    ghost id: { ℕ };
+}
+
+impl Posting for Brand {
+    ghost id = { 0 };
+}
+
+/// A ticket for a post.
+pub(crate) struct Take<B> {
+    id: PhantomData<B>,
+}
+
+impl<C, B: Posting> Play<Home<C>, View> for Take<B> {
+    ghost use Rattle.tally_desk.specs.Desks.{TakesTicket};
+
+    ghost then = { TakesTicket B.id };
+}
+
+/// A look at the ticket that is served.
+pub(crate) struct Look;
+
+impl<C: Keeper> Play<Home<C>, View> for Look {
+    ghost use Rattle.tally_desk.specs.Desks.{Looks};
+    ghost use Rattle.tally_desk.specs.Homes.{HomeAs};
+
+    ghost then = { Looks (HomeAs C.load_faults C.save_faults C.slots C.tried) };
+}
+
+/// The end of a turn.
+pub(crate) struct Serve;
+
+impl<C> Play<Home<C>, View> for Serve {
+    ghost use Rattle.tally_desk.specs.Desks.{Serves};
+
+    ghost then = { Serves };
+}
+
+/// A look at how much was drawn, after two passes were joined.
+pub(crate) struct See;
+
+impl<C> Play<Home<C>, View> for See {
+    ghost use Rattle.tally_desk.specs.Desks.{SeesSeats};
+
+    ghost then = { SeesSeats };
+}
+
+/// One pass of two, or two of one.
+pub(crate) struct OnePass;
+
+impl Split<View> for OnePass {
+    ghost use Rattle.tally_desk.specs.Desks.{left_view, right_view};
+
+    ghost left = { left_view };
+
+    ghost right = { right_view };
+}
+
+impl Join<View> for OnePass {
+    ghost use Rattle.tally_desk.specs.Desks.{joined_view};
+    ghost use Rattle.tally_desk.specs.Views.{spent_view};
+
+    ghost both = { joined_view };
+
+    ghost spent = { spent_view };
+}

@@ -1,0 +1,13 @@
+use Rattle.std.proofs.Common.{refl}
+use Rattle.hex.specs.Hex.{decode_pairs}
+use Rattle.std.specs.Fmt.{digits}
+use Rattle.word_definitions.specs.Words.{setting_of}
+use Rattle.worked_examples.proofs.tables.more_refused_words.Goals as goal
+
+pub returns-clause-many_cut : goal.returns-clause-many_cut
+unfolding setting_of digits decode_pairs
+returns-clause-many_cut c = refl
+
+pub returns-clause-zero_in_front : goal.returns-clause-zero_in_front
+unfolding setting_of digits decode_pairs
+returns-clause-zero_in_front c = refl
