@@ -1,0 +1,6 @@
+mod Counting
+mod Adding
+mod Seeing
+mod Merging
+mod Changing
+mod Raising

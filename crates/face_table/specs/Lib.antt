@@ -1,0 +1,4 @@
+pub mod Corners
+pub mod Links
+pub mod Table
+pub mod Counts

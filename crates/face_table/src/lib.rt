@@ -1,0 +1,10 @@
+//! The faces at each unit, and what counting them in each district says of a unit that would leave.
+#![tactic(auto)]
+
+pub mod corner;
+pub mod counts;
+pub mod links;
+mod rows;
+pub mod table;
+#[cfg(test)]
+mod tests;

@@ -1,0 +1,135 @@
+//! Whether the neighbours of a unit in its district are linked through faces.
+
+ghost use Rattle.std.specs.Prelude.{◌≡◌, ◌≢◌, ◌<◌, ◌≤◌, ◌↔◌, ℕ, List, [], length, map, slice_index, All, IsTrue, IsFalse, MatchOption};
+ghost use Rattle.std.specs.List.{slice_index_or};
+ghost use Rattle.audit_model.specs.Graph.{IsGraph, IsIn};
+ghost use Rattle.audit_model.specs.Local.{is_mate};
+ghost use Rattle.face_table.specs.Corners.{IsPlaced, units_of, corners_at};
+ghost use Rattle.face_table.specs.Links.{Replaced, AreClasses, AreMerged, is_inner};
+ghost use Rattle.faces.specs.Faces.{AreFaces, AreLinked};
+
+use crate::corner::Corner;
+use dual_graph::graph::Graph;
+
+/// A unit with more neighbours is not asked.
+pub const MOST: usize = 32;
+
+/// Gives the neighbours of one class that of another.
+#[inline]
+fn join(classes: &mut [u8], from: u32, into: u32)
+    requires from { from < length classes.old }
+    requires into { into < length classes.old }
+    ensures { Replaced classes.old classes.new from into }
+{
+    let old = classes[from as usize];
+    let new = classes[into as usize];
+    for class in classes.iter_mut() {
+        let before = *class;
+        *class = if before == old { new } else { before };
+    }
+}
+
+/// Whether the units of a corner at u are all in u's district.
+#[inline]
+fn is_inner(g: &Graph, plan: &[u32], u: u32, corner: Corner) -> bool
+    requires plan { length plan.now ≡ g.now.units }
+    requires unit { u < g.now.units }
+    requires placed { IsPlaced g.now (slice_index_or g.now.neighbours u []) corner }
+    ensures { result ≡ is_inner g.now plan.now u corner }
+{
+    let row = g.neighbours(u);
+    let district = plan[u as usize];
+    plan[row[corner.one as usize] as usize] == district
+        && plan[row[corner.other as usize] as usize] == district
+        && plan[corner.far as usize] == district
+}
+
+/// Makes the classes of neighbours one that share a face inside their district.
+#[inline]
+fn merge(g: &Graph, plan: &[u32], u: u32, corners: &[Corner], classes: &mut [u8])
+    requires plan { length plan.now ≡ g.now.units }
+    requires unit { u < g.now.units }
+    requires few { length (slice_index_or g.now.neighbours u []) ≤ 32 }
+    requires placed { All (IsPlaced g.now (slice_index_or g.now.neighbours u [])) corners.now }
+    requires width { length classes.old ≡ 32 }
+    ensures width { length classes.new ≡ 32 }
+    ensures merged { AreMerged g.now plan.now u corners.now classes.new }
+    ensures linked { (faces : List (List ℕ)) → AreFaces g.now faces →
+        map (units_of (slice_index_or g.now.neighbours u [])) corners.now ≡ corners_at u faces →
+        AreClasses g.now faces plan.now u classes.old → AreClasses g.now faces plan.now u classes.new }
+{
+    let _units = g.units();
+    for corner in corners {
+        if is_inner(g, plan, u, *corner)
+            && classes[corner.one as usize] != classes[corner.other as usize]
+        {
+            join(classes, corner.one, corner.other);
+        }
+    }
+}
+
+/// The place of the first neighbour in the unit's district.
+#[inline]
+fn first_mate(g: &Graph, plan: &[u32], u: u32) -> Option<usize>
+    requires plan { length plan.now ≡ g.now.units }
+    requires unit { u < g.now.units }
+    ensures { MatchOption result ((v : ℕ) → IsIn g.now (is_mate g.now plan.now u) v → ⊥)
+        (λ i. (i < length (slice_index_or g.now.neighbours u [])) × IsIn g.now (is_mate g.now plan.now u) (slice_index (slice_index_or g.now.neighbours u []) i)) }
+{
+    let _units = g.units();
+    let row = g.neighbours(u);
+    let district = plan[u as usize];
+    for place in 0..row.len() {
+        if plan[row[place] as usize] == district {
+            return Some(place);
+        }
+    }
+    None
+}
+
+/// Whether all neighbours in the unit's district are of this class.
+#[inline]
+fn all_of(g: &Graph, plan: &[u32], u: u32, classes: &[u8], class: u8) -> bool
+    requires plan { length plan.now ≡ g.now.units }
+    requires unit { u < g.now.units }
+    requires few { length (slice_index_or g.now.neighbours u []) ≤ 32 }
+    requires width { length classes.now ≡ 32 }
+    ensures yes { IsTrue result → (i : ℕ) → i < length (slice_index_or g.now.neighbours u []) →
+        IsIn g.now (is_mate g.now plan.now u) (slice_index (slice_index_or g.now.neighbours u []) i) → slice_index classes.now i ≡ class }
+    ensures no { IsFalse result → (i : ℕ) × (i < length (slice_index_or g.now.neighbours u []))
+        × IsIn g.now (is_mate g.now plan.now u) (slice_index (slice_index_or g.now.neighbours u []) i) × (slice_index classes.now i ≢ class) }
+{
+    let _units = g.units();
+    let row = g.neighbours(u);
+    let district = plan[u as usize];
+    for place in 0..row.len() {
+        if plan[row[place] as usize] == district && classes[place] != class {
+            return false;
+        }
+    }
+    true
+}
+
+/// Whether the neighbours of a unit in its district are linked, one to the next, through faces inside it.
+pub fn are_linked(g: &Graph, plan: &[u32], u: u32, corners: &[Corner]) -> bool
+    requires plan { length plan.now ≡ g.now.units }
+    requires unit { u < g.now.units }
+    requires few { length (slice_index_or g.now.neighbours u []) ≤ 32 }
+    requires placed { All (IsPlaced g.now (slice_index_or g.now.neighbours u [])) corners.now }
+    ensures { (faces : List (List ℕ)) → AreFaces g.now faces →
+        map (units_of (slice_index_or g.now.neighbours u [])) corners.now ≡ corners_at u faces →
+        IsTrue result ↔ AreLinked g.now faces plan.now u }
+{
+    let _units = g.units();
+    match first_mate(g, plan, u) {
+        None => false,
+        Some(first) => {
+            let mut classes: [u8; 32] = [
+                0, 1, 2, 3, 4, 5, 6, 7, 8, 9, 10, 11, 12, 13, 14, 15, 16, 17, 18, 19, 20, 21, 22,
+                23, 24, 25, 26, 27, 28, 29, 30, 31,
+            ];
+            merge(g, plan, u, corners, &mut classes);
+            all_of(g, plan, u, &classes, classes[first])
+        }
+    }
+}

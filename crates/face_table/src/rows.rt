@@ -1,0 +1,106 @@
+//! The corners at each unit.
+
+ghost use Rattle.std.specs.Prelude.{◌≡◌, ◌<◌, ℕ, List, [], length, slice_index, IsTrue, IfOk, OnOk};
+ghost use Rattle.std.specs.List.{slice_index_or};
+ghost use Rattle.audit_model.specs.Graph.{adjacent};
+ghost use Rattle.face_table.specs.Corners.{HasCorners, with_corner, with_face, corners_at};
+ghost use Rattle.faces.specs.Faces.{IsRing, AreFaces};
+ghost use Rattle.faces.specs.Listed.{rings};
+ghost use Rattle.faces.specs.Rings.{ring_of};
+
+use crate::corner::{Corner, CornerList};
+use audit_model::memory::Memory;
+use dual_graph::graph::Graph;
+use faces::face::Face;
+use std::alloc::Global;
+
+/// The place of a neighbour among a unit's neighbours.
+fn place_of(g: &Graph, u: u32, v: u32) -> u32
+    requires unit { u < g.now.units }
+    requires near { IsTrue (adjacent g.now u v) }
+    ensures within { result < length (slice_index_or g.now.neighbours u []) }
+    ensures there { slice_index (slice_index_or g.now.neighbours u []) result ≡ v }
+{
+    let _units = g.units();
+    let row = g.neighbours(u);
+    for place in 0..row.len() {
+        if row[place] == v {
+            return place as u32;
+        }
+    }
+    0
+}
+
+/// Adds a corner at a unit.
+fn add_corner(
+    g: &Graph,
+    rows: &mut Vec<CornerList>,
+    u: u32,
+    one: u32,
+    other: u32,
+    far: u32,
+) -> Result<(), Memory>
+    requires units { (u < g.now.units) × (far < g.now.units) }
+    requires near { IsTrue (adjacent g.now u one) × IsTrue (adjacent g.now u other) }
+    requires rows { length rows.old.items ≡ g.now.units }
+    ensures width { length rows.new.items ≡ g.now.units }
+    ensures added { OnOk result ((corners : ℕ → List (ℕ × ℕ × ℕ)) → HasCorners g.now corners rows.old.items →
+        HasCorners g.now (λ w. with_corner w (corners w) u (one, other, far)) rows.new.items) }
+{
+    let corner = Corner {
+        one: place_of(g, u, one),
+        other: place_of(g, u, other),
+        far,
+    };
+    rows[u as usize].push(corner)?;
+    Ok(())
+}
+
+/// Adds the corners of a face.
+fn add_face(g: &Graph, rows: &mut Vec<CornerList>, face: Face) -> Result<(), Memory>
+    requires ring { IsRing g.now (ring_of face) }
+    requires rows { length rows.old.items ≡ g.now.units }
+    ensures width { length rows.new.items ≡ g.now.units }
+    ensures added { OnOk result ((corners : ℕ → List (ℕ × ℕ × ℕ)) → HasCorners g.now corners rows.old.items →
+        HasCorners g.now (λ w. with_face w (corners w) (ring_of face)) rows.new.items) }
+{
+    match face {
+        Face::Triangle(a, b, c) => {
+            add_corner(g, rows, a, b, c, c)?;
+            add_corner(g, rows, b, c, a, a)?;
+            add_corner(g, rows, c, a, b, b)?;
+            Ok(())
+        }
+        Face::Square(a, b, c, d) => {
+            add_corner(g, rows, a, b, d, c)?;
+            add_corner(g, rows, b, c, a, d)?;
+            add_corner(g, rows, c, d, b, a)?;
+            add_corner(g, rows, d, a, c, b)?;
+            Ok(())
+        }
+    }
+}
+
+/// No corner at any unit.
+fn no_rows(alloc: Global, n: u32) -> Result<Vec<CornerList>, Memory>
+    ensures width { IfOk result (λ rows. length rows.items ≡ n) }
+    ensures none { IfOk result (λ rows. (u : ℕ) → slice_index_or rows.items u [] ≡ []) }
+{
+    let mut rows = Vec::with_capacity(alloc, n as usize)?;
+    for _ in 0..n {
+        rows.push(CornerList::new(alloc))?;
+    }
+    Ok(rows)
+}
+
+/// The corners of the faces at each unit.
+pub fn rows_of(alloc: Global, g: &Graph, faces: &[Face]) -> Result<Vec<CornerList>, Memory>
+    requires faces { AreFaces g.now (rings faces.now) }
+    ensures { IfOk result (λ rows. HasCorners g.now (λ w. corners_at w (rings faces.now)) rows.items) }
+{
+    let mut rows = no_rows(alloc, g.units())?;
+    for face in faces {
+        add_face(g, &mut rows, *face)?;
+    }
+    Ok(rows)
+}

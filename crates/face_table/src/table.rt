@@ -1,0 +1,107 @@
+//! The faces of a graph, as a walk asks for them.
+
+ghost use Rattle.std.specs.Prelude.{◌≡◌, ◌+◌, ◌<◌, ◌≤◌, ◌↔◌, [], length, map, slice_index, IsTrue, IsFalse, IfOk, All};
+ghost use Rattle.std.specs.List.{slice_index_or};
+ghost use Rattle.face_table.specs.Corners.{IsPlaced, units_of, corners_at};
+ghost use Rattle.audit_model.specs.Local.{MayLeave};
+ghost use Rattle.audit_model.specs.Path.{IsConnected};
+ghost use Rattle.audit_model.specs.Plan.{in_district};
+ghost use Rattle.face_table.specs.Counts.{filled_of};
+ghost use Rattle.faces.specs.Faces.{AreFaces, AreLinked, count_inner_edges};
+
+use crate::corner::{Corner, CornerList};
+use crate::links::are_linked;
+use crate::rows::rows_of;
+use audit_model::memory::Memory;
+use dual_graph::graph::Graph;
+use faces::list::FaceList;
+use faces::near::faces_of;
+use std::alloc::Global;
+use std::marker::Model;
+use std::snapshot::Snapshot;
+
+/// With more faces there are none.
+const MOST: usize = 4000000;
+
+/// The faces of a graph, by the units that they are at.
+#[derive(Drop)]
+pub struct FaceTable {
+    graph: Snapshot<Graph>,
+    list: Snapshot<FaceList>,
+    rows: Vec<CornerList>,
+}
+
+impl Model for FaceTable {
+    ghost use Rattle.face_table.specs.Table.{Faced, IsTable};
+
+    ghost Value = { Faced };
+
+    ghost view = { λ t. record { graph = t.graph.value; faces = t.list.value } };
+
+    ghost invariant = { λ t. IsTable (record { graph = t.graph.value; faces = t.list.value }) t.rows.items };
+}
+
+/// The faces of a graph, or none where they are too many.
+fn some_faces(alloc: Global, g: &Graph) -> Result<FaceList, Memory>
+    ensures faces { IfOk result (λ l. AreFaces g.now l) }
+    ensures few { IfOk result (λ l. length l ≤ 4000000) }
+{
+    let list = faces_of(alloc, g)?;
+    if list.faces().len() > MOST {
+        return Ok(FaceList::new(alloc));
+    }
+    Ok(list)
+}
+
+impl FaceTable {
+    /// The faces of a graph.
+    pub fn of(alloc: Global, g: &Graph) -> Result<FaceTable, Memory>
+        ensures { IfOk result (λ t. t.graph ≡ g.now) }
+    {
+        let list = some_faces(alloc, g)?;
+        let rows = rows_of(alloc, g, list.faces())?;
+        Ok(FaceTable {
+            graph: Snapshot::of(g),
+            list: Snapshot::of(&list),
+            rows,
+        })
+    }
+
+    /// How many units there are.
+    #[inline]
+    pub fn units(&self) -> usize
+        ensures units { result ≡ self.now.graph.units }
+        ensures faces { AreFaces self.now.graph self.now.faces }
+        ensures few { length self.now.faces ≤ 4000000 }
+    {
+        self.rows.len()
+    }
+
+    /// The faces at a unit.
+    #[inline]
+    pub fn at(&self, u: u32) -> &[Corner]
+        requires { u < self.now.graph.units }
+        ensures faces { AreFaces self.now.graph self.now.faces }
+        ensures placed { All (IsPlaced self.now.graph (slice_index_or self.now.graph.neighbours u [])) result.now }
+        ensures seen { map (units_of (slice_index_or self.now.graph.neighbours u [])) result.now ≡ corners_at u self.now.faces }
+    {
+        self.rows[u as usize].as_slice()
+    }
+
+    /// Whether the neighbours of a unit in its district are linked, one to the next, through faces inside it. Where the
+    /// district is connected, a unit may leave it then; and no other may where the district has no hole.
+    pub fn links_mates(&self, g: &Graph, plan: &[u32], u: u32) -> bool
+        requires made { self.now.graph ≡ g.now }
+        requires plan { length plan.now ≡ g.now.units }
+        requires unit { u < g.now.units }
+        requires few { length (slice_index_or g.now.neighbours u []) ≤ 32 }
+        ensures linked { IsTrue result ↔ AreLinked g.now self.now.faces plan.now u }
+        ensures may { IsTrue result → IsConnected g.now (in_district plan.now (slice_index plan.now u)) → MayLeave g.now plan.now u }
+        ensures may_not { IsFalse result → IsConnected g.now (in_district plan.now (slice_index plan.now u)) →
+            count_inner_edges g.now (in_district plan.now (slice_index plan.now u)) + 1
+            ≤ filled_of g.now self.now.faces (in_district plan.now (slice_index plan.now u)) → MayLeave g.now plan.now u → ⊥ }
+    {
+        let _units = g.units();
+        are_linked(g, plan, u, self.at(u))
+    }
+}

@@ -1,0 +1,212 @@
+//! An order in which rings become faces. Nothing is proved of it: the list of faces tests each ring itself, and the
+//! order decides only how many it keeps.
+
+ghost use Rattle.std.specs.Prelude.{◌<◌};
+
+use crate::face::Face;
+use audit_model::memory::Memory;
+use dual_graph::graph::Graph;
+use std::alloc::Global;
+
+/// For each side how many of the rings that are left have it, and the exclusive or of their numbers.
+#[derive(Drop)]
+struct Sides {
+    /// The number of the first side of each unit.
+    begins: Vec<usize>,
+    counts: Vec<u32>,
+    sums: Vec<usize>,
+    /// The sides that one ring alone was seen to have.
+    ready: Vec<usize>,
+}
+
+/// The number of the first side of each unit, and behind them that of all.
+fn begins_of(alloc: Global, g: &Graph) -> Result<Vec<usize>, Memory> {
+    let mut begins = Vec::new(alloc);
+    let mut end = 0usize;
+    for u in 0..g.units() {
+        begins.push(end)?;
+        end = end.wrapping_add(g.neighbours(u).len());
+    }
+    begins.push(end)?;
+    Ok(begins)
+}
+
+/// How many sides a ring has.
+fn length_of(ring: Face) -> usize {
+    match ring {
+        Face::Triangle(_, _, _) => 3,
+        Face::Square(_, _, _, _) => 4,
+    }
+}
+
+/// The first two units of a ring.
+fn first_two(ring: Face) -> (u32, u32) {
+    match ring {
+        Face::Triangle(a, b, _) => (a, b),
+        Face::Square(a, b, _, _) => (a, b),
+    }
+}
+
+impl Sides {
+    /// The number of a ring's own side.
+    fn own(&self, g: &Graph, ring: Face) -> usize {
+        let (a, b) = first_two(ring);
+        let (low, high) = if a < b { (a, b) } else { (b, a) };
+        if low >= g.units() || low as usize >= self.begins.len() {
+            return 0;
+        }
+        let place = match g.neighbours(low).binary_search(&high) {
+            Ok(place) => place,
+            Err(place) => place,
+        };
+        self.begins[low as usize].wrapping_add(place)
+    }
+
+    /// Counts one more ring, or one less, at a side.
+    fn count(&mut self, side: usize, number: usize, more: bool) -> Result<(), Memory> {
+        if side >= self.counts.len() || side >= self.sums.len() {
+            return Ok(());
+        }
+        let before = self.counts[side];
+        let after = if more {
+            before.wrapping_add(1)
+        } else {
+            before.wrapping_sub(1)
+        };
+        self.counts[side] = after;
+        self.sums[side] ^= number;
+        if !more && after == 1 {
+            self.ready.push(side)?;
+        }
+        Ok(())
+    }
+
+    /// Counts one more ring, or one less, at all of its sides.
+    fn count_all(
+        &mut self,
+        g: &Graph,
+        ring: Face,
+        number: usize,
+        more: bool,
+    ) -> Result<(), Memory> {
+        let mut turn = ring;
+        for _ in 0..length_of(ring) {
+            let side = self.own(g, turn);
+            self.count(side, number, more)?;
+            turn = turn.turned();
+        }
+        Ok(())
+    }
+
+    /// The sides of these rings.
+    fn of(alloc: Global, g: &Graph, rings: &[Face]) -> Result<Sides, Memory> {
+        let begins = begins_of(alloc, g)?;
+        let all = match begins.last() {
+            None => 0,
+            Some(end) => *end,
+        };
+        let mut sides = Sides {
+            begins,
+            counts: vec![in alloc; 0; all]?,
+            sums: vec![in alloc; 0; all]?,
+            ready: Vec::new(alloc),
+        };
+        for number in 0..rings.len() {
+            sides.count_all(g, rings[number], number, true)?;
+        }
+        for side in 0..all {
+            sides.see(side)?;
+        }
+        Ok(sides)
+    }
+
+    /// Makes a side ready that one ring alone has.
+    fn see(&mut self, side: usize) -> Result<(), Memory> {
+        if side < self.counts.len() && self.counts[side] == 1 {
+            self.ready.push(side)?;
+        }
+        Ok(())
+    }
+
+    /// A side that one ring alone has, and the number of that ring.
+    fn next(&mut self) -> Option<(usize, usize)> {
+        for _ in 0..u64::MAX {
+            match self.ready.pop() {
+                None => return None,
+                Some(side) => {
+                    if side < self.counts.len()
+                        && side < self.sums.len()
+                        && self.counts[side] == 1
+                    {
+                        return Some((side, self.sums[side]));
+                    }
+                }
+            }
+        }
+        None
+    }
+
+    /// The ring begun with a side.
+    fn begun(&self, g: &Graph, ring: Face, side: usize) -> Face {
+        let mut turn = ring;
+        for _ in 0..length_of(ring) {
+            if self.own(g, turn) == side {
+                return turn;
+            }
+            turn = turn.turned();
+        }
+        ring
+    }
+}
+
+/// Takes a ring off, and tells whether it was left.
+fn take_off(
+    g: &Graph,
+    rings: &[Face],
+    sides: &mut Sides,
+    left: &mut [bool],
+    number: usize,
+) -> Result<bool, Memory> {
+    if number >= rings.len() || number >= left.len() || !left[number] {
+        return Ok(false);
+    }
+    left[number] = false;
+    sides.count_all(g, rings[number], number, false)?;
+    Ok(true)
+}
+
+/// Takes off the rings that have a side alone, one after another, and keeps them.
+fn keep_ready(
+    g: &Graph,
+    rings: &[Face],
+    sides: &mut Sides,
+    left: &mut [bool],
+    kept: &mut Vec<Face>,
+) -> Result<(), Memory> {
+    for _ in 0..u64::MAX {
+        match sides.next() {
+            None => return Ok(()),
+            Some((side, number)) => {
+                if take_off(g, rings, sides, left, number)? && number < rings.len() {
+                    kept.push(sides.begun(g, rings[number], side))?;
+                }
+            }
+        }
+    }
+    Ok(())
+}
+
+/// The rings that are taken off while one has a side alone, the last first, each begun with that side. Where none has,
+/// one is dropped.
+pub fn peeled(alloc: Global, g: &Graph, rings: &[Face]) -> Result<Vec<Face>, Memory> {
+    let mut sides = Sides::of(alloc, g, rings)?;
+    let mut left: Vec<bool> = vec![in alloc; true; rings.len()]?;
+    let mut kept = Vec::new(alloc);
+    for number in 0..rings.len() {
+        keep_ready(g, rings, &mut sides, &mut left, &mut kept)?;
+        take_off(g, rings, &mut sides, &mut left, number)?;
+    }
+    keep_ready(g, rings, &mut sides, &mut left, &mut kept)?;
+    kept.reverse();
+    Ok(kept)
+}
