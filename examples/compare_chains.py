@@ -1,7 +1,8 @@
 """Halts, kills and resumes the auditor on drawn graphs, and compares the last report, byte for byte, with that of one run in one piece.
 
-Usage: python3 compare_chains.py PROGRAM [GRAPHS [SEED]]
-PROGRAM is the built program. Graphs, plans and keys are drawn as in compare_walks.py (20, if not said). Each audit is made once in one
+Usage: python3 compare_chains.py PROGRAM [GRAPHS [SEED [WORKERS [SAVE]]]]
+PROGRAM is the built program. Graphs, plans and keys are drawn as in compare_walks.py (20, if not said). WORKERS and SAVE fix the number of
+workers and of walks after which a run saves, which are drawn elsewhere. Each audit is made once in one
 piece, and once as a chain of runs over real files in a folder of its own: each run has a drawn budget, a drawn number of workers and a drawn
 number of walks after which it saves, some are killed (as by kill -9) after a drawn time, and after some a drawn byte of a drawn file is changed. A
 run that finds no intact file is begun afresh. The newest file never has fewer outcomes after a run that resumed than before it.
@@ -54,11 +55,12 @@ def run(program, words, text, folder, limit):
     return done.returncode, done.stdout, done.stderr
 
 
-def chain(chance, program, words, text, folder, counts):
+def chain(chance, program, words, text, folder, counts, fixed):
     """The output of the run of a chain that ends with status 0."""
     resume = "no"
     while True:
-        more = ["--save", str(chance.randint(1, 3)), "--resume", resume, "--budget", str(chance.randint(0, 30)), "--workers", str(chance.randint(1, 4))]
+        workers, save = fixed[0] or str(chance.randint(1, 4)), fixed[1] or str(chance.randint(1, 3))
+        more = ["--save", save, "--resume", resume, "--budget", str(chance.randint(0, 30)), "--workers", workers]
         limit = chance.uniform(0.001, 0.03) if chance.random() < 0.6 else 60
         before = saved(folder)
         answer = run(program, words + more, text, folder, limit)
@@ -79,7 +81,7 @@ def chain(chance, program, words, text, folder, counts):
             spoil(chance, folder)
 
 
-def main(program, graphs="20", seed="1"):
+def main(program, graphs="20", seed="1", workers="", save=""):
     program = str(pathlib.Path(program).resolve())
     chance = random.Random(int(seed))
     same = 0
@@ -91,7 +93,7 @@ def main(program, graphs="20", seed="1"):
         words, text = words_of(job, numbers, asks), compare_walks.document(job)
         with tempfile.TemporaryDirectory() as folder:
             wanted = run(program, words, text, folder, 600)
-            found = chain(chance, program, words, text, folder, counts)
+            found = chain(chance, program, words, text, folder, counts, (workers, save))
         if wanted[0] == 0 and found == wanted[1]:
             same += 1
         else:

@@ -1,7 +1,8 @@
-"""What the gate costs: runs `rt ci --anew` and writes a table in Markdown, one row for each crate.
+"""What the gate costs: runs `rt ci` and writes a table in Markdown, one row for each crate.
 
 Usage, at the top of the repository: python3 examples/gate_table.py [--into FILE] [NAME..]
-With names it proves these crates and those below them alone. The table goes to standard output, or with `--into` into FILE in place of
+Where the toolchain keeps what passed, it is told to prove all anew, and with names it proves these crates and those below them alone;
+elsewhere every run is from nothing and takes no names. The table goes to standard output, or with `--into` into FILE in place of
 what stands between the lines BEGIN and END below; what `rt ci` says goes to standard error. Ends with the status of `rt ci`.
 
 Four times a second each process under `rt ci` is looked up in /proc. It belongs to the crate that its words, or those of the nearest process
@@ -124,9 +125,15 @@ class Watch:
         return sums
 
 
+def gate_words():
+    """The command of a gate that takes nothing from earlier runs."""
+    told = subprocess.run(["rt", "help"], stdout=subprocess.PIPE, stderr=subprocess.STDOUT, text=True, check=False).stdout
+    return ["rt", "ci", "--anew"] if "--anew" in told else ["rt", "ci"]
+
+
 def run(names, crates):
     """Runs the gate, and answers its status and what was seen of it."""
-    gate = subprocess.Popen(["rt", "ci", "--anew", *names], stdout=sys.stderr)
+    gate = subprocess.Popen([*gate_words(), *names], stdout=sys.stderr)
     watch, ended = Watch(gate.pid, crates), threading.Event()
 
     def go_on():
