@@ -10,6 +10,9 @@ use Rattle.audit_model.specs.contracts.lists.NumList as NumList
 use Rattle.audit_model.specs.contracts.outcome.Outcome as Outcome
 use Rattle.claim_counter.specs.contracts.pass.Pass as Pass
 use Rattle.dual_graph.specs.contracts.marks.Marks as Marks
+use Rattle.face_table.specs.contracts.corner.CornerList as CornerList
+use Rattle.face_table.specs.contracts.counts.FaceCounts as FaceCounts
+use Rattle.face_table.specs.contracts.table.FaceTable as FaceTable
 use Rattle.flip_kernel.specs.contracts.board.Board as Board
 use Rattle.flip_kernel.specs.contracts.state.State as State
 use Rattle.walker.specs.contracts.walker.Walker as Walker
@@ -30,11 +33,20 @@ numbers_send = search (crosses, sendable) depth 20
 marks_send : IsSend Marks.the_row
 marks_send = search (crosses, sendable) depth 20
 
+corners_send : IsSend CornerList.the_row
+corners_send = search (crosses, sendable) depth 20
+
+table_send : IsSend FaceTable.the_row
+table_send = search (corners_send, crosses, sendable) depth 20
+
+counts_send : IsSend FaceCounts.the_row
+counts_send = search (numbers_send, crosses, sendable) depth 20
+
 board_send : IsSend Board.the_row
-board_send = search (units_send, numbers_send, marks_send, crosses, sendable) depth 20
+board_send = search (table_send, counts_send, units_send, numbers_send, marks_send, crosses, sendable) depth 20
 
 board_field_send : IsSend Board.the_field.row
-board_field_send = search (board_send, units_send, numbers_send, marks_send, crosses, sendable) depth 20
+board_field_send = search (board_send, table_send, counts_send, units_send, numbers_send, marks_send, crosses, sendable) depth 20
 
 state_send : (T : RattleType) → IsSend T → IsSend (State.the_field T).row
 state_send T judge = struct_send (shape (State.the_type T)) (board_field_send, (judge, tt))

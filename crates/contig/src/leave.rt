@@ -4,12 +4,16 @@ ghost use Rattle.std.specs.Prelude.{◌≡◌, ◌+◌, ◌<◌, ◌≤◌, ◌�
 ghost use Rattle.audit_model.specs.Local.{IsLocal, MayLeave};
 ghost use Rattle.audit_model.specs.Path.{IsConnected};
 ghost use Rattle.audit_model.specs.Plan.{in_district};
+ghost use Rattle.face_table.specs.Counts.{AreCounts};
 
 use crate::flood::is_whole;
 use crate::parts::{MOST, are_linked, mark_mates, meet};
 use audit_model::steps::Steps;
 use dual_graph::graph::Graph;
 use dual_graph::marks::Marks;
+use face_table::counts::FaceCounts;
+use face_table::links::MOST as MOST_LINKED;
+use face_table::table::FaceTable;
 use std::sync::ledger::Ledger;
 
 /// Whether the neighbours of a unit in its district are connected among themselves.
@@ -80,16 +84,23 @@ pub fn leaves_connected<L: Ledger>(
     meet(g, plan, u, marks, &mut roots, mates)
 }
 
-/// Whether a unit's district, which is connected, stays so without it. It searches only where the unit's neighbours there are not connected among themselves.
+/// Whether a unit's district, which is connected, stays so without it. Where the unit's neighbours there are linked
+/// through faces, or the district has no hole, no search is made; and none where those neighbours are connected among
+/// themselves.
 pub fn may_leave<L: Ledger>(
     g: &Graph,
     plan: &[u32],
     u: u32,
+    table: &FaceTable,
+    counts: &FaceCounts,
     marks: &mut Marks,
     steps: &mut Steps<L>,
 ) -> bool
     requires plan { length plan.now ≡ g.now.units }
     requires unit { u < g.now.units }
+    requires made { table.now.graph ≡ g.now }
+    requires counts { AreCounts g.now table.now.faces (length counts.now.edges) plan.now counts.now }
+    requires district { slice_index plan.now u < length counts.now.edges }
     requires marks { marks.old.units ≡ g.now.units }
     requires connected { IsConnected g.now (in_district plan.now (slice_index plan.now u)) }
     ensures marks { marks.new.units ≡ marks.old.units }
@@ -98,5 +109,13 @@ pub fn may_leave<L: Ledger>(
     ensures rising { steps.old ≤ steps.new }
     ensures most { steps.new ≤ steps.old + 1 }
 {
+    if g.neighbours(u).len() <= MOST_LINKED {
+        if table.links_mates(g, plan, u) {
+            return true;
+        }
+        if counts.has_no_hole(plan[u as usize]) {
+            return false;
+        }
+    }
     leaves_connected(g, plan, u, marks, steps)
 }

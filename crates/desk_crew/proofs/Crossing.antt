@@ -6,6 +6,9 @@ use Rattle.atomic_table.proofs.badge.Badge.TheSendSync.{the_send as badge_send}
 use Rattle.audit_model.specs.contracts.lists.UnitList as UnitList
 use Rattle.audit_model.specs.contracts.lists.NumList as NumList
 use Rattle.dual_graph.specs.contracts.marks.Marks as Marks
+use Rattle.face_table.specs.contracts.corner.CornerList as CornerList
+use Rattle.face_table.specs.contracts.counts.FaceCounts as FaceCounts
+use Rattle.face_table.specs.contracts.table.FaceTable as FaceTable
 use Rattle.flip_kernel.specs.contracts.board.Board as Board
 use Rattle.flip_kernel.specs.contracts.state.State as State
 use Rattle.tally_desk.specs.contracts.pass.DeskPass as DeskPass
@@ -21,8 +24,17 @@ numbers_send = search (crosses, sendable) depth 20
 marks_send : IsSend Marks.the_row
 marks_send = search (crosses, sendable) depth 20
 
+corners_send : IsSend CornerList.the_row
+corners_send = search (crosses, sendable) depth 20
+
+table_send : IsSend FaceTable.the_row
+table_send = search (corners_send, crosses, sendable) depth 20
+
+counts_send : IsSend FaceCounts.the_row
+counts_send = search (numbers_send, crosses, sendable) depth 20
+
 board_send : IsSend Board.the_row
-board_send = search (units_send, numbers_send, marks_send, crosses, sendable) depth 20
+board_send = search (table_send, counts_send, units_send, numbers_send, marks_send, crosses, sendable) depth 20
 
 state_send : (J : RattleType) → IsSend J → IsSend (State.the_field J).row
 state_send J s = search (board_send, sendable) depth 20

@@ -8,16 +8,19 @@ use Rattle.audit_model.specs.JobOf.{IsJob}
 use Rattle.audit_model.specs.Plan.{district_sum}
 use Rattle.dual_graph.proofs.Rows.{get_or-map_below}
 use Rattle.district_sums.specs.Following.{Following, districts_in}
+use Rattle.face_table.specs.Counts.{Counted}
+use Rattle.face_table.specs.Table.{Faced}
 use Rattle.flip_kernel.specs.declared.proposal.Pairs.{Pairs}
 use Rattle.flip_kernel.specs.Held.{IsHeld, KeepsBounds}
 
 -- the same of the job and the plan that contracts see
-pub held_for : (j job : Job) (p plan : List ℕ) (sums : Following) (marks : ℕ) (table : List Bool) (pairs : Pairs) (low high : ℕ) → j ≡ job → p ≡ plan
-    → IsHeld j p sums marks table pairs low high → IsHeld job plan sums marks table pairs low high
-held_for j job p plan sums marks table pairs low high made at held =
-    subst (λ (x : Job). IsHeld x plan sums marks table pairs low high) made (subst (λ (x : List ℕ). IsHeld j x sums marks table pairs low high) at held)
+pub held_for : (j job : Job) (p plan : List ℕ) (sums : Following) (marks : ℕ) (table : List Bool) (pairs : Pairs) (low high : ℕ) (faced : Faced) (counted : Counted) → j ≡ job → p ≡ plan
+    → IsHeld j p sums marks table pairs low high faced counted → IsHeld job plan sums marks table pairs low high faced counted
+held_for j job p plan sums marks table pairs low high faced counted made at held =
+    subst (λ (x : Job). IsHeld x plan sums marks table pairs low high faced counted) made (subst (λ (x : List ℕ). IsHeld j x sums marks table pairs low high faced counted) at held)
 
-module _ (job : Job) (plan : List ℕ) (sums : Following) (marks : ℕ) (table : List Bool) (pairs : Pairs) (low high : ℕ) (held : IsHeld job plan sums marks table pairs low high) where
+module _ (job : Job) (plan : List ℕ) (sums : Following) (marks : ℕ) (table : List Bool) (pairs : Pairs) (low high : ℕ) (faced : Faced) (counted : Counted)
+    (held : IsHeld job plan sums marks table pairs low high faced counted) where
   -- a district's population
   pub population_at : (view : SumsView) (populations : List ℕ) (e : ℕ) → view ≡ sums.view → populations ≡ view.population → e < job.districts
       → get_or populations e 0 ≡ district_sum job.counts.population plan e

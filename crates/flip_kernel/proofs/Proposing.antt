@@ -7,6 +7,8 @@ use Rattle.audit_model.specs.Job.{Job}
 use Rattle.audit_model.specs.Proposal.{proposal}
 use Rattle.audit_model.specs.Step.{next}
 use Rattle.district_sums.specs.Following.{Following}
+use Rattle.face_table.specs.Counts.{Counted}
+use Rattle.face_table.specs.Table.{Faced}
 use Rattle.flip_kernel.specs.declared.proposal.Pairs.{Pairs}
 use Rattle.flip_kernel.specs.Blocks.{place_in}
 use Rattle.flip_kernel.specs.Held.{IsHeld, ProposesOpen}
@@ -40,7 +42,8 @@ proposed_some units districts size draw found is of =
     ∙ ap (λ (n : ℕ). Some (draw % n / districts, draw % n % districts)) (sym is)
     ∙ ap (λ (n : ℕ). Some (n / districts, n % districts)) (sym of.place)
 
-module _ (job : Job) (plan : List ℕ) (sums : Following) (marks : ℕ) (table : List Bool) (pairs : Pairs) (low high : ℕ) (held : IsHeld job plan sums marks table pairs low high) (draw : ℕ) where
+module _ (job : Job) (plan : List ℕ) (sums : Following) (marks : ℕ) (table : List Bool) (pairs : Pairs) (low high : ℕ) (faced : Faced) (counted : Counted)
+    (held : IsHeld job plan sums marks table pairs low high faced counted) (draw : ℕ) where
   -- a draw of no whole block
   pub still_held : None ≡ place_in pairs.count draw → next job plan draw ≡ plan
   still_held is = next_held job plan draw (proposed_none job.graph.units job.districts pairs.count draw held.numbers.count is)

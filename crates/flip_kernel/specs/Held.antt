@@ -6,6 +6,8 @@ use Rattle.audit_model.specs.Plan.{IsLegal}
 use Rattle.audit_model.specs.Proposal.{proposal}
 use Rattle.audit_model.specs.Score.{sums_of}
 use Rattle.district_sums.specs.Following.{Following, StandsFor, districts_in}
+use Rattle.face_table.specs.Counts.{Counted, AreCounts}
+use Rattle.face_table.specs.Table.{Faced}
 use Rattle.flip_kernel.specs.declared.proposal.Pairs.{Pairs}
 use Rattle.flip_kernel.specs.Blocks.{AreNumbersOf}
 use Rattle.flip_kernel.specs.Openings.{is_open, IsTable}
@@ -18,14 +20,18 @@ pub record Held : Type 0 where
 abbrev pub sums_in : Job → List ℕ → SumsView
 sums_in job plan = sums_of job.graph job.counts job.districts plan
 
--- the plan is legal, the sums are its sums, there are marks for all units, the table tells which pairs are open, and the numbers are the job's
-pub record IsHeld (job : Job) (plan : List ℕ) (sums : Following) (marks : ℕ) (table : List Bool) (pairs : Pairs) (low high : ℕ) : Type 0 where
+-- the plan is legal, the sums are its sums, there are marks for all units, the table tells which pairs are open, the numbers are the job's,
+-- and the faces are its graph's and counted in each district of the plan
+pub record IsHeld (job : Job) (plan : List ℕ) (sums : Following) (marks : ℕ) (table : List Bool) (pairs : Pairs) (low high : ℕ)
+    (faced : Faced) (counted : Counted) : Type 0 where
   pub legal : IsLegal job plan
   pub places : districts_in sums ≡ job.districts
   pub stands : StandsFor job.graph job.counts plan sums
   pub marked : marks ≡ job.graph.units
   pub opened : IsTable job.graph plan job.districts table
   pub numbers : AreNumbersOf job pairs low high
+  pub made : faced.graph ≡ job.graph
+  pub counts : AreCounts job.graph faced.faces job.districts plan counted
 
 -- the draw proposes the unit for the district, which is open to it
 pub record ProposesOpen (job : Job) (plan : List ℕ) (draw unit district : ℕ) : Type 0 where

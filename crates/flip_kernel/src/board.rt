@@ -21,6 +21,8 @@ use audit_model::steps::Steps;
 use contig::leave::may_leave;
 use district_sums::sums::Sums;
 use dual_graph::marks::Marks;
+use face_table::counts::FaceCounts;
+use face_table::table::FaceTable;
 use flip_guard::judge::Judge;
 use plan_core::job::Job;
 use std::alloc::Global;
@@ -28,13 +30,16 @@ use std::marker::Model;
 use std::snapshot::Snapshot;
 use std::sync::ledger::Ledger;
 
-/// A job's plan, which is legal for it, with its sums, the pairs that are open, and room for a search.
+/// A job's plan, which is legal for it, with its sums, the pairs that are open, what is counted of the faces in each
+/// district, and room for a search.
 #[derive(Drop)]
 pub struct Board {
     job: Snapshot<Job>,
     plan: UnitList,
     sums: Sums,
     marks: Marks,
+    faces: FaceTable,
+    counts: FaceCounts,
     openings: Openings,
     pairs: Pairs,
     low: u64,
@@ -48,7 +53,7 @@ impl Model for Board {
 
     ghost view = { λ s. record { job = s.job.value; plan = s.plan } };
 
-    ghost invariant = { λ s. IsHeld s.job.value s.plan s.sums s.marks.units s.openings s.pairs s.low s.high };
+    ghost invariant = { λ s. IsHeld s.job.value s.plan s.sums s.marks.units s.openings s.pairs s.low s.high s.faces s.counts };
 }
 
 /// Moves a unit to a district in the plan and in its sums.
@@ -152,12 +157,16 @@ impl Board {
         let marks = Marks::new(alloc, units)?;
         let mut openings = Openings::none(alloc, units, districts)?;
         openings.refill(job.graph(), plan.as_slice(), districts);
+        let faces = FaceTable::of(alloc, job.graph())?;
+        let counts = FaceCounts::new(alloc, job.graph(), &faces, districts, plan.as_slice())?;
         let (low, high) = job.limits();
         Ok(Board {
             job: Snapshot::of(job),
             plan,
             sums,
             marks,
+            faces,
+            counts,
             openings,
             pairs: Pairs::of(units, districts),
             low,
@@ -175,6 +184,7 @@ impl Board {
         self.sums.refill(job.graph(), job.counts(), plan);
         self.openings
             .refill(job.graph(), plan, self.pairs.districts);
+        self.counts.reset(job.graph(), &self.faces, plan);
     }
 
     /// The plan.
@@ -280,6 +290,8 @@ impl Board {
             job.graph(),
             self.plan.as_slice(),
             unit,
+            &self.faces,
+            &self.counts,
             &mut self.marks,
             steps,
         )
@@ -290,10 +302,18 @@ impl Board {
         requires made { self.old.job ≡ job.now }
         requires unit { unit < job.now.graph.units }
         requires district { district < job.now.districts }
+        requires elsewhere { slice_index self.old.plan unit ≢ district }
         requires legal { IsLegal job.now (slice_set self.old.plan unit district) }
         ensures { self.new ≡ record self.old { plan = slice_set self.old.plan unit district } }
     {
         let home = self.plan.as_slice()[unit as usize];
+        self.counts.follow(
+            job.graph(),
+            &self.faces,
+            self.plan.as_slice(),
+            unit,
+            district,
+        );
         shift(job, &mut self.sums, &mut self.plan, unit, district);
         self.openings.renew(
             job.graph(),

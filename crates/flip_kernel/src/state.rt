@@ -1,6 +1,6 @@
 //! A legal plan of a job beside a judge that stands for it.
 
-ghost use Rattle.std.specs.Prelude.{◌≡◌, ◌+◌, ◌<◌, ◌≤◌, ◌↔◌, slice_set, IfOk, MatchOption, IsTrue, IsFalse};
+ghost use Rattle.std.specs.Prelude.{◌≡◌, ◌≢◌, ◌+◌, ◌<◌, ◌≤◌, ◌↔◌, slice_index, slice_set, IfOk, MatchOption, IsTrue, IsFalse};
 ghost use Rattle.audit_model.specs.Job.{rules};
 ghost use Rattle.audit_model.specs.Local.{IsLocal};
 ghost use Rattle.audit_model.specs.Plan.{IsLegal};
@@ -107,6 +107,7 @@ impl<J: Judge> State<J> {
         requires seated { IsSeated job.now J.keeps J.stands J.takes J.rules self.old }
         requires unit { unit < job.now.graph.units }
         requires district { district < job.now.districts }
+        requires elsewhere { slice_index (held_of self.old).plan unit ≢ district }
         requires legal { IsLegal job.now (slice_set (held_of self.old).plan unit district) }
         ensures held { held_of self.new ≡ record (held_of self.old) { plan = slice_set (held_of self.old).plan unit district } }
         ensures seated { IsSeated job.now J.keeps J.stands J.takes J.rules self.new }

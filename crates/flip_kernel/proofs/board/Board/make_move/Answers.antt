@@ -15,6 +15,6 @@ pub renew-requires-clause-table : goal.renew-requires-clause-table
 renew-requires-clause-table c =
     let s = c.self.inside in
     let same : s.job.value ≡ c.args.job.now = ap (λ (h : Held). h.job) c.self.view_is ∙ c.requires.made in
-    let back = put_back s.plan c.as_slice-2.result.now c.args.unit c.args.district _ (c.as_slice-2.ensures ∙ c.shift.ensures.plan) (ap (λ (p : List ℕ). get_or p c.args.unit 0) c.as_slice.ensures) in
-    table_of s.job.value.graph c.graph.result.now s.plan _ s.job.value.districts s.pairs.districts s.openings
-    (ap (λ (j : Job). j.graph) same ∙ sym c.graph.ensures) (sym back) (sym c.self.invariant.numbers.districts) c.self.invariant.opened
+    let back = put_back s.plan c.as_slice-3.result.now c.args.unit c.args.district _ (c.as_slice-3.ensures ∙ c.shift.ensures.plan) (ap (λ (p : List ℕ). get_or p c.args.unit 0) c.as_slice.ensures) in
+    table_of s.job.value.graph c.graph-2.result.now s.plan _ s.job.value.districts s.pairs.districts s.openings
+    (ap (λ (j : Job). j.graph) same ∙ sym c.graph-2.ensures) (sym back) (sym c.self.invariant.numbers.districts) c.self.invariant.opened
