@@ -1,5 +1,5 @@
--- What reading a file to its end says.
-use Rattle.std.specs.Prelude.{◌≡◌, ℕ, ◌<◌, ◌≤◌, List, length, ⊤, Option, IfSome, Result, Ok, Err}
+-- What opening a file and reading it to its end say, and the files' names.
+use Rattle.std.specs.Prelude.{◌≡◌, ℕ, zero, suc, ◌<◌, ◌≤◌, Bool, true, false, List, length, codes, ⊤, Option, IfSome, Result, Ok, Err}
 use Rattle.audit_io.specs.declared.keeper.LoadError.{LoadError}
 use Rattle.audit_io.specs.declared.keeper.LoadError.TheVariants as load
 
@@ -9,3 +9,16 @@ ReadsWithin bytes limit room (Ok done) = (length room ≤ limit) × IfSome bytes
 ReadsWithin bytes limit room (Err load.Failed) = ⊤
 ReadsWithin bytes limit room (Err (load.Long n)) = (n ≡ limit) × IfSome bytes (λ xs. limit < length xs)
 ReadsWithin bytes limit room (Err load.Memory) = ⊤
+
+-- what a load answers over a file that was opened, whose bytes these are where it tells them: it is there, whatever its length
+abbrev pub LoadsFile : Option (List ℕ) → ℕ → List ℕ → Result Bool LoadError → Type 0
+LoadsFile bytes limit room (Ok true) = (length room ≤ limit) × IfSome bytes (λ xs. room ≡ xs)
+LoadsFile bytes limit room (Ok false) = ⊥
+LoadsFile bytes limit room (Err load.Failed) = ⊤
+LoadsFile bytes limit room (Err (load.Long n)) = (n ≡ limit) × IfSome bytes (λ xs. limit < length xs)
+LoadsFile bytes limit room (Err load.Memory) = ⊤
+
+-- the name of a slot's file
+abbrev pub file_name : ℕ → List ℕ
+file_name zero = codes "audit-0.ckpt"
+file_name (suc n) = codes "audit-1.ckpt"

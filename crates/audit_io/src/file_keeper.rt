@@ -1,16 +1,16 @@
 //! A keeper over two files.
 
-ghost use Rattle.std.specs.Prelude.{◌≡◌, ◌⊎◌, ◌↔◌, [], None};
+ghost use Rattle.std.specs.Prelude.{◌≡◌, ◌⊎◌, ◌↔◌, ◌<◌, false, true, [], None, Ok, IsOk, IfOk, OnOk, IsErrAnd};
 ghost use Rattle.std.specs.IoError.{error_kind};
-ghost use Rattle.std.specs.Io.{ReadsAtMost};
-ghost use Rattle.std.specs.Io.KnownBytes.{ReadConsumes};
-ghost use Rattle.audit_io.specs.Files.{ReadsWithin};
+ghost use Rattle.std.specs.Io.KnownBytes.{Appends};
+ghost use Rattle.audit_io.specs.Files.{ReadsWithin, LoadsFile, file_name};
 ghost use Rattle.audit_io.specs.Slots.{LoadsWithin};
 
+use crate::again::read_again;
 use crate::keeper::{Keeper, LoadError};
 use crate::source::Failed;
 use audit_model::buffers::Bytes;
-use std::fs::OpenFile;
+use std::fs::{File, OpenFile};
 use std::io::{ErrorKind, Read, Write};
 use std::rt::Files;
 use std::{fs, io};
@@ -19,29 +19,14 @@ use std::{fs, io};
 const PIECE: usize = 4096;
 
 // The file of a slot.
-fn name_of(slot: u8) -> &'static str {
+fn name_of(slot: u8) -> &'static str
+    requires { slot < 2 }
+    ensures { result.now ≡ file_name slot }
+{
     match slot {
         0 => "audit-0.ckpt",
         _ => "audit-1.ckpt",
     }
-}
-
-// One read, again where a signal interrupted it.
-fn read_piece<T: Read>(from: &mut T, piece: &mut [u8]) -> io::Result<usize>
-    ensures amount { ReadsAtMost result piece.new }
-    ensures bytes { ReadConsumes (T.remaining from.old) (T.remaining from.new) result piece.new }
-{
-    for _ in 0..u64::MAX {
-        match from.read(piece) {
-            Ok(count) => return Ok(count),
-            Err(error) => {
-                if error.kind() != ErrorKind::Interrupted {
-                    return Err(error);
-                }
-            }
-        }
-    }
-    Err(io::Error::from(ErrorKind::Interrupted))
 }
 
 // What an error of the file system is for a load.
@@ -64,7 +49,7 @@ fn read_within<T: Read>(from: &mut T, limit: u64, room: &mut Bytes) -> Result<()
     'pieces: while room.len() as u64 <= limit {
         let wanted = (limit - room.len() as u64).min(PIECE as u64 - 1) as usize + 1;
         let piece = &mut buffer[..wanted];
-        match read_piece(from, piece) {
+        match read_again(from, piece) {
             Err(error) => return Err(cause_of(&error)),
             Ok(count) => {
                 if count == 0 {
@@ -80,17 +65,19 @@ fn read_within<T: Read>(from: &mut T, limit: u64, room: &mut Bytes) -> Result<()
     Err(LoadError::Long(limit))
 }
 
-// Clears the room and puts the file's bytes there. False where there is no such file.
-fn load_file<R: Files>(
-    files: &R,
-    name: &str,
+// What a load answers over what opening the file answered. Absent exactly where there is no such file; a file that was read is there.
+fn load_opened<F: Read + Drop>(
+    opened: io::Result<F>,
     limit: u64,
     room: &mut Bytes,
 ) -> Result<bool, LoadError>
-    ensures { LoadsWithin limit room.new.items result }
+    ensures within { LoadsWithin limit room.new.items result }
+    ensures absent { (result ≡ Ok false) ↔ IsErrAnd opened (λ e. error_kind e ≡ ErrorKind.NotFound) }
+    ensures present { result ≡ Ok true → IsOk opened }
+    ensures file { IfOk opened (λ file. LoadsFile (F.remaining file) limit room.new.items result) }
 {
     room.clear();
-    match fs::open(files, name) {
+    match opened {
         Ok(mut file) => match read_within(&mut file, limit, room) {
             Ok(()) => Ok(true),
             Err(error) => {
@@ -107,20 +94,53 @@ fn load_file<R: Files>(
     }
 }
 
-// Makes the file hold exactly these bytes, and waits until the system has stored them.
-fn save_file<R: Files>(files: &R, name: &str, bytes: &[u8]) -> io::Result<()> {
-    let mut file = fs::create(files, name)?;
+// Writes all bytes, and waits until the system has stored them.
+fn store<F: Write + OpenFile>(file: &mut F, bytes: &[u8]) -> io::Result<()>
+    ensures { OnOk result (Appends (F.contents file.old) (F.contents file.new) bytes.now) }
+{
     file.write_all(bytes)?;
     file.sync_all()
 }
 
+// Opens the file to write it from its start, and answers whether it is new.
+fn make_file<R: Files>(files: &R, name: &str) -> io::Result<(R::File, bool)> {
+    match File::create_new(files, name) {
+        Ok(file) => Ok((file, true)),
+        Err(error) => {
+            if error.kind() != ErrorKind::AlreadyExists {
+                return Err(error);
+            }
+            Ok((fs::create(files, name)?, false))
+        }
+    }
+}
+
+// Makes the file hold exactly these bytes, and waits until the system has stored them. Where the folder is not known to be stored with all
+// files that were made in it, it waits for that, too.
+fn save_file<R: Files>(files: &R, name: &str, bytes: &[u8], settled: &mut bool) -> io::Result<()>
+    ensures { OnOk result (settled.new ≡ true) }
+{
+    let (mut file, is_new) = make_file(files, name)?;
+    if is_new {
+        *settled = false;
+    }
+    store(&mut file, bytes)?;
+    if !*settled {
+        fs::open(files, ".")?.sync_all()?;
+        *settled = true;
+    }
+    Ok(())
+}
+
 /// Two slots as the files `audit-0.ckpt` and `audit-1.ckpt` of the working folder.
 ///
-/// A save answers `Ok` only after the system has answered that the file's bytes and its length are stored. It is trusted that the file
-/// system keeps what it has stored, gives it back, and leaves the other file alone: this keeper tells nothing of what its slots hold.
+/// A save answers `Ok` only after the system has answered that the file's bytes and its length are stored and, since the last file was made
+/// anew, that the folder is. It is trusted that the file system keeps what it has stored, gives it back, and leaves the other file alone: this keeper
+/// tells nothing of what its slots hold.
 #[derive(Drop)]
 pub struct FileKeeper<R: Files + Drop> {
     files: R,
+    settled: bool,
     load_faults: u64,
     save_faults: u64,
 }
@@ -130,6 +150,7 @@ impl<R: Files + Drop> FileKeeper<R> {
     pub fn new(files: R) -> FileKeeper<R> {
         FileKeeper {
             files,
+            settled: false,
             load_faults: 0,
             save_faults: 0,
         }
@@ -145,9 +166,10 @@ impl<R: Files + Drop> Keeper for FileKeeper<R> {
 
     ghost save_faults = { λ k. k.save_faults };
 
-    /// No such file is an absent slot. Want of memory, the system's too, is `Memory`.
+    /// A slot is absent exactly where opening its file answers that there is none; a file that was read is there, whatever its length. Want of
+    /// memory, the system's too, is `Memory`.
     fn load(&mut self, slot: u8, limit: u64, room: &mut Bytes) -> Result<bool, LoadError> {
-        let loaded = load_file(&self.files, name_of(slot), limit, room);
+        let loaded = load_opened(fs::open(&self.files, name_of(slot)), limit, room);
         if loaded == Err(LoadError::Failed) {
             self.load_faults = self.load_faults.saturating_add(1);
         }
@@ -156,7 +178,7 @@ impl<R: Files + Drop> Keeper for FileKeeper<R> {
 
     /// Makes the file where there is none, and touches no other. Want of memory is `Failed`.
     fn save(&mut self, slot: u8, bytes: &[u8]) -> Result<(), Failed> {
-        match save_file(&self.files, name_of(slot), bytes) {
+        match save_file(&self.files, name_of(slot), bytes, &mut self.settled) {
             Ok(()) => Ok(()),
             Err(_) => {
                 self.save_faults = self.save_faults.saturating_add(1);

@@ -1,6 +1,7 @@
 //! The outside of an audit: where it reads, writes and keeps checkpoints, with counts of faults.
 #![tactic(auto)]
 
+mod again;
 mod copying;
 pub mod file_keeper;
 pub mod gate;

@@ -1,0 +1,47 @@
+//! Calls of std that are made again where a signal interrupted them.
+
+ghost use Rattle.std.specs.Prelude.{◌≢◌, IfErr};
+ghost use Rattle.std.specs.Io.{ReadsAtMost, WritesAtMost};
+ghost use Rattle.std.specs.Io.KnownBytes.{ReadConsumes, WriteAppends};
+ghost use Rattle.std.specs.IoError.{error_kind};
+
+use std::io;
+use std::io::{ErrorKind, Read, Write};
+
+/// One read, again where a signal interrupted it. Its error is never an interruption.
+pub(crate) fn read_again<T: Read>(from: &mut T, into: &mut [u8]) -> io::Result<usize>
+    ensures amount { ReadsAtMost result into.new }
+    ensures bytes { ReadConsumes (T.remaining from.old) (T.remaining from.new) result into.new }
+    ensures again { IfErr result (λ e. error_kind e ≢ ErrorKind.Interrupted) }
+{
+    for _ in 0..u64::MAX {
+        match from.read(into) {
+            Ok(count) => return Ok(count),
+            Err(error) => {
+                if error.kind() != ErrorKind::Interrupted {
+                    return Err(error);
+                }
+            }
+        }
+    }
+    Err(io::Error::from(ErrorKind::TimedOut))
+}
+
+/// One write, again where a signal interrupted it. Its error is never an interruption.
+pub(crate) fn write_again<T: Write>(to: &mut T, bytes: &[u8]) -> io::Result<usize>
+    ensures amount { WritesAtMost result bytes.now }
+    ensures bytes { WriteAppends (T.contents to.old) (T.contents to.new) result bytes.now }
+    ensures again { IfErr result (λ e. error_kind e ≢ ErrorKind.Interrupted) }
+{
+    for _ in 0..u64::MAX {
+        match to.write(bytes) {
+            Ok(count) => return Ok(count),
+            Err(error) => {
+                if error.kind() != ErrorKind::Interrupted {
+                    return Err(error);
+                }
+            }
+        }
+    }
+    Err(io::Error::from(ErrorKind::TimedOut))
+}
