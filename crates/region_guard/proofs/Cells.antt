@@ -1,0 +1,146 @@
+-- Counts below a bound that differ at one number, and the places of a table.
+use Rattle.std.proofs.Common.{◌≡◌, ℕ, zero, suc, ◌+◌, ◌*◌, ◌<◌, ◌≤◌, Bool, true, false, cond, not, ◌&&◌, ◌||◌, ◌==◌, List, length, get_or, refl, sym, ap, ◌∙◌, inl, inr, arith}
+use Rattle.std.specs.Prelude.{nat_lt}
+use Rattle.std.proofs.Math.Nat.{mul-le-mul_right}
+use Rattle.std.proofs.lemmas.Bool.{cases_eq, cases_lt, cases_Bool, cond-true, cond-false, eq-eqb, ne_eqb, lt-ltb, ltb-true, or_right, or_from, and_right, not_from_true, not_from_false, false_from_ne_true}
+use Rattle.audit_model.specs.Below.{above_all, all_below, any_below, count_below}
+use Rattle.audit_model.specs.Meets.{lies_in, split_of}
+use Rattle.model_laws.proofs.Below.{count_below_same, count_below_without}
+use Rattle.model_laws.proofs.Meeting.{below_above_all}
+use Rattle.region_guard.specs.Standing.{units_among}
+
+-- ---- counts
+
+abbrev pub one_if : Bool → ℕ
+one_if b = cond {A = ℕ} b 1 0
+
+pub count_more : (n : ℕ) (f : ℕ → Bool) → count_below (suc n) f ≡ count_below n f + one_if (f n)
+unfolding count_below
+count_more n f = refl
+
+pub count_none : (f : ℕ → Bool) → count_below 0 f ≡ 0
+unfolding count_below
+count_none f = refl
+
+pub count_but_one : (n u : ℕ) (f g : ℕ → Bool) → u < n → ((v : ℕ) → v < n → (v ≡ u → ⊥) → f v ≡ g v)
+    → count_below n f + one_if (g u) ≡ count_below n g + one_if (f u)
+count_but_one zero u f g l same = absurd (omega arith)
+count_but_one (suc n) u f g l same = elim (cases_eq u n) [
+  | inl e ↦
+      let before = count_below_same n f g (λ v under. same v (omega (arith, under)) (λ at. omega (arith, at, under, e))) in
+      let of_f = ap (λ k. one_if (f k)) e in
+      let of_g = ap (λ k. one_if (g k)) e in
+      omega (arith, before, of_f, of_g, count_more n f, count_more n g)
+  | inr off ↦
+      let before = count_but_one n u f g (omega arith) (λ v under. same v (omega (arith, under))) in
+      let last = ap one_if (same n (omega arith) (λ at. off (sym at))) in
+      omega (arith, before, last, count_more n f, count_more n g)
+]
+
+-- two numbers at which they differ
+pub count_but_two : (n x y : ℕ) (f g : ℕ → Bool) → x < n → y < n → (x ≡ y → ⊥)
+    → ((v : ℕ) → v < n → (v ≡ x → ⊥) → (v ≡ y → ⊥) → f v ≡ g v)
+    → count_below n f + one_if (g x) + one_if (g y) ≡ count_below n g + one_if (f x) + one_if (f y)
+count_but_two n x y f g lx ly apart same =
+    let h : ℕ → Bool = λ v. cond (v == x) (f v) (g v) in
+    let h_at : h x ≡ f x = cond-true (x == x) (f x) (g x) (eq-eqb x x refl) in
+    let h_off : (v : ℕ) → (v ≡ x → ⊥) → h v ≡ g v = λ v off. cond-false (v == x) (f v) (g v) (ne_eqb v x off) in
+    let first = count_but_one n x h g lx (λ v l off. h_off v off) in
+    let second = count_but_one n y f h ly (λ v l off. elim (cases_eq v x) [
+      | inl e ↦ sym (cond-true (v == x) (f v) (g v) (eq-eqb v x e))
+      | inr other ↦ same v l other off ∙ sym (h_off v other)
+    ]) in
+    omega (arith, first, second, ap one_if h_at, ap one_if (h_off y (λ e. apart (sym e))))
+
+-- numbers past which none passes count for nothing
+pub count_longer : (n m : ℕ) (f : ℕ → Bool) → m ≤ n → ((k : ℕ) → m ≤ k → f k ≡ false) → count_below m f ≡ count_below n f
+count_longer zero m f l none = let e : m ≡ zero = omega (arith, l) in ap (λ k. count_below k f) e
+count_longer (suc n) m f l none = elim (cases_eq m (suc n)) [
+  | inl e ↦ ap (λ k. count_below k f) e
+  | inr off ↦
+      let before = count_longer n m f (omega arith) none in
+      let last = cond-false {A = ℕ} (f n) 1 0 (none n (omega arith)) in
+      omega (arith, before, last, count_more n f)
+]
+
+pub some_counted : (n x : ℕ) (f : ℕ → Bool) → x < n → f x ≡ true → 1 ≤ count_below n f
+some_counted n x f l h = omega (arith, count_below_without n f x l h)
+
+pub any_is_some : (n : ℕ) (f : ℕ → Bool) → any_below n f ≡ nat_lt 0 (count_below n f)
+any_is_some zero f = sym (false_from_ne_true (nat_lt 0 (count_below 0 f)) (λ h. let l = ltb-true 0 (count_below 0 f) h in omega (arith, l, count_none f)))
+any_is_some (suc n) f = elim (cases_Bool (f n)) [
+  | inl hit ↦
+      let one = cond-true {A = ℕ} (f n) 1 0 hit in
+      or_right (any_below n f) (f n) hit ∙ sym (lt-ltb 0 (count_below (suc n) f) (omega (arith, one, count_more n f)))
+  | inr fails ↦
+      let zero_more = cond-false {A = ℕ} (f n) 1 0 fails in
+      let same : count_below n f ≡ count_below (suc n) f = omega (arith, zero_more, count_more n f) in
+      or_none (any_below n f) (f n) fails ∙ any_is_some n f ∙ ap (nat_lt 0) same
+]
+  where
+    or_none : (a b : Bool) → b ≡ false → (a || b) ≡ a
+    or_none true b h = refl
+    or_none false b h = h
+
+any_none : (n : ℕ) (f : ℕ → Bool) → ((k : ℕ) → k < n → f k ≡ false) → any_below n f ≡ false
+any_none zero f none = refl
+any_none (suc n) f none = or_from (any_below n f) (f n) (any_none n f (λ k l. none k (omega (arith, l)))) (none n (omega arith))
+
+-- all pass where none fails
+pub all_is_none : (n : ℕ) (f : ℕ → Bool) → (count_below n (λ k. not (f k)) == 0) ≡ all_below n f
+all_is_none zero f = eq-eqb (count_below 0 (λ k. not (f k))) 0 (count_none (λ k. not (f k)))
+all_is_none (suc n) f = elim (cases_Bool (f n)) [
+  | inl hit ↦
+      let none : one_if (not (f n)) ≡ 0 = cond-false {A = ℕ} (not (f n)) 1 0 (not_from_true (f n) hit) in
+      let same : count_below (suc n) (λ k. not (f k)) ≡ count_below n (λ k. not (f k)) = omega (arith, none, count_more n (λ k. not (f k))) in
+      ap (λ m. m == 0) same ∙ all_is_none n f ∙ and_true (all_below n f) (f n) hit
+  | inr fails ↦
+      let one : one_if (not (f n)) ≡ 1 = cond-true {A = ℕ} (not (f n)) 1 0 (not_from_false (f n) fails) in
+      ne_eqb (count_below (suc n) (λ k. not (f k))) 0 (λ e. omega (arith, e, one, count_more n (λ k. not (f k))))
+      ∙ sym (and_right (all_below n f) (f n) fails)
+]
+  where
+    and_true : (a b : Bool) → b ≡ true → a ≡ (a && b)
+    and_true true b h = sym h
+    and_true false b h = refl
+
+-- ---- places in the table
+
+pub cell_inside : (rows districts q d : ℕ) → q < rows → d < districts → q * districts + d < rows * districts
+cell_inside rows districts q d lq ld =
+    let row : suc q * districts ≤ rows * districts = mul-le-mul_right districts (omega (arith, lq)) in
+    let one : suc q * districts ≡ q * districts + districts = omega arith in
+    omega (arith, row, one, ld)
+
+same_cell : (districts q d r e : ℕ) → d < districts → e < districts → q < r → q * districts + d ≡ r * districts + e → ⊥
+same_cell districts q d r e ld le l h =
+    let row : suc q * districts ≤ r * districts = mul-le-mul_right districts (omega (arith, l)) in
+    let one : suc q * districts ≡ q * districts + districts = omega arith in
+    omega (arith, row, one, ld, h)
+
+pub row_of_cell : (districts q d r e : ℕ) → d < districts → e < districts → q * districts + d ≡ r * districts + e → q ≡ r
+row_of_cell districts q d r e ld le h = elim (cases_lt q r) [
+  | inl l ↦ absurd (same_cell districts q d r e ld le l h)
+  | inr past ↦ elim (cases_lt r q) [
+    | inl l ↦ absurd (same_cell districts r e q d le ld l (sym h))
+    | inr back ↦ omega (arith, past, back)
+  ]
+]
+
+pub place_of_cell : (districts q d r e : ℕ) → d < districts → e < districts → q * districts + d ≡ r * districts + e → d ≡ e
+place_of_cell districts q d r e ld le h =
+    let row = ap (λ k. k * districts) (row_of_cell districts q d r e ld le h) in omega (arith, row, h)
+
+-- ---- what a region's districts are
+
+-- a region lies in a district exactly where units of it are counted there
+pub lies_is_counted : (regions plan : List ℕ) (q d : ℕ) → lies_in regions plan q d ≡ nat_lt 0 (units_among (length regions) regions plan q d)
+lies_is_counted regions plan q d = any_is_some (length regions) (λ u. (get_or regions u 0 == q) && (get_or plan u 0 == d))
+
+pub split_is_counted : (regions plan : List ℕ) (districts q : ℕ) → length plan ≡ length regions → above_all plan ≤ districts
+    → split_of regions plan q ≡ count_below districts (λ d. nat_lt 0 (units_among (length regions) regions plan q d))
+split_is_counted regions plan districts q long l =
+    count_longer districts (above_all plan) (lies_in regions plan q) l (λ d past. any_none (length regions)
+    (λ u. (get_or regions u 0 == q) && (get_or plan u 0 == d)) (λ u under. and_right (get_or regions u 0 == q) (get_or plan u 0 == d)
+    (ne_eqb (get_or plan u 0) d (λ e. omega (arith, e, past, below_above_all plan u (omega (arith, under, long)))))))
+    ∙ count_below_same districts (lies_in regions plan q) (λ d. nat_lt 0 (units_among (length regions) regions plan q d)) (λ d under. lies_is_counted regions plan q d)

@@ -1,0 +1,19 @@
+use Rattle.std.proofs.Common.{◌≡◌, ℕ, ◌*◌, length, sym, ap, ◌∙◌}
+use Rattle.std.proofs.lemmas.List.{length-replicate}
+use Rattle.audit_model.specs.Below.{above_all}
+use Rattle.region_guard.proofs.Moves.{above_few}
+use Rattle.region_guard.proofs.guard.RegionGuard.new.Goals as goal
+
+pub returns-clause-table : goal.returns-clause-table
+returns-clause-table g c =
+    let rows : ℕ = c.row_count-rows.result in
+    let is_rows : rows ≡ above_all c.args.rules.regions = c.row_count-rows.ensures ∙ ap above_all c.as_slice.ensures in
+    let wide = ap (length {A = ℕ}) c.in_ok-widths.ensures ∙ length-replicate rows 0 in
+    let long = ap (length {A = ℕ}) c.in_ok-cells.ensures ∙ length-replicate (rows * c.args.districts) 0 in
+    record {
+      rows = wide ∙ is_rows;
+      places = long ∙ ap (λ n. n * c.args.districts) (sym wide);
+      few_rows = above_few 5000 c.args.rules.regions (λ k l. c.requires.few_regions k 0 l);
+      some = c.requires.districts.0;
+      few = c.requires.districts.1;
+    }

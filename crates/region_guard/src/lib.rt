@@ -1,0 +1,7 @@
+//! A judge of plans that may split each region, as a county, among a few districts only.
+#![tactic(auto)]
+
+mod counting;
+pub mod guard;
+#[cfg(test)]
+mod tests;
