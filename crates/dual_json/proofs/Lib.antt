@@ -7,5 +7,6 @@ pub mod Joined
 pub mod Listed
 pub mod Matched
 pub mod Named
+pub mod Regioned
 pub mod Shapes
 pub mod Started

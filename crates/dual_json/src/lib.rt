@@ -7,9 +7,11 @@ pub mod edges;
 pub mod index;
 pub mod names;
 pub mod read;
+pub mod regions;
 pub mod shape;
 #[cfg(test)]
 mod tests;
 
 pub use crate::read::read_graph;
-pub use audit_model::fault::{Column, GraphFault, Part};
+pub use crate::regions::read_regions;
+pub use audit_model::fault::{Column, GraphFault, Part, RegionFault};

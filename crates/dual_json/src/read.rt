@@ -31,7 +31,7 @@ use serde_json::error::Category;
 use std::alloc::Global;
 
 /// The value of a text.
-fn value_of(alloc: Global, bytes: &[u8]) -> Result<Value, GraphFault>
+pub(crate) fn value_of(alloc: Global, bytes: &[u8]) -> Result<Value, GraphFault>
     ensures { MatchResult result (λ root. cond (is_utf8 bytes.now) (read bytes.now) None ≡ Some (view root))
         (λ f. (f ≡ fault.Memory) ⊎ ((f ≡ fault.NotJson) × (cond (is_utf8 bytes.now) (read bytes.now) None ≡ None))) }
 {

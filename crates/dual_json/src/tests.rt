@@ -1,5 +1,6 @@
-use crate::read_graph;
-use audit_model::fault::GraphFault;
+use crate::{read_graph, read_regions};
+use audit_model::fault::{GraphFault, RegionFault};
+use audit_model::lists::UnitList;
 use audit_model::setting::Columns;
 use audit_model::text::Text;
 use dual_graph::parsed::Parsed;
@@ -7,7 +8,7 @@ use std::alloc::Global;
 
 /// Two neighbours, named by a number and by a text, of two districts.
 const TWO: &str =
-    r#"{"nodes":[{"pop":1,"a":3,"b":0,"d":"1","id":0},{"pop":2,"a":1,"b":2,"d":1,"id":"x"}],"adjacency":[[{"id":"x"}],[]]}"#;
+    r#"{"nodes":[{"pop":1,"a":3,"b":0,"d":"1","r":"x","id":0},{"pop":2,"a":1,"b":2,"d":1,"id":"x"}],"adjacency":[[{"id":"x"}],[]]}"#;
 
 fn text(alloc: Global, piece: &str) -> Result<Text, GraphFault> {
     let mut text = Text::new(alloc);
@@ -17,14 +18,28 @@ fn text(alloc: Global, piece: &str) -> Result<Text, GraphFault> {
     }
 }
 
-fn read(alloc: Global, bytes: &[u8]) -> Result<Parsed, GraphFault> {
-    let columns = Columns {
+fn columns(alloc: Global) -> Result<Columns, GraphFault> {
+    Ok(Columns {
         population: text(alloc, "pop")?,
         first: text(alloc, "a")?,
         second: text(alloc, "b")?,
         district: text(alloc, "d")?,
+    })
+}
+
+fn read(alloc: Global, bytes: &[u8]) -> Result<Parsed, GraphFault> {
+    read_graph(alloc, bytes, &columns(alloc)?)
+}
+
+/// The regions of a text that is a graph.
+fn regions(alloc: Global, bytes: &[u8], key: &str) -> Result<UnitList, RegionFault> {
+    let (Ok(columns), Ok(column)) = (columns(alloc), text(alloc, key)) else {
+        return Err(RegionFault::Memory);
     };
-    read_graph(alloc, bytes, &columns)
+    match read_graph(alloc, bytes, &columns) {
+        Ok(_) => read_regions(alloc, bytes, &column),
+        Err(_) => Err(RegionFault::Memory),
+    }
 }
 
 #[test]
@@ -40,4 +55,14 @@ fn two_units_are_read(rt: HostRuntime) -> Result<(), GraphFault> {
 fn bytes_that_are_no_text_are_refused(rt: HostRuntime) {
     let read = read(rt.alloc(), b"{\"nodes\":[\"\xff\"]}".as_slice());
     assert_eq!(rt; read.err(), Some(GraphFault::NotJson));
+}
+
+#[test]
+fn regions_are_numbered_by_their_labels(rt: HostRuntime) -> Result<(), RegionFault> {
+    let alloc = rt.alloc();
+    let numbers = regions(alloc, TWO.as_bytes(), "a")?;
+    assert_eq!(rt; numbers.as_slice(), [1, 0].as_slice());
+    let missing = regions(alloc, TWO.as_bytes(), "r");
+    assert_eq!(rt; missing.err(), Some(RegionFault::Missing(1)));
+    Ok(())
 }

@@ -1,0 +1,100 @@
+//! The regions of the units.
+
+ghost use Rattle.std.specs.Prelude.{◌≡◌, ◌<◌, ◌≤◌, ◌⊎◌, true, false, None, Some, Ok, Err, nat_lt, length, All, IfOk, MatchResult};
+ghost use Rattle.serde_json.specs.View.{view};
+ghost use Rattle.audit_model.specs.declared.fault.RegionFault.TheVariants as fault;
+ghost use Rattle.audit_model.specs.declared.setting.Columns.{Columns};
+ghost use Rattle.audit_model.specs.Limits.{AreRegions};
+ghost use Rattle.audit_model.specs.Parsed.{Parsed};
+ghost use Rattle.graph_definitions.specs.Reading.{reading};
+ghost use Rattle.graph_definitions.specs.Regions.{region_fault, region_reading, regions};
+ghost use Rattle.dual_json.specs.Districts.{different_count};
+ghost use Rattle.dual_json.specs.Numbered.{first_without, AreNumbered, IsGraphText};
+ghost use Rattle.dual_json.specs.Places.{labels_from};
+ghost use Rattle.dual_json.specs.Shape.{views, document_of};
+
+use crate::districts::{different, start_of};
+use crate::names::{Name, Unnamed, names_at};
+use crate::read::value_of;
+use crate::shape::{Parts, parts_of};
+use audit_model::fault::RegionFault;
+use audit_model::lists::UnitList;
+use audit_model::text::Text;
+use serde_json::Value;
+use std::alloc::Global;
+
+/// The first node that has not the column.
+fn first_missing(nodes: &[Value], column: &Text) -> Option<u32>
+    requires { length nodes.now ≤ 100000 }
+    ensures { result ≡ first_without column.now (views nodes.now) }
+{
+    for node in 0..nodes.len() {
+        if nodes[node].get(column.as_str()).is_none() {
+            return Some(node as u32);
+        }
+    }
+    None
+}
+
+/// The place of each name among the different ones in rising order, or how many different ones there are, where these are more than 5,000.
+fn numbers_of(alloc: Global, names: &[Name<'_>]) -> Result<UnitList, RegionFault>
+    requires { length names.now ≤ 100000 }
+    ensures { MatchResult result
+        (λ numbers. (nat_lt 5000 (different_count (labels_from names.now)) ≡ false) × AreNumbered (labels_from names.now) numbers)
+        (λ f. (f ≡ fault.Memory) ⊎ ((f ≡ fault.TooMany (different_count (labels_from names.now))) × (nat_lt 5000 (different_count (labels_from names.now)) ≡ true))) }
+{
+    let Ok(found) = different(alloc, names) else {
+        return Err(RegionFault::Memory);
+    };
+    let Ok(numbers) = start_of(alloc, names, &found) else {
+        return Err(RegionFault::Memory);
+    };
+    let count = found.len() as u64;
+    if count > 5000 {
+        return Err(RegionFault::TooMany(count));
+    }
+    Ok(numbers)
+}
+
+/// The regions of the nodes.
+fn regions_in(alloc: Global, parts: &Parts<'_>, column: &Text) -> Result<UnitList, RegionFault>
+    requires { length parts.now.nodes.now ≤ 100000 }
+    ensures read { MatchResult result
+        (λ numbers. (region_fault (document_of parts.now) column.now ≡ None) × (regions (document_of parts.now) column.now ≡ numbers))
+        (λ f. (f ≡ fault.Memory) ⊎ (region_fault (document_of parts.now) column.now ≡ Some f)) }
+    ensures within { IfOk result (λ numbers. AreRegions (length parts.now.nodes.now) numbers) }
+{
+    if let Some(node) = first_missing(parts.nodes, column) {
+        return Err(RegionFault::Missing(node));
+    }
+    match names_at(alloc, parts.nodes, column.as_str()) {
+        Ok(names) => numbers_of(alloc, &names),
+        Err(Unnamed::At(node)) => Err(RegionFault::BadLabel(node)),
+        Err(Unnamed::Memory) => Err(RegionFault::Memory),
+    }
+}
+
+/// The region of each unit of a text that is a graph, or the first reason to refuse them.
+///
+/// A region is a county or the like. Regions are the labels of one more column and are numbered as districts are: by the order of their labels, from 0.
+///
+/// # Errors
+///
+/// - `Missing`: the least node that has not the column.
+/// - `BadLabel`: the least node whose label is neither a text nor a whole number.
+/// - `TooMany`: how many different labels there are, which are more than 5,000.
+/// - `Memory`: there was no memory to read the text again, or for the numbers.
+pub fn read_regions(alloc: Global, bytes: &[u8], column: &Text) -> Result<UnitList, RegionFault>
+    requires graph { IsGraphText bytes.now }
+    ensures read { MatchResult result (λ numbers. region_reading bytes.now column.now ≡ Ok numbers)
+        (λ f. (f ≡ fault.Memory) ⊎ (region_reading bytes.now column.now ≡ Err f)) }
+    ensures within { IfOk result (λ numbers. (columns : Columns) (parsed : Parsed) → reading bytes.now columns ≡ Ok parsed → AreRegions parsed.graph.units numbers) }
+{
+    match value_of(alloc, bytes) {
+        Ok(root) => match parts_of(&root) {
+            Ok(parts) => regions_in(alloc, &parts, column),
+            Err(_) => unreachable!(),
+        },
+        Err(_) => Err(RegionFault::Memory),
+    }
+}
