@@ -4,6 +4,7 @@ use Rattle.audit_model.specs.declared.outcome.Outcome.{Outcome}
 use Rattle.audit_model.specs.declared.setting.Ask.{Ask}
 use Rattle.audit_model.specs.Job.{Job}
 use Rattle.audit_model.specs.Trajectory.{Draws, visit, hub, plan_value, moves, visits_in_tail, four_values, no_bins, walk_outcome, end_outcome}
+use Rattle.audit_model.specs.Serially.{run_outcome}
 use Rattle.flip_kernel.specs.Held.{Held}
 use Rattle.walker.specs.Asked.{each, asked_value, is_inside, visits_inside}
 use Rattle.walker.proofs.Asking.{each_is_four}
@@ -13,10 +14,10 @@ values_are_four : (job : Job) (plan : List ℕ) (asks : List Ask)
 unfolding asked_value
 values_are_four job plan asks = each_is_four (asked_value job plan) asks refl
 
-counts_are_four : (job : Job) (draws : ℕ → ℕ) (asks : List Ask)
-    → four_values (map (λ ask. pos (visits_in_tail job draws job.setting.steps ask)) asks) ≡ each (λ o. pos (visits_inside job draws (job.setting.steps + 1) o)) asks
+counts_are_four : (job : Job) (draws : ℕ → ℕ) (steps : ℕ) (asks : List Ask)
+    → four_values (map (λ ask. pos (visits_in_tail job draws steps ask)) asks) ≡ each (λ o. pos (visits_inside job draws (steps + 1) o)) asks
 unfolding visits_inside is_inside
-counts_are_four job draws asks = each_is_four (λ o. pos (visits_inside job draws (job.setting.steps + 1) o)) asks refl
+counts_are_four job draws steps asks = each_is_four (λ o. pos (visits_inside job draws (steps + 1) o)) asks refl
 
 -- the outcome of these parts, with no bins
 abbrev found : ℕ → ℕ → List ℤ → Outcome
@@ -26,16 +27,21 @@ found id moved values = record { id = id; moved = moved; values = values; bins =
 abbrev four_signed : List ℕ → List ℤ
 four_signed counts = pos (get_or counts 0 0) ∷ pos (get_or counts 1 0) ∷ pos (get_or counts 2 0) ∷ pos (get_or counts 3 0) ∷ []
 
-pub walk_found : (job : Job) (draws : Draws) (id stream moved : ℕ) (counts : List ℕ) (values : List ℤ) → stream ≡ 2 * id
-    → moved ≡ moves job (draws stream) job.start job.setting.steps
-    → counts ≡ each (visits_inside job (draws stream) (job.setting.steps + 1)) job.setting.asks → values ≡ four_signed counts
-    → found id moved values ≡ walk_outcome false job draws id
-walk_found job draws id stream moved counts values s m c v =
-    ap (λ (n : ℕ). found id n values) (m ∙ ap (λ (t : ℕ). moves job (draws t) job.start job.setting.steps) s)
-    ∙ ap (λ (xs : List ℤ). found id (moves job (draws (2 * id)) job.start job.setting.steps) xs)
-    (v ∙ ap four_signed c
-    ∙ ap (λ (t : ℕ). each (λ o. pos (visits_inside job (draws t) (job.setting.steps + 1) o)) job.setting.asks) s
-    ∙ sym (counts_are_four job (draws (2 * id)) job.setting.asks))
+pub run_found : (job : Job) (draws : Draws) (stream steps moved : ℕ) (counts : List ℕ) (values : List ℤ)
+    → moved ≡ moves job (draws stream) job.start steps
+    → counts ≡ each (visits_inside job (draws stream) (steps + 1)) job.setting.asks → values ≡ four_signed counts
+    → found 0 moved values ≡ run_outcome job draws stream steps
+run_found job draws stream steps moved counts values m c v =
+    ap (λ (n : ℕ). found 0 n values) m
+    ∙ ap (λ (xs : List ℤ). found 0 (moves job (draws stream) job.start steps) xs)
+    (v ∙ ap four_signed c ∙ sym (counts_are_four job (draws stream) steps job.setting.asks))
+
+-- what a run finds, under the id of its stream
+pub walk_found : (job : Job) (draws : Draws) (id stream steps : ℕ) (run : Outcome) → stream ≡ 2 * id → steps ≡ job.setting.steps
+    → run ≡ run_outcome job draws stream steps
+    → record run { id = id } ≡ walk_outcome false job draws id
+walk_found job draws id stream steps run s t r =
+    ap (λ (o : Outcome). (let p : Outcome = record o { id = id } in p)) (r ∙ ap (λ (n : ℕ). run_outcome job draws n steps) s ∙ ap (λ (n : ℕ). run_outcome job draws (2 * id) n) t)
 
 pub end_found : (job : Job) (draws : Draws) (id stream moved : ℕ) (from : List ℕ) (state : Held) (asks : List Ask) (values : List ℤ)
     → stream ≡ 2 * (id - job.setting.walks) + 3 → from ≡ hub job draws

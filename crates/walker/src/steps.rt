@@ -92,31 +92,33 @@ pub fn walk<J: Judge, L: Ledger>(
     moved
 }
 
-/// Walks the outlier trajectory of a stream from the start plan, which is held. It answers how many steps
+/// Walks so many steps along a stream from the start plan, which is held. It answers how many steps
 /// changed the plan, and for each ask how many of the visited plans are in its tail, the start plan among
 /// them. Scores are computed only where the plan changed.
 pub fn count_visits<J: Judge, L: Ledger>(
     job: &Job,
     state: &mut State<J>,
     stream: u64,
+    steps: u32,
     room: &mut [u64],
     counter: &mut Steps<L>,
 ) -> (u32, [u32; 4])
     requires made { (held_of state.old).job ≡ job.now }
     requires seated { IsSeated job.now J.keeps J.stands J.takes J.rules state.old }
     requires start { (held_of state.old).plan ≡ job.now.start }
+    requires few { steps ≤ 10 ^ 9 }
     requires room { length room.old ≡ 200 }
     ensures made { (held_of state.new).job ≡ job.now }
     ensures seated { IsSeated job.now J.keeps J.stands J.takes J.rules state.new }
-    ensures moved { result.0 ≡ moves job.now (draw job.now.setting.key stream) job.now.start job.now.setting.steps }
-    ensures counts { result.1 ≡ each (visits_inside job.now (draw job.now.setting.key stream) (job.now.setting.steps + 1)) job.now.setting.asks }
+    ensures moved { result.0 ≡ moves job.now (draw job.now.setting.key stream) job.now.start steps }
+    ensures counts { result.1 ≡ each (visits_inside job.now (draw job.now.setting.key stream) (steps + 1)) job.now.setting.asks }
 {
     let _units = job.units();
     let setting = job.setting();
     let mut draws = Draws::new(setting.key, stream);
     let mut tally = Tally::new(state, setting.asks.as_slice(), room);
     let mut moved = 0;
-    for place in 0..setting.steps {
+    for place in 0..steps {
         moved += u32::from(visit_next(job, state, &mut draws, &mut tally, room, counter));
         tally.count();
     }

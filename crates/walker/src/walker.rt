@@ -1,10 +1,11 @@
 //! The walker of a job.
 
-ghost use Rattle.std.specs.Prelude.{◌≡◌, false, ◌+◌, ◌-◌, ◌*◌, ◌<◌, ◌≤◌, length, IfOk};
+ghost use Rattle.std.specs.Prelude.{◌≡◌, false, ◌+◌, ◌-◌, ◌*◌, ◌<◌, ◌≤◌, ◌^◌, length, IfOk};
 ghost use Rattle.draw_definitions.specs.Draw.{draw};
 ghost use Rattle.audit_model.specs.Plan.{IsLegal};
 ghost use Rattle.audit_model.specs.Trajectory.{hub as hub_of, outcome, outcome_with, walk_outcome, end_outcome};
 ghost use Rattle.audit_model.specs.Job.{rules};
+ghost use Rattle.audit_model.specs.Serially.{run_outcome};
 ghost use Rattle.flip_kernel.specs.Judged.{TakesPlansOf};
 ghost use Rattle.walker.specs.Seated.{IsSeated, held_of};
 
@@ -69,6 +70,19 @@ impl<J: Judge> Walker<J> {
         self.walk_by::<Brand>(job, hub, id, Blank::new(1))
     }
 
+    /// Walks so many steps from the start plan along a stream, and answers what it finds, without bins: the moves, and for each ask
+    /// how many of the visited plans are in its tail, the start plan among them. The id is 0. It takes no memory.
+    pub fn run(&mut self, job: &Job, stream: u64, steps: u32) -> Outcome
+        requires made { (held_of self.old).job ≡ job.now }
+        requires seated { IsSeated job.now J.keeps J.stands J.takes J.rules self.old }
+        requires few { steps ≤ 10 ^ 9 }
+        ensures outcome { result ≡ run_outcome job.now (draw job.now.setting.key) stream steps }
+        ensures made { (held_of self.new).job ≡ job.now }
+        ensures seated { IsSeated job.now J.keeps J.stands J.takes J.rules self.new }
+    {
+        self.run_by::<Brand>(job, stream, steps, Blank::new(1))
+    }
+
     /// Writes the plan from which the trajectories of the parallel test start. It takes no memory.
     pub fn hub_into(&mut self, job: &Job, hub: &mut [u32])
         requires made { (held_of self.old).job ≡ job.now }
@@ -102,6 +116,54 @@ impl<J: Judge> Walker<J> {
         }
     }
 
+    // The walk of `run`, with a step counter of its own.
+    fn run_by<L: Ledger>(&mut self, job: &Job, stream: u64, steps: u32, blank: Blank) -> Outcome
+        requires name { blank.name ≡ L.name }
+        requires parts { blank.parts ≡ L.parts }
+        requires some { 0 < L.parts }
+        requires made { (held_of self.old).job ≡ job.now }
+        requires seated { IsSeated job.now J.keeps J.stands J.takes J.rules self.old }
+        requires few { steps ≤ 10 ^ 9 }
+        ensures outcome { result ≡ run_outcome job.now (draw job.now.setting.key) stream steps }
+        ensures made { (held_of self.new).job ≡ job.now }
+        ensures seated { IsSeated job.now J.keeps J.stands J.takes J.rules self.new }
+    {
+        let mut counter: Steps<L> = Steps::new(blank);
+        self.run_from_start(job, stream, steps, &mut counter)
+    }
+
+    // A walk from the start plan.
+    fn run_from_start<L: Ledger>(
+        &mut self,
+        job: &Job,
+        stream: u64,
+        steps: u32,
+        counter: &mut Steps<L>,
+    ) -> Outcome
+        requires made { (held_of self.old).job ≡ job.now }
+        requires seated { IsSeated job.now J.keeps J.stands J.takes J.rules self.old }
+        requires few { steps ≤ 10 ^ 9 }
+        ensures outcome { result ≡ run_outcome job.now (draw job.now.setting.key) stream steps }
+        ensures made { (held_of self.new).job ≡ job.now }
+        ensures seated { IsSeated job.now J.keeps J.stands J.takes J.rules self.new }
+    {
+        self.state.set(job, job.start().as_slice());
+        let (moved, counts) = count_visits(
+            job,
+            &mut self.state,
+            stream,
+            steps,
+            &mut self.room,
+            counter,
+        );
+        Outcome {
+            id: 0,
+            moved: u64::from(moved),
+            values: signed(counts),
+            bins: [0; 9],
+        }
+    }
+
     // A trajectory of the outlier test.
     fn walk_from_start<L: Ledger>(&mut self, job: &Job, id: u32, counter: &mut Steps<L>) -> Outcome
         requires made { (held_of self.old).job ≡ job.now }
@@ -110,15 +172,11 @@ impl<J: Judge> Walker<J> {
         ensures made { (held_of self.new).job ≡ job.now }
         ensures seated { IsSeated job.now J.keeps J.stands J.takes J.rules self.new }
     {
-        self.state.set(job, job.start().as_slice());
+        let _units = job.units();
         let stream = 2 * u64::from(id);
-        let (moved, counts) = count_visits(job, &mut self.state, stream, &mut self.room, counter);
-        Outcome {
-            id,
-            moved: u64::from(moved),
-            values: signed(counts),
-            bins: [0; 9],
-        }
+        let mut run = self.run_from_start(job, stream, job.setting().steps, counter);
+        run.id = id;
+        run
     }
 
     // A trajectory of the parallel test.

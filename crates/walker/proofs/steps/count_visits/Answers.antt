@@ -2,7 +2,7 @@ use Rattle.std.proofs.Common.{◌≡◌, ℕ, ◌+◌, ap, ◌∙◌, arith}
 use Rattle.audit_model.specs.declared.setting.Setting.{Setting}
 use Rattle.draw_definitions.specs.Draw.{draw}
 use Rattle.walker.specs.Asked.{each, visits_inside}
-use Rattle.walker.proofs.Asking.{counted_none, counts_fit, counted_more, few_steps}
+use Rattle.walker.proofs.Asking.{counted_none, counts_fit, counted_more}
 use Rattle.walker.proofs.Stepping.{walked_none, walked_small, walked_more, walked_moves, byte_cond, byte_le}
 use Rattle.walker.proofs.steps.count_visits.Goals as goal
 
@@ -25,7 +25,7 @@ visit_next-requires-clause-made g c = c.loop-place.invariant.walked.made
 
 pub visit_next-requires-clause-place : goal.visit_next-requires-clause-place
 visit_next-requires-clause-place g c =
-    omega (arith, c.loop-place.invariant.walked.same_place, c.loop-place-test.true, ap (λ (s : Setting). s.steps) c.setting-setting.ensures, few_steps c.args.job.now c.units-units.ensures.sound)
+    omega (arith, c.loop-place.invariant.walked.same_place, c.loop-place-test.true)
 
 pub visit_next-requires-clause-start : goal.visit_next-requires-clause-start
 visit_next-requires-clause-start g c = c.loop-place.invariant.counted.start
@@ -41,8 +41,6 @@ overflow_add-moved g c =
       c.from-moved.ensures,
       byte_le c.visit_next.result,
       c.loop-place-test.true,
-      ap (λ (s : Setting). s.steps) c.setting-setting.ensures,
-      few_steps c.args.job.now c.units-units.ensures.sound,
     )
 
 pub count-requires : goal.count-requires
@@ -50,7 +48,7 @@ count-requires g c =
     let job = c.args.job.now in
     counts_fit job job.setting.key c.args.stream c.loop-place.place c.loop-place.state.board.plan c.loop-place.tally c.loop-place.invariant.counted
     c.visit_next.new.state.board.plan c.visit_next.new.tally c.visit_next.ensures.start c.visit_next.ensures.inside c.visit_next.ensures.counts
-    (omega (arith, c.loop-place-test.true, ap (λ (s : Setting). s.steps) c.setting-setting.ensures, few_steps job c.units-units.ensures.sound))
+    (omega (arith, c.loop-place-test.true))
 
 pub loop-place-preserved : goal.loop-place-preserved
 loop-place-preserved g c =
@@ -74,13 +72,12 @@ returns-clause-made g c = c.loop-place.invariant.walked.made
 
 pub returns-clause-moved : goal.returns-clause-moved
 returns-clause-moved g c =
-    walked_moves _ _ _ _ _ _ _ _ c.loop-place.invariant.walked c.args.job.now.setting.steps
-    (omega (arith, c.loop-place-test.false, c.loop-place.auto.place-end, ap (λ (s : Setting). s.steps) c.setting-setting.ensures))
+    walked_moves _ _ _ _ _ _ _ _ c.loop-place.invariant.walked c.args.steps
+    (omega (arith, c.loop-place-test.false, c.loop-place.auto.place-end))
 
 pub returns-clause-counts : goal.returns-clause-counts
 returns-clause-counts g c =
     let job = c.args.job.now in
-    let all : c.loop-place.place ≡ job.setting.steps =
-    omega (arith, c.loop-place-test.false, c.loop-place.auto.place-end, ap (λ (s : Setting). s.steps) c.setting-setting.ensures) in
+    let all : c.loop-place.place ≡ c.args.steps = omega (arith, c.loop-place-test.false, c.loop-place.auto.place-end) in
     c.loop-place.invariant.counted.counted
     ∙ ap (λ (n : ℕ). each (visits_inside job (draw job.setting.key c.args.stream) (n + 1)) job.setting.asks) all
