@@ -1,2 +1,4 @@
+pub mod AddingUp
 pub mod ById
 pub mod Indexed
+pub mod Tallying

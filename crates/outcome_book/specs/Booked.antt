@@ -1,5 +1,5 @@
 -- A book of outcomes: what was posted, and its outcomes by rising id.
-use Rattle.std.specs.Prelude.{◌≡◌, ℕ, zero, suc, ◌<◌, ◌≤◌, ◌==◌, List, [], ◌++◌, length, Option, option_to_list, find}
+use Rattle.std.specs.Prelude.{◌≡◌, ℕ, zero, suc, ◌<◌, ◌≤◌, ◌==◌, List, [], ◌++◌, length, sum, Option, option_to_list, find}
 use Rattle.std.specs.List.{All, AllPairs}
 use Rattle.audit_model.specs.declared.outcome.Outcome.{Outcome}
 
@@ -11,6 +11,10 @@ pub record Booked : Type 0 where
 -- the ids of the outcomes differ
 abbrev pub AreApart : List Outcome → Type 0
 AreApart outcomes = AllPairs (λ a b. a.id ≡ b.id → ⊥) outcomes
+
+-- the bins add up to at most the most plans that a trajectory visits
+abbrev pub HasFewVisits : Outcome → Type 0
+HasFewVisits o = sum o.bins ≤ 1000000001
 
 -- the ids of the outcomes differ and are below the total, so there are no more outcomes than ids
 pub record IsBook (b : Booked) : Type 0 where
