@@ -74,7 +74,14 @@ impl Job {
     }
 
     /// The job of what was read of a graph, a setting and the regions of the units, of which there may be none.
-    fn with_regions(
+    ///
+    /// # Errors
+    ///
+    /// Those of [`Job::new`] in their order, and after `TooManyCut`:
+    ///
+    /// - `TooManySplit`: the least region that lies in more districts of the plan than the setting allows,
+    ///   and in how many it lies.
+    pub fn with_regions(
         alloc: Global,
         parsed: Parsed,
         setting: Setting,

@@ -1,9 +1,10 @@
 //! A job on a path of three units.
 
 ghost use Rattle.std.specs.Prelude.{◌≡◌, IfOk, length};
-ghost use Rattle.audit_model.specs.Limits.{AreWithin, IsSetting};
+ghost use Rattle.audit_model.specs.Limits.{AreRegions, AreWithin, IsSetting};
 
 use super::Job;
+use audit_model::fault::PlanFault;
 use audit_model::lists::{AskList, LabelList, NumList, UnitList};
 use audit_model::memory::Memory;
 use audit_model::outcome::Counts;
@@ -59,7 +60,7 @@ fn three_units(alloc: Global) -> Result<Parsed, Memory>
     })
 }
 
-/// One trajectory of one step, that asks for the gap.
+/// One trajectory of one step, that asks for the gap and splits no region.
 fn setting(alloc: Global) -> Result<Setting, Memory>
     ensures { IfOk result (λ s. IsSetting s) }
 {
@@ -93,7 +94,7 @@ fn setting(alloc: Global) -> Result<Setting, Memory>
         stop: 0,
         serial: false,
         region: Text::new(alloc),
-        max_split: 200,
+        max_split: 1,
     })
 }
 
@@ -129,4 +130,29 @@ fn a_job_has_its_parts(rt: HostRuntime) -> Result<(), Fail> {
     assert_eq!(rt; job.limits(), (1, 2));
     assert_eq!(rt; first_value(&job), Some(4));
     Ok(())
+}
+
+/// All units in one region.
+fn one_region(alloc: Global, units: u32) -> Result<UnitList, Memory>
+    ensures { IfOk result (λ regions. AreRegions units regions) }
+{
+    let regions = UnitList::zeros(alloc, units as usize)?;
+    Ok(regions)
+}
+
+/// The job of three units in one region.
+fn job_of_one_region(alloc: Global) -> Result<Job, PlanFault> {
+    let parsed = three_units(alloc)?;
+    let regions = one_region(alloc, parsed.graph.units())?;
+    Job::with_regions(alloc, parsed, setting(alloc)?, regions)
+}
+
+#[test]
+fn a_region_in_two_districts_is_refused(rt: HostRuntime) {
+    let fault = PlanFault::TooManySplit {
+        region: 0,
+        districts: 2,
+        most: 1,
+    };
+    assert_eq!(rt; job_of_one_region(rt.alloc()).err(), Some(fault));
 }
