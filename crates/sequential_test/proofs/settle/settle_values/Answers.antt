@@ -1,0 +1,95 @@
+use Rattle.std.proofs.Common.{◌≡◌, ℕ, ◌+◌, ◌-◌, List, Option, Some, sym, ap, ◌∙◌, arith}
+use Rattle.std.specs.Prelude.{ℤ}
+use Rattle.std.proofs.Common.{w64}
+use Rattle.std.proofs.Math.Facts.{to_z-of_z}
+use Rattle.audit_model.specs.declared.outcome.Outcome.{Outcome}
+use Rattle.audit_model.specs.declared.outcome.Stop.{Stop}
+use Rattle.audit_model.specs.Stopping.{value_with_id}
+use Rattle.sequential_test.proofs.Settled.{IsGap, settled_from, stopped, ended, unsettled, tails_are, values_are, values_from, of_job}
+use Rattle.model_laws.proofs.Connected.{count_below_le}
+use Rattle.audit_model.specs.Trajectory.{in_tail}
+use Rattle.sequential_test.proofs.settle.settle_values.Goals as goal
+
+pub returns-then-inside-h-clause-settled : goal.returns-then-inside-h-clause-settled
+returns-then-inside-h-clause-settled c = λ job ask w e t s.
+    let walks : ℕ = c.args.walks in
+    let ends : ℕ = c.args.ends in
+    let posted : List Outcome = c.args.posted.now in
+    let g : ℕ = c.known_ends-known.result in
+    let place : ℕ = c.tail_place-place.result in
+    let start : ℤ = c.args.start in
+    let gap : IsGap walks ends g posted =
+    record { within = c.known_ends-known.ensures.within; counted = c.known_ends-known.ensures.known; gap = c.known_ends-known.ensures.gap } in
+    let reached = rw (to_z-of_z {w = w64} {z = c.args.start} c.ranges.start) at c.tail_place-place.ensures.reached in
+    let short = rw (to_z-of_z {w = w64} {z = c.args.start} c.ranges.start) at c.tail_place-place.ensures.before in
+    let within = c.tail_place-place.ensures.within in
+    let here = tails_are walks ends g posted c.requires.apart gap c.args.place c.args.tail start place within.1 in
+    let before = tails_are walks ends g posted c.requires.apart gap c.args.place c.args.tail start (place - 1) (omega (arith, within.1)) in
+    stopped c.args.tail start g (λ j. value_with_id c.args.place posted (walks + j)) c.args.h ends place within.0 within.1
+    (omega (arith, here, reached)) (omega (arith, before, short))
+    ∙ ap (λ values. settled_from ends c.args.tail start values c.args.h) (sym (values_are walks ends g posted c.requires.apart gap c.args.place))
+    ∙ of_job walks ends c.args.place c.args.h c.args.tail start posted job ask w e t s
+
+pub returns-then-known-ends-clause-settled : goal.returns-then-known-ends-clause-settled
+returns-then-known-ends-clause-settled c = λ job ask w e t s.
+    let walks : ℕ = c.args.walks in
+    let ends : ℕ = c.args.ends in
+    let posted : List Outcome = c.args.posted.now in
+    let g : ℕ = c.known_ends-known.result in
+    let start : ℤ = c.args.start in
+    let inside = rw (to_z-of_z {w = w64} {z = c.args.start} c.ranges.start) at c.count_tail-inside.ensures in
+    let gap : IsGap walks ends g posted =
+    record { within = c.known_ends-known.ensures.within; counted = c.known_ends-known.ensures.known; gap = c.known_ends-known.ensures.gap } in
+    let all = tails_are walks ends g posted c.requires.apart gap c.args.place c.args.tail start g (omega arith) in
+    unsettled c.args.tail start g (λ j. value_with_id c.args.place posted (walks + j)) c.args.h ends
+    (omega (arith, all, inside, c.if-inside-h.false)) c.if-known-ends.true
+    ∙ ap (λ values. settled_from ends c.args.tail start values c.args.h) (sym (values_are walks ends g posted c.requires.apart gap c.args.place))
+    ∙ of_job walks ends c.args.place c.args.h c.args.tail start posted job ask w e t s
+
+pub returns-clause-settled : goal.returns-clause-settled
+returns-clause-settled c = λ job ask w e t s.
+    let walks : ℕ = c.args.walks in
+    let ends : ℕ = c.args.ends in
+    let posted : List Outcome = c.args.posted.now in
+    let g : ℕ = c.known_ends-known.result in
+    let start : ℤ = c.args.start in
+    let inside = rw (to_z-of_z {w = w64} {z = c.args.start} c.ranges.start) at c.count_tail-inside.ensures in
+    let gap : IsGap walks ends g posted =
+    record { within = c.known_ends-known.ensures.within; counted = c.known_ends-known.ensures.known; gap = c.known_ends-known.ensures.gap } in
+    let all = tails_are walks ends g posted c.requires.apart gap c.args.place c.args.tail start g (omega arith) in
+    let whole : g ≡ ends = omega (arith, c.if-known-ends.false, c.known_ends-known.ensures.within) in
+    let answer : ℕ → Option Stop = λ n. Some (record { place = g; top = n + 1; of = g + 1 }) in
+    ap answer (inside ∙ all)
+    ∙ ended c.args.tail start g (λ j. value_with_id c.args.place posted (walks + j)) c.args.h (omega (arith, all, inside, c.if-inside-h.false))
+    ∙ ap (λ values. settled_from g c.args.tail start values c.args.h) (sym (values_are walks ends g posted c.requires.apart gap c.args.place))
+    ∙ ap (λ n. settled_from n c.args.tail start (values_from walks ends c.args.place posted) c.args.h) whole
+    ∙ of_job walks ends c.args.place c.args.h c.args.tail start posted job ask w e t s
+
+pub returns-then-inside-h-clause-part : goal.returns-then-inside-h-clause-part
+returns-then-inside-h-clause-part c =
+    let walks : ℕ = c.args.walks in
+    let posted : List Outcome = c.args.posted.now in
+    let place : ℕ = c.tail_place-place.result in
+    let start : ℤ = c.args.start in
+    let gap : IsGap walks c.args.ends c.known_ends-known.result posted =
+    record { within = c.known_ends-known.ensures.within; counted = c.known_ends-known.ensures.known; gap = c.known_ends-known.ensures.gap } in
+    let reached = rw (to_z-of_z {w = w64} {z = c.args.start} c.ranges.start) at c.tail_place-place.ensures.reached in
+    let within = c.tail_place-place.ensures.within in
+    let here = tails_are walks c.args.ends c.known_ends-known.result posted c.requires.apart gap c.args.place c.args.tail start place within.1 in
+    let few = count_below_le place (λ j. in_tail c.args.tail (value_with_id c.args.place posted (walks + j)) start) in
+    let known = c.known_ends-known.ensures.within in
+    (omega (arith, within.1, known), c.requires.some, omega (arith, here, few, reached), omega (arith, within.1, known))
+
+pub returns-clause-part : goal.returns-clause-part
+returns-clause-part c =
+    let walks : ℕ = c.args.walks in
+    let posted : List Outcome = c.args.posted.now in
+    let g : ℕ = c.known_ends-known.result in
+    let start : ℤ = c.args.start in
+    let inside = rw (to_z-of_z {w = w64} {z = c.args.start} c.ranges.start) at c.count_tail-inside.ensures in
+    let gap : IsGap walks c.args.ends g posted =
+    record { within = c.known_ends-known.ensures.within; counted = c.known_ends-known.ensures.known; gap = c.known_ends-known.ensures.gap } in
+    let all = tails_are walks c.args.ends g posted c.requires.apart gap c.args.place c.args.tail start g (omega arith) in
+    let few = count_below_le g (λ j. in_tail c.args.tail (value_with_id c.args.place posted (walks + j)) start) in
+    let known = c.known_ends-known.ensures.within in
+    (known, omega arith, omega (arith, inside, all, few), omega (arith, known))

@@ -1,0 +1,23 @@
+//! What is settled early is settled for good.
+
+ghost use Rattle.std.specs.Prelude.{◌≡◌, ℕ, ◌+◌, ◌<◌, IsTrue, List, Some};
+ghost use Rattle.audit_model.specs.Job.{Job};
+ghost use Rattle.audit_model.specs.Run.{IsRight, has_id};
+ghost use Rattle.audit_model.specs.Stopping.{end_values, known_values, settled, stop_of};
+ghost use Rattle.audit_model.specs.Trajectory.{Draws, sequence};
+ghost use Rattle.audit_model.specs.declared.outcome.Outcome.{Outcome};
+ghost use Rattle.audit_model.specs.declared.outcome.Stop.{Stop};
+ghost use Rattle.audit_model.specs.declared.setting.Ask.{Ask};
+
+/// Where the outcomes that are there are what their trajectories find, what they settle is the stop of all ends that one thread finds.
+pub fn settled_stops_are_final()
+    ensures { (job : Job) (draws : Draws) (place : ℕ) (ask : Ask) (enough : ℕ) (outcomes : List Outcome) (s : Stop) → IsRight job draws outcomes →
+        settled job (place, ask) enough outcomes ≡ Some s → s ≡ stop_of job (place, ask) (end_values job place (sequence job draws)) enough }
+{}
+
+/// Where no end is missing, the test has stopped.
+pub fn all_ends_settle()
+    ensures { (job : Job) (place : ℕ) (ask : Ask) (enough : ℕ) (outcomes : List Outcome) →
+        ((j : ℕ) → j < job.setting.ends → IsTrue (has_id outcomes (job.setting.walks + j))) →
+        settled job (place, ask) enough outcomes ≡ Some (stop_of job (place, ask) (known_values job place outcomes) enough) }
+{}

@@ -1,0 +1,171 @@
+//! Where a test stops that stops early, as far as the ends that are there tell.
+
+ghost use Rattle.std.specs.Prelude.{◌≡◌, ◌≢◌, ℕ, ◌+◌, ◌-◌, ◌<◌, ◌≤◌, length, pos, IfSome};
+ghost use Rattle.std.specs.List.{slice_get, AllPairs};
+ghost use Rattle.audit_model.specs.Job.{Job as JobValue};
+ghost use Rattle.audit_model.specs.Stopping.{settled};
+ghost use Rattle.audit_model.specs.Trajectory as trajectory;
+ghost use Rattle.audit_model.specs.declared.setting.Ask.{Ask};
+ghost use Rattle.sequential_test.specs.Ranks.{ends_below, tails_below};
+
+use audit_model::outcome::{Outcome, Stop};
+use audit_model::setting::Tail;
+use outlier_tests::in_tail;
+use plan_core::job::Job;
+
+/// A score's place among the asks, the start's value, the tail that it is tested in, and how many outlier walks come before the ends.
+#[derive(Clone, Copy)]
+struct EndTest {
+    walks: u32,
+    place: usize,
+    start: i64,
+    tail: Tail,
+}
+
+/// How many of the first `n` ends are there.
+fn count_ends(walks: u32, posted: &[Outcome], n: u32) -> usize
+    requires few { walks + n ≤ 100000 }
+    ensures { result ≡ ends_below walks posted.now n }
+{
+    posted
+        .iter()
+        .filter(|o| walks <= o.id && o.id < walks + n)
+        .count()
+}
+
+/// How many of the first `n` ends are there and in the tail.
+fn count_tail(test: EndTest, posted: &[Outcome], n: u32) -> usize
+    requires few { test.walks + n ≤ 100000 }
+    requires place { test.place < 4 }
+    ensures { result ≡ tails_below test.walks test.place test.tail test.start posted.now n }
+{
+    let mut count = 0;
+    for o in posted {
+        let inside = test.walks <= o.id && o.id < test.walks + n;
+        if inside && in_tail(test.tail, o.values[test.place], test.start) {
+            count += 1;
+        }
+    }
+    count
+}
+
+/// The most ends by rising id of which none is missing: so many that as many outcomes have their ids, while one more are not all there.
+fn known_ends(walks: u32, ends: u32, posted: &[Outcome]) -> u32
+    requires few { walks + ends ≤ 100000 }
+    ensures within { result ≤ ends }
+    ensures known { ends_below walks posted.now result ≡ result }
+    ensures gap { result < ends → ends_below walks posted.now (result + 1) ≢ result + 1 }
+{
+    let mut known = 0;
+    let mut short = ends + 1;
+    while short - known > 1 {
+        let middle = known + (short - known) / 2;
+        if count_ends(walks, posted, middle) == middle as usize {
+            known = middle;
+        } else {
+            short = middle;
+        }
+    }
+    known
+}
+
+/// The first of the places up to `known` at which enough ends are in the tail.
+fn tail_place(test: EndTest, known: u32, enough: usize, posted: &[Outcome]) -> u32
+    requires few { test.walks + known ≤ 100000 }
+    requires place { test.place < 4 }
+    requires some { 1 ≤ enough }
+    requires reached { enough ≤ tails_below test.walks test.place test.tail test.start posted.now known }
+    ensures within { (1 ≤ result) × (result ≤ known) }
+    ensures reached { enough ≤ tails_below test.walks test.place test.tail test.start posted.now result }
+    ensures before { tails_below test.walks test.place test.tail test.start posted.now (result - 1) < enough }
+{
+    let mut few = 0;
+    let mut place = known;
+    while place - few > 1 {
+        let middle = few + (place - few) / 2;
+        if count_tail(test, posted, middle) < enough {
+            few = middle;
+        } else {
+            place = middle;
+        }
+    }
+    place
+}
+
+/// As `settle`, for the ask at `place` among those of a job with so many walks and ends, whose start has the value `start`. It finds by
+/// halving how many ends come before the first that is missing, and where enough of them are in the tail, with one look at all outcomes at
+/// each half.
+fn settle_values(
+    walks: u32,
+    ends: u32,
+    tail: Tail,
+    start: i64,
+    place: usize,
+    h: u32,
+    posted: &[Outcome],
+) -> Option<Stop>
+    requires few { walks + ends ≤ 100000 }
+    requires place { place < 4 }
+    requires some { 1 ≤ h }
+    requires apart { AllPairs (λ a b. a.id ≡ b.id → ⊥) posted.now }
+    ensures settled { (job : JobValue) (ask : Ask) → job.setting.walks ≡ walks → job.setting.ends ≡ ends → ask.tail ≡ tail →
+        trajectory.plan_value job job.start ask.score ≡ start → result ≡ settled job (place, ask) h posted.now }
+    ensures part { IfSome result (λ s. (s.place ≤ ends) × (1 ≤ s.top) × (s.top ≤ s.of) × (s.of ≤ ends + 1)) }
+{
+    let test = EndTest {
+        walks,
+        place,
+        start,
+        tail,
+    };
+    let known = known_ends(walks, ends, posted);
+    let inside = count_tail(test, posted, known);
+    if inside >= h as usize {
+        let place = tail_place(test, known, h as usize, posted);
+        return Some(Stop {
+            place,
+            top: h,
+            of: place,
+        });
+    }
+    if known < ends {
+        return None;
+    }
+    Some(Stop {
+        place: known,
+        top: inside as u32 + 1,
+        of: known + 1,
+    })
+}
+
+/// What the outcomes that are there settle for an ask: the place at which Besag and Clifford's test stops that needs `h` ends in the tail,
+/// and its p-value as a fraction. The outcomes may be in any order, and some may be past that place.
+///
+/// Only ends by rising id up to the first that is missing count. Where `h` of these are in the tail, the place is the least number of them
+/// among which there are `h`, and the fraction is `h` out of that number. Where fewer are and none is missing, the place is the number of
+/// all ends, and the fraction is one more than are in the tail out of one more than there are. Elsewhere nothing is settled: `None`. It
+/// takes no memory.
+pub fn settle(job: &Job, ask: u32, h: u32, posted: &[Outcome]) -> Option<Stop>
+    requires ask { ask < length job.now.setting.asks }
+    requires some { 1 ≤ h }
+    requires apart { AllPairs (λ a b. a.id ≡ b.id → ⊥) posted.now }
+    ensures settled { IfSome (slice_get job.now.setting.asks ask) (λ asked. result ≡ settled job.now (ask, asked) h posted.now) }
+    ensures part { IfSome result (λ s. (s.place ≤ job.now.setting.ends) × (1 ≤ s.top) × (s.top ≤ s.of) × (s.of ≤ job.now.setting.ends + 1)) }
+{
+    let _units = job.units();
+    let setting = job.setting();
+    let place = ask as usize;
+    let tail = setting.asks.as_slice()[place].tail;
+    settle_values(
+        setting.walks,
+        setting.ends,
+        tail,
+        job.start_value(ask),
+        place,
+        h,
+        posted,
+    )
+}
+
+#[cfg(test)]
+mod tests;
