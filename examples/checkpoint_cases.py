@@ -3,8 +3,8 @@
 Usage: python3 checkpoint_cases.py FOLDER
        python3 checkpoint_cases.py --files FOLDER
 FOLDER has the file `slots` and the files that it names, as crates/audit_cases/data. The first prints the text. The second writes the files
-of the slots that are no good checkpoint, each with one fault alone, and of three that are. Words that are refused are known only by the values of
-the names that this is about, and a graph is refused only where it is no JSON. Checkpoints and trajectories are those of checkpoints.py.
+of the slots that are no good checkpoint, each with one fault alone, and of some that are, in both versions of the format. Words that are
+refused are known only by the values of the names that this is about, and a graph is refused only where it is no JSON. Checkpoints and trajectories are those of checkpoints.py.
 """
 import hashlib
 import json
@@ -13,10 +13,10 @@ import struct
 import sys
 from collections import namedtuple
 
-from checkpoints import (MOST_BYTES, Setting, binned_checkpoint, binned_records, checkpoint, digest, fault, fits, generation_and_count, job_of, record,
-                         records, sealed)
+from checkpoints import (MOST_BYTES, Setting, checkpoint, digest, fault, fits, generation_and_count, job_of, old_checkpoint, record, records,
+                         sealed)
 from compare import expected
-from compare_walks import outcomes, report_of
+from compare_walks import NO_BINS, outcomes, report_of
 
 Slot = namedtuple("Slot", "fault job generation found")
 End = namedtuple("End", "status begun out note")
@@ -53,11 +53,11 @@ class Keeper:
 def looked(setting, wanted, data):
     """What a slot is for the job with this digest."""
     why = "absent" if data is None else fault(data)
-    if why is None and data[12:44] == wanted and not all(fits(setting, *one) for one in binned_records(data)):
+    if why is None and data[12:44] == wanted and not all(fits(setting, *one) for one in records(data)):
         why = "unfit"
     if why:
         return Slot(why, None, None, None)
-    return Slot(None, data[12:44], generation_and_count(data)[0], {one[0]: (one[1], one[2:]) for one in records(data)})
+    return Slot(None, data[12:44], generation_and_count(data)[0], {one[0]: (one[1], one[2:6], one[6:]) for one in records(data)})
 
 
 def newest(slots):
@@ -68,8 +68,15 @@ def newest(slots):
     return intact[0] if intact else None
 
 
+def taken_up(setting, job, found):
+    """What a run goes on from: bare outcomes where it asks for no bins, and else those that have theirs."""
+    if not job.shift:
+        return {number: (moved, values, NO_BINS) for number, (moved, values, _) in found.items()}
+    return {number: one for number, one in found.items() if number >= setting.walks or any(one[2])}
+
+
 def resumed(slots, wanted):
-    """The outcomes that a run goes on from, or the note that refuses them."""
+    """The outcomes of the newest slot, or the note that refuses them."""
     if all(slot.fault == "absent" for slot in slots):
         return {}, None
     number = newest(slots)
@@ -91,13 +98,17 @@ def is_number(text):
 
 
 def bad_name(setting):
-    """The first of the last three names whose value is bad, in the order of their table."""
+    """The first of the last names whose value is bad, in the order of their table."""
     budget, save = setting.given.get("--budget", "100000"), setting.given.get("--save", "0")
     if not is_number(budget) or save == "0" and int(budget) < setting.total:
         return "--budget"
     if not is_number(save):
         return "--save"
-    return None if setting.given.get("--resume", "no") in ("yes", "no") else "--resume"
+    for name in ("--resume", "--shift"):
+        if setting.given.get(name, "no") not in ("yes", "no"):
+            return name
+    serial, plans = setting.given.get("--serial", "no"), setting.steps + 1
+    return None if serial == "no" or serial == "yes" and plans & plans - 1 == 0 else "--serial"
 
 
 def saved_in_turn(every, slots, keeper, wanted, founds):
@@ -123,6 +134,7 @@ def walked(setting, job, slots, keeper, room):
     found, refusal = resumed(slots, wanted) if is_resumed else ({}, None)
     if refusal:
         return End(8, 0, "", refusal)
+    found = taken_up(setting, job, found)
     every = dict(enumerate(outcomes(job, *setting.trajectories())))
     todo = [number for number in every if number not in found][:int(setting.given.get("--budget", "100000"))]
     posts = [{number: every[number] for number in todo[:count]} for count in range(len(todo) + 1)]
@@ -164,8 +176,9 @@ def audit(words, text, keeper, room):
 def shown(number, data):
     if data is None:
         return f"slot {number} absent"
-    found = records(data) if data[8:12] != b"\0\0\0\2" else None
-    ids = "" if found is None else " ".join([f" generation {generation_and_count(data)[0]} ids", *(str(one[0]) for one in found)])
+    found = records(data)
+    version = int.from_bytes(data[8:12], "big")
+    ids = "" if found is None else " ".join([f" version {version} generation {generation_and_count(data)[0]} ids", *(str(one[0]) for one in found)])
     return f"slot {number} {len(data)} bytes{ids} sha256 {hashlib.sha256(data).hexdigest()}"
 
 
@@ -188,17 +201,24 @@ def text_of(folder, line, before):
     return "\n".join(part.removesuffix("\n") for part in lines) + "\n", keeper.slots
 
 
-def damaged(words, text):
-    """Checkpoints of twelve walks on the cycle of four units: with one fault alone, and three good ones."""
+def parts_of(words, text):
+    """The digest of a job, and what its trajectories find, with bins and without."""
     setting = Setting(words.split())
     job = job_of(setting, text)
-    every, own = dict(enumerate(outcomes(job, *setting.trajectories()))), digest(job, setting)
+    bare = dict(enumerate(outcomes(job, *setting.trajectories())))
+    job.shift = True
+    return digest(job, setting), bare, dict(enumerate(outcomes(job, *setting.trajectories())))
+
+
+def damaged(words, text):
+    """Checkpoints of twelve walks on the cycle of four units: with one fault alone, and some good ones."""
+    own, every, binned = parts_of(words, text)
     five, ten = ({number: every[number] for number in range(count)} for count in (5, 10))
     front = checkpoint(own, 0, five)[:-32]
-    moved, values = every[0]
+    moved, values, _ = every[0]
 
-    def of_one(number, moves, counts):
-        return checkpoint(own, 0, {number: (moves, counts)})
+    def of_one(number, moves, counts, bins=NO_BINS):
+        return checkpoint(own, 0, {number: (moves, counts, bins)})
 
     some = {number: every[number] for number in (1, 3, 11)}
     return {
@@ -207,22 +227,37 @@ def damaged(words, text):
         "bad_version": sealed(front[:8] + struct.pack(">I", 3) + front[12:]),
         "bad_generation": checkpoint(own, 3, five),
         "bad_count": sealed(front[:48] + struct.pack(">I", 6) + front[52:]),
-        "bad_order": sealed(front[:48] + struct.pack(">I", 2) + 2 * record(0, moved, values)),
+        "bad_width": sealed(front[:8] + struct.pack(">I", 1) + front[12:]),
+        "bad_order": sealed(front[:48] + struct.pack(">I", 2) + 2 * (record(0, moved, values) + bytes(36))),
         "unfit_id": of_one(12, moved, values),
         "unfit_moves": of_one(0, 9, values),
         "unfit_visits": of_one(0, moved, [10]),
         "unfit_value": of_one(0, moved, [*values, 1]),
+        "unfit_bins": of_one(0, moved, values, [0, 0, 0, 7, 3, 0, 0, 0, 0]),
         "five": checkpoint(own, 1, five),
         "ten": checkpoint(own, 0, ten),
         "gaps": checkpoint(own, 2, some),
-        "binned": binned_checkpoint(own, 1, {number: (*every[number], [0, 0, 0, 7, 2, 0, 0, 0, 0]) for number in range(5)}),
-        "unfit_bins": binned_checkpoint(own, 1, {0: (*every[0], [0, 0, 0, 7, 3, 0, 0, 0, 0])}),
+        "old_five": old_checkpoint(own, 0, five),
+        "old_ten": old_checkpoint(own, 2, ten),
+        "mixed": checkpoint(own, 1, {**five, **{number: binned[number] for number in (1, 3, 11)}}),
+    }
+
+
+def damaged_ends(words, text):
+    """Checkpoints of three walks and five other trajectories, of which one has bins, or none."""
+    own, every, binned = parts_of(words, text)
+    number = 3
+    return {
+        "unfit_end": checkpoint(own, 0, {**binned, number: (*every[number][:2], [0, 0, 0, 0, 9, 0, 0, 0, 0])}),
+        "ends": checkpoint(own, 0, {one: every[one] for one in (0, 3, 4)}),
     }
 
 
 def write_files(folder):
     words = ("run --pop pop --first a --second b --district d --slack 5000 --walks 12 --steps 8 --ask gap:low --key " + 64 * "0")
-    for name, data in damaged(words, (folder / "cycle.json").read_text()).items():
+    ends = words.replace("--walks 12", "--walks 3 --ends 5 --hub-steps 8")
+    text = (folder / "cycle.json").read_text()
+    for name, data in {**damaged(words, text), **damaged_ends(ends, text)}.items():
         (folder / f"{name}.hex").write_text(data.hex() + "\n")
 
 

@@ -2,8 +2,8 @@
 
 Usage: python3 checkpoints.py WORDS.. < GRAPH
 WORDS are those of the program's commands `run` and `make`; `make` reads no graph. Prints the job's digest and, in hexadecimal digits,
-the checkpoint of generation 0 with the outcomes of all trajectories. The trajectories are those of compare_walks.py, the graph is what
-networkx reads, and the digests are hashlib's.
+the checkpoint of generation 0 with the outcomes of all trajectories, with their bins where `--shift yes` is said. The trajectories are
+those of compare_walks.py, the graph is what networkx reads, and the digests are hashlib's.
 """
 import hashlib
 import json
@@ -64,7 +64,10 @@ def job_of_grid(setting):
 
 
 def job_of(setting, text):
-    return job_of_grid(setting) if setting.command == "make" else job_of_graph(setting, json.loads(text))
+    job = job_of_grid(setting) if setting.command == "make" else job_of_graph(setting, json.loads(text))
+    job.shift = setting.given.get("--shift") == "yes"
+    job.serial = setting.given.get("--serial") == "yes"
+    return job
 
 
 def digest(job, setting):
@@ -88,19 +91,19 @@ def sealed(front):
     return front + hashlib.sha256(front).digest()
 
 
-def binned_checkpoint(job_digest, generation, found):
-    """The bytes of a checkpoint of the second version, given as a map from the id to the moves, the values and the bins."""
+def checkpoint(job_digest, generation, found):
+    """The bytes of a checkpoint of the second version of outcomes, given as a map from the id to the moves, the values and the bins."""
     head = b"DISTCKPT" + struct.pack(">I", 2) + job_digest + struct.pack(">2I", generation, len(found))
     return sealed(head + b"".join(record(number, *found[number][:2]) + struct.pack(">9I", *found[number][2]) for number in sorted(found)))
 
 
-def checkpoint(job_digest, generation, found):
-    """The bytes of a checkpoint of outcomes, given as a map from the id to the moves and the values."""
+def old_checkpoint(job_digest, generation, found):
+    """The same of the first version, which has no bins."""
     head = b"DISTCKPT" + struct.pack(">I", 1) + job_digest + struct.pack(">2I", generation, len(found))
-    return sealed(head + b"".join(record(number, *found[number]) for number in sorted(found)))
+    return sealed(head + b"".join(record(number, *found[number][:2]) for number in sorted(found)))
 
 
-def binned_records(data):
+def records(data):
     """The records of a checkpoint of either version, each the id, the moves, four values and nine bins, which the first version lacks; None
     where its length is not that of its count."""
     second = data[8:12] == b"\0\0\0\2"
@@ -109,12 +112,6 @@ def binned_records(data):
     if second:
         return list(struct.iter_unpack(">IQ4q9I", data[52:-32]))
     return [one + (0,) * 9 for one in struct.iter_unpack(">IQ4q", data[52:-32])]
-
-
-def records(data):
-    """The same without the bins."""
-    found = binned_records(data)
-    return None if found is None else [one[:6] for one in found]
 
 
 def generation_and_count(data):

@@ -2,10 +2,12 @@
 
 Usage: python3 compare_chains.py PROGRAM [GRAPHS [SEED [WORKERS [SAVE]]]]
 PROGRAM is the built program. Graphs, plans and keys are drawn as in compare_walks.py (20, if not said). WORKERS and SAVE fix the number of
-workers and of walks after which a run saves, which are drawn elsewhere. Each audit is made once in one
-piece, and once as a chain of runs over real files in a folder of its own: each run has a drawn budget, a drawn number of workers and a drawn
-number of walks after which it saves, some are killed (as by kill -9) after a drawn time, and after some a drawn byte of a drawn file is changed. A
-run that finds no intact file is begun afresh. The newest file never has fewer outcomes after a run that resumed than before it.
+workers and of walks after which a run saves, which are drawn elsewhere. Each audit is made once as a chain
+of runs over real files in a folder of its own, and once in one piece: each run of the chain has a drawn budget, a drawn number of workers and a
+drawn number of walks after which it saves, half are asked for the serial test and half for the tally of seats, some are killed (as by kill -9)
+after a drawn time, and after some a drawn byte of a drawn file is changed, or all files are written again in the first version of the format,
+without bins. A run that finds no intact file is begun afresh. The run in one piece is asked for the serial test and the tally where the last run
+of the chain was. The newest file never has fewer outcomes that a resumed run may go on from after it than before it.
 Ends with status 0 where all reports are the same, and prints how many runs there were.
 """
 import pathlib
@@ -15,7 +17,7 @@ import sys
 import tempfile
 
 import compare_walks
-from checkpoints import fault, generation_and_count
+from checkpoints import fault, generation_and_count, old_checkpoint, records
 
 SLOTS = ("audit-0.ckpt", "audit-1.ckpt")
 
@@ -37,13 +39,29 @@ def spoil(chance, folder):
         file.write_bytes(content)
 
 
-def saved(folder):
-    """How many outcomes the newest file has, 0 where no file is intact."""
+def intact(folder):
+    """The bytes of each file, or None where it is not intact."""
     files = [pathlib.Path(folder, name) for name in SLOTS]
-    heads = [generation_and_count(file.read_bytes()) if file.exists() and fault(file.read_bytes()) is None else None for file in files]
-    if None in heads:
-        return max(head[1] if head else 0 for head in heads)
-    return heads[1][1] if heads[1][0] == (heads[0][0] + 1) % 3 else heads[0][1]
+    return [file.read_bytes() if file.exists() and fault(file.read_bytes()) is None else None for file in files]
+
+
+def age(folder):
+    """Writes all intact files in the first version of the format, without bins."""
+    for name, data in zip(SLOTS, intact(folder)):
+        if data:
+            found = {one[0]: (one[1], one[2:6]) for one in records(data)}
+            pathlib.Path(folder, name).write_bytes(old_checkpoint(data[12:44], generation_and_count(data)[0], found))
+
+
+def saved(folder, walks, shift):
+    """How many outcomes of the newest file a run goes on from, 0 where no file is intact."""
+    files = intact(folder)
+    if None in files:
+        newest = files[0] or files[1]
+    else:
+        first, second = (generation_and_count(data)[0] for data in files)
+        newest = files[1] if second == (first + 1) % 3 else files[0]
+    return sum(shift == "no" or one[0] >= walks or any(one[6:]) for one in records(newest)) if newest else 0
 
 
 def run(program, words, text, folder, limit):
@@ -55,30 +73,35 @@ def run(program, words, text, folder, limit):
     return done.returncode, done.stdout, done.stderr
 
 
-def chain(chance, program, words, text, folder, counts, fixed):
-    """The output of the run of a chain that ends with status 0."""
+def chain(chance, program, words, walks, text, folder, counts, fixed):
+    """The output of the run of a chain that ends with status 0, and the words that asked this run for the serial test and the tally."""
     resume = "no"
     while True:
+        shift, serial = chance.choice(("no", "yes")), chance.choice(("no", "yes"))
+        asked = ["--shift", shift, "--serial", serial]
         workers, save = fixed[0] or str(chance.randint(1, 4)), fixed[1] or str(chance.randint(1, 3))
-        more = ["--save", save, "--resume", resume, "--budget", str(chance.randint(0, 30)), "--workers", workers]
+        more = [*asked, "--save", save, "--resume", resume, "--budget", str(chance.randint(0, 30)), "--workers", workers]
         limit = chance.uniform(0.001, 0.03) if chance.random() < 0.6 else 60
-        before = saved(folder)
+        before = saved(folder, walks, shift)
         answer = run(program, words + more, text, folder, limit)
         counts["runs"] += 1
-        if resume == "yes" and saved(folder) < before:
-            return f"a resumed run left {saved(folder)} of {before} outcomes"
+        left = saved(folder, walks, shift)
+        if resume == "yes" and left < before:
+            return f"a resumed run left {left} of {before} outcomes", asked
         if answer is None:
             counts["killed"] += 1
-            counts["within"] += saved(folder) > before
+            counts["within"] += left > before
         elif answer[0] == 0:
-            return answer[1]
+            return answer[1], asked
         elif answer[0] == 8:
             counts["refused"] += 1
         elif answer[0] != 7:
-            return f"status {answer[0]}: {answer[2]}"
+            return f"status {answer[0]}: {answer[2]}", asked
         resume = "no" if answer is not None and answer[0] == 8 else "yes"
         if chance.random() < 0.1:
             spoil(chance, folder)
+        if chance.random() < 0.1:
+            age(folder)
 
 
 def main(program, graphs="20", seed="1", workers="", save=""):
@@ -88,12 +111,12 @@ def main(program, graphs="20", seed="1", workers="", save=""):
     counts = {"runs": 0, "killed": 0, "within": 0, "refused": 0}
     for number in range(int(graphs)):
         job = compare_walks.drawn_job(chance)
-        numbers = (chance.randint(1, 30), chance.randint(20, 20000), chance.randint(0, 20), chance.randint(10, 5000))
+        numbers = (chance.randint(1, 30), 2 ** chance.randint(5, 14) - 1, chance.randint(0, 20), chance.randint(10, 5000))
         asks = [(score, chance.choice(("low", "high"))) for score in ("seats", "mean-median", "gap", "cut-edges")]
         words, text = words_of(job, numbers, asks), compare_walks.document(job)
         with tempfile.TemporaryDirectory() as folder:
-            wanted = run(program, words, text, folder, 600)
-            found = chain(chance, program, words, text, folder, counts, (workers, save))
+            found, asked = chain(chance, program, words, numbers[0], text, folder, counts, (workers, save))
+            wanted = run(program, [*words, *asked], text, folder, 600)
         if wanted[0] == 0 and found == wanted[1]:
             same += 1
         else:

@@ -2,8 +2,9 @@
 
 Usage: python3 compare_walks.py PROGRAM [GRAPHS [SEED]]
 PROGRAM is the built program. Each graph (20, if not said) is a drawn grid with diagonals and holes, with drawn districts, populations
-and votes, as networkx writes it; half of them have a drawn limit on cut edges. The plain program here keeps nothing along a walk: for
-each proposal it builds the changed plan, asks networkx whether each of its districts is connected, adds up populations, counts the cut
+and votes, as networkx writes it; half of them have a drawn limit on cut edges, half the serial test, and half the tally of seats. The plain
+program here keeps nothing along a walk: for each proposal it builds the changed plan, asks networkx whether each of its districts is connected,
+adds up populations, counts the cut
 edges, and computes each score from all units and edges again.
 Ends with status 0 where all reports are the same, and prints how many were.
 """
@@ -18,6 +19,7 @@ import networkx
 
 BILLION = 10 ** 9
 NO_LIMIT = 400_000
+NO_BINS = [0] * 9
 
 
 def quarter(x, a, b, c, d):
@@ -55,6 +57,8 @@ class Job:
         self.units = len(plan)
         self.total = sum(people)
         self.max_cut = max_cut
+        self.shift = False
+        self.serial = False
 
     def cut_edges(self, plan):
         return sum(plan[u] != plan[v] for u, v in self.graph.edges)
@@ -122,39 +126,67 @@ def is_inside(value, start, tail):
 
 def outcomes(job, walks, steps, ends, hub_steps, asks):
     """The moves of each trajectory by rising id, and a number for each ask: of a walk how many of the visited plans are in the
-    tail, of a trajectory from the hub its last plan's value."""
+    tail, of a trajectory from the hub its last plan's value. Of a walk whose job asks for them nine bins as well, else nine zeros."""
     start = [job.value(job.plan, score) for score, _ in asks]
     found = []
     for walk in range(walks):
         visited, moved = job.walk(job.plan, 2 * walk, steps)
         found.append((moved, [sum(is_inside(job.value(plan, score), first, tail) for plan in visited)
-                              for first, (score, tail) in zip(start, asks)]))
+                              for first, (score, tail) in zip(start, asks)], bins(job, visited) if job.shift else NO_BINS))
     hub = job.walk(job.plan, 1, hub_steps)[0][-1] if ends else None
     for end in range(ends):
         visited, moved = job.walk(hub, 2 * end + 3, hub_steps)
-        found.append((moved, [job.value(visited[-1], score) for score, _ in asks]))
+        found.append((moved, [job.value(visited[-1], score) for score, _ in asks], NO_BINS))
     return found
+
+
+def bins(job, visited):
+    """How many of the visited plans have 4 seats fewer than the start or less, 3 fewer, and so on to 4 more or above."""
+    differences = [job.value(plan, "seats") - job.value(job.plan, "seats") for plan in visited]
+    return [sum(max(-4, min(4, difference)) == wanted for difference in differences) for wanted in range(-4, 5)]
 
 
 def report_of(job, walks, steps, ends, hub_steps, asks, found):
     """The report that these outcomes make."""
     low = -(-(10000 - job.slack) * job.total // (10000 * job.districts))
     high = (10000 + job.slack) * job.total // (10000 * job.districts)
-    lines = ["district-audit 1", "key " + job.key.hex(),
+    lines = [f"district-audit {2 if job.shift else 1}", "key " + job.key.hex(),
              f"units {job.units} edges {job.graph.number_of_edges()} districts {job.districts}",
              f"population {job.total} slack {job.slack} low {low} high {high}",
              *([f"max-cut {job.max_cut}"] if job.max_cut < NO_LIMIT else []),
              f"walks {walks} steps {steps} ends {ends} hub-steps {hub_steps}"]
     start = [job.value(job.plan, score) for score, _ in asks]
     words = [f"{score} {tail} start {first}/{job.denominator(score)}" for first, (score, tail) in zip(start, asks)]
-    for walk, (moved, counts) in enumerate(found[:walks]):
+    for walk, (moved, counts, _) in enumerate(found[:walks]):
         for ask, count in zip(words, counts):
             lines.append(f"walk {walk} moved {moved} {ask} count {count} of {steps + 1}"
                          f" bound {billionths(bound(count, steps + 1))}")
+    if job.shift:
+        lines.append(" ".join(["shift", *(str(sum(column)) for column in zip(*(one[2] for one in found)))]))
     for place, (_, tail) in enumerate(asks if ends else []):
-        rank = 1 + sum(is_inside(values[place], start[place], tail) for _, values in found[walks:])
+        rank = 1 + sum(is_inside(values[place], start[place], tail) for _, values, _ in found[walks:])
         lines.append(f"ends {words[place]} rank {rank} of {ends + 1} p {billionths(-(-rank * BILLION // (ends + 1)))}")
+    lines += serial_lines(job, steps, asks, words) if job.serial else []
     return "\n".join(lines + ["end", ""])
+
+
+def serial_plans(job, steps):
+    """The place of the start plan, and the plans of one run through it: backward from the start, and forward from it."""
+    place = next(draws(job.key, 2 ** 33)) % (steps + 1)
+    forward = job.walk(job.plan, 2 ** 33 + 1, place)[0]
+    backward = job.walk(job.plan, 2 ** 33 + 2, steps - place)[0]
+    return place, backward[:0:-1] + forward
+
+
+def serial_lines(job, steps, asks, words):
+    place, plans = serial_plans(job, steps)
+    assert len(plans) == steps + 1
+    lines = []
+    for (score, tail), ask in zip(asks, words):
+        start = job.value(job.plan, score)
+        rank = sum(is_inside(job.value(plan, score), start, tail) for plan in plans)
+        lines.append(f"serial {ask} place {place} rank {rank} of {steps + 1} p {billionths(-(-rank * BILLION // (steps + 1)))}")
+    return lines
 
 
 def report(job, *numbers_and_asks):
@@ -218,6 +250,10 @@ def found(program, job, numbers, asks, workers):
         words += [name, str(number)]
     if job.max_cut < NO_LIMIT:
         words += ["--max-cut", str(job.max_cut)]
+    if job.shift:
+        words += ["--shift", "yes"]
+    if job.serial:
+        words += ["--serial", "yes"]
     run = subprocess.run([program, *words], input=document(job), capture_output=True, text=True)
     return run.stdout + run.stderr
 
@@ -227,7 +263,9 @@ def main(program, graphs="20", seed="1"):
     same = moved = 0
     for number in range(int(graphs)):
         job = drawn_job(chance)
-        numbers = (chance.randint(1, 3), chance.randint(20, 120), chance.randint(0, 3), chance.randint(10, 60))
+        job.shift, job.serial = chance.random() < 0.5, chance.random() < 0.5
+        steps = 2 ** chance.randint(1, 7) - 1 if job.serial else chance.randint(20, 120)
+        numbers = (chance.randint(1, 3), steps, chance.randint(0, 3), chance.randint(10, 60))
         asks = [(score, chance.choice(("low", "high"))) for score in ("seats", "mean-median", "gap", "cut-edges")]
         chance.shuffle(asks)
         wanted = report(job, *numbers, asks)

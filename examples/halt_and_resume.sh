@@ -1,7 +1,8 @@
 #!/bin/bash
 # Halts and resumes a run of the real program over real files, and compares its report with that of one run without saving.
 #
-# Two runs end with their budget used up, and the third, resumed, writes the report; each saves after every second walk, and at its end.
+# Two runs end with their budget used up, and the third, resumed, writes the report; each saves after every second walk, and at its end. Then
+# runs go on from a checkpoint of the first version of the format, without the tally of seats and with it.
 # Says nothing and ends with 0 where all is as it has to be; else it says in one line on standard error what is not, and ends with 1.
 # The program is crates/audit_program/out/audit_program, which rt ci and rt run leave there; where it is not there, rt run builds it.
 
@@ -43,15 +44,35 @@ slot() {
 
 run first 7 "stopped: 5 of 12 done" --save 2 --budget 5
 [ ! -s "$room/first.out" ] || fail "the first run wrote a report"
-slot 0 304 first
-slot 1 260 first
+slot 0 484 first
+slot 1 404 first
 run second 7 "stopped: 10 of 12 done" --save 2 --budget 5 --resume yes
 [ ! -s "$room/second.out" ] || fail "the second run wrote a report"
-slot 0 480 second
-slot 1 524 second
+slot 0 804 second
+slot 1 884 second
 run third 0 "" --save 2 --budget 5 --resume yes
-slot 0 612 third
-slot 1 524 third
+slot 0 1044 third
+slot 1 884 third
 run whole 0 ""
 [ -s "$room/whole.out" ] || fail "the run without saving wrote no report"
 cmp -s "$room/third.out" "$room/whole.out" || fail "the report of the third run is not that of one run without saving"
+
+# Leaves the checkpoint of the first version in slot 0, and nothing in slot 1.
+begin_old() {
+    rm -f "$room"/slots/*
+    cp "$here/version_1.ckpt" "$room/slots/audit-0.ckpt" || fail "no checkpoint of the first version"
+}
+
+begin_old
+run old 0 "" --save 2 --resume yes
+slot 1 964 old
+slot 0 1044 old
+cmp -s "$room/old.out" "$room/whole.out" || fail "the report of the run from the first version is not that of one run without saving"
+begin_old
+run tally 7 "stopped: 5 of 12 done" --save 2 --budget 5 --resume yes --shift yes
+slot 1 484 tally
+run rest 0 "" --save 2 --resume yes --shift yes
+run binned 0 "" --shift yes
+cmp -s "$room/rest.out" "$room/binned.out" || fail "the report with the tally is not that of one run with it"
+run bare 0 "" --save 2 --resume yes
+cmp -s "$room/bare.out" "$room/whole.out" || fail "the report without the tally, from a checkpoint with bins, is not that of one run without saving"

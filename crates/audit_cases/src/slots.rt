@@ -1,6 +1,6 @@
 //! What is in a slot before a run, and how a slot is shown after it.
 
-ghost use Rattle.std.specs.Prelude.{◌<◌};
+ghost use Rattle.std.specs.Prelude.{◌<◌, ◌≤◌};
 
 use audit_io::mem_keeper::MemKeeper;
 use audit_model::buffers::Bytes;
@@ -60,7 +60,7 @@ fn spoilt(alloc: Global, bytes: &[u8]) -> Result<Bytes, Memory> {
     Ok(copy)
 }
 
-/// Shows a slot: its length, of a checkpoint its generation and the ids of its outcomes, and the digest of its bytes.
+/// Shows a slot: its length, of a checkpoint its version, its generation and the ids of its outcomes, and the digest of its bytes.
 pub fn show_slot<R: Print + AllocGlobal>(rt: &R, slot: u8, keeper: &MemKeeper) -> Result<(), Fail>
     requires { slot < 2 }
 {
@@ -71,19 +71,28 @@ pub fn show_slot<R: Print + AllocGlobal>(rt: &R, slot: u8, keeper: &MemKeeper) -
     let length = bytes.len();
     print!(rt; "slot {slot} {length} bytes")?;
     if let Some(records) = records_of(bytes) {
-        show_records(rt, number_at(bytes, 44).unwrap_or(0), records)?;
+        show_records(rt, bytes, records)?;
     }
     let digest = encode(rt.alloc(), Sha256::digest(bytes))?;
     println!(rt; " sha256 {digest}")?;
     Ok(())
 }
 
+// How many bytes an outcome has in a version.
+fn width_of(version: u32) -> usize
+    ensures some { 1 ≤ result }
+    ensures few { result ≤ 80 }
+{
+    if version == 2 { 80 } else { 44 }
+}
+
 // The records of outcomes, where there are as many bytes as their number says.
 fn records_of(bytes: &[u8]) -> Option<&[u8]> {
+    let width = width_of(number_at(bytes, 8)?);
     let count = number_at(bytes, 48)? as usize;
     let (_head, records_and_digest) = bytes.split_first_chunk::<52>()?;
     let (records, _digest) = records_and_digest.split_last_chunk::<32>()?;
-    if records.len() == 44 * count {
+    if records.len() == width * count {
         Some(records)
     } else {
         None
@@ -96,9 +105,11 @@ fn number_at(bytes: &[u8], place: usize) -> Option<u32> {
     Some(u32::from_be_bytes(*four))
 }
 
-fn show_records<R: Print>(rt: &R, generation: u32, records: &[u8]) -> io::Result<()> {
-    print!(rt; " generation {generation} ids")?;
-    for record in records.chunks_exact(44) {
+fn show_records<R: Print>(rt: &R, bytes: &[u8], records: &[u8]) -> io::Result<()> {
+    let version = number_at(bytes, 8).unwrap_or(0);
+    let generation = number_at(bytes, 44).unwrap_or(0);
+    print!(rt; " version {version} generation {generation} ids")?;
+    for record in records.chunks_exact(width_of(version)) {
         if let Some(id) = number_at(record, 0) {
             print!(rt; " {id}")?;
         }

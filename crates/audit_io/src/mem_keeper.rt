@@ -101,7 +101,7 @@ impl MemKeeper {
     // Leaves the first bytes of a save, or all where there are fewer, and counts nothing.
     pub(crate) fn leave_part(&mut self, slot: u8, bytes: &[u8], kept: u32)
         requires slot { slot < 2 }
-        requires few { length bytes.now ≤ 4400084 }
+        requires few { length bytes.now ≤ 8000084 }
         ensures { self.new ≡ with_part self.old slot bytes.now kept }
     {
         self.tried = self.tried.and(&Save {
@@ -160,7 +160,7 @@ impl Keeper for MemKeeper {
 
     fn save(&mut self, slot: u8, bytes: &[u8]) -> Result<(), Failed>
         requires slot { slot < 2 }
-        requires few { length bytes.now ≤ 4400084 }
+        requires few { length bytes.now ≤ 8000084 }
         ensures saved { OnOk result (HoldsBytes (Some self.new.slots) slot bytes.now) }
         ensures other { KeepsOther (Some self.old.slots) (Some self.new.slots) slot }
         ensures cause { HasCause self.old.save_faults self.new.save_faults result }

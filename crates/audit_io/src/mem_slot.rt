@@ -10,7 +10,7 @@ use std::alloc::Global;
 use std::marker::Model;
 
 /// The most bytes of a save.
-pub const MOST_SAVED: usize = 4_400_084;
+pub const MOST_SAVED: usize = 8_000_084;
 
 /// A slot, absent or a list of bytes, with room for every save.
 #[derive(Drop)]
@@ -27,7 +27,7 @@ impl Model for MemSlot {
 
     ghost view = { λ s. stored_if s.there s.bytes.items };
 
-    ghost invariant = { λ s. 4400084 ≤ length s.bytes.items + s.bytes.spare };
+    ghost invariant = { λ s. 8000084 ≤ length s.bytes.items + s.bytes.spare };
 }
 
 impl MemSlot {
@@ -81,7 +81,7 @@ impl MemSlot {
 
     /// Makes the slot hold these bytes.
     pub fn save(&mut self, bytes: &[u8])
-        requires { length bytes.now ≤ 4400084 }
+        requires { length bytes.now ≤ 8000084 }
         ensures { self.new ≡ Some bytes.now }
     {
         self.there = true;

@@ -69,7 +69,7 @@ impl Keeper for StopKeeper {
 
     fn save(&mut self, slot: u8, bytes: &[u8]) -> Result<(), Failed>
         requires slot { slot < 2 }
-        requires few { length bytes.now ≤ 4400084 }
+        requires few { length bytes.now ≤ 8000084 }
         ensures saved { OnOk result (HoldsBytes (Some self.new.inner.slots) slot bytes.now) }
         ensures other { KeepsOther (Some self.old.inner.slots) (Some self.new.inner.slots) slot }
         ensures cause { HasCause (min (self.old.inner.save_faults + self.old.faults) (2 ^ 64 - 1)) (min (self.new.inner.save_faults + self.new.faults) (2 ^ 64 - 1)) result }

@@ -10,7 +10,7 @@ use Rattle.audit_io.specs.Slots.{Pair, Stored, stored}
 use Rattle.audit_io.specs.Tries.{Try, tried_all}
 use Rattle.audit_model.specs.declared.outcome.Outcome.{Outcome}
 use Rattle.audit_model.specs.Job.{Job}
-use Rattle.audit_model.specs.Run.{fits, is_bare, has_id, run_ids, total}
+use Rattle.audit_model.specs.Run.{fits, has_id, run_ids, total}
 use Rattle.audit_model.specs.Trajectory.{outcome}
 use Rattle.checkpoint_definitions.specs.Checkpoint.{IsCheckpoint, checkpoint, job_digest}
 use Rattle.checkpoint_definitions.specs.Slots.{ours, slot_of}
@@ -96,7 +96,7 @@ module _ (parts : Parts) (plan : IsPlan parts) (todo_is : parts.todo ≡ run_ids
       → slot_of job (job_digest job) slot ≡ ours generation (saved_of part)
   read_as generation part slot of_todo s =
       ap (slot_of job (job_digest job)) s.bytes
-      ∙ ours_law job (checkpoint 1 (job_digest job) generation (saved_of part)) 1 (job_digest job) generation (saved_of part) s.sound (part_fits part of_todo)
+      ∙ ours_law job (checkpoint 2 (job_digest job) generation (saved_of part)) 2 (job_digest job) generation (saved_of part) s.sound (part_fits part of_todo)
 
   partly : (generation count : ℕ) (slot : Stored) → IsPartSave parts generation count slot → IsPartly job opening count generation slot
   partly generation count slot s = record {
@@ -136,7 +136,7 @@ module _ (parts : Parts) (plan : IsPlan parts) (todo_is : parts.todo ≡ run_ids
 
     in_turn_at : (p q : Pair) (at : Place) (count : ℕ) → desk.SavesInTurnAt parts p q posted at count → SavesInTurnAt job opening p q at count
     in_turn_at p q at count s = record {
-      last = s.last.bytes ∙ ap (λ (os : List Outcome). Some (checkpoint 1 (job_digest job) at.generation os)) whole;
+      last = s.last.bytes ∙ ap (λ (os : List Outcome). Some (checkpoint 2 (job_digest job) at.generation os)) whole;
       last_is = read_as at.generation posted (stored q at.slot) of_todo s.last ∙ ap (ours at.generation) whole;
       newest_is = s.newest;
       only = s.only;
@@ -173,7 +173,7 @@ module _ (parts : Parts) (plan : IsPlan parts) (todo_is : parts.todo ≡ run_ids
     generation = s.generation;
     count = length s.part;
     saved = saved_of s.part;
-    sound = subst (λ (bytes : List ℕ). IsCheckpoint bytes 1 (job_digest job) s.generation (saved_of s.part)) (sym s.bytes_are) s.sound;
+    sound = subst (λ (bytes : List ℕ). IsCheckpoint bytes 2 (job_digest job) s.generation (saved_of s.part)) (sym s.bytes_are) s.sound;
     holds = holds_part (length s.part) (saved_of s.part) (hold parts s.part plan s.of_todo);
   }
 
@@ -219,11 +219,11 @@ module _ (parts : Parts) (loads_now saves_now : ℕ) (slots_now : Option Pair) (
       IsPermutation-append_right parts.opening (map (found parts.job) (ids_of h.posted)) (map (found parts.job) parts.todo)
       (IsPermutation-map (found parts.job) (ids_of h.posted) parts.todo h.all)
 
-  pub all_outcomes : AreMapped → IsRun parts.job → AreFit parts.job parts.opening → All (λ o. IsTrue (is_bare o)) parts.opening → All (λ id. id < total parts.job) parts.todo → All (λ id. IsFalse (has_id parts.opening id)) parts.todo
+  pub all_outcomes : AreMapped → IsRun parts.job → AreFit parts.job parts.opening → All (λ id. id < total parts.job) parts.todo → All (λ id. IsFalse (has_id parts.opening id)) parts.todo
       → AreAll parts.job parts.opening sorted
   unfolding walks.found found
-  all_outcomes mapped run fit bare within absent =
-      are_all parts.job run parts.opening parts.opening parts.todo sorted refl fit bare todo_is within
+  all_outcomes mapped run fit within absent =
+      are_all parts.job run parts.opening parts.opening parts.todo sorted refl fit todo_is within
       (λ budget ids.
       h.sorted_is
       ∙ by_id-full mapped parts.job parts.opening (booked parts h.posted) parts.todo budget (rising_apart parts.opening fit.rising) absent ids moved_all)

@@ -12,6 +12,7 @@ use Rattle.audit_model.specs.declared.setting.Command.TheVariants.{Check, Run, M
 use Rattle.audit_model.specs.declared.setting.Setting.{Setting}
 use Rattle.audit_model.specs.Job.{Job}
 use Rattle.audit_model.specs.Run.{total}
+use Rattle.audit_model.specs.Serially.{serial_told}
 use Rattle.checkpoint_definitions.specs.Checkpoint.{job_digest}
 use Rattle.ckpt_store.specs.declared.slots.Slots.{Slots}
 use Rattle.ckpt_store.specs.Looked.{AreSlots}
@@ -177,7 +178,7 @@ walking_text Make whole job before after w r = r
 walking_text Plans whole job before after w r = r
 
 module _ (job : Job) (run : IsRun job) (opening outcomes : List Outcome) (all : AreAll job opening outcomes) (out out' : Stream) (k l : Kept) (opened : IsOpening job k.slots opening) where
-  report_written : (whole : Bool) (before after : Stream) → total job ≤ length outcomes → Writes whole out.bytes out'.bytes (report job outcomes [] None)
+  report_written : (whole : Bool) (before after : Stream) → total job ≤ length outcomes → Writes whole out.bytes out'.bytes (report job outcomes [] (serial_told job (draw job.setting.key)))
       → WritesReport whole job (world before out k) (world after out' l)
   report_written whole before after none w = record {
     outcomes = opening;
@@ -187,7 +188,7 @@ module _ (job : Job) (run : IsRun job) (opening outcomes : List Outcome) (all : 
         (subst (λ (text : List ℕ). Writes whole out.bytes out'.bytes text) (plain_report job run.plain (draw job.setting.key) outcomes) w);
   }
 
-  text_written : (whole : Bool) (before after : Stream) → total job ≤ length outcomes → Writes whole out.bytes out'.bytes (report job outcomes [] None)
+  text_written : (whole : Bool) (before after : Stream) → total job ≤ length outcomes → Writes whole out.bytes out'.bytes (report job outcomes [] (serial_told job (draw job.setting.key)))
       → WritesText job.setting.command whole job (world before out k) (world after out' l)
   text_written whole before after none w =
       walking_text job.setting.command whole job (world before out k) (world after out' l) run.walking (report_written whole before after none w)
@@ -245,7 +246,7 @@ module _ (job : Job) (run : IsRun job) (opening outcomes : List Outcome) (all : 
   failed_saves false f s = let never : Err f ≡ Ok tt = s.1 in cc
 
   -- the report was written whole
-  done_ends : total job ≤ length outcomes → Appends out.bytes out'.bytes (report job outcomes [] None) → out'.faults ≡ out.faults → SavedBy (saves job.setting) job opening k l (Ok tt)
+  done_ends : total job ≤ length outcomes → Appends out.bytes out'.bytes (report job outcomes [] (serial_told job (draw job.setting.key))) → out'.faults ≡ out.faults → SavedBy (saves job.setting) job opening k l (Ok tt)
       → Finishes job out out' k l ended.Done
   done_ends whole w writes s = λ words before after p. record {
     cause = record {
@@ -261,7 +262,7 @@ module _ (job : Job) (run : IsRun job) (opening outcomes : List Outcome) (all : 
   }
 
   -- a part of it was
-  write_fault_ends : (result : Result (Unit {0}) Failed) → total job ≤ length outcomes → AppendsPart out.bytes out'.bytes (report job outcomes [] None) → Rose out.faults out'.faults
+  write_fault_ends : (result : Result (Unit {0}) Failed) → total job ≤ length outcomes → AppendsPart out.bytes out'.bytes (report job outcomes [] (serial_told job (draw job.setting.key))) → Rose out.faults out'.faults
       → SavedBy (saves job.setting) job opening k l result → Finishes job out out' k l ended.WriteFault
   write_fault_ends result whole w writes s = λ words before after p. record {
     cause = record {
@@ -278,7 +279,7 @@ module _ (job : Job) (run : IsRun job) (opening outcomes : List Outcome) (all : 
   }
 
   -- the report was written whole, and the save had failed
-  save_fault_ends : (f : Failed) → total job ≤ length outcomes → Appends out.bytes out'.bytes (report job outcomes [] None) → out'.faults ≡ out.faults
+  save_fault_ends : (f : Failed) → total job ≤ length outcomes → Appends out.bytes out'.bytes (report job outcomes [] (serial_told job (draw job.setting.key))) → out'.faults ≡ out.faults
       → SavedBy (saves job.setting) job opening k l (Err f) → Finishes job out out' k l ended.SaveFault
   save_fault_ends f whole w writes s = λ words before after p.
       let saving = failed_saves (saves job.setting) f s in
@@ -303,7 +304,7 @@ module _ (job : Job) (run : IsRun job) (opening outcomes : List Outcome) (all : 
       }
 
   -- the end of a run that wrote its report, or a part
-  pub written_ends : (text : List ℕ) (written saved : Result (Unit {0}) Failed) → total job ≤ length outcomes → text ≡ report job outcomes [] None → WritesAllOf out out' text written
+  pub written_ends : (text : List ℕ) (written saved : Result (Unit {0}) Failed) → total job ≤ length outcomes → text ≡ report job outcomes [] (serial_told job (draw job.setting.key)) → WritesAllOf out out' text written
       → SavedBy (saves job.setting) job opening k l saved → Finishes job out out' k l (ended_by written saved)
   written_ends text (Ok done) (Ok saved) whole is w s =
       done_ends whole (subst (λ t. Appends out.bytes out'.bytes t) is w.0) w.1 s

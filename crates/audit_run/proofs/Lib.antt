@@ -6,7 +6,6 @@ pub mod Desked
 pub mod Ending
 pub mod Finished
 pub mod Following
-pub mod Found
 pub mod Judging
 pub mod Lines
 pub mod Listing
@@ -19,5 +18,7 @@ pub mod Saved
 pub mod Started
 pub mod Statuses
 pub mod Streams
+pub mod Surely
+pub mod Testing
 pub mod Visited
 pub mod Words

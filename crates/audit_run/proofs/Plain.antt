@@ -1,17 +1,16 @@
--- The report of a run that asks for nothing beside its walks and ends.
-use Rattle.std.proofs.Common.{◌≡◌, ℕ, Bool, List, [], Option, None, sym, ap, ◌∙◌}
+-- The report of a run whose tests do not stop early.
+use Rattle.std.proofs.Common.{◌≡◌, ℕ, List, [], sym, ap}
 use Rattle.audit_model.specs.declared.outcome.Outcome.{Outcome}
 use Rattle.audit_model.specs.Job.{Job}
-use Rattle.audit_model.specs.Serially.{serial_by, serial_told}
+use Rattle.audit_model.specs.Serially.{serial_told}
 use Rattle.audit_model.specs.Stopping.{stops_by, stops_of}
 use Rattle.audit_model.specs.Trajectory.{Draws}
 use Rattle.text_definitions.specs.Report.{full_report, report}
 use Rattle.audit_run.specs.Running.{HasDefaults}
 
--- no test stops early, and none is serial
-pub plain_report : (job : Job) → HasDefaults job.setting → (draws : Draws) (outcomes : List Outcome) → report job outcomes [] None ≡ full_report job draws outcomes
+-- no test stops early
+pub plain_report : (job : Job) → HasDefaults job.setting → (draws : Draws) (outcomes : List Outcome)
+    → report job outcomes [] (serial_told job draws) ≡ full_report job draws outcomes
 plain_report job plain draws outcomes =
     let stops : stops_of job outcomes ≡ [] = ap (λ (n : ℕ). stops_by n job outcomes) plain.no_stop in
-    let serial : serial_told job draws ≡ None = ap (λ (b : Bool). serial_by b job draws) plain.no_serial in
-    sym (ap (λ (found : List (List ℕ)). report job outcomes found (serial_told job draws)) stops
-    ∙ ap (λ (found : Option (ℕ × List ℕ)). report job outcomes [] found) serial)
+    sym (ap (λ (found : List (List ℕ)). report job outcomes found (serial_told job draws)) stops)

@@ -1,5 +1,5 @@
 -- Workers, budget, saving and resuming change nothing of what a job finds; chains of its runs.
-use Rattle.std.proofs.Common.{◌≡◌, ℕ, zero, suc, ◌+◌, ◌-◌, ◌*◌, ◌==◌, ◌⊎◌, inl, inr, ◌&&◌, ◌||◌, not, Bool, true, false, List, [], ◌∷◌, ◌++◌, length, map, drop, get_or, Option, Some, None, refl, sym, ap, ◌∙◌, subst}
+use Rattle.std.proofs.Common.{◌≡◌, ℕ, zero, suc, ◌+◌, ◌-◌, ◌*◌, ◌==◌, ◌⊎◌, inl, inr, ◌&&◌, ◌||◌, not, Bool, true, false, List, [], ◌∷◌, ◌++◌, length, map, drop, take, replicate, get_or, Option, Some, None, refl, sym, ap, ◌∙◌, subst}
 use Rattle.std.specs.Prelude.{bytes_eq, codes, int_le, nat_le, nat_lt, pos, slice_range}
 use Rattle.std.specs.Prelude.{flat_map}
 use Rattle.std.specs.Int.{to_be_bytes, w32}
@@ -13,6 +13,7 @@ use Rattle.audit_io.specs.Faults.{Rose}
 use Rattle.audit_io.specs.Slots.{Pair, Stored}
 use Rattle.audit_io.specs.Tries.{Try}
 use Rattle.audit_model.specs.declared.outcome.Outcome.{Outcome}
+use Rattle.audit_model.specs.declared.outcome.Serial.{Serial}
 use Rattle.audit_model.specs.declared.setting.Ask.{Ask}
 use Rattle.audit_model.specs.declared.fault.CkptFault.{CkptFault}
 use Rattle.audit_model.specs.Below.{all_below, count_below, map_below}
@@ -20,8 +21,9 @@ use Rattle.audit_model.specs.First.{first_below}
 use Rattle.audit_model.specs.Job.{Job}
 use Rattle.audit_model.specs.Plan.{is_legal}
 use Rattle.audit_model.specs.Run.{IsHonest, bins_fit, fits, steps_of, total}
+use Rattle.audit_model.specs.Serially.{place_and_ranks, serial_by, serial_of, serial_place, serial_rank}
 use Rattle.audit_model.specs.Step.{next}
-use Rattle.audit_model.specs.Trajectory.{Draws, bare, bin_of, four_values, in_tail, no_bins, outcome, outcome_by, plan_seats, plan_value, sequence, value_at, visit, whole}
+use Rattle.audit_model.specs.Trajectory.{Draws, bare, bin_of, four_values, in_tail, no_bins, outcome, outcome_by, outcome_with, plan_seats, plan_value, sequence, value_at, visit, whole}
 use Rattle.checkpoint_definitions.specs.Checkpoint.{checkpoint_fault, digest_name, edge_bytes, has_rules, job_digest, rule_bytes, score_code, stated_count, tail_code, unit_bytes}
 use Rattle.checkpoint_definitions.specs.Slots.{IsHonestSlot, Slot, absent, broken, checkpoint_limit, other, ours, outcome_in, slot_of, slot_of_bytes, slot_of_checkpoint, slot_of_digest, slot_of_ours}
 use Rattle.ckpt_store.specs.Histories.{AreCarriedOut, SavesKeepTheNewest, SavesLeaveHonestSlots, stopped_in}
@@ -31,7 +33,7 @@ use Rattle.hex.specs.Hex.{encode_lower}
 use Rattle.text_definitions.specs.Report.{ends_lines, graph_line, line, population_line, report, rule_lines, serial_lines, setting_line, shift_line, stop_line, test_lines, thread_report, title_line, walk_lines}
 use Rattle.audit_run.specs.Chain.{AreHonestOf, ResumesHonestly, TriesOver}
 use Rattle.audit_run.specs.Ends.{IfBothKnown, place_of}
-use Rattle.audit_run.specs.Rerun.{AreAlike, ChainsWriteOneReport, Event, IsEvent, IsLink, IsRunOver, Link, RerunsAreAlike, StopsKeepTheNewest, WroteOneThreads, job_in, ran, rerun, slots_after, stopped}
+use Rattle.audit_run.specs.Rerun.{AreAlike, ChainsWriteOneReport, Event, IsEvent, IsLink, IsRunOver, Link, RerunsAreAlike, StopsKeepTheNewest, WroteOneThreads, asking, job_in, ran, rerun, slots_after, stopped}
 use Rattle.audit_run.specs.Running.{HasDefaults}
 use Rattle.audit_run.specs.World.{IfKnown}
 use Rattle.audit_run.proofs.Plain.{plain_report}
@@ -74,6 +76,20 @@ walk_by v job draws id = record {
 abbrev hub_by : Visits → Job → Draws → List ℕ
 hub_by v job draws = v (draws 1) job.start job.setting.hub_steps
 
+abbrev later_by : Visits → Job → (ℕ → ℕ) → ℕ → Ask → ℕ
+later_by v job draws steps ask =
+    count_below steps (λ i. in_tail ask.tail (plan_value job (v draws job.start (suc i)) ask.score) (plan_value job job.start ask.score))
+
+abbrev rank_by : Visits → Job → Draws → ℕ → Ask → ℕ
+rank_by v job draws place ask = tail_by v job (draws 8589934593) place ask + later_by v job (draws 8589934594) (job.setting.steps - place) ask
+
+abbrev serial_with : Visits → Job → Draws → ℕ → (Ask → ℕ) → Serial
+serial_with v job draws place ranks = record {
+  place = place;
+  moved = moves_by v (draws 8589934593) job.start place + moves_by v (draws 8589934594) job.start (job.setting.steps - place);
+  ranks = take 4 (map ranks job.setting.asks ++ replicate 4 0);
+}
+
 abbrev end_by : Visits → Job → Draws → ℕ → Outcome
 end_by v job draws id = record {
   id = id;
@@ -93,9 +109,9 @@ fits_by steps binned job o =
     || all_below (length job.setting.asks) (λ k. int_le (pos 1) (value_at o k) && int_le (value_at o k) (pos (job.setting.steps + 1))))
     && binned
 
-module _ (job : Job) (workers budget save_every : ℕ) (resume : Bool) where
+module _ (job : Job) (workers budget save_every : ℕ) (resume shift serial : Bool) where
   abbrev again : Job
-  again = rerun job workers budget save_every resume
+  again = rerun job workers budget save_every resume shift serial
 
   next_same : (plan : List ℕ) (d : ℕ) → next again plan d ≡ next job plan d
   unfolding next is_legal
@@ -114,15 +130,15 @@ module _ (job : Job) (workers budget save_every : ℕ) (resume : Bool) where
   by_same true false draws id = ap (λ (v : Visits). walk_by v job draws id) visit_same
   by_same false bins draws id = ap (λ (v : Visits). end_by v job draws id) visit_same
 
-  outcome_same : (draws : Draws) (id : ℕ) → outcome again draws id ≡ outcome job draws id
-  outcome_same draws id = by_same (nat_lt id job.setting.walks) job.setting.shift draws id
+  outcome_same : shift ≡ job.setting.shift → (draws : Draws) (id : ℕ) → outcome again draws id ≡ outcome job draws id
+  outcome_same same draws id = by_same (nat_lt id job.setting.walks) shift draws id ∙ ap (λ (b : Bool). outcome_with b job draws id) same
 
   whole_same : (draws : Draws) (id : ℕ) → whole again draws id ≡ whole job draws id
   whole_same draws id = by_same (nat_lt id job.setting.walks) true draws id
 
-  sequence_same : (draws : Draws) → sequence again draws ≡ sequence job draws
+  sequence_same : shift ≡ job.setting.shift → (draws : Draws) → sequence again draws ≡ sequence job draws
   unfolding sequence
-  sequence_same draws = ap (λ (f : ℕ → Outcome). map_below (job.setting.walks + job.setting.ends) f) (fun_ext (λ id. outcome_same draws id))
+  sequence_same same draws = ap (λ (f : ℕ → Outcome). map_below (job.setting.walks + job.setting.ends) f) (fun_ext (λ id. outcome_same same draws id))
 
   rules_same : (b : Bool) → rule_bytes b again ≡ rule_bytes b job
   rules_same true = refl
@@ -154,15 +170,17 @@ module _ (job : Job) (workers budget save_every : ℕ) (resume : Bool) where
   serial_same None = refl
   serial_same (Some found) = refl
 
-  report_same : (outcomes : List Outcome) (stops : List (List ℕ)) (serial : Option (ℕ × List ℕ)) → report again outcomes stops serial ≡ report job outcomes stops serial
+  report_same : shift ≡ job.setting.shift → (outcomes : List Outcome) (stops : List (List ℕ)) (serial : Option (ℕ × List ℕ))
+      → report again outcomes stops serial ≡ report job outcomes stops serial
   unfolding report
-  report_same outcomes stops serial =
-      ap (λ (tests : List ℕ). with_lines tests (serial_lines again serial)) (tests_same job.setting.stop outcomes stops)
-      ∙ ap (λ (rest : List ℕ). with_lines (test_lines job.setting.stop job outcomes stops) rest) (serial_same serial)
+  report_same same outcomes stops serial =
+      ap (λ (tests : List ℕ). with_lines shift tests (serial_lines again serial)) (tests_same job.setting.stop outcomes stops)
+      ∙ ap (λ (rest : List ℕ). with_lines shift (test_lines job.setting.stop job outcomes stops) rest) (serial_same serial)
+      ∙ ap (λ (b : Bool). with_lines b (test_lines job.setting.stop job outcomes stops) (serial_lines job serial)) same
     where
-      with_lines : List ℕ → List ℕ → List ℕ
-      with_lines tests rest =
-          title_line job.setting.shift
+      with_lines : Bool → List ℕ → List ℕ → List ℕ
+      with_lines binned tests rest =
+          title_line binned
           ++ line (codes "key" ∷ encode_lower job.setting.key ∷ [])
           ++ graph_line job
           ++ population_line job
@@ -170,19 +188,34 @@ module _ (job : Job) (workers budget save_every : ℕ) (resume : Bool) where
           ++ setting_line job
           ++ stop_line job.setting.stop
           ++ walk_lines job outcomes
-          ++ shift_line job.setting.shift outcomes
+          ++ shift_line binned outcomes
           ++ tests
           ++ rest
           ++ line (codes "end" ∷ [])
 
-  -- where nothing else is asked for, the whole report too
-  thread_report_same : HasDefaults job.setting → (draws : Draws) → thread_report again draws ≡ thread_report job draws
+  rank_same : (draws : Draws) (place : ℕ) (ask : Ask) → serial_rank again draws place ask ≡ serial_rank job draws place ask
+  rank_same draws place ask = ap (λ (v : Visits). rank_by v job draws place ask) visit_same
+
+  serially_same : (draws : Draws) → serial_of again draws ≡ serial_of job draws
+  unfolding serial_of
+  serially_same draws =
+      let place = serial_place (draws 8589934592 0) (job.setting.steps + 1) in
+      ap (λ (v : Visits). serial_with v job draws place (serial_rank again draws place)) visit_same
+      ∙ ap (λ (ranks : Ask → ℕ). serial_with (visit job) job draws place ranks) (fun_ext (rank_same draws place))
+
+  told_same : (b : Bool) (draws : Draws) → serial_by b again draws ≡ serial_by b job draws
+  told_same true draws = ap (λ (s : Serial). Some (place_and_ranks s)) (serially_same draws)
+  told_same false draws = refl
+
+  -- the whole report, where no test stops early: with the lines of the serial test exactly where this run asks for it
+  thread_report_is : shift ≡ job.setting.shift → HasDefaults job.setting → (draws : Draws)
+      → thread_report again draws ≡ report job (sequence job draws) [] (serial_by serial job draws)
   unfolding thread_report
-  thread_report_same plain draws =
-      sym (plain_report again (record { no_bins = plain.no_bins; no_stop = plain.no_stop; no_serial = plain.no_serial }) draws (sequence again draws))
-      ∙ report_same (sequence again draws) [] None
-      ∙ ap (λ (os : List Outcome). report job os [] None) (sequence_same draws)
-      ∙ plain_report job plain draws (sequence job draws)
+  thread_report_is same plain draws =
+      sym (plain_report again (record { no_stop = plain.no_stop }) draws (sequence again draws))
+      ∙ report_same same (sequence again draws) [] (serial_by serial again draws)
+      ∙ ap (λ (os : List Outcome). report job os [] (serial_by serial again draws)) (sequence_same same draws)
+      ∙ ap (λ (found : Option (ℕ × List ℕ)). report job (sequence job draws) [] found) (told_same serial draws)
 
   steps_same : (b : Bool) → steps_of b again ≡ steps_of b job
   steps_same true = refl
@@ -242,14 +275,23 @@ module _ (job : Job) (workers budget save_every : ℕ) (resume : Bool) where
   }
 
 pub reruns_are_alike : RerunsAreAlike
-reruns_are_alike job workers budget save_every resume = record {
-  same_digest = digest_same job workers budget save_every resume;
-  same_outcome = outcome_same job workers budget save_every resume;
-  same_sequence = sequence_same job workers budget save_every resume;
-  same_fits = fits_same job workers budget save_every resume;
-  same_report = report_same job workers budget save_every resume;
-  same_honest = honest_same job workers budget save_every resume;
+reruns_are_alike job workers budget save_every resume shift serial = record {
+  same_digest = digest_same job workers budget save_every resume shift serial;
+  same_whole = whole_same job workers budget save_every resume shift serial;
+  same_fits = fits_same job workers budget save_every resume shift serial;
+  same_serial = serially_same job workers budget save_every resume shift serial;
+  same_honest = honest_same job workers budget save_every resume shift serial;
+  same_outcome = outcome_same job workers budget save_every resume shift serial;
+  same_sequence = sequence_same job workers budget save_every resume shift serial;
+  same_report = report_same job workers budget save_every resume shift serial;
 }
+
+-- workers, budget, saving and resuming change nothing of the report
+thread_report_same : (job : Job) (workers budget save_every : ℕ) (resume shift serial : Bool) → shift ≡ job.setting.shift → HasDefaults job.setting → (draws : Draws)
+    → thread_report (rerun job workers budget save_every resume shift serial) draws ≡ thread_report (asking job shift serial) draws
+thread_report_same job workers budget save_every resume shift serial same plain draws =
+    thread_report_is job workers budget save_every resume shift serial same plain draws
+    ∙ sym (thread_report_is job job.setting.workers job.setting.budget job.setting.save_every job.setting.resume shift serial same plain draws)
 
 -- ---- a stop
 
@@ -261,7 +303,7 @@ stops_keep_the_newest law job before after p told now t n q out =
 
 -- the job is a rerun of its rerun
 back_again : (job : Job) (l : Link) → AreAlike (job_in job l) job
-back_again job l = reruns_are_alike (job_in job l) job.setting.workers job.setting.budget job.setting.save_every job.setting.resume
+back_again job l = reruns_are_alike (job_in job l) job.setting.workers job.setting.budget job.setting.save_every job.setting.resume job.setting.shift job.setting.serial
 
 -- all that was tried, as it ended
 stopped_after : (tries : List Try) → stopped_in (length tries) tries ≡ tries
@@ -270,7 +312,7 @@ stopped_after (t ∷ tries) = ap (λ (ts : List Try). t ∷ ts) (stopped_after t
 
 module _ (law : SavesLeaveHonestSlots) (job : Job) (p : Pair) (l : Link) (honest : AreHonestOf job p) where
   honest_here : AreHonestOf (job_in job l) p
-  honest_here = honest_same job l.workers l.budget l.save_every l.resume p honest
+  honest_here = honest_same job l.workers l.budget l.save_every l.resume l.shift l.serial p honest
 
   resumes : (o : IsRunOver job p l) → ResumesHonestly (job_in job l) l.before
   resumes o = λ _. subst (λ (s : Option Pair). IfKnown s (AreHonestOf (job_in job l))) (sym o.found) honest_here
@@ -278,8 +320,8 @@ module _ (law : SavesLeaveHonestSlots) (job : Job) (p : Pair) (l : Link) (honest
   defaults_again : IsRunOver job p l → HasDefaults (job_in job l).setting
   defaults_again o = accepted_words_have_defaults l.words (job_in job l).setting o.the_job.told.words_are
 
-  defaults_here : IsRunOver job p l → HasDefaults job.setting
-  defaults_here o = record { no_bins = (defaults_again o).no_bins; no_stop = (defaults_again o).no_stop; no_serial = (defaults_again o).no_serial }
+  defaults_here : IsRunOver job p l → HasDefaults (asking job l.shift l.serial).setting
+  defaults_here o = record { no_stop = (defaults_again o).no_stop }
 
   tries_of : (o : IsRunOver job p l) → TriesOver (job_in job l) l.before l.after p o.told o.now
   tries_of o = both_told l.before.keeper.tried l.after.keeper.tried o.told o.now (TriesOver (job_in job l) l.before l.after p) o.told_is o.now_is (o.tried (job_in job l) p o.the_job o.found)
@@ -307,7 +349,7 @@ module _ (law : SavesLeaveHonestSlots) (job : Job) (p : Pair) (l : Link) (honest
   link_wrote : IsLink job p l → WroteOneThreads job (ran l)
   link_wrote link z =
       subst (λ (text : List ℕ). Appends l.before.out.bytes l.after.out.bytes text)
-      (thread_report_same job l.workers l.budget l.save_every l.resume (defaults_here link.over) (draw job.setting.key))
+      (thread_report_same (asking job l.shift l.serial) l.workers l.budget l.save_every l.resume l.shift l.serial refl (defaults_here link.over) (draw job.setting.key))
       (link.promised.one_thread (job_in job l) l.opening (link.started z) (resumes link.over) z)
 
 event_stays : SavesLeaveHonestSlots → (job : Job) (p : Pair) (e : Event) → AreHonestOf job p → IsEvent job p e → AreHonestOf job (slots_after e)

@@ -15,20 +15,20 @@ use Rattle.audit_model.specs.declared.setting.Setting.{Setting}
 use Rattle.audit_model.specs.Graph.{has}
 use Rattle.audit_model.specs.Job.{Job}
 use Rattle.audit_model.specs.Limits.{IsRunSetting, IsSettingOf}
-use Rattle.audit_model.specs.Run.{total, has_id, run_ids, fits, kept_or, outcome_from, full, is_bare}
+use Rattle.audit_model.specs.Run.{total, has_id, run_ids, fits, kept_or, outcome_from, full}
 use Rattle.checkpoint_definitions.specs.Checkpoint.{AreRising}
 use Rattle.ckpt_store.specs.Fitting.{AreFit}
+use Rattle.model_laws.proofs.Fitting as fitting
 use Rattle.draw_definitions.specs.Draw.{draw}
 use Rattle.outcome_book.specs.Booked.{AreApart}
-use Rattle.report.specs.Outcomes.{AreOutcomesOf, AreStopsBy, AreStopsOf, IsSerialBy, IsSerialOf, reported, reported_by}
+use Rattle.report.specs.Outcomes.{AreOutcomesOf, AreStopsBy, AreStopsOf, reported, reported_by}
 use Rattle.audit_run.specs.Ends.{IsPrepared, is_walking, leaves_work, lacking, full_of}
 use Rattle.audit_run.specs.Running.{AreAll, IsRun}
 use Rattle.claim_crew.specs.Walks.{found}
 use Rattle.audit_run.specs.World.{Stream}
 use Rattle.audit_run.proofs.Counting.{lacking_rest}
-use Rattle.audit_run.proofs.Found.{outcome_bare, outcome_fits, outcome_id}
 use Rattle.audit_run.proofs.OneThread.{every_id}
-use Rattle.audit_run.proofs.Words.{accepted_words_have_defaults, accepted_words_cover}
+use Rattle.audit_run.proofs.Words.{accepted_words_are_even, accepted_words_have_defaults, accepted_words_cover}
 use Rattle.audit_run.proofs.Judging.{accepted_regions}
 
 -- ---- what is known of the job
@@ -51,15 +51,13 @@ prepared_run words before after job p walking =
       walking = walking;
       covered = accepted_words_cover words job.setting p.accepted.words_are walking;
       plain = accepted_words_have_defaults words job.setting p.accepted.words_are;
+      even = accepted_words_are_even words job.setting p.accepted.words_are;
       no_regions = accepted_regions job.setting p.accepted.bytes job p.accepted.judged_so;
     }
 
--- no test stops early, and none is serial
+-- no test stops early
 pub no_stops : (job : Job) → IsRun job → AreStopsOf job []
 no_stops job run = subst (λ (n : ℕ). AreStopsBy n job []) (sym run.plain.no_stop) refl
-
-pub no_serial : (job : Job) → IsRun job → IsSerialOf job None
-no_serial job run = subst (λ (b : Bool). IsSerialBy b job None) (sym run.plain.no_serial) tt
 
 -- so the report is on all trajectories
 pub reports_all : (job : Job) → IsRun job → reported job ≡ total job
@@ -98,7 +96,7 @@ rising_above x [] rising k d inside = absurd (omega arith)
 rising_above x (y ∷ ids) rising zero d inside = rising.0
 rising_above x (y ∷ ids) rising (suc k) d inside = let above = rising_above y ids rising.1 k d (omega arith) in let first = rising.0 in omega arith
 
-rising_rest : (x : ℕ) (ids : List ℕ) → AreRising (x ∷ ids) → AreRising ids
+pub rising_rest : (x : ℕ) (ids : List ℕ) → AreRising (x ∷ ids) → AreRising ids
 rising_rest x [] rising = tt
 rising_rest x (y ∷ ids) rising = rising.1
 
@@ -148,23 +146,7 @@ found_fit job run opening todo outcomes fit within moved =
     (IsPermutation-sym outcomes (opening ++ map (found job) todo) moved)
     (All-append (λ (o : Outcome). IsTrue (fits job o)) opening (map (found job) todo) fit.fit
     (All-map (λ (o : Outcome). IsTrue (fits job o)) (found job) todo
-    (λ k d inside. outcome_fits job (draw job.setting.key) run.plain.no_bins (run_setting job run).few_asks (get_or todo k d) (within k d inside))))
-
--- nor has any of them bins
-found_bare : (job : Job) → IsRun job → (opening : List Outcome) (todo : List ℕ) (outcomes : List Outcome) → All (λ o. IsTrue (is_bare o)) opening
-    → IsPermutation outcomes (opening ++ map (found job) todo) → All (λ o. IsTrue (is_bare o)) outcomes
-unfolding found
-found_bare job run opening todo outcomes bare moved =
-    All-permutation (λ (o : Outcome). IsTrue (is_bare o)) (opening ++ map (found job) todo) outcomes
-    (IsPermutation-sym outcomes (opening ++ map (found job) todo) moved)
-    (All-append (λ (o : Outcome). IsTrue (is_bare o)) opening (map (found job) todo) bare
-    (All-map (λ (o : Outcome). IsTrue (is_bare o)) (found job) todo
-    (λ k d inside. outcome_bare job (draw job.setting.key) run.plain.no_bins (get_or todo k d))))
-
--- each is bare, in both forms
-pub bare_list : (outcomes : List Outcome) → All (λ o. IsTrue (is_bare o)) outcomes → list_all is_bare outcomes ≡ true
-bare_list [] bare = refl
-bare_list (x ∷ xs) bare = and_from (is_bare x) (list_all is_bare xs) (bare 0 x (omega arith)) (bare_list xs (λ k d inside. bare (suc k) d (omega arith)))
+    (λ k d inside. fitting.found_fits job (draw job.setting.key) job.setting.shift (run_setting job run).few_asks (get_or todo k d) (within k d inside))))
 
 pairs_rise : (outcomes : List Outcome) → AllPairs (λ a b. a.id < b.id) outcomes → AreRising (map (λ o. o.id) outcomes)
 pairs_rise [] rising = tt
@@ -173,11 +155,11 @@ pairs_rise (x ∷ y ∷ xs) rising =
     (rising 0 1 x (omega arith) (omega arith), pairs_rise (y ∷ xs) (λ i j d before inside. rising (suc i) (suc j) d (omega arith) (omega arith)))
 
 -- what was walked, by rising id, with what the run started with
-pub are_all : (job : Job) → IsRun job → (opening kept : List Outcome) (todo : List ℕ) (sorted : List Outcome) → kept ≡ opening → AreFit job opening → All (λ o. IsTrue (is_bare o)) opening
+pub are_all : (job : Job) → IsRun job → (opening kept : List Outcome) (todo : List ℕ) (sorted : List Outcome) → kept ≡ opening → AreFit job opening
     → todo ≡ run_ids job opening job.setting.budget → All (λ id. id < total job) todo
     → ((budget : ℕ) → todo ≡ run_ids job kept budget → sorted ≡ full job (draw job.setting.key) kept budget)
     → IsPermutation sorted (kept ++ map (found job) todo) → AllPairs (λ a b. a.id < b.id) sorted → AreAll job opening sorted
-are_all job run opening kept todo sorted same start bare ids within fullness moved rising =
+are_all job run opening kept todo sorted same start ids within fullness moved rising =
     let here : IsPermutation sorted (opening ++ map (found job) todo) = subst (λ os. IsPermutation sorted (os ++ map (found job) todo)) same moved in
     let counted : length sorted ≡ length opening + length (run_ids job opening job.setting.budget) =
     omega (arith, length_permutation sorted (opening ++ map (found job) todo) here, length-append opening (map (found job) todo), length-map todo (found job), ap length ids) in
@@ -193,7 +175,6 @@ are_all job run opening kept todo sorted same start bare ids within fullness mov
         rising = pairs_rise sorted rising;
         fit = found_fit job run opening todo sorted start within here;
       };
-      bare = found_bare job run opening todo sorted bare here;
       start = start;
     }
 
@@ -231,7 +212,7 @@ pub kept_id : (job : Job) (opening : List Outcome) (id : ℕ) → (outcome_from 
 kept_id job opening id = by (find (λ o. o.id == id) opening) refl
   where
     by : (o : Option Outcome) → find (λ o. o.id == id) opening ≡ o → (kept_or job (draw job.setting.key) id o).id ≡ id
-    by None e = outcome_id job (draw job.setting.key) id
+    by None e = fitting.found_id job (draw job.setting.key) job.setting.shift id
     by (Some o) e = eqb-true o.id id (find_passes (λ o. o.id == id) opening o e)
 
 -- where each number passes, the outcomes of those that pass are those of all

@@ -1,9 +1,10 @@
 -- With what a run starts.
 use Rattle.std.proofs.Common.{◌≡◌, ℕ, zero, suc, ◌<◌, ◌≤◌, ◌&&◌, not, Bool, true, false, cond, List, [], ◌∷◌, map, get_or, Option, Some, None, Result, Ok, Err, refl, sym, subst, ap, ◌∙◌, arith}
-use Rattle.std.specs.Prelude.{◌==◌, IsTrue, option_map}
+use Rattle.std.specs.Prelude.{◌==◌, IsTrue, filter, nat_lt, option_map}
 use Rattle.std.specs.List.{All}
 use Rattle.std.proofs.lemmas.List.{length-map}
-use Rattle.std.proofs.lemmas.List.Elements.{All-map}
+use Rattle.std.proofs.lemmas.List.Elements.{All-cons, All-filter, All-head, All-map, All-tail}
+use Rattle.std.proofs.lemmas.List.Sums.{count_by-le-length, length-filter}
 use Rattle.std.proofs.lemmas.Bool.{ne_eqb}
 use Rattle.audit_io.specs.Slots.{IfTold, Pair}
 use Rattle.audit_model.specs.declared.outcome.Outcome.{Outcome}
@@ -30,7 +31,7 @@ use Rattle.audit_run.specs.Ends.{IsOpening, opening_by, place_of, saves}
 use Rattle.audit_run.specs.Running.{IsOtherSeen, IsPlaced, IsRun, IsTarget, Opens, OpensWith, RefusesSlots, refused_by}
 use Rattle.audit_run.specs.Steps.{Finishes}
 use Rattle.audit_run.specs.World.{IfKnown, Kept, Stream}
-use Rattle.audit_run.proofs.Running.{fit_list, rising_once}
+use Rattle.audit_run.proofs.Running.{fit_list, rising_above, rising_once, rising_rest}
 
 -- ---- what was looked at, in the words of the slots that are told
 
@@ -147,12 +148,10 @@ resumed_opening job digest told slots outcomes is resumes seen found fit = recor
   fitting = fit_list job outcomes fit.fit;
 }
 
--- without their bins, they are what a run that asks for none starts with
-pub taken_bare : (job : Job) (slots : Slots) (held : List Outcome) → job.setting.shift ≡ false → held_seen slots ≡ Some held
-    → opening_seen job.setting slots ≡ Some (map bare held)
-taken_bare job slots held plain e =
-    ap (λ (o : Option (List Outcome)). option_map (taken_up job.setting.shift job.setting.walks) o) e
-    ∙ ap (λ (b : Bool). Some (taken_up b job.setting.walks held)) plain
+-- what it goes on from, of what the newest slot holds
+pub taken_some : (job : Job) (slots : Slots) (held : List Outcome) → held_seen slots ≡ Some held
+    → opening_seen job.setting slots ≡ Some (taken_up job.setting.shift job.setting.walks held)
+taken_some job slots held e = ap (λ (o : Option (List Outcome)). option_map (taken_up job.setting.shift job.setting.walks) o) e
 
 pub taken_none : (job : Job) (slots : Slots) → held_seen slots ≡ None → opening_seen job.setting slots ≡ None
 taken_none job slots e = ap (λ (o : Option (List Outcome)). option_map (taken_up job.setting.shift job.setting.walks) o) e
@@ -161,33 +160,69 @@ same_ids : (outcomes : List Outcome) → map (λ o. o.id) (map bare outcomes) �
 same_ids [] = refl
 same_ids (x ∷ xs) = ap (λ (ids : List ℕ). x.id ∷ ids) (same_ids xs)
 
-pub bare_fit : (job : Job) (outcomes : List Outcome) → AreFit job outcomes → AreFit job (map bare outcomes)
+bare_fit : (job : Job) (outcomes : List Outcome) → AreFit job outcomes → AreFit job (map bare outcomes)
 bare_fit job outcomes fit = record {
   few = omega (arith, fit.few, length-map outcomes bare);
   rising = subst AreRising (sym (same_ids outcomes)) fit.rising;
   fit = All-map (λ (o : Outcome). IsTrue (fits job o)) bare outcomes (λ k d inside. bare_fits job (get_or outcomes k d) (fit.fit k d inside));
 }
 
-pub all_bare : (outcomes : List Outcome) → All (λ o. IsTrue (is_bare o)) (map bare outcomes)
-all_bare outcomes = All-map (λ (o : Outcome). IsTrue (is_bare o)) bare outcomes (λ k d inside. refl)
+rising_cons : (x : ℕ) (ids : List ℕ) → All (λ y. x < y) ids → AreRising ids → AreRising (x ∷ ids)
+rising_cons x [] above rising = tt
+rising_cons x (y ∷ ids) above rising = (above 0 y (omega arith), rising)
 
--- so it starts, where the outcomes that were held have been stripped of their bins
-pub opens_bare : (job : Job) → IsRun job → (digest : List ℕ) (k : Kept) (slots : Slots) (held outcomes : List Outcome) (target : Option Target)
+above_kept : (x : ℕ) (test : Outcome → Bool) (os : List Outcome) → All (λ y. x < y) (map (λ o. o.id) os) → All (λ y. x < y) (map (λ o. o.id) (filter test os))
+above_kept x test [] above = above
+above_kept x test (o ∷ os) above = by (test o) (above_kept x test os (All-tail (λ (y : ℕ). x < y) o.id (map (λ o. o.id) os) above))
+  where
+    by : (b : Bool) → All (λ y. x < y) (map (λ o. o.id) (filter test os)) → All (λ y. x < y) (map (λ o. o.id) (cond b (o ∷ filter test os) (filter test os)))
+    by true rest = All-cons (λ (y : ℕ). x < y) o.id (map (λ o. o.id) (filter test os)) (All-head (λ (y : ℕ). x < y) o.id (map (λ o. o.id) os) above) rest
+    by false rest = rest
+
+-- of ids that rise, those that are kept rise
+rising_kept : (test : Outcome → Bool) (os : List Outcome) → AreRising (map (λ o. o.id) os) → AreRising (map (λ o. o.id) (filter test os))
+rising_kept test [] rising = tt
+rising_kept test (o ∷ os) rising =
+    by (test o) (rising_kept test os (rising_rest o.id (map (λ o. o.id) os) rising))
+    (above_kept o.id test os (rising_above o.id (map (λ o. o.id) os) rising))
+  where
+    by : (b : Bool) → AreRising (map (λ o. o.id) (filter test os)) → All (λ y. o.id < y) (map (λ o. o.id) (filter test os))
+        → AreRising (map (λ o. o.id) (cond b (o ∷ filter test os) (filter test os)))
+    by true rest above = rising_cons o.id (map (λ o. o.id) (filter test os)) above rest
+    by false rest above = rest
+
+kept_fit : (job : Job) (test : Outcome → Bool) (outcomes : List Outcome) → AreFit job outcomes → AreFit job (filter test outcomes)
+kept_fit job test outcomes fit = record {
+  few = omega (arith, fit.few, length-filter test outcomes, count_by-le-length test outcomes);
+  rising = rising_kept test outcomes fit.rising;
+  fit = All-filter test (λ o. IsTrue (fits job o)) outcomes fit.fit;
+}
+
+-- what it goes on from fits
+pub taken_fit : (job : Job) (outcomes : List Outcome) → AreFit job outcomes → AreFit job (taken_up job.setting.shift job.setting.walks outcomes)
+taken_fit job outcomes fit = by job.setting.shift
+  where
+    by : (shift : Bool) → AreFit job (taken_up shift job.setting.walks outcomes)
+    by true = kept_fit job (λ o. not (nat_lt o.id job.setting.walks && is_bare o)) outcomes fit
+    by false = bare_fit job outcomes fit
+
+-- so it starts with what it goes on from of the outcomes that were held
+pub opens_taken : (job : Job) → (digest : List ℕ) (k : Kept) (slots : Slots) (held outcomes : List Outcome) (target : Option Target)
     → digest ≡ job_digest job → job.setting.resume ≡ true → IfTold k.slots (λ p. AreSlots job digest p slots) → held_seen slots ≡ Some held → AreFit job held
-    → outcomes ≡ map bare held → (o : Opening) → o.outcomes.items ≡ outcomes → o.target ≡ target → IsTarget (saves job.setting) job k.slots target → OpensWith job k k o
-opens_bare job run digest k slots held outcomes target is resumes told seen fit stripped o items at placed = record {
+    → outcomes ≡ taken_up job.setting.shift job.setting.walks held → (o : Opening) → o.outcomes.items ≡ outcomes → o.target ≡ target
+    → IsTarget (saves job.setting) job k.slots target → OpensWith job k k o
+opens_taken job digest k slots held outcomes target is resumes told seen fit taken o items at placed = record {
   same = refl;
   opened = record {
     opened = subst (λ (os : List Outcome). IsOpening job k.slots os) (sym here)
-        (resumed_opening job digest k.slots slots (map bare held) is resumes told (taken_bare job slots held run.plain.no_bins seen) (bare_fit job held fit));
-    fit = subst (λ (os : List Outcome). AreFit job os) (sym here) (bare_fit job held fit);
-    bare = subst (λ (os : List Outcome). All (λ o. IsTrue (is_bare o)) os) (sym here) (all_bare held);
+        (resumed_opening job digest k.slots slots (taken_up job.setting.shift job.setting.walks held) is resumes told (taken_some job slots held seen) (taken_fit job held fit));
+    fit = subst (λ (os : List Outcome). AreFit job os) (sym here) (taken_fit job held fit);
     target = subst (λ (t : Option Target). IsTarget (saves job.setting) job k.slots t) (sym at) placed;
   };
 }
   where
-    here : o.outcomes.items ≡ map bare held
-    here = items ∙ stripped
+    here : o.outcomes.items ≡ taken_up job.setting.shift job.setting.walks held
+    here = items ∙ taken
 
 opened_fit : (job : Job) (wanted : List ℕ) (s : Looked) (c : Checkpoint) → HasFitOutcomes job s → opened s wanted ≡ Ok (Some c) → AreFit job c.outcomes.items
 opened_fit job wanted looked.Absent c fit e = cc

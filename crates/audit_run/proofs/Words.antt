@@ -1,16 +1,18 @@
 -- What accepted words say of their setting.
 use Rattle.std.proofs.Common.{◌≡◌, ℕ, zero, suc, ◌+◌, ◌≤◌, ◌&&◌, ◌||◌, not, Bool, true, false, cond, List, [], ◌∷◌, Option, Some, None, Ok, refl, subst, ap, ◌∙◌}
 use Rattle.std.specs.Prelude.{bytes_eq, codes, ⊤, find, nat_le, slice_get, unwrap_or, option_map}
+use Rattle.std.specs.List.{list_any}
 use Rattle.std.specs.Option.{option_or}
 use Rattle.std.proofs.lemmas.Bool.{and_parts, leb-true}
 use Rattle.audit_model.specs.declared.fault.Name.{Name}
-use Rattle.audit_model.specs.declared.fault.Name.TheVariants.{Size, Walks, Ends, Budget, Save}
+use Rattle.audit_model.specs.declared.fault.Name.TheVariants.{Size, Walks, Steps, Ends, Budget, Save, Serial}
 use Rattle.audit_model.specs.declared.fault.WordFault.{WordFault}
 use Rattle.audit_model.specs.declared.fault.WordFault.TheVariants.{BadValue}
 use Rattle.audit_model.specs.declared.setting.Command.{Command}
 use Rattle.audit_model.specs.declared.setting.Command.TheVariants.{Check, Run, Make, Plans}
 use Rattle.audit_model.specs.declared.setting.Setting.{Setting}
-use Rattle.word_definitions.specs.Words.{Pair, pairs, text_of, number_of, number_at, is_number, covers_walks, is_good, names_of, command_of, of_command, fault_of, setting_for, setting_or, setting_of}
+use Rattle.audit_model.specs.Power.{is_power_of_two}
+use Rattle.word_definitions.specs.Words.{Pair, pairs, text_of, number_of, number_at, is_number, covers_walks, divides_draws, is_good, is_yes, is_yes_or_no, names_of, command_of, of_command, fault_of, setting_for, setting_or, setting_of}
 use Rattle.audit_run.specs.Ends.{is_walking}
 use Rattle.audit_run.specs.Running.{HasDefaults}
 
@@ -155,13 +157,74 @@ sized_by Make words setting faultless same make =
 pub accepted_size : (words : List (List ℕ)) (setting : Setting) → setting_of words ≡ Ok setting → setting.command ≡ Make → (1 ≤ setting.size) × (setting.size ≤ 30)
 accepted_size words setting e make = let s = accepted_words words setting e in sized_by s.command s.words setting s.faultless s.same make
 
+-- ---- the run of the serial test
+
+abbrev is_serial : Name → Bool
+is_serial Serial = true
+is_serial _ = false
+
+is_serial-Serial : (name : Name) → is_serial name ≡ true → name ≡ Serial
+is_serial-Serial Serial e = refl
+is_serial-Serial _ e = cc
+
+first_passes : (fails : Bool) (name : Name) (rest : Option Name) → cond fails (Some name) rest ≡ None → fails ≡ false
+first_passes true name rest e = cc
+first_passes false name rest e = refl
+
+none_after : (fails : Bool) (name : Name) (rest : Option Name) → cond fails (Some name) rest ≡ None → rest ≡ None
+none_after true name rest e = cc
+none_after false name rest e = e
+
+-- a name among those of which none fails passes
+passes_among : (good : Name → Bool) (names : List Name) → find (λ name. not (good name)) names ≡ None → list_any is_serial names ≡ true → good Serial ≡ true
+passes_among good [] none some = cc
+passes_among good (name ∷ names) none some =
+    by (is_serial name) refl (passes_among good names (none_after (not (good name)) name (find (λ name. not (good name)) names) none))
+  where
+    by : (b : Bool) → is_serial name ≡ b → (list_any is_serial names ≡ true → good Serial ≡ true) → good Serial ≡ true
+    by true same rest =
+        subst (λ (n : Name). good n ≡ true) (is_serial-Serial name same)
+        (true_from_not (good name) (first_passes (not (good name)) name (find (λ name. not (good name)) names) none))
+    by false other rest = rest (subst (λ (b : Bool). (b || list_any is_serial names) ≡ true) other some)
+
+asked_power : (asked power : Bool) → (not asked || power) ≡ true → asked ≡ true → power ≡ true
+asked_power true power h e = h
+asked_power false power h e = cc
+
+module _ (command : Command) (words : List Pair) (faultless : fault_of command words ≡ None) where
+  good_serial : list_any is_serial (names_of command) ≡ true → is_good command words Serial ≡ true
+  good_serial has =
+      let first = option_or_none _ _ faultless in
+      let second = option_or_none _ _ first.1 in
+      let third = option_or_none _ _ second.1 in
+      passes_among (is_good command words) (names_of command) (option_map_none BadValue (find (λ name. not (is_good command words name)) (names_of command)) third.0) has
+
+  even_words : list_any is_serial (names_of command) ≡ true → is_yes command words Serial ≡ true → is_power_of_two (number_at command words Steps + 1) ≡ true
+  even_words has asked =
+      let divides = (and_parts (is_yes_or_no command words Serial) (divides_draws command words) (good_serial has)).1 in
+      asked_power (is_yes command words Serial) (is_power_of_two (number_at command words Steps + 1)) divides asked
+
+even_by : (command : Command) (words : List Pair) (setting : Setting) → IsBuilt command → fault_of command words ≡ None → setting_for command words ≡ setting
+    → setting.serial ≡ true → is_power_of_two (setting.steps + 1) ≡ true
+even_by Check words setting built faultless same asked =
+    let check : false ≡ setting.serial = ap (λ (s : Setting). s.serial) same in cc
+even_by Plans words setting built faultless same asked = absurd built
+even_by Run words setting built faultless same asked =
+    subst (λ (s : Setting). is_power_of_two (s.steps + 1) ≡ true) same (even_words Run words faultless refl (ap (λ (s : Setting). s.serial) same ∙ asked))
+even_by Make words setting built faultless same asked =
+    subst (λ (s : Setting). is_power_of_two (s.steps + 1) ≡ true) same (even_words Make words faultless refl (ap (λ (s : Setting). s.serial) same ∙ asked))
+
+-- a run with the serial test visits as many plans in it as a power of two
+pub accepted_words_are_even : (words : List (List ℕ)) (setting : Setting) → setting_of words ≡ Ok setting → setting.serial ≡ true → is_power_of_two (setting.steps + 1) ≡ true
+accepted_words_are_even words setting e asked = let s = accepted_words words setting e in even_by s.command s.words setting s.built s.faultless s.same asked
+
 -- ---- what no words ask for yet
 
 plain_by : (command : Command) (words : List Pair) → HasDefaults (setting_for command words)
-plain_by Check words = record { no_bins = refl; no_stop = refl; no_serial = refl }
-plain_by Run words = record { no_bins = refl; no_stop = refl; no_serial = refl }
-plain_by Make words = record { no_bins = refl; no_stop = refl; no_serial = refl }
-plain_by Plans words = record { no_bins = refl; no_stop = refl; no_serial = refl }
+plain_by Check words = record { no_stop = refl }
+plain_by Run words = record { no_stop = refl }
+plain_by Make words = record { no_stop = refl }
+plain_by Plans words = record { no_stop = refl }
 
 pub accepted_words_have_defaults : (words : List (List ℕ)) (setting : Setting) → setting_of words ≡ Ok setting → HasDefaults setting
 accepted_words_have_defaults words setting e = let s = accepted_words words setting e in subst HasDefaults s.same (plain_by s.command s.words)

@@ -139,7 +139,7 @@ pub record StopsEarly (job : Job) (before after : World) : Type 0 where
 abbrev pub IsNewest : Job → List Outcome → Pair → Type 0
 IsNewest job outcomes p =
     (n : ℕ) × (newest (slot_of job (job_digest job) p.zero_slot) (slot_of job (job_digest job) p.one_slot) ≡ Some n)
-    × ((g : ℕ) × (g < 3) × (stored p n ≡ Some (checkpoint 1 (job_digest job) g outcomes)))
+    × ((g : ℕ) × (g < 3) × (stored p n ≡ Some (checkpoint 2 (job_digest job) g outcomes)))
 
 -- an outcome of the opening, or what the trajectory of an id finds that the opening lacks and that is to be walked
 abbrev pub IsOpeningOrFound : Job → List Outcome → Outcome → Type 0
@@ -156,8 +156,8 @@ pub record HoldsPart (job : Job) (outcomes : List Outcome) (count : ℕ) (saved 
 -- the slot is a checkpoint of the job with this generation, of the opening and of so many ids that the opening lacks, and is read as that
 pub record IsPartly (job : Job) (outcomes : List Outcome) (count generation : ℕ) (slot : Option (List ℕ)) : Type 0 where
   pub saved : List Outcome
-  pub bytes_are : slot ≡ Some (checkpoint 1 (job_digest job) generation saved)
-  pub sound : IsCheckpoint (checkpoint 1 (job_digest job) generation saved) 1 (job_digest job) generation saved
+  pub bytes_are : slot ≡ Some (checkpoint 2 (job_digest job) generation saved)
+  pub sound : IsCheckpoint (checkpoint 2 (job_digest job) generation saved) 2 (job_digest job) generation saved
   pub slot_is : slot_of job (job_digest job) slot ≡ ours generation saved
   pub holds : HoldsPart job outcomes count saved
 
@@ -182,7 +182,7 @@ last_place job outcomes p = moved (count_of_saves job outcomes - 1) (record { sl
 -- so many saves were made, the last at this place: it is the checkpoint of the opening and of all that was walked, is read as that, and is the
 -- newest; where it is the only one, the other slot is as it was, and elsewhere the other slot is the save before
 pub record SavesInTurnAt (job : Job) (outcomes : List Outcome) (p q : Pair) (at : Place) (count : ℕ) : Type 0 where
-  pub last : stored q at.slot ≡ Some (checkpoint 1 (job_digest job) at.generation (full_of job outcomes))
+  pub last : stored q at.slot ≡ Some (checkpoint 2 (job_digest job) at.generation (full_of job outcomes))
   pub last_is : slot_of job (job_digest job) (stored q at.slot) ≡ ours at.generation (full_of job outcomes)
   pub newest_is : newest (slot_of job (job_digest job) q.zero_slot) (slot_of job (job_digest job) q.one_slot) ≡ Some at.slot
   pub only : count ≡ 1 → stored q (1 - at.slot) ≡ stored p (1 - at.slot)
@@ -198,7 +198,7 @@ pub record IsTryOf (job : Job) (outcomes : List Outcome) (t : Try) : Type 0 wher
   pub generation : ℕ
   pub count : ℕ
   pub saved : List Outcome
-  pub sound : IsCheckpoint t.bytes 1 (job_digest job) generation saved
+  pub sound : IsCheckpoint t.bytes 2 (job_digest job) generation saved
   pub holds : HoldsPart job outcomes count saved
 
 -- the saves of a run over these slots, and whether each succeeded: they are all that its keeper was asked for since; each went to the place

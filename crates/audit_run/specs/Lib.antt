@@ -9,6 +9,8 @@ pub mod Left
 pub mod Rerun
 pub mod Running
 pub mod Said
+pub mod Serially
 pub mod Steps
+pub mod Sure
 pub mod Visits
 pub mod World

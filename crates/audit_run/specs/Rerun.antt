@@ -7,7 +7,8 @@ use Rattle.audit_io.specs.Tries.{Try}
 use Rattle.audit_model.specs.declared.outcome.Outcome.{Outcome}
 use Rattle.audit_model.specs.Job.{Job}
 use Rattle.audit_model.specs.Run.{fits}
-use Rattle.audit_model.specs.Trajectory.{Draws, outcome, sequence}
+use Rattle.audit_model.specs.Serially.{serial_of}
+use Rattle.audit_model.specs.Trajectory.{Draws, outcome, sequence, whole}
 use Rattle.checkpoint_definitions.specs.Checkpoint.{job_digest}
 use Rattle.ckpt_store.specs.Histories.{AreCarriedOut, IsNotIntact, KeepsNewest, stopped_in}
 use Rattle.ckpt_store.specs.Laws.{IsNotOurs}
@@ -18,23 +19,33 @@ use Rattle.audit_run.specs.Chain.{AreHonestOf, StaysHonest, TriedRightly, TriesO
 use Rattle.audit_run.specs.Headline.{StartsWith}
 use Rattle.audit_run.specs.World.{World}
 
--- the same job in another run: with other workers, another budget, saving and resuming or not
-abbrev pub rerun : Job → ℕ → ℕ → ℕ → Bool → Job
-rerun job workers budget save_every resume =
-    record job { setting = record job.setting { workers = workers; budget = budget; save_every = save_every; resume = resume } }
+-- the same job, where it asks for bins or does not, and for the serial test or does not
+abbrev pub asking : Job → Bool → Bool → Job
+asking job shift serial = record job { setting = record job.setting { shift = shift; serial = serial } }
 
--- both have the same digest, the same outcomes and the same report, and what is honest for one is honest for the other
+-- the same job in another run: with other workers, another budget, saving and resuming or not, and asking for bins and for the serial test or not
+abbrev pub rerun : Job → ℕ → ℕ → ℕ → Bool → Bool → Bool → Job
+rerun job workers budget save_every resume shift serial = record job {
+  setting = record job.setting { workers = workers; budget = budget; save_every = save_every; resume = resume; shift = shift; serial = serial };
+}
+
+-- Both have the same digest, each trajectory finds the same, with all its bins, in both, so does the serial test, whether it is asked for or not,
+-- and what is honest for one is honest for the other. Where both ask for bins, or neither, they have the same outcomes and the same report on what
+-- is found.
 pub record AreAlike (job other : Job) : Type 0 where
   pub same_digest : job_digest other ≡ job_digest job
-  pub same_outcome : (draws : Draws) (id : ℕ) → outcome other draws id ≡ outcome job draws id
-  pub same_sequence : (draws : Draws) → sequence other draws ≡ sequence job draws
+  pub same_whole : (draws : Draws) (id : ℕ) → whole other draws id ≡ whole job draws id
   pub same_fits : (o : Outcome) → fits other o ≡ fits job o
-  pub same_report : (outcomes : List Outcome) (stops : List (List ℕ)) (serial : Option (ℕ × List ℕ)) → report other outcomes stops serial ≡ report job outcomes stops serial
+  pub same_serial : (draws : Draws) → serial_of other draws ≡ serial_of job draws
   pub same_honest : (p : Pair) → AreHonestOf job p → AreHonestOf other p
+  pub same_outcome : other.setting.shift ≡ job.setting.shift → (draws : Draws) (id : ℕ) → outcome other draws id ≡ outcome job draws id
+  pub same_sequence : other.setting.shift ≡ job.setting.shift → (draws : Draws) → sequence other draws ≡ sequence job draws
+  pub same_report : other.setting.shift ≡ job.setting.shift → (outcomes : List Outcome) (stops : List (List ℕ)) (serial : Option (ℕ × List ℕ))
+      → report other outcomes stops serial ≡ report job outcomes stops serial
 
--- workers, budget, saving and resuming change nothing of what a job finds and reports
+-- workers, budget, saving, resuming and asking for the serial test change nothing of what a job finds, and bins nothing of what it holds for its own
 abbrev pub RerunsAreAlike : Type 0
-RerunsAreAlike = (job : Job) (workers budget save_every : ℕ) (resume : Bool) → AreAlike job (rerun job workers budget save_every resume)
+RerunsAreAlike = (job : Job) (workers budget save_every : ℕ) (resume shift serial : Bool) → AreAlike job (rerun job workers budget save_every resume shift serial)
 
 -- ---- a stop
 
@@ -56,12 +67,14 @@ pub record Link : Type 0 where
   pub budget : ℕ
   pub save_every : ℕ
   pub resume : Bool
+  pub shift : Bool
+  pub serial : Bool
   pub opening : List Outcome
   pub slots : Pair
 
 -- the job as this run had it
 abbrev pub job_in : Job → Link → Job
-job_in job l = rerun job l.workers l.budget l.save_every l.resume
+job_in job l = rerun job l.workers l.budget l.save_every l.resume l.shift l.serial
 
 -- a run of the job over these slots, of which its keeper told what was tried before and after it, and all holds that the top call promises
 pub record IsRunOver (job : Job) (p : Pair) (l : Link) : Type 0 where
@@ -106,15 +119,18 @@ abbrev pub IsChain : Job → Pair → List Event → Type 0
 IsChain job p [] = ⊤
 IsChain job p (e ∷ events) = IsEvent job p e × IsChain job (slots_after e) events
 
--- a run that ended with status 0 has written the report that one thread gives by walking each trajectory once
+-- a run that ended with status 0 has written the report that one thread gives by walking each trajectory once, for the job that asks for bins and
+-- for the serial test exactly where this run did: with what workers, budget, saves and openings it came to it, and what other runs of the chain
+-- asked for, changes nothing
 abbrev pub WroteOneThreads : Job → Event → Type 0
-WroteOneThreads job (ran l) = l.status ≡ 0 → Appends l.before.out.bytes l.after.out.bytes (thread_report job (draw job.setting.key))
+WroteOneThreads job (ran l) = l.status ≡ 0 → Appends l.before.out.bytes l.after.out.bytes (thread_report (asking job l.shift l.serial) (draw job.setting.key))
 WroteOneThreads job (stopped l n q) = ⊤
 
 abbrev pub AllWroteOneThreads : Job → List Event → Type 0
 AllWroteOneThreads job [] = ⊤
 AllWroteOneThreads job (e ∷ events) = WroteOneThreads job e × AllWroteOneThreads job events
 
--- from honest slots, and so from absent ones, each run of any chain that ended with status 0 has written one thread's report
+-- from honest slots, and so from absent ones and from those of the first version, each run of any chain that ended with status 0 has written
+-- one thread's report, whichever of the runs before it asked for bins
 abbrev pub ChainsWriteOneReport : Type 0
 ChainsWriteOneReport = (job : Job) (p : Pair) (events : List Event) → AreHonestOf job p → IsChain job p events → AllWroteOneThreads job events

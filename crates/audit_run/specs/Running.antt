@@ -1,6 +1,5 @@
 -- A run: what is known of its job, with what it starts, what it holds before it walks, and what it leaves in the slots.
 use Rattle.std.specs.Prelude.{◌≡◌, ℕ, ◌+◌, ◌*◌, ◌<◌, ◌≤◌, Bool, true, false, IsTrue, List, [], length, ⊤, Option, Some, None, Result, Ok, Err, OnOk}
-use Rattle.std.specs.List.{All}
 use Rattle.audit_io.specs.declared.source.Failed.{Failed}
 use Rattle.audit_io.specs.Faults.{HasCause}
 use Rattle.audit_io.specs.Slots.{Pair}
@@ -9,7 +8,8 @@ use Rattle.audit_model.specs.declared.setting.Setting.{Setting}
 use Rattle.audit_model.specs.declared.rules.Rules.{Rules}
 use Rattle.audit_model.specs.Job.{Job}
 use Rattle.audit_model.specs.JobOf.{IsJob}
-use Rattle.audit_model.specs.Run.{is_bare, total, run_ids}
+use Rattle.audit_model.specs.Power.{is_power_of_two}
+use Rattle.audit_model.specs.Run.{total, run_ids}
 use Rattle.checkpoint_definitions.specs.Checkpoint.{job_digest}
 use Rattle.checkpoint_definitions.specs.Slots.{other, slot_at}
 use Rattle.ckpt_store.specs.declared.slots.Slots.{Slots}
@@ -18,7 +18,7 @@ use Rattle.ckpt_store.specs.declared.slots.StoreFault.TheVariants as fault
 use Rattle.ckpt_store.specs.Fitting.{AreFit}
 use Rattle.ckpt_store.specs.View.{newest_seen, slot_view}
 use Rattle.desk_crew.specs.Crews.{IsCrew as IsDeskCrew}
-use Rattle.report.specs.Outcomes.{AreOutcomesOf}
+use Rattle.report.specs.Outcomes.{AreOutcomesOf, IsSerialOf}
 use Rattle.text_definitions.specs.Report.{report}
 use Rattle.audit_run.specs.declared.ended.Ended.{Ended}
 use Rattle.audit_run.specs.declared.ended.Ended.TheVariants as ended
@@ -34,16 +34,16 @@ use Rattle.audit_run.specs.World.{Stream, Kept, IfKnown}
 
 -- what no words ask for yet has its default
 pub record HasDefaults (s : Setting) : Type 0 where
-  pub no_bins : s.shift ≡ false
   pub no_stop : s.stop ≡ 0
-  pub no_serial : s.serial ≡ false
 
--- the job is accepted, its command walks, and where it saves nothing its budget is enough for every trajectory
+-- the job is accepted, its command walks, where it saves nothing its budget is enough for every trajectory, and the run of its serial test has as
+-- many plans as a power of two
 pub record IsRun (job : Job) : Type 0 where
   pub sound : IsJob job
   pub walking : IsTrue (is_walking job.setting.command)
   pub covered : job.setting.save_every ≡ 0 → total job ≤ job.setting.budget
   pub plain : HasDefaults job.setting
+  pub even : IsTrue job.setting.serial → IsTrue (is_power_of_two (job.setting.steps + 1))
   pub no_regions : job.regions ≡ []
 
 -- ---- with what it starts
@@ -62,11 +62,10 @@ IsTarget false job slots (Some t) = ⊥
 IsTarget true job slots None = ⊥
 IsTarget true job slots (Some t) = IsPlaced job slots t
 
--- the outcomes with which the run starts, each of which could be its trajectory's and has no bins, and where it saves
+-- the outcomes with which the run starts, each of which could be its trajectory's, and where it saves
 pub record IsOpened (job : Job) (slots : Option Pair) (o : Opening) : Type 0 where
   pub opened : IsOpening job slots o.outcomes.items
   pub fit : AreFit job o.outcomes.items
-  pub bare : All (λ outcome. IsTrue (is_bare outcome)) o.outcomes.items
   pub target : IsTarget (saves job.setting) job slots o.target
 
 -- why a run does not resume
@@ -99,9 +98,10 @@ Opens job before after (Err why) = (out : Stream) → Finishes job out out befor
 
 -- ---- what it holds before it walks
 
--- the list has room for the report on any outcomes of the job
+-- the list has room for the report on any outcomes of the job and on whatever its serial test finds
 abbrev pub HasReportRoom : Job → ℕ → Type 0
-HasReportRoom job spare = (outcomes : List Outcome) → AreOutcomesOf job outcomes → length (report job outcomes [] None) ≤ spare
+HasReportRoom job spare = (outcomes : List Outcome) (serial : Option (ℕ × List ℕ)) → AreOutcomesOf job outcomes → IsSerialOf job serial
+    → length (report job outcomes [] serial) ≤ spare
 
 -- a book of the opening's outcomes, the ids that are walked, and room for all outcomes and for the report on them
 pub record IsReadyFor (job : Job) (outcomes : List Outcome) (ready : Ready) : Type 0 where
@@ -116,7 +116,7 @@ pub record IsReadyFor (job : Job) (outcomes : List Outcome) (ready : Ready) : Ty
 -- workers over a desk, and room for a checkpoint of all outcomes
 pub record IsSavingFor {J : Type 0} (keeps : J → Type 0) (stands : J → List ℕ → Type 0) (takes : J → ℕ → ℕ → Bool) (by : J → Rules) (job : Job) (s : Saving J) : Type 0 where
   pub crew : IsDeskCrew job keeps stands takes by job.setting.workers s.crew
-  pub room : 84 + 44 * total job ≤ length s.room.items + s.room.spare
+  pub room : 84 + 80 * total job ≤ length s.room.items + s.room.spare
 
 -- ---- what it leaves
 
@@ -131,13 +131,12 @@ ended_by (Err failed) saved = ended.WriteFault
 ended_by (Ok written) (Err failed) = ended.SaveFault
 ended_by (Ok written) (Ok saved) = ended.Done
 
--- these are the outcomes of the opening and of the ids that were walked, by rising id, each of which could be its trajectory's and has no bins
+-- these are the outcomes of the opening and of the ids that were walked, by rising id, each of which could be its trajectory's
 pub record AreAll (job : Job) (opening outcomes : List Outcome) : Type 0 where
   pub full : outcomes ≡ full_of job opening
   pub count : length outcomes ≡ length opening + length (run_ids job opening job.setting.budget)
   pub few : length outcomes ≤ total job
   pub fit : AreFit job outcomes
-  pub bare : All (λ o. IsTrue (is_bare o)) outcomes
   pub start : AreFit job opening
 
 -- checkpoints were saved in turn, the last of all outcomes, unless a save failed

@@ -5,7 +5,8 @@ ghost use Rattle.audit_run.specs.Rerun.{ChainsWriteOneReport, RerunsAreAlike, St
 use ckpt_store::laws::{saves_keep_the_newest, saves_leave_honest_slots};
 
 /// How many workers there are, the budget, and what is saved and resumed change nothing of a job's digest, of what its trajectories find, and
-/// of its report.
+/// of its report. Whether it asks for bins changes nothing of its digest, of what its trajectories find with all their bins, and of which slots
+/// are honest.
 pub fn reruns_are_alike()
     ensures { RerunsAreAlike }
 {}
@@ -18,7 +19,8 @@ pub fn stops_keep_the_newest()
 }
 
 /// From honest slots, and so from absent ones, each run of any chain of halted, stopped and resumed runs of a job that ends with status 0 has
-/// written the report of one thread.
+/// written the report of one thread for the job that asks for bins as this run did, whatever the runs before it asked for and whichever version of
+/// the format the slots had at first.
 pub fn chains_write_one_report()
     ensures { ChainsWriteOneReport }
 {

@@ -10,5 +10,7 @@ pub mod opening;
 pub mod prepare;
 pub mod reading;
 pub mod run;
+pub mod serially;
+pub mod sure;
 pub mod todo;
 pub mod writing;

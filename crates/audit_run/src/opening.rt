@@ -1,8 +1,9 @@
 //! With what a run starts.
 
-ghost use Rattle.std.specs.Prelude.{◌≡◌, map, IfErr, IfOk, IsTrue, MatchResult, None, Option, Some};
+ghost use Rattle.std.specs.Prelude.{◌≡◌, ◌∷◌, [], ◌++◌, map, true, IfErr, IfOk, IsTrue, MatchResult, None, OnOk, Option, Some};
 ghost use Rattle.audit_io.specs.Slots.{IfTold, Pair};
 ghost use Rattle.audit_model.specs.Job as model;
+ghost use Rattle.audit_model.specs.Run.{is_bare, taken_up};
 ghost use Rattle.audit_model.specs.Trajectory.{bare};
 ghost use Rattle.checkpoint_definitions.specs.Checkpoint as definition;
 ghost use Rattle.ckpt_store.specs.Fitting.{AreFit, HasFitOutcomes};
@@ -79,6 +80,47 @@ fn without_bins(alloc: Global, outcomes: &[Outcome]) -> Result<OutcomeList, Memo
     Ok(bare)
 }
 
+// Whether all bins are 0.
+fn is_bare(outcome: &Outcome) -> bool
+    ensures { result ≡ is_bare outcome.now }
+{
+    outcome.bins.iter().all(|bin| *bin == 0)
+}
+
+// Appends the outcome, unless it is a walk's and has no bins.
+fn take_in(kept: &mut OutcomeList, walks: u32, outcome: &Outcome) -> Result<(), Memory>
+    ensures { OnOk result (kept.new.items ≡ kept.old.items ++ taken_up true walks (outcome.now ∷ [])) }
+{
+    if outcome.id < walks && is_bare(outcome) {
+        return Ok(());
+    }
+    kept.push(*outcome)
+}
+
+// The outcomes but those of walks that have no bins. The only error is want of memory.
+fn with_bins(alloc: Global, walks: u32, outcomes: &[Outcome]) -> Result<OutcomeList, Memory>
+    ensures { IfOk result (λ l. l.items ≡ taken_up true walks outcomes.now) }
+{
+    let mut kept = OutcomeList::with_room(alloc, outcomes.len())?;
+    for outcome in outcomes {
+        take_in(&mut kept, walks, outcome)?;
+    }
+    Ok(kept)
+}
+
+// The outcomes that the job goes on from: those that have the bins for which it asks, and where it asks for none all, without theirs. The
+// only error is want of memory.
+fn take_up(alloc: Global, job: &Job, outcomes: &[Outcome]) -> Result<OutcomeList, Memory>
+    ensures { IfOk result (λ l. l.items ≡ taken_up job.now.setting.shift job.now.setting.walks outcomes.now) }
+{
+    let setting = job.setting();
+    if setting.shift {
+        with_bins(alloc, setting.walks, outcomes)
+    } else {
+        without_bins(alloc, outcomes)
+    }
+}
+
 // Why the run does not resume.
 fn refusal(fault: StoreFault) -> Ended
     ensures { result ≡ refused_by fault }
@@ -104,7 +146,7 @@ fn open_found(alloc: Global, job: &Job, slots: Slots, digest: [u8; 32]) -> Resul
         });
     }
     match resume(alloc, slots, &digest) {
-        Ok(held) => match without_bins(alloc, held.as_slice()) {
+        Ok(held) => match take_up(alloc, job, held.as_slice()) {
             Ok(outcomes) => Ok(Opening { outcomes, target }),
             Err(_) => Err(Ended::NoMemory),
         },
@@ -127,7 +169,7 @@ fn look_and_open<C: Keeper>(alloc: Global, job: &Job, keeper: &mut C) -> Result<
     }
 }
 
-/// With what the run starts: nothing, unless it resumes; else the outcomes of the newest slot. The slots are looked at only where the run
+/// With what the run starts: nothing, unless it resumes; else the outcomes of the newest slot that it goes on from. The slots are looked at only where the run
 /// saves or resumes, and none is changed.
 pub fn open<C: Keeper>(alloc: Global, job: &Job, keeper: &mut C) -> Result<Opening, Ended>
     requires { IsRun job.now }

@@ -3,6 +3,7 @@
 use crate::ended::Ended;
 use crate::judges::guards;
 use crate::opening::{Opening, Target, open};
+use crate::serially::{make_tester, test_serially};
 use crate::todo::todo_of;
 use crate::writing::write_all;
 use audit_io::gate::Gate;
@@ -21,12 +22,13 @@ use desk_crew::laws::{run_tries_are_right, saves_hold_parts};
 use desk_crew::ran::{Ran, run_over};
 use flip_guard::judge::Judge;
 use outcome_book::book::Book;
-use outcome_book::laws::outcomes_by_id_are_mapped;
+use outcome_book::laws::{outcomes_by_id_are_mapped, outcomes_have_few_visits};
 use plan_core::job::Job;
 use std::alloc::Global;
 use std::sync::Wait;
 use std::thread::Threads;
 use tally_desk::handing::{DeskPlan, Refused};
+use walker::walker::Walker;
 
 /// What each run holds before it walks: a book of the outcomes with which it starts, the ids to walk, and room for the outcomes by rising id
 /// and for the report on them.
@@ -45,17 +47,18 @@ pub struct Walked {
     pub(crate) text: Bytes,
 }
 
-ghost use Rattle.std.specs.Prelude.{◌≡◌, ◌<◌, ◌≤◌, ◌^◌, nat_le, All, Bool, IfOk, IsTrue, List, [], length, true, false, vec_len};
+ghost use Rattle.std.specs.Prelude.{◌≡◌, ◌+◌, ◌<◌, ◌≤◌, ◌^◌, nat_le, Bool, IfOk, List, [], length, true, false, vec_len};
 ghost use Rattle.std.specs.Fn.{FnReturnsAt};
 ghost use Rattle.audit_model.specs.declared.outcome.SumsView.{SumsView as Sums};
 ghost use Rattle.walker.specs.Judges.{AreJudges};
 ghost use Rattle.audit_model.specs.declared.outcome.Outcome as model;
-ghost use Rattle.audit_model.specs.Run.{is_bare, total};
+ghost use Rattle.audit_model.specs.Run.{total};
 ghost use Rattle.ckpt_store.specs.Fitting.{AreFit};
 ghost use Rattle.report.specs.Outcomes.{AreOutcomesOf};
 ghost use Rattle.claim_crew.specs.Crews.{IsCrew};
 ghost use Rattle.audit_run.specs.Ends.{IsOpening, saves};
 ghost use Rattle.audit_run.specs.Running.{AreAll, HasReportRoom, HasWalked, IsOpened, IsPlaced, IsReadyFor, IsRun, IsSavingFor, SavedBy, ended_by, stopped_by};
+ghost use Rattle.audit_run.specs.Serially.{IsTester};
 ghost use Rattle.audit_run.specs.Steps.{Finishes};
 ghost use Rattle.audit_run.specs.World.{Kept, stream, kept};
 
@@ -66,6 +69,7 @@ fn book_of(alloc: Global, job: &Job, outcomes: &[Outcome]) -> Result<Book, Memor
     ensures total { IfOk result (λ b. b.total ≡ total job.now) }
     ensures outcomes { IfOk result (λ b. b.outcomes ≡ outcomes.now) }
 {
+    outcomes_have_few_visits();
     let mut book = Book::with_room(alloc, job.total())?;
     book.merge(outcomes);
     Ok(book)
@@ -111,11 +115,12 @@ fn end(written: Result<(), Failed>, saved: Result<(), Failed>) -> Ended
     }
 }
 
-// Writes the report, where the outcomes are all that the job has. It takes no memory.
-fn end_run<K: Sink>(
+// Makes the serial test where it is asked for and writes the report, where the outcomes are all that the job has. It takes no memory.
+fn end_run<K: Sink, J: Judge>(
     job: &Job,
     sorted: &[Outcome],
     mut text: Bytes,
+    tester: Option<Walker<J>>,
     saved: Result<(), Failed>,
     out: &mut K,
 ) -> Ended
@@ -124,6 +129,7 @@ fn end_run<K: Sink>(
     requires whole { total job.now ≤ length sorted.now → AreOutcomesOf job.now sorted.now }
     requires blank { text.items ≡ [] }
     requires room { HasReportRoom job.now text.spare }
+    requires tester { IsTester J.keeps J.stands J.takes J.rules job.now tester }
     ensures { (opening : List model.Outcome) (before after : Kept) → IsOpening job.now before.slots opening → AreAll job.now opening sorted.now
         → SavedBy (saves job.now.setting) job.now opening before after saved
         → Finishes job.now (stream K.taken K.faults out.old) (stream K.taken K.faults out.new) before after result }
@@ -133,7 +139,8 @@ fn end_run<K: Sink>(
     if done < total {
         return stop(done, total, saved);
     }
-    report::text(job, sorted, &[], None, &mut text);
+    let serial = test_serially(job, tester);
+    report::text(job, sorted, &[], serial, &mut text);
     let written = write_all(out, text.as_slice());
     end(written, saved)
 }
@@ -148,7 +155,6 @@ fn walk<R: Threads + Sync, J: Judge + Send, G: Gate + Sync>(
 ) -> Walked
     requires run { IsRun job.now }
     requires fit { AreFit job.now ready.book.outcomes }
-    requires bare { All (λ o. IsTrue (is_bare o)) ready.book.outcomes }
     requires ready { IsReadyFor job.now ready.book.outcomes ready }
     requires crew { IsCrew J.keeps J.stands J.takes J.rules job.now (length ready.todo) crew }
     ensures { HasWalked job.now ready.book.outcomes result }
@@ -170,19 +176,20 @@ fn walk_and_end<R: Threads + Sync, K: Sink, J: Judge + Send, G: Gate + Sync>(
     opening: &[Outcome],
     ready: Ready,
     crew: Crew<J>,
+    tester: Option<Walker<J>>,
     out: &mut K,
     gate: &G,
 ) -> Ended
     requires run { IsRun job.now }
     requires unsaved { saves job.now.setting ≡ false }
     requires fit { AreFit job.now opening.now }
-    requires bare { All (λ o. IsTrue (is_bare o)) opening.now }
     requires ready { IsReadyFor job.now opening.now ready }
     requires crew { IsCrew J.keeps J.stands J.takes J.rules job.now (length ready.todo) crew }
+    requires tester { IsTester J.keeps J.stands J.takes J.rules job.now tester }
     ensures { (k : Kept) → IsOpening job.now k.slots opening.now → Finishes job.now (stream K.taken K.faults out.old) (stream K.taken K.faults out.new) k k result }
 {
     let Walked { sorted, text } = walk(rt, job, ready, crew, gate);
-    end_run(job, sorted.as_slice(), text, Ok(()), out)
+    end_run(job, sorted.as_slice(), text, tester, Ok(()), out)
 }
 
 // Takes the rest of the memory of a run that saves nothing, walks as many trajectories as the budget allows, and writes the report.
@@ -192,6 +199,7 @@ fn finish_unsaved<R: Threads + Sync, K: Sink, J: Judge + Send, G: Gate + Sync>(
     job: &Job,
     opening: &[Outcome],
     judges: Vec<J>,
+    tester: Option<Walker<J>>,
     out: &mut K,
     gate: &G,
 ) -> Ended
@@ -200,7 +208,7 @@ fn finish_unsaved<R: Threads + Sync, K: Sink, J: Judge + Send, G: Gate + Sync>(
     requires workers { vec_len judges ≡ job.now.setting.workers }
     requires unsaved { saves job.now.setting ≡ false }
     requires fit { AreFit job.now opening.now }
-    requires bare { All (λ o. IsTrue (is_bare o)) opening.now }
+    requires tester { IsTester J.keeps J.stands J.takes J.rules job.now tester }
     ensures { (k : Kept) → IsOpening job.now k.slots opening.now → Finishes job.now (stream K.taken K.faults out.old) (stream K.taken K.faults out.new) k k result }
 {
     let ready = match make_ready(alloc, job, opening) {
@@ -208,7 +216,7 @@ fn finish_unsaved<R: Threads + Sync, K: Sink, J: Judge + Send, G: Gate + Sync>(
         Err(_) => return Ended::NoMemory,
     };
     match recruit(alloc, job, ready.todo.len() as u32, judges) {
-        Ok(crew) => walk_and_end(rt, job, opening, ready, crew, out, gate),
+        Ok(crew) => walk_and_end(rt, job, opening, ready, crew, tester, out, gate),
         Err(_) => Ended::NoMemory,
     }
 }
@@ -228,7 +236,7 @@ fn make_saving<J: Judge>(alloc: Global, job: &Job, judges: Vec<J>) -> Result<Sav
     ensures { IfOk result (IsSavingFor J.keeps J.stands J.takes J.rules job.now) }
 {
     let crew = desk_crew::crew::recruit(alloc, job, judges)?;
-    let room = Bytes::with_room(alloc, 84 + 44 * job.total() as usize)?;
+    let room = Bytes::with_room(alloc, 84 + 80 * job.total() as usize)?;
     Ok(Saving { crew, room })
 }
 
@@ -248,6 +256,7 @@ fn save_and_end<
     target: Target,
     ready: Ready,
     saving: Saving<J>,
+    tester: Option<Walker<J>>,
     out: &mut K,
     keeper: C,
     gate: &G,
@@ -257,9 +266,9 @@ fn save_and_end<
     requires placed { IsPlaced job.now (C.slots keeper) target }
     requires opened { IsOpening job.now (C.slots keeper) opening.now.outcomes.items }
     requires fit { AreFit job.now opening.now.outcomes.items }
-    requires bare { All (λ o. IsTrue (is_bare o)) opening.now.outcomes.items }
     requires ready { IsReadyFor job.now opening.now.outcomes.items ready }
     requires saving { IsSavingFor J.keeps J.stands J.takes J.rules job.now saving }
+    requires tester { IsTester J.keeps J.stands J.takes J.rules job.now tester }
     ensures { Finishes job.now (stream K.taken K.faults out.old) (stream K.taken K.faults out.new)
         (kept C.slots C.tried C.load_faults C.save_faults keeper) (kept C.slots C.tried C.load_faults C.save_faults result.1) result.0 }
 {
@@ -295,7 +304,7 @@ fn save_and_end<
     ) {
         Ok(ran) => {
             let Ran { keeper, saved } = ran;
-            let why = end_run(job, sorted.as_slice(), text, saved, out);
+            let why = end_run(job, sorted.as_slice(), text, tester, saved, out);
             (why, keeper)
         }
         Err(Refused { book: _, keeper }) => (Ended::NoMemory, keeper),
@@ -317,6 +326,7 @@ fn finish_saved<
     opening: &Opening,
     target: Target,
     judges: Vec<J>,
+    tester: Option<Walker<J>>,
     out: &mut K,
     keeper: C,
     gate: &G,
@@ -328,7 +338,7 @@ fn finish_saved<
     requires placed { IsPlaced job.now (C.slots keeper) target }
     requires opened { IsOpening job.now (C.slots keeper) opening.now.outcomes.items }
     requires fit { AreFit job.now opening.now.outcomes.items }
-    requires bare { All (λ o. IsTrue (is_bare o)) opening.now.outcomes.items }
+    requires tester { IsTester J.keeps J.stands J.takes J.rules job.now tester }
     ensures { Finishes job.now (stream K.taken K.faults out.old) (stream K.taken K.faults out.new)
         (kept C.slots C.tried C.load_faults C.save_faults keeper) (kept C.slots C.tried C.load_faults C.save_faults result.1) result.0 }
 {
@@ -338,14 +348,14 @@ fn finish_saved<
     };
     match make_saving(alloc, job, judges) {
         Ok(saving) => save_and_end(
-            rt, alloc, job, opening, target, ready, saving, out, keeper, gate,
+            rt, alloc, job, opening, target, ready, saving, tester, out, keeper, gate,
         ),
         Err(_) => (Ended::NoMemory, keeper),
     }
 }
 
-// Does the rest of a run that starts so, with a judge for each worker.
-fn finish_judged<
+// Does the rest of a run that starts so, with a judge for each worker, and with what makes the serial test where it is asked for.
+fn finish_tested<
     R: Threads + Wait + Sync,
     K: Sink,
     C: Keeper + Send,
@@ -357,6 +367,7 @@ fn finish_judged<
     job: &Job,
     opening: Opening,
     judges: Vec<J>,
+    tester: Option<Walker<J>>,
     out: &mut K,
     keeper: C,
     gate: &G,
@@ -365,6 +376,7 @@ fn finish_judged<
     requires opened { IsOpened job.now (C.slots keeper) opening }
     requires judges { AreJudges job.now J.keeps J.takes J.rules judges.items }
     requires workers { vec_len judges ≡ job.now.setting.workers }
+    requires tester { IsTester J.keeps J.stands J.takes J.rules job.now tester }
     ensures { Finishes job.now (stream K.taken K.faults out.old) (stream K.taken K.faults out.new)
         (kept C.slots C.tried C.load_faults C.save_faults keeper) (kept C.slots C.tried C.load_faults C.save_faults result.1) result.0 }
 {
@@ -376,12 +388,48 @@ fn finish_judged<
                 job,
                 opening.outcomes.as_slice(),
                 judges,
+                tester,
                 out,
                 gate,
             );
             (why, keeper)
         }
-        Some(target) => finish_saved(rt, alloc, job, &opening, target, judges, out, keeper, gate),
+        Some(target) => finish_saved(
+            rt, alloc, job, &opening, target, judges, tester, out, keeper, gate,
+        ),
+    }
+}
+
+// Does the rest of a run that starts so, with a judge for each worker and one for the serial test.
+fn finish_judged<
+    R: Threads + Wait + Sync,
+    K: Sink,
+    C: Keeper + Send,
+    J: Judge + Send,
+    G: Gate + Sync,
+>(
+    rt: &R,
+    alloc: Global,
+    job: &Job,
+    opening: Opening,
+    mut judges: Vec<J>,
+    out: &mut K,
+    keeper: C,
+    gate: &G,
+) -> (Ended, C)
+    requires run { IsRun job.now }
+    requires opened { IsOpened job.now (C.slots keeper) opening }
+    requires judges { AreJudges job.now J.keeps J.takes J.rules judges.items }
+    requires workers { vec_len judges ≡ job.now.setting.workers + 1 }
+    ensures { Finishes job.now (stream K.taken K.faults out.old) (stream K.taken K.faults out.new)
+        (kept C.slots C.tried C.load_faults C.save_faults keeper) (kept C.slots C.tried C.load_faults C.save_faults result.1) result.0 }
+{
+    let Some(judge) = judges.pop() else {
+        unreachable!()
+    };
+    match make_tester(alloc, job, judge) {
+        Ok(tester) => finish_tested(rt, alloc, job, opening, judges, tester, out, keeper, gate),
+        Err(_) => (Ended::NoMemory, keeper),
     }
 }
 
@@ -411,7 +459,7 @@ pub fn finish_run<R: Threads + Wait + Sync, K: Sink, C: Keeper + Send, G: Gate +
         move |sums: &SumsView| sums.cut <= max_cut,
         max_cut,
         max_split,
-        workers,
+        workers + 1,
     ) {
         Ok(judges) => finish_judged(rt, alloc, job, opening, judges, out, keeper, gate),
         Err(_) => (Ended::NoMemory, keeper),

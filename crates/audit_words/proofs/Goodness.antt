@@ -4,7 +4,7 @@ use Rattle.std.proofs.lemmas.Bool.{and_parts, false≢true, leb-true}
 use Rattle.std.specs.Prelude.{◌&&◌, nat_le, is_some, unwrap_or, bytes_eq, codes}
 use Rattle.std.specs.List.{filter_map}
 use Rattle.audit_model.specs.declared.fault.Name.{Name}
-use Rattle.audit_model.specs.declared.fault.Name.TheVariants.{Pop, Size, Slack, Key, Walks, Steps, Ends, HubSteps, Ask, Workers, Budget, Save, Resume, MaxCut}
+use Rattle.audit_model.specs.declared.fault.Name.TheVariants.{Pop, Size, Slack, Key, Walks, Steps, Ends, HubSteps, Ask, Workers, Budget, Save, Resume, MaxCut, Shift, Serial}
 use Rattle.audit_model.specs.declared.fault.WordFault.TheVariants.{BadValue}
 use Rattle.audit_model.specs.declared.setting.Ask.{Ask as AskOf}
 use Rattle.audit_model.specs.declared.setting.Command.TheVariants.{Check, Run, Make, Plans}
@@ -56,9 +56,9 @@ find-all good (name ∷ names) h zero l = (find-last good name names h).0
 find-all good (name ∷ names) h (suc k) l = find-all good names (find-last good name names h).1 k (omega arith)
 
 AreGood-values : (words : List Pair) → option_map BadValue (find (λ name. not (is_good Check words name))
-    (Slack ∷ Key ∷ Walks ∷ Steps ∷ Ends ∷ HubSteps ∷ Ask ∷ Workers ∷ Budget ∷ Save ∷ Resume ∷ MaxCut ∷ [])) ≡ None → AreGood words
+    (Slack ∷ Key ∷ Walks ∷ Steps ∷ Ends ∷ HubSteps ∷ Ask ∷ Workers ∷ Budget ∷ Save ∷ Resume ∷ MaxCut ∷ Shift ∷ Serial ∷ [])) ≡ None → AreGood words
 AreGood-values words h =
-    let good = find-all (is_good Check words) (Slack ∷ Key ∷ Walks ∷ Steps ∷ Ends ∷ HubSteps ∷ Ask ∷ Workers ∷ Budget ∷ Save ∷ Resume ∷ MaxCut ∷ []) h in
+    let good = find-all (is_good Check words) (Slack ∷ Key ∷ Walks ∷ Steps ∷ Ends ∷ HubSteps ∷ Ask ∷ Workers ∷ Budget ∷ Save ∷ Resume ∷ MaxCut ∷ Shift ∷ Serial ∷ []) h in
     record {
       slack = good 0 (omega arith);
       key = good 1 (omega arith);
@@ -72,6 +72,8 @@ AreGood-values words h =
       save = good 9 (omega arith);
       resume = good 10 (omega arith);
       max_cut = good 11 (omega arith);
+      shift = good 12 (omega arith);
+      serial = good 13 (omega arith);
     }
 
 -- no word spells the command of several plans

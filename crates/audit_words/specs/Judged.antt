@@ -2,7 +2,7 @@
 use Rattle.std.specs.Prelude.{◌≡◌, true, not, is_none, find, List, length, Option, option_map}
 use Rattle.audit_model.specs.First.{first_some_below}
 use Rattle.audit_model.specs.declared.fault.Name.{Name}
-use Rattle.audit_model.specs.declared.fault.Name.TheVariants.{Size, Slack, Key, Walks, Steps, Ends, HubSteps, Ask, Workers, Budget, Save, Resume, MaxCut, Stop, Serial}
+use Rattle.audit_model.specs.declared.fault.Name.TheVariants.{Size, Slack, Key, Walks, Steps, Ends, HubSteps, Ask, Workers, Budget, Save, Resume, MaxCut, Shift, Stop, Serial}
 use Rattle.audit_model.specs.declared.fault.WordFault.{WordFault}
 use Rattle.audit_model.specs.declared.fault.WordFault.TheVariants.{MissingName, BadValue}
 use Rattle.audit_model.specs.declared.setting.Command.{Command}
@@ -43,6 +43,8 @@ pub record AreGood (words : List Pair) : Type 0 where
   pub save : is_good Check words Save ≡ true
   pub resume : is_good Check words Resume ≡ true
   pub max_cut : is_good Check words MaxCut ≡ true
+  pub shift : is_good Check words Shift ≡ true
+  pub serial : is_good Check words Serial ≡ true
 
 -- the values from which the setting of a command is made are good
 abbrev pub AreReadable : Command → List Pair → Type 0

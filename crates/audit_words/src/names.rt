@@ -15,7 +15,7 @@ const OF_CHECK: [Name; 6] = [
     Name::MaxCut,
 ];
 
-const OF_RUN: [Name; 16] = [
+const OF_RUN: [Name; 18] = [
     Name::Pop,
     Name::First,
     Name::Second,
@@ -32,9 +32,11 @@ const OF_RUN: [Name; 16] = [
     Name::Save,
     Name::Resume,
     Name::MaxCut,
+    Name::Shift,
+    Name::Serial,
 ];
 
-const OF_MAKE: [Name; 13] = [
+const OF_MAKE: [Name; 15] = [
     Name::Size,
     Name::Slack,
     Name::Key,
@@ -48,6 +50,8 @@ const OF_MAKE: [Name; 13] = [
     Name::Save,
     Name::Resume,
     Name::MaxCut,
+    Name::Shift,
+    Name::Serial,
 ];
 
 /// The value of a name that is not given, where the name may be left out.

@@ -108,9 +108,9 @@ fn run_setting(
         resume: text_of(words, Name::Resume) == "yes",
         size,
         max_cut: number_at(words, Name::MaxCut),
-        shift: false,
+        shift: text_of(words, Name::Shift) == "yes",
         stop: 0,
-        serial: false,
+        serial: text_of(words, Name::Serial) == "yes",
         region: Text::new(alloc),
         max_split: 200,
     })

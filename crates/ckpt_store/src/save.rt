@@ -1,11 +1,9 @@
 //! Saving a checkpoint.
 
-ghost use Rattle.std.specs.Prelude.{◌≡◌, ◌+◌, ◌-◌, ◌*◌, ◌%◌, ◌<◌, ◌≤◌, IsTrue, length, map, OnErr, OnOk, is_ok};
-ghost use Rattle.std.specs.List.{list_all};
+ghost use Rattle.std.specs.Prelude.{◌≡◌, ◌+◌, ◌-◌, ◌*◌, ◌%◌, ◌<◌, ◌≤◌, length, map, OnErr, OnOk, is_ok};
 ghost use Rattle.audit_io.specs.Faults.{HasCause};
 ghost use Rattle.audit_io.specs.Slots.{HoldsBytes, IfTold, KeepsOther};
 ghost use Rattle.audit_io.specs.Tries.{tried_too};
-ghost use Rattle.audit_model.specs.Run.{is_bare};
 ghost use Rattle.checkpoint_definitions.specs.Checkpoint.{AreRising, IsCheckpoint, checkpoint};
 ghost use Rattle.ckpt_store.specs.Laws.{IsNewestForFitJobs};
 
@@ -14,9 +12,9 @@ use audit_io::keeper::Keeper;
 use audit_io::source::Failed;
 use audit_model::buffers::Bytes;
 use audit_model::outcome::Outcome;
-use ckpt_format::encode::encode_old;
+use ckpt_format::encode::encode;
 
-/// Saves the checkpoint of outcomes without bins in the slot of a place, in the first version of the format, and moves the
+/// Saves the checkpoint of outcomes, with bins or without, in the slot of a place, in the second version of the format, and moves the
 /// place on to the other slot and the next generation. It takes no memory but the keeper's.
 ///
 /// # Errors
@@ -33,20 +31,19 @@ pub fn save<C: Keeper>(
     requires generation { place.old.generation < 3 }
     requires few { length outcomes.now ≤ 100000 }
     requires rising { AreRising (map (λ o. o.id) outcomes.now) }
-    requires bare { IsTrue (list_all is_bare outcomes.now) }
-    requires room { 84 + 44 * length outcomes.now ≤ length room.old.items + room.old.spare }
-    ensures saved { OnOk result (HoldsBytes (C.slots keeper.new) place.old.slot (checkpoint 1 digest.now place.old.generation outcomes.now)) }
-    ensures sound { IsCheckpoint (checkpoint 1 digest.now place.old.generation outcomes.now) 1 digest.now place.old.generation outcomes.now }
+    requires room { 84 + 80 * length outcomes.now ≤ length room.old.items + room.old.spare }
+    ensures saved { OnOk result (HoldsBytes (C.slots keeper.new) place.old.slot (checkpoint 2 digest.now place.old.generation outcomes.now)) }
+    ensures sound { IsCheckpoint (checkpoint 2 digest.now place.old.generation outcomes.now) 2 digest.now place.old.generation outcomes.now }
     ensures newest { OnOk result (IfTold (C.slots keeper.new) (IsNewestForFitJobs digest.now place.old.slot place.old.generation outcomes.now)) }
     ensures moved { OnOk result (place.new ≡ record { slot = 1 - place.old.slot; generation = (place.old.generation + 1) % 3 }) }
     ensures kept { OnErr result (place.new ≡ place.old) }
     ensures other { KeepsOther (C.slots keeper.old) (C.slots keeper.new) place.old.slot }
     ensures cause { HasCause (C.save_faults keeper.old) (C.save_faults keeper.new) result }
     ensures loads { C.load_faults keeper.new ≡ C.load_faults keeper.old }
-    ensures tried { C.tried keeper.new ≡ tried_too (C.tried keeper.old) place.old.slot (checkpoint 1 digest.now place.old.generation outcomes.now) (is_ok result) }
+    ensures tried { C.tried keeper.new ≡ tried_too (C.tried keeper.old) place.old.slot (checkpoint 2 digest.now place.old.generation outcomes.now) (is_ok result) }
     ensures room { length room.new.items + room.new.spare ≡ length room.old.items + room.old.spare }
 {
-    encode_old(digest, place.generation, outcomes, room);
+    encode(digest, place.generation, outcomes, room);
     keeper.save(place.slot, room.as_slice())?;
     *place = Place {
         slot: 1 - place.slot,

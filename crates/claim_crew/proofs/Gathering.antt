@@ -3,10 +3,13 @@ use Rattle.std.proofs.Common.{◌≡◌, ◌∙◌, sym, ap, subst, ℕ, ◌<◌
 use Rattle.std.specs.Prelude.{◌≢◌, IsFalse}
 use Rattle.std.proofs.Math.Seq.{get_or-append_seam}
 use Rattle.std.proofs.lemmas.List.{map-append, get_or-take, get_or_append_left, length-take}
+use Rattle.std.proofs.lemmas.List.Elements.{All-map}
 use Rattle.audit_model.specs.declared.outcome.Outcome.{Outcome}
 use Rattle.audit_model.specs.Job.{Job}
 use Rattle.audit_model.specs.Run.{total, has_id}
-use Rattle.outcome_book.specs.Booked.{AreApart}
+use Rattle.audit_model.specs.Trajectory.{outcome}
+use Rattle.draw_definitions.specs.Draw.{draw}
+use Rattle.outcome_book.specs.Booked.{AreApart, HasFewVisits}
 use Rattle.claim_counter.specs.declared.claims.Claims.{Claims}
 use Rattle.claim_counter.specs.Records.{AreDifferentBelow}
 use Rattle.claim_counter.specs.Passes.{own, size_of}
@@ -16,7 +19,7 @@ use Rattle.walker.specs.declared.walker.Walker.{Walker}
 use Rattle.walker.specs.Seated.{IsSeated, held_of}
 use Rattle.claim_crew.specs.Crews.{IsDone, IsReady}
 use Rattle.claim_crew.specs.Walks.{found_at, Lacks, IsTodo, IsWithin}
-use Rattle.claim_crew.proofs.Sharing.{share_within, share_apart, share_absent, lacks_others}
+use Rattle.claim_crew.proofs.Sharing.{found_is, share_within, share_apart, share_absent, lacks_others}
 
 pub popped_last : {A : Type 0} (P : A → Type 0) (all rest : List A) (x : A) → All P all → all ≡ rest ++ x ∷ [] → P x
 popped_last P all rest x each is =
@@ -55,6 +58,12 @@ module _ {J : Type 0} (job : Job) (todo : List ℕ) (c : Claims) (w : Worker J) 
 
   pub done_apart : AllPairs (λ a b. a ≢ b) todo → AreApart w.share.items
   done_apart apart = subst AreApart (sym done.shared) (share_apart job todo places different apart)
+
+  -- the bins of each outcome are few enough for the book
+  pub done_few : ((id : ℕ) → HasFewVisits (outcome job (draw job.setting.key) id)) → All HasFewVisits w.share.items
+  done_few law =
+      subst (All HasFewVisits) (sym done.shared)
+      (All-map HasFewVisits (found_at job todo) places (λ k d inside. subst HasFewVisits (sym (found_is job (get_or todo (get_or places k d) 0))) (law (get_or todo (get_or places k d) 0))))
 
   absent_from : (now : List Outcome) (before : List ℕ) → AreDifferentBelow (length todo) (before ++ places) → Lacks now todo before
       → All (λ o. IsFalse (has_id now o.id)) w.share.items

@@ -73,6 +73,10 @@ one_place xs apart a b first second same = by (cases_order a b)
 
 -- ---- what is found at places of todo
 
+pub found_is : (job : Job) (id : ℕ) → found job id ≡ outcome job (draw job.setting.key) id
+unfolding found
+found_is job id = refl
+
 pub found_id : (job : Job) (id : ℕ) → (found job id).id ≡ id
 unfolding found
 found_id job id = by (nat_lt id job.setting.walks) job.setting.shift

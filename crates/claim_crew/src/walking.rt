@@ -1,12 +1,12 @@
 //! The trajectories of a run, walked by several threads.
 
 ghost use Rattle.std.specs.List.{AllPairs};
-ghost use Rattle.std.specs.Prelude.{◌≡◌, false, true, ◌+◌, ◌<◌, ◌≤◌, ◌++◌, ℕ, All, IsFalse, length, map, vec_len, IsPermutation};
+ghost use Rattle.std.specs.Prelude.{◌≡◌, true, ◌+◌, ◌<◌, ◌≤◌, ◌++◌, ℕ, All, IsFalse, length, map, vec_len, IsPermutation};
 ghost use Rattle.claim_counter.specs.Records.{joined, AreDifferentBelow};
 ghost use Rattle.claim_counter.specs.Passes.{own, size_of, BelongsTo};
 ghost use Rattle.audit_model.specs.Run.{total, has_id, run_ids, full};
 ghost use Rattle.draw_definitions.specs.Draw.{draw};
-ghost use Rattle.outcome_book.specs.Booked.{AreApart};
+ghost use Rattle.outcome_book.specs.Booked.{AreApart, HasFewVisits};
 ghost use Rattle.walker.specs.Seated.{IsSeated, held_of};
 ghost use Rattle.claim_crew.specs.Crews.{IsReady, IsDone, IsCrew};
 ghost use Rattle.claim_crew.specs.Walks.{found, found_at, IsTodo, IsWithin, ServesEnds};
@@ -19,7 +19,7 @@ use audit_model::lists::UnitList;
 use claim_counter::{Claims, Pass};
 use flip_guard::judge::Judge;
 use outcome_book::book::Book;
-use outcome_book::laws::outcomes_by_id_are_mapped;
+use outcome_book::laws::{outcomes_by_id_are_mapped, outcomes_have_few_visits};
 use plan_core::job::Job;
 use std::thread;
 use std::thread::Threads;
@@ -65,7 +65,6 @@ fn walk_each<R: Threads + Sync, J: Judge + Send, G: Gate + Sync>(
     requires count { (size_of claims.now).limit ≡ length todo.now }
     requires within { IsWithin job.now todo.now }
     requires hub { ServesEnds job.now todo.now hub.now }
-    requires bare { job.now.setting.shift ≡ false }
     ensures { All (IsDone job.now todo.now claims.now) workers.new }
 {
     let threads = workers.len().max(1);
@@ -78,7 +77,6 @@ fn walk_each<R: Threads + Sync, J: Judge + Send, G: Gate + Sync>(
             requires count { (size_of claims.now).limit ≡ length todo.now }
             requires within { IsWithin job.now todo.now }
             requires hub { ServesEnds job.now todo.now hub.now }
-            requires bare { job.now.setting.shift ≡ false }
             ensures { IsDone job.entry.now todo.entry.now claims.entry.now worker.new }
         { worker.run(job, todo, hub, gate, claims) },
     );
@@ -89,6 +87,7 @@ fn hand_in<J: Judge>(worker: Worker<J>, book: &mut Book) -> Pass
     requires below { All (λ o. o.id < book.old.total) worker.share.items }
     requires absent { All (λ o. IsFalse (has_id book.old.outcomes o.id)) worker.share.items }
     requires apart { AreApart worker.share.items }
+    requires bins { All HasFewVisits worker.share.items }
     ensures pass { result ≡ worker.pass }
     ensures total { book.new.total ≡ book.old.total }
     ensures outcomes { book.new.outcomes ≡ book.old.outcomes ++ worker.share.items }
@@ -110,6 +109,7 @@ fn take_in<J: Judge>(claims: &Claims, pass: Pass, worker: Worker<J>, book: &mut 
     requires absent { AreDifferentBelow (size_of claims.now).limit ((own pass).claims ++ (own worker.pass).claims)
         → All (λ o. IsFalse (has_id book.old.outcomes o.id)) worker.share.items }
     requires apart { AreApart worker.share.items }
+    requires bins { All HasFewVisits worker.share.items }
     ensures pass { BelongsTo claims.now result }
     ensures both { own result ≡ joined (own pass) (own worker.pass) }
     ensures different { AreDifferentBelow (size_of claims.now).limit (own result).claims }
@@ -145,6 +145,8 @@ fn gather<J: Judge>(
     ensures total { book.new.total ≡ book.old.total }
     ensures outcomes { book.new.outcomes ≡ book.old.outcomes ++ map (found_at job.now todo.now) (own result).claims }
 {
+    outcomes_have_few_visits();
+    let _units = job.units();
     let Some(first) = workers.pop() else {
         unreachable!()
     };
@@ -168,7 +170,6 @@ pub fn walk_all<R: Threads + Sync, J: Judge + Send, G: Gate + Sync>(
     requires crew { IsCrew J.keeps J.stands J.takes J.rules job.now (length todo.now) crew }
     requires todo { IsTodo job.now book.old.outcomes todo.now }
     requires total { book.old.total ≡ total job.now }
-    requires bare { job.now.setting.shift ≡ false }
     ensures total { book.new.total ≡ book.old.total }
     ensures outcomes { IsPermutation book.new.outcomes (book.old.outcomes ++ map (found job.now) todo.now) }
 {
@@ -205,7 +206,6 @@ pub fn walk_run<R: Threads + Sync, J: Judge + Send, G: Gate + Sync>(
     requires todo { IsTodo job.now book.old.outcomes todo.now }
     requires total { book.old.total ≡ total job.now }
     requires room { book.old.total ≤ length out.old.items + out.old.spare }
-    requires bare { job.now.setting.shift ≡ false }
     ensures total { book.new.total ≡ book.old.total }
     ensures outcomes { IsPermutation book.new.outcomes (book.old.outcomes ++ map (found job.now) todo.now) }
     ensures full { (budget : ℕ) → todo.now ≡ run_ids job.now book.old.outcomes budget

@@ -19,7 +19,7 @@ pub struct Worker<J> {
 }
 
 impl<J: Judge> Worker<J> {
-    ghost use Rattle.std.specs.Prelude.{◌≡◌, false, IfOk, length};
+    ghost use Rattle.std.specs.Prelude.{◌≡◌, IfOk, length};
     ghost use Rattle.audit_model.specs.Job.{rules};
     ghost use Rattle.flip_kernel.specs.Judged.{TakesPlansOf};
     ghost use Rattle.claim_counter.specs.Records.{fresh};
@@ -58,7 +58,6 @@ impl<J: Judge> Worker<J> {
         requires count { (size_of claims.now).limit ≡ length todo.now }
         requires within { IsWithin job.now todo.now }
         requires hub { ServesEnds job.now todo.now hub.now }
-        requires bare { job.now.setting.shift ≡ false }
         ensures { IsDone job.now todo.now claims.now self.new }
     {
         let walker = &mut self.walker;

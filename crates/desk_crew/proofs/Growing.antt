@@ -39,14 +39,14 @@ module _ (parts : Parts) (plan : IsPlan parts) where
 
   -- the length of a checkpoint of the opening and of so many posts
   abbrev size : ℕ → ℕ
-  size n = 84 + 44 * (length parts.opening + n)
+  size n = 84 + 80 * (length parts.opening + n)
 
   sized : (generation : ℕ) (posted : List Entry) → OfTodo posted
-      → IsCheckpoint (checkpoint 1 (job_digest parts.job) generation (by_id (total parts.job) (booked parts posted))) 1 (job_digest parts.job) generation (by_id (total parts.job) (booked parts posted))
-      → length (checkpoint 1 (job_digest parts.job) generation (by_id (total parts.job) (booked parts posted))) ≡ size (length posted)
+      → IsCheckpoint (checkpoint 2 (job_digest parts.job) generation (by_id (total parts.job) (booked parts posted))) 2 (job_digest parts.job) generation (by_id (total parts.job) (booked parts posted))
+      → length (checkpoint 2 (job_digest parts.job) generation (by_id (total parts.job) (booked parts posted))) ≡ size (length posted)
   sized generation posted of_todo sound =
-      length-checkpoint 1 (job_digest parts.job) generation (by_id (total parts.job) (booked parts posted)) sound.digest_length sound.each
-      ∙ ap (λ (n : ℕ). 84 + 44 * n) (holds_part parts plan posted of_todo).counted
+      length-checkpoint 2 (job_digest parts.job) generation (by_id (total parts.job) (booked parts posted)) sound.digest_length sound.each
+      ∙ ap (λ (n : ℕ). 84 + 80 * n) (holds_part parts plan posted of_todo).counted
 
   one_longer : (earlier : List Entry) (e : Entry) → length (earlier ++ e ∷ []) ≡ length earlier + 1
   one_longer earlier e = length-append earlier (e ∷ [])
@@ -124,16 +124,16 @@ module _ (parts : Parts) (plan : IsPlan parts) where
 
   pub growing : (last_saved succeeded : Bool) (posted : List Entry) → OfTodo posted → All (IsSound parts.job) (made parts posted) → last_saved ≡ ends_saved posted
       → (last_saved ≡ false
-      → IsCheckpoint (checkpoint 1 (job_digest parts.job) (moved (saves posted) parts.place).generation (by_id (total parts.job) (booked parts posted)))
-      1 (job_digest parts.job) (moved (saves posted) parts.place).generation (by_id (total parts.job) (booked parts posted)))
+      → IsCheckpoint (checkpoint 2 (job_digest parts.job) (moved (saves posted) parts.place).generation (by_id (total parts.job) (booked parts posted)))
+      2 (job_digest parts.job) (moved (saves posted) parts.place).generation (by_id (total parts.job) (booked parts posted)))
       → AllPairs IsLater (run_tries last_saved succeeded parts posted)
   growing last_saved succeeded posted of_todo sound last rest_sound =
       grow posted [] (rest_tries last_saved succeeded parts posted) of_todo sound (enough last_saved rest_sound) (λ ends. none last_saved (last ∙ ends)) (one last_saved)
     where
       enough : (b : Bool)
           → (b ≡ false
-          → IsCheckpoint (checkpoint 1 (job_digest parts.job) (moved (saves posted) parts.place).generation (by_id (total parts.job) (booked parts posted)))
-          1 (job_digest parts.job) (moved (saves posted) parts.place).generation (by_id (total parts.job) (booked parts posted)))
+          → IsCheckpoint (checkpoint 2 (job_digest parts.job) (moved (saves posted) parts.place).generation (by_id (total parts.job) (booked parts posted)))
+          2 (job_digest parts.job) (moved (saves posted) parts.place).generation (by_id (total parts.job) (booked parts posted)))
           → All (HasAtLeast (length posted)) (rest_tries b succeeded parts posted)
       enough true h = All-nil (HasAtLeast (length posted))
       enough false h =

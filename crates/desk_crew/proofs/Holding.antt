@@ -97,10 +97,10 @@ saves_hold_parts parts part plan of_todo = holds_part parts plan part of_todo
 
 pub run_tries_are_right : RunTriesAreRight
 run_tries_are_right parts t plan opening is = record {
-  version = 1;
+  version = 2;
   generation = is.generation;
   outcomes = by_id (total parts.job) (booked parts is.part);
-  sound = subst (λ (bytes : List ℕ). IsCheckpoint bytes 1 (job_digest parts.job) is.generation (by_id (total parts.job) (booked parts is.part))) (sym is.bytes_are) is.sound;
+  sound = subst (λ (bytes : List ℕ). IsCheckpoint bytes 2 (job_digest parts.job) is.generation (by_id (total parts.job) (booked parts is.part))) (sym is.bytes_are) is.sound;
   fit = by_id_fit (fits parts.job) (total parts.job) (booked parts is.part) (booked_fit parts plan is.part is.of_todo);
   right = saved_outcomes_are_right parts is.part plan is.of_todo opening;
 }

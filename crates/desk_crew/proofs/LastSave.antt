@@ -122,9 +122,9 @@ module _ {C : Type 0} (load_faults save_faults : C → ℕ) (slots : C → Optio
 
   -- the last save was made
   saved_now : UnfailedRunsSaveInTurn → kept.failed_saves ≡ 0 → kept.last_saved ≡ false → (sorted : List Outcome) → sorted ≡ by_id kept.book.total kept.book.outcomes
-      → IsCheckpoint (checkpoint 1 digest kept.place.generation sorted) 1 digest kept.place.generation sorted → (a c d : Option Pair) → IsPlaceFor parts.job a parts.place
+      → IsCheckpoint (checkpoint 2 digest kept.place.generation sorted) 2 digest kept.place.generation sorted → (a c d : Option Pair) → IsPlaceFor parts.job a parts.place
       → IfToldThen a c (λ p q. SlotsAs parts p q kept.place posted) → KeepsOther c d kept.place.slot
-      → HoldsBytes d kept.place.slot (checkpoint 1 digest kept.place.generation sorted) → IfTold d (IsNewestForFitJobs digest kept.place.slot kept.place.generation sorted)
+      → HoldsBytes d kept.place.slot (checkpoint 2 digest kept.place.generation sorted) → IfTold d (IsNewestForFitJobs digest kept.place.slot kept.place.generation sorted)
       → IfToldThen a d (λ p q. SavesInTurn parts p q posted)
   saved_now law none last sorted is sound None c d first told other held fresh = tt
   saved_now law none last sorted is sound (Some p) None d first told other held fresh = absurd told
@@ -134,8 +134,8 @@ module _ {C : Type 0} (load_faults save_faults : C → ℕ) (slots : C → Optio
       let same : sorted ≡ all = is ∙ ap (λ (b : Booked). by_id b.total b.outcomes) k.closed.kept.book_is in
       let rest : SavesRest parts q r kept.place posted = record {
         saved = record {
-          bytes = held ∙ (λ i. Some (checkpoint 1 (k.digest_is i) kept.place.generation (same i)));
-          sound = subst (λ (x : List ℕ × List Outcome). IsCheckpoint (checkpoint 1 x.0 kept.place.generation x.1) 1 x.0 kept.place.generation x.1) (λ i. (k.digest_is i, same i)) sound;
+          bytes = held ∙ (λ i. Some (checkpoint 2 (k.digest_is i) kept.place.generation (same i)));
+          sound = subst (λ (x : List ℕ × List Outcome). IsCheckpoint (checkpoint 2 x.0 kept.place.generation x.1) 2 x.0 kept.place.generation x.1) (λ i. (k.digest_is i, same i)) sound;
         };
         other = sym (other_is r kept.place.slot k.closed.slot) ∙ other ∙ other_is q kept.place.slot k.closed.slot;
         fresh = subst (λ (x : List ℕ × List Outcome). IsNewestForFitJobs x.0 kept.place.slot kept.place.generation x.1 r) (λ i. (k.digest_is i, same i)) fresh;
@@ -231,15 +231,15 @@ module _ {C : Type 0} (load_faults save_faults : C → ℕ) (slots : C → Optio
           ∙ ap (λ (l : Bool). tried_all parts.tried (run_tries l (is_ok rest) parts all_posted)) (sym e)
       by false e =
           (s.unsaved e).tried
-          ∙ (λ i. tried_too (k.closed.kept.tried_is i) (k.closed.kept.place_is i).slot (checkpoint 1 (k.digest_is i) (k.closed.kept.place_is i).generation (same i)) (is_ok rest))
+          ∙ (λ i. tried_too (k.closed.kept.tried_is i) (k.closed.kept.place_is i).slot (checkpoint 2 (k.digest_is i) (k.closed.kept.place_is i).generation (same i)) (is_ok rest))
           ∙ sym (tried_then parts.tried (tries parts all_posted) (rest_tries false (is_ok rest) parts all_posted))
           ∙ ap (λ (l : Bool). tried_all parts.tried (run_tries l (is_ok rest) parts all_posted)) (sym e)
 
   rest_sound : kept.last_saved ≡ false
-      → IsCheckpoint (checkpoint 1 (job_digest parts.job) (moved (saves all_posted) parts.place).generation (by_id (total parts.job) (booked parts all_posted)))
-      1 (job_digest parts.job) (moved (saves all_posted) parts.place).generation (by_id (total parts.job) (booked parts all_posted))
+      → IsCheckpoint (checkpoint 2 (job_digest parts.job) (moved (saves all_posted) parts.place).generation (by_id (total parts.job) (booked parts all_posted)))
+      2 (job_digest parts.job) (moved (saves all_posted) parts.place).generation (by_id (total parts.job) (booked parts all_posted))
   rest_sound e =
-      subst (λ (x : List ℕ × Place × List Outcome). IsCheckpoint (checkpoint 1 x.0 x.1.generation x.2) 1 x.0 x.1.generation x.2)
+      subst (λ (x : List ℕ × Place × List Outcome). IsCheckpoint (checkpoint 2 x.0 x.1.generation x.2) 2 x.0 x.1.generation x.2)
       (λ i. (k.digest_is i, k.closed.kept.place_is i, same i)) (s.unsaved e).sound
 
   rest_covered : min (parts.save_faults + failed_of (run_tries kept.last_saved (is_ok rest) parts all_posted)) (2 ^ 64 - 1) ≤ save_faults now.keeper

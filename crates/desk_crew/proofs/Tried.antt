@@ -55,7 +55,7 @@ module _ (parts : Parts) (plan : IsPlan parts) where
       → IsSaveAt parts.job (job_digest parts.job) (moved (saves earlier) parts.place).slot (moved (saves earlier) parts.place).generation (try_made parts.job (made_with parts earlier e))
   save_at earlier e of_todo sound = record {
     slot = refl;
-    version = 1;
+    version = 2;
     outcomes = (made_with parts earlier e).outcomes;
     bytes = refl;
     sound = sound;
@@ -124,7 +124,7 @@ module _ (parts : Parts) (plan : IsPlan parts) where
 
   abbrev IsSoundAt : ℕ → List Entry → Type 0
   IsSoundAt generation posted =
-      IsCheckpoint (checkpoint 1 (job_digest parts.job) generation (by_id (total parts.job) (booked parts posted))) 1 (job_digest parts.job) generation (by_id (total parts.job) (booked parts posted))
+      IsCheckpoint (checkpoint 2 (job_digest parts.job) generation (by_id (total parts.job) (booked parts posted))) 2 (job_digest parts.job) generation (by_id (total parts.job) (booked parts posted))
 
   pub are_run_tries : (last_saved succeeded : Bool) (posted : List Entry) → OfTodo posted → All (IsSound parts.job) (made parts posted) → AreDue parts posted
       → AllPairs IsLater (run_tries last_saved succeeded parts posted)
@@ -140,7 +140,7 @@ module _ (parts : Parts) (plan : IsPlan parts) where
       rest_in_turn false h = (
         record {
           slot = refl;
-          version = 1;
+          version = 2;
           outcomes = by_id (total parts.job) (booked parts posted);
           bytes = refl;
           sound = h refl;

@@ -50,9 +50,9 @@ pub record IsRunTry (parts : Parts) (t : Try) : Type 0 where
   pub generation : ℕ
   pub part : List Entry
   pub of_todo : (id : ℕ) → times id (ids_of part) ≤ times id parts.todo
-  pub bytes_are : t.bytes ≡ checkpoint 1 (job_digest parts.job) generation (by_id (total parts.job) (booked parts part))
-  pub sound : IsCheckpoint (checkpoint 1 (job_digest parts.job) generation (by_id (total parts.job) (booked parts part)))
-      1 (job_digest parts.job) generation (by_id (total parts.job) (booked parts part))
+  pub bytes_are : t.bytes ≡ checkpoint 2 (job_digest parts.job) generation (by_id (total parts.job) (booked parts part))
+  pub sound : IsCheckpoint (checkpoint 2 (job_digest parts.job) generation (by_id (total parts.job) (booked parts part)))
+      2 (job_digest parts.job) generation (by_id (total parts.job) (booked parts part))
 
 -- a later save is no shorter than one before it, and longer where that one succeeded
 pub record IsLater (earlier later : Try) : Type 0 where

@@ -26,13 +26,13 @@ pub record IsClosedWith {C : Type 0} (load_faults save_faults : C → ℕ) (slot
 -- a checkpoint of these outcomes was saved at the place, or the save failed
 pub record SavesThese {C : Type 0} (load_faults save_faults : C → ℕ) (slots : C → Option Pair) (history : C → Option (List Try)) (before now : C) (place : Place) (digest : List ℕ)
     (outcomes : List Outcome) (result : Result (Unit {0}) Failed) : Type 0 where
-  pub sound : IsCheckpoint (checkpoint 1 digest place.generation outcomes) 1 digest place.generation outcomes
-  pub held : OnOk result (HoldsBytes (slots now) place.slot (checkpoint 1 digest place.generation outcomes))
+  pub sound : IsCheckpoint (checkpoint 2 digest place.generation outcomes) 2 digest place.generation outcomes
+  pub held : OnOk result (HoldsBytes (slots now) place.slot (checkpoint 2 digest place.generation outcomes))
   pub newest : OnOk result (IfTold (slots now) (IsNewestForFitJobs digest place.slot place.generation outcomes))
   pub other : KeepsOther (slots before) (slots now) place.slot
   pub cause : HasCause (save_faults before) (save_faults now) result
   pub loads : load_faults now ≡ load_faults before
-  pub tried : history now ≡ tried_too (history before) place.slot (checkpoint 1 digest place.generation outcomes) (is_ok result)
+  pub tried : history now ≡ tried_too (history before) place.slot (checkpoint 2 digest place.generation outcomes) (is_ok result)
 
 -- where a save was made with the last post nothing is done, and elsewhere a last one is made
 pub record SavesLast {C : Type 0} (load_faults save_faults : C → ℕ) (slots : C → Option Pair) (history : C → Option (List Try)) (before now : Kept C) (digest : List ℕ)
@@ -46,7 +46,7 @@ abbrev pub rest_tries : Bool → Bool → Parts → List Entry → List Try
 rest_tries true succeeded parts posted = []
 rest_tries false succeeded parts posted =
     let place = moved (saves posted) parts.place in
-    try_of place.slot (checkpoint 1 (job_digest parts.job) place.generation (by_id (total parts.job) (booked parts posted))) succeeded ∷ []
+    try_of place.slot (checkpoint 2 (job_digest parts.job) place.generation (by_id (total parts.job) (booked parts posted))) succeeded ∷ []
 
 abbrev pub run_tries : Bool → Bool → Parts → List Entry → List Try
 run_tries last_saved succeeded parts posted = tries parts posted ++ rest_tries last_saved succeeded parts posted

@@ -1,8 +1,7 @@
 //! A run over a desk.
 
-ghost use Rattle.std.specs.Prelude.{◌≡◌, ◌+◌, ◌*◌, ◌<◌, ◌≤◌, [], All, IfErr, IfOk, IsTrue, false, length, vec_capacity, vec_len};
-ghost use Rattle.std.specs.List.{list_all};
-ghost use Rattle.audit_model.specs.Run.{fits, is_bare, total};
+ghost use Rattle.std.specs.Prelude.{◌≡◌, ◌+◌, ◌*◌, ◌<◌, ◌≤◌, [], All, IfErr, IfOk, IsTrue, length, vec_capacity, vec_len};
+ghost use Rattle.audit_model.specs.Run.{fits, total};
 ghost use Rattle.checkpoint_definitions.specs.Checkpoint.{job_digest};
 ghost use Rattle.tally_desk.specs.Desks.{first_view};
 ghost use Rattle.tally_desk.specs.Founded.{parts_of};
@@ -72,7 +71,6 @@ fn work<R: Threads + Wait + Sync, C: Keeper + Send, J: Judge + Send, G: Gate + S
     requires blank { room.items ≡ [] }
     requires room { vec_len walkers ≤ vec_capacity room }
     requires job { job.now ≡ desk.table.shared.key.job.value }
-    requires plain { job.now.setting.shift ≡ false }
     requires within { IsWithin job.now desk.table.shared.key.todo.value }
     requires hub { ServesEnds job.now desk.table.shared.key.todo.value hub.now }
     ensures { (v : PassView) × IsClosed C.load_faults C.save_faults C.slots C.tried (parts_of C.load_faults C.save_faults C.slots C.tried desk.table.shared.key) v
@@ -103,8 +101,6 @@ fn walk_over<R: Threads + Wait + Sync, C: Keeper + Send, J: Judge + Send, G: Gat
     requires place { IsPlaceFor job.now (C.slots keeper) plan.place }
     requires total { book.total ≡ total job.now }
     requires fit { All (λ o. IsTrue (fits job.now o)) book.outcomes }
-    requires plain { job.now.setting.shift ≡ false }
-    requires bare { All (λ o. IsTrue (is_bare o)) book.outcomes }
     requires todo { IsTodoFor job.now book.outcomes todo }
     requires within { IsWithin job.now todo }
     requires crew { IsCrew job.now J.keeps J.stands J.takes J.rules (vec_len crew.walkers) crew }
@@ -140,8 +136,7 @@ fn finish<C: Keeper>(
     requires slot { kept.place.slot < 2 }
     requires generation { kept.place.generation < 3 }
     requires sorted_room { kept.book.total ≤ length sorted.old.items + sorted.old.spare }
-    requires save_room { 84 + 44 * kept.book.total ≤ length room.old.items + room.old.spare }
-    requires bare { IsTrue (list_all is_bare kept.book.outcomes) }
+    requires save_room { 84 + 80 * kept.book.total ≤ length room.old.items + room.old.spare }
     ensures { (parts : Parts) (v : PassView) → IsClosedWith C.load_faults C.save_faults C.slots C.tried parts v kept digest.now
         → HasRun parts (C.load_faults result.keeper) (C.save_faults result.keeper) (C.slots result.keeper) (C.tried result.keeper) sorted.new.items result.saved }
 {
@@ -185,14 +180,12 @@ pub fn run_over<R: Threads + Wait + Sync, C: Keeper + Send, J: Judge + Send, G: 
     requires place { IsPlaceFor job.now (C.slots keeper) plan.place }
     requires total { book.total ≡ total job.now }
     requires fit { All (λ o. IsTrue (fits job.now o)) book.outcomes }
-    requires plain { job.now.setting.shift ≡ false }
-    requires bare { All (λ o. IsTrue (is_bare o)) book.outcomes }
     requires todo { IsTodoFor job.now book.outcomes todo }
     requires within { IsWithin job.now todo }
     requires crew { IsCrew job.now J.keeps J.stands J.takes J.rules (vec_len crew.walkers) crew }
     requires workers { (1 ≤ vec_len crew.walkers) × (vec_len crew.walkers ≤ 32) }
     requires sorted_room { book.total ≤ length sorted.old.items + sorted.old.spare }
-    requires save_room { 84 + 44 * book.total ≤ length room.old.items + room.old.spare }
+    requires save_room { 84 + 80 * book.total ≤ length room.old.items + room.old.spare }
     ensures ran { IfOk result (λ r. HasRun
         (starts C.load_faults C.save_faults C.slots C.tried job.now book.outcomes todo plan.save_every (vec_len crew.walkers) plan.place keeper)
         (C.load_faults r.keeper) (C.save_faults r.keeper) (C.slots r.keeper) (C.tried r.keeper) sorted.new.items r.saved) }

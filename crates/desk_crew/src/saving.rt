@@ -1,8 +1,6 @@
 //! What a run does that saved while it walked, after its desk is closed.
 
-ghost use Rattle.std.specs.Prelude.{◌≡◌, ◌+◌, ◌*◌, ◌<◌, ◌≤◌, length, AllPairs, IsPermutation, IsTrue};
-ghost use Rattle.std.specs.List.{list_all};
-ghost use Rattle.audit_model.specs.Run.{is_bare};
+ghost use Rattle.std.specs.Prelude.{◌≡◌, ◌+◌, ◌*◌, ◌<◌, ◌≤◌, length, AllPairs, IsPermutation};
 ghost use Rattle.outcome_book.specs.Booked.{IsBook, by_id};
 ghost use Rattle.desk_crew.specs.Saves.{SavesLast};
 
@@ -28,8 +26,7 @@ pub fn save_rest<C: Keeper>(
     requires slot { kept.old.place.slot < 2 }
     requires generation { kept.old.place.generation < 3 }
     requires sorted_room { kept.old.book.total ≤ length sorted.old.items + sorted.old.spare }
-    requires save_room { 84 + 44 * kept.old.book.total ≤ length room.old.items + room.old.spare }
-    requires bare { IsTrue (list_all is_bare kept.old.book.outcomes) }
+    requires save_room { 84 + 80 * kept.old.book.total ≤ length room.old.items + room.old.spare }
     ensures book { IsBook kept.old.book }
     ensures sorted { sorted.new.items ≡ by_id kept.old.book.total kept.old.book.outcomes }
     ensures all { IsPermutation kept.old.book.outcomes sorted.new.items }

@@ -1,6 +1,6 @@
 //! The trajectories of a run that saves, walked by several threads.
 
-ghost use Rattle.std.specs.Prelude.{◌≡◌, ◌+◌, ◌<◌, ℕ, All, false, true, vec_len};
+ghost use Rattle.std.specs.Prelude.{◌≡◌, ◌+◌, ◌<◌, ℕ, All, true, vec_len};
 ghost use Rattle.tally_desk.specs.Founded.{parts_of};
 ghost use Rattle.tally_desk.specs.Passes.{Belongs, HasAllSeats, HasPostedAll, view_of};
 ghost use Rattle.desk_crew.specs.Crews.{IsDone, IsReady};
@@ -29,7 +29,6 @@ pub fn walk_each<R: Threads + Wait + Sync, C: Keeper + Send, J: Judge + Send, G:
 )
     requires ready { All (IsReady desk.now.table.shared.table_id (parts_of C.load_faults C.save_faults C.slots C.tried desk.now.table.shared.key) J.keeps J.stands J.takes J.rules) workers.old }
     requires job { job.now ≡ desk.now.table.shared.key.job.value }
-    requires plain { job.now.setting.shift ≡ false }
     requires within { IsWithin job.now desk.now.table.shared.key.todo.value }
     requires hub { ServesEnds job.now desk.now.table.shared.key.todo.value hub.now }
     ensures { All (IsDone desk.now.table.shared.table_id (parts_of C.load_faults C.save_faults C.slots C.tried desk.now.table.shared.key)) workers.new }
@@ -42,7 +41,6 @@ pub fn walk_each<R: Threads + Wait + Sync, C: Keeper + Send, J: Judge + Send, G:
         &|_, worker: &mut DeskWorker<J>|
             requires ready { IsReady desk.now.table.shared.table_id (parts_of C.load_faults C.save_faults C.slots C.tried desk.now.table.shared.key) J.keeps J.stands J.takes J.rules worker.now }
             requires job { job.now ≡ desk.now.table.shared.key.job.value }
-            requires plain { job.now.setting.shift ≡ false }
             requires within { IsWithin job.now desk.now.table.shared.key.todo.value }
             requires hub { ServesEnds job.now desk.now.table.shared.key.todo.value hub.now }
             ensures { IsDone desk.entry.now.table.shared.table_id (parts_of C.load_faults C.save_faults C.slots C.tried desk.entry.now.table.shared.key) worker.new }

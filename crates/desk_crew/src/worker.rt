@@ -18,7 +18,7 @@ pub struct DeskWorker<J> {
 }
 
 impl<J: Judge> DeskWorker<J> {
-    ghost use Rattle.std.specs.Prelude.{◌≡◌, false};
+    ghost use Rattle.std.specs.Prelude.{◌≡◌};
     ghost use Rattle.tally_desk.specs.Founded.{parts_of};
     ghost use Rattle.desk_crew.specs.Crews.{IsDone, IsReady};
     ghost use Rattle.desk_crew.specs.Walks.{IsWithin, ServesEnds};
@@ -34,7 +34,6 @@ impl<J: Judge> DeskWorker<J> {
     )
         requires ready { IsReady desk.now.table.shared.table_id (parts_of C.load_faults C.save_faults C.slots C.tried desk.now.table.shared.key) J.keeps J.stands J.takes J.rules self.old }
         requires job { job.now ≡ desk.now.table.shared.key.job.value }
-        requires plain { job.now.setting.shift ≡ false }
         requires within { IsWithin job.now desk.now.table.shared.key.todo.value }
         requires hub { ServesEnds job.now desk.now.table.shared.key.todo.value hub.now }
         ensures { IsDone desk.now.table.shared.table_id (parts_of C.load_faults C.save_faults C.slots C.tried desk.now.table.shared.key) self.new }

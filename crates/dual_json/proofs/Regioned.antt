@@ -1,5 +1,5 @@
 -- The regions that are found of a document against what their definition says.
-use Rattle.std.proofs.Common.{◌≡◌, ℕ, ◌<◌, ◌≤◌, Bool, true, false, not, List, length, get_or, Option, Some, None, Ok, Err, refl, sym, ap, ◌∙◌, subst, inr, arith}
+use Rattle.std.proofs.Common.{◌≡◌, ℕ, ◌<◌, ◌≤◌, Bool, true, false, not, List, length, get_or, Option, Some, None, Ok, refl, sym, ap, ◌∙◌, inr, arith}
 use Rattle.std.specs.Prelude.{nat_lt}
 use Rattle.std.specs.Option.{option_or, option_map, is_some, is_none}
 use Rattle.std.specs.Str.{is_utf8}
@@ -11,13 +11,12 @@ use Rattle.serde_json.specs.Read.{read}
 use Rattle.audit_model.specs.declared.fault.GraphFault.{GraphFault}
 use Rattle.audit_model.specs.declared.fault.GraphFault.TheVariants as fault
 use Rattle.audit_model.specs.declared.fault.Part.{Part}
-use Rattle.audit_model.specs.declared.fault.RegionFault.{RegionFault}
 use Rattle.audit_model.specs.declared.fault.RegionFault.TheVariants.{Missing, BadLabel, TooMany}
 use Rattle.audit_model.specs.declared.setting.Columns.{Columns}
 use Rattle.audit_model.specs.declared.setting.Label.{Label}
 use Rattle.audit_model.specs.Limits.{AreRegions}
 use Rattle.audit_model.specs.Parsed.{Parsed}
-use Rattle.graph_definitions.specs.Reading.{Document, document, reading, of_root, accepted_or, bad_part, refusal, parsed, refused_if, node_count}
+use Rattle.graph_definitions.specs.Reading.{Document, document, reading, of_root, accepted_or, bad_part, refusal, parsed, refused_if}
 use Rattle.graph_definitions.specs.Regions.{as_districts, document_of, region_fault, region_reading, regions, regions_or}
 use Rattle.dual_json.specs.Districts.{different_count}
 use Rattle.dual_json.specs.Numbered.{first_without, AreNumbered}

@@ -84,6 +84,12 @@ pub fn honest_runs_go_on_rightly()
         IsRight job draws (taken_up job.setting.shift job.setting.walks outcomes) }
 {}
 
+/// What a trajectory finds, with its bins or without, fits its job.
+pub fn what_is_found_fits()
+    ensures { (with_bins : Bool) (job : Job) (draws : Draws) (id : ℕ) → length job.setting.asks ≤ 4 → id < total job →
+        IsTrue (fits job (outcome_with with_bins job draws id)) }
+{}
+
 /// An outcome that fits a job fits it without its bins.
 pub fn bare_outcomes_fit()
     ensures { (job : Job) (o : Outcome) → IsTrue (fits job o) → IsTrue (fits job (bare o)) }

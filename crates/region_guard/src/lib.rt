@@ -3,5 +3,6 @@
 
 mod counting;
 pub mod guard;
+pub mod judges;
 #[cfg(test)]
 mod tests;

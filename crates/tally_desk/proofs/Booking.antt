@@ -7,7 +7,7 @@ use Rattle.std.proofs.lemmas.List.{map-append}
 use Rattle.std.proofs.lemmas.List.Folds.{list_all-append, list_any-append}
 use Rattle.audit_model.specs.declared.outcome.Outcome.{Outcome}
 use Rattle.audit_model.specs.Job.{Job}
-use Rattle.audit_model.specs.Run.{total, fits, has_id, is_bare}
+use Rattle.audit_model.specs.Run.{total, fits, has_id}
 use Rattle.claim_counter.specs.Records.{times}
 use Rattle.outcome_book.specs.Booked.{by_id, with_id}
 use Rattle.tally_desk.specs.declared.entry.Entry.{Entry}
@@ -15,7 +15,7 @@ use Rattle.tally_desk.specs.Entries.{id_of, ids_of, up_to_save}
 use Rattle.tally_desk.specs.Homes.{booked}
 use Rattle.tally_desk.specs.Parts.{Parts, IsPlan, found}
 use Rattle.tally_desk.proofs.Counting.{one, times-cons, one_same}
-use Rattle.tally_desk.proofs.Found.{found_bare, found_fits, found_id}
+use Rattle.tally_desk.proofs.Found.{found_fits, found_id}
 use Rattle.tally_desk.proofs.Marking.{ids_up_to_save}
 use Rattle.tally_desk.proofs.Todo.{todo_within, todo_lacked}
 
@@ -58,14 +58,7 @@ booked_fit parts plan l of_todo =
     list_all-append (fits parts.job) parts.opening (map (found parts.job) (ids_of l))
     ∙ and_from _ _ (all_from (fits parts.job) parts.opening plan.fit)
     (found_all (fits parts.job) parts.job (ids_of l)
-    (λ id some_here. found_fits parts.job plan.plain plan.few_asks id (todo_within parts plan id (omega (arith, some_here, of_todo id)))))
-
--- none has bins
-pub booked_bare : (parts : Parts) → IsPlan parts → (l : List Entry) → list_all is_bare (booked parts l) ≡ true
-booked_bare parts plan l =
-    list_all-append is_bare parts.opening (map (found parts.job) (ids_of l))
-    ∙ and_from _ _ (all_from is_bare parts.opening plan.bare)
-    (found_all is_bare parts.job (ids_of l) (λ id some_here. found_bare parts.job plan.plain id))
+    (λ id some_here. found_fits parts.job plan.few_asks id (todo_within parts plan id (omega (arith, some_here, of_todo id)))))
 
 find_fit : (test search_for : Outcome → Bool) (os : List Outcome) → list_all test os ≡ true → list_all test (option_to_list (find search_for os)) ≡ true
 find_fit test search_for [] all = refl

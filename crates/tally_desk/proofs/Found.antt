@@ -1,135 +1,24 @@
 -- What each trajectory finds could be its outcome.
-use Rattle.std.proofs.Common.{◌≡◌, ℕ, zero, suc, ◌+◌, ◌<◌, ◌≤◌, ◌&&◌, ◌||◌, not, Bool, true, false, cond, List, [], ◌∷◌, ◌++◌, length, map, take, drop, refl, sym, ap, ◌∙◌, arith}
-use Rattle.std.specs.Prelude.{nat_lt, nat_le, ℤ, pos, negsuc, int_le}
-use Rattle.std.specs.List.{list_all, slice_index_or}
-use Rattle.std.specs.Ordering.{int_eq}
-use Rattle.std.proofs.lemmas.Bool.{and_from, le-leb, lt-ltb}
-use Rattle.audit_model.specs.declared.outcome.Outcome.{Outcome}
-use Rattle.audit_model.specs.declared.setting.Ask.{Ask}
-use Rattle.audit_model.specs.declared.setting.Tail.{Tail}
-use Rattle.audit_model.specs.declared.setting.Tail.TheVariants.{Low, High}
-use Rattle.audit_model.specs.Below.{all_below, count_below}
+use Rattle.std.proofs.Common.{◌≡◌, ℕ, ◌<◌, ◌≤◌, true, length, refl, sym, ap}
 use Rattle.audit_model.specs.Job.{Job}
-use Rattle.audit_model.specs.Run.{total, steps_of, bins_fit, fits, is_bare}
-use Rattle.audit_model.specs.Trajectory.{Draws, visit, plan_value, in_tail, visits_in_tail, four_values, value_at, walk_outcome, end_outcome, outcome_by, outcome}
+use Rattle.audit_model.specs.Run.{total, fits}
+use Rattle.audit_model.specs.Trajectory.{outcome}
 use Rattle.draw_definitions.specs.Draw.{draw}
-use Rattle.model_laws.proofs.Below.{all_below_from}
-use Rattle.model_laws.proofs.Connected.{count_below_le}
+use Rattle.model_laws.proofs.Fitting as fitting
 use Rattle.tally_desk.specs.Parts.{found}
 
--- ---- counts
-
-one_of : (b : Bool) → b ≡ true → cond {A = ℕ} b 1 0 ≡ 1
-one_of true e = refl
-one_of false e = cc
-
--- where 0 passes, some number does
-counts_first : (n : ℕ) (test : ℕ → Bool) → 0 < n → test 0 ≡ true → 1 ≤ count_below n test
-unfolding count_below
-counts_first zero test above first = absurd (omega arith)
-counts_first (suc zero) test above first = omega (arith, one_of (test 0) first)
-counts_first (suc (suc n)) test above first = omega (arith, counts_first (suc n) test (omega arith) first)
-
-le_self : (v : ℤ) → int_le v v ≡ true
-le_self (pos n) = le-leb n n (omega arith)
-le_self (negsuc n) = le-leb n n (omega arith)
-
-in_own_tail : (tail : Tail) (v : ℤ) → in_tail tail v v ≡ true
-in_own_tail Low v = le_self v
-in_own_tail High v = le_self v
-
--- ---- values
-
--- the values past the asks are 0
-zeros_after : (f : Ask → ℤ) (asks : List Ask) → list_all (λ v. int_eq v (pos 0)) (drop (length asks) (four_values (map f asks))) ≡ true
-zeros_after f [] = refl
-zeros_after f (a ∷ []) = refl
-zeros_after f (a ∷ b ∷ []) = refl
-zeros_after f (a ∷ b ∷ c ∷ []) = refl
-zeros_after f (a ∷ b ∷ c ∷ d ∷ []) = refl
-zeros_after f (a ∷ b ∷ c ∷ d ∷ e ∷ rest) = refl
-
--- what holds of what a function gives of any ask holds of the value at each ask's place
-each_value : (n : ℕ) (test : ℤ → Bool) (f : Ask → ℤ) (asks : List Ask) (zeros : List ℤ) (k : ℕ) → ((ask : Ask) → test (f ask) ≡ true)
-    → length asks ≤ n → k < length asks → test (slice_index_or (take n (map f asks ++ zeros)) k (pos 0)) ≡ true
-each_value n test f [] zeros k each few l = absurd (omega arith)
-each_value zero test f (a ∷ asks) zeros k each few l = absurd (omega arith)
-each_value (suc n) test f (a ∷ asks) zeros zero each few l = each a
-each_value (suc n) test f (a ∷ asks) zeros (suc k) each few l = each_value n test f asks zeros k each (omega arith) (omega arith)
-
--- ---- outcomes
-
--- the parts of the test, where it is known whether the outcome is an outlier trajectory's
-fitting : (job : Job) (o : Outcome) (walks : Bool) → nat_lt o.id job.setting.walks ≡ walks → o.id < total job → o.moved ≤ steps_of walks job
-    → list_all (λ v. int_eq v (pos 0)) (drop (length job.setting.asks) o.values) ≡ true
-    → (walks ≡ true → all_below (length job.setting.asks) (λ k. int_le (pos 1) (value_at o k) && int_le (value_at o k) (pos (job.setting.steps + 1))) ≡ true)
-    → bins_fit walks job o ≡ true → fits job o ≡ true
-fitting job o walks e below few zeros counts bins =
-    let moved : nat_le o.moved (steps_of (nat_lt o.id job.setting.walks) job) ≡ true = ap (λ (b : Bool). nat_le o.moved (steps_of b job)) e ∙ le-leb _ _ few in
-    let each : Bool = all_below (length job.setting.asks) (λ k. int_le (pos 1) (value_at o k) && int_le (value_at o k) (pos (job.setting.steps + 1))) in
-    and_from _ _ (and_from _ _ (and_from _ _ (and_from _ _ (lt-ltb _ _ below) moved) zeros)
-    (ap (λ (b : Bool). not b || each) e ∙ by walks each counts))
-    (ap (λ (b : Bool). bins_fit b job o) e ∙ bins)
-  where
-    by : (b each : Bool) → (b ≡ true → each ≡ true) → (not b || each) ≡ true
-    by true each f = f refl
-    by false each f = refl
-
--- the start plan is as extreme as itself
-start_in_tail : (job : Job) (stream : ℕ → ℕ) (ask : Ask)
-    → in_tail ask.tail (plan_value job (visit job stream job.start 0) ask.score) (plan_value job job.start ask.score) ≡ true
-unfolding visit
-start_in_tail job stream ask = in_own_tail ask.tail (plan_value job job.start ask.score)
-
-module _ (job : Job) (draws : Draws) where
-  -- each count of visits is from 1 to the number of visits
-  count_fits : (stream : ℕ → ℕ) (ask : Ask)
-      → (int_le (pos 1) (pos (visits_in_tail job stream job.setting.steps ask)) && int_le (pos (visits_in_tail job stream job.setting.steps ask)) (pos (job.setting.steps + 1))) ≡ true
-  count_fits stream ask =
-      and_from _ _
-      (le-leb 1 (visits_in_tail job stream job.setting.steps ask) (counts_first (job.setting.steps + 1) _ (omega arith) (start_in_tail job stream ask)))
-      (le-leb (visits_in_tail job stream job.setting.steps ask) (job.setting.steps + 1) (count_below_le (job.setting.steps + 1) _))
-
-  outcome_fits : job.setting.shift ≡ false → length job.setting.asks ≤ 4 → (id : ℕ) → id < total job → fits job (outcome job draws id) ≡ true
-  outcome_fits plain few id below = by (nat_lt id job.setting.walks) job.setting.shift plain refl
-    where
-      by : (b bins : Bool) → bins ≡ false → nat_lt id job.setting.walks ≡ b → fits job (outcome_by b bins job draws id) ≡ true
-      by b true none e = cc
-      by true false none e = fitting job (walk_outcome false job draws id) true e below (count_below_le _ _) (zeros_after _ job.setting.asks)
-          (λ _. all_below_from (length job.setting.asks) _
-          (λ k l. each_value 4 (λ v. int_le (pos 1) v && int_le v (pos (job.setting.steps + 1))) _ job.setting.asks _ k (count_fits _) few l)) refl
-      by false false none e = fitting job (end_outcome job draws id) false e below (count_below_le _ _) (zeros_after _ job.setting.asks) (λ h. cc) refl
-
-  outcome_id : (id : ℕ) → (outcome job draws id).id ≡ id
-  outcome_id id = by (nat_lt id job.setting.walks) job.setting.shift
-    where
-      by : (b bins : Bool) → (outcome_by b bins job draws id).id ≡ id
-      by true bins = refl
-      by false bins = refl
-
-  -- where no bins are asked for, there are none
-  outcome_bare : job.setting.shift ≡ false → (id : ℕ) → is_bare (outcome job draws id) ≡ true
-  outcome_bare plain id = by (nat_lt id job.setting.walks) job.setting.shift plain
-    where
-      by : (b bins : Bool) → bins ≡ false → is_bare (outcome_by b bins job draws id) ≡ true
-      by b true none = cc
-      by true false none = refl
-      by false false none = refl
-
--- ---- what is found
+pub found_is : (job : Job) (id : ℕ) → found job id ≡ outcome job (draw job.setting.key) id
+unfolding found
+found_is job id = refl
 
 pub found_id : (job : Job) (id : ℕ) → (found job id).id ≡ id
 unfolding found
-found_id job id = outcome_id job (draw job.setting.key) id
+found_id job id = fitting.found_id job (draw job.setting.key) job.setting.shift id
 
-pub found_fits : (job : Job) → job.setting.shift ≡ false → length job.setting.asks ≤ 4 → (id : ℕ) → id < total job → fits job (found job id) ≡ true
+pub found_fits : (job : Job) → length job.setting.asks ≤ 4 → (id : ℕ) → id < total job → fits job (found job id) ≡ true
 unfolding found
-found_fits job plain few id below = outcome_fits job (draw job.setting.key) plain few id below
-
-pub found_bare : (job : Job) → job.setting.shift ≡ false → (id : ℕ) → is_bare (found job id) ≡ true
-unfolding found
-found_bare job plain id = outcome_bare job (draw job.setting.key) plain id
+found_fits job few id below = fitting.found_fits job (draw job.setting.key) job.setting.shift few id below
 
 pub found_right : (job : Job) (id : ℕ) → found job id ≡ outcome job (draw job.setting.key) (found job id).id
 unfolding found
-found_right job id = ap (outcome job (draw job.setting.key)) (sym (outcome_id job (draw job.setting.key) id))
+found_right job id = ap (outcome job (draw job.setting.key)) (sym (fitting.found_id job (draw job.setting.key) job.setting.shift id))

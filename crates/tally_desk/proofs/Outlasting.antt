@@ -39,7 +39,7 @@ module _ (parts : Parts) (plan : IsPlan parts) where
   right_made : IsRight parts.job (draw parts.job.setting.key) parts.opening → (earlier : List Entry) (e : Entry)
       → ((id : ℕ) → times id (ids_of (earlier ++ e ∷ [])) ≤ times id parts.todo) → IsSound parts.job (made_with parts earlier e) → RightTry (try_made parts.job (made_with parts earlier e))
   right_made opening earlier e of_todo sound = record {
-    version = 1;
+    version = 2;
     generation = (made_with parts earlier e).generation;
     outcomes = (made_with parts earlier e).outcomes;
     sound = sound;
@@ -78,7 +78,7 @@ module _ (parts : Parts) (plan : IsPlan parts) where
       → IsSaveAt parts.job (job_digest parts.job) (moved (saves earlier) parts.place).slot (moved (saves earlier) parts.place).generation (try_made parts.job (made_with parts earlier e))
   save_at earlier e of_todo sound = record {
     slot = refl;
-    version = 1;
+    version = 2;
     outcomes = (made_with parts earlier e).outcomes;
     bytes = refl;
     sound = sound;

@@ -114,22 +114,22 @@ module _ (newest : SavedSlotsAreNewest) (ours : CheckpointsAreOurs) (parts : Par
     (generation : place.generation < 3) (at : place ≡ moved (saves l) parts.place)
     (first : place_for parts.job (job_digest parts.job) before ≡ (parts.place.slot, parts.place.generation)) (of_todo : (id : ℕ) → times id (ids_of l) ≤ times id parts.todo)
     (outcomes : List Outcome) (fit : list_all (fits parts.job) outcomes ≡ true)
-    (sound : IsCheckpoint (checkpoint 1 (job_digest parts.job) place.generation outcomes) 1 (job_digest parts.job) place.generation outcomes)
-    (held : stored after place.slot ≡ Some (checkpoint 1 (job_digest parts.job) place.generation outcomes)) (last : stored after (1 - place.slot) ≡ stored now (1 - place.slot))
+    (sound : IsCheckpoint (checkpoint 2 (job_digest parts.job) place.generation outcomes) 2 (job_digest parts.job) place.generation outcomes)
+    (held : stored after place.slot ≡ Some (checkpoint 2 (job_digest parts.job) place.generation outcomes)) (last : stored after (1 - place.slot) ≡ stored now (1 - place.slot))
     (fresh : IsNewestForFitJobs (job_digest parts.job) place.slot place.generation outcomes after) (s : SlotsAs parts before now place l) where
   pub newest_written : (n : ℕ) → saves l ≡ n → newest_for parts.job (job_digest parts.job) after ≡ Some place.slot
   newest_written zero none =
       let here : place ≡ parts.place = at ∙ ap (λ (n : ℕ). moved n parts.place) none in
       let told : place_for parts.job (job_digest parts.job) before ≡ (place.slot, place.generation) = first ∙ ap (λ (p : Place). (p.slot, p.generation)) (sym here) in
-      (newest parts.job 1 (job_digest parts.job) before after place.slot place.generation outcomes told sound fit held (last ∙ s.last_unsaved none)).newest
+      (newest parts.job 2 (job_digest parts.job) before after place.slot place.generation outcomes told sound fit held (last ∙ s.last_unsaved none)).newest
   newest_written (suc n) some_saves =
       let save = s.last_saved (omega (arith, some_saves)) in
       let old = by_id (total parts.job) (booked parts (up_to_save (saves l) l)) in
       let earlier = (place.generation + 2) % 3 in
-      let is : other_stored after place.slot ≡ Some (checkpoint 1 (job_digest parts.job) earlier old) = other_is after place.slot slot ∙ last ∙ save.bytes in
+      let is : other_stored after place.slot ≡ Some (checkpoint 2 (job_digest parts.job) earlier old) = other_is after place.slot slot ∙ last ∙ save.bytes in
       let intact : generation_of (slot_of parts.job (job_digest parts.job) (other_stored after place.slot)) ≡ Some earlier =
       ap (λ (q : Stored). generation_of (slot_of parts.job (job_digest parts.job) q)) is
-      ∙ ap generation_of (ours parts.job (checkpoint 1 (job_digest parts.job) earlier old) 1 (job_digest parts.job) earlier old save.sound (saved_fit parts plan l (saves l) of_todo)) in
+      ∙ ap generation_of (ours parts.job (checkpoint 2 (job_digest parts.job) earlier old) 2 (job_digest parts.job) earlier old save.sound (saved_fit parts plan l (saves l) of_todo)) in
       (fresh parts.job fit).later earlier intact (after_before place.generation generation)
 
 module _ (newest : SavedSlotsAreNewest) (ours : CheckpointsAreOurs) (parts : Parts) (plan : IsPlan parts) (l : List Entry) (t i : ℕ) where
@@ -140,12 +140,12 @@ module _ (newest : SavedSlotsAreNewest) (ours : CheckpointsAreOurs) (parts : Par
   all_of posted = by_id (total parts.job) (booked parts posted)
 
   abbrev saved_bytes : ℕ → List Entry → List ℕ
-  saved_bytes generation posted = checkpoint 1 (job_digest parts.job) generation (all_of posted)
+  saved_bytes generation posted = checkpoint 2 (job_digest parts.job) generation (all_of posted)
 
   module _ (before now after : Pair) (place : Place) (slot : place.slot < 2) (generation : place.generation < 3) (at : place ≡ moved (saves l) parts.place)
       (first : place_for parts.job (job_digest parts.job) before ≡ (parts.place.slot, parts.place.generation))
       (of_todo : (id : ℕ) → times id (ids_of l) ≤ times id parts.todo) (fit : list_all (fits parts.job) (all_of more) ≡ true)
-      (sound : IsCheckpoint (saved_bytes place.generation more) 1 (job_digest parts.job) place.generation (all_of more))
+      (sound : IsCheckpoint (saved_bytes place.generation more) 2 (job_digest parts.job) place.generation (all_of more))
       (held : stored after place.slot ≡ Some (saved_bytes place.generation more)) (last : stored after (1 - place.slot) ≡ stored now (1 - place.slot))
       (fresh : IsNewestForFitJobs (job_digest parts.job) place.slot place.generation (all_of more) after) (s : SlotsAs parts before now place l) where
     pub saved_slots : SlotsAs parts before after (next_place place) more

@@ -8,21 +8,26 @@ use Rattle.audit_io.specs.Faults.{Counts}
 use Rattle.audit_io.specs.Slots.{Pair, IfTold, HoldsBytes, KeepsOther}
 use Rattle.audit_io.specs.Tries.{Try, tried_all, tried_too}
 use Rattle.audit_model.specs.declared.outcome.Outcome.{Outcome}
+use Rattle.audit_model.specs.Job.{Job}
+use Rattle.audit_model.specs.JobOf.{IsJob}
 use Rattle.audit_model.specs.Room.{RoomyBytes, RoomyOutcomes}
-use Rattle.audit_model.specs.Run.{total, fits, has_id, is_bare}
+use Rattle.audit_model.specs.Run.{total, fits, has_id}
+use Rattle.audit_model.specs.Trajectory.{Draws, outcome}
 use Rattle.checkpoint_definitions.specs.Checkpoint.{IsCheckpoint, checkpoint, job_digest}
 use Rattle.ckpt_store.specs.declared.slots.Place.{Place}
 use Rattle.ckpt_store.specs.Laws.{CheckpointsAreOurs, IsNewestForFitJobs, SavedSlotsAreNewest}
 use Rattle.claim_counter.specs.Records.{times}
-use Rattle.outcome_book.specs.Booked.{Booked, by_id}
+use Rattle.draw_definitions.specs.Draw.{draw}
+use Rattle.outcome_book.specs.Booked.{Booked, HasFewVisits, by_id}
 use Rattle.tally_desk.specs.declared.entry.Entry.{Entry}
 use Rattle.tally_desk.specs.declared.home.Home.{Home}
 use Rattle.tally_desk.specs.Entries.{entry, id_of, ids_of, is_due, is_missed, saves, missed}
 use Rattle.tally_desk.specs.Homes.{HasTurned, IfToldThen, IsSound, KeptAs, MayTurn, SlotsAs, booked, made, moved, next_place, tries}
 use Rattle.tally_desk.specs.Parts.{Parts, IsPlan, IsPlaceFor}
 use Rattle.tally_desk.specs.Saving.{SavedWhereDue, TriedSave, sorted_of}
-use Rattle.tally_desk.proofs.Booking.{absent_of_book, booked-push, booked_bare, booked_fit, by_id_fit}
+use Rattle.tally_desk.proofs.Booking.{absent_of_book, booked-push, booked_fit, by_id_fit}
 use Rattle.tally_desk.proofs.Counting.{length-le, one_more_id}
+use Rattle.tally_desk.proofs.Found.{found_is}
 use Rattle.tally_desk.proofs.Marking.{missed-push, saves-push}
 use Rattle.tally_desk.proofs.Slotting.{moved_slot, moved_generation, other_is, saved_slots, told_map, unsaved_slots}
 use Rattle.tally_desk.proofs.Trying.{due_sound, due_tries, undue_sound, undue_tries}
@@ -79,9 +84,9 @@ module _ (newest : SavedSlotsAreNewest) (ours : CheckpointsAreOurs) where
       → ((id : ℕ) → times id (ids_of l) ≤ times id parts.todo)
       → (let all = by_id (total parts.job) (booked parts (l ++ entry t i true ∷ [])) in
       list_all (fits parts.job) all ≡ true
-      → IsCheckpoint (checkpoint 1 (job_digest parts.job) place.generation all) 1 (job_digest parts.job) place.generation all
+      → IsCheckpoint (checkpoint 2 (job_digest parts.job) place.generation all) 2 (job_digest parts.job) place.generation all
       → (a b c : Option Pair) → IsPlaceFor parts.job a parts.place → IfToldThen a b (λ before now. SlotsAs parts before now place l)
-      → KeepsOther b c place.slot → HoldsBytes c place.slot (checkpoint 1 (job_digest parts.job) place.generation all)
+      → KeepsOther b c place.slot → HoldsBytes c place.slot (checkpoint 2 (job_digest parts.job) place.generation all)
       → IfTold c (IsNewestForFitJobs (job_digest parts.job) place.slot place.generation all)
       → IfToldThen a c (λ before now. SlotsAs parts before now (next_place place) (l ++ entry t i true ∷ [])))
   told_saved parts plan l t i place at of_todo fit sound None b c first h other held fresh = tt
@@ -134,12 +139,10 @@ module _ {C : Type 0} (load_faults save_faults : C → ℕ) (slots : C → Optio
   pub id_absent : has_id y.book.outcomes o.id ≡ false
   id_absent = ap (λ (b : Booked). has_id b.outcomes o.id) may.holds.kept.book_is ∙ absent_of_book parts may.plan l o.id may.to_do may.unposted
 
-  -- none of the outcomes has bins, nor has this one
-  pub bare_after : (outcomes : List Outcome) → outcomes ≡ y.book.outcomes ++ o ∷ [] → list_all is_bare outcomes ≡ true
-  bare_after outcomes more =
-      ap (list_all is_bare) (more ∙ ap (λ (b : Booked). b.outcomes ++ o ∷ []) may.holds.kept.book_is ∙ ap (λ (x : Outcome). booked parts l ++ x ∷ []) may.right
-      ∙ sym (booked-push parts l (entry (length l) o.id false)))
-      ∙ booked_bare parts may.plan (next false)
+  -- the outcome's bins are few enough for the book
+  pub few_visits : ((job : Job) (draws : Draws) (id : ℕ) → IsJob job → HasFewVisits (outcome job draws id)) → HasFewVisits o
+  few_visits law =
+      subst HasFewVisits (sym (may.right ∙ found_is parts.job o.id)) (law parts.job (draw parts.job.setting.key) o.id may.plan.sound)
 
   -- what is left to show of the value after the save
   pub record Done (n : Home C) (saved : Bool) : Type 0 where
@@ -149,7 +152,7 @@ module _ {C : Type 0} (load_faults save_faults : C → ℕ) (slots : C → Optio
     pub every : n.save_every ≡ parts.save_every
     pub digest : n.digest ≡ job_digest parts.job
     pub sorted_room : total parts.job ≤ length n.sorted.items + n.sorted.spare
-    pub save_room : 84 + 44 * total parts.job ≤ length n.room.items + n.room.spare
+    pub save_room : 84 + 80 * total parts.job ≤ length n.room.items + n.room.spare
 
   module _ (b : Booked) (total_kept : b.total ≡ y.book.total) (outcomes_more : b.outcomes ≡ y.book.outcomes ++ o ∷ []) where
     abbrev m : Home C
@@ -218,7 +221,7 @@ module _ {C : Type 0} (load_faults save_faults : C → ℕ) (slots : C → Optio
           let k = may.holds.kept in
           let sorted : sorted_of m ≡ by_id (total parts.job) (booked parts (next saved)) = ap (λ (q : Booked). by_id q.total q.outcomes) (book_is saved) in
           tried.tried
-          ∙ (λ i. tried_too (k.tried_is i) (k.place_is i).slot (checkpoint 1 (digests i) (k.place_is i).generation (sorted i)) saved)
+          ∙ (λ i. tried_too (k.tried_is i) (k.place_is i).slot (checkpoint 2 (digests i) (k.place_is i).generation (sorted i)) saved)
           ∙ due_tries parts parts.tried l (entry (length l) o.id saved) (was_due saved)
 
       sound_is : (saved : Bool) → TriedSave load_faults save_faults slots history m n saved → All (IsSound parts.job) (made parts (next saved))
@@ -226,7 +229,7 @@ module _ {C : Type 0} (load_faults save_faults : C → ℕ) (slots : C → Optio
           let k = may.holds.kept in
           let sorted : sorted_of m ≡ by_id (total parts.job) (booked parts (next saved)) = ap (λ (q : Booked). by_id q.total q.outcomes) (book_is saved) in
           due_sound parts l (entry (length l) o.id saved) (was_due saved)
-          (subst (λ (x : List ℕ × Place × List Outcome). IsCheckpoint (checkpoint 1 x.0 x.1.generation x.2) 1 x.0 x.1.generation x.2) (λ i. (digests i, k.place_is i, sorted i)) tried.sound)
+          (subst (λ (x : List ℕ × Place × List Outcome). IsCheckpoint (checkpoint 2 x.0 x.1.generation x.2) 2 x.0 x.1.generation x.2) (λ i. (digests i, k.place_is i, sorted i)) tried.sound)
           k.sound
 
       saved_kept : TriedSave load_faults save_faults slots history m n true → KeptAs load_faults save_faults slots history parts n.book n.keeper n.place n.failed_saves (next true)
@@ -250,9 +253,9 @@ module _ {C : Type 0} (load_faults save_faults : C → ℕ) (slots : C → Optio
             told = subst (λ (p : Place). IfToldThen parts.slots (slots n.keeper) (λ before now. SlotsAs parts before now p (next true))) (sym w.place)
                 (told_saved newest ours parts may.plan l (length l) o.id y.place k.place_is may.of_todo
                 (by_id_fit (fits parts.job) (total parts.job) (booked parts (next true)) (booked_fit parts may.plan (next true) (next_of_todo true)))
-                (subst (λ (x : List ℕ × List Outcome). IsCheckpoint (checkpoint 1 x.0 y.place.generation x.1) 1 x.0 y.place.generation x.1) (λ i. (digests i, sorted_is i)) tried.sound)
+                (subst (λ (x : List ℕ × List Outcome). IsCheckpoint (checkpoint 2 x.0 y.place.generation x.1) 2 x.0 y.place.generation x.1) (λ i. (digests i, sorted_is i)) tried.sound)
                 parts.slots (slots y.keeper) (slots n.keeper) may.plan.place k.told tried.other
-                (subst (λ (x : List ℕ × List Outcome). HoldsBytes (slots n.keeper) y.place.slot (checkpoint 1 x.0 y.place.generation x.1)) (λ i. (digests i, sorted_is i)) w.held)
+                (subst (λ (x : List ℕ × List Outcome). HoldsBytes (slots n.keeper) y.place.slot (checkpoint 2 x.0 y.place.generation x.1)) (λ i. (digests i, sorted_is i)) w.held)
                 (subst (λ (x : List ℕ × List Outcome). IfTold (slots n.keeper) (IsNewestForFitJobs x.0 y.place.slot y.place.generation x.1)) (λ i. (digests i, sorted_is i)) w.newest));
           }
 
@@ -308,7 +311,7 @@ module _ {C : Type 0} (load_faults save_faults : C → ℕ) (slots : C → Optio
         digest = digest ∙ d.digest;
         entry_room = subst (λ (c : ℕ). length parts.todo ≤ c) (sym (capacity ∙ ap vec_capacity d.posted)) may.holds.equipped.entry_room;
         sorted_room = subst (λ (q : RoomyOutcomes). total parts.job ≤ length q.items + q.spare) (sym sorted) d.sorted_room;
-        save_room = subst (λ (q : RoomyBytes). 84 + 44 * total parts.job ≤ length q.items + q.spare) (sym room) d.save_room;
+        save_room = subst (λ (q : RoomyBytes). 84 + 80 * total parts.job ≤ length q.items + q.spare) (sym room) d.save_room;
       };
     };
     due = d.due;

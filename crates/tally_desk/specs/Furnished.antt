@@ -17,7 +17,7 @@ pub record IsFurnished {C : Type 0} (job : Job) (plan : DeskPlan) (count : ℕ) 
   pub digest_is : home.digest ≡ plan.digest
   pub entry_room : count ≤ vec_capacity home.posted
   pub sorted_room : total job ≤ length home.sorted.items + home.sorted.spare
-  pub save_room : 84 + 44 * total job ≤ length home.room.items + home.room.spare
+  pub save_room : 84 + 80 * total job ≤ length home.room.items + home.room.spare
 
 -- the list has one element, of which this holds
 abbrev pub HoldsOne : {A : Type 0} → List A → (A → Type 0) → Type 0

@@ -61,9 +61,9 @@ made_after parts earlier (e ∷ posted) =
 abbrev pub made : Parts → List Entry → List Made
 made parts posted = made_after parts [] posted
 
--- its bytes, of the first version, since no outcome has bins
+-- its bytes, of the second version
 abbrev pub bytes_made : Job → Made → List ℕ
-bytes_made job m = checkpoint 1 (job_digest job) m.generation m.outcomes
+bytes_made job m = checkpoint 2 (job_digest job) m.generation m.outcomes
 
 abbrev pub try_made : Job → Made → Try
 try_made job m = try_of m.slot (bytes_made job m) m.succeeded
@@ -72,15 +72,15 @@ abbrev pub tries : Parts → List Entry → List Try
 tries parts posted = map (try_made parts.job) (made parts posted)
 
 abbrev pub IsSound : Job → Made → Type 0
-IsSound job m = IsCheckpoint (bytes_made job m) 1 (job_digest job) m.generation m.outcomes
+IsSound job m = IsCheckpoint (bytes_made job m) 2 (job_digest job) m.generation m.outcomes
 
 -- ---- the slots of the keeper
 
--- the slot is the checkpoint, of the first version, of the opening and these posts, with this generation
+-- the slot is the checkpoint, of the second version, of the opening and these posts, with this generation
 pub record IsSaveOf (parts : Parts) (generation : ℕ) (posted : List Entry) (slot : Stored) : Type 0 where
-  pub bytes : slot ≡ Some (checkpoint 1 (job_digest parts.job) generation (by_id (total parts.job) (booked parts posted)))
-  pub sound : IsCheckpoint (checkpoint 1 (job_digest parts.job) generation (by_id (total parts.job) (booked parts posted)))
-      1 (job_digest parts.job) generation (by_id (total parts.job) (booked parts posted))
+  pub bytes : slot ≡ Some (checkpoint 2 (job_digest parts.job) generation (by_id (total parts.job) (booked parts posted)))
+  pub sound : IsCheckpoint (checkpoint 2 (job_digest parts.job) generation (by_id (total parts.job) (booked parts posted)))
+      2 (job_digest parts.job) generation (by_id (total parts.job) (booked parts posted))
 
 -- What is known of the slots. The next slot is that of the place, to which the next save goes, and the last slot is the other one.
 pub record SlotsAs (parts : Parts) (before now : Pair) (place : Place) (posted : List Entry) : Type 0 where
@@ -129,7 +129,7 @@ module _ {C : Type 0} (load_faults save_faults : C → ℕ) (slots : C → Optio
     pub digest : home.digest ≡ job_digest parts.job
     pub entry_room : length parts.todo ≤ vec_capacity home.posted
     pub sorted_room : total parts.job ≤ length home.sorted.items + home.sorted.spare
-    pub save_room : 84 + 44 * total parts.job ≤ length home.room.items + home.room.spare
+    pub save_room : 84 + 80 * total parts.job ≤ length home.room.items + home.room.spare
 
   -- what the slot holds after these posts
   pub record HomeAs (parts : Parts) (home : Home C) (posted : List Entry) : Type 0 where

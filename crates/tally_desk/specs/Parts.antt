@@ -1,11 +1,12 @@
 -- What never changes at a desk, and what a desk may be made of.
-use Rattle.std.specs.Prelude.{◌≡◌, ℕ, ◌<◌, ◌≤◌, false, IsTrue, List, length, Option}
+use Rattle.std.specs.Prelude.{◌≡◌, ℕ, ◌<◌, ◌≤◌, IsTrue, List, length, Option}
 use Rattle.std.specs.List.{All}
 use Rattle.audit_io.specs.Slots.{Pair, IfTold}
 use Rattle.audit_io.specs.Tries.{Try}
 use Rattle.audit_model.specs.declared.outcome.Outcome.{Outcome}
 use Rattle.audit_model.specs.Job.{Job}
-use Rattle.audit_model.specs.Run.{total, fits, is_bare, run_ids}
+use Rattle.audit_model.specs.JobOf.{IsJob}
+use Rattle.audit_model.specs.Run.{total, fits, run_ids}
 use Rattle.audit_model.specs.Trajectory.{outcome}
 use Rattle.checkpoint_definitions.specs.Checkpoint.{job_digest}
 use Rattle.ckpt_store.specs.declared.slots.Place.{Place}
@@ -42,12 +43,10 @@ IsTodoFor job opening todo = (budget : ℕ) × (todo ≡ run_ids job opening bud
 
 -- what a desk may be made of
 pub record IsPlan (parts : Parts) : Type 0 where
+  pub sound : IsJob parts.job
   pub few_asks : length parts.job.setting.asks ≤ 4
   pub book : IsBook (record { total = total parts.job; outcomes = parts.opening })
   pub fit : All (λ o. IsTrue (fits parts.job o)) parts.opening
-  -- the job asks for no bins, and the opening has none, so that each save is of the first version
-  pub plain : parts.job.setting.shift ≡ false
-  pub bare : All (λ o. IsTrue (is_bare o)) parts.opening
   pub todo : IsTodoFor parts.job parts.opening parts.todo
   pub every : 1 ≤ parts.save_every
   pub some_seat : 1 ≤ parts.seats

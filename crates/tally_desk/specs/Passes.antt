@@ -1,11 +1,10 @@
 -- What clauses say of passes.
-use Rattle.std.specs.Prelude.{◌≡◌, ℕ, ◌+◌, ◌<◌, Bool, IsTrue, List, length, slice_index, Option, Some}
-use Rattle.std.specs.List.{list_all, range_with_len}
+use Rattle.std.specs.Prelude.{◌≡◌, ℕ, ◌+◌, ◌<◌, Bool, List, length, slice_index, Option, Some}
+use Rattle.std.specs.List.{range_with_len}
 use Rattle.std.specs.List.Sorted.{IsPermutation}
 use Rattle.atomic_table.specs.Seated.{TableId}
 use Rattle.audit_io.specs.Slots.{Pair}
 use Rattle.audit_io.specs.Tries.{Try}
-use Rattle.audit_model.specs.Run.{is_bare}
 use Rattle.ckpt_store.specs.declared.slots.Place.{Place}
 use Rattle.claim_counter.specs.Records.{times, with_claim}
 use Rattle.outcome_book.specs.Booked.{Booked}
@@ -62,8 +61,6 @@ pub record IsClosed {C : Type 0} (load_faults save_faults : C → ℕ) (slots : 
   pub due : AreDue parts posted
   pub kept : KeptAs load_faults save_faults slots history parts book keeper place failed posted
   pub last : last_saved ≡ ends_saved posted
-  -- no outcome of the book has bins
-  pub bare : IsTrue (list_all is_bare book.outcomes)
 
 -- ---- what stays true of a pass that posts what it claims
 

@@ -17,7 +17,7 @@ module _ {C : Type 0} where
 
   -- the checkpoint of them for the place
   abbrev pub bytes_of : Home C → List ℕ
-  bytes_of home = checkpoint 1 home.digest home.place.generation (sorted_of home)
+  bytes_of home = checkpoint 2 home.digest home.place.generation (sorted_of home)
 
   -- what a save leaves as it was
   pub record KeepsRest (before now : Home C) : Type 0 where
@@ -50,7 +50,7 @@ module _ {C : Type 0} where
       pub counts : Counts (save_faults before.keeper) (save_faults now.keeper)
       pub tried : history now.keeper ≡ tried_too (history before.keeper) before.place.slot (bytes_of before) saved
       pub other : KeepsOther (slots before.keeper) (slots now.keeper) before.place.slot
-      pub sound : IsCheckpoint (bytes_of before) 1 before.digest before.place.generation (sorted_of before)
+      pub sound : IsCheckpoint (bytes_of before) 2 before.digest before.place.generation (sorted_of before)
       pub on_ok : saved ≡ true → Saved before now
       pub on_err : saved ≡ false → FailedSave before now
 

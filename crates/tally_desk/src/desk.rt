@@ -32,7 +32,7 @@ pub struct Desk<C: Keeper> {
 
 impl<C: Keeper> Desk<C> {
     ghost use Rattle.std.specs.Prelude.{◌≡◌, ◌+◌, ◌-◌, ◌^◌, ◌<◌, ◌≤◌, ◌∷◌, [], ◌++◌, ℕ, IsTrue, All, IfOk, IfErr, IfSome, IfNone, true, false, length, vec_len};
-    ghost use Rattle.audit_model.specs.Run.{fits, is_bare, total};
+    ghost use Rattle.audit_model.specs.Run.{fits, total};
     ghost use Rattle.checkpoint_definitions.specs.Checkpoint.{job_digest};
     ghost use Rattle.claim_counter.specs.Records.{times};
     ghost use Rattle.tally_desk.specs.Desks.{BeginsTurn, CanPost, HasServed, IsInTurn, IsWaiting, claimed_ids, ended_view, first_view, joined_view, left_view, right_view, with_turn};
@@ -64,8 +64,6 @@ impl<C: Keeper> Desk<C> {
         requires place { IsPlaceFor job.now (C.slots keeper) plan.place }
         requires total { book.total ≡ total job.now }
         requires fit { All (λ o. IsTrue (fits job.now o)) book.outcomes }
-        requires plain { job.now.setting.shift ≡ false }
-        requires bare { All (λ o. IsTrue (is_bare o)) book.outcomes }
         requires todo { IsTodoFor job.now book.outcomes todo }
         requires seats { (1 ≤ seats) × (seats ≤ 33) }
         ensures parts { IfOk result (λ d. parts_of C.load_faults C.save_faults C.slots C.tried d.0.table.shared.key ≡ record {

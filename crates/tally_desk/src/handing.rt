@@ -68,7 +68,7 @@ pub(crate) fn furnish<C>(
     let Ok(sorted) = OutcomeList::with_room(alloc, total) else {
         return Err(Refused { book, keeper });
     };
-    let Ok(room) = Bytes::with_room(alloc, 84 + 44 * total) else {
+    let Ok(room) = Bytes::with_room(alloc, 84 + 80 * total) else {
         return Err(Refused { book, keeper });
     };
     Ok(Home {

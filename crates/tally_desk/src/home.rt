@@ -9,6 +9,7 @@ use ckpt_store::laws::{checkpoints_are_ours, saved_slots_are_newest};
 use ckpt_store::save;
 use ckpt_store::slots::Place;
 use outcome_book::book::Book;
+use outcome_book::laws::outcomes_have_few_visits;
 
 /// The book, the keeper and what was posted; and all that a save takes, so that posting and saving take no memory.
 #[derive(Drop)]
@@ -25,9 +26,7 @@ pub struct Home<C> {
 }
 
 impl<C: Keeper> Home<C> {
-    ghost use Rattle.std.specs.Prelude.{◌≡◌, ◌+◌, ◌*◌, ◌^◌, ◌<◌, ◌≤◌, ◌∷◌, [], ◌++◌, IsFalse, IsTrue, List, length, vec_capacity};
-    ghost use Rattle.std.specs.List.{list_all};
-    ghost use Rattle.audit_model.specs.Run.{is_bare};
+    ghost use Rattle.std.specs.Prelude.{◌≡◌, ◌+◌, ◌*◌, ◌^◌, ◌<◌, ◌≤◌, ◌∷◌, [], ◌++◌, IsFalse, List, length, vec_capacity};
     ghost use Rattle.outcome_book.specs.Booked.{IsBook};
     ghost use Rattle.tally_desk.specs.declared.entry.Entry as model;
     ghost use Rattle.tally_desk.specs.Entries.{entry};
@@ -41,8 +40,7 @@ impl<C: Keeper> Home<C> {
         requires generation { self.old.place.generation < 3 }
         requires count { self.old.failed_saves + 1 < 2 ^ 32 }
         requires sorted_room { self.old.book.total ≤ length self.old.sorted.items + self.old.sorted.spare }
-        requires save_room { 84 + 44 * self.old.book.total ≤ length self.old.room.items + self.old.room.spare }
-        requires bare { IsTrue (list_all is_bare self.old.book.outcomes) }
+        requires save_room { 84 + 80 * self.old.book.total ≤ length self.old.room.items + self.old.room.spare }
         ensures { TriedSave C.load_faults C.save_faults C.slots C.tried self.old self.new result }
     {
         let _count = self.book.len();
@@ -71,8 +69,7 @@ impl<C: Keeper> Home<C> {
         requires generation { self.old.place.generation < 3 }
         requires count { self.old.failed_saves + 1 < 2 ^ 32 }
         requires sorted_room { self.old.book.total ≤ length self.old.sorted.items + self.old.sorted.spare }
-        requires save_room { 84 + 44 * self.old.book.total ≤ length self.old.room.items + self.old.room.spare }
-        requires bare { IsTrue (list_all is_bare self.old.book.outcomes) }
+        requires save_room { 84 + 80 * self.old.book.total ≤ length self.old.room.items + self.old.room.spare }
         ensures { SavedWhereDue C.load_faults C.save_faults C.slots C.tried posts self.old self.new result }
     {
         if posts % u64::from(self.save_every) != 0 {
@@ -91,6 +88,7 @@ impl<C: Keeper> Home<C> {
     {
         saved_slots_are_newest();
         checkpoints_are_ours();
+        outcomes_have_few_visits();
         let ticket = self.posted.len() as u64;
         self.book.post(o);
         let saved = self.save_where_due(ticket + 1);

@@ -1,12 +1,13 @@
 -- What a walk found is the outcome of its id.
-use Rattle.std.proofs.Common.{◌≡◌, ℕ, ◌+◌, ◌-◌, ◌*◌, List, [], ◌∷◌, get_or, map, false, pos, ℤ, refl, sym, ap, ◌∙◌}
+use Rattle.std.proofs.Common.{◌≡◌, ℕ, ◌+◌, ◌-◌, ◌*◌, List, [], ◌∷◌, get_or, map, Bool, true, false, pos, ℤ, refl, sym, ap, ◌∙◌}
 use Rattle.audit_model.specs.declared.outcome.Outcome.{Outcome}
 use Rattle.audit_model.specs.declared.setting.Ask.{Ask}
 use Rattle.audit_model.specs.Job.{Job}
-use Rattle.audit_model.specs.Trajectory.{Draws, visit, hub, plan_value, moves, visits_in_tail, four_values, no_bins, walk_outcome, end_outcome}
+use Rattle.audit_model.specs.Trajectory.{Draws, visit, hub, plan_value, moves, visits_in_tail, four_values, no_bins, bins_by, walk_outcome, end_outcome}
 use Rattle.audit_model.specs.Serially.{run_outcome}
 use Rattle.flip_kernel.specs.Held.{Held}
 use Rattle.walker.specs.Asked.{each, asked_value, is_inside, visits_inside}
+use Rattle.walker.specs.Binned.{first_bins, plan_bin, visits_binned}
 use Rattle.walker.proofs.Asking.{each_is_four}
 
 values_are_four : (job : Job) (plan : List ℕ) (asks : List Ask)
@@ -27,21 +28,39 @@ found id moved values = record { id = id; moved = moved; values = values; bins =
 abbrev four_signed : List ℕ → List ℤ
 four_signed counts = pos (get_or counts 0 0) ∷ pos (get_or counts 1 0) ∷ pos (get_or counts 2 0) ∷ pos (get_or counts 3 0) ∷ []
 
-pub run_found : (job : Job) (draws : Draws) (stream steps moved : ℕ) (counts : List ℕ) (values : List ℤ)
-    → moved ≡ moves job (draws stream) job.start steps
-    → counts ≡ each (visits_inside job (draws stream) (steps + 1)) job.setting.asks → values ≡ four_signed counts
-    → found 0 moved values ≡ run_outcome job draws stream steps
-run_found job draws stream steps moved counts values m c v =
-    ap (λ (n : ℕ). found 0 n values) m
-    ∙ ap (λ (xs : List ℤ). found 0 (moves job (draws stream) job.start steps) xs)
-    (v ∙ ap four_signed c ∙ sym (counts_are_four job (draws stream) steps job.setting.asks))
+-- an outcome with other bins
+abbrev with_bins : Outcome → List ℕ → Outcome
+with_bins o bins = record o { bins = bins }
 
--- what a run finds, under the id of its stream
-pub walk_found : (job : Job) (draws : Draws) (id stream steps : ℕ) (run : Outcome) → stream ≡ 2 * id → steps ≡ job.setting.steps
-    → run ≡ run_outcome job draws stream steps
-    → record run { id = id } ≡ walk_outcome false job draws id
-walk_found job draws id stream steps run s t r =
-    ap (λ (o : Outcome). (let p : Outcome = record o { id = id } in p)) (r ∙ ap (λ (n : ℕ). run_outcome job draws n steps) s ∙ ap (λ (n : ℕ). run_outcome job draws (2 * id) n) t)
+pub run_found : (job : Job) (draws : Draws) (stream steps moved : ℕ) (counts bins its : List ℕ) (values : List ℤ)
+    → moved ≡ moves job (draws stream) job.start steps
+    → counts ≡ each (visits_inside job (draws stream) (steps + 1)) job.setting.asks → values ≡ four_signed counts → bins ≡ its
+    → with_bins (found 0 moved values) bins ≡ with_bins (run_outcome job draws stream steps) its
+run_found job draws stream steps moved counts bins its values m c v b =
+    ap (λ (n : ℕ). with_bins (found 0 n values) bins) m
+    ∙ ap (λ (xs : List ℤ). with_bins (found 0 (moves job (draws stream) job.start steps) xs) bins)
+    (v ∙ ap four_signed c ∙ sym (counts_are_four job (draws stream) steps job.setting.asks))
+    ∙ ap (λ (xs : List ℕ). with_bins (run_outcome job draws stream steps) xs) b
+
+-- what a walk from the start finds, with these bins
+abbrev run_with : Bool → Job → Draws → ℕ → ℕ → Outcome
+run_with shift job draws stream steps = with_bins (run_outcome job draws stream steps) (first_bins shift job (draws stream) (steps + 1))
+
+bins_are_those : (shift : Bool) (job : Job) (draws : ℕ → ℕ) → first_bins shift job draws (job.setting.steps + 1) ≡ bins_by shift job draws
+unfolding visits_binned plan_bin
+bins_are_those true job draws = refl
+bins_are_those false job draws = refl
+
+abbrev under : ℕ → Outcome → Outcome
+under id o = record o { id = id }
+
+-- what such a walk finds, under the id of its stream
+pub walk_found : (job : Job) (draws : Draws) (id stream steps : ℕ) (shift : Bool) (walk : Outcome) → stream ≡ 2 * id → steps ≡ job.setting.steps
+    → shift ≡ job.setting.shift → walk ≡ run_with shift job draws stream steps → under id walk ≡ walk_outcome job.setting.shift job draws id
+walk_found job draws id stream steps shift walk s t b w =
+    ap (under id) (w ∙ ap (λ (n : ℕ). run_with shift job draws stream n) t ∙ ap (λ (n : ℕ). run_with shift job draws n job.setting.steps) s
+    ∙ ap (λ (c : Bool). run_with c job draws (2 * id) job.setting.steps) b)
+    ∙ ap (λ (xs : List ℕ). under id (with_bins (run_outcome job draws (2 * id) job.setting.steps) xs)) (bins_are_those job.setting.shift job (draws (2 * id)))
 
 pub end_found : (job : Job) (draws : Draws) (id stream moved : ℕ) (from : List ℕ) (state : Held) (asks : List Ask) (values : List ℤ)
     → stream ≡ 2 * (id - job.setting.walks) + 3 → from ≡ hub job draws

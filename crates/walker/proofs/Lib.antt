@@ -1,3 +1,6 @@
 pub mod Asking
+pub mod Binning
 pub mod Finding
+pub mod Settling
 pub mod Stepping
+pub mod Still

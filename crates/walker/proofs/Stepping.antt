@@ -24,22 +24,22 @@ unfolding count_below
 count_below_more n test = rw (add-one n) refl
 
 module _ (job : Job) (draws : ℕ → ℕ) (plan : List ℕ) where
-  visit_none : visit job draws plan 0 ≡ plan
+  pub visit_none : visit job draws plan 0 ≡ plan
   unfolding visit
   visit_none = refl
 
-  visit_more : (i : ℕ) → visit job draws plan (i + 1) ≡ next job (visit job draws plan i) (draws i)
+  pub visit_more : (i : ℕ) → visit job draws plan (i + 1) ≡ next job (visit job draws plan i) (draws i)
   unfolding visit
   visit_more i = rw (add-one i) refl
 
-  moves_none : moves job draws plan 0 ≡ 0
+  pub moves_none : moves job draws plan 0 ≡ 0
   unfolding count_below
   moves_none = refl
 
-  moves_le : (i : ℕ) → moves job draws plan i ≤ i
+  pub moves_le : (i : ℕ) → moves job draws plan i ≤ i
   moves_le i = count_below_le i (λ k. not (bytes_eq (visit job draws plan k) (visit job draws plan (suc k))))
 
-  moves_more : (i : ℕ)
+  pub moves_more : (i : ℕ)
       → moves job draws plan (i + 1) ≡ moves job draws plan i + cond (not (bytes_eq (visit job draws plan i) (visit job draws plan (i + 1)))) 1 0
   moves_more i =
       count_below_more i (λ k. not (bytes_eq (visit job draws plan k) (visit job draws plan (suc k))))

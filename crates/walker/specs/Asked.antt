@@ -1,5 +1,5 @@
 -- What a trajectory keeps for each ask of a job, in four places, of which those past the asks are zeros.
-use Rattle.std.specs.Prelude.{ℕ, Bool, cond, List, [], ◌∷◌, Option, Some, None, ℤ, pos}
+use Rattle.std.specs.Prelude.{ℕ, ◌+◌, ◌*◌, Bool, cond, List, [], ◌∷◌, slice_index, Option, Some, None, ℤ, pos}
 use Rattle.std.specs.List.{slice_get}
 use Rattle.audit_model.specs.declared.setting.Ask.{Ask}
 use Rattle.audit_model.specs.Below.{count_below}
@@ -28,3 +28,9 @@ inside job plan (Some ask) = cond (is_inside job plan ask) 1 0
 unfoldable pub visits_inside : Job → (ℕ → ℕ) → ℕ → Option Ask → ℕ
 visits_inside job draws visits None = 0
 visits_inside job draws visits (Some ask) = count_below visits (λ i. is_inside job (visit job draws job.start i) ask)
+
+-- four counts after so many more plans of which each has what the second list tells
+abbrev pub four_more : List ℕ → ℕ → List ℕ → List ℕ
+four_more counts times inside =
+    (slice_index counts 0 + times * slice_index inside 0) ∷ (slice_index counts 1 + times * slice_index inside 1)
+    ∷ (slice_index counts 2 + times * slice_index inside 2) ∷ (slice_index counts 3 + times * slice_index inside 3) ∷ []

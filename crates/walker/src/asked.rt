@@ -1,11 +1,11 @@
 //! What is kept for each ask of a job, in four places, of which those past the asks are zeros.
 
-ghost use Rattle.std.specs.Prelude.{◌≡◌, ◌+◌, ◌<◌, ◌^◌, ◌∷◌, [], length, slice_index, ℕ, pos};
+ghost use Rattle.std.specs.Prelude.{◌≡◌, ◌+◌, ◌*◌, ◌<◌, ◌^◌, ◌∷◌, [], length, slice_index, ℕ, pos};
 ghost use Rattle.std.specs.List.{slice_get};
 ghost use Rattle.audit_model.specs.JobOf.{IsJob};
 ghost use Rattle.audit_model.specs.Trajectory.{plan_value};
 ghost use Rattle.flip_kernel.specs.Judged.{held_of};
-ghost use Rattle.walker.specs.Asked.{each, asked_value, inside};
+ghost use Rattle.walker.specs.Asked.{each, asked_value, four_more, inside};
 
 use audit_model::setting::{Ask, Score};
 use flip_guard::judge::Judge;
@@ -13,7 +13,7 @@ use flip_kernel::state::State;
 use outlier_tests::in_tail;
 use scores::value;
 
-/// For each ask the start plan's value, one where the held plan is in its tail, and a count of plans.
+/// For each ask the start plan's value, one where the held plan is in its tail, and how many of the counted plans are.
 #[derive(Drop)]
 pub struct Tally {
     pub start: [i64; 4],
@@ -91,14 +91,14 @@ pub fn signed(counts: [u32; 4]) -> [i64; 4]
 }
 
 impl Tally {
-    /// The tally of the start plan, which is held, alone.
+    /// A tally that has tested the start plan, which is held, and counted none.
     pub fn new<J: Judge>(state: &State<J>, asks: &[Ask], room: &mut [u64]) -> Tally
         requires sound { IsJob (held_of state.now).job }
         requires room { length room.old ≡ 200 }
         requires start { (held_of state.now).plan ≡ (held_of state.now).job.start }
         ensures start { result.start ≡ each (asked_value (held_of state.now).job (held_of state.now).job.start) asks.now }
         ensures inside { result.inside ≡ each (inside (held_of state.now).job (held_of state.now).plan) asks.now }
-        ensures counts { result.counts ≡ result.inside }
+        ensures counts { result.counts ≡ (0 ∷ 0 ∷ 0 ∷ 0 ∷ []) }
     {
         let start = values(state, asks, room);
         let mut tally = Tally {
@@ -107,7 +107,6 @@ impl Tally {
             counts: [0; 4],
         };
         tally.renew(state, asks, room);
-        tally.counts = tally.inside;
         tally
     }
 
@@ -128,21 +127,18 @@ impl Tally {
         ];
     }
 
-    /// Counts the plan that was tested last.
-    #[inline]
-    pub fn count(&mut self)
-        requires { (k : ℕ) → k < 4 → slice_index self.old.counts k + slice_index self.old.inside k < 2 ^ 32 }
+    /// Counts the plan that was tested last so many times.
+    pub fn count(&mut self, times: u32)
+        requires { (k : ℕ) → k < 4 → slice_index self.old.counts k + times * slice_index self.old.inside k < 2 ^ 32 }
         ensures start { self.new.start ≡ self.old.start }
         ensures inside { self.new.inside ≡ self.old.inside }
-        ensures counts { self.new.counts
-            ≡ (slice_index self.old.counts 0 + slice_index self.old.inside 0) ∷ (slice_index self.old.counts 1 + slice_index self.old.inside 1)
-            ∷ (slice_index self.old.counts 2 + slice_index self.old.inside 2) ∷ (slice_index self.old.counts 3 + slice_index self.old.inside 3) ∷ [] }
+        ensures counts { self.new.counts ≡ four_more self.old.counts times self.old.inside }
     {
         self.counts = [
-            self.counts[0] + self.inside[0],
-            self.counts[1] + self.inside[1],
-            self.counts[2] + self.inside[2],
-            self.counts[3] + self.inside[3],
+            self.counts[0] + times * self.inside[0],
+            self.counts[1] + times * self.inside[1],
+            self.counts[2] + times * self.inside[2],
+            self.counts[3] + times * self.inside[3],
         ];
     }
 }

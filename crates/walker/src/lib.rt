@@ -2,7 +2,9 @@
 #![tactic(auto)]
 
 mod asked;
+mod bins;
 mod steps;
 #[cfg(test)]
 mod tests;
+mod trail;
 pub mod walker;

@@ -6,9 +6,11 @@ ghost use Rattle.audit_model.specs.JobOf.{IsJob};
 ghost use Rattle.audit_model.specs.Step.{next};
 ghost use Rattle.audit_model.specs.Trajectory.{visit, moves};
 ghost use Rattle.flip_kernel.specs.Judged.{IsSeated, held_of};
-ghost use Rattle.walker.specs.Asked.{each, asked_value, inside, visits_inside};
+ghost use Rattle.walker.specs.Asked.{each, visits_inside};
+ghost use Rattle.walker.specs.Binned.{first_bins};
+ghost use Rattle.walker.specs.Trail.{IsTrail};
 
-use crate::asked::Tally;
+use crate::trail::Trail;
 use audit_model::steps::Steps;
 use chacha_draws::Draws;
 use flip_guard::judge::Judge;
@@ -37,36 +39,37 @@ fn step<J: Judge, L: Ledger>(
     try_flip(job, state, draw, counter)
 }
 
-/// Makes one step, tests the plan where it changed, and tells whether it did.
+/// Makes the step from the place, and where it changed the plan counts the one before it and tests the one after it.
 #[inline]
 fn visit_next<J: Judge, L: Ledger>(
     job: &Job,
     state: &mut State<J>,
     draws: &mut Draws,
-    tally: &mut Tally,
+    trail: &mut Trail,
+    place: u32,
     room: &mut [u64],
     counter: &mut Steps<L>,
-) -> bool
+)
     requires made { (held_of state.old).job ≡ job.now }
     requires seated { IsSeated job.now J.keeps J.stands J.takes J.rules state.old }
-    requires place { draws.old.place < 2 ^ 32 }
+    requires place { draws.old.place ≡ place }
+    requires few { place < 10 ^ 9 }
     requires sound { IsJob job.now }
     requires room { length room.old ≡ 200 }
-    requires start { tally.old.start ≡ each (asked_value job.now job.now.start) job.now.setting.asks }
-    requires inside { tally.old.inside ≡ each (inside job.now (held_of state.old).plan) job.now.setting.asks }
-    ensures plan { held_of state.new ≡ record (held_of state.old) { plan = next job.now (held_of state.old).plan (draw draws.old.key draws.old.stream draws.old.place) } }
+    requires visited { (held_of state.old).plan ≡ visit job.now (draw draws.old.key draws.old.stream) job.now.start place }
+    requires trail { IsTrail job.now (draw draws.old.key draws.old.stream) place trail.old }
+    ensures made { (held_of state.new).job ≡ job.now }
     ensures seated { IsSeated job.now J.keeps J.stands J.takes J.rules state.new }
-    ensures moved { result ≡ not (bytes_eq (held_of state.old).plan (held_of state.new).plan) }
-    ensures draws { draws.new ≡ record draws.old { place = draws.old.place + 1 } }
-    ensures start { tally.new.start ≡ tally.old.start }
-    ensures inside { tally.new.inside ≡ each (inside job.now (held_of state.new).plan) job.now.setting.asks }
-    ensures counts { tally.new.counts ≡ tally.old.counts }
+    ensures visited { (held_of state.new).plan ≡ visit job.now (draw draws.old.key draws.old.stream) job.now.start (place + 1) }
+    ensures draws { draws.new ≡ record draws.old { place = place + 1 } }
+    ensures asked { trail.new.bins.asked ≡ trail.old.bins.asked }
+    ensures trail { IsTrail job.now (draw draws.old.key draws.old.stream) (place + 1) trail.new }
 {
-    let moved = step(job, state, draws, counter);
-    if moved {
-        tally.renew(state, job.setting().asks.as_slice(), room);
+    if !step(job, state, draws, counter) {
+        return;
     }
-    moved
+    trail.settle(place + 1);
+    trail.renew(job, state, room);
 }
 
 /// Makes this many steps along a stream from its first draw on, and counts those that change the plan.
@@ -92,17 +95,18 @@ pub fn walk<J: Judge, L: Ledger>(
     moved
 }
 
-/// Walks so many steps along a stream from the start plan, which is held. It answers how many steps
-/// changed the plan, and for each ask how many of the visited plans are in its tail, the start plan among
-/// them. Scores are computed only where the plan changed.
+/// Walks so many steps along a stream from the start plan, which is held. It answers how many steps changed the plan, and of the
+/// visited plans, the start plan among them, how many are in each ask's tail and, where they are asked for, in each bin. Scores and seats
+/// are computed only where the plan changed.
 pub fn count_visits<J: Judge, L: Ledger>(
     job: &Job,
     state: &mut State<J>,
     stream: u64,
     steps: u32,
+    shift: bool,
     room: &mut [u64],
     counter: &mut Steps<L>,
-) -> (u32, [u32; 4])
+) -> Trail
     requires made { (held_of state.old).job ≡ job.now }
     requires seated { IsSeated job.now J.keeps J.stands J.takes J.rules state.old }
     requires start { (held_of state.old).plan ≡ job.now.start }
@@ -110,17 +114,16 @@ pub fn count_visits<J: Judge, L: Ledger>(
     requires room { length room.old ≡ 200 }
     ensures made { (held_of state.new).job ≡ job.now }
     ensures seated { IsSeated job.now J.keeps J.stands J.takes J.rules state.new }
-    ensures moved { result.0 ≡ moves job.now (draw job.now.setting.key stream) job.now.start steps }
-    ensures counts { result.1 ≡ each (visits_inside job.now (draw job.now.setting.key stream) (steps + 1)) job.now.setting.asks }
+    ensures moved { result.moved ≡ moves job.now (draw job.now.setting.key stream) job.now.start steps }
+    ensures counts { result.tally.counts ≡ each (visits_inside job.now (draw job.now.setting.key stream) (steps + 1)) job.now.setting.asks }
+    ensures bins { result.bins.counts ≡ first_bins shift job.now (draw job.now.setting.key stream) (steps + 1) }
 {
     let _units = job.units();
-    let setting = job.setting();
-    let mut draws = Draws::new(setting.key, stream);
-    let mut tally = Tally::new(state, setting.asks.as_slice(), room);
-    let mut moved = 0;
+    let mut draws = Draws::new(job.setting().key, stream);
+    let mut trail = Trail::new(job, state, shift, room);
     for place in 0..steps {
-        moved += u32::from(visit_next(job, state, &mut draws, &mut tally, room, counter));
-        tally.count();
+        visit_next(job, state, &mut draws, &mut trail, place, room, counter);
     }
-    (moved, tally.counts)
+    trail.settle(steps + 1);
+    trail
 }

@@ -58,7 +58,7 @@ fn two_units(alloc: Global) -> Result<Parsed, Memory>
     })
 }
 
-// One trajectory of each test, that asks for seats.
+// One trajectory of each test, that asks for seats and for bins.
 fn setting(alloc: Global) -> Result<Setting, Memory>
     ensures { IfOk result (λ s. IsSetting s) }
 {
@@ -88,7 +88,7 @@ fn setting(alloc: Global) -> Result<Setting, Memory>
         resume: false,
         size: 0,
         max_cut: 400_000,
-        shift: false,
+        shift: true,
         stop: 0,
         serial: false,
         region: Text::new(alloc),
@@ -96,9 +96,9 @@ fn setting(alloc: Global) -> Result<Setting, Memory>
     })
 }
 
-// What both trajectories find, if there are two.
-fn found(alloc: Global, job: &Job) -> Result<Option<(Outcome, Outcome)>, Memory> {
-    if job.total() != 2 || job.setting().shift {
+// What both trajectories find, if there are two, and a walk of two steps on another stream.
+fn found(alloc: Global, job: &Job) -> Result<Option<(Outcome, Outcome, Outcome)>, Memory> {
+    if job.total() != 2 {
         return Ok(None);
     }
     if job.rules().regions.len() > 0 {
@@ -116,10 +116,11 @@ fn found(alloc: Global, job: &Job) -> Result<Option<(Outcome, Outcome)>, Memory>
     walker.hub_into(job, hub.as_mut_slice());
     let along = walker.walk(job, hub.as_slice(), 0);
     let end = walker.walk(job, hub.as_slice(), 1);
-    Ok(Some((along, end)))
+    let run = walker.run(job, 8_589_934_593, 2);
+    Ok(Some((along, end, run)))
 }
 
-// The start plan and the plan after each of three steps have its one seat, and so has the end.
+// The start plan and the plan after each step have its one seat, and so has the end.
 #[test]
 fn plans_that_stay(rt: HostRuntime) -> Result<(), Fail> {
     let alloc = rt.alloc();
@@ -128,7 +129,7 @@ fn plans_that_stay(rt: HostRuntime) -> Result<(), Fail> {
         id: 0,
         moved: 0,
         values: [4, 0, 0, 0],
-        bins: [0; 9],
+        bins: [0, 0, 0, 0, 4, 0, 0, 0, 0],
     };
     let end = Outcome {
         id: 1,
@@ -136,6 +137,12 @@ fn plans_that_stay(rt: HostRuntime) -> Result<(), Fail> {
         values: [1, 0, 0, 0],
         bins: [0; 9],
     };
-    assert!(rt; found(alloc, &job)? == Some((along, end)));
+    let run = Outcome {
+        id: 0,
+        moved: 0,
+        values: [3, 0, 0, 0],
+        bins: [0; 9],
+    };
+    assert!(rt; found(alloc, &job)? == Some((along, end, run)));
     Ok(())
 }

@@ -1,12 +1,13 @@
 //! The walker of a job.
 
-ghost use Rattle.std.specs.Prelude.{◌≡◌, false, ◌+◌, ◌-◌, ◌*◌, ◌<◌, ◌≤◌, ◌^◌, length, IfOk};
+ghost use Rattle.std.specs.Prelude.{◌≡◌, ◌+◌, ◌-◌, ◌*◌, ◌<◌, ◌≤◌, ◌^◌, length, IfOk};
 ghost use Rattle.draw_definitions.specs.Draw.{draw};
 ghost use Rattle.audit_model.specs.Plan.{IsLegal};
 ghost use Rattle.audit_model.specs.Trajectory.{hub as hub_of, outcome, outcome_with, walk_outcome, end_outcome};
 ghost use Rattle.audit_model.specs.Job.{rules};
 ghost use Rattle.audit_model.specs.Serially.{run_outcome};
 ghost use Rattle.flip_kernel.specs.Judged.{TakesPlansOf};
+ghost use Rattle.walker.specs.Binned.{first_bins};
 ghost use Rattle.walker.specs.Seated.{IsSeated, held_of};
 
 use crate::asked::{signed, values};
@@ -55,14 +56,12 @@ impl<J: Judge> Walker<J> {
     }
 
     /// Walks the trajectory with this id, and answers what it finds: one of the outlier test from the start
-    /// plan, or one of the parallel test from the hub, which is read for no other. No bins are asked for. It
-    /// takes no memory.
+    /// plan, or one of the parallel test from the hub, which is read for no other. It takes no memory.
     pub fn walk(&mut self, job: &Job, hub: &[u32], id: u32) -> Outcome
         requires made { (held_of self.old).job ≡ job.now }
         requires seated { IsSeated job.now J.keeps J.stands J.takes J.rules self.old }
         requires id { id < job.now.setting.walks + job.now.setting.ends }
         requires hub { job.now.setting.walks ≤ id → hub.now ≡ hub_of job.now (draw job.now.setting.key) }
-        requires bare { job.now.setting.shift ≡ false }
         ensures outcome { result ≡ outcome job.now (draw job.now.setting.key) id }
         ensures made { (held_of self.new).job ≡ job.now }
         ensures seated { IsSeated job.now J.keeps J.stands J.takes J.rules self.new }
@@ -104,7 +103,7 @@ impl<J: Judge> Walker<J> {
         requires made { (held_of self.old).job ≡ job.now }
         requires seated { IsSeated job.now J.keeps J.stands J.takes J.rules self.old }
         requires hub { job.now.setting.walks ≤ id → hub.now ≡ hub_of job.now (draw job.now.setting.key) }
-        ensures outcome { result ≡ outcome_with false job.now (draw job.now.setting.key) id }
+        ensures outcome { result ≡ outcome_with job.now.setting.shift job.now (draw job.now.setting.key) id }
         ensures made { (held_of self.new).job ≡ job.now }
         ensures seated { IsSeated job.now J.keeps J.stands J.takes J.rules self.new }
     {
@@ -129,38 +128,43 @@ impl<J: Judge> Walker<J> {
         ensures seated { IsSeated job.now J.keeps J.stands J.takes J.rules self.new }
     {
         let mut counter: Steps<L> = Steps::new(blank);
-        self.run_from_start(job, stream, steps, &mut counter)
+        self.walk_along(job, stream, steps, false, &mut counter)
     }
 
-    // A walk from the start plan.
-    fn run_from_start<L: Ledger>(
+    // A walk from the start plan, which counts bins where they are asked for. The id is 0.
+    fn walk_along<L: Ledger>(
         &mut self,
         job: &Job,
         stream: u64,
         steps: u32,
+        shift: bool,
         counter: &mut Steps<L>,
     ) -> Outcome
         requires made { (held_of self.old).job ≡ job.now }
         requires seated { IsSeated job.now J.keeps J.stands J.takes J.rules self.old }
         requires few { steps ≤ 10 ^ 9 }
-        ensures outcome { result ≡ run_outcome job.now (draw job.now.setting.key) stream steps }
+        ensures outcome { result ≡ record (run_outcome job.now (draw job.now.setting.key) stream steps) {
+          bins = first_bins shift job.now (draw job.now.setting.key stream) (steps + 1);
+        } }
         ensures made { (held_of self.new).job ≡ job.now }
         ensures seated { IsSeated job.now J.keeps J.stands J.takes J.rules self.new }
     {
         self.state.set(job, job.start().as_slice());
-        let (moved, counts) = count_visits(
+        let found = count_visits(
             job,
             &mut self.state,
             stream,
             steps,
+            shift,
             &mut self.room,
             counter,
         );
+        let bins = found.bins.counts;
         Outcome {
             id: 0,
-            moved: u64::from(moved),
-            values: signed(counts),
-            bins: [0; 9],
+            moved: u64::from(found.moved),
+            values: signed(found.tally.counts),
+            bins,
         }
     }
 
@@ -168,15 +172,16 @@ impl<J: Judge> Walker<J> {
     fn walk_from_start<L: Ledger>(&mut self, job: &Job, id: u32, counter: &mut Steps<L>) -> Outcome
         requires made { (held_of self.old).job ≡ job.now }
         requires seated { IsSeated job.now J.keeps J.stands J.takes J.rules self.old }
-        ensures outcome { result ≡ walk_outcome false job.now (draw job.now.setting.key) id }
+        ensures outcome { result ≡ walk_outcome job.now.setting.shift job.now (draw job.now.setting.key) id }
         ensures made { (held_of self.new).job ≡ job.now }
         ensures seated { IsSeated job.now J.keeps J.stands J.takes J.rules self.new }
     {
         let _units = job.units();
+        let setting = job.setting();
         let stream = 2 * u64::from(id);
-        let mut run = self.run_from_start(job, stream, job.setting().steps, counter);
-        run.id = id;
-        run
+        let mut found = self.walk_along(job, stream, setting.steps, setting.shift, counter);
+        found.id = id;
+        found
     }
 
     // A trajectory of the parallel test.

@@ -28,8 +28,8 @@ use Rattle.text_definitions.specs.Names.{score_name, tail_name}
 abbrev pub names_of : Command → List Name
 names_of Check = Pop ∷ First ∷ Second ∷ District ∷ Slack ∷ MaxCut ∷ []
 names_of Run =
-    Pop ∷ First ∷ Second ∷ District ∷ Slack ∷ Key ∷ Walks ∷ Steps ∷ Ends ∷ HubSteps ∷ Ask ∷ Workers ∷ Budget ∷ Save ∷ Resume ∷ MaxCut ∷ []
-names_of Make = Size ∷ Slack ∷ Key ∷ Walks ∷ Steps ∷ Ends ∷ HubSteps ∷ Ask ∷ Workers ∷ Budget ∷ Save ∷ Resume ∷ MaxCut ∷ []
+    Pop ∷ First ∷ Second ∷ District ∷ Slack ∷ Key ∷ Walks ∷ Steps ∷ Ends ∷ HubSteps ∷ Ask ∷ Workers ∷ Budget ∷ Save ∷ Resume ∷ MaxCut ∷ Shift ∷ Serial ∷ []
+names_of Make = Size ∷ Slack ∷ Key ∷ Walks ∷ Steps ∷ Ends ∷ HubSteps ∷ Ask ∷ Workers ∷ Budget ∷ Save ∷ Resume ∷ MaxCut ∷ Shift ∷ Serial ∷ []
 names_of Plans = []
 
 -- the value of a name that is not given, where it may be left out
@@ -246,9 +246,9 @@ module _ (command : Command) (words : List Pair) where
     resume = is_yes Resume;
     size = 0;
     max_cut = number_at MaxCut;
-    shift = false;
+    shift = is_yes Shift;
     stop = 0;
-    serial = false;
+    serial = is_yes Serial;
     region = [];
     max_split = 200;
   }

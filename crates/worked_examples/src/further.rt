@@ -1,6 +1,8 @@
 //! Examples of seats in bins, of tests that stop early and of the serial test, computed by the definitions.
 
-ghost use Rattle.std.specs.Prelude.{◌≡◌, ◌%◌, [], ◌∷◌, ◌++◌, codes, replicate, Some, None, true, pos, negsuc};
+ghost use Rattle.std.specs.Prelude.{◌≡◌, ◌%◌, [], ◌∷◌, ◌++◌, codes, replicate, Some, None, Ok, Err, true, pos, negsuc};
+ghost use Rattle.audit_model.specs.declared.fault.Name.TheVariants as name;
+ghost use Rattle.audit_model.specs.declared.fault.WordFault.TheVariants as word;
 ghost use Rattle.audit_model.specs.declared.setting.Score.TheVariants.{Seats, Gap, MeanMedian};
 ghost use Rattle.audit_model.specs.declared.setting.Tail.TheVariants.{Low, High};
 ghost use Rattle.audit_model.specs.Run.{fits};
@@ -9,7 +11,10 @@ ghost use Rattle.audit_model.specs.Stopping.{settled, stop};
 ghost use Rattle.audit_model.specs.Trajectory.{bin_of, no_bins, outcome, tally};
 ghost use Rattle.draw_definitions.specs.Draw.{draw};
 ghost use Rattle.text_definitions.specs.Report.{thread_report};
+ghost use Rattle.word_definitions.specs.Words.{setting_of};
 ghost use Rattle.worked_examples.specs.Jobs.{run_of, cycle_of_four, job_of_four, job_of_three, job_of_three_districts, job_of_two, first_draws_alone, found_once};
+ghost use Rattle.worked_examples.specs.Lines.{run_words};
+ghost use Rattle.worked_examples.specs.Texts.{columns};
 
 /// The bin of a plan by its seats and the start's.
 pub fn small_bins()
@@ -53,6 +58,19 @@ pub fn small_places()
     ensures four { serial_place 0x903df1a0ade0b876 4 ≡ 2 }
     ensures many { serial_place 0x903df1a0ade0b876 1024 ≡ 118 }
     ensures first { draw (replicate 32 0) 8589934592 0 % 4 ≡ 0 }
+{}
+
+/// Words that ask for the serial test: a run of it has as many plans as a power of two, and an unreadable number of steps is named first.
+pub fn words_of_the_serial_test()
+    ensures default { setting_of (run_words (codes "--slack" ∷ codes "5000" ∷ codes "--steps" ∷ codes "8" ∷ codes "--ask" ∷ codes "gap:low" ∷ codes "--serial" ∷ codes "no" ∷ [])) ≡
+        Ok (record (run_of 5000 1 8 0 1000 (record { score = Gap; tail = Low } ∷ [])) { columns = columns }) }
+    ensures asked { setting_of (run_words (codes "--slack" ∷ codes "5000" ∷ codes "--serial" ∷ codes "yes" ∷ codes "--steps" ∷ codes "7" ∷ codes "--ask" ∷ codes "gap:low" ∷ [])) ≡
+        Ok (record (run_of 5000 1 7 0 1000 (record { score = Gap; tail = Low } ∷ [])) { columns = columns; serial = true }) }
+    ensures nine_plans { setting_of (run_words (codes "--slack" ∷ codes "5000" ∷ codes "--steps" ∷ codes "8" ∷ codes "--ask" ∷ codes "gap:low,gap:high" ∷ codes "--serial" ∷ codes "yes" ∷ [])) ≡
+        Err (word.BadValue name.Serial) }
+    ensures by_default { setting_of (run_words (codes "--ask" ∷ codes "gap:low" ∷ codes "--serial" ∷ codes "yes" ∷ [])) ≡ Err (word.BadValue name.Serial) }
+    ensures neither { setting_of (run_words (codes "--steps" ∷ codes "7" ∷ codes "--ask" ∷ codes "gap:low" ∷ codes "--serial" ∷ codes "maybe" ∷ [])) ≡ Err (word.BadValue name.Serial) }
+    ensures unread_steps { setting_of (run_words (codes "--steps" ∷ codes "08" ∷ codes "--ask" ∷ codes "gap:low" ∷ codes "--serial" ∷ codes "yes" ∷ [])) ≡ Err (word.BadValue name.Steps) }
 {}
 
 /// What the serial test finds on two units, where no plan but the first is legal.

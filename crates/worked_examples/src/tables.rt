@@ -1,6 +1,6 @@
 //! Examples of regions and tables that are read, and of the words that go with them, computed by the definitions.
 
-ghost use Rattle.std.specs.Prelude.{◌≡◌, ◌++◌, [], ◌∷◌, codes, pos, Ok, Err};
+ghost use Rattle.std.specs.Prelude.{◌≡◌, ◌++◌, [], ◌∷◌, codes, pos, true, Ok, Err};
 ghost use Rattle.audit_model.specs.declared.fault.Name.TheVariants as name;
 ghost use Rattle.audit_model.specs.declared.fault.PlanFault.TheVariants.{Disconnected};
 ghost use Rattle.audit_model.specs.declared.fault.RegionFault.TheVariants as region;
@@ -66,11 +66,12 @@ pub fn jobs_of_plans()
 pub fn more_refused_words()
     ensures many_cut { setting_of (run_words (codes "--ask" ∷ codes "gap:low" ∷ codes "--max-cut" ∷ codes "400001" ∷ [])) ≡ Err (word.BadValue name.MaxCut) }
     ensures zero_in_front { setting_of (run_words (codes "--ask" ∷ codes "gap:low" ∷ codes "--max-cut" ∷ codes "02" ∷ [])) ≡ Err (word.BadValue name.MaxCut) }
+    ensures no_answer { setting_of (run_words (codes "--ask" ∷ codes "gap:low" ∷ codes "--shift" ∷ codes "1" ∷ [])) ≡ Err (word.BadValue name.Shift) }
 {}
 
 /// Words that are accepted beside those of plain runs.
 pub fn more_accepted_words()
     ensures { setting_of (run_words (codes "--slack" ∷ codes "5000" ∷ codes "--steps" ∷ codes "7" ∷ codes "--ask" ∷ codes "gap:low" ∷ codes "--ends" ∷ codes "3"
-        ∷ codes "--max-cut" ∷ codes "2" ∷ [])) ≡
-        Ok (record (run_of 5000 1 7 3 1000 (record { score = Gap; tail = Low } ∷ [])) { columns = columns; max_cut = 2 }) }
+        ∷ codes "--max-cut" ∷ codes "2" ∷ codes "--shift" ∷ codes "yes" ∷ [])) ≡
+        Ok (record (run_of 5000 1 7 3 1000 (record { score = Gap; tail = Low } ∷ [])) { columns = columns; max_cut = 2; shift = true }) }
 {}

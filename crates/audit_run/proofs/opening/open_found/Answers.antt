@@ -1,18 +1,18 @@
-use Rattle.std.proofs.Common.{◌≡◌, ◌∙◌, List, map, true, refl, ap, arith}
+use Rattle.std.proofs.Common.{◌≡◌, ◌∙◌, List, true, refl, ap, arith}
 use Rattle.audit_model.specs.declared.outcome.Outcome.{Outcome}
-use Rattle.audit_model.specs.Trajectory.{bare}
+use Rattle.audit_model.specs.Run.{taken_up}
 use Rattle.audit_run.proofs.Finished.{no_memory_ends, refused_ends}
-use Rattle.audit_run.proofs.Started.{opens_bare, taken_none}
+use Rattle.audit_run.proofs.Started.{opens_taken, taken_none}
 use Rattle.audit_run.proofs.opening.open_found.Goals as goal
 
 pub returns-in-Ok : goal.returns-in-Ok
 returns-in-Ok c = λ k told out. no_memory_ends c.args.job.now out k k refl refl refl refl
 
-pub returns-in-Ok-without_bins : goal.returns-in-Ok-without_bins
-returns-in-Ok-without_bins c = λ k told.
+pub returns-in-Ok-take_up : goal.returns-in-Ok-take_up
+returns-in-Ok-take_up c = λ k told.
     let resumes : c.args.job.now.setting.resume ≡ true = grind (arith, c.setting.ensures, c.if-not-setting.false) in
-    opens_bare c.args.job.now c.requires.run c.args.digest k c.args.slots _ _ _ c.requires.digest resumes told c.in-Ok.ensures.held
-    (c.in-Ok.ensures.fit c.args.job.now c.requires.fit.0 c.requires.fit.1) (c.in-Ok-without_bins.ensures ∙ ap (λ (os : List Outcome). map bare os) c.as_slice.ensures)
+    opens_taken c.args.job.now c.args.digest k c.args.slots _ _ _ c.requires.digest resumes told c.in-Ok.ensures.held
+    (c.in-Ok.ensures.fit c.args.job.now c.requires.fit.0 c.requires.fit.1) (c.in-Ok-take_up.ensures ∙ ap (λ (os : List Outcome). taken_up c.args.job.now.setting.shift c.args.job.now.setting.walks os) c.as_slice.ensures)
     _ refl refl (c.target_of-target.ensures k.slots told)
 
 pub returns : goal.returns

@@ -1,4 +1,4 @@
-use Rattle.std.proofs.Common.{◌<◌, ◌≤◌, ◌++◌, ◌∙◌, [], None, length, sym, ap, subst, arith}
+use Rattle.std.proofs.Common.{◌<◌, ◌≤◌, ◌++◌, ◌∙◌, ℕ, List, [], Option, length, sym, ap, subst, arith}
 use Rattle.audit_model.specs.Run.{total}
 use Rattle.audit_run.specs.Steps.{Finishes}
 use Rattle.audit_run.specs.Running.{stopped_by}
@@ -18,7 +18,9 @@ returns-then-done-total g c = λ opening before after opened all saved.
 pub returns : goal.returns
 returns g c = λ opening before after opened all saved.
     let whole : total c.args.job.now ≤ length c.args.sorted.now = omega (arith, c.if-done-total.false, c.total-total.ensures) in
-    let text = c.as_slice.ensures ∙ c.text-2.ensures.items ∙ ap (λ xs. xs ++ report c.args.job.now c.args.sorted.now [] None) c.requires.blank in
+    let text =
+    c.as_slice.ensures ∙ c.text-2.ensures.items ∙ ap (λ xs. xs ++ report c.args.job.now c.args.sorted.now [] c.test_serially-serial.result) c.requires.blank
+    ∙ ap (λ (found : Option (ℕ × List ℕ)). report c.args.job.now c.args.sorted.now [] found) c.test_serially-serial.ensures.found in
     let out = stream g.K.Sink.taken g.K.Sink.faults c.args.out.now in
     let later = stream g.K.Sink.taken g.K.Sink.faults c.write_all-written.new.out in
     subst (λ why. Finishes c.args.job.now out later before after why) (sym c.end.ensures)

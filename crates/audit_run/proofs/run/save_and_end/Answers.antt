@@ -1,7 +1,7 @@
-use Rattle.std.proofs.Common.{◌∙◌, ◌≤◌, ℕ, All, IsFalse, IsTrue, List, ap, arith, length, sym, subst}
+use Rattle.std.proofs.Common.{◌∙◌, ◌≤◌, ℕ, All, IsFalse, List, ap, arith, length, sym, subst}
 use Rattle.audit_model.specs.declared.outcome.Outcome.{Outcome}
 use Rattle.audit_model.specs.declared.setting.Setting.{Setting}
-use Rattle.audit_model.specs.Run.{run_ids, has_id, is_bare}
+use Rattle.audit_model.specs.Run.{run_ids, has_id}
 use Rattle.ckpt_store.specs.Fitting.{AreFit}
 use Rattle.desk_crew.specs.Crews.{IsCrew}
 use Rattle.audit_run.specs.Running.{AreAll, SavedBy, SavesLast}
@@ -20,9 +20,6 @@ run_over-requires-clause-place g c κs within = place_told_for c.args.job.now (g
 
 pub run_over-requires-clause-fit : goal.run_over-requires-clause-fit
 run_over-requires-clause-fit g c κs within = (subst (AreFit c.args.job.now) (sym c.requires.ready.kept) c.requires.fit).fit
-
-pub run_over-requires-clause-bare : goal.run_over-requires-clause-bare
-run_over-requires-clause-bare g c κs within = subst (λ (os : List Outcome). All (λ o. IsTrue (is_bare o)) os) (sym c.requires.ready.kept) c.requires.bare
 
 pub run_over-requires-clause-todo : goal.run_over-requires-clause-todo
 run_over-requires-clause-todo g c κs within =
@@ -47,7 +44,6 @@ end_run-why-requires-clause-whole g c =
     let h = c.in-Ok.ensures.ran in
     let todo_is = c.requires.ready.ids ∙ ap (λ (os : List Outcome). run_ids job os job.setting.budget) (sym c.requires.ready.kept) in
     let all = all_outcomes _ _ _ _ _ _ _ h todo_is c.outcomes_by_id_are_mapped.ensures c.requires.run (subst (AreFit job) (sym c.requires.ready.kept) c.requires.fit)
-    (subst (λ (os : List Outcome). All (λ o. IsTrue (is_bare o)) os) (sym c.requires.ready.kept) c.requires.bare)
     c.requires.ready.todo.within (subst (λ (os : List Outcome). All (λ id. IsFalse (has_id os id)) c.args.ready.todo) (sym c.requires.ready.kept) c.requires.ready.todo.absent) in
     whole_outcomes job c.requires.run c.args.ready.book.outcomes c.as_slice.result.now (subst (AreAll job c.args.ready.book.outcomes) (sym c.as_slice.ensures) all)
 
@@ -57,7 +53,6 @@ end_run-why-requires-clause-few g c =
     let h = c.in-Ok.ensures.ran in
     let todo_is = c.requires.ready.ids ∙ ap (λ (os : List Outcome). run_ids job os job.setting.budget) (sym c.requires.ready.kept) in
     let all = all_outcomes _ _ _ _ _ _ _ h todo_is c.outcomes_by_id_are_mapped.ensures c.requires.run (subst (AreFit job) (sym c.requires.ready.kept) c.requires.fit)
-    (subst (λ (os : List Outcome). All (λ o. IsTrue (is_bare o)) os) (sym c.requires.ready.kept) c.requires.bare)
     c.requires.ready.todo.within (subst (λ (os : List Outcome). All (λ id. IsFalse (has_id os id)) c.args.ready.todo) (sym c.requires.ready.kept) c.requires.ready.todo.absent) in
     omega (arith, ap length c.as_slice.ensures, all.fit.few)
 
@@ -70,7 +65,6 @@ returns-in-Ok g c =
     let h = c.in-Ok.ensures.ran in
     let todo_is = c.requires.ready.ids ∙ ap (λ (os : List Outcome). run_ids job os job.setting.budget) (sym c.requires.ready.kept) in
     let all = all_outcomes _ _ _ _ _ _ _ h todo_is c.outcomes_by_id_are_mapped.ensures c.requires.run (subst (AreFit job) (sym c.requires.ready.kept) c.requires.fit)
-    (subst (λ (os : List Outcome). All (λ o. IsTrue (is_bare o)) os) (sym c.requires.ready.kept) c.requires.bare)
     c.requires.ready.todo.within (subst (λ (os : List Outcome). All (λ id. IsFalse (has_id os id)) c.args.ready.todo) (sym c.requires.ready.kept) c.requires.ready.todo.absent) in
     let last = saves_last _ _ _ _ _ _ _ h todo_is c.checkpoints_are_ours.ensures c.saves_hold_parts.ensures c.run_tries_are_right.ensures (ap (λ (s : Setting). s.save_every) c.setting.ensures)
     (placed_known job (g.C.Keeper.slots c.args.keeper) c.args.target c.requires.placed) all.full in
@@ -79,8 +73,8 @@ returns-in-Ok g c =
     (subst (λ b. SavedBy b job opening before after c.in-Ok.ran.saved) (sym c.requires.saved)
     (subst (λ (os : List Outcome). SavesLast job os before after c.in-Ok.ran.saved) c.requires.ready.kept last))
 
-pub returns : goal.returns
-returns g c =
+pub returns-in-Err : goal.returns-in-Err
+returns-in-Err g c =
     let same = c.in-Err.ensures.refused.1 in
     no_memory_ends c.args.job.now (stream g.K.Sink.taken g.K.Sink.faults c.args.out.now)
     (kept g.C.Keeper.slots g.C.Keeper.tried g.C.Keeper.load_faults g.C.Keeper.save_faults c.args.keeper)

@@ -1,6 +1,4 @@
-use Rattle.std.proofs.Common.{All, List, Ok, refl, sym, subst}
-use Rattle.std.specs.Prelude.{IsTrue}
-use Rattle.audit_model.specs.Run.{is_bare}
+use Rattle.std.proofs.Common.{List, Ok, refl, sym, subst}
 use Rattle.audit_model.specs.declared.outcome.Outcome.{Outcome}
 use Rattle.ckpt_store.specs.Fitting.{AreFit}
 use Rattle.audit_run.specs.Running.{AreAll, IsReadyFor, SavedBy}
@@ -9,9 +7,6 @@ use Rattle.audit_run.proofs.run.walk_and_end.Goals as goal
 
 pub walk-sorted-requires-clause-fit : goal.walk-sorted-requires-clause-fit
 walk-sorted-requires-clause-fit g c κs within = subst (AreFit c.args.job.now) (sym c.requires.ready.kept) c.requires.fit
-
-pub walk-sorted-requires-clause-bare : goal.walk-sorted-requires-clause-bare
-walk-sorted-requires-clause-bare g c κs within = subst (λ (os : List Outcome). All (λ o. IsTrue (is_bare o)) os) (sym c.requires.ready.kept) c.requires.bare
 
 pub walk-sorted-requires-clause-ready : goal.walk-sorted-requires-clause-ready
 walk-sorted-requires-clause-ready g c κs within = subst (λ (os : List Outcome). IsReadyFor c.args.job.now os c.args.ready) (sym c.requires.ready.kept) c.requires.ready

@@ -32,4 +32,6 @@ returns c =
     let save : c.number_at-8.result ≡ number name.Save = c.number_at-8.ensures (omega (arith, (number-bounds 0 100000 (text name.Save) c.requires.save).1)) in
     let max_cut : c.number_at-9.result ≡ number name.MaxCut = c.number_at-9.ensures (omega (arith, (number-bounds 0 400000 (text name.MaxCut) c.requires.max_cut).1)) in
     let resume : c.eq.result ≡ bytes_eq (text name.Resume) (codes "yes") = c.eq.ensures ∙ ap (λ t. bytes_eq t (codes "yes")) c.text_of-3.ensures in
-    rw (slack, key, walks, steps, ends, hub_steps, asks, workers, budget, save, resume, max_cut, c.new.ensures) refl
+    let shift : c.eq-2.result ≡ bytes_eq (text name.Shift) (codes "yes") = c.eq-2.ensures ∙ ap (λ t. bytes_eq t (codes "yes")) c.text_of-4.ensures in
+    let serial : c.eq-3.result ≡ bytes_eq (text name.Serial) (codes "yes") = c.eq-3.ensures ∙ ap (λ t. bytes_eq t (codes "yes")) c.text_of-5.ensures in
+    rw (slack, key, walks, steps, ends, hub_steps, asks, workers, budget, save, resume, max_cut, shift, serial, c.new.ensures) refl

@@ -8,4 +8,4 @@ returns-clause-newest g c =
     let told = g.C.Keeper.slots c.save.new.self in
     let place = c.args.place.now in
     let holds = subst (λ (bytes : List ℕ). HoldsBytes told place.slot bytes) c.as_slice.ensures c.in_ok-save.ensures.saved in
-    newest_where_told c.encode_old.new.out.items 1 c.args.digest.now place.slot place.generation c.args.outcomes.now told c.requires.slot c.encode_old.ensures.sound holds
+    newest_where_told c.encode.new.out.items 2 c.args.digest.now place.slot place.generation c.args.outcomes.now told c.requires.slot c.encode.ensures.sound holds

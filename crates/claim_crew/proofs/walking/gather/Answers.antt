@@ -6,7 +6,7 @@ use Rattle.claim_counter.specs.Records.{AreDifferentBelow}
 use Rattle.claim_counter.specs.Passes.{own, size_of, BelongsTo}
 use Rattle.claim_crew.specs.Crews.{IsDone}
 use Rattle.claim_crew.specs.Walks.{found_at}
-use Rattle.claim_crew.proofs.Gathering.{popped_last, popped_rest, done_within, done_apart, first_absent, more_absent, holds_more}
+use Rattle.claim_crew.proofs.Gathering.{popped_last, popped_rest, done_within, done_apart, done_few, first_absent, more_absent, holds_more}
 use Rattle.claim_crew.proofs.walking.gather.Goals as goal
 
 pub hand_in-pass-requires-clause-below : goal.hand_in-pass-requires-clause-below
@@ -23,6 +23,11 @@ pub hand_in-pass-requires-clause-apart : goal.hand_in-pass-requires-clause-apart
 hand_in-pass-requires-clause-apart g c =
     let done = popped_last (IsDone c.args.job.now c.args.todo.now c.args.claims.now) _ _ c.in-Some.first c.requires.workers c.in-Some.ensures.items in
     done_apart _ _ _ _ done c.requires.count c.requires.todo.apart
+
+pub hand_in-pass-requires-clause-bins : goal.hand_in-pass-requires-clause-bins
+hand_in-pass-requires-clause-bins g c =
+    let done = popped_last (IsDone c.args.job.now c.args.todo.now c.args.claims.now) _ _ c.in-Some.first c.requires.workers c.in-Some.ensures.items in
+    done_few _ _ _ _ done c.requires.count (λ id. c.outcomes_have_few_visits.ensures.found c.args.job.now _ id c.units-units.ensures.sound)
 
 pub loop-worker-init : goal.loop-worker-init
 loop-worker-init g c =
@@ -66,6 +71,12 @@ take_in-pass-requires-clause-apart g c =
     let was = c.loop-worker.invariant in
     let done = popped_last (IsDone c.args.job.now c.args.todo.now c.args.claims.now) _ _ c.in-Some-pop.worker was.workers c.in-Some-pop.ensures.items in
     done_apart _ _ _ _ done c.requires.count c.requires.todo.apart
+
+pub take_in-pass-requires-clause-bins : goal.take_in-pass-requires-clause-bins
+take_in-pass-requires-clause-bins g c =
+    let was = c.loop-worker.invariant in
+    let done = popped_last (IsDone c.args.job.now c.args.todo.now c.args.claims.now) _ _ c.in-Some-pop.worker was.workers c.in-Some-pop.ensures.items in
+    done_few _ _ _ _ done c.requires.count (λ id. c.outcomes_have_few_visits.ensures.found c.args.job.now _ id c.units-units.ensures.sound)
 
 pub loop-worker-preserved : goal.loop-worker-preserved
 loop-worker-preserved g c =

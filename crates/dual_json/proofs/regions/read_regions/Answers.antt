@@ -1,7 +1,7 @@
-use Rattle.std.proofs.Common.{◌≡◌, Option, Some, None, Ok, Err, sym, ap, subst, ◌∙◌, inl, inr, arith}
+use Rattle.std.proofs.Common.{◌≡◌, Option, Some, None, Ok, sym, ap, subst, ◌∙◌, inl, inr, arith}
 use Rattle.serde_json.specs.View.{view}
 use Rattle.audit_model.specs.Limits.{AreRegions}
-use Rattle.graph_definitions.specs.Regions.{region_fault, region_reading, regions, regions_or}
+use Rattle.graph_definitions.specs.Regions.{regions, regions_or}
 use Rattle.dual_json.specs.Shape.{document_of}
 use Rattle.dual_json.proofs.Listed.{length-views}
 use Rattle.dual_json.proofs.Matched.{match_map, ok_map}

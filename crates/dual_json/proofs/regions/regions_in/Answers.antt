@@ -1,8 +1,6 @@
-use Rattle.std.proofs.Common.{◌≡◌, ℕ, List, Option, Some, None, refl, sym, ap, subst, ◌∙◌, inl, inr}
-use Rattle.std.specs.Result.{IfOk, MatchResult}
+use Rattle.std.proofs.Common.{◌≡◌, ℕ, List, Option, Some, None, sym, ap, subst, ◌∙◌, inl, inr}
 use Rattle.audit_model.specs.declared.fault.RegionFault.TheVariants.{BadLabel}
 use Rattle.audit_model.specs.declared.setting.Label.{Label}
-use Rattle.audit_model.specs.Limits.{AreRegions}
 use Rattle.dual_json.specs.Numbered.{first_without}
 use Rattle.graph_definitions.specs.Regions.{region_fault}
 use Rattle.dual_json.specs.Places.{labels_from, first_unnamed, AreLabels, Tells}

@@ -1,4 +1,4 @@
-use Rattle.std.proofs.Common.{◌≡◌, ℕ, ◌<◌, ◌∷◌, [], List, true, ap, ◌∙◌, arith}
+use Rattle.std.proofs.Common.{◌≡◌, ℕ, ◌∷◌, [], List, true, ap, ◌∙◌, arith}
 use Rattle.region_guard.specs.Standing.{is_fitting}
 use Rattle.region_guard.proofs.tests.run.Goals as goal
 

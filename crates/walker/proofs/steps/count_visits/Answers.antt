@@ -1,83 +1,83 @@
-use Rattle.std.proofs.Common.{◌≡◌, ℕ, ◌+◌, ap, ◌∙◌, arith}
+use Rattle.std.proofs.Common.{◌≡◌, ◌+◌, Bool, refl, sym, ap, subst, ◌∙◌, arith}
 use Rattle.audit_model.specs.declared.setting.Setting.{Setting}
+use Rattle.audit_model.specs.Trajectory.{visit}
+use Rattle.chacha_draws.specs.Place.{Place}
 use Rattle.draw_definitions.specs.Draw.{draw}
-use Rattle.walker.specs.Asked.{each, visits_inside}
-use Rattle.walker.proofs.Asking.{counted_none, counts_fit, counted_more}
-use Rattle.walker.proofs.Stepping.{walked_none, walked_small, walked_more, walked_moves, byte_cond, byte_le}
+use Rattle.walker.specs.Binned.{first_bins}
+use Rattle.walker.specs.Trail.{IsTrail}
+use Rattle.walker.proofs.Settling.{arrived, tails_fit, bins_fit}
+use Rattle.walker.proofs.Stepping.{visit_none}
 use Rattle.walker.proofs.steps.count_visits.Goals as goal
 
 pub loop-place-init : goal.loop-place-init
 loop-place-init g c =
     let job = c.args.job.now in
+    let draws = c.new-draws.result in
     record {
+      made = c.requires.made;
       seated = c.requires.seated;
-      walked =
-          walked_none job job.setting.key c.args.stream job.start c.args.state.now.board c.new-draws.result c.requires.made c.requires.start
-          (c.new-draws.ensures.key ∙ ap (λ (s : Setting). s.key) c.setting-setting.ensures) c.new-draws.ensures.stream c.new-draws.ensures.place;
-      counted =
-          counted_none job job.setting.key c.args.stream c.new-tally.result c.args.state.now.board.job c.args.state.now.board.plan c.as_slice.result.now c.requires.made c.requires.start
-          (c.as_slice.ensures ∙ ap (λ (s : Setting). s.asks) c.setting-setting.ensures)
-          c.new-tally.ensures.start c.new-tally.ensures.inside c.new-tally.ensures.counts;
+      same_key = c.new-draws.ensures.key ∙ ap (λ (s : Setting). s.key) c.setting.ensures;
+      same_stream = c.new-draws.ensures.stream;
+      same_place = c.new-draws.ensures.place;
+      visited = c.requires.start ∙ sym (visit_none job (draw draws.key draws.stream) job.start);
+      asked = c.new-trail.ensures.asked;
+      trail = c.new-trail.ensures.trail (draw draws.key draws.stream);
     }
-
-pub visit_next-requires-clause-made : goal.visit_next-requires-clause-made
-visit_next-requires-clause-made g c = c.loop-place.invariant.walked.made
-
-pub visit_next-requires-clause-place : goal.visit_next-requires-clause-place
-visit_next-requires-clause-place g c =
-    omega (arith, c.loop-place.invariant.walked.same_place, c.loop-place-test.true)
-
-pub visit_next-requires-clause-start : goal.visit_next-requires-clause-start
-visit_next-requires-clause-start g c = c.loop-place.invariant.counted.start
-
-pub visit_next-requires-clause-inside : goal.visit_next-requires-clause-inside
-visit_next-requires-clause-inside g c = c.loop-place.invariant.counted.tested
-
-pub overflow_add-moved : goal.overflow_add-moved
-overflow_add-moved g c =
-    omega (
-      arith,
-      walked_small _ _ _ _ _ _ _ _ c.loop-place.invariant.walked,
-      c.from-moved.ensures,
-      byte_le c.visit_next.result,
-      c.loop-place-test.true,
-    )
-
-pub count-requires : goal.count-requires
-count-requires g c =
-    let job = c.args.job.now in
-    counts_fit job job.setting.key c.args.stream c.loop-place.place c.loop-place.state.board.plan c.loop-place.tally c.loop-place.invariant.counted
-    c.visit_next.new.state.board.plan c.visit_next.new.tally c.visit_next.ensures.start c.visit_next.ensures.inside c.visit_next.ensures.counts
-    (omega (arith, c.loop-place-test.true))
 
 pub loop-place-preserved : goal.loop-place-preserved
 loop-place-preserved g c =
     let job = c.args.job.now in
-    let walked =
-    walked_more job job.setting.key c.args.stream job.start c.loop-place.place c.loop-place.state.board c.loop-place.draws c.loop-place.moved
-    c.loop-place.invariant.walked c.visit_next.new.state.board c.visit_next.new.draws c.visit_next.ensures.plan c.visit_next.ensures.draws
-    (c.loop-place.moved + c.from-moved.result) c.visit_next.result c.visit_next.ensures.moved
-    (ap (λ (n : ℕ). c.loop-place.moved + n) (c.from-moved.ensures ∙ byte_cond c.visit_next.result)) in
+    let next = c.visit_next in
+    let drawn = c.visit_next.ensures.draws in
+    let held = c.loop-place.invariant in
     record {
+      made = c.visit_next.ensures.made;
       seated = c.visit_next.ensures.seated;
-      walked = walked;
-      counted =
-          counted_more job job.setting.key c.args.stream c.loop-place.place c.loop-place.state.board.plan c.loop-place.tally c.loop-place.invariant.counted
-          c.visit_next.new.state.board.plan c.visit_next.new.tally c.visit_next.ensures.start c.visit_next.ensures.inside c.visit_next.ensures.counts
-          c.count.new.self c.count.ensures.start c.count.ensures.inside c.count.ensures.counts walked.visited;
+      same_key = ap (λ (d : Place). d.key) drawn ∙ held.same_key;
+      same_stream = ap (λ (d : Place). d.stream) drawn ∙ held.same_stream;
+      same_place = ap (λ (d : Place). d.place) drawn;
+      visited = subst (λ (d : Place). c.visit_next.new.state.board.plan ≡ visit job (draw d.key d.stream) job.start (c.loop-place.place + 1)) (sym drawn) c.visit_next.ensures.visited;
+      asked = c.visit_next.ensures.asked ∙ held.asked;
+      trail = subst (λ (d : Place). IsTrail job (draw d.key d.stream) (c.loop-place.place + 1) c.visit_next.new.trail) (sym drawn) c.visit_next.ensures.trail;
     }
 
-pub returns-clause-made : goal.returns-clause-made
-returns-clause-made g c = c.loop-place.invariant.walked.made
+pub settle-requires-clause-tails : goal.settle-requires-clause-tails
+settle-requires-clause-tails g c =
+    let job = c.args.job.now in
+    let held = c.loop-place.invariant in
+    tails_fit job (draw job.setting.key c.args.stream) c.args.steps c.loop-place.trail
+    (arrived job job.setting.key c.args.stream c.loop-place.place c.args.steps c.loop-place.draws c.loop-place.trail held.same_key held.same_stream
+    (omega (arith, c.loop-place-test.false, c.loop-place.auto.place-end)) held.trail) c.requires.few
+
+pub settle-requires-clause-bins : goal.settle-requires-clause-bins
+settle-requires-clause-bins g c =
+    let job = c.args.job.now in
+    let held = c.loop-place.invariant in
+    bins_fit job (draw job.setting.key c.args.stream) c.args.steps c.loop-place.trail
+    (arrived job job.setting.key c.args.stream c.loop-place.place c.args.steps c.loop-place.draws c.loop-place.trail held.same_key held.same_stream
+    (omega (arith, c.loop-place-test.false, c.loop-place.auto.place-end)) held.trail) c.requires.few
 
 pub returns-clause-moved : goal.returns-clause-moved
 returns-clause-moved g c =
-    walked_moves _ _ _ _ _ _ _ _ c.loop-place.invariant.walked c.args.steps
-    (omega (arith, c.loop-place-test.false, c.loop-place.auto.place-end))
+    let job = c.args.job.now in
+    let held = c.loop-place.invariant in
+    c.settle.ensures.moved
+    ∙ (arrived job job.setting.key c.args.stream c.loop-place.place c.args.steps c.loop-place.draws c.loop-place.trail held.same_key held.same_stream
+    (omega (arith, c.loop-place-test.false, c.loop-place.auto.place-end)) held.trail).moved
 
 pub returns-clause-counts : goal.returns-clause-counts
 returns-clause-counts g c =
     let job = c.args.job.now in
-    let all : c.loop-place.place ≡ c.args.steps = omega (arith, c.loop-place-test.false, c.loop-place.auto.place-end) in
-    c.loop-place.invariant.counted.counted
-    ∙ ap (λ (n : ℕ). each (visits_inside job (draw job.setting.key c.args.stream) (n + 1)) job.setting.asks) all
+    let held = c.loop-place.invariant in
+    (c.settle.ensures.counted job (draw job.setting.key c.args.stream) c.args.steps
+    (arrived job job.setting.key c.args.stream c.loop-place.place c.args.steps c.loop-place.draws c.loop-place.trail held.same_key held.same_stream
+    (omega (arith, c.loop-place-test.false, c.loop-place.auto.place-end)) held.trail) refl).counts
+
+pub returns-clause-bins : goal.returns-clause-bins
+returns-clause-bins g c =
+    let job = c.args.job.now in
+    let held = c.loop-place.invariant in
+    (c.settle.ensures.counted job (draw job.setting.key c.args.stream) c.args.steps
+    (arrived job job.setting.key c.args.stream c.loop-place.place c.args.steps c.loop-place.draws c.loop-place.trail held.same_key held.same_stream
+    (omega (arith, c.loop-place-test.false, c.loop-place.auto.place-end)) held.trail) refl).bins
+    ∙ ap (λ (b : Bool). first_bins b job (draw job.setting.key c.args.stream) (c.args.steps + 1)) (c.settle.ensures.asked ∙ held.asked)

@@ -11,3 +11,7 @@ returns-clause-many_cut c = refl
 pub returns-clause-zero_in_front : goal.returns-clause-zero_in_front
 unfolding setting_of digits decode_pairs
 returns-clause-zero_in_front c = refl
+
+pub returns-clause-no_answer : goal.returns-clause-no_answer
+unfolding setting_of digits decode_pairs
+returns-clause-no_answer c = refl

@@ -1,10 +1,9 @@
 use Rattle.std.proofs.Common.{arith, sym, ap, subst, ◌∙◌, ◌≡◌, ◌<◌, ℕ, length, get_or}
-use Rattle.std.specs.List.{list_all, range_with_len}
+use Rattle.std.specs.List.{range_with_len}
 use Rattle.std.specs.Slots.{slots_items}
 use Rattle.std.proofs.lemmas.List.{length-map}
 use Rattle.std.proofs.lemmas.List.Sorted.{length_permutation}
 use Rattle.atomic_table.specs.Table.{Final, Seen}
-use Rattle.audit_model.specs.Run.{is_bare}
 use Rattle.ckpt_store.specs.declared.slots.Place.{Place}
 use Rattle.outcome_book.specs.Booked.{Booked}
 use mathlib.Core.Option.{some-injective}
@@ -14,7 +13,6 @@ use Rattle.tally_desk.specs.Founded.{parts_of}
 use Rattle.tally_desk.specs.Homes.{HomeAs, KeptAs}
 use Rattle.tally_desk.specs.Entries.{ends_saved, id_of, saves}
 use Rattle.tally_desk.specs.Views.{PassView, view_in}
-use Rattle.tally_desk.proofs.Booking.{booked_bare}
 use Rattle.tally_desk.proofs.Permuting.{permutation_from_sums}
 use Rattle.tally_desk.proofs.Slotting.{moved_generation, moved_slot}
 use Rattle.tally_desk.proofs.Steps.{complete, settles}
@@ -52,5 +50,4 @@ returns g c =
       kept = subst (λ (q : Booked × g.row.C.Denot × Place × ℕ). KeptAs g.C.Keeper.load_faults g.C.Keeper.save_faults g.C.Keeper.slots g.C.Keeper.tried parts q.0 q.1 q.2 q.3 k.posted)
           (λ j. (sym c.hand_over.ensures.book j, sym c.hand_over.ensures.keeper j, sym c.hand_over.ensures.place j, sym c.hand_over.ensures.failed j)) k.holds.kept;
       last = c.hand_over.ensures.last ∙ ap ends_saved k.holds.entries;
-      bare = ap (λ (b : Booked). list_all is_bare b.outcomes) (c.hand_over.ensures.book ∙ k.holds.kept.book_is) ∙ booked_bare parts k.plan k.posted;
     }

@@ -1,7 +1,7 @@
 use Rattle.std.proofs.Common.{◌≡◌, ◌∙◌, ◌+◌, ◌<◌, ◌∷◌, [], ◌++◌, ap, arith, refl, sym, subst, length, vec_len, vec_capacity, ℕ}
 use Rattle.tally_desk.specs.Entries.{entry}
 use Rattle.tally_desk.specs.Saving.{SavedWhereDue}
-use Rattle.tally_desk.proofs.Turning.{bare_after, done, few_failed, generation_below, id_absent, id_below, slot_below, some_left, total_is, turned}
+use Rattle.tally_desk.proofs.Turning.{done, few_failed, few_visits, generation_below, id_absent, id_below, slot_below, some_left, total_is, turned}
 use Rattle.tally_desk.proofs.home.Home.turn.Goals as goal
 
 pub post-requires-clause-below : goal.post-requires-clause-below
@@ -11,6 +11,11 @@ post-requires-clause-below g c =
 pub post-requires-clause-absent : goal.post-requires-clause-absent
 post-requires-clause-absent g c =
     id_absent g.C.Keeper.load_faults g.C.Keeper.save_faults g.C.Keeper.slots g.C.Keeper.tried c.requires.0 c.args.self.now c.requires.1.0 c.args.o c.requires.1.1
+
+pub post-requires-clause-bins : goal.post-requires-clause-bins
+post-requires-clause-bins g c =
+    few_visits g.C.Keeper.load_faults g.C.Keeper.save_faults g.C.Keeper.slots g.C.Keeper.tried c.requires.0 c.args.self.now c.requires.1.0 c.args.o c.requires.1.1
+    c.outcomes_have_few_visits.ensures.found
 
 pub save_where_due-saved-requires-clause-every : goal.save_where_due-saved-requires-clause-every
 save_where_due-saved-requires-clause-every g c = let may = c.requires.1.1 in omega (arith, may.holds.equipped.every, may.plan.every)
@@ -38,11 +43,6 @@ save_where_due-saved-requires-clause-save_room g c =
     let may = c.requires.1.1 in
     let total = total_is g.C.Keeper.load_faults g.C.Keeper.save_faults g.C.Keeper.slots g.C.Keeper.tried c.requires.0 c.args.self.now c.requires.1.0 c.args.o may in
     omega (arith, total, may.holds.equipped.save_room, c.post.ensures.total)
-
-pub save_where_due-saved-requires-clause-bare : goal.save_where_due-saved-requires-clause-bare
-save_where_due-saved-requires-clause-bare g c =
-    bare_after g.C.Keeper.load_faults g.C.Keeper.save_faults g.C.Keeper.slots g.C.Keeper.tried c.requires.0 c.args.self.now c.requires.1.0 c.args.o c.requires.1.1
-    c.post.new.self.outcomes c.post.ensures.outcomes
 
 pub push_reserved-requires : goal.push_reserved-requires
 push_reserved-requires g c =

@@ -1,16 +1,18 @@
-use Rattle.std.proofs.Common.{ℕ, ◌*◌, ap, ◌∙◌, arith}
+use Rattle.std.proofs.Common.{ℕ, ◌*◌, ap, arith}
 use Rattle.audit_model.specs.declared.setting.Setting.{Setting}
 use Rattle.draw_definitions.specs.Draw.{draw}
 use Rattle.walker.proofs.Asking.{few_steps}
 use Rattle.walker.proofs.Finding.{walk_found}
 use Rattle.walker.proofs.walker.Walker.walk_from_start.Goals as goal
 
-pub run_from_start-run-requires-clause-few : goal.run_from_start-run-requires-clause-few
-run_from_start-run-requires-clause-few g c =
-    omega (arith, ap (λ (s : Setting). s.steps) c.setting.ensures, few_steps c.args.job.now c.units-units.ensures.sound)
+pub walk_along-found-requires-clause-few : goal.walk_along-found-requires-clause-few
+walk_along-found-requires-clause-few g c =
+    omega (arith, ap (λ (s : Setting). s.steps) c.setting-setting.ensures, few_steps c.args.job.now c.units-units.ensures.sound)
 
 pub returns-clause-outcome : goal.returns-clause-outcome
 returns-clause-outcome g c =
     let job = c.args.job.now in
-    walk_found job (draw job.setting.key) c.args.id (2 * c.from-stream.result) c.setting.result.now.steps c.run_from_start-run.result
-    (ap (λ (n : ℕ). 2 * n) c.from-stream.ensures) (ap (λ (s : Setting). s.steps) c.setting.ensures) c.run_from_start-run.ensures.outcome
+    let setting = c.setting-setting.result.now in
+    walk_found job (draw job.setting.key) c.args.id (2 * c.from-stream.result) setting.steps setting.shift c.walk_along-found.result
+    (ap (λ (n : ℕ). 2 * n) c.from-stream.ensures) (ap (λ (s : Setting). s.steps) c.setting-setting.ensures)
+    (ap (λ (s : Setting). s.shift) c.setting-setting.ensures) c.walk_along-found.ensures.outcome

@@ -1,0 +1,36 @@
+//! An audit over a source, an output and a keeper that never fail.
+
+ghost use Rattle.audit_run.specs.Ends.{EndsFor};
+ghost use Rattle.audit_run.specs.Sure.{EndsSurely, sure_world};
+ghost use Rattle.audit_run.specs.World.{stream};
+ghost use Rattle.audit_words.specs.Spoken.{spoken};
+
+use crate::audit::audit;
+use audit_io::gate::Gate;
+use audit_io::sink::Sink;
+use audit_io::sure::{SureSink, SureSource};
+use audit_io::sure_keeper::SureKeeper;
+use std::alloc::Global;
+use std::sync::Wait;
+use std::thread::Threads;
+
+/// Does what the words ask for where nothing outside fails, and answers the status and the keeper.
+///
+/// Where words, graph and plan are accepted, the slots say how a run that resumes is to start, and the budget is enough for what they lack, the
+/// status is 0 or, for want of memory, 3, and no other.
+pub fn audit_surely<R: Threads + Wait + Sync, N: Sink, G: Gate + Sync>(
+    rt: &R,
+    alloc: Global,
+    words: &[String],
+    graph: &mut SureSource,
+    out: &mut SureSink,
+    note: &mut N,
+    keeper: SureKeeper,
+    gate: &G,
+) -> (u8, SureKeeper)
+    ensures complete { EndsSurely (spoken words.now) (sure_world graph.old keeper) result.0 }
+    ensures ends { EndsFor (spoken words.now) (sure_world graph.old keeper) (sure_world graph.new result.1)
+        (stream N.taken N.faults note.old) (stream N.taken N.faults note.new) result.0 }
+{
+    audit(rt, alloc, words, graph, out, note, keeper, gate)
+}

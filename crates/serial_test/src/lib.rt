@@ -1,0 +1,9 @@
+//! The serial test of Besag and Clifford: one run of steps through the start plan, at whose drawn place the start plan stands, and the
+//! start plan's rank among all plans of the run. It needs no hub, and each step counts.
+#![tactic(auto)]
+
+pub mod place;
+pub mod ranks;
+pub mod run;
+
+pub use audit_model::outcome;

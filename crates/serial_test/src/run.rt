@@ -1,0 +1,57 @@
+//! Both runs from the start plan.
+
+ghost use Rattle.std.specs.Prelude.{◌≡◌, ◌+◌, ◌≤◌, IsTrue};
+ghost use Rattle.draw_definitions.specs.Draw.{draw};
+ghost use Rattle.audit_model.specs.Power.{is_power_of_two};
+ghost use Rattle.audit_model.specs.Serially.{serial_of};
+ghost use Rattle.serial_test.specs.Ranks.{HasRanks, RunsStayLegal};
+ghost use Rattle.walker.specs.Seated.{IsSeated, held_of};
+
+use crate::place::place;
+use crate::ranks::ranks;
+use audit_model::outcome::Serial;
+use chacha_draws::Draws;
+use flip_guard::judge::Judge;
+use model_laws::laws::visits_stay_legal;
+use plan_core::job::Job;
+use walker::walker::Walker;
+
+/// The stream whose first draw is the start plan's place.
+const PLACE_STREAM: u64 = 8_589_934_592;
+
+/// The stream of the steps from the start plan to the end of the run.
+const FORWARD_STREAM: u64 = 8_589_934_593;
+
+/// The stream of the steps from the start plan to the front of the run.
+const BACKWARD_STREAM: u64 = 8_589_934_594;
+
+/// Besag and Clifford's serial test of the job's start plan. The run has as many steps as a walk of the job: as many as the drawn place says in one
+/// direction, and the rest in the other. A rank is a number of plans of the run, and those past the asks are 0. It takes no memory, and what the
+/// walker held before is not looked at.
+pub fn serial<J: Judge>(walker: &mut Walker<J>, job: &Job) -> Serial
+    requires made { (held_of walker.old).job ≡ job.now }
+    requires seated { IsSeated job.now J.keeps J.stands J.takes J.rules walker.old }
+    requires some { 1 ≤ job.now.setting.steps }
+    requires even { IsTrue (is_power_of_two (job.now.setting.steps + 1)) }
+    ensures serial { result ≡ serial_of job.now (draw job.now.setting.key) }
+    ensures place { result.place ≤ job.now.setting.steps }
+    ensures ranks { HasRanks job.now result.ranks }
+    ensures legal { RunsStayLegal job.now }
+    ensures made { (held_of walker.new).job ≡ job.now }
+    ensures seated { IsSeated job.now J.keeps J.stands J.takes J.rules walker.new }
+{
+    visits_stay_legal();
+    let _units = job.units();
+    let setting = job.setting();
+    let steps = setting.steps;
+    let mut draws = Draws::new(setting.key, PLACE_STREAM);
+    let drawn = draws.next();
+    let place = place(drawn, u64::from(steps) + 1);
+    let forward = walker.run(job, FORWARD_STREAM, place);
+    let backward = walker.run(job, BACKWARD_STREAM, steps - place);
+    Serial {
+        place,
+        moved: forward.moved + backward.moved,
+        ranks: ranks(forward.values, backward.values),
+    }
+}

@@ -1,0 +1,99 @@
+//! How many of the visited plans are in each bin, by their seats against the start plan's.
+
+ghost use Rattle.std.specs.Prelude.{◌≡◌, ℕ, ◌+◌, ◌*◌, ◌<◌, ◌^◌, ◌==◌, cond, length, slice_index, IsTrue, IsFalse};
+ghost use Rattle.audit_model.specs.JobOf.{IsJob};
+ghost use Rattle.audit_model.specs.Trajectory.{no_bins, plan_seats};
+ghost use Rattle.audit_model.specs.Trajectory as definition;
+ghost use Rattle.flip_kernel.specs.Judged.{held_of};
+ghost use Rattle.walker.specs.Binned.{plan_bin};
+
+use audit_model::setting::Score;
+use flip_guard::judge::Judge;
+use flip_kernel::state::State;
+use scores::value;
+
+/// Where bins are asked for, the start plan's seats, the bin of the held plan, and how many of the counted plans are in each bin.
+/// Elsewhere the counts are zeros, and no seats are computed.
+#[derive(Drop)]
+pub struct Bins {
+    pub asked: bool,
+    pub start: u64,
+    pub bin: usize,
+    pub counts: [u32; 9],
+}
+
+/// The seats of the held plan.
+fn held_seats<J: Judge>(state: &State<J>, room: &mut [u64]) -> u64
+    requires sound { IsJob (held_of state.now).job }
+    requires room { length room.old ≡ 200 }
+    ensures seats { result ≡ plan_seats (held_of state.now).job (held_of state.now).plan }
+    ensures small { result < 2 ^ 63 }
+{
+    let _plan = state.plan();
+    value(Score::Seats, state.view(), room) as u64
+}
+
+/// The bin of a plan with so many seats: 4 for as many as the start has, and no farther than 4 from there.
+fn bin_of(seats: u64, start: u64) -> usize
+    requires { seats < 2 ^ 63 }
+    ensures bin { result ≡ definition.bin_of seats start }
+    ensures small { result < 9 }
+{
+    (seats + 4).saturating_sub(start).min(8) as usize
+}
+
+impl Bins {
+    /// The bins of no plan, where the start plan is held.
+    pub fn new<J: Judge>(asked: bool, state: &State<J>, room: &mut [u64]) -> Bins
+        requires sound { IsJob (held_of state.now).job }
+        requires room { length room.old ≡ 200 }
+        requires start { (held_of state.now).plan ≡ (held_of state.now).job.start }
+        ensures asked { result.asked ≡ asked }
+        ensures start { IsTrue asked → result.start ≡ plan_seats (held_of state.now).job (held_of state.now).job.start }
+        ensures bin { IsTrue asked → result.bin ≡ plan_bin (held_of state.now).job (held_of state.now).plan }
+        ensures small { result.bin < 9 }
+        ensures counts { result.counts ≡ no_bins }
+    {
+        let start = if asked { held_seats(state, room) } else { 0 };
+        Bins {
+            asked,
+            start,
+            bin: 4,
+            counts: [0; 9],
+        }
+    }
+
+    /// Takes the bin of the plan that is held now.
+    pub fn renew<J: Judge>(&mut self, state: &State<J>, room: &mut [u64])
+        requires sound { IsJob (held_of state.now).job }
+        requires room { length room.old ≡ 200 }
+        requires start { IsTrue self.old.asked → self.old.start ≡ plan_seats (held_of state.now).job (held_of state.now).job.start }
+        requires small { self.old.bin < 9 }
+        ensures asked { self.new.asked ≡ self.old.asked }
+        ensures start { self.new.start ≡ self.old.start }
+        ensures bin { IsTrue self.old.asked → self.new.bin ≡ plan_bin (held_of state.now).job (held_of state.now).plan }
+        ensures small { self.new.bin < 9 }
+        ensures counts { self.new.counts ≡ self.old.counts }
+    {
+        if self.asked {
+            self.bin = bin_of(held_seats(state, room), self.start);
+        }
+    }
+
+    /// Counts the plan whose bin was taken last so many times.
+    pub fn count(&mut self, times: u32)
+        requires small { self.old.bin < 9 }
+        requires fits { IsTrue self.old.asked → slice_index self.old.counts self.old.bin + times < 2 ^ 32 }
+        ensures asked { self.new.asked ≡ self.old.asked }
+        ensures start { self.new.start ≡ self.old.start }
+        ensures bin { self.new.bin ≡ self.old.bin }
+        ensures counts { IsTrue self.old.asked → (k : ℕ) → k < 9 →
+            slice_index self.new.counts k ≡ slice_index self.old.counts k + times * cond (self.old.bin == k) 1 0 }
+        ensures nine { length self.new.counts ≡ 9 }
+        ensures none { IsFalse self.old.asked → self.new.counts ≡ self.old.counts }
+    {
+        if self.asked {
+            self.counts[self.bin] += times;
+        }
+    }
+}

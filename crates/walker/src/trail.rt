@@ -1,0 +1,84 @@
+//! What a walk from the start plan has found so far.
+
+ghost use Rattle.std.specs.Prelude.{◌≡◌, ℕ, ◌+◌, ◌-◌, ◌*◌, ◌<◌, ◌≤◌, ◌^◌, IsTrue, List, length, slice_index};
+ghost use Rattle.audit_model.specs.Job.{Job};
+ghost use Rattle.audit_model.specs.JobOf.{IsJob};
+ghost use Rattle.audit_model.specs.Trajectory.{plan_seats};
+ghost use Rattle.flip_kernel.specs.Judged.{held_of};
+ghost use Rattle.walker.specs.Asked.{each, asked_value};
+ghost use Rattle.walker.specs.Trail.{IsCounted, IsTested, IsTrail};
+
+use crate::asked::Tally;
+use crate::bins::Bins;
+use flip_guard::judge::Judge;
+use flip_kernel::state::State;
+use plan_core::job::Job;
+
+/// How many steps changed the plan, how many visits are counted, and what was found of the visited plans. The held plan was tested when
+/// it came, and is counted for all its visits at once when it goes.
+#[derive(Drop)]
+pub struct Trail {
+    pub moved: u32,
+    pub visits: u32,
+    pub tally: Tally,
+    pub bins: Bins,
+}
+
+impl Trail {
+    /// The trail at the start plan, which is held.
+    pub fn new<J: Judge>(job: &Job, state: &State<J>, shift: bool, room: &mut [u64]) -> Trail
+        requires made { (held_of state.now).job ≡ job.now }
+        requires sound { IsJob job.now }
+        requires room { length room.old ≡ 200 }
+        requires start { (held_of state.now).plan ≡ job.now.start }
+        ensures asked { result.bins.asked ≡ shift }
+        ensures trail { (draws : ℕ → ℕ) → IsTrail job.now draws 0 result }
+    {
+        let tally = Tally::new(state, job.setting().asks.as_slice(), room);
+        let bins = Bins::new(shift, state, room);
+        Trail {
+            moved: 0,
+            visits: 0,
+            tally,
+            bins,
+        }
+    }
+
+    /// Counts the plan that was tested last for its visits up to this number.
+    pub fn settle(&mut self, visits: u32)
+        requires order { self.old.visits ≤ visits }
+        requires tails { (k : ℕ) → k < 4 → slice_index self.old.tally.counts k + (visits - self.old.visits) * slice_index self.old.tally.inside k < 2 ^ 32 }
+        requires small { self.old.bins.bin < 9 }
+        requires bins { IsTrue self.old.bins.asked → slice_index self.old.bins.counts self.old.bins.bin + (visits - self.old.visits) < 2 ^ 32 }
+        ensures moved { self.new.moved ≡ self.old.moved }
+        ensures visits { self.new.visits ≡ visits }
+        ensures asked { self.new.bins.asked ≡ self.old.bins.asked }
+        ensures tested { (job : Job) (plan : List ℕ) → IsTested job plan self.old → IsTested job plan self.new }
+        ensures counted { (job : Job) (draws : ℕ → ℕ) (place : ℕ) → IsTrail job draws place self.old → visits ≡ place + 1 → IsCounted job draws visits self.new }
+    {
+        let times = visits - self.visits;
+        self.tally.count(times);
+        self.bins.count(times);
+        self.visits = visits;
+    }
+
+    /// Tests the plan that is held now, after a step that changed it.
+    pub fn renew<J: Judge>(&mut self, job: &Job, state: &State<J>, room: &mut [u64])
+        requires made { (held_of state.now).job ≡ job.now }
+        requires sound { IsJob job.now }
+        requires room { length room.old ≡ 200 }
+        requires few { self.old.moved < 10 ^ 9 }
+        requires start { self.old.tally.start ≡ each (asked_value job.now job.now.start) job.now.setting.asks }
+        requires seats { IsTrue self.old.bins.asked → self.old.bins.start ≡ plan_seats job.now job.now.start }
+        requires small { self.old.bins.bin < 9 }
+        ensures moved { self.new.moved ≡ self.old.moved + 1 }
+        ensures visits { self.new.visits ≡ self.old.visits }
+        ensures asked { self.new.bins.asked ≡ self.old.bins.asked }
+        ensures tested { IsTested job.now (held_of state.now).plan self.new }
+        ensures counted { (draws : ℕ → ℕ) (visits : ℕ) → IsCounted job.now draws visits self.old → IsCounted job.now draws visits self.new }
+    {
+        self.moved += 1;
+        self.tally.renew(state, job.setting().asks.as_slice(), room);
+        self.bins.renew(state, room);
+    }
+}
