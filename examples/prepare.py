@@ -156,7 +156,7 @@ class Changes:
     def print(self, everything):
         for kind, ids in self.ids.items():
             moved = ", which changes the column's sum by %.6g" % self.moved[kind] if self.moved[kind] else ""
-            tell("%s: %d units%s: %s" % (kind, len(ids), moved, shown(ids, everything)))
+            tell("%s: %d unit%s%s: %s" % (kind, len(ids), "s" if len(ids) > 1 else "", moved, shown(ids, everything)))
 
 
 def rows_of(nodes, names, label_of, args, changes):

@@ -1,0 +1,146 @@
+#!/bin/bash
+# Runs the real program where files, folder and output are not as they have to be, as any user can have them, and compares status, note,
+# report and files with what they have to be.
+#
+# Says nothing and ends with 0 where all is as it has to be; else it says in one line on standard error what is not, and ends with 1.
+# The program is crates/audit_program/out/audit_program, which rt ci and rt run leave there; where it is not there, rt run builds it.
+
+here=$(cd "$(dirname "$0")" && pwd) || exit 1
+crate=$here/../crates/audit_program
+program=${1:-$crate/out/audit_program}
+
+fail() {
+    echo "file_faults: $1" >&2
+    exit 1
+}
+
+if [ ! -x "$program" ]; then
+    (cd "$crate" && rt run </dev/null >/dev/null 2>&1)
+    [ -x "$program" ] || fail "rt run in crates/audit_program did not build the program"
+fi
+program=$(realpath "$program")
+room=$(mktemp -d) || fail "no temporary folder"
+trap 'rm -rf "$room"' EXIT
+
+words=(run --pop pop --first a --second b --district d --slack 5000
+    --key 0000000000000000000000000000000000000000000000000000000000000000
+    --walks 12 --steps 8 --ask gap:low)
+
+# Makes an empty folder of this name, and goes there.
+folder() {
+    name=$1
+    mkdir "$room/$name" && cd "$room/$name" || fail "no folder for the $name run"
+}
+
+# Makes a run in the folder, with more words; it has to end with the status $1 and the note $2.
+run() {
+    local wanted=$1 note=$2
+    shift 2
+    "$program" "${words[@]}" "$@" <"$here/cycle.json" >"$room/$name.out" 2>"$room/$name.note"
+    ended $? "$wanted" "$note"
+}
+
+ended() {
+    [ "$1" -eq "$2" ] || fail "the $name run ended with status $1 and not $2: $(head -c 200 "$room/$name.note")"
+    [ "$(cat "$room/$name.note")" = "$3" ] || fail "the $name run's note is: $(head -c 200 "$room/$name.note")"
+}
+
+# The run wrote the whole report, or nothing.
+whole() {
+    cmp -s "$room/$name.out" "$room/whole.out" || fail "the report of the $name run is not that of one run without saving"
+}
+nothing() {
+    [ ! -s "$room/$name.out" ] || fail "the $name run wrote a report"
+}
+
+folder whole
+run 0 ""
+[ -s "$room/whole.out" ] || fail "the run without saving wrote no report"
+[ -z "$(ls)" ] || fail "the run without saving left a file"
+
+# A folder in a file's place is there, and cannot be loaded; without its load nothing is saved.
+folder folder
+mkdir audit-0.ckpt
+run 6 "checkpoint load fault" --save 2 --resume yes
+nothing
+[ "$(ls)" = audit-0.ckpt ] && [ -d audit-0.ckpt ] || fail "the $name run changed the folder in a file's place"
+
+# A file that cannot be opened is not absent: here a link that leads to itself.
+folder loop
+ln -s audit-1.ckpt audit-1.ckpt
+run 6 "checkpoint load fault" --save 2 --resume yes
+nothing
+[ "$(ls)" = audit-1.ckpt ] || fail "the $name run saved beside a file that it could not open"
+
+# An empty file is there, and too short.
+folder empty
+: >audit-0.ckpt
+run 8 "checkpoint: slot 0 too short, slot 1 absent" --save 2 --resume yes
+nothing
+[ -f audit-0.ckpt ] && [ ! -s audit-0.ckpt ] || fail "the $name run changed the empty file"
+
+# A file that is a byte too long.
+folder long
+head -c 8000085 /dev/zero >audit-1.ckpt
+run 8 "checkpoint: slot 0 absent, slot 1 too long" --save 2 --resume yes
+nothing
+[ "$(stat -c %s audit-1.ckpt)" = 8000085 ] || fail "the $name run changed the long file"
+
+# A device that takes all bytes and cannot be synced: each save there fails, and the report is whole.
+folder unsynced
+ln -s /dev/null audit-0.ckpt
+run 9 "checkpoint save fault" --save 2
+whole
+[ "$(ls)" = audit-0.ckpt ] || fail "the $name run went on to the other slot after a save that failed"
+
+# A full device: the same.
+folder full
+ln -s /dev/full audit-0.ckpt
+run 9 "checkpoint save fault" --save 2
+whole
+[ "$(ls)" = audit-0.ckpt ] || fail "the $name run went on to the other slot after a save that failed"
+
+# A working folder in which no file can be made: it is no longer there.
+folder gone
+rmdir "$room/gone"
+run 9 "checkpoint save fault" --save 2 --resume yes
+whole
+
+# Once two slots are saved, the older one cannot be written: the newest stays as it is, and is resumed.
+folder half
+run 7 "stopped: 4 of 12 done" --save 4 --budget 4
+[ "$(ls)" = audit-0.ckpt ] || fail "the $name run saved elsewhere than in its first slot"
+run 7 "stopped: 8 of 12 done" --save 4 --budget 4 --resume yes
+rm audit-0.ckpt && ln -s /dev/full audit-0.ckpt
+run 9 "checkpoint save fault" --save 2 --budget 2 --resume yes
+nothing
+[ "$(stat -c %s audit-1.ckpt)" = 724 ] || fail "the $name run changed the newest slot"
+rm audit-0.ckpt
+run 0 "" --save 2 --resume yes
+whole
+
+# Standard output: a full device, closed from the start, and closed by its reader in mid-report.
+folder output
+"$program" "${words[@]}" <"$here/cycle.json" >/dev/full 2>"$room/$name.note"
+ended $? 5 "write fault"
+"$program" "${words[@]}" <"$here/cycle.json" >&- 2>"$room/$name.note"
+ended $? 5 "write fault"
+mkfifo pipe
+head -c 10 <pipe >/dev/null &
+"$program" run "${words[@]:1:12}" --walks 5000 --steps 8 --ask gap:low,cut-edges:low <"$here/cycle.json" >pipe 2>"$room/$name.note"
+ended $? 5 "write fault"
+wait
+
+# Standard input: a folder, and closed.
+"$program" "${words[@]}" <"$room" >"$room/$name.out" 2>"$room/$name.note"
+ended $? 4 "read fault"
+nothing
+"$program" "${words[@]}" <&- >"$room/$name.out" 2>"$room/$name.note"
+ended $? 4 "read fault"
+nothing
+
+# Standard error: where no note can be written, the status stays.
+"$program" audit </dev/null >/dev/null 2>/dev/full
+[ $? -eq 1 ] || fail "refused words without a note did not end with status 1"
+"$program" "${words[@]}" <"$here/cycle.json" >/dev/full 2>&-
+[ $? -eq 5 ] || fail "a failed write without a note did not end with status 5"

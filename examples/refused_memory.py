@@ -1,0 +1,206 @@
+"""Refuses the program one allocation after the other, and sees that nothing is lost.
+
+Usage: python3 refused_memory.py PROGRAM
+Builds a small library with gcc that stands before the C library's allocations and refuses the one with a given number, or that one and all
+after it, and runs the program under it for each number from 1 until a run ends in which none was refused: over an outlier trajectory, the
+parallel test, the serial test with the tally of seats, a run of three workers, a made grid, each run of a chain that is halted and resumed,
+and one that goes on from the first version of the format with the tally. The status must be 3 or the run's own; after 3 the
+output must be empty and both files as before; else output, note and files must be those of the run with all its memory.
+Prints how many runs there were, and each that is not so; ends with 1 where there is one.
+"""
+import os
+import pathlib
+import shutil
+import subprocess
+import sys
+import tempfile
+
+HERE = pathlib.Path(__file__).resolve().parent
+LIBRARY = r"""
+#define _GNU_SOURCE
+#include <dlfcn.h>
+#include <errno.h>
+#include <fcntl.h>
+#include <stdlib.h>
+#include <string.h>
+#include <stdatomic.h>
+#include <unistd.h>
+
+static atomic_long count;
+static long number = -1;
+static int all;
+
+static long read_number(void) {
+    const char *said = getenv("REFUSE");
+    all = getenv("REFUSE_ALL") != NULL;
+    return said ? atol(said) : 0;
+}
+
+static int refused(void) {
+    if (number < 0) number = read_number();
+    long now = atomic_fetch_add(&count, 1) + 1;
+    if (number == 0 || now < number || (now > number && !all)) return 0;
+    const char *mark = getenv("REFUSED_MARK");
+    int fd = mark ? open(mark, O_CREAT | O_WRONLY, 0600) : -1;
+    if (fd >= 0) close(fd);
+    errno = ENOMEM;
+    return 1;
+}
+
+static void *next(const char *name) { return dlsym(RTLD_NEXT, name); }
+
+void *malloc(size_t size) {
+    static void *(*real)(size_t);
+    if (!real) real = next("malloc");
+    return refused() ? NULL : real(size);
+}
+
+static char early[4096];
+static size_t early_used;
+
+void *calloc(size_t n, size_t size) {
+    static void *(*real)(size_t, size_t);
+    static int looking;
+    if (!real) {
+        if (looking) {
+            void *piece = early + early_used;
+            early_used += (n * size + 15) / 16 * 16;
+            return piece;
+        }
+        looking = 1;
+        real = next("calloc");
+    }
+    return refused() ? NULL : real(n, size);
+}
+
+void *realloc(void *old, size_t size) {
+    static void *(*real)(void *, size_t);
+    if (!real) real = next("realloc");
+    return refused() ? NULL : real(old, size);
+}
+
+void *aligned_alloc(size_t alignment, size_t size) {
+    static void *(*real)(size_t, size_t);
+    if (!real) real = next("aligned_alloc");
+    return refused() ? NULL : real(alignment, size);
+}
+
+int posix_memalign(void **to, size_t alignment, size_t size) {
+    static int (*real)(void **, size_t, size_t);
+    if (!real) real = next("posix_memalign");
+    return refused() ? ENOMEM : real(to, alignment, size);
+}
+
+void free(void *old) {
+    static void (*real)(void *);
+    if ((char *)old >= early && (char *)old < early + sizeof early) return;
+    if (!real) real = next("free");
+    real(old);
+}
+"""
+BASE = "--pop pop --first a --second b --district d".split()
+KEY = ["--key", "0" * 64]
+CHAIN = ["run", *BASE, "--slack", "5000", *KEY, "--walks", "12", "--steps", "8", "--ask", "gap:low"]
+TWO = (b'{"directed":false,"multigraph":false,"graph":[],"nodes":[{"pop":1,"a":1,"b":0,"d":1,"id":0},{"pop":1,"a":0,"b":1,"d":2,"id":1}],'
+       b'"adjacency":[[{"id":1}],[{"id":0}]]}')
+SAVED = ["--save", "2", "--budget", "5"]
+OLD = "first version"
+
+
+def runs():
+    """Chains of runs, each the words and the graph; the first of a chain starts with no file, and that of OLD with one of the first version."""
+    cycle = (HERE / "cycle.json").read_bytes()
+    return {
+        "check": [(["check", *BASE, "--slack", "5000"], cycle)],
+        "one walk": [(["run", *BASE, "--slack", "5000", *KEY, "--steps", "8", "--ask", "gap:low,gap:high"], cycle)],
+        "parallel test": [(["run", *BASE, *KEY, "--steps", "3", "--ends", "2", "--hub-steps", "8", "--ask", "gap:low"], TWO)],
+        "serial test": [(["run", *BASE, "--slack", "5000", *KEY, "--steps", "7", "--ask", "gap:low,seats:high", "--serial", "yes", "--shift", "yes"],
+                         cycle)],
+        "three workers": [([*CHAIN, "--workers", "3"], cycle)],
+        "make": [(["make", "--size", "1", "--slack", "3000", *KEY, "--steps", "50", "--ask", "mean-median:low,cut-edges:high"], b"")],
+        "chain": [([*CHAIN, *SAVED], cycle), ([*CHAIN, *SAVED, "--resume", "yes"], cycle), ([*CHAIN, *SAVED, "--resume", "yes"], cycle)],
+        OLD: [([*CHAIN, *SAVED, "--resume", "yes", "--shift", "yes"], cycle), ([*CHAIN, "--save", "3", "--resume", "yes", "--shift", "yes"], cycle),
+              ([*CHAIN, "--save", "3", "--resume", "yes", "--workers", "3"], cycle)],
+    }
+
+
+def built(folder):
+    source, library = folder / "refuse.c", folder / "refuse.so"
+    source.write_text(LIBRARY)
+    subprocess.run(["gcc", "-shared", "-fPIC", "-O1", "-o", library, source, "-ldl"], check=True)
+    return library
+
+
+class Room:
+    """A folder for the runs, with the library and the two files."""
+
+    def __init__(self, program, folder):
+        self.program, self.library, self.mark, self.slots = program, built(folder), folder / "mark", folder / "slots"
+        self.slots.mkdir()
+
+    def hold(self, held):
+        shutil.rmtree(self.slots)
+        self.slots.mkdir()
+        for name, data in held.items():
+            (self.slots / name).write_bytes(data)
+
+    def held(self):
+        return {path.name: path.read_bytes() for path in self.slots.iterdir()}
+
+    def run(self, words, graph, held, number=0, is_all=False):
+        """Status, output, note, files, and whether an allocation was refused."""
+        self.hold(held)
+        self.mark.unlink(missing_ok=True)
+        given = {**os.environ, "LD_PRELOAD": str(self.library), "REFUSE": str(number), "REFUSED_MARK": str(self.mark)}
+        if is_all:
+            given["REFUSE_ALL"] = "1"
+        done = subprocess.run([self.program, *words], input=graph, capture_output=True, cwd=self.slots, env=given, timeout=60, check=False)
+        return done.returncode, done.stdout, done.stderr, self.held(), self.mark.exists()
+
+
+def wrong(end, own, held):
+    """What is wrong with an end, or None."""
+    status, out, note, after, _ = end
+    if status == 3 and own[0] != 3:
+        if out or after != held:
+            return "status 3, and the output or the files changed"
+        return None if note in (b"memory\n", b"") else f"status 3 with the note {note}"
+    return None if end[:4] == own[:4] else f"status {status}, and not all as with all memory: {note}"
+
+
+def tried(room, name, words, graph, held):
+    """Tries each number, and answers how many runs there were, how many ended with 3, and those that are wrong."""
+    own = room.run(words, graph, held)
+    count, threes, found = 0, 0, []
+    for is_all in (False, True):
+        number, is_refused = 0, True
+        while is_refused:
+            number += 1
+            end = room.run(words, graph, held, number, is_all)
+            is_refused = end[4]
+            count, threes = count + is_refused, threes + (end[0] == 3)
+            why = wrong(end, own, held)
+            if why:
+                found.append(f"{name}, allocation {number}{' and all after it' if is_all else ''}: {why}")
+    return own, count, threes, found
+
+
+def main(program):
+    program = os.path.abspath(program)
+    count, threes, found = 0, 0, []
+    with tempfile.TemporaryDirectory() as name:
+        room = Room(program, pathlib.Path(name))
+        for name, chain in runs().items():
+            held = {"audit-0.ckpt": (HERE / "version_1.ckpt").read_bytes()} if name == OLD else {}
+            for place, (words, graph) in enumerate(chain):
+                own, more, with_three, wrongs = tried(room, f"{name} {place + 1}", words, graph, held)
+                print(f"{name} {place + 1}: status {own[0]}, {more} runs with refused memory, {with_three} of them with status 3", flush=True)
+                count, threes, held, found = count + more, threes + with_three, own[3], found + wrongs
+    for one in found:
+        print("WRONG:", one)
+    print(f"{count} runs with refused memory, {threes} with status 3 and all others with their own; {len(found)} wrong")
+    return 1 if found or not threes else 0
+
+
+if __name__ == "__main__":
+    sys.exit(main(*sys.argv[1:]))

@@ -1,0 +1,378 @@
+"""Runs the program on a system that fails it at a given call, and at its limits; each must end as the plain model in model.py says.
+
+Usage: python3 system_faults.py PROGRAM
+The parts, each of which says in one line where it lacks what it needs: faults that strace injects into calls on the checkpoints, standard
+input and output; reads and writes of a few bytes, half of them interrupted, by a library that gcc builds; files at the limits of size, depth,
+units, edges and districts; checkpoints of both versions of the format at the limits of size and count; values of words at the ends of their
+ranges; a folder that cannot be written and threads that are refused, as another user.
+Prints one line for each part and each run that is not so; ends with 1 where there is one.
+"""
+import json
+import os
+import pathlib
+import resource
+import shutil
+import signal
+import stat
+import subprocess
+import sys
+import tempfile
+
+import model
+
+HERE = pathlib.Path(__file__).resolve().parent
+CYCLE = (HERE / "cycle.json").read_bytes()
+BASE = "--pop pop --first a --second b --district d".split()
+CHAIN = ["run", *BASE, "--slack", "5000", "--key", "0" * 64, "--walks", "12", "--steps", "8", "--ask", "gap:low"]
+CHECK = ["check", *BASE, "--slack", "5000"]
+NAMES = ("audit-0.ckpt", "audit-1.ckpt")
+NOBODY = 65534
+SHORT = r"""
+#define _GNU_SOURCE
+#include <dlfcn.h>
+#include <errno.h>
+#include <unistd.h>
+
+static __thread int turn;
+
+static int interrupted(void) {
+    turn = !turn;
+    if (turn) errno = EINTR;
+    return turn;
+}
+
+ssize_t read(int fd, void *to, size_t size) {
+    static ssize_t (*real)(int, void *, size_t);
+    if (!real) real = dlsym(RTLD_NEXT, "read");
+    return interrupted() ? -1 : real(fd, to, size < 7 ? size : 7);
+}
+
+ssize_t write(int fd, const void *from, size_t size) {
+    static ssize_t (*real)(int, const void *, size_t);
+    if (!real) real = dlsym(RTLD_NEXT, "write");
+    return interrupted() ? -1 : real(fd, from, size < 7 ? size : 7);
+}
+"""
+
+
+class Room:
+    """Where runs are made, and what was not as it has to be."""
+
+    def __init__(self, program, folder):
+        self.program, self.folder, self.slots, self.wrong, self.count = program, folder, folder / "slots", [], 0
+
+    def hold(self, slots):
+        if self.slots.exists():
+            self.slots.chmod(0o755)
+            shutil.rmtree(self.slots)
+        self.slots.mkdir()
+        for name, data in zip(NAMES, slots):
+            if data is not None:
+                (self.slots / name).write_bytes(data)
+
+    def held(self):
+        return [(self.slots / name).read_bytes() if (self.slots / name).exists() else None for name in NAMES]
+
+    def run(self, words, graph, before=(), given=None, prepared=None):
+        """The status, both texts and both files."""
+        graph_file, out_file = self.folder / "graph", self.folder / "out"
+        graph_file.write_bytes(graph)
+        with open(graph_file, "rb") as source, open(out_file, "wb") as out:
+            done = subprocess.run([*before, self.program, *words], stdin=source, stdout=out, stderr=subprocess.PIPE, cwd=self.slots,
+                                  env={**os.environ, **(given or {})}, preexec_fn=prepared, timeout=120, check=False)
+        return done.returncode, out_file.read_bytes(), done.stderr, self.held()
+
+    def judge(self, name, end, status, out, note, slots):
+        self.count += 1
+        for part, found, wanted in (("status", end[0], status), ("output", end[1], out.encode()), ("note", end[2], note.encode()),
+                                    ("files", end[3], slots)):
+            if found != wanted:
+                self.wrong.append(f"{name}: {part} {str(found)[:200]} and not {str(wanted)[:200]}")
+                return
+
+    def as_model(self, name, words, graph, slots=(None, None), **run):
+        """A run that must end as one on a system that does not fail."""
+        self.hold(slots)
+        wanted = model.audit(words, graph, list(slots))
+        self.judge(name, self.run(words, graph, **run), wanted.status, wanted.out, wanted.note, wanted.slots)
+
+
+# ---- faults injected by strace
+
+def saved(words, slots, fails):
+    """The files after a run of which the saves with these numbers fail, which leave what the map says, and whether the run needed them all."""
+    setting = model.Setting(words)
+    job = model.job_of(setting, CYCLE)
+    digest = job.digest()
+    seen = [model.looked(setting, digest, data) for data in slots]
+    found = model.opening(seen, digest, setting) if setting.resume else {}
+    todo = [one for one in range(setting.total) if one not in found][:setting.budget]
+    every, slots = model.asked(job, digest), list(slots)
+    newest = model.newest(seen)
+    slot, generation = (0, 0) if newest is None else (1 - newest, (seen[newest].generation + 1) % 3)
+    number, last = 0, None
+    for count in [*range(setting.save, len(todo) + 1, setting.save), len(todo)]:
+        if count == last:
+            continue
+        number += 1
+        data = model.checkpoint(digest, generation, {**found, **{one: every[one] for one in todo[:count]}})
+        if number in fails:
+            slots[slot] = fails[number](data)
+            continue
+        slots[slot], last = data, count
+        slot, generation = 1 - slot, (generation + 1) % 3
+    return slots
+
+
+def whole(data):
+    return data
+
+
+def nothing(_data):
+    return b""
+
+
+def front(count):
+    return lambda data: data[:count]
+
+
+def injected(room):
+    if shutil.which("strace") is None:
+        return "strace is not installed: no faults injected"
+    first = model.audit([*CHAIN, "--save", "2", "--budget", "5"], CYCLE, [None, None]).slots
+    report = model.audit(CHAIN, CYCLE, [None, None]).out
+    fresh, resumed = [*CHAIN, "--save", "2"], [*CHAIN, "--save", "2", "--resume", "yes"]
+
+    def run(name, words, slots, call, path, what, end, files):
+        room.hold(slots)
+        trace = ["strace", "-f", "-qq", "-o", "/dev/null", "-P", str(path), "-P", str(room.slots / path), "-e", f"trace={call}",
+                 "-e", f"inject={call}:{what}"]
+        status, out, said, held = room.run(words, CYCLE, before=trace)
+        said = b"".join(line for line in said.splitlines(True) if not line.startswith(b"strace: Requested path "))
+        wanted, note = end
+        room.judge(name, (status, out, said, held), wanted, report if wanted in (0, 9) else "", note, files)
+
+    absent, fault, done = [None, None], (9, "checkpoint save fault\n"), (0, "")
+    for number in (1, 2, 3, 4, 5, 6):
+        # save k is the (k + 1) div 2th of its slot while none fails
+        path, when = NAMES[(number + 1) % 2], (number + 1) // 2
+        run(f"save {number} is not synced", fresh, absent, "fsync", path, f"error=EIO:when={when}", fault, saved(fresh, absent, {number: whole}))
+        run(f"save {number} has no room", fresh, absent, "write", path, f"error=ENOSPC:when={when}", fault, saved(fresh, absent, {number: nothing}))
+        run(f"save {number} is interrupted", fresh, absent, "write", path, f"error=EINTR:when={when}", done, saved(fresh, absent, {}))
+        run(f"the sync of save {number} is interrupted", fresh, absent, "fsync", path, f"error=EINTR:when={when}", done, saved(fresh, absent, {}))
+    for when, number in ((1, 1), (2, 2)):
+        run(f"the folder of save {number} is not synced", fresh, absent, "fsync", room.slots, f"error=EIO:when={when}", fault,
+            saved(fresh, absent, {number: whole}))
+    run("no save is synced", fresh, absent, "fsync", NAMES[0], "error=EIO", fault, saved(fresh, absent, dict.fromkeys(range(1, 9), whole)))
+    run("the folder is never synced", fresh, absent, "fsync", room.slots, "error=EIO", fault, saved(fresh, absent, dict.fromkeys(range(1, 9), whole)))
+    run("a new file is refused", fresh, absent, "openat", NAMES[0], "error=EACCES:when=2", fault, saved(fresh, absent, {1: lambda data: None}))
+    run("an old file is not opened", resumed, first, "openat", NAMES[1], "error=EMFILE:when=3", fault, saved(resumed, first, {1: lambda data: first[1]}))
+    for path in NAMES:
+        for error in ("EACCES", "EIO", "EMFILE", "ELOOP", "ENOTDIR"):
+            run(f"{path} cannot be opened: {error}", resumed, first, "openat", path, f"error={error}:when=1", (6, "checkpoint load fault\n"), first)
+            run(f"{path} cannot be opened by a new run: {error}", fresh, first, "openat", path, f"error={error}:when=1", (6, "checkpoint load fault\n"), first)
+        run(f"{path} cannot be opened for want of memory", resumed, first, "openat", path, "error=ENOMEM:when=1", (3, "memory\n"), first)
+        run(f"the opening of {path} is interrupted", resumed, first, "openat", path, "error=EINTR:when=1", done, saved(resumed, first, {}))
+        for when in (1, 2):
+            run(f"read {when} of {path} fails", resumed, first, "read", path, f"error=EIO:when={when}", (6, "checkpoint load fault\n"), first)
+            run(f"read {when} of {path} is interrupted", resumed, first, "read", path, f"error=EINTR:when={when}", done, saved(resumed, first, {}))
+    graph, out = room.folder / "graph", room.folder / "out"
+    for when in (1, 2):
+        run(f"read {when} of the graph fails", resumed, first, "read", graph, f"error=EIO:when={when}", (4, "read fault\n"), first)
+        run(f"read {when} of the graph is interrupted", resumed, first, "read", graph, f"error=EINTR:when={when}", done, saved(resumed, first, {}))
+    for error in ("EIO", "ENOSPC", "EPIPE", "EFBIG"):
+        run(f"the report is not written: {error}", resumed, first, "write", out, f"error={error}:when=1", (5, "write fault\n"), saved(resumed, first, {}))
+    run("the writing of the report is interrupted", resumed, first, "write", out, "error=EINTR:when=1", done, saved(resumed, first, {}))
+    return "faults injected by strace"
+
+
+# ---- a few bytes a call
+
+def short(room):
+    if shutil.which("gcc") is None:
+        return "gcc is not installed: no short reads and writes"
+    source, library = room.folder / "short.c", room.folder / "short.so"
+    source.write_text(SHORT)
+    subprocess.run(["gcc", "-shared", "-fPIC", "-O1", "-o", library, source, "-ldl"], check=True)
+    given, slots = {"LD_PRELOAD": str(library)}, [None, None]
+    for more in ([], ["--resume", "yes"], ["--resume", "yes"]):
+        words = [*CHAIN, "--save", "2", "--budget", "5", *more]
+        room.as_model("seven bytes a call", words, CYCLE, slots, given=given)
+        slots = model.audit(words, CYCLE, slots).slots
+    room.as_model("seven bytes a call", CHECK, CYCLE, given=given)
+    room.as_model("seven bytes a call", CHECK, CYCLE[:300], given=given)
+    room.as_model("seven bytes a call", ["audit"], CYCLE, given=given)
+    return "seven bytes a call, every other call interrupted"
+
+
+def file_size(room):
+    """A limit on files: a save is cut off after so many bytes, and the other slot holds what was saved before."""
+    def limited():
+        signal.signal(signal.SIGXFSZ, signal.SIG_IGN)
+        resource.setrlimit(resource.RLIMIT_FSIZE, (600, 600))
+
+    words = [*CHAIN, "--save", "2", "--budget", "11"]
+    room.hold([None, None])
+    end = room.run(words, CYCLE, prepared=limited)
+    # saves of 2, 4 and 6 outcomes fit; those of 8, 10 and 11 do not
+    files = saved(words, [None, None], {number: front(600) for number in (4, 5, 6)})
+    room.judge("files of at most 600 bytes", end, 9, "", "checkpoint save fault\n", files)
+    return "saves cut off by a limit on files"
+
+
+# ---- limits
+
+def node(at, district, pop=1, a=1, b=1):
+    return {"pop": pop, "a": a, "b": b, "d": district, "id": at}
+
+
+def text(nodes, adjacency):
+    return json.dumps({"nodes": nodes, "adjacency": adjacency}, separators=(",", ":")).encode()
+
+
+def path_of(count, district):
+    return text([node(at, district(at)) for at in range(count)], [[{"id": at + 1}] if at + 1 < count else [] for at in range(count)])
+
+
+def many_edges(count):
+    units = 895
+    nodes, adjacency = [node(at, at * 2 // units) for at in range(units)], [[] for _ in range(units)]
+    pairs = ((u, v) for step in range(1, units) for u in range(units - step) for v in (u + step,))
+    for (u, v), _ in zip(pairs, range(count)):
+        adjacency[u].append({"id": v})
+    return text(nodes, adjacency)
+
+
+def limits(room):
+    room.as_model("the most bytes", CHECK, CYCLE + b" " * (model.MOST_INPUT - len(CYCLE)))
+    room.as_model("a byte too many", CHECK, CYCLE + b" " * (model.MOST_INPUT + 1 - len(CYCLE)))
+    for deep in (126, 127):
+        for one, other in ((b"[", b"]"), (b'{"a":', b"}")):
+            nested = one * deep + b"1" + other * deep
+            room.as_model(f"{deep + 1} levels", CHECK, CYCLE.replace(b'"graph": []', b'"graph": ' + nested))
+    for count in (100000, 100001):
+        room.as_model(f"{count} units", CHECK, path_of(count, lambda at: at // 50000 if at < 100000 else 1))
+    for count in (400000, 400001):
+        room.as_model(f"{count} edges", CHECK, many_edges(count))
+    for count in (1, 2, 200, 201):
+        room.as_model(f"{count} districts", CHECK, path_of(count, lambda at: at))
+    for low, high in ((0, 1), (10 ** 9, 10 ** 9 + 1), (10 ** 9 - 1, 10 ** 9), (-1, 0)):
+        for number in (low, high):
+            nodes = [node(0, 0, number, number, 0), node(1, 1, number, 0, number)]
+            for score in ("gap:low", "mean-median:high", "seats:low"):
+                room.as_model(f"numbers of {number}", [*CHAIN[:-1], score], text(nodes, [[{"id": 1}], []]))
+            room.as_model(f"numbers of {number}", CHECK, text(nodes, [[{"id": 1}], []]))
+    for label in (2 ** 64 - 1, 2 ** 64, -2 ** 63, -2 ** 63 - 1, -0.0, "", "\u0000", "\U0001f5f3"):
+        room.as_model(f"the label and id {label!r}", CHECK, text([node(label, 0), node(7, label)], [[{"id": 7}], []]))
+    return "files at the limits"
+
+
+def checkpoints(room):
+    """Checkpoints of as many outcomes as there may be, and of one more; of both versions, for runs with the tally of seats and without."""
+    words = with_values(CHAIN, {"--walks": "100000", "--steps": "1", "--resume": "yes"})
+    own = model.job_of(model.Setting(words), CYCLE).digest()
+    most = {one: (one % 2, [1 + one % 2], (0, 0, 0, 1, 1, 0, 0, 0, 0)) for one in range(100000)}
+    for version in (1, 2):
+        for more in ([], ["--workers", "4"], ["--shift", "yes", "--save", "1", "--budget", "0"]):
+            room.as_model(f"100000 outcomes of version {version}", [*words, *more], CYCLE, (model.checkpoint(own, 1, most, version), None))
+        other = {one: outcome for one, outcome in most.items() if one > 0}
+        room.as_model(f"another job's 99999 outcomes of version {version}", words, CYCLE, (None, model.checkpoint(bytes(32), 1, other, version)))
+        room.as_model(f"100001 outcomes of version {version}", words, CYCLE, (model.checkpoint(own, 1, {**most, 100000: most[0]}, version), None))
+    chain = with_values(CHAIN, {"--steps": "7"})
+    bare, binned = (model.audit([*chain, "--save", "100", "--shift", shift], CYCLE, [None, None]).slots[0] for shift in ("no", "yes"))
+    old = model.checkpoint(bare[12:44], 0, {one[0]: (one[1], one[2:6], one[6:]) for one in model.decoded(bare).records[:5]}, 1)
+    for slots in ((old, None), (old, binned), (binned, old), (bare, None), (binned, bare)):
+        for shift in ("no", "yes"):
+            for serial in ("no", "yes"):
+                said = [*chain, "--resume", "yes", "--shift", shift, "--serial", serial]
+                room.as_model("checkpoints of both versions", said, CYCLE, slots)
+                room.as_model("checkpoints of both versions", [*said, "--save", "5", "--budget", "7"], CYCLE, slots)
+    return "checkpoints at the limits, and of both versions"
+
+
+def with_values(words, values):
+    """The words, some names of which have other values or come anew."""
+    given = dict(zip(words[1::2], words[2::2])) | values
+    return [words[0], *(word for pair in given.items() for word in pair)]
+
+
+def ranges(room):
+    """Each number word at both ends of its range and past them, and the words of yes and no; the graph of a run is no JSON, so that good words end
+    with status 2."""
+    for command in ("check", "run", "make"):
+        words = {"check": CHECK, "run": CHAIN, "make": ["make", "--size", "1", *CHAIN[11:]]}[command]
+        for name, (low, high) in model.RANGES.items():
+            if name not in model.COMMANDS[command] or command == "make" and name != "--size":
+                continue
+            for number in (low - 1, low, high, high + 1, 2 ** 32 + low, 2 ** 64 + low):
+                said = with_values(words, {name: str(number)})
+                if command == "make" and number in range(low, high + 1):
+                    continue
+                room.as_model(f"{name} {number}", said, b"")
+    for name in ("--resume", "--shift", "--serial"):
+        for value in ("yes", "no", "Yes", "maybe", "", "yes ", "1"):
+            room.as_model(f"{name} {value}", with_values(CHAIN, {"--steps": "7", name: value}), b"")
+            room.as_model(f"{name} {value}", with_values(CHECK, {name: value}), CYCLE)
+    for steps in ("0", "08", "1", "2", "3", "7", "8", "9", "1023", "1024", "536870910", "536870911", "536870912", "1000000000", "1000000001"):
+        room.as_model(f"--serial yes with --steps {steps}", with_values(CHAIN, {"--steps": steps, "--serial": "yes"}), b"")
+        room.as_model(f"--serial maybe with --steps {steps}", with_values(CHAIN, {"--steps": steps, "--serial": "maybe", "--shift": "maybe"}), b"")
+    return "values of words at the ends of their ranges"
+
+
+# ---- another user
+
+def other_user(room):
+    if os.getuid() != 0:
+        return "not run as root: no folder of another user, and threads not refused"
+    room.folder.chmod(0o755)
+    program, room.program = room.program, str(room.folder / "program")
+    shutil.copy(program, room.program)
+
+    def nobody(limit=None):
+        def prepare():
+            if limit is not None:
+                resource.setrlimit(resource.RLIMIT_NPROC, (limit, limit))
+            os.setgroups([])
+            os.setgid(NOBODY)
+            os.setuid(NOBODY)
+        return prepare
+
+    report = model.audit(CHAIN, CYCLE, [None, None]).out
+    first = model.audit([*CHAIN, "--save", "2", "--budget", "5"], CYCLE, [None, None]).slots
+    for slots, more in (((None, None), []), (first, ["--resume", "yes"])):
+        room.hold(slots)
+        for name in NAMES:
+            if (room.slots / name).exists():
+                (room.slots / name).chmod(0o444)
+        end = room.run([*CHAIN, "--save", "2", *more], CYCLE, prepared=nobody())
+        room.judge("a folder that cannot be written", end, 9, report, "checkpoint save fault\n", list(slots))
+    room.hold(first)
+    (room.slots / NAMES[1]).chmod(stat.S_IWUSR)
+    room.judge("a file that cannot be read", room.run([*CHAIN, "--save", "2", "--resume", "yes"], CYCLE, prepared=nobody()),
+               6, "", "checkpoint load fault\n", first)
+    for more in ([], ["--save", "3"], ["--save", "1", "--budget", "7"]):
+        for workers in ("2", "32"):
+            words = [*CHAIN, *more]
+            room.hold([None, None])
+            room.slots.chmod(0o777)
+            wanted = model.audit(words, CYCLE, [None, None])
+            end = room.run([*words, "--workers", workers], CYCLE, prepared=nobody(1))
+            room.judge(f"{workers} workers where threads are refused", end, wanted.status, wanted.out, wanted.note, wanted.slots)
+    room.program = program
+    return "a folder and a file of another user, and threads that are refused"
+
+
+def main(program):
+    with tempfile.TemporaryDirectory() as name:
+        room = Room(os.path.abspath(program), pathlib.Path(name))
+        for part in (injected, short, file_size, limits, checkpoints, ranges, other_user):
+            count, wrong = room.count, len(room.wrong)
+            said = part(room)
+            print(f"{said}: {room.count - count} runs, {len(room.wrong) - wrong} not as they have to be", flush=True)
+    for one in room.wrong:
+        print("WRONG:", one)
+    return 1 if room.wrong else 0
+
+
+if __name__ == "__main__":
+    sys.exit(main(*sys.argv[1:]))
