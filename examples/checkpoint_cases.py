@@ -16,10 +16,10 @@ from collections import namedtuple
 from checkpoints import (MOST_BYTES, Setting, checkpoint, digest, fault, fits, generation_and_count, job_of, old_checkpoint, record, records,
                          sealed)
 from compare import expected
-from compare_walks import NO_BINS, outcomes, report_of
+from compare_walks import NO_BINS, is_inside, outcomes, report_of
 
 Slot = namedtuple("Slot", "fault job generation found")
-End = namedtuple("End", "status begun out note")
+End = namedtuple("End", "status told out note")
 
 
 class Keeper:
@@ -128,14 +128,28 @@ def saved_in_turn(every, slots, keeper, wanted, founds):
     return all(answers.values())
 
 
+def begun(setting, job, every):
+    """The ids that are walked where tests stop early: all walks, and ends in rounds of 64, 128 and so on until each test has stopped."""
+    start, count = [job.value(job.plan, score) for score, _ in setting.asks], 0
+    while True:
+        ends = [every[setting.walks + end][1] for end in range(count)]
+        tops = [sum(is_inside(one[place], start[place], tail) for one in ends) for place, (_, tail) in enumerate(setting.asks)]
+        if count == setting.ends or all(top >= job.stop for top in tops):
+            return list(range(setting.walks + count))
+        count = min(setting.ends, 2 * count + 64)
+
+
 def walked(setting, job, slots, keeper, room):
     """How a run ends over the slots that it looked at, if it did."""
     wanted, is_resumed = digest(job, setting), setting.given.get("--resume") == "yes"
     found, refusal = resumed(slots, wanted) if is_resumed else ({}, None)
     if refusal:
-        return End(8, 0, "", refusal)
+        return End(8, [], "", refusal)
     found = taken_up(setting, job, found)
     every = dict(enumerate(outcomes(job, *setting.trajectories())))
+    if job.stop:
+        text = report_of(job, *setting.trajectories(), [every[number] for number in sorted(every)])
+        return End(0, begun(setting, job, every), text, "")
     todo = [number for number in every if number not in found][:int(setting.given.get("--budget", "100000"))]
     posts = [{number: every[number] for number in todo[:count]} for count in range(len(todo) + 1)]
     founds = [{**found, **post} for post in posts]
@@ -145,30 +159,30 @@ def walked(setting, job, slots, keeper, room):
     if len(found) == setting.total:
         text = report_of(job, *setting.trajectories(), [found[number] for number in sorted(found)])
     if len(text) > room:
-        return End(5, len(todo), text[:room], "write fault")
+        return End(5, todo, text[:room], "write fault")
     if not is_saved:
-        return End(9, len(todo), text, "checkpoint save fault")
+        return End(9, todo, text, "checkpoint save fault")
     if not text:
-        return End(7, len(todo), "", f"stopped: {len(found)} of {setting.total} done")
-    return End(0, len(todo), text, "")
+        return End(7, todo, "", f"stopped: {len(found)} of {setting.total} done")
+    return End(0, todo, text, "")
 
 
 def audit(words, text, keeper, room):
     """How a whole call ends."""
     setting = Setting(words)
     if setting.command != "check" and bad_name(setting):
-        return End(1, 0, "", f"words: bad value for {bad_name(setting)}")
+        return End(1, [], "", f"words: bad value for {bad_name(setting)}")
     try:
         job = job_of(setting, text)
     except json.JSONDecodeError:
-        return End(2, 0, "", "graph: not JSON")
+        return End(2, [], "", "graph: not JSON")
     if setting.command == "check":
-        return End(0, 0, expected(json.loads(text), setting.given["--pop"], setting.given["--district"], setting.slack), "")
+        return End(0, [], expected(json.loads(text), setting.given["--pop"], setting.given["--district"], setting.slack), "")
     slots = None
     if setting.given.get("--save", "0") != "0" or setting.given.get("--resume") == "yes":
         loaded = keeper.load_all()
         if loaded is None:
-            return End(6, 0, "", "checkpoint load fault")
+            return End(6, [], "", "checkpoint load fault")
         slots = [looked(setting, digest(job, setting), data) for data in loaded]
     return walked(setting, job, slots, keeper, room)
 
@@ -180,6 +194,11 @@ def shown(number, data):
     version = int.from_bytes(data[8:12], "big")
     ids = "" if found is None else " ".join([f" version {version} generation {generation_and_count(data)[0]} ids", *(str(one[0]) for one in found)])
     return f"slot {number} {len(data)} bytes{ids} sha256 {hashlib.sha256(data).hexdigest()}"
+
+
+def told(ids):
+    """What is printed of the ids that a run began: how many, and those below 64."""
+    return " ".join([f"told {len(ids)}:", *(str(one) for one in ids if one < 64)])
 
 
 def slot_of(folder, said, before):
@@ -196,7 +215,7 @@ def text_of(folder, line, before):
     slots = [slot_of(folder, said, slot) for said, slot in zip((zero, one), before)]
     keeper = Keeper(slots, int(load), save)
     end = audit(words, (folder / file).read_text(), keeper, int(room))
-    lines = [line, f"status {end.status}", f"{end.begun} had begun", end.out + end.note]
+    lines = [line, f"status {end.status}", told(end.told), end.out + end.note]
     lines += [shown(number, data) for number, data in enumerate(keeper.slots)]
     return "\n".join(part.removesuffix("\n") for part in lines) + "\n", keeper.slots
 
@@ -233,6 +252,8 @@ def damaged(words, text):
         "unfit_moves": of_one(0, 9, values),
         "unfit_visits": of_one(0, moved, [10]),
         "unfit_value": of_one(0, moved, [*values, 1]),
+        "unfit_zero": of_one(0, moved, [0]),
+        "unfit_second": of_one(0, moved, [1, 1]),
         "unfit_bins": of_one(0, moved, values, [0, 0, 0, 7, 3, 0, 0, 0, 0]),
         "five": checkpoint(own, 1, five),
         "ten": checkpoint(own, 0, ten),

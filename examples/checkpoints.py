@@ -13,9 +13,10 @@ import sys
 import networkx
 
 from compare import rank, read
-from compare_walks import Job, draws, outcomes
+from compare_walks import MOST_SPLIT, NO_LIMIT, Job, draws, outcomes
 
-NUMBERS = {"--size": 0, "--slack": 500, "--walks": 1, "--steps": 1000, "--ends": 0, "--hub-steps": 1000}
+NUMBERS = {"--size": 0, "--slack": 500, "--walks": 1, "--steps": 1000, "--ends": 0, "--hub-steps": 1000, "--max-cut": NO_LIMIT,
+           "--max-split": MOST_SPLIT}
 SCORES = ("seats", "mean-median", "gap", "cut-edges")
 TAILS = ("low", "high")
 MOST_OUTCOMES = 100000
@@ -27,7 +28,7 @@ class Setting:
 
     def __init__(self, words):
         self.command, self.given = words[0], dict(zip(words[1::2], words[2::2]))
-        self.size, self.slack, self.walks, self.steps, self.ends, self.hub_steps = (
+        self.size, self.slack, self.walks, self.steps, self.ends, self.hub_steps, self.max_cut, self.max_split = (
             int(self.given.get(name, default)) for name, default in NUMBERS.items())
         self.key = bytes.fromhex(self.given.get("--key", ""))
         self.asks = [tuple(ask.split(":")) for ask in self.given.get("--ask", "").split(",") if ask]
@@ -46,7 +47,11 @@ def job_of_graph(setting, document):
     districts = sorted(set(labels), key=rank)
     numbered = networkx.convert_node_labels_to_integers(graph)
     plan = [districts.index(label) for label in labels]
-    return Job(numbered, plan, people, first, second, len(districts), setting.slack, setting.key)
+    job = Job(numbered, plan, people, first, second, len(districts), setting.slack, setting.key)
+    if setting.given.get("--region"):
+        counties = [unit[setting.given["--region"]] for unit in units]
+        job.regions = [sorted(set(counties), key=rank).index(county) for county in counties]
+    return job
 
 
 def job_of_grid(setting):
@@ -65,21 +70,26 @@ def job_of_grid(setting):
 
 def job_of(setting, text):
     job = job_of_grid(setting) if setting.command == "make" else job_of_graph(setting, json.loads(text))
+    job.max_cut, job.max_split = setting.max_cut, setting.max_split
     job.shift = setting.given.get("--shift") == "yes"
     job.serial = setting.given.get("--serial") == "yes"
+    job.stop = int(setting.given.get("--stop", 0))
     return job
 
 
 def digest(job, setting):
     """The SHA-256 of all that the outcomes depend on."""
     edges = sorted(tuple(sorted(edge)) for edge in job.graph.edges)
-    parts = [b"district-job 1", struct.pack(">3I", job.units, len(edges), job.districts)]
+    has_rules = job.max_cut < NO_LIMIT or job.regions
+    parts = [b"district-job 2" if has_rules else b"district-job 1", struct.pack(">3I", job.units, len(edges), job.districts)]
     parts += [struct.pack(">2I", *edge) for edge in edges]
     parts += [struct.pack(">3QI", *unit) for unit in zip(job.people, job.first, job.second, job.plan)]
     parts += [struct.pack(">I", setting.slack), setting.key]
     parts += [struct.pack(">4I", setting.walks, setting.steps, setting.ends, setting.hub_steps)]
     parts += [struct.pack(">I", len(setting.asks))]
     parts += [struct.pack(">2I", SCORES.index(score), TAILS.index(tail)) for score, tail in setting.asks]
+    parts += [struct.pack(">I", job.max_cut)] if has_rules else []
+    parts += [struct.pack(f">{1 + job.units}I", job.max_split, *job.regions)] if job.regions else []
     return hashlib.sha256(b"".join(parts)).digest()
 
 

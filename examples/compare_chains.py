@@ -1,7 +1,7 @@
 """Halts, kills and resumes the auditor on drawn graphs, and compares the last report, byte for byte, with that of one run in one piece.
 
 Usage: python3 compare_chains.py PROGRAM [GRAPHS [SEED [WORKERS [SAVE]]]]
-PROGRAM is the built program. Graphs, plans and keys are drawn as in compare_walks.py (20, if not said). WORKERS and SAVE fix the number of
+PROGRAM is the built program. Graphs, plans, keys and limits are drawn as in compare_walks.py (20, if not said). WORKERS and SAVE fix the number of
 workers and of walks after which a run saves, which are drawn elsewhere. Each audit is made once as a chain
 of runs over real files in a folder of its own, and once in one piece: each run of the chain has a drawn budget, a drawn number of workers and a
 drawn number of walks after which it saves, half are asked for the serial test and half for the tally of seats, some are killed (as by kill -9)
@@ -27,7 +27,7 @@ def words_of(job, numbers, asks):
              "--key", job.key.hex(), "--ask", ",".join(":".join(ask) for ask in asks)]
     for name, number in zip(("--walks", "--steps", "--ends", "--hub-steps"), numbers):
         words += [name, str(number)]
-    return words
+    return words + compare_walks.rule_words(job)
 
 
 def spoil(chance, folder):

@@ -2,10 +2,10 @@
 
 Usage: python3 compare_walks.py PROGRAM [GRAPHS [SEED]]
 PROGRAM is the built program. Each graph (20, if not said) is a drawn grid with diagonals and holes, with drawn districts, populations
-and votes, as networkx writes it; half of them have a drawn limit on cut edges, half the serial test, and half the tally of seats. The plain
-program here keeps nothing along a walk: for each proposal it builds the changed plan, asks networkx whether each of its districts is connected,
-adds up populations, counts the cut
-edges, and computes each score from all units and edges again.
+and votes, as networkx writes it; half of them have a drawn limit on cut edges, half drawn regions that may be split among few districts,
+half the serial test, half the tally of seats, and a third parallel tests that stop early. The plain program here walks every end, and keeps
+nothing along a walk: for each proposal it builds the changed plan, asks networkx whether each of its districts is connected, adds up
+populations, counts the cut edges and the districts of each region, and computes each score from all units and edges again.
 Ends with status 0 where all reports are the same, and prints how many were.
 """
 import json
@@ -19,6 +19,7 @@ import networkx
 
 BILLION = 10 ** 9
 NO_LIMIT = 400_000
+MOST_SPLIT = 200
 NO_BINS = [0] * 9
 
 
@@ -57,11 +58,17 @@ class Job:
         self.units = len(plan)
         self.total = sum(people)
         self.max_cut = max_cut
+        self.regions, self.max_split = [], MOST_SPLIT
         self.shift = False
         self.serial = False
+        self.stop = 0
 
     def cut_edges(self, plan):
         return sum(plan[u] != plan[v] for u, v in self.graph.edges)
+
+    def widest(self, plan):
+        """The most districts among which a region is split."""
+        return max((len({plan[u] for u in range(self.units) if self.regions[u] == region}) for region in set(self.regions)), default=0)
 
     def is_legal(self, plan):
         for d in range(self.districts):
@@ -71,7 +78,7 @@ class Job:
             amount = 10000 * self.districts * sum(self.people[u] for u in members)
             if not (10000 - self.slack) * self.total <= amount <= (10000 + self.slack) * self.total:
                 return False
-        return self.cut_edges(plan) <= self.max_cut
+        return self.cut_edges(plan) <= self.max_cut and self.widest(plan) <= self.max_split
 
     def after(self, plan, draw):
         pairs = self.units * self.districts
@@ -154,7 +161,9 @@ def report_of(job, walks, steps, ends, hub_steps, asks, found):
              f"units {job.units} edges {job.graph.number_of_edges()} districts {job.districts}",
              f"population {job.total} slack {job.slack} low {low} high {high}",
              *([f"max-cut {job.max_cut}"] if job.max_cut < NO_LIMIT else []),
-             f"walks {walks} steps {steps} ends {ends} hub-steps {hub_steps}"]
+             *([f"max-split {job.max_split} regions {len(set(job.regions))}"] if job.regions else []),
+             f"walks {walks} steps {steps} ends {ends} hub-steps {hub_steps}",
+             *([f"stop {job.stop}"] if job.stop else [])]
     start = [job.value(job.plan, score) for score, _ in asks]
     words = [f"{score} {tail} start {first}/{job.denominator(score)}" for first, (score, tail) in zip(start, asks)]
     for walk, (moved, counts, _) in enumerate(found[:walks]):
@@ -163,11 +172,24 @@ def report_of(job, walks, steps, ends, hub_steps, asks, found):
                          f" bound {billionths(bound(count, steps + 1))}")
     if job.shift:
         lines.append(" ".join(["shift", *(str(sum(column)) for column in zip(*(one[2] for one in found)))]))
-    for place, (_, tail) in enumerate(asks if ends else []):
+    for place, (_, tail) in enumerate(asks if job.stop else []):
+        inside = [is_inside(values[place], start[place], tail) for _, values, _ in found[walks:]]
+        lines.append(f"stop {words[place]} {stopped(inside, job.stop)}")
+    for place, (_, tail) in enumerate(asks if ends and not job.stop else []):
         rank = 1 + sum(is_inside(values[place], start[place], tail) for _, values, _ in found[walks:])
         lines.append(f"ends {words[place]} rank {rank} of {ends + 1} p {billionths(-(-rank * BILLION // (ends + 1)))}")
     lines += serial_lines(job, steps, asks, words) if job.serial else []
     return "\n".join(lines + ["end", ""])
+
+
+def stopped(inside, enough):
+    """Where a test stops that needs so many ends in the tail: at the last of these, or after all ends."""
+    places = [place for place, is_in in enumerate(inside, 1) if is_in]
+    if len(places) >= enough:
+        place, top, of = places[enough - 1], enough, places[enough - 1]
+    else:
+        place, top, of = len(inside), len(places) + 1, len(inside) + 1
+    return f"place {place} value {top}/{of} p {billionths(-(-top * BILLION // of))}"
 
 
 def serial_plans(job, steps):
@@ -220,6 +242,16 @@ def drawn_plan(chance, graph, districts):
     return [plan[unit] for unit in range(len(graph))]
 
 
+def drawn_regions(chance, graph, plan):
+    """Regions with drawn names that grow as districts do, a few units of which lie elsewhere; half of them are within a district each."""
+    count = chance.randint(1, len(graph))
+    regions = drawn_plan(chance, graph, count)
+    if chance.random() < 0.5:
+        return [f"{region} of {district}" for region, district in zip(regions, plan)]
+    names = chance.sample(range(10 * count), count)
+    return [names[chance.choice(regions) if chance.random() < 0.1 else region] for region in regions]
+
+
 def drawn_job(chance):
     graph = drawn_graph(chance)
     districts = chance.randint(2, 4)
@@ -232,6 +264,9 @@ def drawn_job(chance):
         if job.is_legal(plan):
             if chance.random() < 0.5:
                 job.max_cut = job.cut_edges(plan) + chance.randint(0, 3)
+            if chance.random() < 0.5:
+                job.regions = drawn_regions(chance, graph, plan)
+                job.max_split = min(MOST_SPLIT, job.widest(plan) + chance.choice((0, 0, 0, 1, MOST_SPLIT)))
             return job
     return drawn_job(chance)
 
@@ -240,7 +275,15 @@ def document(job):
     graph = job.graph.copy()
     for unit in graph.nodes:
         graph.nodes[unit].update(POP=job.people[unit], A=job.first[unit], B=job.second[unit], CD=job.plan[unit])
+        if job.regions:
+            graph.nodes[unit].update(COUNTY=job.regions[unit])
     return json.dumps(networkx.adjacency_data(graph))
+
+
+def rule_words(job):
+    """The words that ask for the job's limits."""
+    words = ["--max-cut", str(job.max_cut)] if job.max_cut < NO_LIMIT else []
+    return words + (["--region", "COUNTY", "--max-split", str(job.max_split)] if job.regions else [])
 
 
 def found(program, job, numbers, asks, workers):
@@ -248,12 +291,13 @@ def found(program, job, numbers, asks, workers):
              "--key", job.key.hex(), "--workers", str(workers), "--ask", ",".join(":".join(ask) for ask in asks)]
     for name, number in zip(("--walks", "--steps", "--ends", "--hub-steps"), numbers):
         words += [name, str(number)]
-    if job.max_cut < NO_LIMIT:
-        words += ["--max-cut", str(job.max_cut)]
+    words += rule_words(job)
     if job.shift:
         words += ["--shift", "yes"]
     if job.serial:
         words += ["--serial", "yes"]
+    if job.stop:
+        words += ["--stop", str(job.stop)]
     run = subprocess.run([program, *words], input=document(job), capture_output=True, text=True)
     return run.stdout + run.stderr
 
@@ -266,6 +310,9 @@ def main(program, graphs="20", seed="1"):
         job.shift, job.serial = chance.random() < 0.5, chance.random() < 0.5
         steps = 2 ** chance.randint(1, 7) - 1 if job.serial else chance.randint(20, 120)
         numbers = (chance.randint(1, 3), steps, chance.randint(0, 3), chance.randint(10, 60))
+        if chance.random() < 1 / 3:
+            numbers = (*numbers[:2], chance.choice((1, 3, 20, 70)), 10)
+            job.stop = chance.randint(1, numbers[2])
         asks = [(score, chance.choice(("low", "high"))) for score in ("seats", "mean-median", "gap", "cut-edges")]
         chance.shuffle(asks)
         wanted = report(job, *numbers, asks)

@@ -20,16 +20,19 @@ SCORES = ("seats", "mean-median", "gap", "cut-edges")
 TAILS = ("low", "high")
 BASE = ("--pop", "--first", "--second", "--district")
 TABLE = (*BASE, "--size", "--slack", "--key", "--walks", "--steps", "--ends", "--hub-steps", "--ask", "--workers", "--budget",
-         "--save", "--resume", "--max-cut", "--shift", "--serial")
+         "--save", "--resume", "--max-cut", "--shift", "--stop", "--serial", "--region", "--max-split")
+RULES_OF_REGIONS = ("--region", "--max-split")
 COMMANDS = {
-    "check": (*BASE, "--slack", "--max-cut"),
+    "check": (*BASE, "--slack", "--max-cut", *RULES_OF_REGIONS),
     "run": tuple(name for name in TABLE if name != "--size"),
-    "make": tuple(name for name in TABLE if name not in BASE),
+    "make": tuple(name for name in TABLE if name not in BASE and name not in RULES_OF_REGIONS),
 }
 DEFAULTS = {"--slack": "500", "--walks": "1", "--steps": "1000", "--ends": "0", "--hub-steps": "1000", "--workers": "1",
-            "--budget": "100000", "--save": "0", "--resume": "no", "--max-cut": "400000", "--shift": "no", "--serial": "no"}
+            "--budget": "100000", "--save": "0", "--resume": "no", "--max-cut": "400000", "--shift": "no", "--stop": "0",
+            "--serial": "no", "--region": "", "--max-split": "200"}
 RANGES = {"--size": (1, 30), "--slack": (0, 10000), "--walks": (0, 100000), "--steps": (1, BILLION), "--ends": (0, 100000),
-          "--hub-steps": (1, BILLION), "--workers": (1, 32), "--budget": (0, 100000), "--save": (0, 100000), "--max-cut": (0, MOST_CUT)}
+          "--hub-steps": (1, BILLION), "--workers": (1, 32), "--budget": (0, 100000), "--save": (0, 100000), "--max-cut": (0, MOST_CUT),
+          "--stop": (0, 100000), "--max-split": (1, 200)}
 NO_BINS = (0,) * 9
 ALL_ASKS = {f"{score}:{tail}": (score, tail) for score in SCORES for tail in TAILS}
 
@@ -101,7 +104,7 @@ class Setting:
             return plans & plans - 1 == 0
         if name in ("--resume", "--shift", "--serial"):
             return text in ("yes", "no")
-        if name in BASE:
+        if name in BASE or name == "--region":
             return True
         low, high = RANGES[name]
         if number(text) is None or not low <= number(text) <= high:
@@ -111,20 +114,25 @@ class Setting:
             return 1 <= total <= 100000
         if name == "--budget":
             return self.value["--save"] != "0" or total <= self.of("--budget")
+        if name == "--max-split":
+            return text == "200" or self.value["--region"] != ""
+        if name == "--stop" and self.of("--stop"):
+            return self.of("--ends") >= 1 and self.of("--save") == 0 and self.value["--resume"] != "yes"
         return True
 
     def numbers(self):
         value = self.value
         self.slack, self.max_cut = self.of("--slack"), self.of("--max-cut")
+        self.region, self.max_split = (value["--region"], self.of("--max-split")) if self.command != "make" else ("", 200)
         self.columns = tuple(value[name] for name in BASE) if self.command != "make" else ("pop", "a", "b", "district")
         if self.command == "check":
-            self.asks, self.total, self.save, self.resume, self.shift, self.serial = [], 0, 0, False, False, False
+            self.asks, self.total, self.save, self.stop, self.resume, self.shift, self.serial = [], 0, 0, 0, False, False, False
             return
         self.key = bytes.fromhex(value["--key"])
         self.walks, self.steps, self.ends, self.hub_steps = (self.of(name) for name in ("--walks", "--steps", "--ends", "--hub-steps"))
         self.total = self.walks + self.ends
         self.asks = [ALL_ASKS[ask] for ask in value["--ask"].split(",")]
-        self.budget, self.save, self.workers = self.of("--budget"), self.of("--save"), self.of("--workers")
+        self.budget, self.save, self.workers, self.stop = (self.of(name) for name in ("--budget", "--save", "--workers", "--stop"))
         self.resume, self.shift, self.serial = (value[name] == "yes" for name in ("--resume", "--shift", "--serial"))
         self.size = self.of("--size") if self.command == "make" else 0
 
@@ -258,8 +266,31 @@ def columns_of(nodes, columns):
     return tuple([node[column] for node in nodes] for column in columns)
 
 
-def reading(data, columns):
-    """The edges, the three columns and the plan of a graph, or the first refusal."""
+def numbered(labels):
+    """How many different labels there are, and each one's place among them in rising order, numbers before texts."""
+    different = sorted(set(labels), key=lambda label: (type(label) is str, label))
+    place = {label: at for at, label in enumerate(different)}
+    return len(different), [place[label] for label in labels]
+
+
+def regions_of(nodes, column):
+    """The region of each unit, and none where no column is named, or the first refusal."""
+    if not column:
+        return []
+    for at, node in enumerate(nodes):
+        if column not in node:
+            refuse(f"node {at} has no column {column}")
+    for at, node in enumerate(nodes):
+        if not is_id(node[column]):
+            refuse(f"node {at} has no usable label in column {column}")
+    count, regions = numbered([node[column] for node in nodes])
+    if count > 5000:
+        refuse(f"{count} regions, more than 5000")
+    return regions
+
+
+def reading(data, columns, region):
+    """The edges, the three columns, the plan and the regions of a graph, or the first refusal."""
     if len(data) > MOST_INPUT:
         refuse(f"more than {MOST_INPUT} bytes")
     try:
@@ -269,11 +300,10 @@ def reading(data, columns):
     nodes, adjacency = shape(root)
     edges = edges_of(places_of(nodes), adjacency)
     people, first, second, labels = columns_of(nodes, columns)
-    districts = sorted(set(labels), key=lambda label: (type(label) is str, label))
-    if not 2 <= len(districts) <= 200:
-        refuse(f"{len(districts)} districts, not 2 to 200")
-    place = {label: at for at, label in enumerate(districts)}
-    return edges, people, first, second, [place[label] for label in labels], len(districts)
+    districts, plan = numbered(labels)
+    if not 2 <= districts <= 200:
+        refuse(f"{districts} districts, not 2 to 200")
+    return edges, people, first, second, plan, districts, regions_of(nodes, region)
 
 
 # ---- draws
@@ -303,9 +333,10 @@ def draws(key, stream, count):
 class Job:
     """A graph, its plan and a setting, where the plan is not refused."""
 
-    def __init__(self, setting, edges, people, first, second, plan, districts):
+    def __init__(self, setting, edges, people, first, second, plan, districts, regions):
         self.setting, self.edges, self.people, self.first, self.second = setting, edges, people, first, second
         self.plan, self.districts, self.units, self.population = plan, districts, len(plan), sum(people)
+        self.regions, self.counties = regions, sorted(set(regions))
         self.neighbours = [[] for _ in plan]
         for u, v in edges:
             self.neighbours[u].append(v)
@@ -329,6 +360,10 @@ class Job:
                 raise Refused(2, f"plan: district {district} has no path from unit {min(members)} to unit {min(lost)}")
         if self.cut(self.plan) > self.setting.max_cut:
             raise Refused(2, f"plan: {self.cut(self.plan)} cut edges, more than {self.setting.max_cut}")
+        for region in self.counties:
+            districts = self.districts_of(self.plan, region)
+            if districts > self.setting.max_split:
+                raise Refused(2, f"plan: region {region} lies in {districts} districts, more than {self.setting.max_split}")
 
     def sums(self, plan, column):
         sums = [0] * self.districts
@@ -349,6 +384,10 @@ class Job:
     def cut(self, plan):
         return sum(plan[u] != plan[v] for u, v in self.edges)
 
+    def districts_of(self, plan, region):
+        """How many districts a plan gives to units of a region."""
+        return len({district for district, one in zip(plan, self.regions) if one == region})
+
     def is_legal(self, plan):
         if any(not self.low <= people <= self.high for people in self.sums(plan, self.people)):
             return False
@@ -356,7 +395,7 @@ class Job:
             members = {u for u, d in enumerate(plan) if d == district}
             if not members or self.reached(members) != members:
                 return False
-        return self.cut(plan) <= self.setting.max_cut
+        return self.cut(plan) <= self.setting.max_cut and all(self.districts_of(plan, region) <= self.setting.max_split for region in self.counties)
 
     def walk(self, plan, stream, steps):
         """The plans visited, and the moves."""
@@ -389,7 +428,7 @@ class Job:
 
     def digest(self):
         setting = self.setting
-        limited = setting.max_cut < MOST_CUT
+        limited = setting.max_cut < MOST_CUT or self.regions
         parts = [b"district-job 2" if limited else b"district-job 1", struct.pack(">3I", self.units, len(self.edges), self.districts)]
         parts += [struct.pack(">2I", *edge) for edge in self.edges]
         parts += [struct.pack(">3QI", *unit) for unit in zip(self.people, self.first, self.second, self.plan)]
@@ -397,6 +436,7 @@ class Job:
                   struct.pack(">4I", setting.walks, setting.steps, setting.ends, setting.hub_steps), struct.pack(">I", len(setting.asks))]
         parts += [struct.pack(">2I", SCORES.index(score), TAILS.index(tail)) for score, tail in setting.asks]
         parts += [struct.pack(">I", setting.max_cut)] if limited else []
+        parts += [struct.pack(f">{len(self.regions) + 1}I", setting.max_split, *self.regions)] if self.regions else []
         return hashlib.sha256(b"".join(parts)).digest()
 
 
@@ -440,6 +480,15 @@ def asked(job, key):
     return [(moved, values, bins if job.setting.shift else NO_BINS) for moved, values, bins in outcomes(job, key)]
 
 
+def stop_of(values, start, tail, enough):
+    """The least number of values of which so many are in the tail, and their part; or all values, and one more than those in the tail."""
+    inside = [is_inside(value, start, tail) for value in values]
+    for place in range(len(values) + 1):
+        if sum(inside[:place]) == enough:
+            return place, enough, place
+    return len(values), sum(inside) + 1, len(values) + 1
+
+
 def serial(job):
     """The place of the start plan in one run through it, and for each ask how many plans of the run are in its tail."""
     setting, plan = job.setting, tuple(job.plan)
@@ -465,23 +514,29 @@ def head(job):
     setting = job.setting
     lines = [f"units {job.units} edges {len(job.edges)} districts {job.districts}",
              f"population {job.population} slack {setting.slack} low {job.low} high {job.high}"]
-    return lines + ([f"max-cut {setting.max_cut}"] if setting.max_cut < MOST_CUT else [])
+    lines += [f"max-cut {setting.max_cut}"] if setting.max_cut < MOST_CUT else []
+    return lines + ([f"max-split {setting.max_split} regions {len(job.counties)}"] if job.regions else [])
 
 
 def check_text(job):
     return "\n".join(["plan-check 1", *head(job), "end", ""])
 
 
+def p_value(top, of):
+    return f"p {billionths(-(-top * BILLION // of))}"
+
+
 def part(rank, of):
     """A rank of so many, and their fraction."""
-    return f"rank {rank} of {of} p {billionths(-(-rank * BILLION // of))}"
+    return f"rank {rank} of {of} {p_value(rank, of)}"
 
 
 def report(job, found):
     """The report on these outcomes, given by rising id as moves, values and bins."""
     setting = job.setting
     lines = [f"district-audit {2 if setting.shift else 1}", "key " + setting.key.hex(), *head(job),
-             f"walks {setting.walks} steps {setting.steps} ends {setting.ends} hub-steps {setting.hub_steps}"]
+             f"walks {setting.walks} steps {setting.steps} ends {setting.ends} hub-steps {setting.hub_steps}",
+             *([f"stop {setting.stop}"] if setting.stop else [])]
     start = [job.value(job.plan, score) for score, _ in setting.asks]
     words = [f"{score} {tail} start {first}/{job.denominator(score)}" for first, (score, tail) in zip(start, setting.asks)]
     for walk, (moved, counts, _) in enumerate(found[:setting.walks]):
@@ -489,7 +544,10 @@ def report(job, found):
             lines.append(f"walk {walk} moved {moved} {ask} count {count} of {setting.steps + 1} bound {billionths(bound(count, setting.steps + 1))}")
     if setting.shift:
         lines.append(" ".join(["shift", *(str(sum(one[2][place] for one in found)) for place in range(9))]))
-    for place, (_, tail) in enumerate(setting.asks if setting.ends else []):
+    for place, (_, tail) in enumerate(setting.asks if setting.stop else []):
+        at, top, of = stop_of([values[place] for _, values, _ in found[setting.walks:]], start[place], tail, setting.stop)
+        lines.append(f"stop {words[place]} place {at} value {top}/{of} {p_value(top, of)}")
+    for place, (_, tail) in enumerate(setting.asks if setting.ends and not setting.stop else []):
         rank = 1 + sum(is_inside(values[place], start[place], tail) for _, values, _ in found[setting.walks:])
         lines.append(f"ends {words[place]} {part(rank, setting.ends + 1)}")
     if setting.serial:
@@ -606,7 +664,7 @@ def run(job, slots):
 
 
 def job_of(setting, graph):
-    return Job(setting, *reading(graph, setting.columns))
+    return Job(setting, *reading(graph, setting.columns, setting.region))
 
 
 def audit(words, graph, slots):

@@ -2,7 +2,7 @@
 """Turns a file that GerryChain or networkx wrote into one that the auditor accepts, and tells of everything that it changed.
 
 Usage: python3 prepare.py FILE --pop COLUMN --first COLUMN --second COLUMN --district COLUMN [--numbers RULE] [--missing RULE]
-                          [--slack N] [--keep COLUMN]... [--out FILE] [--all]
+                          [--slack N] [--region COLUMN [--max-split N]] [--keep COLUMN]... [--out FILE] [--all]
 
 FILE is JSON in networkx's adjacency layout (which GerryChain's Graph.to_json writes) or in its node-link layout; a name that ends with
 .graphml or .gml is read by networkx, where that is installed. Nothing else is needed but Python itself.
@@ -13,9 +13,11 @@ FILE is JSON in networkx's adjacency layout (which GerryChain's Graph.to_json wr
     floor    the greatest whole number that is not above it
 --missing says what becomes of a value that is absent, null, NaN or an empty text:
     error    it is refused (the default)
-    zero     0, in a column of people or votes; a missing district is refused
+    zero     0, in a column of people or votes; a missing district or region is refused
     drop     its unit is left out, and the unit's edges with it
 --slack is that of the audit, in hundredths of a percent of the ideal population, 500 if it is not given.
+--region keeps a column of regions, as counties, and tells among how many districts the most split one lies; --max-split is that of the audit,
+200 if it is not given.
 --keep keeps a further column, as it is; all others are left out. --all prints every id where else the first ten are.
 
 The graph goes to --out, or to standard output; what was changed, and what the auditor would refuse, to standard error.
@@ -27,7 +29,7 @@ import json
 import math
 import sys
 
-MOST_UNITS, MOST_EDGES, MOST_BYTES, MOST_VALUE = 100_000, 400_000, 67_108_864, 1_000_000_000
+MOST_UNITS, MOST_EDGES, MOST_REGIONS, MOST_BYTES, MOST_VALUE = 100_000, 400_000, 5000, 67_108_864, 1_000_000_000
 SHOWN = 10
 
 
@@ -159,7 +161,11 @@ class Changes:
             tell("%s: %d unit%s%s: %s" % (kind, len(ids), "s" if len(ids) > 1 else "", moved, shown(ids, everything)))
 
 
-def rows_of(nodes, names, label_of, args, changes):
+def label_columns(args):
+    return [args.district] + ([args.region] if args.region else [])
+
+
+def rows_of(nodes, names, labels_of, args, changes):
     """For each unit that stays, by its id, the values that are written."""
     rows, faults = {}, []
     for name, node in zip(names, nodes):
@@ -182,15 +188,15 @@ def rows_of(nodes, names, label_of, args, changes):
                     changes.add("column %s: %s" % (column, done), name, row[column] - float(value))
             except Refused as why:
                 faults.append("unit %s: %s, which is %s, %s" % (json.dumps(name), column, json.dumps(value), why))
-        label = node.get(args.district)
-        if is_missing(label):
-            if args.missing == "drop":
+        for column in label_columns(args):
+            label = node.get(column)
+            if not is_missing(label):
+                row[column] = labels_of[column](label)
+            elif args.missing == "drop":
                 dropped = True
-                changes.add("units left out, for a missing %s" % args.district, name)
+                changes.add("units left out, for a missing %s" % column, name)
             else:
-                faults.append("unit %s has no %s" % (json.dumps(name), args.district))
-        else:
-            row[args.district] = label_of(label)
+                faults.append("unit %s has no %s" % (json.dumps(name), column))
         for column in args.keep:
             if column in node:
                 row[column] = node[column]
@@ -219,6 +225,20 @@ def parts_of(members, neighbours):
                     todo.append(other)
         parts.append(part)
     return sorted(parts, key=len, reverse=True)
+
+
+def judge_regions(rows, args):
+    """What the auditor would refuse of the regions, after telling how far they are split."""
+    split = {}
+    for row in rows.values():
+        split.setdefault(row[args.region], set()).add(row[args.district])
+    if not split:
+        return []
+    widest = max(split, key=lambda label: len(split[label]))
+    tell("%d regions in %s; %s lies in the most districts, %d" % (len(split), args.region, json.dumps(widest), len(split[widest])))
+    over = [label for label, districts in split.items() if len(districts) > args.max_split]
+    faults = ["regions that lie in more than %d districts: %d: %s" % (args.max_split, len(over), shown(over, args.all))] if over else []
+    return faults + (["%d regions, more than %d" % (len(split), MOST_REGIONS)] if len(split) > MOST_REGIONS else [])
 
 
 def judge(rows, neighbours, args):
@@ -250,6 +270,7 @@ def judge(rows, neighbours, args):
     if edges > MOST_EDGES:
         faults.append("%d edges, more than %d" % (edges, MOST_EDGES))
     tell("%d units, %d edges, %d districts, %d people" % (len(rows), edges, len(districts), total))
+    faults += judge_regions(rows, args) if args.region else []
     for fault in faults:
         tell("the auditor would refuse it: " + fault)
     return bool(faults)
@@ -285,17 +306,19 @@ def prepare(args):
     name_of, changed = renamed(ids + [end for pair in raw for end in pair])
     if changed:
         tell("ids: some are neither texts nor whole numbers, so all are written as texts")
-    label_of, changed = renamed([node[args.district] for node in nodes if not is_missing(node.get(args.district))])
-    if changed:
-        tell("labels in %s: some are neither texts nor whole numbers, so all are written as texts" % args.district)
+    labels_of = {}
+    for column in label_columns(args):
+        labels_of[column], changed = renamed([node[column] for node in nodes if not is_missing(node.get(column))])
+        if changed:
+            tell("labels in %s: some are neither texts nor whole numbers, so all are written as texts" % column)
     names = [name_of(i) for i in ids]
     twice = [name for name, count in collections.Counter(names).items() if count > 1]
     if twice:
         raise Refused("several units have the same id: %s" % shown(twice, args.all))
-    rows = rows_of(nodes, names, label_of, args, changes)
+    rows = rows_of(nodes, names, labels_of, args, changes)
     neighbours = neighbours_of([(name_of(one), name_of(other)) for one, other in raw], rows, names, changes)
     changes.print(args.all)
-    others = sorted({key for node in nodes for key in node} - {"id", args.pop, args.first, args.second, args.district, *args.keep})
+    others = sorted({key for node in nodes for key in node} - {"id", args.pop, args.first, args.second, *label_columns(args), *args.keep})
     if others:
         tell("columns left out: " + ", ".join(others))
     refused = judge(rows, neighbours, args)
@@ -318,6 +341,8 @@ def main():
     parser.add_argument("--numbers", choices=("error", "nearest", "floor"), default="error")
     parser.add_argument("--missing", choices=("error", "zero", "drop"), default="error")
     parser.add_argument("--slack", type=int, default=500)
+    parser.add_argument("--region")
+    parser.add_argument("--max-split", type=int, default=200)
     parser.add_argument("--keep", action="append", default=[])
     parser.add_argument("--out")
     parser.add_argument("--all", action="store_true")

@@ -3,8 +3,8 @@
 Usage: python3 refused_memory.py PROGRAM
 Builds a small library with gcc that stands before the C library's allocations and refuses the one with a given number, or that one and all
 after it, and runs the program under it for each number from 1 until a run ends in which none was refused: over an outlier trajectory, the
-parallel test, the serial test with the tally of seats, a run of three workers, a made grid, each run of a chain that is halted and resumed,
-and one that goes on from the first version of the format with the tally. The status must be 3 or the run's own; after 3 the
+parallel test, the serial test with the tally of seats, a run of three workers, a run with regions, a made grid, each run of a chain that is
+halted and resumed, and one that goes on from the first version of the format with the tally. The status must be 3 or the run's own; after 3 the
 output must be empty and both files as before; else output, note and files must be those of the run with all its memory.
 Prints how many runs there were, and each that is not so; ends with 1 where there is one.
 """
@@ -109,7 +109,7 @@ OLD = "first version"
 
 def runs():
     """Chains of runs, each the words and the graph; the first of a chain starts with no file, and that of OLD with one of the first version."""
-    cycle = (HERE / "cycle.json").read_bytes()
+    cycle, counties = ((HERE / name).read_bytes() for name in ("cycle.json", "counties.json"))
     return {
         "check": [(["check", *BASE, "--slack", "5000"], cycle)],
         "one walk": [(["run", *BASE, "--slack", "5000", *KEY, "--steps", "8", "--ask", "gap:low,gap:high"], cycle)],
@@ -117,6 +117,8 @@ def runs():
         "serial test": [(["run", *BASE, "--slack", "5000", *KEY, "--steps", "7", "--ask", "gap:low,seats:high", "--serial", "yes", "--shift", "yes"],
                          cycle)],
         "three workers": [([*CHAIN, "--workers", "3"], cycle)],
+        "regions": [(["run", *BASE, "--slack", "5000", *KEY, "--walks", "3", "--steps", "7", "--ask", "gap:low", "--region", "county", "--max-split",
+                      "2", "--serial", "yes", "--workers", "2"], counties)],
         "make": [(["make", "--size", "1", "--slack", "3000", *KEY, "--steps", "50", "--ask", "mean-median:low,cut-edges:high"], b"")],
         "chain": [([*CHAIN, *SAVED], cycle), ([*CHAIN, *SAVED, "--resume", "yes"], cycle), ([*CHAIN, *SAVED, "--resume", "yes"], cycle)],
         OLD: [([*CHAIN, *SAVED, "--resume", "yes", "--shift", "yes"], cycle), ([*CHAIN, "--save", "3", "--resume", "yes", "--shift", "yes"], cycle),

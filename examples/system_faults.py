@@ -3,7 +3,7 @@
 Usage: python3 system_faults.py PROGRAM
 The parts, each of which says in one line where it lacks what it needs: faults that strace injects into calls on the checkpoints, standard
 input and output; reads and writes of a few bytes, half of them interrupted, by a library that gcc builds; files at the limits of size, depth,
-units, edges and districts; checkpoints of both versions of the format at the limits of size and count; values of words at the ends of their
+units, edges, districts and regions; checkpoints of both versions of the format at the limits of size and count; values of words at the ends of their
 ranges; a folder that cannot be written and threads that are refused, as another user.
 Prints one line for each part and each run that is not so; ends with 1 where there is one.
 """
@@ -256,6 +256,10 @@ def limits(room):
         room.as_model(f"{count} edges", CHECK, many_edges(count))
     for count in (1, 2, 200, 201):
         room.as_model(f"{count} districts", CHECK, path_of(count, lambda at: at))
+    for count in (5000, 5001):
+        room.as_model(f"{count} regions", [*CHECK, "--region", "id"], path_of(count, lambda at: at * 2 // count))
+    for most in (1, 199, 200):
+        room.as_model("a region in 200 districts", [*CHECK, "--region", "pop", "--max-split", str(most)], path_of(200, lambda at: at))
     for low, high in ((0, 1), (10 ** 9, 10 ** 9 + 1), (10 ** 9 - 1, 10 ** 9), (-1, 0)):
         for number in (low, high):
             nodes = [node(0, 0, number, number, 0), node(1, 1, number, 0, number)]
@@ -309,6 +313,9 @@ def ranges(room):
                 if command == "make" and number in range(low, high + 1):
                     continue
                 room.as_model(f"{name} {number}", said, b"")
+    for number in (0, 1, 2, 199, 200, 201, 2 ** 32 + 1):
+        for region in ("d", "b", ""):
+            room.as_model(f"--max-split {number}", with_values(CHECK, {"--max-split": str(number), "--region": region}), CYCLE)
     for name in ("--resume", "--shift", "--serial"):
         for value in ("yes", "no", "Yes", "maybe", "", "yes ", "1"):
             room.as_model(f"{name} {value}", with_values(CHAIN, {"--steps": "7", name: value}), b"")

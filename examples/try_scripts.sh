@@ -65,6 +65,26 @@ try_prepare() {
         grep -q 'district 2 has 3 people' "$room/told" || bad "prepare.py does not tell of what the auditor would refuse"
 }
 
+# Counties, from the script that keeps their column to both programs: two counties, each of which lies in all five districts.
+try_counties() {
+    local rules=(--region COUNTY --max-split)
+    python3 prepare.py rough.json "${columns[@]}" --numbers floor --missing drop "${rules[@]}" 4 --out "$room/counties.json" 2>"$room/told"
+    [ $? -eq 1 ] && grep -q 'regions that lie in more than 4 districts: 2: "C0", "C1"' "$room/told" ||
+        bad "prepare.py does not tell of counties in many districts"
+    "$auditor" check "${columns[@]}" "${rules[@]}" 4 <"$room/counties.json" >"$room/county_check" 2>&1
+    echo 'plan: region 0 lies in 5 districts, more than 4' >"$room/county_wanted"
+    same "$room/county_check" "$room/county_wanted" "the auditor does not refuse counties in many districts"
+    "$auditor" check "${columns[@]}" "${rules[@]}" 5 <"$room/counties.json" >"$room/county_check" 2>&1
+    grep -qx 'max-split 5 regions 2' "$room/county_check" || bad "the auditor does not accept counties in five districts"
+    local words=(run "${columns[@]}" --slack 1000 --key $key --walks 6 --steps 100 --ask cut-edges:low)
+    mkdir "$room/county_run"
+    (cd "$room/county_run" && "$auditor" "${words[@]}" "${rules[@]}" 5 --save 2 --budget 4 <"$room/counties.json" >"$room/none" 2>&1)
+    (cd "$room/county_run" && "$slots" "${words[@]}" "${rules[@]}" 5 <"$room/counties.json" 2>&1) | grep -qx 'done: 4 of 6' ||
+        bad "audit_slots does not know a run with counties"
+    (cd "$room/county_run" && "$slots" "${words[@]}" "${rules[@]}" 6 <"$room/counties.json" 2>&1) | grep -qx "done: the newest is another job's" ||
+        bad "audit_slots takes a run with another limit for the same"
+}
+
 try_picture() {
     "$auditor" run "${columns[@]}" --slack 1000 --key $key --walks 2 --steps 2000 --ends 19 --hub-steps 500 \
         --ask seats:low,cut-edges:low <"$room/graph.json" >"$room/report" || bad "the auditor does not audit what prepare.py wrote"
@@ -79,6 +99,11 @@ try_picture() {
     "$python" -c 'import sys, xml.dom.minidom as xml; xml.parse(sys.argv[1])' "$room/picture.svg" || bad "picture.py writes no SVG"
     grep -q "cut-edges low, walk 1" "$room/picture.svg" && grep -q "rank .* of 20, p " "$room/picture.svg" || bad "picture.py leaves out rows"
     "$python" picture.py "$room/check" "$room/none" 2>/dev/null && bad "picture.py draws what is no report"
+}
+
+try_cost() {
+    python3 cost_table.py "$auditor" --most 900 --steps 1000 >"$room/told" 2>&1 || bad "cost_table.py: $(tail -n 1 "$room/told")"
+    [ "$(cut -d '|' -f 3,4 "$room/told" | tail -n 3 | tr -d ' ' | tr '\n' ' ')" = "100|180 900|1740 900|3422 " ] || bad "cost_table.py writes no table of three graphs"
 }
 
 # The second program over the files of a run: its words are those of the run, and the text is to be this.
@@ -115,7 +140,7 @@ try_networkx() {
     local python
     python=$(python_with networkx)
     if [ -z "$python" ]; then
-        missing "write_grid.py, write_rough.py, compare.py, compare_walks.py, compare_chains.py, checkpoints.py, checkpoint_cases.py" networkx
+        missing "write_grid.py, write_rough.py, compare.py, compare_walks.py, compare_chains.py, checkpoints.py, checkpoint_cases.py, fault_cases.py" networkx
         return
     fi
     "$python" write_grid.py >"$room/grid.json" && same "$room/grid.json" grid.json "write_grid.py does not write grid.json"
@@ -128,13 +153,18 @@ try_networkx() {
     head -n 1 "$room/whole" >"$room/told"
     echo digest 65748cd4f1dd8b36f1023bc495f442a19a59dd57bedbd5bfcdf045bc050c2449 >"$room/wanted"
     same "$room/told" "$room/wanted" "checkpoints.py has another digest for cycle.json"
-    "$python" checkpoint_cases.py ../crates/audit_cases/data >"$room/told" 2>&1 || bad "checkpoint_cases.py: $(tail -n 1 "$room/told")"
-    "$python" -c 'import sys; sys.exit(open(sys.argv[1]).read() not in open(sys.argv[2]).read())' "$room/told" ../crates/audit_cases/stdout ||
-        bad "checkpoint_cases.py does not print what audit_cases has to print"
+    local script
+    for script in checkpoint_cases.py fault_cases.py; do
+        "$python" $script ../crates/audit_cases/data >"$room/told" 2>&1 || bad "$script: $(tail -n 1 "$room/told")"
+        "$python" -c 'import sys; sys.exit(open(sys.argv[1]).read() not in open(sys.argv[2]).read())' "$room/told" ../crates/audit_cases/stdout ||
+            bad "$script does not print what audit_cases has to print"
+    done
 }
 
 try_prepare
+try_counties
 try_picture
+try_cost
 try_slots
 try_install
 try_networkx

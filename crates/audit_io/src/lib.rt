@@ -16,6 +16,4 @@ pub mod std_adapters;
 pub mod stop_keeper;
 pub mod sure;
 pub mod sure_keeper;
-#[cfg(test)]
-mod tests;
 mod tries;

@@ -4,10 +4,10 @@ use Rattle.audit_model.specs.declared.fault.WordFault.{WordFault}
 use Rattle.audit_model.specs.declared.setting.Setting.{Setting}
 use Rattle.note_definitions.specs.Note.{Ending, write_fault, load_fault, stopped, save_fault}
 use Rattle.word_definitions.specs.Words.{setting_of}
-use Rattle.audit_run.specs.Ended.{status_of}
-use Rattle.audit_run.specs.Ends.{Cause, EndsFor, IsLoadFault, LeavesUntouched, SameUnless, marks_of, passes, is_reading, saves, loads}
-use Rattle.audit_run.specs.Left.{LeavesAlone}
-use Rattle.audit_run.specs.World.{Stream, World}
+use Rattle.audit_statement.specs.Status.{status_of}
+use Rattle.audit_statement.specs.Ends.{Cause, EndsFor, IsLoadFault, LeavesUntouched, SameUnless, marks_of, passes, is_reading, saves, loads}
+use Rattle.audit_statement.specs.Left.{LeavesAlone}
+use Rattle.audit_statement.specs.World.{Stream, World}
 use Rattle.audit_run.proofs.Causing.{same_setting}
 
 same_at : {A : Type 0} (b : Bool) (x y : A) → b ≡ false → SameUnless b x y → y ≡ x

@@ -4,11 +4,11 @@ use Rattle.audit_model.specs.declared.setting.Setting.{Setting}
 use Rattle.audit_model.specs.Job.{Job}
 use Rattle.note_definitions.specs.Note.{Ending, bad_words, too_many_bytes, bad_graph, bad_regions, bad_table, bad_plan, bad_plan_named, no_memory, read_fault, write_fault, load_fault, stopped, damaged, other_job, save_fault}
 use Rattle.word_definitions.specs.Words.{setting_of}
-use Rattle.audit_run.specs.Accepted.{IsAccepted, IsRefused, judged, input_of}
-use Rattle.audit_run.specs.Causes.{IsTold, MayEndWell, IsComplete, HasBudget}
-use Rattle.audit_run.specs.Ended.{status_of}
-use Rattle.audit_run.specs.Ends.{Cause, EndsFor, told_opening, leaves_work, is_walking, IsStopped, IsSlotsFault}
-use Rattle.audit_run.specs.World.{Stream, World, IfKnown}
+use Rattle.audit_statement.specs.Accepted.{IsAccepted, IsRefused, judged, input_of}
+use Rattle.audit_statement.specs.Causes.{IsTold, MayEndWell, IsComplete, HasBudget}
+use Rattle.audit_statement.specs.Status.{status_of}
+use Rattle.audit_statement.specs.Ends.{Cause, EndsFor, told_opening, leaves_work, is_walking, IsStopped, IsSlotsFault}
+use Rattle.audit_statement.specs.World.{Stream, World, IfKnown}
 use Rattle.audit_io.specs.Slots.{Pair}
 
 -- accepted words are of one setting
@@ -85,7 +85,7 @@ completes words before after None c m = inl refl
 completes words before after (Some (bad_words f)) c m = let e : setting_of words ≡ Ok m.job.setting = m.told.words_are in let d : setting_of words ≡ Err f = c in cc
 completes words before after (Some too_many_bytes) c m = absurd (not_refused words before m.job m.bytes _ m.told m.accepted c.refused)
 completes words before after (Some (bad_graph f)) c m = absurd (not_refused words before m.job m.bytes _ m.told m.accepted c)
-completes words before after (Some (bad_regions column f)) c m = absurd c
+completes words before after (Some (bad_regions column f)) c m = absurd (not_refused words before m.job m.bytes _ m.told m.accepted c)
 completes words before after (Some (bad_table f)) c m = absurd c
 completes words before after (Some (bad_plan_named name f)) c m = absurd c
 completes words before after (Some (bad_plan f)) c m = absurd (not_refused words before m.job m.bytes _ m.told m.accepted c)

@@ -22,11 +22,11 @@ use Rattle.draw_definitions.specs.Draw.{draw}
 use Rattle.tally_desk.specs.InTurn.{saves_of}
 use Rattle.word_definitions.specs.Words.{setting_of}
 use Rattle.note_definitions.specs.Note.{Ending, write_fault, stopped, save_fault}
-use Rattle.audit_run.specs.Causes.{IsTheJob}
-use Rattle.audit_run.specs.Chain.{AreHonestOf, StaysHonest, TriedRightly, TriesOver}
-use Rattle.audit_run.specs.Ends.{Cause, EndsFor, IfBothKnown, IsOpening, IsOpeningOrFound, IsPartly, IsPrepared, IsTryOf, LeavesUntouched, NoSaveFailed, SameUnless, SavesAll, SavesInTurn, SavesInTurnAt, SavesWhere, TriesOf, TriesTold, count_of_saves, full_of, last_place, marks_of, opening_by, passes, saves, told_opening}
-use Rattle.audit_run.specs.Headline.{WritesWhole}
-use Rattle.audit_run.specs.World.{IfKnown, Stream, World}
+use Rattle.audit_statement.specs.Causes.{IsTheJob}
+use Rattle.audit_statement.specs.Chain.{AreHonestOf, StaysHonest, TriedRightly, TriesOver}
+use Rattle.audit_statement.specs.Ends.{Cause, EndsFor, IfBothKnown, IsOpening, IsOpeningOrFound, IsPartly, IsPrepared, IsTryOf, LeavesUntouched, NoSaveFailed, SameUnless, SavesAll, SavesInTurn, SavesInTurnAt, SavesWhere, TriesOf, TriesTold, count_of_saves, full_of, last_place, marks_of, opening_by, passes, saves, told_opening}
+use Rattle.audit_statement.specs.Headline.{WritesWhole}
+use Rattle.audit_statement.specs.World.{IfKnown, Stream, World}
 use Rattle.audit_run.proofs.Listing.{each_passes, each_rises}
 use Rattle.audit_run.proofs.Running.{find_passes, kept_id, rising_apart}
 use Rattle.audit_run.proofs.Statuses.{job_is}

@@ -32,9 +32,9 @@ use Rattle.tally_desk.specs.Parts.{IsPlan, Parts, found}
 use Rattle.tally_desk.proofs.Booking.{booked_fit, by_id_fit}
 use Rattle.tally_desk.proofs.Counting.{cut_at}
 use Rattle.tally_desk.proofs.Todo.{todo_lacked, todo_within}
-use Rattle.audit_run.specs.Ends.{HoldsPart, IfBothKnown, IsNewest, IsOpeningOrFound, IsPartly, IsTryOf, KeepsASlot, SavesInTurn, SavesInTurnAt, TriesOf, TriesTold, count_of_saves, full_of, last_place, place_of}
+use Rattle.audit_statement.specs.Ends.{HoldsPart, IfBothKnown, IsNewest, IsOpeningOrFound, IsPartly, IsTryOf, KeepsASlot, SavesInTurn, SavesInTurnAt, TriesOf, TriesTold, count_of_saves, full_of, last_place, place_of}
 use Rattle.audit_run.specs.Running.{AreAll, IsRun, SavesLast}
-use Rattle.audit_run.specs.World.{IfKnown}
+use Rattle.audit_statement.specs.World.{IfKnown}
 use Rattle.claim_crew.proofs.Completing.{AreMapped, by_id-full}
 use Rattle.claim_crew.specs.Walks as walks
 use Rattle.audit_run.proofs.Running.{are_all, rising_apart}

@@ -2,11 +2,12 @@
 use Rattle.std.proofs.Common.{◌≡◌, ℕ, List, Option, Some, None, sym, subst}
 use Rattle.audit_model.specs.declared.setting.Columns.{Columns}
 use Rattle.note_definitions.specs.Note.{Ending}
-use Rattle.audit_run.specs.declared.ended.Ended.{Ended}
-use Rattle.audit_run.specs.Ended.{ending_of, status_of, line_of, columns_kept}
-use Rattle.audit_run.specs.Ends.{EndsFor, TellsWhy, AddsLine}
+use Rattle.audit_notes.specs.declared.ended.Ended.{Ended}
+use Rattle.audit_notes.specs.Ended.{ending_of, columns_kept}
+use Rattle.audit_statement.specs.Status.{status_of, line_of}
+use Rattle.audit_statement.specs.Ends.{EndsFor, TellsWhy, AddsLine}
 use Rattle.audit_run.specs.Steps.{RunsTo}
-use Rattle.audit_run.specs.World.{Stream, World}
+use Rattle.audit_statement.specs.World.{Stream, World}
 
 -- a line told with the columns that the body kept is the line of the words' columns
 tells_same : (a b : Columns) (n m : Stream) (reason : Option Ending) → line_of a reason ≡ line_of b reason → TellsWhy b n m reason → TellsWhy a n m reason

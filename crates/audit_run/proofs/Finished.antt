@@ -12,22 +12,21 @@ use Rattle.audit_model.specs.declared.setting.Command.TheVariants.{Check, Run, M
 use Rattle.audit_model.specs.declared.setting.Setting.{Setting}
 use Rattle.audit_model.specs.Job.{Job}
 use Rattle.audit_model.specs.Run.{total}
-use Rattle.audit_model.specs.Serially.{serial_told}
 use Rattle.checkpoint_definitions.specs.Checkpoint.{job_digest}
 use Rattle.ckpt_store.specs.declared.slots.Slots.{Slots}
 use Rattle.ckpt_store.specs.Looked.{AreSlots}
 use Rattle.ckpt_store.specs.View.{newest_seen, opening_seen, slot_view}
 use Rattle.draw_definitions.specs.Draw.{draw}
-use Rattle.text_definitions.specs.Report.{full_report, report}
+use Rattle.text_definitions.specs.Report.{full_report}
 use Rattle.word_definitions.specs.Words.{setting_of}
-use Rattle.audit_run.specs.declared.ended.Ended.{Ended}
-use Rattle.audit_run.specs.declared.ended.Ended.TheVariants as ended
-use Rattle.audit_run.specs.Ends.{AppendsPart, AreDamaged, IsOpening, IsOtherJob, IsPrepared, IsReadBy, LeavesUntouched, Marks, SameUnless, SavesAll, SavesWhere, NoSaveFailed, StopsEarly, Writes, WritesReport, WritesText, is_reading, is_walking, loads, opening_by, passes, saves, told_opening}
+use Rattle.audit_notes.specs.declared.ended.Ended.{Ended}
+use Rattle.audit_notes.specs.declared.ended.Ended.TheVariants as ended
+use Rattle.audit_statement.specs.Ends.{AppendsPart, AreDamaged, IsOpening, IsOtherJob, IsPrepared, IsReadBy, LeavesUntouched, Marks, SameUnless, SavesAll, SavesWhere, NoSaveFailed, StopsEarly, Writes, WritesReport, WritesText, is_reading, is_walking, loads, opening_by, passes, saves, told_opening}
 use Rattle.audit_run.specs.Running.{AreAll, IsOtherSeen, IsRun, RefusesSlots, SavedBy, SavesLast, ended_by, stopped_by}
-use Rattle.audit_run.specs.Steps.{Finishes, WritesAllOf}
-use Rattle.audit_run.specs.World.{IfKnown, Kept, Stream, World, world}
+use Rattle.audit_run.specs.Steps.{Finishes}
+use Rattle.audit_notes.specs.Said.{WritesAllOf}
+use Rattle.audit_statement.specs.World.{IfKnown, Kept, Stream, World, world}
 use Rattle.audit_run.proofs.Running.{leaves_none, short_count, short_leaves, whole_leaves}
-use Rattle.audit_run.proofs.Plain.{plain_report}
 use Rattle.audit_run.proofs.Started.{newest_told, one_told, opening_told, saves_some, slot_told, zero_told}
 
 -- ---- what the reading left
@@ -160,6 +159,7 @@ module _ (job : Job) (digest : List ℕ) (slots : Slots) (is : digest ≡ job_di
   refused_ends out k (ended.BadWords f) walking seen no_opening r = absurd r
   refused_ends out k ended.TooManyBytes walking seen no_opening r = absurd r
   refused_ends out k (ended.BadGraph f c) walking seen no_opening r = absurd r
+  refused_ends out k (ended.BadRegions f c) walking seen no_opening r = absurd r
   refused_ends out k (ended.BadPlan f) walking seen no_opening r = absurd r
   refused_ends out k ended.NoMemory walking seen no_opening r = absurd r
   refused_ends out k ended.ReadFault walking seen no_opening r = absurd r
@@ -178,17 +178,16 @@ walking_text Make whole job before after w r = r
 walking_text Plans whole job before after w r = r
 
 module _ (job : Job) (run : IsRun job) (opening outcomes : List Outcome) (all : AreAll job opening outcomes) (out out' : Stream) (k l : Kept) (opened : IsOpening job k.slots opening) where
-  report_written : (whole : Bool) (before after : Stream) → total job ≤ length outcomes → Writes whole out.bytes out'.bytes (report job outcomes [] (serial_told job (draw job.setting.key)))
+  report_written : (whole : Bool) (before after : Stream) → total job ≤ length outcomes → Writes whole out.bytes out'.bytes (full_report job (draw job.setting.key) outcomes)
       → WritesReport whole job (world before out k) (world after out' l)
   report_written whole before after none w = record {
     outcomes = opening;
     opened = opened;
     nothing_left = whole_leaves job opening outcomes all none;
-    written = subst (λ (os : List Outcome). Writes whole out.bytes out'.bytes (full_report job (draw job.setting.key) os)) all.full
-        (subst (λ (text : List ℕ). Writes whole out.bytes out'.bytes text) (plain_report job run.plain (draw job.setting.key) outcomes) w);
+    written = subst (λ (os : List Outcome). Writes whole out.bytes out'.bytes (full_report job (draw job.setting.key) os)) all.full w;
   }
 
-  text_written : (whole : Bool) (before after : Stream) → total job ≤ length outcomes → Writes whole out.bytes out'.bytes (report job outcomes [] (serial_told job (draw job.setting.key)))
+  text_written : (whole : Bool) (before after : Stream) → total job ≤ length outcomes → Writes whole out.bytes out'.bytes (full_report job (draw job.setting.key) outcomes)
       → WritesText job.setting.command whole job (world before out k) (world after out' l)
   text_written whole before after none w =
       walking_text job.setting.command whole job (world before out k) (world after out' l) run.walking (report_written whole before after none w)
@@ -246,7 +245,7 @@ module _ (job : Job) (run : IsRun job) (opening outcomes : List Outcome) (all : 
   failed_saves false f s = let never : Err f ≡ Ok tt = s.1 in cc
 
   -- the report was written whole
-  done_ends : total job ≤ length outcomes → Appends out.bytes out'.bytes (report job outcomes [] (serial_told job (draw job.setting.key))) → out'.faults ≡ out.faults → SavedBy (saves job.setting) job opening k l (Ok tt)
+  done_ends : total job ≤ length outcomes → Appends out.bytes out'.bytes (full_report job (draw job.setting.key) outcomes) → out'.faults ≡ out.faults → SavedBy (saves job.setting) job opening k l (Ok tt)
       → Finishes job out out' k l ended.Done
   done_ends whole w writes s = λ words before after p. record {
     cause = record {
@@ -262,7 +261,7 @@ module _ (job : Job) (run : IsRun job) (opening outcomes : List Outcome) (all : 
   }
 
   -- a part of it was
-  write_fault_ends : (result : Result (Unit {0}) Failed) → total job ≤ length outcomes → AppendsPart out.bytes out'.bytes (report job outcomes [] (serial_told job (draw job.setting.key))) → Rose out.faults out'.faults
+  write_fault_ends : (result : Result (Unit {0}) Failed) → total job ≤ length outcomes → AppendsPart out.bytes out'.bytes (full_report job (draw job.setting.key) outcomes) → Rose out.faults out'.faults
       → SavedBy (saves job.setting) job opening k l result → Finishes job out out' k l ended.WriteFault
   write_fault_ends result whole w writes s = λ words before after p. record {
     cause = record {
@@ -279,7 +278,7 @@ module _ (job : Job) (run : IsRun job) (opening outcomes : List Outcome) (all : 
   }
 
   -- the report was written whole, and the save had failed
-  save_fault_ends : (f : Failed) → total job ≤ length outcomes → Appends out.bytes out'.bytes (report job outcomes [] (serial_told job (draw job.setting.key))) → out'.faults ≡ out.faults
+  save_fault_ends : (f : Failed) → total job ≤ length outcomes → Appends out.bytes out'.bytes (full_report job (draw job.setting.key) outcomes) → out'.faults ≡ out.faults
       → SavedBy (saves job.setting) job opening k l (Err f) → Finishes job out out' k l ended.SaveFault
   save_fault_ends f whole w writes s = λ words before after p.
       let saving = failed_saves (saves job.setting) f s in
@@ -304,7 +303,7 @@ module _ (job : Job) (run : IsRun job) (opening outcomes : List Outcome) (all : 
       }
 
   -- the end of a run that wrote its report, or a part
-  pub written_ends : (text : List ℕ) (written saved : Result (Unit {0}) Failed) → total job ≤ length outcomes → text ≡ report job outcomes [] (serial_told job (draw job.setting.key)) → WritesAllOf out out' text written
+  pub written_ends : (text : List ℕ) (written saved : Result (Unit {0}) Failed) → total job ≤ length outcomes → text ≡ full_report job (draw job.setting.key) outcomes → WritesAllOf out out' text written
       → SavedBy (saves job.setting) job opening k l saved → Finishes job out out' k l (ended_by written saved)
   written_ends text (Ok done) (Ok saved) whole is w s =
       done_ends whole (subst (λ t. Appends out.bytes out'.bytes t) is w.0) w.1 s

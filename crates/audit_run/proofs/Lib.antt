@@ -3,18 +3,20 @@ pub mod Causing
 pub mod Chained
 pub mod Counting
 pub mod Desked
+pub mod Early
 pub mod Ending
 pub mod Finished
 pub mod Following
 pub mod Judging
-pub mod Lines
 pub mod Listing
 pub mod OneThread
 mod Plain
 pub mod Preparing
+pub mod Promised
 pub mod Reruns
 pub mod Running
 pub mod Saved
+pub mod Splitting
 pub mod Started
 pub mod Statuses
 pub mod Streams

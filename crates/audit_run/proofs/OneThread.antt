@@ -16,11 +16,11 @@ use Rattle.model_laws.proofs.Resumed.{full_is_sequence}
 use Rattle.draw_definitions.specs.Draw.{draw}
 use Rattle.note_definitions.specs.Note.{Ending, save_fault}
 use Rattle.text_definitions.specs.Report.{full_report, thread_report, check_text}
-use Rattle.audit_run.specs.Causes.{IsTheJob}
-use Rattle.audit_run.specs.Ended.{status_of}
-use Rattle.audit_run.specs.Ends.{Cause, EndsFor, WritesReport, WritesText, WritesOrStops, leaves_work, lacking, full_of}
-use Rattle.audit_run.specs.Headline.{WritesOneThreads, StartsWith, WritesWhole}
-use Rattle.audit_run.specs.World.{Stream, World}
+use Rattle.audit_statement.specs.Causes.{IsTheJob}
+use Rattle.audit_statement.specs.Status.{status_of}
+use Rattle.audit_statement.specs.Ends.{Cause, EndsFor, WritesReport, WritesText, WritesOrStops, leaves_work, lacking, full_of}
+use Rattle.audit_statement.specs.Headline.{WritesOneThreads, StartsWith, WritesWhole}
+use Rattle.audit_statement.specs.World.{Stream, World}
 use Rattle.audit_run.proofs.Statuses.{zero_only, job_is, report_of, opening_is, opening_at}
 
 pub or_else : (a b : Bool) → (a ≡ false → b ≡ true) → (a || b) ≡ true

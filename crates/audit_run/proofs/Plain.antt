@@ -6,11 +6,10 @@ use Rattle.audit_model.specs.Serially.{serial_told}
 use Rattle.audit_model.specs.Stopping.{stops_by, stops_of}
 use Rattle.audit_model.specs.Trajectory.{Draws}
 use Rattle.text_definitions.specs.Report.{full_report, report}
-use Rattle.audit_run.specs.Running.{HasDefaults}
 
 -- no test stops early
-pub plain_report : (job : Job) → HasDefaults job.setting → (draws : Draws) (outcomes : List Outcome)
+pub plain_report : (job : Job) → job.setting.stop ≡ 0 → (draws : Draws) (outcomes : List Outcome)
     → report job outcomes [] (serial_told job draws) ≡ full_report job draws outcomes
 plain_report job plain draws outcomes =
-    let stops : stops_of job outcomes ≡ [] = ap (λ (n : ℕ). stops_by n job outcomes) plain.no_stop in
+    let stops : stops_of job outcomes ≡ [] = ap (λ (n : ℕ). stops_by n job outcomes) plain in
     sym (ap (λ (found : List (List ℕ)). report job outcomes found (serial_told job draws)) stops)

@@ -23,6 +23,7 @@ use Rattle.audit_model.specs.Plan.{is_legal}
 use Rattle.audit_model.specs.Run.{IsHonest, bins_fit, fits, steps_of, total}
 use Rattle.audit_model.specs.Serially.{place_and_ranks, serial_by, serial_of, serial_place, serial_rank}
 use Rattle.audit_model.specs.Step.{next}
+use Rattle.audit_model.specs.Stopping.{stops_by, stops_of}
 use Rattle.audit_model.specs.Trajectory.{Draws, bare, bin_of, four_values, in_tail, no_bins, outcome, outcome_by, outcome_with, plan_seats, plan_value, sequence, value_at, visit, whole}
 use Rattle.checkpoint_definitions.specs.Checkpoint.{checkpoint_fault, digest_name, edge_bytes, has_rules, job_digest, rule_bytes, score_code, stated_count, tail_code, unit_bytes}
 use Rattle.checkpoint_definitions.specs.Slots.{IsHonestSlot, Slot, absent, broken, checkpoint_limit, other, ours, outcome_in, slot_of, slot_of_bytes, slot_of_checkpoint, slot_of_digest, slot_of_ours}
@@ -31,14 +32,13 @@ use Rattle.ckpt_store.specs.Laws.{IsNotOurs}
 use Rattle.draw_definitions.specs.Draw.{draw}
 use Rattle.hex.specs.Hex.{encode_lower}
 use Rattle.text_definitions.specs.Report.{ends_lines, graph_line, line, population_line, report, rule_lines, serial_lines, setting_line, shift_line, stop_line, test_lines, thread_report, title_line, walk_lines}
-use Rattle.audit_run.specs.Chain.{AreHonestOf, ResumesHonestly, TriesOver}
-use Rattle.audit_run.specs.Ends.{IfBothKnown, place_of}
-use Rattle.audit_run.specs.Rerun.{AreAlike, ChainsWriteOneReport, Event, IsEvent, IsLink, IsRunOver, Link, RerunsAreAlike, StopsKeepTheNewest, WroteOneThreads, asking, job_in, ran, rerun, slots_after, stopped}
-use Rattle.audit_run.specs.Running.{HasDefaults}
-use Rattle.audit_run.specs.World.{IfKnown}
-use Rattle.audit_run.proofs.Plain.{plain_report}
-use Rattle.audit_run.proofs.Words.{accepted_words_have_defaults}
+use Rattle.audit_statement.specs.Chain.{AreHonestOf, ResumesHonestly, TriesOver}
+use Rattle.audit_statement.specs.Ends.{IfBothKnown, WritesReport, opening_by, place_of}
+use Rattle.audit_statement.specs.Headline.{StartsWith, WritesOneThreads}
+use Rattle.audit_statement.specs.Rerun.{AreAlike, ChainsWriteOneReport, Event, HasWritten, IsEvent, IsLink, IsRunOver, Link, RerunsAreAlike, StopsKeepTheNewest, WroteOneThreads, asking, job_in, ran, rerun, slots_after, stopped}
+use Rattle.audit_statement.specs.World.{IfKnown}
 use Rattle.audit_run.proofs.Chained.{rises_or_not}
+use Rattle.audit_run.proofs.Statuses.{job_is, report_of}
 
 -- ---- outcomes, by whatever visits a plan
 
@@ -207,15 +207,22 @@ module _ (job : Job) (workers budget save_every : ℕ) (resume shift serial : Bo
   told_same true draws = ap (λ (s : Serial). Some (place_and_ranks s)) (serially_same draws)
   told_same false draws = refl
 
-  -- the whole report, where no test stops early: with the lines of the serial test exactly where this run asks for it
-  thread_report_is : shift ≡ job.setting.shift → HasDefaults job.setting → (draws : Draws)
-      → thread_report again draws ≡ report job (sequence job draws) [] (serial_by serial job draws)
+  stops_by_same : (enough : ℕ) (outcomes : List Outcome) → stops_by enough again outcomes ≡ stops_by enough job outcomes
+  stops_by_same zero outcomes = refl
+  stops_by_same (suc h) outcomes = refl
+
+  stops_same : (outcomes : List Outcome) → stops_of again outcomes ≡ stops_of job outcomes
+  stops_same outcomes = stops_by_same job.setting.stop outcomes
+
+  -- the whole report: with the lines of the serial test exactly where this run asks for it
+  thread_report_is : shift ≡ job.setting.shift → (draws : Draws)
+      → thread_report again draws ≡ report job (sequence job draws) (stops_of job (sequence job draws)) (serial_by serial job draws)
   unfolding thread_report
-  thread_report_is same plain draws =
-      sym (plain_report again (record { no_stop = plain.no_stop }) draws (sequence again draws))
-      ∙ report_same same (sequence again draws) [] (serial_by serial again draws)
-      ∙ ap (λ (os : List Outcome). report job os [] (serial_by serial again draws)) (sequence_same same draws)
-      ∙ ap (λ (found : Option (ℕ × List ℕ)). report job (sequence job draws) [] found) (told_same serial draws)
+  thread_report_is same draws =
+      ap (λ (stops : List (List ℕ)). report again (sequence again draws) stops (serial_by serial again draws)) (stops_same (sequence again draws))
+      ∙ report_same same (sequence again draws) (stops_of job (sequence again draws)) (serial_by serial again draws)
+      ∙ ap (λ (os : List Outcome). report job os (stops_of job os) (serial_by serial again draws)) (sequence_same same draws)
+      ∙ ap (λ (found : Option (ℕ × List ℕ)). report job (sequence job draws) (stops_of job (sequence job draws)) found) (told_same serial draws)
 
   steps_same : (b : Bool) → steps_of b again ≡ steps_of b job
   steps_same true = refl
@@ -283,15 +290,16 @@ reruns_are_alike job workers budget save_every resume shift serial = record {
   same_honest = honest_same job workers budget save_every resume shift serial;
   same_outcome = outcome_same job workers budget save_every resume shift serial;
   same_sequence = sequence_same job workers budget save_every resume shift serial;
+  same_stops = stops_same job workers budget save_every resume shift serial;
   same_report = report_same job workers budget save_every resume shift serial;
 }
 
 -- workers, budget, saving and resuming change nothing of the report
-thread_report_same : (job : Job) (workers budget save_every : ℕ) (resume shift serial : Bool) → shift ≡ job.setting.shift → HasDefaults job.setting → (draws : Draws)
+thread_report_same : (job : Job) (workers budget save_every : ℕ) (resume shift serial : Bool) → shift ≡ job.setting.shift → (draws : Draws)
     → thread_report (rerun job workers budget save_every resume shift serial) draws ≡ thread_report (asking job shift serial) draws
-thread_report_same job workers budget save_every resume shift serial same plain draws =
-    thread_report_is job workers budget save_every resume shift serial same plain draws
-    ∙ sym (thread_report_is job job.setting.workers job.setting.budget job.setting.save_every job.setting.resume shift serial same plain draws)
+thread_report_same job workers budget save_every resume shift serial same draws =
+    thread_report_is job workers budget save_every resume shift serial same draws
+    ∙ sym (thread_report_is job job.setting.workers job.setting.budget job.setting.save_every job.setting.resume shift serial same draws)
 
 -- ---- a stop
 
@@ -305,6 +313,13 @@ stops_keep_the_newest law job before after p told now t n q out =
 back_again : (job : Job) (l : Link) → AreAlike (job_in job l) job
 back_again job l = reruns_are_alike (job_in job l) job.setting.workers job.setting.budget job.setting.save_every job.setting.resume job.setting.shift job.setting.serial
 
+-- where the slots are told, so is the opening
+told_by : (resume : Bool) (job : Job) (slots : Option Pair) (p : Pair) (outcomes : List Outcome) → slots ≡ Some p
+    → IfKnown (opening_by resume job slots) (λ o. o ≡ Some outcomes) → opening_by resume job slots ≡ Some (Some outcomes)
+told_by false job slots p outcomes e h = ap Some h
+told_by true job None p outcomes e h = cc
+told_by true job (Some q) p outcomes e h = ap Some h
+
 -- all that was tried, as it ended
 stopped_after : (tries : List Try) → stopped_in (length tries) tries ≡ tries
 stopped_after [] = refl
@@ -316,12 +331,6 @@ module _ (law : SavesLeaveHonestSlots) (job : Job) (p : Pair) (l : Link) (honest
 
   resumes : (o : IsRunOver job p l) → ResumesHonestly (job_in job l) l.before
   resumes o = λ _. subst (λ (s : Option Pair). IfKnown s (AreHonestOf (job_in job l))) (sym o.found) honest_here
-
-  defaults_again : IsRunOver job p l → HasDefaults (job_in job l).setting
-  defaults_again o = accepted_words_have_defaults l.words (job_in job l).setting o.the_job.told.words_are
-
-  defaults_here : IsRunOver job p l → HasDefaults (asking job l.shift l.serial).setting
-  defaults_here o = record { no_stop = (defaults_again o).no_stop }
 
   tries_of : (o : IsRunOver job p l) → TriesOver (job_in job l) l.before l.after p o.told o.now
   tries_of o = both_told l.before.keeper.tried l.after.keeper.tried o.told o.now (TriesOver (job_in job l) l.before l.after p) o.told_is o.now_is (o.tried (job_in job l) p o.the_job o.found)
@@ -344,19 +353,40 @@ module _ (law : SavesLeaveHonestSlots) (job : Job) (p : Pair) (l : Link) (honest
           stays_where link.over (length t.tries) l.slots
           (subst (λ (ts : List Try). AreCarriedOut IsNotOurs (job_in job l) (job_digest (job_in job l)) p ts l.slots) (sym (stopped_after t.tries)) (link.carried rose t))
       by (inr calm) =
-          (back_again job l).same_honest l.slots (link.promised.stays (job_in job l) p l.slots link.over.the_job link.over.found link.left honest_here calm)
+          (back_again job l).same_honest l.slots (link.promised.chain.stays (job_in job l) p l.slots link.over.the_job link.over.found link.left honest_here calm)
 
-  link_wrote : IsLink job p l → WroteOneThreads job (ran l)
-  link_wrote link z =
+  -- with status 0 it was told with what the run started
+  link_started : IsLink job p l → l.status ≡ 0 → (outcomes : List Outcome) × StartsWith l.words l.before (job_in job l) outcomes
+  link_started link z =
+      let d = link.promised.causes.zero_only z in
+      let same : d.job ≡ job_in job l = job_is l.words l.before l.after (job_in job l) d.job link.over.the_job d.prepared in
+      let r : WritesReport true (job_in job l) l.before l.after = report_of l.words l.before l.after true (job_in job l) d.job link.walking same d.written in (
+        r.outcomes,
+        record {
+          the_job = link.over.the_job;
+          walking = link.walking;
+          opened = told_by l.resume (job_in job l) l.before.keeper.slots p r.outcomes link.over.found r.opened.told;
+        },
+      )
+
+  asked_alike : IsLink job p l → WritesOneThreads (job_in job l) l.before l.after → WroteOneThreads job l
+  asked_alike link wrote =
       subst (λ (text : List ℕ). Appends l.before.out.bytes l.after.out.bytes text)
-      (thread_report_same (asking job l.shift l.serial) l.workers l.budget l.save_every l.resume l.shift l.serial refl (defaults_here link.over) (draw job.setting.key))
-      (link.promised.one_thread (job_in job l) l.opening (link.started z) (resumes link.over) z)
+      (thread_report_same (asking job l.shift l.serial) l.workers l.budget l.save_every l.resume l.shift l.serial refl (draw job.setting.key))
+      wrote
+
+  link_wrote : IsLink job p l → HasWritten job (ran l)
+  link_wrote link = record {
+    done = λ z. let s = link_started link z in asked_alike link (link.promised.chain.one_thread (job_in job l) s.0 s.1 (resumes link.over) z);
+    save_failed = λ outcomes s none z.
+        asked_alike link (link.promised.written.save_failed (job_in job l) outcomes s (link.promised.chain.opens_right (job_in job l) outcomes s (resumes link.over)) z none);
+  }
 
 event_stays : SavesLeaveHonestSlots → (job : Job) (p : Pair) (e : Event) → AreHonestOf job p → IsEvent job p e → AreHonestOf job (slots_after e)
 event_stays law job p (ran l) honest is = link_stays law job p l honest is
 event_stays law job p (stopped l n q) honest is = stays_where law job p l honest is.over n q (is.carried (tries_of law job p l honest is.over))
 
-event_wrote : SavesLeaveHonestSlots → (job : Job) (p : Pair) (e : Event) → AreHonestOf job p → IsEvent job p e → WroteOneThreads job e
+event_wrote : SavesLeaveHonestSlots → (job : Job) (p : Pair) (e : Event) → AreHonestOf job p → IsEvent job p e → HasWritten job e
 event_wrote law job p (ran l) honest is = link_wrote law job p l honest is
 event_wrote law job p (stopped l n q) honest is = tt
 

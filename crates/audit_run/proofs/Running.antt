@@ -22,14 +22,13 @@ use Rattle.model_laws.proofs.Fitting as fitting
 use Rattle.draw_definitions.specs.Draw.{draw}
 use Rattle.outcome_book.specs.Booked.{AreApart}
 use Rattle.report.specs.Outcomes.{AreOutcomesOf, AreStopsBy, AreStopsOf, reported, reported_by}
-use Rattle.audit_run.specs.Ends.{IsPrepared, is_walking, leaves_work, lacking, full_of}
+use Rattle.audit_statement.specs.Ends.{IsPrepared, is_walking, leaves_work, lacking, full_of}
 use Rattle.audit_run.specs.Running.{AreAll, IsRun}
 use Rattle.claim_crew.specs.Walks.{found}
-use Rattle.audit_run.specs.World.{Stream}
+use Rattle.audit_statement.specs.World.{Stream}
 use Rattle.audit_run.proofs.Counting.{lacking_rest}
 use Rattle.audit_run.proofs.OneThread.{every_id}
-use Rattle.audit_run.proofs.Words.{accepted_words_are_even, accepted_words_have_defaults, accepted_words_cover}
-use Rattle.audit_run.proofs.Judging.{accepted_regions}
+use Rattle.audit_run.proofs.Words.{accepted_words_are_even, accepted_words_cover, accepted_words_stop_alone}
 
 -- ---- what is known of the job
 
@@ -50,18 +49,17 @@ prepared_run words before after job p walking =
       sound = p.sound;
       walking = walking;
       covered = accepted_words_cover words job.setting p.accepted.words_are walking;
-      plain = accepted_words_have_defaults words job.setting p.accepted.words_are;
+      alone = accepted_words_stop_alone words job.setting p.accepted.words_are;
       even = accepted_words_are_even words job.setting p.accepted.words_are;
-      no_regions = accepted_regions job.setting p.accepted.bytes job p.accepted.judged_so;
     }
 
 -- no test stops early
-pub no_stops : (job : Job) → IsRun job → AreStopsOf job []
-no_stops job run = subst (λ (n : ℕ). AreStopsBy n job []) (sym run.plain.no_stop) refl
+pub no_stops : (job : Job) → job.setting.stop ≡ 0 → AreStopsOf job []
+no_stops job plain = subst (λ (n : ℕ). AreStopsBy n job []) (sym plain) refl
 
 -- so the report is on all trajectories
-pub reports_all : (job : Job) → IsRun job → reported job ≡ total job
-reports_all job run = ap (λ (n : ℕ). reported_by n job) run.plain.no_stop
+pub reports_all : (job : Job) → job.setting.stop ≡ 0 → reported job ≡ total job
+reports_all job plain = ap (λ (n : ℕ). reported_by n job) plain
 
 at_most : (b : Bool) (x : ℕ) → length (cond b (x ∷ []) []) ≤ 1
 at_most true x = omega arith
@@ -233,9 +231,9 @@ full_ids job opening none =
     (every_id job opening none) (kept_id job opening)
 
 -- as many outcomes as trajectories are one of each
-pub whole_outcomes : (job : Job) → IsRun job → (opening outcomes : List Outcome) → AreAll job opening outcomes → total job ≤ length outcomes → AreOutcomesOf job outcomes
-whole_outcomes job run opening outcomes all whole = record {
+pub whole_outcomes : (job : Job) → job.setting.stop ≡ 0 → (opening outcomes : List Outcome) → AreAll job opening outcomes → total job ≤ length outcomes → AreOutcomesOf job outcomes
+whole_outcomes job plain opening outcomes all whole = record {
   ids = ap (λ os. map (λ o. o.id) os) all.full ∙ full_ids job opening (whole_leaves job opening outcomes all whole)
-      ∙ ap (λ n. map_below n (λ id. id)) (sym (reports_all job run));
+      ∙ ap (λ n. map_below n (λ id. id)) (sym (reports_all job plain));
   fitting = fit_list job outcomes all.fit.fit;
 }

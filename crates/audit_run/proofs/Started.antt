@@ -23,14 +23,14 @@ use Rattle.ckpt_store.specs.Fitting.{AreFit, HasFitOutcomes}
 use Rattle.ckpt_store.specs.Looked.{AreSlots}
 use Rattle.ckpt_format.specs.declared.decode.Checkpoint.{Checkpoint}
 use Rattle.ckpt_store.specs.View.{answer_at, held_seen, newest_answer, newest_seen, opened, opening_seen, place_seen, slot_view}
-use Rattle.audit_run.specs.declared.ended.Ended.{Ended}
-use Rattle.audit_run.specs.declared.ended.Ended.TheVariants as ended
+use Rattle.audit_notes.specs.declared.ended.Ended.{Ended}
+use Rattle.audit_notes.specs.declared.ended.Ended.TheVariants as ended
 use Rattle.audit_run.specs.declared.opening.Opening.{Opening}
 use Rattle.audit_run.specs.declared.opening.Target.{Target}
-use Rattle.audit_run.specs.Ends.{IsOpening, opening_by, place_of, saves}
+use Rattle.audit_statement.specs.Ends.{IsOpening, opening_by, place_of, saves}
 use Rattle.audit_run.specs.Running.{IsOtherSeen, IsPlaced, IsRun, IsTarget, Opens, OpensWith, RefusesSlots, refused_by}
 use Rattle.audit_run.specs.Steps.{Finishes}
-use Rattle.audit_run.specs.World.{IfKnown, Kept, Stream}
+use Rattle.audit_statement.specs.World.{IfKnown, Kept, Stream}
 use Rattle.audit_run.proofs.Running.{fit_list, rising_above, rising_once, rising_rest}
 
 -- ---- what was looked at, in the words of the slots that are told
@@ -59,7 +59,7 @@ module _ (job : Job) (digest : List ℕ) (p : Pair) (slots : Slots) (is : digest
 
 -- ---- where it saves
 
-saves_not : (job : Job) → job.setting.save_every ≡ 0 → saves job.setting ≡ false
+pub saves_not : (job : Job) → job.setting.save_every ≡ 0 → saves job.setting ≡ false
 saves_not job none = rw none (and_false _)
   where
     and_false : (b : Bool) → (b && false) ≡ false

@@ -10,11 +10,11 @@ use Rattle.audit_io.specs.Slots.{Pair}
 use Rattle.audit_model.specs.Job.{Job}
 use Rattle.note_definitions.specs.Note.{Ending, bad_words, too_many_bytes, bad_graph, bad_regions, bad_table, bad_plan, bad_plan_named, no_memory, read_fault, write_fault, load_fault, stopped, damaged, other_job, save_fault}
 use Rattle.word_definitions.specs.Words.{setting_of}
-use Rattle.audit_run.specs.Accepted.{IsAccepted, IsRefused, judged}
-use Rattle.audit_run.specs.Causes.{IsTold, IsTheJob, LeavesWork, LacksOpening, HasCauses}
-use Rattle.audit_run.specs.Ended.{status_of}
-use Rattle.audit_run.specs.Ends.{Cause, EndsFor, LeavesUntouched, marks_of, IsDone, IsReadFault, IsWriteFault, IsLoadFault, IsSaveFault, IsStopped, IsPrepared, IsOpening, IsSlotsFault, WritesReport, WritesText, WritesOrStops, told_opening, leaves_work, is_walking}
-use Rattle.audit_run.specs.World.{IfKnown, Stream, World}
+use Rattle.audit_statement.specs.Accepted.{IsAccepted, IsRefused, judged}
+use Rattle.audit_statement.specs.Causes.{IsTold, IsTheJob, LeavesWork, LacksOpening, HasCauses}
+use Rattle.audit_statement.specs.Status.{status_of}
+use Rattle.audit_statement.specs.Ends.{Cause, EndsFor, LeavesUntouched, marks_of, IsDone, IsReadFault, IsWriteFault, IsLoadFault, IsSaveFault, IsStopped, IsPrepared, IsOpening, IsSlotsFault, WritesReport, WritesText, WritesOrStops, told_opening, leaves_work, is_walking}
+use Rattle.audit_statement.specs.World.{IfKnown, Stream, World}
 use Rattle.audit_run.proofs.Causing.{same_job, not_refused, refused_at, accepted_at, known_at}
 
 pub err_is_err : {A B : Type 0} (r : Result A B) (f : B) → r ≡ Err f → IsErr r
@@ -43,7 +43,7 @@ module _ (words : List (List ℕ)) (before after : World) where
   one (Some (bad_words f)) c h = inl refl
   one (Some too_many_bytes) c h = absurd (ok_is_no_err _ _ c.refused.words_are h)
   one (Some (bad_graph f)) c h = absurd (ok_is_no_err _ _ c.words_are h)
-  one (Some (bad_regions column f)) c h = absurd c
+  one (Some (bad_regions column f)) c h = absurd (ok_is_no_err _ _ c.words_are h)
   one (Some (bad_table f)) c h = absurd c
   one (Some (bad_plan_named name f)) c h = absurd c
   one (Some (bad_plan f)) c h = absurd (ok_is_no_err _ _ c.words_are h)
@@ -60,7 +60,7 @@ module _ (words : List (List ℕ)) (before after : World) where
     pub two_only : (r : Option Ending) → Cause words before after r → status_of r ≡ 2 → IsErr (judged setting bytes)
     two_only (Some too_many_bytes) c s = refused_is_err words before setting bytes _ told c.refused
     two_only (Some (bad_graph f)) c s = refused_is_err words before setting bytes _ told c
-    two_only (Some (bad_regions column f)) c s = absurd c
+    two_only (Some (bad_regions column f)) c s = refused_is_err words before setting bytes _ told c
     two_only (Some (bad_table f)) c s = absurd c
     two_only (Some (bad_plan_named name f)) c s = absurd c
     two_only (Some (bad_plan f)) c s = refused_is_err words before setting bytes _ told c
@@ -71,7 +71,7 @@ module _ (words : List (List ℕ)) (before after : World) where
     two (Some (bad_words f)) c h = absurd (ok_is_no_err _ _ told.words_are (err_is_err _ f c))
     two (Some too_many_bytes) c h = inl refl
     two (Some (bad_graph f)) c h = inl refl
-    two (Some (bad_regions column f)) c h = absurd c
+    two (Some (bad_regions column f)) c h = inl refl
     two (Some (bad_table f)) c h = absurd c
     two (Some (bad_plan_named name f)) c h = absurd c
     two (Some (bad_plan f)) c h = inl refl
@@ -122,7 +122,7 @@ module _ (words : List (List ℕ)) (before after : World) where
   zero_only (Some (bad_words f)) c s = absurd (omega arith)
   zero_only (Some too_many_bytes) c s = absurd (omega arith)
   zero_only (Some (bad_graph f)) c s = absurd (omega arith)
-  zero_only (Some (bad_regions column f)) c s = absurd c
+  zero_only (Some (bad_regions column f)) c s = absurd (omega arith)
   zero_only (Some (bad_table f)) c s = absurd c
   zero_only (Some (bad_plan_named name f)) c s = absurd c
   zero_only (Some (bad_plan f)) c s = absurd (omega arith)
@@ -197,7 +197,7 @@ module _ (words : List (List ℕ)) (before after : World) where
   seven (Some (bad_words f)) c l h3 h4 h6 h9 = absurd (words_not l.job f l.the_job c)
   seven (Some too_many_bytes) c l h3 h4 h6 h9 = absurd (refused_not l.job _ l.the_job c.refused)
   seven (Some (bad_graph f)) c l h3 h4 h6 h9 = absurd (refused_not l.job _ l.the_job c)
-  seven (Some (bad_regions column f)) c l h3 h4 h6 h9 = absurd c
+  seven (Some (bad_regions column f)) c l h3 h4 h6 h9 = absurd (refused_not l.job _ l.the_job c)
   seven (Some (bad_table f)) c l h3 h4 h6 h9 = absurd c
   seven (Some (bad_plan_named name f)) c l h3 h4 h6 h9 = absurd c
   seven (Some (bad_plan f)) c l h3 h4 h6 h9 = absurd (refused_not l.job _ l.the_job c)
@@ -226,7 +226,7 @@ module _ (words : List (List ℕ)) (before after : World) where
   eight (Some (bad_words f)) c l h3 h4 h6 = absurd (words_not l.job f l.the_job c)
   eight (Some too_many_bytes) c l h3 h4 h6 = absurd (refused_not l.job _ l.the_job c.refused)
   eight (Some (bad_graph f)) c l h3 h4 h6 = absurd (refused_not l.job _ l.the_job c)
-  eight (Some (bad_regions column f)) c l h3 h4 h6 = absurd c
+  eight (Some (bad_regions column f)) c l h3 h4 h6 = absurd (refused_not l.job _ l.the_job c)
   eight (Some (bad_table f)) c l h3 h4 h6 = absurd c
   eight (Some (bad_plan_named name f)) c l h3 h4 h6 = absurd c
   eight (Some (bad_plan f)) c l h3 h4 h6 = absurd (refused_not l.job _ l.the_job c)

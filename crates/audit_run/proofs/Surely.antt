@@ -2,8 +2,8 @@
 use Rattle.std.proofs.Common.{ℕ, List, arith}
 use Rattle.audit_io.specs.Faults.{Rose}
 use Rattle.audit_io.specs.Mem.{SureSlots}
-use Rattle.audit_run.specs.Causes.{IsComplete}
-use Rattle.audit_run.specs.Sure.{EndsSurely, sure_world}
+use Rattle.audit_statement.specs.Causes.{IsComplete}
+use Rattle.audit_statement.specs.Sure.{EndsSurely, sure_world}
 
 -- a count of 0 did not rise
 never : Rose 0 0 → ⊥

@@ -1,5 +1,5 @@
 -- The start plan of an accepted job is legal, and so is each plan that is visited.
-use Rattle.std.proofs.Common.{◌≡◌, ℕ, zero, suc, ◌<◌, ◌≤◌, ◌&&◌, Bool, true, false, List, [], length, Option, Some, None, Result, Ok, Err, Ordering, Less, Equal, Greater, refl, sym, ap, ◌∙◌, subst, inl, inr, cond, arith}
+use Rattle.std.proofs.Common.{◌≡◌, ℕ, zero, suc, ◌<◌, ◌≤◌, ◌&&◌, Bool, true, false, List, length, Option, Some, None, Result, Ok, Err, Ordering, Less, Equal, Greater, refl, sym, ap, ◌∙◌, subst, inl, inr, cond, arith}
 use Rattle.std.specs.Prelude.{nat_lt, slice_index}
 use Rattle.std.specs.Cmp.{signed_Decides}
 use Rattle.std.specs.Ordering.{is_eq, is_lt, int_cmp, nat_cmp}
@@ -13,6 +13,7 @@ use Rattle.serde_json.specs.Read.{read}
 use Rattle.audit_model.specs.declared.fault.GraphFault.{GraphFault}
 use Rattle.audit_model.specs.declared.fault.Part.{Part}
 use Rattle.audit_model.specs.declared.fault.PlanFault.{PlanFault}
+use Rattle.audit_model.specs.declared.fault.RegionFault.{RegionFault}
 use Rattle.audit_model.specs.declared.setting.Columns.{Columns}
 use Rattle.audit_model.specs.declared.setting.Label.{Label}
 use Rattle.audit_model.specs.declared.setting.Label.TheVariants.{Whole, Word}
@@ -30,8 +31,8 @@ use Rattle.model_laws.proofs.Mirror.{visit_stays_legal}
 use Rattle.dual_graph.proofs.Rows.{length-map_below, get_or-map_below}
 use Rattle.draw_definitions.specs.Draw.{draw}
 use Rattle.graph_definitions.specs.Reading.{Document, node_count, label_at, label_count, is_new_label, district_at, parsed, document, refusal, bad_part, accepted_or, of_root, of_json, reading}
-use Rattle.audit_run.specs.Accepted.{IsAccepted, from_job, from_parsed, from_bytes, judged, most_bytes}
-use Rattle.audit_run.specs.Visits.{VisitsLegal}
+use Rattle.audit_statement.specs.Accepted.{IsAccepted, from_job, from_regions, from_parsed, from_bytes, judged, most_bytes, regions_by}
+use Rattle.audit_statement.specs.Visits.{VisitsLegal}
 
 -- ---- labels
 
@@ -100,8 +101,8 @@ module _ (d : Document) (columns : Columns) where
       below_length (slice_index (parsed d columns).start u) (label_count d columns) _ (subst (λ (x : ℕ). x < label_count d columns) (sym place) (district_in_range u l))
 
   -- the start plan of what is read is legal, where it has no fault
-  read_start_is_legal : (setting : Setting) → plan_fault (job_from (parsed d columns) setting []) ≡ None → IsLegal (job_from (parsed d columns) setting []) (parsed d columns).start
-  read_start_is_legal setting none = (accepted_is_legal (job_from (parsed d columns) setting []) start_is_complete start_in_range none).1
+  read_start_is_legal : (setting : Setting) (regions : List ℕ) → plan_fault (job_from (parsed d columns) setting regions) ≡ None → IsLegal (job_from (parsed d columns) setting regions) (parsed d columns).start
+  read_start_is_legal setting regions none = (accepted_is_legal (job_from (parsed d columns) setting regions) start_is_complete start_in_range none).1
 
 -- what is read is a document's
 pub record IsReadOf (p : Parsed) (columns : Columns) : Type 0 where
@@ -130,21 +131,25 @@ made_is : (made job : Job) (fault : Option PlanFault) → job_or made fault ≡ 
 made_is made job None e = (refl, cc)
 made_is made job (Some f) e = cc
 
-job_is_legal : (p : Parsed) (setting : Setting) (job : Job) → IsReadOf p setting.columns → job_of p setting [] ≡ Ok job → IsLegal job job.start
+job_is_legal : (p : Parsed) (setting : Setting) (regions : List ℕ) (job : Job) → IsReadOf p setting.columns → job_of p setting regions ≡ Ok job → IsLegal job job.start
 unfolding job_of
-job_is_legal p setting job r e =
-    let made = made_is (job_from p setting []) job (plan_fault (job_from p setting [])) e in
-    let none = subst (λ (q : Parsed). plan_fault (job_from q setting []) ≡ None) (sym r.same) made.0 in
+job_is_legal p setting regions job r e =
+    let made = made_is (job_from p setting regions) job (plan_fault (job_from p setting regions)) e in
+    let none = subst (λ (q : Parsed). plan_fault (job_from q setting regions) ≡ None) (sym r.same) made.0 in
     subst (λ (j : Job). IsLegal j j.start) made.1
-    (subst (λ (q : Parsed). IsLegal (job_from q setting []) q.start) r.same (read_start_is_legal r.of setting.columns setting none))
+    (subst (λ (q : Parsed). IsLegal (job_from q setting regions) q.start) r.same (read_start_is_legal r.of setting.columns setting regions none))
 
 from_job_is : (r : Result Job PlanFault) (job : Job) → from_job r ≡ Ok job → r ≡ Ok job
 from_job_is (Ok made) job e = cc
 from_job_is (Err f) job e = cc
 
-from_parsed_is : (setting : Setting) (bytes : List ℕ) (r : Result Parsed GraphFault) (job : Job) → reading bytes setting.columns ≡ r → from_parsed setting r ≡ Ok job
+from_regions_is : (setting : Setting) (p : Parsed) (r : Result (List ℕ) RegionFault) (job : Job) → IsReadOf p setting.columns → from_regions setting p r ≡ Ok job → IsLegal job job.start
+from_regions_is setting p (Ok regions) job read e = job_is_legal p setting regions job read (from_job_is (job_of p setting regions) job e)
+from_regions_is setting p (Err f) job read e = cc
+
+from_parsed_is : (setting : Setting) (bytes : List ℕ) (r : Result Parsed GraphFault) (job : Job) → reading bytes setting.columns ≡ r → from_parsed setting bytes r ≡ Ok job
     → IsLegal job job.start
-from_parsed_is setting bytes (Ok p) job is e = job_is_legal p setting job (read_is bytes setting.columns p is) (from_job_is (job_of p setting []) job e)
+from_parsed_is setting bytes (Ok p) job is e = from_regions_is setting p (regions_by setting.region bytes) job (read_is bytes setting.columns p is) e
 from_parsed_is setting bytes (Err f) job is e = cc
 
 from_bytes_is : (setting : Setting) (bytes : List ℕ) (many : Bool) (job : Job) → from_bytes setting bytes many ≡ Ok job → IsLegal job job.start

@@ -1,20 +1,22 @@
 -- What accepted words say of their setting.
-use Rattle.std.proofs.Common.{◌≡◌, ℕ, zero, suc, ◌+◌, ◌≤◌, ◌&&◌, ◌||◌, not, Bool, true, false, cond, List, [], ◌∷◌, Option, Some, None, Ok, refl, subst, ap, ◌∙◌}
-use Rattle.std.specs.Prelude.{bytes_eq, codes, ⊤, find, nat_le, slice_get, unwrap_or, option_map}
+use Rattle.std.proofs.Common.{◌≡◌, ℕ, zero, suc, ◌+◌, ◌≤◌, ◌&&◌, ◌||◌, not, Bool, true, false, cond, List, [], ◌∷◌, Option, Some, None, Ok, refl, sym, subst, ap, ◌∙◌, arith}
+use Rattle.std.specs.Prelude.{◌==◌, bytes_eq, codes, ⊤, find, nat_le, slice_get, unwrap_or, option_map}
 use Rattle.std.specs.List.{list_any}
 use Rattle.std.specs.Option.{option_or}
-use Rattle.std.proofs.lemmas.Bool.{and_parts, leb-true}
+use Rattle.std.proofs.lemmas.Bool.{and_parts, eqb-true, leb-true, ne_eqb}
 use Rattle.audit_model.specs.declared.fault.Name.{Name}
-use Rattle.audit_model.specs.declared.fault.Name.TheVariants.{Size, Walks, Steps, Ends, Budget, Save, Serial}
+use Rattle.audit_model.specs.declared.fault.Name.TheVariants.{Size, Walks, Steps, Ends, Budget, Save, Resume, Stop, Serial}
 use Rattle.audit_model.specs.declared.fault.WordFault.{WordFault}
 use Rattle.audit_model.specs.declared.fault.WordFault.TheVariants.{BadValue}
 use Rattle.audit_model.specs.declared.setting.Command.{Command}
 use Rattle.audit_model.specs.declared.setting.Command.TheVariants.{Check, Run, Make, Plans}
 use Rattle.audit_model.specs.declared.setting.Setting.{Setting}
 use Rattle.audit_model.specs.Power.{is_power_of_two}
-use Rattle.word_definitions.specs.Words.{Pair, pairs, text_of, number_of, number_at, is_number, covers_walks, divides_draws, is_good, is_yes, is_yes_or_no, names_of, command_of, of_command, fault_of, setting_for, setting_or, setting_of}
-use Rattle.audit_run.specs.Ends.{is_walking}
-use Rattle.audit_run.specs.Running.{HasDefaults}
+use Rattle.word_definitions.specs.Words.{Pair, pairs, text_of, number_of, number_at, is_number, as_run, covers_walks, divides_draws, stops_alone, is_good, is_yes, is_yes_or_no, names_of, command_of, of_command, fault_of, setting_for, setting_or, setting_of}
+use Rattle.grid_maker.specs.Columns.{grid_columns}
+use Rattle.audit_statement.specs.Ends.{is_walking}
+use Rattle.audit_run.specs.Running.{StopsAlone}
+use Rattle.audit_run.specs.Steps.{IsMaking}
 
 -- ---- the command
 
@@ -153,9 +155,22 @@ sized_by Run words setting faultless same make =
 sized_by Make words setting faultless same make =
     subst (λ (n : ℕ). (1 ≤ n) × (n ≤ 30)) (ap (λ (s : Setting). s.size) same) (bounded (number_of (text_of Make words Size)) (good Make words 0 Size faultless refl))
 
--- the size of a grid that accepted words ask for is from 1 to 30
-pub accepted_size : (words : List (List ℕ)) (setting : Setting) → setting_of words ≡ Ok setting → setting.command ≡ Make → (1 ≤ setting.size) × (setting.size ≤ 30)
-accepted_size words setting e make = let s = accepted_words words setting e in sized_by s.command s.words setting s.faultless s.same make
+made_by : (command : Command) (words : List Pair) (setting : Setting) → setting_for command words ≡ setting → setting.command ≡ Make
+    → (setting.columns ≡ grid_columns) × (setting.region ≡ [])
+made_by Check words setting same make =
+    let check : Check ≡ setting.command = ap (λ (s : Setting). s.command) same in cc
+made_by Plans words setting same make =
+    let plans : Plans ≡ setting.command = ap (λ (s : Setting). s.command) same in cc
+made_by Run words setting same make =
+    let run : Run ≡ setting.command = ap (λ (s : Setting). s.command) same in cc
+made_by Make words setting same make = (sym (ap (λ (s : Setting). s.columns) same), sym (ap (λ (s : Setting). s.region) same))
+
+-- the grid that accepted words ask for has a size from 1 to 30, its own columns and no regions
+pub accepted_grid : (words : List (List ℕ)) (setting : Setting) → setting_of words ≡ Ok setting → setting.command ≡ Make → IsMaking setting
+accepted_grid words setting e make =
+    let s = accepted_words words setting e in
+    let parts = made_by s.command s.words setting s.same make in
+    record { size = sized_by s.command s.words setting s.faultless s.same make; columns = parts.0; region = parts.1 }
 
 -- ---- the run of the serial test
 
@@ -167,6 +182,14 @@ is_serial-Serial : (name : Name) → is_serial name ≡ true → name ≡ Serial
 is_serial-Serial Serial e = refl
 is_serial-Serial _ e = cc
 
+abbrev is_stop : Name → Bool
+is_stop Stop = true
+is_stop _ = false
+
+is_stop-Stop : (name : Name) → is_stop name ≡ true → name ≡ Stop
+is_stop-Stop Stop e = refl
+is_stop-Stop _ e = cc
+
 first_passes : (fails : Bool) (name : Name) (rest : Option Name) → cond fails (Some name) rest ≡ None → fails ≡ false
 first_passes true name rest e = cc
 first_passes false name rest e = refl
@@ -176,28 +199,35 @@ none_after true name rest e = cc
 none_after false name rest e = e
 
 -- a name among those of which none fails passes
-passes_among : (good : Name → Bool) (names : List Name) → find (λ name. not (good name)) names ≡ None → list_any is_serial names ≡ true → good Serial ≡ true
-passes_among good [] none some = cc
-passes_among good (name ∷ names) none some =
-    by (is_serial name) refl (passes_among good names (none_after (not (good name)) name (find (λ name. not (good name)) names) none))
+passes_among : (is : Name → Bool) (wanted : Name) → ((name : Name) → is name ≡ true → name ≡ wanted) → (good : Name → Bool) (names : List Name)
+    → find (λ name. not (good name)) names ≡ None → list_any is names ≡ true → good wanted ≡ true
+passes_among is wanted one good [] none some = cc
+passes_among is wanted one good (name ∷ names) none some =
+    by (is name) refl (passes_among is wanted one good names (none_after (not (good name)) name (find (λ name. not (good name)) names) none))
   where
-    by : (b : Bool) → is_serial name ≡ b → (list_any is_serial names ≡ true → good Serial ≡ true) → good Serial ≡ true
+    by : (b : Bool) → is name ≡ b → (list_any is names ≡ true → good wanted ≡ true) → good wanted ≡ true
     by true same rest =
-        subst (λ (n : Name). good n ≡ true) (is_serial-Serial name same)
+        subst (λ (n : Name). good n ≡ true) (one name same)
         (true_from_not (good name) (first_passes (not (good name)) name (find (λ name. not (good name)) names) none))
-    by false other rest = rest (subst (λ (b : Bool). (b || list_any is_serial names) ≡ true) other some)
+    by false other rest = rest (subst (λ (b : Bool). (b || list_any is names) ≡ true) other some)
 
 asked_power : (asked power : Bool) → (not asked || power) ≡ true → asked ≡ true → power ≡ true
 asked_power true power h e = h
 asked_power false power h e = cc
 
 module _ (command : Command) (words : List Pair) (faultless : fault_of command words ≡ None) where
-  good_serial : list_any is_serial (names_of command) ≡ true → is_good command words Serial ≡ true
-  good_serial has =
+  good_name : (is : Name → Bool) (wanted : Name) → ((name : Name) → is name ≡ true → name ≡ wanted) → list_any is (names_of command) ≡ true → is_good command words wanted ≡ true
+  good_name is wanted one has =
       let first = option_or_none _ _ faultless in
       let second = option_or_none _ _ first.1 in
       let third = option_or_none _ _ second.1 in
-      passes_among (is_good command words) (names_of command) (option_map_none BadValue (find (λ name. not (is_good command words name)) (names_of command)) third.0) has
+      passes_among is wanted one (is_good command words) (names_of command) (option_map_none BadValue (find (λ name. not (is_good command words name)) (names_of command)) third.0) has
+
+  good_serial : list_any is_serial (names_of command) ≡ true → is_good command words Serial ≡ true
+  good_serial has = good_name is_serial Serial is_serial-Serial has
+
+  good_stop : list_any is_stop (names_of command) ≡ true → is_good command words Stop ≡ true
+  good_stop has = good_name is_stop Stop is_stop-Stop has
 
   even_words : list_any is_serial (names_of command) ≡ true → is_yes command words Serial ≡ true → is_power_of_two (number_at command words Steps + 1) ≡ true
   even_words has asked =
@@ -218,13 +248,43 @@ even_by Make words setting built faultless same asked =
 pub accepted_words_are_even : (words : List (List ℕ)) (setting : Setting) → setting_of words ≡ Ok setting → setting.serial ≡ true → is_power_of_two (setting.steps + 1) ≡ true
 accepted_words_are_even words setting e asked = let s = accepted_words words setting e in even_by s.command s.words setting s.built s.faultless s.same asked
 
--- ---- what no words ask for yet
+-- ---- tests that stop early
 
-plain_by : (command : Command) (words : List Pair) → HasDefaults (setting_for command words)
-plain_by Check words = record { no_stop = refl }
-plain_by Run words = record { no_stop = refl }
-plain_by Make words = record { no_stop = refl }
-plain_by Plans words = record { no_stop = refl }
+-- where a number is asked for, the rest holds
+asked_alone : (n : ℕ) (alone : Bool) → ((n == 0) || alone) ≡ true → 1 ≤ n → alone ≡ true
+asked_alone zero alone h some = absurd (omega (arith, some))
+asked_alone (suc n) alone h some = subst (λ (b : Bool). (b || alone) ≡ true) (ne_eqb (suc n) 0 (λ e. absurd (omega (arith, e)))) h
 
-pub accepted_words_have_defaults : (words : List (List ℕ)) (setting : Setting) → setting_of words ≡ Ok setting → HasDefaults setting
-accepted_words_have_defaults words setting e = let s = accepted_words words setting e in subst HasDefaults s.same (plain_by s.command s.words)
+not_asked : (b : Bool) → not b ≡ true → b ≡ false
+not_asked true e = cc
+not_asked false e = refl
+
+alone_words : (command : Command) (words : List Pair) → is_walking command ≡ true → is_good command words Stop ≡ true → 1 ≤ number_at command words Stop → StopsAlone (as_run command words)
+alone_words command words walking good some =
+    let ends = nat_le 1 (number_at command words Ends) in
+    let saves = number_at command words Save == 0 in
+    let alone = asked_alone (number_at command words Stop) (ends && saves && not (is_yes command words Resume))
+    (and_parts (is_number 0 100000 (text_of command words Stop)) (stops_alone command words) good).1 some in
+    let both = and_parts (ends && saves) (not (is_yes command words Resume)) alone in
+    let first = and_parts ends saves both.0 in
+    record {
+      walking = walking;
+      some_ends = leb-true 1 (number_at command words Ends) first.0;
+      no_saves = eqb-true (number_at command words Save) 0 first.1;
+      fresh = not_asked (is_yes command words Resume) both.1;
+    }
+
+alone_by : (command : Command) (words : List Pair) (setting : Setting) → IsBuilt command → fault_of command words ≡ None → setting_for command words ≡ setting
+    → 1 ≤ setting.stop → StopsAlone setting
+alone_by Check words setting built faultless same some =
+    let none : 0 ≡ setting.stop = ap (λ (s : Setting). s.stop) same in absurd (omega (arith, none, some))
+alone_by Plans words setting built faultless same some = absurd built
+alone_by Run words setting built faultless same some =
+    subst StopsAlone same (alone_words Run words refl (good_stop Run words faultless refl) (subst (λ (n : ℕ). 1 ≤ n) (sym (ap (λ (s : Setting). s.stop) same)) some))
+alone_by Make words setting built faultless same some =
+    let alone = alone_words Make words refl (good_stop Make words faultless refl) (subst (λ (n : ℕ). 1 ≤ n) (sym (ap (λ (s : Setting). s.stop) same)) some) in
+    subst StopsAlone same (record { walking = refl; some_ends = alone.some_ends; no_saves = alone.no_saves; fresh = alone.fresh })
+
+-- a run whose tests stop early has ends to test, and neither saves nor resumes
+pub accepted_words_stop_alone : (words : List (List ℕ)) (setting : Setting) → setting_of words ≡ Ok setting → 1 ≤ setting.stop → StopsAlone setting
+accepted_words_stop_alone words setting e some = let s = accepted_words words setting e in alone_by s.command s.words setting s.built s.faultless s.same some

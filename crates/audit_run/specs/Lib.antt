@@ -1,16 +1,5 @@
-pub mod Accepted
-pub mod Causes
-pub mod Chain
-pub mod Ended
-pub mod Ends
 pub mod Guards
-pub mod Headline
-pub mod Left
-pub mod Rerun
 pub mod Running
-pub mod Said
 pub mod Serially
 pub mod Steps
-pub mod Sure
-pub mod Visits
-pub mod World
+pub mod Stopped

@@ -18,33 +18,35 @@ use Rattle.ckpt_store.specs.declared.slots.StoreFault.TheVariants as fault
 use Rattle.ckpt_store.specs.Fitting.{AreFit}
 use Rattle.ckpt_store.specs.View.{newest_seen, slot_view}
 use Rattle.desk_crew.specs.Crews.{IsCrew as IsDeskCrew}
-use Rattle.report.specs.Outcomes.{AreOutcomesOf, IsSerialOf}
+use Rattle.report.specs.Outcomes.{AreOutcomesOf, AreStopsOf, IsSerialOf}
 use Rattle.text_definitions.specs.Report.{report}
-use Rattle.audit_run.specs.declared.ended.Ended.{Ended}
-use Rattle.audit_run.specs.declared.ended.Ended.TheVariants as ended
+use Rattle.audit_notes.specs.declared.ended.Ended.{Ended}
+use Rattle.audit_notes.specs.declared.ended.Ended.TheVariants as ended
 use Rattle.audit_run.specs.declared.opening.Opening.{Opening}
 use Rattle.audit_run.specs.declared.opening.Target.{Target}
 use Rattle.audit_run.specs.declared.run.Ready.{Ready}
 use Rattle.audit_run.specs.declared.run.Saving.{Saving}
 use Rattle.audit_run.specs.declared.run.Walked.{Walked}
-use Rattle.audit_run.specs.Ends.{IfBothKnown, IsNewest, IsOpening, KeepsASlot, SavesInTurn, TriesTold, full_of, is_walking, place_of, saves}
+use Rattle.audit_statement.specs.Ends.{IfBothKnown, IsNewest, IsOpening, KeepsASlot, SavesInTurn, TriesTold, full_of, is_walking, place_of, saves}
 use Rattle.audit_run.specs.Steps.{Finishes}
 use Rattle.claim_crew.specs.Walks.{IsTodo}
-use Rattle.audit_run.specs.World.{Stream, Kept, IfKnown}
+use Rattle.audit_statement.specs.World.{Stream, Kept, IfKnown}
 
--- what no words ask for yet has its default
-pub record HasDefaults (s : Setting) : Type 0 where
-  pub no_stop : s.stop ≡ 0
+-- it walks, there are ends to test, and nothing is saved or resumed
+pub record StopsAlone (s : Setting) : Type 0 where
+  pub walking : IsTrue (is_walking s.command)
+  pub some_ends : 1 ≤ s.ends
+  pub no_saves : s.save_every ≡ 0
+  pub fresh : s.resume ≡ false
 
--- the job is accepted, its command walks, where it saves nothing its budget is enough for every trajectory, and the run of its serial test has as
--- many plans as a power of two
+-- the job is accepted, its command walks, where it saves nothing its budget is enough for every trajectory, where its tests stop early it runs alone,
+-- and the run of its serial test has as many plans as a power of two
 pub record IsRun (job : Job) : Type 0 where
   pub sound : IsJob job
   pub walking : IsTrue (is_walking job.setting.command)
   pub covered : job.setting.save_every ≡ 0 → total job ≤ job.setting.budget
-  pub plain : HasDefaults job.setting
+  pub alone : 1 ≤ job.setting.stop → StopsAlone job.setting
   pub even : IsTrue job.setting.serial → IsTrue (is_power_of_two (job.setting.steps + 1))
-  pub no_regions : job.regions ≡ []
 
 -- ---- with what it starts
 
@@ -98,10 +100,10 @@ Opens job before after (Err why) = (out : Stream) → Finishes job out out befor
 
 -- ---- what it holds before it walks
 
--- the list has room for the report on any outcomes of the job and on whatever its serial test finds
+-- the list has room for the report on any outcomes of the job, on wherever its tests stop, and on whatever its serial test finds
 abbrev pub HasReportRoom : Job → ℕ → Type 0
-HasReportRoom job spare = (outcomes : List Outcome) (serial : Option (ℕ × List ℕ)) → AreOutcomesOf job outcomes → IsSerialOf job serial
-    → length (report job outcomes [] serial) ≤ spare
+HasReportRoom job spare = (outcomes : List Outcome) (stops : List (List ℕ)) (serial : Option (ℕ × List ℕ)) → AreOutcomesOf job outcomes → AreStopsOf job stops
+    → IsSerialOf job serial → length (report job outcomes stops serial) ≤ spare
 
 -- a book of the opening's outcomes, the ids that are walked, and room for all outcomes and for the report on them
 pub record IsReadyFor (job : Job) (outcomes : List Outcome) (ready : Ready) : Type 0 where

@@ -1,22 +1,23 @@
 -- What the steps of a call say to each other.
-use Rattle.std.specs.Prelude.{◌≡◌, ℕ, ◌<◌, ◌≤◌, true, List, length, ⊤, Result, Ok, Err}
-use Rattle.std.specs.Io.KnownBytes.{Appends, IsAtEnd}
-use Rattle.audit_io.specs.declared.source.Failed.{Failed}
+use Rattle.std.specs.Prelude.{◌≡◌, ℕ, ◌<◌, ◌≤◌, true, List, [], length, ⊤, Result, Ok, Err}
+use Rattle.std.specs.Io.KnownBytes.{IsAtEnd}
 use Rattle.audit_model.specs.Job.{Job}
 use Rattle.audit_model.specs.JobOf.{IsJob}
 use Rattle.audit_model.specs.Room.{RoomyBytes}
 use Rattle.audit_io.specs.Faults.{Rose}
-use Rattle.audit_run.specs.declared.ended.Ended.{Ended}
+use Rattle.audit_notes.specs.declared.ended.Ended.{Ended}
 use Rattle.audit_run.specs.declared.reading.ReadEnd.{ReadEnd}
 use Rattle.audit_run.specs.declared.reading.ReadEnd.TheVariants as read
-use Rattle.audit_run.specs.declared.ended.Ended.TheVariants as ended
-use Rattle.note_definitions.specs.Note.{bad_graph, bad_plan}
+use Rattle.audit_notes.specs.declared.ended.Ended.TheVariants as ended
+use Rattle.grid_maker.specs.Columns.{grid_columns}
+use Rattle.note_definitions.specs.Note.{bad_graph, bad_regions, bad_plan}
 use Rattle.word_definitions.specs.Words.{setting_of}
 use Rattle.audit_model.specs.declared.setting.Setting.{Setting}
-use Rattle.audit_run.specs.Accepted.{columns_of, most_bytes, input_of, judged}
-use Rattle.audit_run.specs.Ended.{ending_of, line_of, columns_kept}
-use Rattle.audit_run.specs.Ends.{Cause, LeavesUntouched, marks_of, AppendsPart, IsPrepared, IsReadBy, TakesTooMany, is_reading}
-use Rattle.audit_run.specs.World.{Stream, Kept, World, world, IfKnown}
+use Rattle.audit_statement.specs.Accepted.{columns_of, most_bytes, input_of, judged}
+use Rattle.audit_notes.specs.Ended.{ending_of, columns_kept}
+use Rattle.audit_statement.specs.Status.{line_of}
+use Rattle.audit_statement.specs.Ends.{Cause, LeavesUntouched, marks_of, IsPrepared, IsReadBy, TakesTooMany, is_reading}
+use Rattle.audit_statement.specs.World.{Stream, Kept, World, world, IfKnown}
 
 -- all that was left, and nothing is left now
 pub record ReadsAll (before after : Stream) (bytes : List ℕ) : Type 0 where
@@ -56,11 +57,6 @@ Finishes job out_before out_after kept_before kept_after why =
     (words : List (List ℕ)) (before after : Stream) → IsPrepared words before after job
     → RunsTo words (world before out_before kept_before) (world after out_after kept_after) why
 
--- the whole text was taken, or a part where the sink failed
-abbrev pub WritesAllOf : Stream → Stream → List ℕ → Result (Unit {0}) Failed → Type 0
-WritesAllOf before after text (Ok done) = Appends before.bytes after.bytes text × (after.faults ≡ before.faults)
-WritesAllOf before after text (Err failed) = AppendsPart before.bytes after.bytes text × Rose before.faults after.faults
-
 -- the bytes of the graph were read or made
 pub record HasInput (setting : Setting) (before after : Stream) (bytes : List ℕ) : Type 0 where
   pub given : IfKnown (input_of setting before.bytes) (λ input. input ≡ bytes)
@@ -70,6 +66,7 @@ pub record HasInput (setting : Setting) (before after : Stream) (bytes : List �
 abbrev pub JudgedSo : Setting → List ℕ → Ended → Type 0
 JudgedSo setting bytes ended.NoMemory = ⊤
 JudgedSo setting bytes (ended.BadGraph f columns) = (judged setting bytes ≡ Err (bad_graph f)) × (columns ≡ setting.columns)
+JudgedSo setting bytes (ended.BadRegions f column) = judged setting bytes ≡ Err (bad_regions column f)
 JudgedSo setting bytes (ended.BadPlan f) = judged setting bytes ≡ Err (bad_plan f)
 JudgedSo setting bytes ended.Done = ⊥
 JudgedSo setting bytes (ended.BadWords f) = ⊥
@@ -91,6 +88,12 @@ pub record IsJudged (setting : Setting) (bytes : List ℕ) (job : Job) : Type 0 
 abbrev pub Judges : Setting → List ℕ → Result Job Ended → Type 0
 Judges setting bytes (Ok job) = IsJudged setting bytes job
 Judges setting bytes (Err why) = JudgedSo setting bytes why
+
+-- a grid of a size that there is, with its own columns and no regions
+pub record IsMaking (setting : Setting) : Type 0 where
+  pub size : (1 ≤ setting.size) × (setting.size ≤ 30)
+  pub columns : setting.columns ≡ grid_columns
+  pub region : setting.region ≡ []
 
 abbrev pub PreparesFor : Setting → Stream → Stream → Result Job Ended → Type 0
 PreparesFor setting before after result = (words : List (List ℕ)) → setting_of words ≡ Ok setting → Prepares words before after result

@@ -2,28 +2,24 @@
 
 ghost use Rattle.std.specs.Prelude.{◌≡◌, IsTrue};
 ghost use Rattle.audit_model.specs.declared.setting.Command.TheVariants.{Check};
-ghost use Rattle.audit_run.specs.Causes.{HasCauses, IsComplete};
-ghost use Rattle.audit_run.specs.Chain.{StaysHonest, TriedRightly};
-ghost use Rattle.audit_run.specs.Ends.{EndsFor, is_walking};
-ghost use Rattle.audit_run.specs.Headline.{WritesWhole};
-ghost use Rattle.audit_run.specs.Left.{LeavesAlone};
+ghost use Rattle.audit_statement.specs.Ends.{is_walking};
+ghost use Rattle.audit_statement.specs.Promise.{KeepsItsPromise};
 ghost use Rattle.audit_run.specs.Steps.{Finishes};
 ghost use Rattle.audit_run.specs.Running.{IsRun};
-ghost use Rattle.audit_run.specs.Visits.{VisitsLegal};
-ghost use Rattle.audit_run.specs.World.{Kept, stream, kept, world};
+ghost use Rattle.audit_statement.specs.World.{Kept, stream, kept, world};
 ghost use Rattle.audit_words.specs.Spoken.{spoken};
 
-use crate::ended::Ended;
-use crate::note::tell;
 use crate::prepare::prepare;
 use crate::run::finish_run;
-use crate::writing::write_all;
 use audit_io::gate::Gate;
 use audit_io::keeper::Keeper;
 use audit_io::sink::Sink;
 use audit_io::source::Source;
 use audit_model::buffers::Bytes;
 use audit_model::setting::Command;
+use audit_notes::ended::Ended;
+use audit_notes::note::tell;
+use audit_notes::writing::write_all;
 use ckpt_store::laws::{honest_slots_open_right, right_outcomes_are_honest};
 use plan_core::job::Job;
 use report::check::check_text;
@@ -89,29 +85,9 @@ pub fn audit<
     keeper: C,
     gate: &G,
 ) -> (u8, C)
-    ensures ends { EndsFor (spoken words.now)
-        (world (stream S.left S.faults graph.old) (stream K.taken K.faults out.old) (kept C.slots C.tried C.load_faults C.save_faults keeper))
-        (world (stream S.left S.faults graph.new) (stream K.taken K.faults out.new) (kept C.slots C.tried C.load_faults C.save_faults result.1))
-        (stream N.taken N.faults note.old) (stream N.taken N.faults note.new) result.0 }
-    ensures written { WritesWhole (spoken words.now)
-        (world (stream S.left S.faults graph.old) (stream K.taken K.faults out.old) (kept C.slots C.tried C.load_faults C.save_faults keeper))
-        (world (stream S.left S.faults graph.new) (stream K.taken K.faults out.new) (kept C.slots C.tried C.load_faults C.save_faults result.1)) result.0 }
-    ensures causes { HasCauses (spoken words.now)
-        (world (stream S.left S.faults graph.old) (stream K.taken K.faults out.old) (kept C.slots C.tried C.load_faults C.save_faults keeper))
-        (world (stream S.left S.faults graph.new) (stream K.taken K.faults out.new) (kept C.slots C.tried C.load_faults C.save_faults result.1)) result.0 }
-    ensures complete { IsComplete (spoken words.now)
-        (world (stream S.left S.faults graph.old) (stream K.taken K.faults out.old) (kept C.slots C.tried C.load_faults C.save_faults keeper))
-        (world (stream S.left S.faults graph.new) (stream K.taken K.faults out.new) (kept C.slots C.tried C.load_faults C.save_faults result.1)) result.0 }
-    ensures left_alone { LeavesAlone (spoken words.now)
-        (world (stream S.left S.faults graph.old) (stream K.taken K.faults out.old) (kept C.slots C.tried C.load_faults C.save_faults keeper))
-        (world (stream S.left S.faults graph.new) (stream K.taken K.faults out.new) (kept C.slots C.tried C.load_faults C.save_faults result.1)) result.0 }
-    ensures chain { StaysHonest (spoken words.now)
-        (world (stream S.left S.faults graph.old) (stream K.taken K.faults out.old) (kept C.slots C.tried C.load_faults C.save_faults keeper))
-        (world (stream S.left S.faults graph.new) (stream K.taken K.faults out.new) (kept C.slots C.tried C.load_faults C.save_faults result.1)) result.0 }
-    ensures tried { TriedRightly (spoken words.now)
-        (world (stream S.left S.faults graph.old) (stream K.taken K.faults out.old) (kept C.slots C.tried C.load_faults C.save_faults keeper))
-        (world (stream S.left S.faults graph.new) (stream K.taken K.faults out.new) (kept C.slots C.tried C.load_faults C.save_faults result.1)) }
-    ensures legal { VisitsLegal (spoken words.now) (S.left graph.old) }
+    ensures { let before = world (stream S.left S.faults graph.old) (stream K.taken K.faults out.old) (kept C.slots C.tried C.load_faults C.save_faults keeper) in
+        let after = world (stream S.left S.faults graph.new) (stream K.taken K.faults out.new) (kept C.slots C.tried C.load_faults C.save_faults result.1) in
+        KeepsItsPromise (spoken words.now) before after (stream N.taken N.faults note.old) (stream N.taken N.faults note.new) result.0 }
 {
     honest_slots_open_right();
     right_outcomes_are_honest();

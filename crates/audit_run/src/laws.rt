@@ -1,6 +1,6 @@
 //! Laws of the runs of one job, each the contract of a function that does nothing.
 
-ghost use Rattle.audit_run.specs.Rerun.{ChainsWriteOneReport, RerunsAreAlike, StopsKeepTheNewest};
+ghost use Rattle.audit_statement.specs.Rerun.{ChainsWriteOneReport, RerunsAreAlike, StopsKeepTheNewest};
 
 use ckpt_store::laws::{saves_keep_the_newest, saves_leave_honest_slots};
 

@@ -9,15 +9,15 @@ ghost use Rattle.checkpoint_definitions.specs.Checkpoint as definition;
 ghost use Rattle.ckpt_store.specs.Fitting.{AreFit, HasFitOutcomes};
 ghost use Rattle.ckpt_store.specs.Looked.{AreSlots};
 ghost use Rattle.ckpt_store.specs.View.{held_seen};
-ghost use Rattle.audit_run.specs.Ends.{loads, saves};
+ghost use Rattle.audit_statement.specs.Ends.{loads, saves};
 ghost use Rattle.audit_run.specs.Running.{IsRun, IsTarget, Opens, RefusesSlots, refused_by};
-ghost use Rattle.audit_run.specs.World.{Kept, kept};
+ghost use Rattle.audit_statement.specs.World.{Kept, kept};
 
-use crate::ended::Ended;
 use audit_io::keeper::Keeper;
 use audit_model::buffers::{Bytes, OutcomeList};
 use audit_model::memory::Memory;
 use audit_model::outcome::Outcome;
+use audit_notes::ended::Ended;
 use ckpt_format::digest::job_digest;
 use ckpt_store::look::{LookFault, look};
 use ckpt_store::slots::{Place, Slots, StoreFault};

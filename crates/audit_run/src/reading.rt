@@ -1,7 +1,7 @@
 //! The source, read to its end.
 
 ghost use Rattle.audit_run.specs.Steps.{ReadsSource};
-ghost use Rattle.audit_run.specs.World.{stream};
+ghost use Rattle.audit_statement.specs.World.{stream};
 
 use audit_io::source::Source;
 use audit_model::buffers::Bytes;

@@ -1,11 +1,10 @@
 //! A run: all its memory is taken, then it walks, saves and writes the report.
 
-use crate::ended::Ended;
 use crate::judges::guards;
 use crate::opening::{Opening, Target, open};
 use crate::serially::{make_tester, test_serially};
+use crate::stopping::finish_early;
 use crate::todo::todo_of;
-use crate::writing::write_all;
 use audit_io::gate::Gate;
 use audit_io::keeper::Keeper;
 use audit_io::sink::Sink;
@@ -14,6 +13,8 @@ use audit_model::buffers::{Bytes, OutcomeList};
 use audit_model::lists::UnitList;
 use audit_model::memory::Memory;
 use audit_model::outcome::{Outcome, SumsView};
+use audit_notes::ended::Ended;
+use audit_notes::writing::write_all;
 use ckpt_store::laws::checkpoints_are_ours;
 use claim_crew::crew::{Crew, recruit};
 use claim_crew::walking::walk_run;
@@ -24,6 +25,7 @@ use flip_guard::judge::Judge;
 use outcome_book::book::Book;
 use outcome_book::laws::{outcomes_by_id_are_mapped, outcomes_have_few_visits};
 use plan_core::job::Job;
+use region_guard::judges::region_guards;
 use std::alloc::Global;
 use std::sync::Wait;
 use std::thread::Threads;
@@ -47,7 +49,7 @@ pub struct Walked {
     pub(crate) text: Bytes,
 }
 
-ghost use Rattle.std.specs.Prelude.{◌≡◌, ◌+◌, ◌<◌, ◌≤◌, ◌^◌, nat_le, Bool, IfOk, List, [], length, true, false, vec_len};
+ghost use Rattle.std.specs.Prelude.{◌≡◌, ◌≢◌, ◌+◌, ◌<◌, ◌≤◌, ◌^◌, nat_le, Bool, IfOk, List, [], length, true, false, vec_len};
 ghost use Rattle.std.specs.Fn.{FnReturnsAt};
 ghost use Rattle.audit_model.specs.declared.outcome.SumsView.{SumsView as Sums};
 ghost use Rattle.walker.specs.Judges.{AreJudges};
@@ -56,11 +58,11 @@ ghost use Rattle.audit_model.specs.Run.{total};
 ghost use Rattle.ckpt_store.specs.Fitting.{AreFit};
 ghost use Rattle.report.specs.Outcomes.{AreOutcomesOf};
 ghost use Rattle.claim_crew.specs.Crews.{IsCrew};
-ghost use Rattle.audit_run.specs.Ends.{IsOpening, saves};
+ghost use Rattle.audit_statement.specs.Ends.{IsOpening, saves};
 ghost use Rattle.audit_run.specs.Running.{AreAll, HasReportRoom, HasWalked, IsOpened, IsPlaced, IsReadyFor, IsRun, IsSavingFor, SavedBy, ended_by, stopped_by};
 ghost use Rattle.audit_run.specs.Serially.{IsTester};
 ghost use Rattle.audit_run.specs.Steps.{Finishes};
-ghost use Rattle.audit_run.specs.World.{Kept, stream, kept};
+ghost use Rattle.audit_statement.specs.World.{Kept, stream, kept};
 
 // The book of a run that starts with these outcomes.
 fn book_of(alloc: Global, job: &Job, outcomes: &[Outcome]) -> Result<Book, Memory>
@@ -75,8 +77,8 @@ fn book_of(alloc: Global, job: &Job, outcomes: &[Outcome]) -> Result<Book, Memor
     Ok(book)
 }
 
-// What a run holds that starts with these outcomes.
-fn make_ready(alloc: Global, job: &Job, outcomes: &[Outcome]) -> Result<Ready, Memory>
+/// What a run holds that starts with these outcomes. The only error is want of memory.
+pub fn make_ready(alloc: Global, job: &Job, outcomes: &[Outcome]) -> Result<Ready, Memory>
     requires run { IsRun job.now }
     requires fit { AreFit job.now outcomes.now }
     ensures { IfOk result (IsReadyFor job.now outcomes.now) }
@@ -104,8 +106,8 @@ fn stop(done: u32, total: u32, saved: Result<(), Failed>) -> Ended
     }
 }
 
-// How a run ends that has written its report, or a part.
-fn end(written: Result<(), Failed>, saved: Result<(), Failed>) -> Ended
+/// How a run ends that has written its report, or a part.
+pub fn end(written: Result<(), Failed>, saved: Result<(), Failed>) -> Ended
     ensures { result ≡ ended_by written saved }
 {
     match (written, saved) {
@@ -125,6 +127,7 @@ fn end_run<K: Sink, J: Judge>(
     out: &mut K,
 ) -> Ended
     requires run { IsRun job.now }
+    requires plain { job.now.setting.stop ≡ 0 }
     requires few { length sorted.now ≤ 100000 }
     requires whole { total job.now ≤ length sorted.now → AreOutcomesOf job.now sorted.now }
     requires blank { text.items ≡ [] }
@@ -156,7 +159,7 @@ fn walk<R: Threads + Sync, J: Judge + Send, G: Gate + Sync>(
     requires run { IsRun job.now }
     requires fit { AreFit job.now ready.book.outcomes }
     requires ready { IsReadyFor job.now ready.book.outcomes ready }
-    requires crew { IsCrew J.keeps J.stands J.takes J.rules job.now (length ready.todo) crew }
+    requires crew { IsCrew J.keeps J.stands J.takes J.rules job.now (length ready.todo) job.now.setting.workers crew }
     ensures { HasWalked job.now ready.book.outcomes result }
 {
     let Ready {
@@ -181,10 +184,11 @@ fn walk_and_end<R: Threads + Sync, K: Sink, J: Judge + Send, G: Gate + Sync>(
     gate: &G,
 ) -> Ended
     requires run { IsRun job.now }
+    requires plain { job.now.setting.stop ≡ 0 }
     requires unsaved { saves job.now.setting ≡ false }
     requires fit { AreFit job.now opening.now }
     requires ready { IsReadyFor job.now opening.now ready }
-    requires crew { IsCrew J.keeps J.stands J.takes J.rules job.now (length ready.todo) crew }
+    requires crew { IsCrew J.keeps J.stands J.takes J.rules job.now (length ready.todo) job.now.setting.workers crew }
     requires tester { IsTester J.keeps J.stands J.takes J.rules job.now tester }
     ensures { (k : Kept) → IsOpening job.now k.slots opening.now → Finishes job.now (stream K.taken K.faults out.old) (stream K.taken K.faults out.new) k k result }
 {
@@ -204,6 +208,7 @@ fn finish_unsaved<R: Threads + Sync, K: Sink, J: Judge + Send, G: Gate + Sync>(
     gate: &G,
 ) -> Ended
     requires run { IsRun job.now }
+    requires plain { job.now.setting.stop ≡ 0 }
     requires judges { AreJudges job.now J.keeps J.takes J.rules judges.items }
     requires workers { vec_len judges ≡ job.now.setting.workers }
     requires unsaved { saves job.now.setting ≡ false }
@@ -262,6 +267,7 @@ fn save_and_end<
     gate: &G,
 ) -> (Ended, C)
     requires run { IsRun job.now }
+    requires plain { job.now.setting.stop ≡ 0 }
     requires saved { saves job.now.setting ≡ true }
     requires placed { IsPlaced job.now (C.slots keeper) target }
     requires opened { IsOpening job.now (C.slots keeper) opening.now.outcomes.items }
@@ -332,6 +338,7 @@ fn finish_saved<
     gate: &G,
 ) -> (Ended, C)
     requires run { IsRun job.now }
+    requires plain { job.now.setting.stop ≡ 0 }
     requires judges { AreJudges job.now J.keeps J.takes J.rules judges.items }
     requires workers { vec_len judges ≡ job.now.setting.workers }
     requires saved { saves job.now.setting ≡ true }
@@ -380,6 +387,10 @@ fn finish_tested<
     ensures { Finishes job.now (stream K.taken K.faults out.old) (stream K.taken K.faults out.new)
         (kept C.slots C.tried C.load_faults C.save_faults keeper) (kept C.slots C.tried C.load_faults C.save_faults result.1) result.0 }
 {
+    if job.setting().stop > 0 {
+        let why = finish_early(rt, alloc, job, judges, tester, out, gate);
+        return (why, keeper);
+    }
     match opening.target {
         None => {
             let why = finish_unsaved(
@@ -433,6 +444,69 @@ fn finish_judged<
     }
 }
 
+// Does the rest of a run that starts so, of a job without regions.
+fn finish_cut<R: Threads + Wait + Sync, K: Sink, C: Keeper + Send, G: Gate + Sync>(
+    rt: &R,
+    alloc: Global,
+    job: &Job,
+    opening: Opening,
+    out: &mut K,
+    keeper: C,
+    gate: &G,
+) -> (Ended, C)
+    requires run { IsRun job.now }
+    requires opened { IsOpened job.now (C.slots keeper) opening }
+    requires no_regions { job.now.regions ≡ [] }
+    ensures { Finishes job.now (stream K.taken K.faults out.old) (stream K.taken K.faults out.new)
+        (kept C.slots C.tried C.load_faults C.save_faults keeper) (kept C.slots C.tried C.load_faults C.save_faults result.1) result.0 }
+{
+    let max_cut = job.rules().max_cut;
+    let max_split = job.rules().max_split;
+    let workers = job.setting().workers;
+    match guards(
+        alloc,
+        move |sums: &SumsView| sums.cut <= max_cut,
+        max_cut,
+        max_split,
+        workers + 1,
+    ) {
+        Ok(judges) => finish_judged(rt, alloc, job, opening, judges, out, keeper, gate),
+        Err(_) => (Ended::NoMemory, keeper),
+    }
+}
+
+// Does the rest of a run that starts so, of a job with regions.
+fn finish_split<R: Threads + Wait + Sync, K: Sink, C: Keeper + Send, G: Gate + Sync>(
+    rt: &R,
+    alloc: Global,
+    job: &Job,
+    opening: Opening,
+    out: &mut K,
+    keeper: C,
+    gate: &G,
+) -> (Ended, C)
+    requires run { IsRun job.now }
+    requires opened { IsOpened job.now (C.slots keeper) opening }
+    requires some_regions { job.now.regions ≢ [] }
+    ensures { Finishes job.now (stream K.taken K.faults out.old) (stream K.taken K.faults out.new)
+        (kept C.slots C.tried C.load_faults C.save_faults keeper) (kept C.slots C.tried C.load_faults C.save_faults result.1) result.0 }
+{
+    let cut_limit = job.rules().max_cut;
+    let split_limit = job.rules().max_split;
+    let workers = job.setting().workers;
+    match region_guards(
+        alloc,
+        move |sums: &SumsView| sums.cut <= cut_limit,
+        move |width: u32| width <= split_limit,
+        job.rules(),
+        job.districts(),
+        workers + 1,
+    ) {
+        Ok(judges) => finish_judged(rt, alloc, job, opening, judges, out, keeper, gate),
+        Err(_) => (Ended::NoMemory, keeper),
+    }
+}
+
 /// Looks with what the run starts, takes all its memory, walks as many trajectories as the budget allows, saves now and then and at the end where
 /// the setting asks for it, and writes the report where all are done.
 pub fn finish_run<R: Threads + Wait + Sync, K: Sink, C: Keeper + Send, G: Gate + Sync>(
@@ -451,17 +525,9 @@ pub fn finish_run<R: Threads + Wait + Sync, K: Sink, C: Keeper + Send, G: Gate +
         Ok(opening) => opening,
         Err(why) => return (why, keeper),
     };
-    let max_cut = job.rules().max_cut;
-    let max_split = job.rules().max_split;
-    let workers = job.setting().workers;
-    match guards(
-        alloc,
-        move |sums: &SumsView| sums.cut <= max_cut,
-        max_cut,
-        max_split,
-        workers + 1,
-    ) {
-        Ok(judges) => finish_judged(rt, alloc, job, opening, judges, out, keeper, gate),
-        Err(_) => (Ended::NoMemory, keeper),
+    if job.rules().regions.len() == 0 {
+        finish_cut(rt, alloc, job, opening, out, keeper, gate)
+    } else {
+        finish_split(rt, alloc, job, opening, out, keeper, gate)
     }
 }

@@ -1,8 +1,8 @@
 //! An audit over a source, an output and a keeper that never fail.
 
-ghost use Rattle.audit_run.specs.Ends.{EndsFor};
-ghost use Rattle.audit_run.specs.Sure.{EndsSurely, sure_world};
-ghost use Rattle.audit_run.specs.World.{stream};
+ghost use Rattle.audit_statement.specs.Ends.{EndsFor};
+ghost use Rattle.audit_statement.specs.Sure.{EndsSurely, sure_world};
+ghost use Rattle.audit_statement.specs.World.{stream};
 ghost use Rattle.audit_words.specs.Spoken.{spoken};
 
 use crate::audit::audit;

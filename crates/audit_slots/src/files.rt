@@ -3,7 +3,7 @@
 use crate::held::LIMIT;
 use audit_io::std_adapters::ReadSource;
 use audit_model::buffers::Bytes;
-use audit_run::ended::Ended;
+use audit_notes::ended::Ended;
 use audit_run::reading::{ReadEnd, read_source};
 use std::alloc::Global;
 use std::io::{ErrorKind, Read};

@@ -7,14 +7,14 @@ use Rattle.std.specs.Result.{result_ok}
 use Rattle.hex.specs.Hex.{decode_sized}
 use Rattle.hex.proofs.HexLemmas.{decode_sized-ok, decode_sized-twice, decode_of-ok}
 use Rattle.audit_model.specs.Limits.{IsSetting, IsSettingOf, IsRunSetting}
-use Rattle.audit_model.specs.declared.fault.Name.TheVariants.{Slack, Key, Walks, Steps, Ends, HubSteps, Ask, Workers, MaxCut}
+use Rattle.audit_model.specs.declared.fault.Name.TheVariants.{Slack, Key, Walks, Steps, Ends, HubSteps, Ask, Workers, MaxCut, MaxSplit}
 use Rattle.audit_model.specs.declared.setting.Ask.{Ask as AskOf}
 use Rattle.audit_model.specs.declared.setting.Command.{Command}
 use Rattle.audit_model.specs.declared.setting.Command.TheVariants.{Check, Run, Make, Plans}
-use Rattle.word_definitions.specs.Words.{Pair, are_asks, as_run, asks_of, has_walks, is_number, number_at, parts_between, setting_for, text_of}
+use Rattle.word_definitions.specs.Words.{Pair, are_asks, as_run, asks_of, has_walks, is_good, is_number, number_at, parts_between, setting_for, text_of}
 use Rattle.audit_words.specs.Judged.{AreGood, AreReadable}
 use Rattle.audit_words.proofs.Asking.{length-asks_of, AllPairs-asks_of}
-use Rattle.audit_words.proofs.Goodness.{asks_of-some, number-bounds}
+use Rattle.audit_words.proofs.Goodness.{asks_of-some, number-bounds, split-bounds}
 use Rattle.audit_words.proofs.Parting.{parts_between-some}
 
 value_of_ok : {A E : Type 0} (r : Result A E) → is_some (result_ok r) ≡ true → (x : A) × (r ≡ Ok x)
@@ -83,13 +83,13 @@ IsRunSetting-made words run = record {
   few_workers = run.few_workers;
 }
 
-IsSetting-run : (command : Command) (words : List Pair) → AreGood words → IsSettingOf command (as_run command words) → IsSetting (as_run command words)
-IsSetting-run command words good is = record {
+IsSetting-run : (command : Command) (words : List Pair) → AreGood words → is_good Check words MaxSplit ≡ true → IsSettingOf command (as_run command words) → IsSetting (as_run command words)
+IsSetting-run command words good split is = record {
   slack = (number-bounds 0 10000 (text_of Check words Slack) good.slack).1;
   key = length-key (text_of Check words Key) good.key;
   max_cut = (number-bounds 0 400000 (text_of Check words MaxCut) good.max_cut).1;
-  some_splits = omega arith;
-  few_splits = omega arith;
+  some_splits = (split-bounds words split).0;
+  few_splits = (split-bounds words split).1;
   command = is;
 }
 
@@ -98,8 +98,8 @@ IsSetting-good Check words good = record {
   slack = (number-bounds 0 10000 (text_of Check words Slack) good.0).1;
   key = refl;
   max_cut = (number-bounds 0 400000 (text_of Check words MaxCut) good.1).1;
-  some_splits = omega arith;
-  few_splits = omega arith;
+  some_splits = (split-bounds words good.2).0;
+  few_splits = (split-bounds words good.2).1;
   command = record {
     no_walks = refl;
     no_steps = refl;
@@ -110,7 +110,7 @@ IsSetting-good Check words good = record {
     no_saves = refl;
   };
 }
-IsSetting-good Run words good = IsSetting-run Run words good (IsRunSetting-good Run words good)
+IsSetting-good Run words good = IsSetting-run Run words good.0 good.1 (IsRunSetting-good Run words good.0)
 IsSetting-good Make words good = record {
   slack = (number-bounds 0 10000 (text_of Check words Slack) good.0.slack).1;
   key = length-key (text_of Check words Key) good.0.key;
@@ -119,4 +119,4 @@ IsSetting-good Make words good = record {
   few_splits = omega arith;
   command = IsRunSetting-made words (IsRunSetting-good Make words good.0);
 }
-IsSetting-good Plans words good = IsSetting-run Plans words good (IsRunSetting-good Plans words good)
+IsSetting-good Plans words good = IsSetting-run Plans words good.0 good.1 (IsRunSetting-good Plans words good.0)

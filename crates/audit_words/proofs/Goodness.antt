@@ -4,12 +4,12 @@ use Rattle.std.proofs.lemmas.Bool.{and_parts, false≢true, leb-true}
 use Rattle.std.specs.Prelude.{◌&&◌, nat_le, is_some, unwrap_or, bytes_eq, codes}
 use Rattle.std.specs.List.{filter_map}
 use Rattle.audit_model.specs.declared.fault.Name.{Name}
-use Rattle.audit_model.specs.declared.fault.Name.TheVariants.{Pop, Size, Slack, Key, Walks, Steps, Ends, HubSteps, Ask, Workers, Budget, Save, Resume, MaxCut, Shift, Serial}
+use Rattle.audit_model.specs.declared.fault.Name.TheVariants.{Pop, Size, Slack, Key, Walks, Steps, Ends, HubSteps, Ask, Workers, Budget, Save, Resume, MaxCut, Shift, Stop, Serial, Region, MaxSplit}
 use Rattle.audit_model.specs.declared.fault.WordFault.TheVariants.{BadValue}
 use Rattle.audit_model.specs.declared.setting.Ask.{Ask as AskOf}
 use Rattle.audit_model.specs.declared.setting.Command.TheVariants.{Check, Run, Make, Plans}
 use Rattle.audit_model.specs.declared.setting.Command.{Command}
-use Rattle.word_definitions.specs.Words.{Pair, all_different, are_asks, ask_of, asks_of, command_of, is_good, is_number, names_of, number_of, parts_between}
+use Rattle.word_definitions.specs.Words.{Pair, all_different, are_asks, ask_of, asks_of, command_of, has_split, is_good, is_number, names_of, number_at, number_of, parts_between, text_of}
 use Rattle.audit_words.specs.Judged.{AreGood, AreReadable, fault_of_values}
 use Rattle.audit_words.proofs.Asking.{filter_map-ask_of}
 
@@ -24,6 +24,11 @@ bounded (Some n) low high h = let both = and_parts (nat_le low n) (nat_le n high
 
 pub number-bounds : (low high : ℕ) (text : List ℕ) → is_number low high text ≡ true → (low ≤ unwrap_or (number_of text) 0) × (unwrap_or (number_of text) 0 ≤ high)
 number-bounds low high text h = bounded (number_of text) low high h
+
+-- the districts of a region are from 1 to 200
+pub split-bounds : (words : List Pair) → is_good Check words MaxSplit ≡ true → (1 ≤ number_at Check words MaxSplit) × (number_at Check words MaxSplit ≤ 200)
+split-bounds words good =
+    number-bounds 1 200 (text_of Check words MaxSplit) (and_parts (is_number 1 200 (text_of Check words MaxSplit)) (has_split Check words) good).0
 
 -- the asks of a text that is asks
 pub asks_of-some : (text : List ℕ) → are_asks text ≡ true
@@ -55,10 +60,13 @@ find-all good [] h k l = absurd (omega arith)
 find-all good (name ∷ names) h zero l = (find-last good name names h).0
 find-all good (name ∷ names) h (suc k) l = find-all good names (find-last good name names h).1 k (omega arith)
 
-AreGood-values : (words : List Pair) → option_map BadValue (find (λ name. not (is_good Check words name))
-    (Slack ∷ Key ∷ Walks ∷ Steps ∷ Ends ∷ HubSteps ∷ Ask ∷ Workers ∷ Budget ∷ Save ∷ Resume ∷ MaxCut ∷ Shift ∷ Serial ∷ [])) ≡ None → AreGood words
-AreGood-values words h =
-    let good = find-all (is_good Check words) (Slack ∷ Key ∷ Walks ∷ Steps ∷ Ends ∷ HubSteps ∷ Ask ∷ Workers ∷ Budget ∷ Save ∷ Resume ∷ MaxCut ∷ Shift ∷ Serial ∷ []) h in
+-- the names that a run on any graph takes, beside the columns, with others behind them
+abbrev names_before : List Name → List Name
+names_before more = Slack ∷ Key ∷ Walks ∷ Steps ∷ Ends ∷ HubSteps ∷ Ask ∷ Workers ∷ Budget ∷ Save ∷ Resume ∷ MaxCut ∷ Shift ∷ Stop ∷ Serial ∷ more
+
+AreGood-values : (words : List Pair) (more : List Name) → option_map BadValue (find (λ name. not (is_good Check words name)) (names_before more)) ≡ None → AreGood words
+AreGood-values words more h =
+    let good = find-all (is_good Check words) (names_before more) h in
     record {
       slack = good 0 (omega arith);
       key = good 1 (omega arith);
@@ -73,7 +81,8 @@ AreGood-values words h =
       resume = good 10 (omega arith);
       max_cut = good 11 (omega arith);
       shift = good 12 (omega arith);
-      serial = good 13 (omega arith);
+      stop = good 13 (omega arith);
+      serial = good 14 (omega arith);
     }
 
 -- no word spells the command of several plans
@@ -90,9 +99,11 @@ not_plans word h = chosen (bytes_eq word (codes "check")) (bytes_eq word (codes 
 pub AreReadable-good : (word : List ℕ) (command : Command) (words : List Pair) → Some command ≡ command_of word → fault_of_values command words ≡ None → AreReadable command words
 AreReadable-good word Check words spells h =
     let good = find-all (is_good Check words) (names_of Check) h in
-    (good 4 (omega arith), good 5 (omega arith))
-AreReadable-good word Run words spells h = AreGood-values words h
+    (good 4 (omega arith), good 5 (omega arith), good 7 (omega arith))
+AreReadable-good word Run words spells h =
+    let good = find-all (is_good Check words) (names_before (Region ∷ MaxSplit ∷ [])) h in
+    (AreGood-values words (Region ∷ MaxSplit ∷ []) h, good 16 (omega arith))
 AreReadable-good word Make words spells h =
     let size = find-last (is_good Make words) Size (drop 1 (names_of Make)) h in
-    (AreGood-values words size.1, size.0)
+    (AreGood-values words [] size.1, size.0)
 AreReadable-good word Plans words spells h = absurd (not_plans word spells)

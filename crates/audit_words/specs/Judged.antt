@@ -2,7 +2,7 @@
 use Rattle.std.specs.Prelude.{◌≡◌, true, not, is_none, find, List, length, Option, option_map}
 use Rattle.audit_model.specs.First.{first_some_below}
 use Rattle.audit_model.specs.declared.fault.Name.{Name}
-use Rattle.audit_model.specs.declared.fault.Name.TheVariants.{Size, Slack, Key, Walks, Steps, Ends, HubSteps, Ask, Workers, Budget, Save, Resume, MaxCut, Shift, Stop, Serial}
+use Rattle.audit_model.specs.declared.fault.Name.TheVariants.{Size, Slack, Key, Walks, Steps, Ends, HubSteps, Ask, Workers, Budget, Save, Resume, MaxCut, Shift, Stop, Serial, MaxSplit}
 use Rattle.audit_model.specs.declared.fault.WordFault.{WordFault}
 use Rattle.audit_model.specs.declared.fault.WordFault.TheVariants.{MissingName, BadValue}
 use Rattle.audit_model.specs.declared.setting.Command.{Command}
@@ -29,7 +29,7 @@ RestsOnGood words Stop = (is_good Check words Ends ≡ true) × (is_good Check w
 RestsOnGood words Serial = is_good Check words Steps ≡ true
 RestsOnGood words _ = Unit {0}
 
--- each value that a run takes, beside the columns, is good
+-- each value that a run on any graph takes, beside the columns, is good
 pub record AreGood (words : List Pair) : Type 0 where
   pub slack : is_good Check words Slack ≡ true
   pub key : is_good Check words Key ≡ true
@@ -44,11 +44,12 @@ pub record AreGood (words : List Pair) : Type 0 where
   pub resume : is_good Check words Resume ≡ true
   pub max_cut : is_good Check words MaxCut ≡ true
   pub shift : is_good Check words Shift ≡ true
+  pub stop : is_good Check words Stop ≡ true
   pub serial : is_good Check words Serial ≡ true
 
 -- the values from which the setting of a command is made are good
 abbrev pub AreReadable : Command → List Pair → Type 0
-AreReadable Check words = (is_good Check words Slack ≡ true) × (is_good Check words MaxCut ≡ true)
-AreReadable Run words = AreGood words
+AreReadable Check words = (is_good Check words Slack ≡ true) × (is_good Check words MaxCut ≡ true) × (is_good Check words MaxSplit ≡ true)
+AreReadable Run words = AreGood words × (is_good Check words MaxSplit ≡ true)
 AreReadable Make words = AreGood words × (is_good Make words Size ≡ true)
-AreReadable Plans words = AreGood words
+AreReadable Plans words = AreGood words × (is_good Check words MaxSplit ≡ true)

@@ -6,8 +6,6 @@ pub mod fields;
 pub mod names;
 pub mod pairs;
 pub mod settings;
-#[cfg(test)]
-mod tests;
 pub mod values;
 pub mod words;
 

@@ -6,16 +6,18 @@ ghost use Rattle.word_definitions.specs.Words as definition;
 use audit_model::fault::Name;
 use audit_model::setting::Command;
 
-const OF_CHECK: [Name; 6] = [
+const OF_CHECK: [Name; 8] = [
     Name::Pop,
     Name::First,
     Name::Second,
     Name::District,
     Name::Slack,
     Name::MaxCut,
+    Name::Region,
+    Name::MaxSplit,
 ];
 
-const OF_RUN: [Name; 18] = [
+const OF_RUN: [Name; 21] = [
     Name::Pop,
     Name::First,
     Name::Second,
@@ -33,10 +35,13 @@ const OF_RUN: [Name; 18] = [
     Name::Resume,
     Name::MaxCut,
     Name::Shift,
+    Name::Stop,
     Name::Serial,
+    Name::Region,
+    Name::MaxSplit,
 ];
 
-const OF_MAKE: [Name; 15] = [
+const OF_MAKE: [Name; 16] = [
     Name::Size,
     Name::Slack,
     Name::Key,
@@ -51,6 +56,7 @@ const OF_MAKE: [Name; 15] = [
     Name::Resume,
     Name::MaxCut,
     Name::Shift,
+    Name::Stop,
     Name::Serial,
 ];
 

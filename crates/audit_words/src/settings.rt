@@ -3,6 +3,7 @@
 ghost use Rattle.std.specs.Prelude.{◌≡◌, true, IfOk, codes};
 ghost use Rattle.audit_model.specs.declared.fault.Name.TheVariants as name;
 ghost use Rattle.audit_model.specs.declared.setting.Command.TheVariants as command;
+ghost use Rattle.audit_model.specs.declared.setting.Command.TheVariants.{Check};
 ghost use Rattle.audit_words.specs.Judged.{AreGood, AreReadable};
 ghost use Rattle.audit_words.specs.Spoken.{pairs_in};
 ghost use Rattle.word_definitions.specs.Words as definition;
@@ -55,6 +56,7 @@ fn columns_of_grid(alloc: Global) -> Result<Columns, Memory>
 fn check_setting(alloc: Global, words: &[String]) -> Result<Setting, Memory>
     requires slack { definition.is_good command.Check (pairs_in words.now) name.Slack ≡ true }
     requires max_cut { definition.is_good command.Check (pairs_in words.now) name.MaxCut ≡ true }
+    requires max_split { definition.is_good command.Check (pairs_in words.now) name.MaxSplit ≡ true }
     ensures { IfOk result (λ setting. setting ≡ definition.setting_for command.Check (pairs_in words.now)) }
 {
     Ok(Setting {
@@ -76,8 +78,8 @@ fn check_setting(alloc: Global, words: &[String]) -> Result<Setting, Memory>
         shift: false,
         stop: 0,
         serial: false,
-        region: Text::new(alloc),
-        max_split: 200,
+        region: copied(alloc, text_of(words, Name::Region))?,
+        max_split: number_at(words, Name::MaxSplit),
     })
 }
 
@@ -88,9 +90,11 @@ fn run_setting(
     words: &[String],
     columns: Columns,
     size: u32,
+    region: Text,
+    max_split: u32,
 ) -> Result<Setting, Memory>
     requires { AreGood (pairs_in words.now) }
-    ensures { IfOk result (λ setting. setting ≡ record (definition.as_run command (pairs_in words.now)) { columns = columns; size = size }) }
+    ensures { IfOk result (λ setting. setting ≡ record (definition.as_run command (pairs_in words.now)) { columns = columns; size = size; region = region; max_split = max_split }) }
 {
     Ok(Setting {
         command,
@@ -109,11 +113,35 @@ fn run_setting(
         size,
         max_cut: number_at(words, Name::MaxCut),
         shift: text_of(words, Name::Shift) == "yes",
-        stop: 0,
+        stop: number_at(words, Name::Stop),
         serial: text_of(words, Name::Serial) == "yes",
-        region: Text::new(alloc),
-        max_split: 200,
+        region,
+        max_split,
     })
+}
+
+/// The setting of a run on a graph that is read.
+fn read_setting(alloc: Global, command: Command, words: &[String]) -> Result<Setting, Memory>
+    requires run { AreGood (pairs_in words.now) }
+    requires max_split { definition.is_good Check (pairs_in words.now) name.MaxSplit ≡ true }
+    ensures { IfOk result (λ setting. setting ≡ definition.as_run command (pairs_in words.now)) }
+{
+    let columns = columns_of(alloc, words)?;
+    let region = copied(alloc, text_of(words, Name::Region))?;
+    let max_split = number_at(words, Name::MaxSplit);
+    run_setting(alloc, command, words, columns, 0, region, max_split)
+}
+
+/// The setting of a run on a grid that is made, which has no regions.
+fn made_setting(alloc: Global, words: &[String]) -> Result<Setting, Memory>
+    requires run { AreGood (pairs_in words.now) }
+    requires size { definition.is_good command.Make (pairs_in words.now) name.Size ≡ true }
+    ensures { IfOk result (λ setting. setting ≡ definition.setting_for command.Make (pairs_in words.now)) }
+{
+    let columns = columns_of_grid(alloc)?;
+    let size = number_at(words, Name::Size);
+    let region = Text::new(alloc);
+    run_setting(alloc, Command::Make, words, columns, size, region, 200)
 }
 
 /// The setting that the values give.
@@ -123,16 +151,7 @@ pub fn setting_for(alloc: Global, command: Command, words: &[String]) -> Result<
 {
     match command {
         Command::Check => check_setting(alloc, words),
-        Command::Run | Command::Plans => run_setting(
-            alloc,
-            command,
-            words,
-            columns_of(alloc, words)?,
-            0,
-        ),
-        Command::Make => {
-            let size = number_at(words, Name::Size);
-            run_setting(alloc, command, words, columns_of_grid(alloc)?, size)
-        }
+        Command::Run | Command::Plans => read_setting(alloc, command, words),
+        Command::Make => made_setting(alloc, words),
     }
 }

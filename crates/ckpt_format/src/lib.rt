@@ -7,5 +7,3 @@ pub mod encode;
 mod fault;
 pub mod laws;
 mod places;
-#[cfg(test)]
-mod tests;

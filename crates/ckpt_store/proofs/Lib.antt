@@ -2,6 +2,7 @@ pub mod Fits
 pub mod Honest
 pub mod Judged
 pub mod Ours
+pub mod Found
 pub mod Turns
 pub mod Keeping
 pub mod Outlasted

@@ -1,6 +1,6 @@
 -- What holds of the slots of a keeper, whoever wrote them.
-use Rattle.std.specs.Prelude.{◌≡◌, ℕ, zero, suc, ◌+◌, ◌-◌, ◌%◌, ◌⊎◌, true, IsTrue, List, Option, Some, None}
-use Rattle.std.specs.List.{list_all}
+use Rattle.std.specs.Prelude.{◌≡◌, ◌≢◌, ℕ, zero, suc, ◌+◌, ◌-◌, ◌%◌, ◌<◌, ◌⊎◌, true, IsTrue, List, Option, Some, None}
+use Rattle.std.specs.List.{All, list_all}
 use Rattle.audit_io.specs.Slots.{Pair, other_stored, stored}
 use Rattle.audit_model.specs.declared.outcome.Outcome.{Outcome}
 use Rattle.audit_model.specs.Job.{Job}
@@ -33,6 +33,19 @@ abbrev pub CheckpointsAreOurs : Type 0
 CheckpointsAreOurs = (job : Job) (bytes : List ℕ) (version : ℕ) (digest : List ℕ) (generation : ℕ) (outcomes : List Outcome)
     → IsCheckpoint bytes version digest generation outcomes → IsTrue (list_all (fits job) outcomes)
     → slot_of job digest (Some bytes) ≡ ours generation outcomes
+
+-- what a slot says of its bytes: the job's is a checkpoint of the digest that is looked for, of this generation and these outcomes, which all fit the job;
+-- another's is a checkpoint of another digest; and a broken one is no checkpoint of the digest of which all outcomes fit
+abbrev pub IsReadFrom : Job → List ℕ → List ℕ → Slot → Type 0
+IsReadFrom job digest bytes absent = ⊥
+IsReadFrom job digest bytes (broken fault) = (version generation : ℕ) (outcomes : List Outcome)
+    → IsCheckpoint bytes version digest generation outcomes → IsTrue (list_all (fits job) outcomes) → ⊥
+IsReadFrom job digest bytes (other found generation) = (found ≢ digest) × ((version : ℕ) × ((outcomes : List Outcome) × IsCheckpoint bytes version found generation outcomes))
+IsReadFrom job digest bytes (ours generation outcomes) = ((version : ℕ) × IsCheckpoint bytes version digest generation outcomes) × IsTrue (list_all (fits job) outcomes)
+
+-- bytes are read as what they are
+abbrev pub SlotsAreWhatTheyAre : Type 0
+SlotsAreWhatTheyAre = (job : Job) (digest bytes : List ℕ) → All (λ b. b < 256) bytes → IsReadFrom job digest bytes (slot_of job digest (Some bytes))
 
 -- whatever both slots are, an intact slot of the generation and in the slot of the place is the newest
 abbrev pub WrittenSlotsAreNewest : Type 0

@@ -1,14 +1,24 @@
 //! Laws of the slots of a keeper, each the contract of a function that does nothing.
 
 ghost use Rattle.ckpt_store.specs.Histories.{SavesKeepTheNewest, SavesLeaveHonestSlots};
-ghost use Rattle.ckpt_store.specs.Laws.{CheckpointsAreOurs, HonestSlotsOpenRight, RightIsHonest, SavedSlotsAreNewest, StopsLeaveHonestSlots, WrittenSlotsAreNewest};
+ghost use Rattle.ckpt_store.specs.Laws.{CheckpointsAreOurs, HonestSlotsOpenRight, RightIsHonest, SavedSlotsAreNewest, SlotsAreWhatTheyAre, StopsLeaveHonestSlots, WrittenSlotsAreNewest};
 
+use ckpt_format::laws::{checkpoints_are_read, faultless_bytes_are_checkpoints};
 use model_laws::laws::{bare_outcomes_have_no_bins, honest_runs_go_on_rightly};
 
 /// A checkpoint is the job's where the job is looked for by its digest and all its outcomes fit the job.
 pub fn checkpoints_are_ours()
     ensures { CheckpointsAreOurs }
 {}
+
+/// A slot is what its bytes are: one that is read as the job's is a checkpoint of the digest with what was read, one that is read as another's is a
+/// checkpoint of another digest, and one that is broken is no checkpoint of the digest of which all outcomes fit the job.
+pub fn slots_are_what_they_are()
+    ensures { SlotsAreWhatTheyAre }
+{
+    faultless_bytes_are_checkpoints();
+    checkpoints_are_read();
+}
 
 /// An intact slot of the place's generation in the place's slot is the newest, whatever both slots were.
 pub fn written_slots_are_newest()

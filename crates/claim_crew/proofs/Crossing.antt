@@ -1,5 +1,5 @@
 -- A worker may go to another thread.
-use denote.Param.Send.{IsSend, param_send, recorded_send, struct_send, sendable}
+use denote.Param.Send.{IsSend, recorded_send, struct_send, sendable}
 use denote.RattleType.{RattleType}
 use denote.Struct.Declared.{shape}
 use Rattle.std.proofs.Crossing.{crosses}

@@ -31,6 +31,9 @@ popped_rest P all rest x each is k d inside =
     subst P (ap (λ xs. get_or xs k d) is ∙ get_or_append_left rest (x ∷ []) d k inside)
     (each k d (omega (arith, ap length is, length-append rest (x ∷ []))))
 
+pub none_yet : {A : Type 0} (P : A → Type 0) (xs : List A) → length xs ≡ 0 → All P xs
+none_yet P xs none = λ k d inside. absurd (omega (arith, inside, none))
+
 -- a worker that has walked the hub is as ready as before
 pub hub_walked : {J : Type 0} (keeps : J → Type 0) (stands : J → List ℕ → Type 0) (takes : J → ℕ → ℕ → Bool) (by : J → Rules) (job : Job) (c : Claims) (w : Worker J)
     → IsReady keeps stands takes by job c w → (walker : Walker J) → (held_of walker).job ≡ job → IsSeated job keeps stands takes by walker

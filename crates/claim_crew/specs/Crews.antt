@@ -37,11 +37,12 @@ module _ {J : Type 0} (keeps : J → Type 0) (stands : J → List ℕ → Type 0
     pub shared : share.items ≡ map (found_at job todo) (own p).claims
     pub room : (size_of c).limit ≤ length share.items + share.spare
 
-  -- the crew is ready to walk so many trajectories of the job
-  pub record IsCrew (job : Job) (count : ℕ) (c : Crew J) : Type 0 where
+  -- so many workers, who are ready to walk so many trajectories of the job
+  pub record IsCrew (job : Job) (count workers : ℕ) (c : Crew J) : Type 0 where
     pub limit : (size_of c.claims).limit ≡ count
     pub seats : (size_of c.claims).seats ≡ vec_len c.workers
     pub some : 0 < vec_len c.workers
+    pub workers_are : vec_len c.workers ≡ workers
     pub ready : All (IsReady job c.claims) c.workers.items
     pub hub : length c.hub ≡ job.graph.units
 

@@ -61,7 +61,7 @@ pub fn recruit<J: Judge>(
     requires count { count ≤ 100000 }
     requires workers { (1 ≤ vec_len judges) × (vec_len judges ≤ 32) }
     requires judges { AreJudges job.now J.keeps J.takes J.rules judges.items }
-    ensures { IfOk result (IsCrew J.keeps J.stands J.takes J.rules job.now count) }
+    ensures { IfOk result (IsCrew J.keeps J.stands J.takes J.rules job.now count (vec_len judges)) }
 {
     let (claims, pass) = Claims::new(alloc, count, judges.len() as u32)?;
     let workers = seat(alloc, job, &claims, pass, count, judges)?;

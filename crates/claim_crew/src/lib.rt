@@ -2,5 +2,6 @@
 #![tactic(auto)]
 
 pub mod crew;
+pub mod parts;
 pub mod walking;
 pub mod worker;

@@ -167,7 +167,7 @@ pub fn walk_all<R: Threads + Sync, J: Judge + Send, G: Gate + Sync>(
     crew: Crew<J>,
     book: &mut Book,
 )
-    requires crew { IsCrew J.keeps J.stands J.takes J.rules job.now (length todo.now) crew }
+    requires crew { IsCrew J.keeps J.stands J.takes J.rules job.now (length todo.now) job.now.setting.workers crew }
     requires todo { IsTodo job.now book.old.outcomes todo.now }
     requires total { book.old.total ≡ total job.now }
     ensures total { book.new.total ≡ book.old.total }
@@ -202,7 +202,7 @@ pub fn walk_run<R: Threads + Sync, J: Judge + Send, G: Gate + Sync>(
     book: &mut Book,
     out: &mut OutcomeList,
 )
-    requires crew { IsCrew J.keeps J.stands J.takes J.rules job.now (length todo.now) crew }
+    requires crew { IsCrew J.keeps J.stands J.takes J.rules job.now (length todo.now) job.now.setting.workers crew }
     requires todo { IsTodo job.now book.old.outcomes todo.now }
     requires total { book.old.total ≡ total job.now }
     requires room { book.old.total ≤ length out.old.items + out.old.spare }

@@ -19,12 +19,14 @@ pub struct Worker<J> {
 }
 
 impl<J: Judge> Worker<J> {
-    ghost use Rattle.std.specs.Prelude.{◌≡◌, IfOk, length};
+    ghost use Rattle.std.specs.Prelude.{◌≡◌, ◌+◌, IfOk, length};
     ghost use Rattle.audit_model.specs.Job.{rules};
     ghost use Rattle.flip_kernel.specs.Judged.{TakesPlansOf};
     ghost use Rattle.claim_counter.specs.Records.{fresh};
     ghost use Rattle.claim_counter.specs.Passes.{own, size_of, BelongsTo};
     ghost use Rattle.claim_crew.specs.Crews.{IsReady, IsDone};
+    ghost use Rattle.claim_crew.specs.Parts.{IsBack, IsLent};
+    ghost use Rattle.walker.specs.Seated.{IsSeated, held_of};
     ghost use Rattle.claim_crew.specs.Walks.{IsWithin, ServesEnds};
 
     /// A worker for the job, with room for `count` outcomes.
@@ -58,7 +60,10 @@ impl<J: Judge> Worker<J> {
         requires count { (size_of claims.now).limit ≡ length todo.now }
         requires within { IsWithin job.now todo.now }
         requires hub { ServesEnds job.now todo.now hub.now }
-        ensures { IsDone job.now todo.now claims.now self.new }
+        ensures done { IsDone job.now todo.now claims.now self.new }
+        ensures made { (held_of self.new.walker).job ≡ job.now }
+        ensures seated { IsSeated job.now J.keeps J.stands J.takes J.rules self.new.walker }
+        ensures room { length self.new.share.items + self.new.share.spare ≡ self.old.share.spare }
     {
         let walker = &mut self.walker;
         let pass = &mut self.pass;
@@ -68,6 +73,24 @@ impl<J: Judge> Worker<J> {
             gate.before(id);
             append(share, walker.walk(job, hub, id));
         }
+    }
+
+    /// As `run`, for a worker of whom it is asked that its share keeps room for the outcomes of all trajectories.
+    pub fn run_part<G: Gate>(
+        &mut self,
+        job: &Job,
+        todo: &[u32],
+        hub: &[u32],
+        gate: &G,
+        claims: &Claims,
+    )
+        requires lent { IsLent J.keeps J.stands J.takes J.rules job.now claims.now self.old }
+        requires count { (size_of claims.now).limit ≡ length todo.now }
+        requires within { IsWithin job.now todo.now }
+        requires hub { ServesEnds job.now todo.now hub.now }
+        ensures { IsBack J.keeps J.stands J.takes J.rules job.now todo.now claims.now self.new }
+    {
+        self.run(job, todo, hub, gate, claims);
     }
 }
 

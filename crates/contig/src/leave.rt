@@ -1,10 +1,12 @@
 //! May a unit leave its district?
 
-ghost use Rattle.std.specs.Prelude.{◌≡◌, ◌+◌, ◌<◌, ◌≤◌, ◌↔◌, length, slice_index, IsTrue};
+ghost use Rattle.std.specs.Prelude.{◌≡◌, ◌+◌, ◌<◌, ◌≤◌, ◌↔◌, ⊤, [], length, slice_index, IsTrue, MatchOption};
+ghost use Rattle.std.specs.List.{slice_index_or};
 ghost use Rattle.audit_model.specs.Local.{IsLocal, MayLeave};
 ghost use Rattle.audit_model.specs.Path.{IsConnected};
 ghost use Rattle.audit_model.specs.Plan.{in_district};
-ghost use Rattle.face_table.specs.Counts.{AreCounts};
+ghost use Rattle.face_table.specs.Counts.{AreCounts, HasNoHole};
+ghost use Rattle.faces.specs.Faces.{AreLinked};
 
 use crate::flood::is_whole;
 use crate::parts::{MOST, are_linked, mark_mates, meet};
@@ -84,9 +86,39 @@ pub fn leaves_connected<L: Ledger>(
     meet(g, plan, u, marks, &mut roots, mates)
 }
 
-/// Whether a unit's district, which is connected, stays so without it. Where the unit's neighbours there are linked
-/// through faces, or the district has no hole, no search is made; and none where those neighbours are connected among
-/// themselves.
+/// Whether a unit's district, which is connected, stays so without it, where counting tells: it does where the unit's
+/// neighbours there are linked through faces, and no other does where the district has no hole. Nothing is searched.
+pub fn counting_tells(
+    g: &Graph,
+    plan: &[u32],
+    u: u32,
+    table: &FaceTable,
+    counts: &FaceCounts,
+) -> Option<bool>
+    requires plan { length plan.now ≡ g.now.units }
+    requires unit { u < g.now.units }
+    requires made { table.now.graph ≡ g.now }
+    requires counts { AreCounts g.now table.now.faces (length counts.now.edges) plan.now counts.now }
+    requires district { slice_index plan.now u < length counts.now.edges }
+    requires connected { IsConnected g.now (in_district plan.now (slice_index plan.now u)) }
+    ensures told { MatchOption result ⊤ (λ may. IsTrue may ↔ MayLeave g.now plan.now u) }
+    ensures untold { MatchOption result (length (slice_index_or g.now.neighbours u []) ≤ 32 →
+        (AreLinked g.now table.now.faces plan.now u → ⊥) × (HasNoHole counts.now (slice_index plan.now u) → ⊥)) (λ may. ⊤) }
+{
+    if g.neighbours(u).len() > MOST_LINKED {
+        return None;
+    }
+    if table.links_mates(g, plan, u) {
+        return Some(true);
+    }
+    if counts.has_no_hole(plan[u as usize]) {
+        return Some(false);
+    }
+    None
+}
+
+/// Whether a unit's district, which is connected, stays so without it. It searches only where counting does not tell and
+/// the unit's neighbours there are not connected among themselves.
 pub fn may_leave<L: Ledger>(
     g: &Graph,
     plan: &[u32],
@@ -109,13 +141,8 @@ pub fn may_leave<L: Ledger>(
     ensures rising { steps.old ≤ steps.new }
     ensures most { steps.new ≤ steps.old + 1 }
 {
-    if g.neighbours(u).len() <= MOST_LINKED {
-        if table.links_mates(g, plan, u) {
-            return true;
-        }
-        if counts.has_no_hole(plan[u as usize]) {
-            return false;
-        }
+    match counting_tells(g, plan, u, table, counts) {
+        Some(may) => may,
+        None => leaves_connected(g, plan, u, marks, steps),
     }
-    leaves_connected(g, plan, u, marks, steps)
 }

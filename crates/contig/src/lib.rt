@@ -4,5 +4,3 @@
 pub mod flood;
 pub mod leave;
 pub mod parts;
-#[cfg(test)]
-mod tests;

@@ -4,5 +4,3 @@
 pub mod scratch;
 pub mod shifting;
 pub mod sums;
-#[cfg(test)]
-mod tests;

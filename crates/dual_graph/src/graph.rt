@@ -96,19 +96,16 @@ impl Graph {
     {
         self.neighbours(u).contains(&v)
     }
-}
 
-#[cfg(test)]
-mod tests {
-    use super::*;
-
-    #[test]
-    fn a_triangle_with_a_tail(rt: HostRuntime) -> Result<(), Memory> {
-        let graph = Graph::from_pairs(rt.alloc(), 4, &[(0, 1), (0, 2), (1, 2), (2, 3)])?;
-        assert_eq!(rt; graph.units(), 4);
-        assert_eq!(rt; graph.edges(), 4);
-        assert_eq!(rt; graph.neighbours(2), [0, 1, 3].as_slice());
-        assert!(rt; graph.adjacent(3, 2) && !graph.adjacent(0, 3));
-        Ok(())
+    /// Another graph that is the same.
+    pub fn copy(&self) -> Result<Graph, Memory>
+        ensures { IfOk result (λ g. g ≡ self.now) }
+    {
+        Ok(Graph {
+            units: self.units,
+            edges: self.edges,
+            begins: self.begins.clone()?,
+            near: self.near.clone()?,
+        })
     }
 }

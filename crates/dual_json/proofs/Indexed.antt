@@ -1,6 +1,6 @@
 -- A map from names to their first places, one place after another.
 use Rattle.std.proofs.Common.{◌≡◌, ℕ, suc, ◌+◌, ◌<◌, List, length, true, false, cond, Option, Some, None, refl, sym, ap, ◌∙◌, subst, inl, inr, arith}
-use Rattle.std.specs.BTreeMap.{BTreeMap, get, is_at}
+use Rattle.std.specs.HashMap.{HashMap, get}
 use Rattle.std.specs.Cmp.{eq_by_cmp_equiv}
 use Rattle.std.specs.Option.{option_or, option_map, unwrap_or}
 use Rattle.std.proofs.lemmas.Bool.{cases_Bool, cond-true, cond-false}
@@ -9,7 +9,7 @@ use Rattle.audit_model.specs.declared.setting.Label.{Label}
 use Rattle.audit_model.specs.Below.{any_below}
 use Rattle.audit_model.specs.First.{first_below}
 use Rattle.audit_model.specs.Label.{same_label}
-use Rattle.dual_json.specs.Names.{label_from, label_total, name_cmp}
+use Rattle.dual_json.specs.Names.{label_from, label_total, same_name}
 use Rattle.dual_json.specs.Places.{nth, repeated, IsIndex}
 use Rattle.dual_json.specs.declared.names.Name.{Name}
 use Rattle.dual_json.proofs.First.{first_below_same, first_below_more, first_below_found, any_from_some, any_from_none}
@@ -25,15 +25,15 @@ or_nothing None = refl
 or_nothing (Some a) = refl
 
 -- the first places below j, and no label there that an earlier place has
-pub record IsIndexed (labels : List Label) (j : ℕ) (places : BTreeMap Name ℕ) : Type 0 where
-  pub leads : (q : Name) → get name_cmp places q ≡ first_below j (λ i. same_label (label_from q) (nth labels i))
+pub record IsIndexed {S : Type 0} (labels : List Label) (j : ℕ) (places : HashMap Name ℕ S) : Type 0 where
+  pub leads : (q : Name) → get same_name places q ≡ first_below j (λ i. same_label (label_from q) (nth labels i))
   pub none : first_below j (λ k. any_below k (λ i. same_label (nth labels i) (nth labels k))) ≡ None
 
-module _ (labels : List Label) (j : ℕ) (places : BTreeMap Name ℕ) (key : Name) (before : IsIndexed labels j places) (at : nth labels j ≡ label_from key) where
+module _ {S : Type 0} (labels : List Label) (j : ℕ) (places : HashMap Name ℕ S) (key : Name) (before : IsIndexed labels j places) (at : nth labels j ≡ label_from key) where
   turned : (i : ℕ) → same_label (label_from key) (nth labels i) ≡ same_label (nth labels i) (nth labels j)
   turned i = same_turned (label_from key) (nth labels i) ∙ ap (same_label (nth labels i)) (sym at)
 
-  pub repeated_here : (first : ℕ) → j < length labels → get name_cmp places key ≡ Some first → repeated labels ≡ Some (fault.SameId first j)
+  pub repeated_here : (first : ℕ) → j < length labels → get same_name places key ≡ Some first → repeated labels ≡ Some (fault.SameId first j)
   repeated_here first l found =
       let one : first_below j (λ i. same_label (nth labels i) (nth labels j)) ≡ Some first =
       sym (first_below_same j (λ i. same_label (label_from key) (nth labels i)) (λ i. same_label (nth labels i) (nth labels j)) (λ i under. turned i)) ∙ sym (before.leads key) ∙ found in
@@ -42,9 +42,9 @@ module _ (labels : List Label) (j : ℕ) (places : BTreeMap Name ℕ) (key : Nam
       (any_from_some j (λ i. same_label (nth labels i) (nth labels j)) first one))
       ∙ ap (λ o. Some (fault.SameId (unwrap_or o 0) j)) one
 
-  module _ (new : BTreeMap Name ℕ) (absent : get name_cmp places key ≡ None)
-      (updates : (q : Name) → get name_cmp new q ≡ cond (is_at (name_cmp key) q) (Some j) (get name_cmp places q)) where
-    one_more : (q : Name) → get name_cmp new q ≡ option_or (first_below j (λ i. same_label (label_from q) (nth labels i))) (cond (same_label (label_from q) (nth labels j)) (Some j) None)
+  module _ (new : HashMap Name ℕ S) (absent : get same_name places key ≡ None)
+      (updates : (q : Name) → get same_name new q ≡ cond (same_name key q) (Some j) (get same_name places q)) where
+    one_more : (q : Name) → get same_name new q ≡ option_or (first_below j (λ i. same_label (label_from q) (nth labels i))) (cond (same_label (label_from q) (nth labels j)) (Some j) None)
     one_more q = elim (cases_Bool (same_label (label_from key) (label_from q))) [
       | inl same ↦
           let back : same_label (label_from q) (label_from key) ≡ true = same_turned (label_from q) (label_from key) ∙ same in
@@ -52,11 +52,11 @@ module _ (labels : List Label) (j : ℕ) (places : BTreeMap Name ℕ) (key : Nam
           first_below_same j (λ i. same_label (label_from q) (nth labels i)) (λ i. same_label (label_from key) (nth labels i)) (λ i under. same_alike (label_from q) (label_from key) (nth labels i) back)
           ∙ sym (before.leads key) ∙ absent in
           let here : same_label (label_from q) (nth labels j) ≡ true = ap (same_label (label_from q)) at ∙ back in
-          updates q ∙ cond-true (is_at (name_cmp key) q) (Some j) (get name_cmp places q) same
+          updates q ∙ cond-true (same_name key q) (Some j) (get same_name places q) same
           ∙ sym (ap (λ o. option_or o (cond (same_label (label_from q) (nth labels j)) (Some j) None)) none ∙ cond-true (same_label (label_from q) (nth labels j)) (Some j) None here)
       | inr off ↦
           let here : same_label (label_from q) (nth labels j) ≡ false = ap (same_label (label_from q)) at ∙ same_turned (label_from q) (label_from key) ∙ off in
-          updates q ∙ cond-false (is_at (name_cmp key) q) (Some j) (get name_cmp places q) off ∙ before.leads q
+          updates q ∙ cond-false (same_name key q) (Some j) (get same_name places q) off ∙ before.leads q
           ∙ sym (ap (λ o. option_or (first_below j (λ i. same_label (label_from q) (nth labels i))) o) (cond-false (same_label (label_from q) (nth labels j)) (Some j) None here)
           ∙ or_nothing (first_below j (λ i. same_label (label_from q) (nth labels i))))
     ]
@@ -71,7 +71,7 @@ module _ (labels : List Label) (j : ℕ) (places : BTreeMap Name ℕ) (key : Nam
               (sym (first_below_same j (λ i. same_label (label_from key) (nth labels i)) (λ i. same_label (nth labels i) (nth labels j)) (λ i under. turned i)) ∙ sym (before.leads key) ∙ absent));
         }
 
-pub indexed_all : (labels : List Label) (j : ℕ) (places : BTreeMap Name ℕ) → j ≡ length labels → IsIndexed labels j places → (repeated labels ≡ None) × IsIndex labels places
+pub indexed_all : {S : Type 0} (labels : List Label) (j : ℕ) (places : HashMap Name ℕ S) → j ≡ length labels → IsIndexed labels j places → (repeated labels ≡ None) × IsIndex labels places
 indexed_all labels j places all is = (
   ap (option_map (λ k. fault.SameId (unwrap_or (first_below k (λ i. same_label (nth labels i) (nth labels k))) 0) k))
       (subst (λ (m : ℕ). first_below m (λ k. any_below k (λ i. same_label (nth labels i) (nth labels k))) ≡ None) all is.none),

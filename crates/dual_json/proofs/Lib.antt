@@ -2,6 +2,7 @@ pub mod Bridge
 pub mod Counted
 pub mod Edging
 pub mod First
+pub mod Identified
 pub mod Indexed
 pub mod Joined
 pub mod Listed

@@ -86,7 +86,7 @@ few_by : (b : Bool) (n : ℕ) (rest : Option GraphFault) → nat_lt 100000 n ≡
 few_by true n rest is none = cc none
 few_by false n rest is none = ltb-false 100000 n is
 
-past : {A : Type 0} → (o rest : Option A) → option_or o rest ≡ None → rest ≡ None
+pub past : {A : Type 0} → (o rest : Option A) → option_or o rest ≡ None → rest ≡ None
 past None rest e = e
 past (Some a) rest e = cc e
 

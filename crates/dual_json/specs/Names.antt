@@ -1,7 +1,10 @@
 -- The label that a name stands for, and the order of labels.
-use Rattle.std.specs.Prelude.{◌≡◌, Bool, refl, Some}
-use Rattle.std.specs.Cmp.{IsTotalOrder, IsEquivalence, IsPartialEquivalence, IsPartialOrder, int_cmp_total, eq_by_cmp_equiv, partial_equiv_from_equiv, on_total, po}
-use Rattle.std.specs.Cmp.Lexicographic.{nat_list_cmp_total}
+use Rattle.std.proofs.Common.{sym, ap, ◌∙◌}
+use Rattle.std.specs.Prelude.{◌≡◌, Bool, true, refl, Some}
+use Rattle.std.specs.Cmp.{IsTotalOrder, IsEquivalence, IsPartialEquivalence, IsPartialOrder, int_cmp_total, eq_by_cmp_equiv, partial_equiv_from_equiv, on_total, po, signed_Decides}
+use Rattle.std.specs.Cmp.Lexicographic.{nat_list_cmp_total, same_text, texts_ties}
+use Rattle.std.specs.Hash.{HashWrites}
+use Rattle.std.specs.Hash as fed
 use Rattle.std.specs.Ordering.{ordering_reverse}
 use Rattle.std.specs.declared.cmp.Ordering.{Ordering}
 use Rattle.std.specs.declared.cmp.Ordering.TheVariants.{Less, Equal}
@@ -22,6 +25,14 @@ name_cmp a b = label_cmp (label_from a) (label_from b)
 
 abbrev pub same_name : Name → Name → Bool
 same_name a b = same_label (label_from a) (label_from b)
+
+-- what is fed to a hasher of a name: the label's number or bytes
+abbrev pub label_writes : Label → HashWrites
+label_writes (Whole n) = fed.i128 n
+label_writes (Word s) = fed.str s
+
+abbrev pub name_writes : Name → HashWrites
+name_writes name = label_writes (label_from name)
 
 -- ---- the order is total
 
@@ -65,3 +76,14 @@ name_per = partial_equiv_from_equiv name_equiv
 
 pub name_po : IsPartialOrder same_name (λ a b. Some (name_cmp a b))
 name_po = po name_total (λ a b. refl)
+
+-- ---- equal names are fed alike
+
+same_is : (a b : Label) → same_label a b ≡ true → a ≡ b
+same_is (Whole a) (Whole b) e = ap Whole ((signed_Decides a b).0 e)
+same_is (Whole a) (Word t) e = cc e
+same_is (Word s) (Whole b) e = cc e
+same_is (Word s) (Word t) e = ap Word (same_text s t (sym (texts_ties s t ∙ e)))
+
+pub name_hashes : (a b : Name) → same_name a b ≡ true → name_writes a ≡ name_writes b
+name_hashes a b same = ap label_writes (same_is (label_from a) (label_from b) same)

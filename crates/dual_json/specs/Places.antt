@@ -1,7 +1,7 @@
 -- Ids and labels of a list of objects, and the place of each id.
 use Rattle.std.specs.Prelude.{◌≡◌, ℕ, ◌<◌, List, [], length, map, Option, Some, is_none, unwrap_or, option_map, option_and_then}
 use Rattle.std.specs.List.{slice_index_or}
-use Rattle.std.specs.BTreeMap.{BTreeMap, get}
+use Rattle.std.specs.HashMap.{HashMap, get}
 use Rattle.serde_json.specs.Data.{Data, null}
 use Rattle.serde_json.specs.Find.{get as member}
 use Rattle.audit_model.specs.declared.fault.GraphFault.{GraphFault}
@@ -12,7 +12,7 @@ use Rattle.audit_model.specs.Below.{any_below}
 use Rattle.audit_model.specs.First.{first_below}
 use Rattle.audit_model.specs.Label.{same_label}
 use Rattle.graph_definitions.specs.Reading.{label_of, id_of}
-use Rattle.dual_json.specs.Names.{label_from, name_cmp}
+use Rattle.dual_json.specs.Names.{label_from, same_name}
 use Rattle.dual_json.specs.declared.names.Name.{Name}
 use Rattle.dual_json.specs.declared.names.Unnamed.{Unnamed}
 use Rattle.dual_json.specs.declared.names.Unnamed.TheVariants as unnamed
@@ -57,8 +57,8 @@ repeated labels = option_map
     (first_below (length labels) (λ j. any_below j (λ i. same_label (nth labels i) (nth labels j))))
 
 -- the map leads from each name to the first place of its label
-abbrev pub IsIndex : List Label → BTreeMap Name ℕ → Type 0
-IsIndex labels places = (q : Name) → get name_cmp places q ≡ place_in labels (label_from q)
+abbrev pub IsIndex : {S : Type 0} → List Label → HashMap Name ℕ S → Type 0
+IsIndex labels places = (q : Name) → get same_name places q ≡ place_in labels (label_from q)
 
 -- the place of the id of an entry
 abbrev pub place_of : List Label → Data → Option ℕ

@@ -9,14 +9,14 @@ use crate::names::{Name, name_at};
 use audit_model::fault::GraphFault;
 use serde_json::Value;
 use std::alloc::Global;
-use std::collections::BTreeMap;
+use std::collections::HashMap;
 use std::marker::Model;
 
 /// The ids of all nodes, which all differ, with the place of each.
 #[derive(Drop)]
 pub struct Index<'v> {
     names: Vec<Name<'v>>,
-    places: BTreeMap<Name<'v>, u32>,
+    places: HashMap<Name<'v>, u32>,
 }
 
 impl<'v> Model for Index<'v> {
@@ -32,23 +32,21 @@ impl<'v> Model for Index<'v> {
 }
 
 /// The place of each name, or the first name that an earlier place has too.
-fn places_of<'v>(alloc: Global, names: &[Name<'v>]) -> Result<BTreeMap<Name<'v>, u32>, GraphFault>
+fn places_of<'v>(alloc: Global, names: &[Name<'v>]) -> Result<HashMap<Name<'v>, u32>, GraphFault>
     requires { length names.now ≤ 100000 }
     ensures { MatchResult result (λ places. (repeated (labels_from names.now) ≡ None) × IsIndex (labels_from names.now) places)
         (λ f. (f ≡ Memory) ⊎ (repeated (labels_from names.now) ≡ Some f)) }
 {
-    let mut places = BTreeMap::new(alloc);
+    let Ok(mut places) = HashMap::with_capacity(alloc, names.len()) else {
+        return Err(GraphFault::Memory);
+    };
     for place in 0..names.len() {
         let second = place as u32;
-        if let Some(first) = places.get(&names[place]) {
-            return Err(GraphFault::SameId {
-                first: *first,
-                second,
-            });
+        match places.insert(names[place], second) {
+            Ok(None) => {}
+            Ok(Some(first)) => return Err(GraphFault::SameId { first, second }),
+            Err(_) => return Err(GraphFault::Memory),
         }
-        let Ok(_) = places.insert(names[place], second) else {
-            return Err(GraphFault::Memory);
-        };
     }
     Ok(places)
 }

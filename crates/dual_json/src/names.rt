@@ -6,7 +6,7 @@ ghost use Rattle.serde_json.specs.View.{view};
 ghost use Rattle.graph_definitions.specs.Reading.{label_of};
 ghost use Rattle.dual_json.specs.Places.{label_in, labels_from, first_unnamed, AreLabels, Tells};
 ghost use Rattle.dual_json.specs.Shape.{views};
-ghost use Rattle.dual_json.specs.Names.{label_from, name_cmp, same_name, name_equiv, name_total, name_per, name_po};
+ghost use Rattle.dual_json.specs.Names.{label_from, name_cmp, same_name, name_writes, name_equiv, name_total, name_per, name_po, name_hashes};
 
 use audit_model::memory::Memory;
 use audit_model::setting::Label;
@@ -14,6 +14,7 @@ use audit_model::text::Text;
 use serde_json::Value;
 use std::alloc::Global;
 use std::cmp::Ordering;
+use std::hash::{Hash, Hasher};
 
 /// An id or a label: a whole number or a text.
 #[derive(Clone, Copy)]
@@ -77,6 +78,19 @@ impl Ord for Name<'_> {
             (Name::Whole(_), Name::Word(_)) => Ordering::Less,
             (Name::Word(_), Name::Whole(_)) => Ordering::Greater,
             (Name::Word(a), Name::Word(b)) => a.cmp(b),
+        }
+    }
+}
+
+impl Hash for Name<'_> {
+    ghost hash_input = { name_writes };
+
+    ghost respects_eq = { name_hashes };
+
+    fn hash<H: Hasher>(&self, state: &mut H) {
+        match self {
+            Name::Whole(number) => number.hash(state),
+            Name::Word(word) => word.hash(state),
         }
     }
 }

@@ -6,5 +6,3 @@ pub mod counts;
 pub mod links;
 mod rows;
 pub mod table;
-#[cfg(test)]
-mod tests;

@@ -146,29 +146,3 @@ pub fn list_faces(alloc: Global, g: &Graph, candidates: &[Face]) -> Result<FaceL
     }
     Ok(list)
 }
-
-#[cfg(test)]
-mod tests {
-    use super::*;
-
-    #[test]
-    fn a_square_and_a_triangle(rt: HostRuntime) -> Result<(), Memory> {
-        let graph = Graph::from_pairs(
-            rt.alloc(),
-            5,
-            &[(0, 1), (0, 2), (1, 3), (2, 3), (2, 4), (3, 4)],
-        )?;
-        let square = Face::Square(0, 1, 3, 2);
-        let triangle = Face::Triangle(4, 2, 3);
-        let candidates = [
-            square,
-            square,
-            Face::Triangle(2, 3, 4),
-            triangle,
-            Face::Triangle(0, 1, 3),
-        ];
-        let list = list_faces(rt.alloc(), &graph, &candidates)?;
-        assert_eq!(rt; list.faces(), [square, triangle].as_slice());
-        Ok(())
-    }
-}

@@ -3,6 +3,7 @@ pub mod Dividing
 pub mod Flipping
 pub mod Holding
 pub mod Judging
+pub mod Leaving
 pub mod Moves
 pub mod Proposing
 pub mod Tables

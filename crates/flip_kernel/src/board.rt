@@ -1,8 +1,8 @@
 //! A plan that is legal for a job, with its sums and its open pairs.
 
-ghost use Rattle.std.specs.Prelude.{◌≡◌, ◌≢◌, ◌+◌, ◌<◌, ◌≤◌, ◌↔◌, ℕ, length, slice_index, slice_set, IfOk, MatchOption, IsTrue};
+ghost use Rattle.std.specs.Prelude.{◌≡◌, ◌≢◌, ◌+◌, ◌<◌, ◌≤◌, ◌↔◌, ℕ, ⊤, length, slice_index, slice_set, IfOk, MatchOption, IsTrue};
 ghost use Rattle.audit_model.specs.JobOf.{IsJob};
-ghost use Rattle.audit_model.specs.Local.{IsLocal};
+ghost use Rattle.audit_model.specs.Local.{IsLocal, MayLeave};
 ghost use Rattle.audit_model.specs.Job.{rules};
 ghost use Rattle.audit_model.specs.Meets.{meets_rules};
 ghost use Rattle.audit_model.specs.Plan.{IsLegal, cut_edges, district_sum, least_population, greatest_population};
@@ -18,7 +18,7 @@ use audit_model::lists::UnitList;
 use audit_model::memory::Memory;
 use audit_model::outcome::SumsView;
 use audit_model::steps::Steps;
-use contig::leave::may_leave;
+use contig::leave::{counting_tells, leaves_connected};
 use district_sums::sums::Sums;
 use dual_graph::marks::Marks;
 use face_table::counts::FaceCounts;
@@ -258,8 +258,41 @@ impl Board {
         is_permitted(job, judge, &mut self.sums, &mut self.plan, unit, district)
     }
 
+    /// Whether the unit may leave its district, where the counts of faces tell.
+    fn counting_tells(&self, job: &Job, unit: u32) -> Option<bool>
+        requires made { self.now.job ≡ job.now }
+        requires unit { unit < job.now.graph.units }
+        ensures { MatchOption result ⊤ (λ may. IsTrue may ↔ MayLeave job.now.graph self.now.plan unit) }
+    {
+        counting_tells(
+            job.graph(),
+            self.plan.as_slice(),
+            unit,
+            &self.faces,
+            &self.counts,
+        )
+    }
+
+    /// Whether the unit may leave its district, by a search where its neighbours there are not connected among themselves.
+    fn searching_tells<L: Ledger>(&mut self, job: &Job, unit: u32, steps: &mut Steps<L>) -> bool
+        requires made { self.old.job ≡ job.now }
+        requires unit { unit < job.now.graph.units }
+        ensures leaves { IsTrue result ↔ MayLeave job.now.graph self.old.plan unit }
+        ensures same { self.new ≡ self.old }
+        ensures searches { (steps.old ≤ steps.new) × (steps.new ≤ steps.old + 1) }
+        ensures local { IsLocal job.now.graph self.old.plan unit → steps.new ≡ steps.old }
+    {
+        leaves_connected(
+            job.graph(),
+            self.plan.as_slice(),
+            unit,
+            &mut self.marks,
+            steps,
+        )
+    }
+
     /// Whether the unit can move to the district, which is open to it: the plan is legal then. The populations are tested
-    /// first and the rules next, and the counter is that of the searches.
+    /// first, then the counts of faces, then the rules, and a search comes last; the counter is that of the searches.
     pub(crate) fn may_move<J: Judge, L: Ledger>(
         &mut self,
         job: &Job,
@@ -283,18 +316,12 @@ impl Board {
         if !self.keeps_bounds(job, unit, district) {
             return false;
         }
-        if !self.permits(job, judge, unit, district) {
-            return false;
+        match self.counting_tells(job, unit) {
+            Some(may) => may && self.permits(job, judge, unit, district),
+            None => {
+                self.permits(job, judge, unit, district) && self.searching_tells(job, unit, steps)
+            }
         }
-        may_leave(
-            job.graph(),
-            self.plan.as_slice(),
-            unit,
-            &self.faces,
-            &self.counts,
-            &mut self.marks,
-            steps,
-        )
     }
 
     /// Moves the unit to the district, which it can.

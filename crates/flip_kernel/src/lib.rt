@@ -7,5 +7,3 @@ pub mod laws;
 mod openings;
 pub mod proposal;
 pub mod state;
-#[cfg(test)]
-mod tests;

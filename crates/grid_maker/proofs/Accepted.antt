@@ -40,7 +40,7 @@ not_refused b f e = rw e refl
 map_none : {A B : Type 0} (f : A → B) (o : Option A) → o ≡ None → option_map f o ≡ None
 map_none f o e = rw e refl
 
-whole_same : (a b : ℕ) → same_label (Whole (pos a)) (Whole (pos b)) ≡ (a == b)
+pub whole_same : (a b : ℕ) → same_label (Whole (pos a)) (Whole (pos b)) ≡ (a == b)
 whole_same a b = elim (cases_lt a b) [
   | inl l ↦ rw (lt-ltb a b l) (sym (ne_eqb a b (λ e. omega (arith, l, e))))
   | inr past ↦ elim (cases_lt b a) [
@@ -55,16 +55,16 @@ module _ (size : ℕ) (key : List ℕ) where
   abbrev made : Document
   made = grid_document size key
 
-  count_is : node_count made ≡ units_of size
+  pub count_is : node_count made ≡ units_of size
   count_is = length-map_below (units_of size) (node_tree size key)
 
-  node_at : (i : ℕ) → i < node_count made → node made i ≡ node_tree size key i
+  pub node_at : (i : ℕ) → i < node_count made → node made i ≡ node_tree size key i
   node_at i l = get_or-map_below (units_of size) (node_tree size key) i null (omega (arith, l, count_is))
 
-  entries_at : (i : ℕ) → i < node_count made → entries made i ≡ map entry_tree (units_beside size i)
+  pub entries_at : (i : ℕ) → i < node_count made → entries made i ≡ map entry_tree (units_beside size i)
   entries_at i l = get_or-map_below (units_of size) (λ u. map entry_tree (units_beside size u)) i [] (omega (arith, l, count_is))
 
-  id_at : (i : ℕ) → i < node_count made → id_of (node made i) ≡ Some (Whole (pos i))
+  pub id_at : (i : ℕ) → i < node_count made → id_of (node made i) ≡ Some (Whole (pos i))
   id_at i l = ap id_of (node_at i l)
 
   place_at : (i place : ℕ) → i < node_count made → place < length (entries made i) → place < length (units_beside size i)
@@ -74,7 +74,7 @@ module _ (size : ℕ) (key : List ℕ) where
   entry_at i place l lp =
       ap (λ (ds : List Data). get_or ds place null) (entries_at i l) ∙ get_or-map entry_tree (units_beside size i) place null (place_at i place l lp)
 
-  entry_id : (i place : ℕ) → i < node_count made → place < length (entries made i) → id_of (entry made i place) ≡ Some (Whole (pos (get_or (units_beside size i) place 0)))
+  pub entry_id : (i place : ℕ) → i < node_count made → place < length (entries made i) → id_of (entry made i place) ≡ Some (Whole (pos (get_or (units_beside size i) place 0)))
   entry_id i place l lp = ap id_of (entry_at i place l lp)
 
   -- ---- ids
@@ -96,7 +96,7 @@ module _ (size : ℕ) (key : List ℕ) where
 
 -- ---- edges
 
-near : (size u v : ℕ) → u < v → are_beside size u v ≡ true → (u + 1 ≡ v) ⊎ (u + side size ≡ v)
+pub near : (size u v : ℕ) → u < v → are_beside size u v ≡ true → (u + 1 ≡ v) ⊎ (u + side size ≡ v)
 near size u v l h =
     elim (or_cases ((u / side size == v / side size) && ((u + 1 == v) || (v + 1 == u))) ((u + side size == v) || (v + side size == u)) h) [
       | inl e ↦ elim (or_cases (u + 1 == v) (v + 1 == u) (and_parts (u / side size == v / side size) ((u + 1 == v) || (v + 1 == u)) e).1) [
@@ -109,7 +109,7 @@ near size u v l h =
       ]
     ]
 
-near_back : (size u v : ℕ) → u < v → are_beside size v u ≡ true → (u + 1 ≡ v) ⊎ (u + side size ≡ v)
+pub near_back : (size u v : ℕ) → u < v → are_beside size v u ≡ true → (u + 1 ≡ v) ⊎ (u + side size ≡ v)
 near_back size u v l h =
     elim (or_cases ((v / side size == u / side size) && ((v + 1 == u) || (u + 1 == v))) ((v + side size == u) || (u + side size == v)) h) [
       | inl e ↦ elim (or_cases (v + 1 == u) (u + 1 == v) (and_parts (v / side size == u / side size) ((v + 1 == u) || (u + 1 == v)) e).1) [
@@ -161,7 +161,7 @@ module _ (size : ℕ) (key : List ℕ) (some : 1 ≤ size) (small : size ≤ 30)
   abbrev grid_made : Document
   grid_made = grid_document size key
 
-  lists_beside : (i j : ℕ) → i < node_count grid_made → j < node_count grid_made → lists grid_made i j ≡ true → are_beside size i j ≡ true
+  pub lists_beside : (i j : ℕ) → i < node_count grid_made → j < node_count grid_made → lists grid_made i j ≡ true → are_beside size i j ≡ true
   lists_beside i j li lj h =
       let found = some_passes (length (entries grid_made i)) (λ place. same_id (id_of (entry grid_made i place)) (id_of (node grid_made j))) h in
       let v : ℕ = get_or (units_beside size i) found.0 0 in
@@ -246,7 +246,7 @@ module _ (size : ℕ) (key : List ℕ) (some : 1 ≤ size) (small : size ≤ 30)
 
   first_is_new : (d : ℕ) → d < 2 → is_new_label grid_made grid_columns (first_of size d) ≡ true
   first_is_new d l =
-      let inside : first_of size d < node_count grid_made = omega (arith, count_is size key, first_inside size d some l) in
+      let inside : first_of size d < node_count grid_made = omega (arith, count_is size key, first_inside size d some (omega (arith, l))) in
       ap not (none_passes (first_of size d) (λ i. same_label (label_at grid_made grid_columns i) (label_at grid_made grid_columns (first_of size d)))
       (λ j lj.
       same_districts j (first_of size d) (omega (arith, lj, inside)) inside
@@ -256,7 +256,7 @@ module _ (size : ℕ) (key : List ℕ) (some : 1 ≤ size) (small : size ≤ 30)
   two_labels =
       let into : count_below 2 (λ _. true) ≤ label_count grid_made grid_columns =
       count_below_into 2 (node_count grid_made) (λ _. true) (is_new_label grid_made grid_columns) (first_of size)
-      (λ d l h. (omega (arith, count_is size key, first_inside size d some l), first_is_new d l))
+      (λ d l h. (omega (arith, count_is size key, first_inside size d some (omega (arith, l))), first_is_new d l))
       (λ j k lj lk hj hk e. sym (first_district size j some) ∙ ap (district_of size) e ∙ first_district size k some) in
       omega (arith, into, count_two)
 

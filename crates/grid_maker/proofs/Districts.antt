@@ -33,10 +33,10 @@ pub before_first : (size district unit : ℕ) → 1 ≤ size → unit < first_of
 before_first size district unit some l =
     div_below (unit / side size) size district (omega (arith, some)) (div_below unit (side size) (district * size) (omega (arith, some)) l)
 
--- the first two districts have units
-pub first_inside : (size district : ℕ) → 1 ≤ size → district < 2 → first_of size district < units_of size
+-- each of the ten districts has a unit
+pub first_inside : (size district : ℕ) → 1 ≤ size → district < 10 → first_of size district < units_of size
 first_inside size district some l =
-    let small : district * size ≤ 1 * size = mul-le district size 1 size (omega (arith, l)) (omega arith) in
+    let small : district * size ≤ 9 * size = mul-le district size 9 size (omega (arith, l)) (omega arith) in
     let inside : district * size < side size = omega (arith, small, some) in
     let w : ℕ = side size in
     subst (λ n. n < w * w) (add-zero (district * size * w)) (mul-add-lt (district * size) w 0 w inside (omega (arith, some)))

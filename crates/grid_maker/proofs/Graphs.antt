@@ -1,5 +1,5 @@
 -- The grid's text is read without a refusal.
-use Rattle.std.proofs.Common.{◌≡◌, ℕ, zero, suc, ◌≤◌, Bool, true, false, not, cond, List, [], ◌∷◌, ◌++◌, map, Option, None, refl, ap, ap₂, ◌∙◌}
+use Rattle.std.proofs.Common.{◌≡◌, ℕ, zero, suc, ◌≤◌, Bool, true, false, not, cond, List, [], ◌∷◌, ◌++◌, map, Option, None, Ok, refl, ap, ap₂, ◌∙◌}
 use Rattle.std.specs.Prelude.{is_ok, is_some, unwrap_or}
 use Rattle.std.specs.List.{list_all}
 use Rattle.std.proofs.lemmas.Bool.{and_parts, and_from}
@@ -51,13 +51,18 @@ module _ (size : ℕ) (key : List ℕ) where
       ∙ map-map_below (λ d. unwrap_or (list_of d) []) (units_of size) (neighbours_tree size) (λ u. map entry_tree (units_beside size u))
       (λ u. elements-items_of (map entry_tree (units_beside size u))))
 
-  pub grid_is_read : 1 ≤ size → size ≤ 30 → is_ok (reading (grid size key) grid_columns) ≡ true
+  -- what is read of the text
+  pub grid_gives : 1 ≤ size → size ≤ 30 → reading (grid size key) grid_columns ≡ Ok (parsed (grid_document size key) grid_columns)
   unfolding reading
-  grid_is_read some few =
+  grid_gives some few =
       let g : List ℕ = grid size key in
       let tree : Data = grid_tree size key in
-      ap (λ (b : Bool). is_ok (of_json grid_columns (cond b (read g) None))) (grid_utf8 size key some few)
-      ∙ ap (λ (o : Option Data). is_ok (of_json grid_columns o)) (grid_read size key some few)
-      ∙ ap (λ o. is_ok (of_root grid_columns tree o)) shaped
-      ∙ ap (λ o. is_ok (accepted_or (parsed (document tree) grid_columns) o))
+      ap (λ (b : Bool). of_json grid_columns (cond b (read g) None)) (grid_utf8 size key some few)
+      ∙ ap (λ (o : Option Data). of_json grid_columns o) (grid_read size key some few)
+      ∙ ap (λ o. of_root grid_columns tree o) shaped
+      ∙ ap (λ o. accepted_or (parsed (document tree) grid_columns) o)
       (ap (λ (d : Document). refusal d grid_columns) document_is ∙ accepted size key some few)
+      ∙ ap (λ (d : Document). Ok (parsed d grid_columns)) document_is
+
+  pub grid_is_read : 1 ≤ size → size ≤ 30 → is_ok (reading (grid size key) grid_columns) ≡ true
+  grid_is_read some few = ap is_ok (grid_gives some few)

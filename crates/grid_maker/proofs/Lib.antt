@@ -6,3 +6,6 @@ pub mod Finding
 pub mod Accepted
 pub mod Readable
 pub mod Graphs
+pub mod Paired
+pub mod Assembled
+pub mod Short

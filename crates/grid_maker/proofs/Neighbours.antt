@@ -29,7 +29,7 @@ listed false n = refl
 
 -- ---- the test
 
-beside : ℕ → ℕ → ℕ → Bool
+unfoldable pub beside : ℕ → ℕ → ℕ → Bool
 beside width u v = (u / width == v / width) && ((u + 1 == v) || (v + 1 == u)) || ((u + width == v) || (v + width == u))
 
 and_false : (b : Bool) → (b && false) ≡ false
@@ -89,7 +89,7 @@ above_is_beside : (width u v : ℕ) → v + width ≡ u → beside width u v ≡
 unfolding beside
 above_is_beside width u v e = rw (eq-eqb (v + width) u e, last_true) refl
 
-below_is_beside : (width u v : ℕ) → u + width ≡ v → beside width u v ≡ true
+pub below_is_beside : (width u v : ℕ) → u + width ≡ v → beside width u v ≡ true
 unfolding beside
 below_is_beside width u v e = rw (eq-eqb (u + width) v e, third_true) refl
 
@@ -99,7 +99,7 @@ left_is_beside width w wide =
     rw (ne_eqb (suc w + 1) w (λ e. omega (arith, e)), eq-eqb (w + 1) (suc w) (omega arith), ne_eqb (suc w + width) w (λ e. omega (arith, e)), ne_eqb (w + width) (suc w) (λ e. omega (arith, e)))
     (and_true (suc w / width == w / width) ∙ same_row_before width w (omega arith))
 
-right_is_beside : (width u : ℕ) → 2 ≤ width → beside width u (u + 1) ≡ nat_lt (u % width + 1) width
+pub right_is_beside : (width u : ℕ) → 2 ≤ width → beside width u (u + 1) ≡ nat_lt (u % width + 1) width
 unfolding beside
 right_is_beside width u wide =
     rw (eq-eqb (u + 1) (u + 1) refl, ne_eqb (u + width) (u + 1) (λ e. omega (arith, e)), ne_eqb (u + 1 + width) u (λ e. omega (arith, e)))
@@ -146,7 +146,7 @@ to_right width u wide =
     ∙ ap (λ (xs : List ℕ). filter_below u (beside width u) ++ xs) (sym (listed (nat_lt (u % width + 1) width) (u + 1)))
 
 -- the last unit ends its row
-last_ends : (width u : ℕ) → 0 < width → u + 1 ≡ width * width → nat_lt (u % width + 1) width ≡ false
+pub last_ends : (width u : ℕ) → 0 < width → u + 1 ≡ width * width → nat_lt (u % width + 1) width ≡ false
 last_ends width u some e =
     let corner : u ≡ (width - 1) * width + (width - 1) = omega (arith, e, some, corner_of width some) in
     let column : u % width ≡ width - 1 = ap (λ (n : ℕ). n % width) corner ∙ mod-mul-add (width - 1) width (width - 1) (omega (arith, some)) in

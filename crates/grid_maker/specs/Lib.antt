@@ -1,3 +1,4 @@
 pub mod Beside
 pub mod Columns
+pub mod Pairs
 pub mod Tree

@@ -30,7 +30,7 @@ fn left(side: u32, unit: u32) -> Option<u32>
 }
 
 /// The unit to the right, in the same row.
-fn right(side: u32, unit: u32) -> Option<u32>
+pub(crate) fn right(side: u32, unit: u32) -> Option<u32>
     requires side { (1 ≤ side) × (side ≤ 300) }
     requires unit { unit < side * side }
     ensures { result ≡ unit_right side unit }
@@ -43,7 +43,7 @@ fn right(side: u32, unit: u32) -> Option<u32>
 }
 
 /// The unit below.
-fn below(side: u32, unit: u32) -> Option<u32>
+pub(crate) fn below(side: u32, unit: u32) -> Option<u32>
     requires side { (1 ≤ side) × (side ≤ 300) }
     requires unit { unit < side * side }
     ensures { result ≡ unit_below side unit }

@@ -9,6 +9,7 @@ ghost use Rattle.grid_maker.specs.Tree.{root_tree, grid_tree};
 
 mod adjacency;
 pub mod laws;
+pub mod made;
 mod nodes;
 
 use crate::adjacency::adjacency_of;
@@ -52,6 +53,3 @@ pub fn make(alloc: Global, size: u32, key: [u8; 32]) -> Result<Bytes, Memory>
     let root = root_of(alloc, adjacency, nodes)?;
     written(alloc, &root)
 }
-
-#[cfg(test)]
-mod tests;

@@ -11,7 +11,7 @@ use serde_json::{Value, json};
 use std::alloc::Global;
 
 /// The stream of the draws of which the votes are made.
-const VOTES_STREAM: u64 = 4_294_967_296;
+pub(crate) const VOTES_STREAM: u64 = 4_294_967_296;
 
 /// A unit of 100 people, of whom so many vote for the first party and the others for the second.
 fn node_of(alloc: Global, size: u32, unit: u32, first: u64) -> Result<Value, Memory>

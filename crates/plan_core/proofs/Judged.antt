@@ -4,12 +4,13 @@ use Rattle.std.specs.Prelude.{◌↔◌, is_none, is_some, option_map, unwrap_or
 use Rattle.std.proofs.lemmas.Bool.{and_parts, and_from, cases_Bool, cond-true, cond-false, le-ltb, ltb-false, not-false, not_from_true, not_from_false}
 use Rattle.audit_model.specs.declared.fault.PlanFault.{PlanFault}
 use Rattle.audit_model.specs.declared.fault.PlanFault.TheVariants.{Disconnected, TooManyCut, Memory}
+use Rattle.audit_model.specs.declared.setting.Label.{Label}
 use Rattle.audit_model.specs.declared.setting.Setting.{Setting}
 use Rattle.audit_model.specs.Below.{above_all}
 use Rattle.audit_model.specs.First.{first_some, first_below}
 use Rattle.audit_model.specs.Graph.{Graph}
 use Rattle.audit_model.specs.Job.{Job}
-use Rattle.audit_model.specs.JobOf.{IsJob, job_from, job_of, job_or, is_unbalanced, is_parted, cuts_too_many, is_oversplit, out_of_bounds, disconnected, oversplit, bounds_fault, path_fault, cut_fault, split_fault, plan_fault}
+use Rattle.audit_model.specs.JobOf.{IsJob, job_from, job_of, job_or, job_with, restarted, is_unbalanced, is_parted, cuts_too_many, is_oversplit, out_of_bounds, disconnected, oversplit, bounds_fault, path_fault, cut_fault, split_fault, plan_fault}
 use Rattle.audit_model.specs.Limits.{IsWithinLimits}
 use Rattle.audit_model.specs.Meets.{split_of}
 use Rattle.audit_model.specs.Parsed.{Parsed}
@@ -187,6 +188,22 @@ module _ (parsed : Parsed) (setting : Setting) (regions : List ℕ) where
   pub job_of_some : (fault : PlanFault) → plan_fault (job_from parsed setting regions) ≡ Some fault → job_of parsed setting regions ≡ Err fault
   unfolding job_of
   job_of_some fault some = ap (job_or (job_from parsed setting regions)) some
+
+pub restarted_is : (inside job : Job) (start : List ℕ) (labels : List Label) (districts : ℕ) (input : Job)
+    → input ≡ record inside { start = start; districts = districts } → districts ≡ length labels → inside ≡ job → input ≡ restarted job start labels
+restarted_is inside job start labels districts input is count same =
+    is ∙ ap (λ (n : ℕ). record inside { start = start; districts = n }) count ∙ ap (λ (j : Job). restarted j start labels) same
+
+module _ (job : Job) (start : List ℕ) (labels : List Label) (input : Job) (is : input ≡ restarted job start labels) where
+  pub job_with_none : plan_fault input ≡ None → job_with job start labels ≡ Ok input
+  unfolding job_with
+  job_with_none none =
+      subst (λ (j : Job). job_with job start labels ≡ Ok j) (sym is)
+      (ap (job_or (restarted job start labels)) (subst (λ (j : Job). plan_fault j ≡ None) is none))
+
+  pub job_with_some : (fault : PlanFault) → plan_fault input ≡ Some fault → job_with job start labels ≡ Err fault
+  unfolding job_with
+  job_with_some fault some = ap (job_or (restarted job start labels)) (subst (λ (j : Job). plan_fault j ≡ Some fault) is some)
 
 -- what was made of a job, or want of memory
 module _ (job : Job) where

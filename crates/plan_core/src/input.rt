@@ -1,10 +1,10 @@
 //! What a job holds, before its start plan is judged.
 
-ghost use Rattle.std.specs.Prelude.{◌≡◌, ◌<◌, ℕ, length, slice_index, IfOk};
+ghost use Rattle.std.specs.Prelude.{◌≡◌, ◌<◌, ◌≤◌, ℕ, length, slice_index, IfOk};
 ghost use Rattle.std.specs.List.{list_any};
 ghost use Rattle.audit_model.specs.Job.{total_population, total_votes, rules};
 ghost use Rattle.audit_model.specs.JobOf.{is_gap, lacks_votes, bounds_fault, path_fault, cut_fault, split_fault, plan_fault, job_from};
-ghost use Rattle.audit_model.specs.Limits.{IsWithinLimits};
+ghost use Rattle.audit_model.specs.Limits.{IsWithinLimits, most_districts};
 ghost use Rattle.audit_model.specs.Plan.{least_population, greatest_population};
 ghost use Rattle.dual_graph.specs.Read.{parsed_of};
 
@@ -95,6 +95,30 @@ impl Input {
             population,
             votes,
         }
+    }
+
+    /// The same with another plan to start from, of so many districts.
+    pub fn restarted(&self, start: UnitList, districts: u32) -> Result<Input, Memory>
+        requires complete { length start ≡ self.now.graph.units }
+        requires in_range { (u : ℕ) → u < self.now.graph.units → slice_index start u < districts }
+        requires two { 2 ≤ districts }
+        requires few { districts ≤ most_districts }
+        ensures { IfOk result (λ input. input ≡ record self.now { start = start; districts = districts }) }
+    {
+        Ok(Input {
+            graph: self.graph.copy()?,
+            counts: self.counts.copy()?,
+            start,
+            districts,
+            setting: self.setting.copy()?,
+            rules: Rules {
+                max_cut: self.rules.max_cut,
+                regions: self.rules.regions.copy()?,
+                max_split: self.rules.max_split,
+            },
+            population: self.population,
+            votes: self.votes,
+        })
     }
 
     /// The graph.

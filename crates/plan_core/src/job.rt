@@ -1,11 +1,11 @@
 //! The job of a run.
 
-ghost use Rattle.std.specs.Prelude.{◌≡◌, ◌+◌, ◌<◌, ◌↔◌, ◌⊎◌, ℕ, [], Ok, Err, length, slice_index, pos, IsTrue, IfOk, IfSome, MatchResult};
+ghost use Rattle.std.specs.Prelude.{◌≡◌, ◌+◌, ◌<◌, ◌≤◌, ◌↔◌, ◌⊎◌, ℕ, [], Ok, Err, length, slice_index, pos, IsTrue, IfOk, IfSome, MatchResult};
 ghost use Rattle.std.specs.List.{slice_get, slice_index_or};
 ghost use Rattle.audit_model.specs.declared.fault.PlanFault.TheVariants as plan;
 ghost use Rattle.audit_model.specs.Job.{total_population, total_votes, rules};
-ghost use Rattle.audit_model.specs.JobOf.{IsJob, job_from, job_of};
-ghost use Rattle.audit_model.specs.Limits.{IsWithinLimits};
+ghost use Rattle.audit_model.specs.JobOf.{IsJob, job_from, job_of, job_with};
+ghost use Rattle.audit_model.specs.Limits.{IsWithinLimits, most_districts};
 ghost use Rattle.audit_model.specs.Plan.{IsLegal, is_legal, least_population, greatest_population};
 ghost use Rattle.audit_model.specs.Trajectory.{plan_value};
 ghost use Rattle.dual_graph.specs.Read.{parsed_of};
@@ -13,7 +13,7 @@ ghost use Rattle.dual_graph.specs.Read.{parsed_of};
 use crate::input::Input;
 use crate::values::start_values;
 use audit_model::fault::PlanFault;
-use audit_model::lists::UnitList;
+use audit_model::lists::{LabelList, UnitList};
 use audit_model::outcome::Counts;
 use audit_model::rules::Rules;
 use audit_model::setting::Setting;
@@ -22,9 +22,6 @@ use dual_graph::marks::Marks;
 use dual_graph::parsed::Parsed;
 use std::alloc::Global;
 use std::marker::Model;
-
-#[cfg(test)]
-mod tests;
 
 /// A graph with the counts of its units, a legal plan to start from, a setting and the rules for plans.
 #[derive(Drop)]
@@ -93,6 +90,36 @@ impl Job {
         ensures sound { IfOk result (λ job. IsJob job) }
     {
         let input = Input::new(parsed, setting, regions);
+        match input.plan_fault(alloc) {
+            Err(_) => Err(PlanFault::Memory),
+            Ok(Some(fault)) => Err(fault),
+            Ok(None) => Job::with_values(alloc, input),
+        }
+    }
+
+    /// The job of the same graph, counts, setting and regions with another plan to start from, in which each
+    /// unit has the place of its label among these.
+    ///
+    /// # Errors
+    ///
+    /// Those of [`Job::with_regions`] in their order.
+    pub fn with_plan(
+        &self,
+        alloc: Global,
+        start: UnitList,
+        labels: LabelList,
+    ) -> Result<Job, PlanFault>
+        requires complete { length start ≡ self.now.graph.units }
+        requires in_range { (u : ℕ) → u < self.now.graph.units → slice_index start u < length labels }
+        requires two { 2 ≤ length labels }
+        requires few { length labels ≤ most_districts }
+        ensures job { MatchResult result (λ job. job_with self.now start labels ≡ Ok job)
+            (λ fault. (fault ≡ plan.Memory) ⊎ (job_with self.now start labels ≡ Err fault)) }
+        ensures sound { IfOk result (λ job. IsJob job) }
+    {
+        let Ok(input) = self.input.restarted(start, labels.len() as u32) else {
+            return Err(PlanFault::Memory);
+        };
         match input.plan_fault(alloc) {
             Err(_) => Err(PlanFault::Memory),
             Ok(Some(fault)) => Err(fault),

@@ -4,5 +4,3 @@
 mod counting;
 pub mod guard;
 pub mod judges;
-#[cfg(test)]
-mod tests;

@@ -122,6 +122,3 @@ fn push_stop_line(job: &Job, out: &mut Bytes) -> Result<(), Memory>
     }
     push_line(out, &[Word::Text("stop"), Word::Number(u64::from(enough))])
 }
-
-#[cfg(test)]
-mod tests;

@@ -13,8 +13,6 @@ pub mod rules;
 pub mod serial;
 pub mod shift;
 pub mod stops;
-#[cfg(test)]
-mod tests;
 pub mod values;
 pub mod walks;
 

@@ -153,6 +153,3 @@ fn open_id(held: &[Option<u32>], worker: u32) -> Option<Option<u32>>
 {
     held.get(worker as usize).copied()
 }
-
-#[cfg(test)]
-mod tests;

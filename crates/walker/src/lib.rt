@@ -4,7 +4,5 @@
 mod asked;
 mod bins;
 mod steps;
-#[cfg(test)]
-mod tests;
 mod trail;
 pub mod walker;

@@ -26,10 +26,10 @@ use Rattle.text_definitions.specs.Names.{score_name, tail_name}
 
 -- the names that a command takes, in the order of the table
 abbrev pub names_of : Command → List Name
-names_of Check = Pop ∷ First ∷ Second ∷ District ∷ Slack ∷ MaxCut ∷ []
+names_of Check = Pop ∷ First ∷ Second ∷ District ∷ Slack ∷ MaxCut ∷ Region ∷ MaxSplit ∷ []
 names_of Run =
-    Pop ∷ First ∷ Second ∷ District ∷ Slack ∷ Key ∷ Walks ∷ Steps ∷ Ends ∷ HubSteps ∷ Ask ∷ Workers ∷ Budget ∷ Save ∷ Resume ∷ MaxCut ∷ Shift ∷ Serial ∷ []
-names_of Make = Size ∷ Slack ∷ Key ∷ Walks ∷ Steps ∷ Ends ∷ HubSteps ∷ Ask ∷ Workers ∷ Budget ∷ Save ∷ Resume ∷ MaxCut ∷ Shift ∷ Serial ∷ []
+    Pop ∷ First ∷ Second ∷ District ∷ Slack ∷ Key ∷ Walks ∷ Steps ∷ Ends ∷ HubSteps ∷ Ask ∷ Workers ∷ Budget ∷ Save ∷ Resume ∷ MaxCut ∷ Shift ∷ Stop ∷ Serial ∷ Region ∷ MaxSplit ∷ []
+names_of Make = Size ∷ Slack ∷ Key ∷ Walks ∷ Steps ∷ Ends ∷ HubSteps ∷ Ask ∷ Workers ∷ Budget ∷ Save ∷ Resume ∷ MaxCut ∷ Shift ∷ Stop ∷ Serial ∷ []
 names_of Plans = []
 
 -- the value of a name that is not given, where it may be left out
@@ -247,10 +247,10 @@ module _ (command : Command) (words : List Pair) where
     size = 0;
     max_cut = number_at MaxCut;
     shift = is_yes Shift;
-    stop = 0;
+    stop = number_at Stop;
     serial = is_yes Serial;
-    region = [];
-    max_split = 200;
+    region = text_of Region;
+    max_split = number_at MaxSplit;
   }
 
 -- with what a command fixes
@@ -274,13 +274,15 @@ setting_for Check words = record {
   shift = false;
   stop = 0;
   serial = false;
-  region = [];
-  max_split = 200;
+  region = text_of Check words Region;
+  max_split = number_at Check words MaxSplit;
 }
 setting_for Run words = as_run Run words
 setting_for Make words = record (as_run Make words) {
   columns = record { population = codes "pop"; first = codes "a"; second = codes "b"; district = codes "district" };
   size = number_at Make words Size;
+  region = [];
+  max_split = 200;
 }
 setting_for Plans words = as_run Plans words
 

@@ -75,3 +75,13 @@ pub fn more_accepted_words()
         ∷ codes "--max-cut" ∷ codes "2" ∷ codes "--shift" ∷ codes "yes" ∷ [])) ≡
         Ok (record (run_of 5000 1 7 3 1000 (record { score = Gap; tail = Low } ∷ [])) { columns = columns; max_cut = 2; shift = true }) }
 {}
+
+/// Words that name regions: a limit without regions is refused, and the empty text names none.
+pub fn words_of_regions()
+    ensures whole { setting_of (run_words (codes "--slack" ∷ codes "5000" ∷ codes "--steps" ∷ codes "8" ∷ codes "--ask" ∷ codes "gap:low"
+        ∷ codes "--max-split" ∷ codes "1" ∷ codes "--region" ∷ codes "r" ∷ [])) ≡
+        Ok (record (run_of 5000 1 8 0 1000 (record { score = Gap; tail = Low } ∷ [])) { columns = columns; region = codes "r"; max_split = 1 }) }
+    ensures alone { setting_of (run_words (codes "--ask" ∷ codes "gap:low" ∷ codes "--max-split" ∷ codes "1" ∷ [])) ≡ Err (word.BadValue name.MaxSplit) }
+    ensures of_none { setting_of (run_words (codes "--ask" ∷ codes "gap:low" ∷ codes "--region" ∷ [] ∷ codes "--max-split" ∷ codes "199" ∷ [])) ≡ Err (word.BadValue name.MaxSplit) }
+    ensures none_at_all { setting_of (run_words (codes "--ask" ∷ codes "gap:low" ∷ codes "--region" ∷ codes "r" ∷ codes "--max-split" ∷ codes "0" ∷ [])) ≡ Err (word.BadValue name.MaxSplit) }
+{}

@@ -1,5 +1,5 @@
-use Rattle.audit_run.proofs.Words.{accepted_size}
+use Rattle.audit_run.proofs.Words.{accepted_grid}
 use Rattle.audit_run.proofs.prepare.prepare.Goals as goal
 
-pub prepare_for-requires-clause-size : goal.prepare_for-requires-clause-size
-prepare_for-requires-clause-size g c = λ make. accepted_size _ c.in-Ok.setting c.in-Ok.ensures.exact make
+pub prepare_for-requires-clause-made : goal.prepare_for-requires-clause-made
+prepare_for-requires-clause-made g c = λ make. accepted_grid _ c.in-Ok.setting c.in-Ok.ensures.exact make

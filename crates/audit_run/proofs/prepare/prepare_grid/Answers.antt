@@ -1,8 +1,10 @@
-use Rattle.std.proofs.Common.{refl, arith}
-use Rattle.audit_run.proofs.Preparing.{large_grid_runs}
+use Rattle.std.proofs.Common.{Ok, sym, subst, ◌≡◌}
+use Rattle.audit_model.specs.declared.setting.Columns.{Columns}
+use Rattle.draw_definitions.specs.Grid.{grid}
+use Rattle.dual_graph.specs.Read.{parsed_of}
+use Rattle.graph_definitions.specs.Reading.{reading}
 use Rattle.audit_run.proofs.prepare.prepare_grid.Goals as goal
 
-pub returns-then-len-gt-MOST_BYTES : goal.returns-then-len-gt-MOST_BYTES
-returns-then-len-gt-MOST_BYTES c = λ source words e out keeper.
-    large_grid_runs words c.args.setting source source e out keeper c.requires.makes refl c.in-Ok.bytes.items c.in-Ok.ensures
-    (omega (arith, c.len.ensures, c.if-len-gt-MOST_BYTES.true))
+pub judge_made-requires-clause-read : goal.judge_made-requires-clause-read
+judge_made-requires-clause-read c =
+    subst (λ (columns : Columns). reading (grid c.args.setting.size c.args.setting.key) columns ≡ Ok (parsed_of c.in-Ok.parsed)) (sym c.requires.made.columns) c.in-Ok.ensures.read

@@ -2,8 +2,10 @@ use Rattle.std.proofs.Common.{◌<◌, ◌≤◌, ◌++◌, ◌∙◌, ℕ, List
 use Rattle.audit_model.specs.Run.{total}
 use Rattle.audit_run.specs.Steps.{Finishes}
 use Rattle.audit_run.specs.Running.{stopped_by}
-use Rattle.audit_run.specs.World.{stream}
+use Rattle.audit_statement.specs.World.{stream}
+use Rattle.draw_definitions.specs.Draw.{draw}
 use Rattle.text_definitions.specs.Report.{report}
+use Rattle.audit_run.proofs.Plain.{plain_report}
 use Rattle.audit_run.proofs.Finished.{short_ends, written_ends}
 use Rattle.audit_run.proofs.run.end_run.Goals as goal
 
@@ -20,7 +22,8 @@ returns g c = λ opening before after opened all saved.
     let whole : total c.args.job.now ≤ length c.args.sorted.now = omega (arith, c.if-done-total.false, c.total-total.ensures) in
     let text =
     c.as_slice.ensures ∙ c.text-2.ensures.items ∙ ap (λ xs. xs ++ report c.args.job.now c.args.sorted.now [] c.test_serially-serial.result) c.requires.blank
-    ∙ ap (λ (found : Option (ℕ × List ℕ)). report c.args.job.now c.args.sorted.now [] found) c.test_serially-serial.ensures.found in
+    ∙ ap (λ (found : Option (ℕ × List ℕ)). report c.args.job.now c.args.sorted.now [] found) c.test_serially-serial.ensures.found
+    ∙ plain_report c.args.job.now c.requires.plain (draw c.args.job.now.setting.key) c.args.sorted.now in
     let out = stream g.K.Sink.taken g.K.Sink.faults c.args.out.now in
     let later = stream g.K.Sink.taken g.K.Sink.faults c.write_all-written.new.out in
     subst (λ why. Finishes c.args.job.now out later before after why) (sym c.end.ensures)

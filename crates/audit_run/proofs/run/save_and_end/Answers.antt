@@ -5,7 +5,7 @@ use Rattle.audit_model.specs.Run.{run_ids, has_id}
 use Rattle.ckpt_store.specs.Fitting.{AreFit}
 use Rattle.desk_crew.specs.Crews.{IsCrew}
 use Rattle.audit_run.specs.Running.{AreAll, SavedBy, SavesLast}
-use Rattle.audit_run.specs.World.{kept, stream}
+use Rattle.audit_statement.specs.World.{kept, stream}
 use Rattle.audit_run.proofs.Desked.{all_outcomes, saves_last}
 use Rattle.audit_run.proofs.Finished.{no_memory_ends}
 use Rattle.audit_run.proofs.Running.{run_setting, whole_outcomes}
@@ -45,7 +45,7 @@ end_run-why-requires-clause-whole g c =
     let todo_is = c.requires.ready.ids ∙ ap (λ (os : List Outcome). run_ids job os job.setting.budget) (sym c.requires.ready.kept) in
     let all = all_outcomes _ _ _ _ _ _ _ h todo_is c.outcomes_by_id_are_mapped.ensures c.requires.run (subst (AreFit job) (sym c.requires.ready.kept) c.requires.fit)
     c.requires.ready.todo.within (subst (λ (os : List Outcome). All (λ id. IsFalse (has_id os id)) c.args.ready.todo) (sym c.requires.ready.kept) c.requires.ready.todo.absent) in
-    whole_outcomes job c.requires.run c.args.ready.book.outcomes c.as_slice.result.now (subst (AreAll job c.args.ready.book.outcomes) (sym c.as_slice.ensures) all)
+    whole_outcomes job c.requires.plain c.args.ready.book.outcomes c.as_slice.result.now (subst (AreAll job c.args.ready.book.outcomes) (sym c.as_slice.ensures) all)
 
 pub end_run-why-requires-clause-few : goal.end_run-why-requires-clause-few
 end_run-why-requires-clause-few g c =

@@ -13,7 +13,7 @@ walk-sorted-requires-clause-ready g c κs within = subst (λ (os : List Outcome)
 
 pub end_run-requires-clause-whole : goal.end_run-requires-clause-whole
 end_run-requires-clause-whole g c =
-    whole_outcomes c.args.job.now c.requires.run c.args.ready.book.outcomes c.as_slice.result.now
+    whole_outcomes c.args.job.now c.requires.plain c.args.ready.book.outcomes c.as_slice.result.now
     (subst (AreAll c.args.job.now c.args.ready.book.outcomes) (sym c.as_slice.ensures) c.walk-sorted.ensures.all)
 
 pub returns : goal.returns

@@ -31,7 +31,9 @@ returns c =
     c.number_at-7.ensures (omega (arith, (number-bounds 0 100000 (text name.Budget) (and_parts (definition.is_number 0 100000 (text name.Budget)) (definition.covers_walks command.Check (pairs_in c.args.words.now)) c.requires.budget).0).1)) in
     let save : c.number_at-8.result ≡ number name.Save = c.number_at-8.ensures (omega (arith, (number-bounds 0 100000 (text name.Save) c.requires.save).1)) in
     let max_cut : c.number_at-9.result ≡ number name.MaxCut = c.number_at-9.ensures (omega (arith, (number-bounds 0 400000 (text name.MaxCut) c.requires.max_cut).1)) in
+    let stop : c.number_at-10.result ≡ number name.Stop =
+    c.number_at-10.ensures (omega (arith, (number-bounds 0 100000 (text name.Stop) (and_parts (definition.is_number 0 100000 (text name.Stop)) (definition.stops_alone command.Check (pairs_in c.args.words.now)) c.requires.stop).0).1)) in
     let resume : c.eq.result ≡ bytes_eq (text name.Resume) (codes "yes") = c.eq.ensures ∙ ap (λ t. bytes_eq t (codes "yes")) c.text_of-3.ensures in
     let shift : c.eq-2.result ≡ bytes_eq (text name.Shift) (codes "yes") = c.eq-2.ensures ∙ ap (λ t. bytes_eq t (codes "yes")) c.text_of-4.ensures in
     let serial : c.eq-3.result ≡ bytes_eq (text name.Serial) (codes "yes") = c.eq-3.ensures ∙ ap (λ t. bytes_eq t (codes "yes")) c.text_of-5.ensures in
-    rw (slack, key, walks, steps, ends, hub_steps, asks, workers, budget, save, resume, max_cut, shift, serial, c.new.ensures) refl
+    rw (slack, key, walks, steps, ends, hub_steps, asks, workers, budget, save, resume, max_cut, shift, stop, serial) refl

@@ -3,5 +3,7 @@ use Rattle.audit_words.specs.Judged.{AreReadable}
 use Rattle.audit_words.specs.Spoken.{pairs_in}
 use Rattle.audit_words.proofs.settings.setting_for.Goals as goal
 
-pub run_setting-requires-in-Make : goal.run_setting-requires-in-Make
-run_setting-requires-in-Make c = (subst (λ m. AreReadable m (pairs_in c.args.words.now)) c.in-Make.is c.requires).0
+pub made_setting-requires : goal.made_setting-requires
+made_setting-requires c =
+    let readable = subst (λ m. AreReadable m (pairs_in c.args.words.now)) c.in-Make.is c.requires in
+    record { run = readable.0; size = readable.1 }

@@ -1,4 +1,4 @@
-use Rattle.std.proofs.Common.{◌≡◌, ◌∙◌, sym, ap, subst, ◌+◌, ◌-◌, All, arith, vec_len}
+use Rattle.std.proofs.Common.{◌≡◌, ◌∙◌, sym, ap, subst, ◌-◌, All, arith, vec_len}
 use Rattle.std.proofs.lemmas.List.Elements.{All-push}
 use Rattle.claim_counter.specs.Records.{fresh, with_less_spare}
 use Rattle.claim_crew.specs.Crews.{IsReady}

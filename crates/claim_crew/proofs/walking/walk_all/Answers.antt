@@ -1,4 +1,4 @@
-use Rattle.std.proofs.Common.{◌≡◌, ◌∙◌, sym, subst, ◌++◌, ℕ, List, map, All, get_or, arith}
+use Rattle.std.proofs.Common.{◌∙◌, sym, subst, ◌++◌, ℕ, List, map, All, arith}
 use Rattle.std.specs.Prelude.{IsPermutation}
 use Rattle.std.proofs.lemmas.List.Elements.{All-set}
 use Rattle.audit_model.specs.declared.outcome.Outcome.{Outcome}

@@ -1,26 +1,25 @@
-use Rattle.std.proofs.Common.{refl, sym, ap, inr, arith}
+use Rattle.std.proofs.Common.{refl, sym, ap, ◌∙◌, inr, arith}
 use Rattle.std.specs.Map.{lookup}
-use Rattle.std.specs.BTreeMap.{is_at}
 use Rattle.std.proofs.lemmas.List.{length-map}
-use Rattle.dual_json.specs.Names.{label_from, name_cmp}
+use Rattle.dual_json.specs.Names.{label_from, same_name}
 use Rattle.dual_json.specs.Places.{labels_from}
 use Rattle.dual_json.proofs.Indexed.{repeated_here, indexed_more, indexed_all}
 use Rattle.dual_json.proofs.Named.{nth_get}
 use Rattle.dual_json.proofs.index.places_of.Goals as goal
 
 pub loop-place-init : goal.loop-place-init
-loop-place-init c = record { leads = λ q. ap (lookup (is_at (name_cmp q))) c.new-places.ensures.empty; none = refl }
+loop-place-init c = record { leads = λ q. ap (lookup (same_name q)) c.in-Ok.ensures.empty; none = refl }
 
-pub returns-in-Some : goal.returns-in-Some
-returns-in-Some c =
+pub returns-in-Ok-Some : goal.returns-in-Ok-Some
+returns-in-Ok-Some c =
     let l = c.loop-place-test.true in
     inr (repeated_here (labels_from c.args.names.now) c.loop-place.place c.loop-place.places _ c.loop-place.invariant (nth_get c.args.names.now c.loop-place.place _ l)
-    c.in-Some.first.now (omega (arith, l, length-map c.args.names.now label_from)) (sym c.in-Some.ensures.value))
+    c.in-Ok-Some.first (omega (arith, l, length-map c.args.names.now label_from)) (sym c.in-Ok-Some.ensures.old ∙ c.in-Ok-Some.field-0-is))
 
 pub loop-place-preserved : goal.loop-place-preserved
 loop-place-preserved c =
     indexed_more (labels_from c.args.names.now) c.loop-place.place c.loop-place.places _ c.loop-place.invariant (nth_get c.args.names.now c.loop-place.place _ c.loop-place-test.true)
-    c.insert.new.self (sym c.in_default.ensures.value) c.in-Ok.ensures.updates.0
+    c.insert.new.self (sym c.in-Ok-None.ensures.old ∙ c.in-Ok-None.field-0-is) c.in-Ok-None.ensures.updates.0
 
 pub returns : goal.returns
 returns c =

@@ -1,0 +1,31 @@
+//! Why a call ended.
+
+use audit_model::fault::{GraphFault, PlanFault, RegionFault, WordFault};
+use audit_model::setting::Columns;
+use audit_model::text::Text;
+use ckpt_store::slots::Slots;
+
+/// Why a call ended.
+#[derive(Drop)]
+pub enum Ended {
+    /// All was done.
+    Done,
+    BadWords(WordFault),
+    TooManyBytes,
+    /// With the columns that the words name, for the line that tells it.
+    BadGraph(GraphFault, Columns),
+    /// With the column that the words name.
+    BadRegions(RegionFault, Text),
+    BadPlan(PlanFault),
+    NoMemory,
+    ReadFault,
+    WriteFault,
+    LoadFault,
+    /// So many of all trajectories are done, and the budget is spent.
+    Stopped { done: u32, total: u32 },
+    /// No slot is intact, and one is not absent.
+    Damaged(Slots),
+    /// The newest slot is another job's.
+    OtherJob { found: [u8; 32], wanted: [u8; 32] },
+    SaveFault,
+}

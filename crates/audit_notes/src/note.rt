@@ -1,0 +1,465 @@
+//! The line that tells why a call ended. It takes no memory.
+
+ghost use Rattle.std.specs.Prelude.{◌≡◌, ◌++◌, ◌∷◌, List, ℕ, codes, decimal, map, []};
+ghost use Rattle.ckpt_store.specs.View.{slot_view};
+ghost use Rattle.hex.specs.Hex.{encode_lower};
+ghost use Rattle.audit_notes.specs.Ended.{ending_of, columns_kept};
+ghost use Rattle.audit_notes.specs.Pieces.{piece_text};
+ghost use Rattle.audit_notes.specs.Said.{IsSaid};
+ghost use Rattle.audit_statement.specs.Ends.{AddsLine, TellsWhy};
+ghost use Rattle.audit_statement.specs.Status.{status_of};
+ghost use Rattle.audit_statement.specs.World.{Stream, stream};
+ghost use Rattle.note_definitions.specs.Note as terms;
+
+use crate::ended::Ended;
+use crate::piece::Piece;
+use crate::piece::Piece::{Digest, Number, Text};
+use crate::writing::write_all;
+use audit_io::sink::Sink;
+use audit_model::fault::{CkptFault, Column, GraphFault, Part, PlanFault, RegionFault, WordFault};
+use audit_model::setting::Columns;
+use audit_model::text;
+use ckpt_store::slots::{Slot, Slots};
+use hex::encode_to_slice;
+use itoa::Buffer;
+
+/// Writes why the call ended, and answers its status.
+pub fn tell<N: Sink>(why: &Ended, note: &mut N) -> u8
+    ensures status { result ≡ status_of (ending_of why.now) }
+    ensures told { TellsWhy (columns_kept why.now) (stream N.taken N.faults note.old) (stream N.taken N.faults note.new) (ending_of why.now) }
+{
+    tell_line(why, note);
+    status(why)
+}
+
+// Writes the line that begins with this text and goes on with the pieces.
+fn say<N: Sink>(note: &mut N, first: &str, pieces: &[Piece])
+    ensures { AddsLine (stream N.taken N.faults note.old) (stream N.taken N.faults note.new) (terms.joined (first.now ∷ map piece_text pieces.now)) }
+{
+    let mut going = add(note, true, first.as_bytes());
+    for piece in pieces {
+        going = add_piece(note, going, piece);
+    }
+    let _ended = add(note, going, b"\n");
+}
+
+// Goes on with a line by this piece, where none before failed.
+fn add_piece<N: Sink>(note: &mut N, going: bool, piece: &Piece) -> bool
+    ensures { (start : Stream) (said : List ℕ) → IsSaid start (stream N.taken N.faults note.old) said going
+        → IsSaid start (stream N.taken N.faults note.new) (said ++ piece_text piece.now) result }
+{
+    match piece {
+        Text(text) => add(note, going, text.as_bytes()),
+        Number(number) => {
+            let mut buffer = Buffer::new();
+            add(note, going, buffer.format(*number).as_bytes())
+        }
+        Digest(digest) => add(note, going, &digits_of(digest)),
+    }
+}
+
+// Goes on with a line by these bytes, where no piece before failed.
+fn add<N: Sink>(note: &mut N, going: bool, piece: &[u8]) -> bool
+    ensures { (start : Stream) (said : List ℕ) → IsSaid start (stream N.taken N.faults note.old) said going
+        → IsSaid start (stream N.taken N.faults note.new) (said ++ piece.now) result }
+{
+    if !going {
+        return false;
+    }
+    match write_all(note, piece) {
+        Ok(()) => true,
+        Err(_) => false,
+    }
+}
+
+// The hexadecimal digits of a digest.
+fn digits_of(digest: &[u8; 32]) -> [u8; 64]
+    ensures { result ≡ encode_lower digest.now }
+{
+    let mut digits = [0; 64];
+    let _ = encode_to_slice(digest.as_slice(), &mut digits);
+    digits
+}
+
+fn tell_line<N: Sink>(why: &Ended, note: &mut N)
+    ensures { TellsWhy (columns_kept why.now) (stream N.taken N.faults note.old) (stream N.taken N.faults note.new) (ending_of why.now) }
+{
+    match why {
+        Ended::Done => {}
+        Ended::BadWords(fault) => tell_words(fault, note),
+        Ended::TooManyBytes => say(note, "graph: more than 67108864 bytes", &[]),
+        Ended::BadGraph(fault, columns) => tell_graph(fault, columns, note),
+        Ended::BadRegions(fault, column) => tell_regions(fault, column, note),
+        Ended::BadPlan(fault) => tell_plan(fault, note),
+        Ended::NoMemory => say(note, "memory", &[]),
+        Ended::ReadFault => say(note, "read fault", &[]),
+        Ended::WriteFault => say(note, "write fault", &[]),
+        Ended::LoadFault => say(note, "checkpoint load fault", &[]),
+        Ended::Stopped { done, total } => tell_stopped(note, *done, *total),
+        Ended::Damaged(slots) => tell_damaged(note, slots),
+        Ended::OtherJob { found, wanted } => tell_other(note, found, wanted),
+        Ended::SaveFault => say(note, "checkpoint save fault", &[]),
+    }
+}
+
+fn tell_words<N: Sink>(fault: &WordFault, note: &mut N)
+    ensures { AddsLine (stream N.taken N.faults note.old) (stream N.taken N.faults note.new) (terms.joined (codes "words: " ∷ terms.word_note fault.now)) }
+{
+    match fault {
+        WordFault::NoCommand => say(note, "words: ", &[Text("no command")]),
+        WordFault::UnknownCommand(word) => say(
+            note,
+            "words: ",
+            &[Text("unknown command "), Text(word.as_str())],
+        ),
+        WordFault::UnknownName(word) => say(
+            note,
+            "words: ",
+            &[Text("unknown name "), Text(word.as_str())],
+        ),
+        WordFault::Twice(name) => say(
+            note,
+            "words: ",
+            &[Text(name.text()), Text(" is given twice")],
+        ),
+        WordFault::NoValue(name) => say(
+            note,
+            "words: ",
+            &[Text("no value for "), Text(name.text())],
+        ),
+        WordFault::MissingName(name) => say(
+            note,
+            "words: ",
+            &[Text(name.text()), Text(" is missing")],
+        ),
+        WordFault::BadValue(name) => say(
+            note,
+            "words: ",
+            &[Text("bad value for "), Text(name.text())],
+        ),
+        WordFault::Memory => say(note, "words: ", &[Text("memory")]),
+    }
+}
+
+fn tell_graph<N: Sink>(fault: &GraphFault, columns: &Columns, note: &mut N)
+    ensures { AddsLine (stream N.taken N.faults note.old) (stream N.taken N.faults note.new) (terms.joined (codes "graph: " ∷ terms.graph_note columns.now fault.now)) }
+{
+    match fault {
+        GraphFault::NotJson => say(note, "graph: ", &[Text("not JSON")]),
+        GraphFault::BadShape(part) => say(
+            note,
+            "graph: ",
+            &[Text("bad shape of "), Text(part_name(*part))],
+        ),
+        GraphFault::Directed => say(note, "graph: ", &[Text("directed")]),
+        GraphFault::LengthsDiffer { nodes, adjacency } => say(
+            note,
+            "graph: ",
+            &[
+                Number(*nodes),
+                Text(" nodes and "),
+                Number(*adjacency),
+                Text(" adjacency entries"),
+            ],
+        ),
+        GraphFault::TooManyUnits(n) => say(
+            note,
+            "graph: ",
+            &[Number(*n), Text(" units, more than 100000")],
+        ),
+        GraphFault::BadId(node) => say(
+            note,
+            "graph: ",
+            &[
+                Text("node "),
+                Number(u64::from(*node)),
+                Text(" has no usable id"),
+            ],
+        ),
+        GraphFault::SameId { first, second } => say(
+            note,
+            "graph: ",
+            &[
+                Text("nodes "),
+                Number(u64::from(*first)),
+                Text(" and "),
+                Number(u64::from(*second)),
+                Text(" have the same id"),
+            ],
+        ),
+        GraphFault::BadNeighbour { node, place } => say(
+            note,
+            "graph: ",
+            &[
+                Text("neighbour "),
+                Number(*place),
+                Text(" of node "),
+                Number(u64::from(*node)),
+                Text(" has no usable id"),
+            ],
+        ),
+        GraphFault::UnknownNeighbour { node, place } => say(
+            note,
+            "graph: ",
+            &[
+                Text("neighbour "),
+                Number(*place),
+                Text(" of node "),
+                Number(u64::from(*node)),
+                Text(" is unknown"),
+            ],
+        ),
+        GraphFault::TooManyEdges(n) => say(
+            note,
+            "graph: ",
+            &[Number(*n), Text(" edges, more than 400000")],
+        ),
+        GraphFault::Missing { node, column } => say(
+            note,
+            "graph: ",
+            &[
+                Text("node "),
+                Number(u64::from(*node)),
+                Text(" has no column "),
+                Text(column_name(columns, *column)),
+            ],
+        ),
+        GraphFault::BadNumber { node, column } => say(
+            note,
+            "graph: ",
+            &[
+                Text("node "),
+                Number(u64::from(*node)),
+                Text(" has no whole number from 0 to 1000000000 in column "),
+                Text(column_name(columns, *column)),
+            ],
+        ),
+        GraphFault::BadLabel(node) => say(
+            note,
+            "graph: ",
+            &[
+                Text("node "),
+                Number(u64::from(*node)),
+                Text(" has no usable label"),
+            ],
+        ),
+        GraphFault::DistrictCount(n) => say(
+            note,
+            "graph: ",
+            &[Number(*n), Text(" districts, not 2 to 200")],
+        ),
+        GraphFault::Memory => say(note, "graph: ", &[Text("memory")]),
+    }
+}
+
+fn tell_regions<N: Sink>(fault: &RegionFault, column: &text::Text, note: &mut N)
+    ensures { AddsLine (stream N.taken N.faults note.old) (stream N.taken N.faults note.new) (terms.joined (codes "graph: " ∷ terms.region_note column.now fault.now)) }
+{
+    match fault {
+        RegionFault::Missing(node) => say(
+            note,
+            "graph: ",
+            &[
+                Text("node "),
+                Number(u64::from(*node)),
+                Text(" has no column "),
+                Text(column.as_str()),
+            ],
+        ),
+        RegionFault::BadLabel(node) => say(
+            note,
+            "graph: ",
+            &[
+                Text("node "),
+                Number(u64::from(*node)),
+                Text(" has no usable label in column "),
+                Text(column.as_str()),
+            ],
+        ),
+        RegionFault::TooMany(n) => say(
+            note,
+            "graph: ",
+            &[Number(*n), Text(" regions, more than 5000")],
+        ),
+        RegionFault::Memory => say(note, "graph: ", &[Text("memory")]),
+    }
+}
+
+fn tell_plan<N: Sink>(fault: &PlanFault, note: &mut N)
+    ensures { AddsLine (stream N.taken N.faults note.old) (stream N.taken N.faults note.new) (terms.joined (codes "plan: " ∷ terms.plan_note fault.now)) }
+{
+    match fault {
+        PlanFault::NoVotes => say(note, "plan: ", &[Text("no votes")]),
+        PlanFault::OutOfBounds {
+            district,
+            population,
+            low,
+            high,
+        } => say(
+            note,
+            "plan: ",
+            &[
+                Text("district "),
+                Number(u64::from(*district)),
+                Text(" has population "),
+                Number(*population),
+                Text(", outside "),
+                Number(*low),
+                Text(" to "),
+                Number(*high),
+            ],
+        ),
+        PlanFault::Disconnected {
+            district,
+            one,
+            other,
+        } => say(
+            note,
+            "plan: ",
+            &[
+                Text("district "),
+                Number(u64::from(*district)),
+                Text(" has no path from unit "),
+                Number(u64::from(*one)),
+                Text(" to unit "),
+                Number(u64::from(*other)),
+            ],
+        ),
+        PlanFault::TooManyCut { cut, most } => say(
+            note,
+            "plan: ",
+            &[
+                Number(u64::from(*cut)),
+                Text(" cut edges, more than "),
+                Number(u64::from(*most)),
+            ],
+        ),
+        PlanFault::TooManySplit {
+            region,
+            districts,
+            most,
+        } => say(
+            note,
+            "plan: ",
+            &[
+                Text("region "),
+                Number(u64::from(*region)),
+                Text(" lies in "),
+                Number(u64::from(*districts)),
+                Text(" districts, more than "),
+                Number(u64::from(*most)),
+            ],
+        ),
+        PlanFault::Memory => say(note, "plan: ", &[Text("memory")]),
+    }
+}
+
+fn tell_stopped<N: Sink>(note: &mut N, done: u32, total: u32)
+    ensures { AddsLine (stream N.taken N.faults note.old) (stream N.taken N.faults note.new) (terms.joined (codes "stopped: " ∷ decimal done ∷ codes " of " ∷ decimal total ∷ codes " done" ∷ [])) }
+{
+    say(
+        note,
+        "stopped: ",
+        &[
+            Number(u64::from(done)),
+            Text(" of "),
+            Number(u64::from(total)),
+            Text(" done"),
+        ],
+    );
+}
+
+fn tell_damaged<N: Sink>(note: &mut N, slots: &Slots)
+    ensures { AddsLine (stream N.taken N.faults note.old) (stream N.taken N.faults note.new) (terms.joined (codes "checkpoint: slot 0 " ∷ terms.slot_name (slot_view slots.now.zero) ∷ codes ", slot 1 " ∷ terms.slot_name (slot_view slots.now.one) ∷ [])) }
+{
+    say(
+        note,
+        "checkpoint: slot 0 ",
+        &[
+            Text(slot_name(&slots.zero)),
+            Text(", slot 1 "),
+            Text(slot_name(&slots.one)),
+        ],
+    );
+}
+
+fn tell_other<'x, N: Sink>(note: &mut N, found: &'x [u8; 32], wanted: &'x [u8; 32])
+    ensures { AddsLine (stream N.taken N.faults note.old) (stream N.taken N.faults note.new) (terms.joined (codes "checkpoint: other job " ∷ encode_lower found.now ∷ codes ", this job " ∷ encode_lower wanted.now ∷ [])) }
+{
+    say(
+        note,
+        "checkpoint: other job ",
+        &[Digest(found), Text(", this job "), Digest(wanted)],
+    );
+}
+
+fn part_name(part: Part) -> &'static str
+    ensures { result.now ≡ terms.part_name part }
+{
+    match part {
+        Part::Root => "root",
+        Part::Nodes => "nodes",
+        Part::Adjacency => "adjacency",
+        Part::Directed => "directed",
+        Part::Multigraph => "multigraph",
+    }
+}
+
+fn column_name(columns: &Columns, column: Column) -> &str
+    ensures { result.now ≡ terms.column_name columns.now column }
+{
+    match column {
+        Column::Population => columns.population.as_str(),
+        Column::First => columns.first.as_str(),
+        Column::Second => columns.second.as_str(),
+        Column::District => columns.district.as_str(),
+    }
+}
+
+fn fault_name(fault: &CkptFault) -> &'static str
+    ensures { result.now ≡ terms.fault_name fault.now }
+{
+    match fault {
+        CkptFault::TooLong(_) => "too long",
+        CkptFault::TooShort(_) => "too short",
+        CkptFault::BadMagic => "bad magic",
+        CkptFault::BadVersion(_) => "bad version",
+        CkptFault::BadGeneration(_) => "bad generation",
+        CkptFault::BadCount { .. } => "bad count",
+        CkptFault::BadOrder(_) => "bad order",
+        CkptFault::BadDigest { .. } => "bad digest",
+        CkptFault::Unfit(_) => "unfit",
+        CkptFault::Memory => "memory",
+    }
+}
+
+fn slot_name(slot: &Slot) -> &'static str
+    ensures { result.now ≡ terms.slot_name (slot_view slot.now) }
+{
+    match slot {
+        Slot::Absent => "absent",
+        Slot::Broken(fault) => fault_name(fault),
+        Slot::Other { .. } | Slot::Ours(_) => "",
+    }
+}
+
+pub(crate) fn status(why: &Ended) -> u8
+    ensures { result ≡ status_of (ending_of why.now) }
+{
+    match why {
+        Ended::Done => 0,
+        Ended::BadWords(_) => 1,
+        Ended::TooManyBytes => 2,
+        Ended::BadGraph(_, _) => 2,
+        Ended::BadRegions(_, _) => 2,
+        Ended::BadPlan(_) => 2,
+        Ended::NoMemory => 3,
+        Ended::ReadFault => 4,
+        Ended::WriteFault => 5,
+        Ended::LoadFault => 6,
+        Ended::Stopped { .. } => 7,
+        Ended::Damaged(_) => 8,
+        Ended::OtherJob { .. } => 8,
+        Ended::SaveFault => 9,
+    }
+}

@@ -1,0 +1,87 @@
+-- Which words, graphs and plans are accepted, and as which job.
+use Rattle.std.specs.Prelude.{◌≡◌, ℕ, Bool, true, false, nat_lt, List, [], ◌∷◌, length, Option, Some, Result, Ok, Err}
+use Rattle.audit_model.specs.declared.fault.GraphFault.{GraphFault}
+use Rattle.audit_model.specs.declared.fault.PlanFault.{PlanFault}
+use Rattle.audit_model.specs.declared.fault.RegionFault.{RegionFault}
+use Rattle.audit_model.specs.declared.fault.WordFault.{WordFault}
+use Rattle.audit_model.specs.declared.setting.Columns.{Columns}
+use Rattle.audit_model.specs.declared.setting.Command.{Command}
+use Rattle.audit_model.specs.declared.setting.Command.TheVariants.{Check, Run, Make, Plans}
+use Rattle.audit_model.specs.declared.setting.Setting.{Setting}
+use Rattle.audit_model.specs.Job.{Job}
+use Rattle.audit_model.specs.JobOf.{job_of}
+use Rattle.audit_model.specs.Parsed.{Parsed}
+use Rattle.draw_definitions.specs.Grid.{grid}
+use Rattle.note_definitions.specs.Note.{Ending, too_many_bytes, bad_graph, bad_regions, bad_plan}
+use Rattle.graph_definitions.specs.Reading.{reading}
+use Rattle.graph_definitions.specs.Regions.{region_reading}
+use Rattle.word_definitions.specs.Words.{setting_of}
+use Rattle.audit_statement.specs.World.{IfKnown}
+
+-- the most bytes of a graph
+abbrev pub most_bytes : ℕ
+most_bytes = 67108864
+
+-- the bytes of the graph: the grid of `make`, and else the source's, where it tells them
+abbrev pub input_by : Command → Setting → Option (List ℕ) → Option (List ℕ)
+input_by Check setting left = left
+input_by Run setting left = left
+input_by Make setting left = Some (grid setting.size setting.key)
+input_by Plans setting left = left
+
+-- the same for the command of a setting
+abbrev pub input_of : Setting → Option (List ℕ) → Option (List ℕ)
+input_of setting left = input_by setting.command setting left
+
+-- the regions of the units of a text that is a graph, and none where no column is named
+abbrev pub regions_by : List ℕ → List ℕ → Result (List ℕ) RegionFault
+regions_by [] bytes = Ok []
+regions_by (c ∷ column) bytes = region_reading bytes (c ∷ column)
+
+-- each step of the reading, and the reason where it refuses
+abbrev pub from_job : Result Job PlanFault → Result Job Ending
+from_job (Ok job) = Ok job
+from_job (Err f) = Err (bad_plan f)
+
+abbrev pub from_regions : Setting → Parsed → Result (List ℕ) RegionFault → Result Job Ending
+from_regions setting parsed (Ok regions) = from_job (job_of parsed setting regions)
+from_regions setting parsed (Err f) = Err (bad_regions setting.region f)
+
+abbrev pub from_parsed : Setting → List ℕ → Result Parsed GraphFault → Result Job Ending
+from_parsed setting bytes (Ok parsed) = from_regions setting parsed (regions_by setting.region bytes)
+from_parsed setting bytes (Err f) = Err (bad_graph f)
+
+abbrev pub from_bytes : Setting → List ℕ → Bool → Result Job Ending
+from_bytes setting bytes true = Err too_many_bytes
+from_bytes setting bytes false = from_parsed setting bytes (reading bytes setting.columns)
+
+-- the job of these bytes, or the first reason to refuse them
+unfoldable pub judged : Setting → List ℕ → Result Job Ending
+judged setting bytes = from_bytes setting bytes (nat_lt most_bytes (length bytes))
+
+-- the words, the graph and its plan are accepted as this job; where the source tells its bytes, they are the graph's
+pub record IsAccepted (words : List (List ℕ)) (left : Option (List ℕ)) (job : Job) : Type 0 where
+  pub words_are : setting_of words ≡ Ok job.setting
+  pub bytes : List ℕ
+  pub given : IfKnown (input_of job.setting left) (λ input. input ≡ bytes)
+  pub judged_so : judged job.setting bytes ≡ Ok job
+
+-- the words are accepted, and the graph or its plan is refused for this reason
+pub record IsRefused (words : List (List ℕ)) (left : Option (List ℕ)) (ending : Ending) : Type 0 where
+  pub setting : Setting
+  pub words_are : setting_of words ≡ Ok setting
+  pub bytes : List ℕ
+  pub given : IfKnown (input_of setting left) (λ input. input ≡ bytes)
+  pub judged_so : judged setting bytes ≡ Err ending
+
+-- empty texts in place of columns
+abbrev pub no_columns : Columns
+no_columns = record { population = []; first = []; second = []; district = [] }
+
+-- the columns that the words name, and empty texts where they are refused
+abbrev pub columns_in : Result Setting WordFault → Columns
+columns_in (Ok setting) = setting.columns
+columns_in (Err f) = no_columns
+
+abbrev pub columns_of : List (List ℕ) → Columns
+columns_of words = columns_in (setting_of words)

@@ -1,0 +1,33 @@
+-- What a call that did all has written, in terms of the words, the bytes and the slots alone.
+use Rattle.std.specs.Prelude.{◌≡◌, ℕ, List, IsTrue, IsFalse, Some}
+use Rattle.std.specs.Io.KnownBytes.{Appends}
+use Rattle.audit_model.specs.declared.outcome.Outcome.{Outcome}
+use Rattle.audit_model.specs.declared.setting.Command.TheVariants.{Check}
+use Rattle.audit_model.specs.Job.{Job}
+use Rattle.audit_model.specs.Run.{IsRight}
+use Rattle.draw_definitions.specs.Draw.{draw}
+use Rattle.text_definitions.specs.Report.{full_report, thread_report, check_text}
+use Rattle.audit_statement.specs.Causes.{IsTheJob}
+use Rattle.audit_statement.specs.Ends.{is_walking, told_opening, leaves_work, full_of}
+use Rattle.audit_statement.specs.World.{World}
+
+-- the report on what one thread finds that walks each trajectory once
+abbrev pub WritesOneThreads : Job → World → World → Type 0
+WritesOneThreads job before after = Appends before.out.bytes after.out.bytes (thread_report job (draw job.setting.key))
+
+-- a walking command starts with these outcomes
+pub record StartsWith (words : List (List ℕ)) (before : World) (job : Job) (outcomes : List Outcome) : Type 0 where
+  pub the_job : IsTheJob words before job
+  pub walking : IsTrue (is_walking job.setting.command)
+  pub opened : told_opening job before.keeper.slots ≡ Some (Some outcomes)
+
+-- a check writes its text; a run writes the report on the opening and on what the opening lacks, and where the opening is right,
+-- that is the report that one thread gives; a failed save changes nothing of it
+pub record WritesWhole (words : List (List ℕ)) (before after : World) (status : ℕ) : Type 0 where
+  pub check : (job : Job) → IsTheJob words before job → job.setting.command ≡ Check → status ≡ 0 → Appends before.out.bytes after.out.bytes (check_text job)
+  pub run : (job : Job) (outcomes : List Outcome) → StartsWith words before job outcomes → status ≡ 0
+      → Appends before.out.bytes after.out.bytes (full_report job (draw job.setting.key) (full_of job outcomes))
+  pub one_thread : (job : Job) (outcomes : List Outcome) → StartsWith words before job outcomes → IsRight job (draw job.setting.key) outcomes → status ≡ 0
+      → WritesOneThreads job before after
+  pub save_failed : (job : Job) (outcomes : List Outcome) → StartsWith words before job outcomes → IsRight job (draw job.setting.key) outcomes → status ≡ 9
+      → IsFalse (leaves_work job outcomes) → WritesOneThreads job before after

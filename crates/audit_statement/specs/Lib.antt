@@ -1,0 +1,13 @@
+pub mod Accepted
+pub mod Causes
+pub mod Chain
+pub mod Early
+pub mod Ends
+pub mod Headline
+pub mod Left
+pub mod Promise
+pub mod Rerun
+pub mod Status
+pub mod Sure
+pub mod Visits
+pub mod World

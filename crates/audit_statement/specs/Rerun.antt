@@ -1,0 +1,149 @@
+-- Runs of one job, and chains of them over the same slots.
+use Rattle.std.specs.Prelude.{◌≡◌, ℕ, Bool, IsTrue, IsFalse, List, [], ◌∷◌, ⊤, Option, Some}
+use Rattle.std.specs.Io.KnownBytes.{Appends}
+use Rattle.audit_io.specs.Faults.{Rose}
+use Rattle.audit_io.specs.Slots.{Pair}
+use Rattle.audit_io.specs.Tries.{Try}
+use Rattle.audit_model.specs.declared.outcome.Outcome.{Outcome}
+use Rattle.audit_model.specs.Job.{Job}
+use Rattle.audit_model.specs.Run.{fits}
+use Rattle.audit_model.specs.Serially.{serial_of}
+use Rattle.audit_model.specs.Stopping.{stops_of}
+use Rattle.audit_model.specs.Trajectory.{Draws, outcome, sequence, whole}
+use Rattle.checkpoint_definitions.specs.Checkpoint.{job_digest}
+use Rattle.ckpt_store.specs.Histories.{AreCarriedOut, IsNotIntact, KeepsNewest, stopped_in}
+use Rattle.ckpt_store.specs.Laws.{IsNotOurs}
+use Rattle.draw_definitions.specs.Draw.{draw}
+use Rattle.text_definitions.specs.Report.{report, thread_report}
+use Rattle.audit_statement.specs.Causes.{IsTheJob}
+use Rattle.audit_statement.specs.Chain.{AreHonestOf, TriedRightly, TriesOver}
+use Rattle.audit_statement.specs.Ends.{is_walking, leaves_work}
+use Rattle.audit_statement.specs.Headline.{StartsWith}
+use Rattle.audit_statement.specs.Promise.{KeepsItsPromise}
+use Rattle.audit_statement.specs.World.{Stream, World}
+
+-- the same job, where it asks for bins or does not, and for the serial test or does not
+abbrev pub asking : Job → Bool → Bool → Job
+asking job shift serial = record job { setting = record job.setting { shift = shift; serial = serial } }
+
+-- the same job in another run: with other workers, another budget, saving and resuming or not, and asking for bins and for the serial test or not
+abbrev pub rerun : Job → ℕ → ℕ → ℕ → Bool → Bool → Bool → Job
+rerun job workers budget save_every resume shift serial = record job {
+  setting = record job.setting { workers = workers; budget = budget; save_every = save_every; resume = resume; shift = shift; serial = serial };
+}
+
+-- Both have the same digest, each trajectory finds the same, with all its bins, in both, so does the serial test, whether it is asked for or not,
+-- what is honest for one is honest for the other, and tests that stop early stop at the same places. Where both ask for bins, or neither, they have
+-- the same outcomes and the same report on what is found.
+pub record AreAlike (job other : Job) : Type 0 where
+  pub same_digest : job_digest other ≡ job_digest job
+  pub same_whole : (draws : Draws) (id : ℕ) → whole other draws id ≡ whole job draws id
+  pub same_fits : (o : Outcome) → fits other o ≡ fits job o
+  pub same_serial : (draws : Draws) → serial_of other draws ≡ serial_of job draws
+  pub same_honest : (p : Pair) → AreHonestOf job p → AreHonestOf other p
+  pub same_outcome : other.setting.shift ≡ job.setting.shift → (draws : Draws) (id : ℕ) → outcome other draws id ≡ outcome job draws id
+  pub same_sequence : other.setting.shift ≡ job.setting.shift → (draws : Draws) → sequence other draws ≡ sequence job draws
+  pub same_stops : (outcomes : List Outcome) → stops_of other outcomes ≡ stops_of job outcomes
+  pub same_report : other.setting.shift ≡ job.setting.shift → (outcomes : List Outcome) (stops : List (List ℕ)) (serial : Option (ℕ × List ℕ))
+      → report other outcomes stops serial ≡ report job outcomes stops serial
+
+-- workers, budget, saving, resuming and asking for the serial test change nothing of what a job finds, and bins nothing of what it holds for its own
+abbrev pub RerunsAreAlike : Type 0
+RerunsAreAlike = (job : Job) (workers budget save_every : ℕ) (resume shift serial : Bool) → AreAlike job (rerun job workers budget save_every resume shift serial)
+
+-- ---- a stop
+
+-- A stop keeps the newest slot of before, or leaves a newer one: the last save that succeeded, or a later one that failed and had left all its
+-- bytes. What failed or was cut off is asked to be no intact checkpoint.
+abbrev pub StopsKeepTheNewest : Type 0
+StopsKeepTheNewest = (job : Job) (before after : World) (p : Pair) (told now : List Try) (t : TriesOver job before after p told now) (n : ℕ) (q : Pair)
+    → AreCarriedOut IsNotIntact job (job_digest job) p (stopped_in n t.tries) q → KeepsNewest job (job_digest job) p (stopped_in n t.tries) q
+
+-- ---- chains
+
+-- a run as it ended, or would have ended: its words, its outside and its note before and after it, its status, how the job was run, and the slots that it left
+pub record Link : Type 0 where
+  pub words : List (List ℕ)
+  pub before : World
+  pub after : World
+  pub note_before : Stream
+  pub note_after : Stream
+  pub status : ℕ
+  pub workers : ℕ
+  pub budget : ℕ
+  pub save_every : ℕ
+  pub resume : Bool
+  pub shift : Bool
+  pub serial : Bool
+  pub slots : Pair
+
+-- the job as this run had it
+abbrev pub job_in : Job → Link → Job
+job_in job l = rerun job l.workers l.budget l.save_every l.resume l.shift l.serial
+
+-- a run of the job over these slots, of which its keeper told what was tried before and after it, and what was tried is as the top call promises
+pub record IsRunOver (job : Job) (p : Pair) (l : Link) : Type 0 where
+  pub tried : TriedRightly l.words l.before l.after
+  pub the_job : IsTheJob l.words l.before (job_in job l)
+  pub found : l.before.keeper.slots ≡ Some p
+  pub told : List Try
+  pub told_is : l.before.keeper.tried ≡ Some told
+  pub now : List Try
+  pub now_is : l.after.keeper.tried ≡ Some now
+
+-- the run ended, all holds that the top call promises, and its command walks; where a save failed, each save left its bytes whole where it succeeded, and where it failed, what was there, its first bytes or all
+-- of them, or no checkpoint of the job: this is asked of the keeper alone
+pub record IsLink (job : Job) (p : Pair) (l : Link) : Type 0 where
+  pub over : IsRunOver job p l
+  pub promised : KeepsItsPromise l.words l.before l.after l.note_before l.note_after l.status
+  pub walking : IsTrue (is_walking job.setting.command)
+  pub left : l.after.keeper.slots ≡ Some l.slots
+  pub carried : Rose l.before.keeper.save_faults l.after.keeper.save_faults → (t : TriesOver (job_in job l) l.before l.after p over.told over.now)
+      → AreCarriedOut IsNotOurs (job_in job l) (job_digest (job_in job l)) p t.tries l.slots
+
+-- the run was stopped, when so many of its saves had ended, within the next one or before it, and left these slots
+pub record IsStop (job : Job) (p : Pair) (l : Link) (n : ℕ) (q : Pair) : Type 0 where
+  pub over : IsRunOver job p l
+  pub carried : (t : TriesOver (job_in job l) l.before l.after p over.told over.now)
+      → AreCarriedOut IsNotOurs (job_in job l) (job_digest (job_in job l)) p (stopped_in n t.tries) q
+
+pub data Event : Type 0 where
+  ran : Link → Event
+  stopped : Link → ℕ → Pair → Event
+
+abbrev pub slots_after : Event → Pair
+slots_after (ran l) = l.slots
+slots_after (stopped l n q) = q
+
+abbrev pub IsEvent : Job → Pair → Event → Type 0
+IsEvent job p (ran l) = IsLink job p l
+IsEvent job p (stopped l n q) = IsStop job p l n q
+
+-- runs of the job, one after the other, each over the slots that the one before left
+abbrev pub IsChain : Job → Pair → List Event → Type 0
+IsChain job p [] = ⊤
+IsChain job p (e ∷ events) = IsEvent job p e × IsChain job (slots_after e) events
+
+-- the run wrote the report that one thread gives by walking each trajectory once, for the job that asks for bins and for the serial test exactly
+-- where this run did: with what workers, budget, saves and openings it came to it, and what other runs of the chain asked for, changes nothing
+abbrev pub WroteOneThreads : Job → Link → Type 0
+WroteOneThreads job l = Appends l.before.out.bytes l.after.out.bytes (thread_report (asking job l.shift l.serial) (draw job.setting.key))
+
+-- it did where it ended with status 0, and also with status 9, after a save that failed, where its budget left nothing
+pub record WroteWhereDue (job : Job) (l : Link) : Type 0 where
+  pub done : l.status ≡ 0 → WroteOneThreads job l
+  pub save_failed : (outcomes : List Outcome) → StartsWith l.words l.before (job_in job l) outcomes → IsFalse (leaves_work (job_in job l) outcomes) → l.status ≡ 9
+      → WroteOneThreads job l
+
+abbrev pub HasWritten : Job → Event → Type 0
+HasWritten job (ran l) = WroteWhereDue job l
+HasWritten job (stopped l n q) = ⊤
+
+abbrev pub AllHaveWritten : Job → List Event → Type 0
+AllHaveWritten job [] = ⊤
+AllHaveWritten job (e ∷ events) = HasWritten job e × AllHaveWritten job events
+
+-- from honest slots, and so from absent ones and from those of the first version, each run of any chain that ended with status 0, or with status 9
+-- and nothing left, has written one thread's report, whichever of the runs before it asked for bins
+abbrev pub ChainsWriteOneReport : Type 0
+ChainsWriteOneReport = (job : Job) (p : Pair) (events : List Event) → AreHonestOf job p → IsChain job p events → AllHaveWritten job events

@@ -1,0 +1,28 @@
+-- An audit over a source, an output and a keeper of which no call fails: what it begins with, and that it then does all.
+use Rattle.std.specs.Prelude.{◌≡◌, ◌⊎◌, ℕ, List, Some, None, Ok}
+use Rattle.audit_model.specs.Job.{Job}
+use Rattle.audit_io.specs.Mem.{SureSlots}
+use Rattle.audit_statement.specs.Accepted.{judged}
+use Rattle.audit_statement.specs.Causes.{HasBudget, IsTold}
+use Rattle.audit_statement.specs.Ends.{is_walking}
+use Rattle.audit_statement.specs.World.{World}
+
+-- the outside: these bytes to read, an output that tells nothing, these slots, and no fault
+abbrev pub sure_world : List ℕ → SureSlots → World
+sure_world graph keeper = record {
+  source = record { bytes = Some graph; faults = 0 };
+  out = record { bytes = None; faults = 0 };
+  keeper = record { slots = Some keeper.slots; tried = Some keeper.tried; load_faults = 0; save_faults = 0 };
+}
+
+-- words, graph and plan are accepted; a walking command finds an opening, and the budget is enough for what it lacks
+pub record MayBegin (words : List (List ℕ)) (before : World) : Type 0 where
+  pub job : Job
+  pub bytes : List ℕ
+  pub told : IsTold words before job.setting bytes
+  pub accepted : judged job.setting bytes ≡ Ok job
+  pub budget : HasBudget (is_walking job.setting.command) job before
+
+-- then all is done, or there was no memory
+abbrev pub EndsSurely : List (List ℕ) → World → ℕ → Type 0
+EndsSurely words before status = MayBegin words before → (status ≡ 0) ⊎ (status ≡ 3)

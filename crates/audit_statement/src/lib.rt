@@ -1,0 +1,2 @@
+//! What the top call promises: the definitions of its contract and of the laws that put runs together.
+#![tactic(auto)]

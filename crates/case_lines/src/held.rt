@@ -1,0 +1,81 @@
+//! What a line says of the keeper of a run.
+
+use crate::slots::slot_of;
+use crate::streams::failing;
+use audit_io::mem_keeper::MemKeeper;
+use audit_io::stop_keeper::StopKeeper;
+use audit_model::buffers::Bytes;
+use audit_model::memory::Memory;
+use std::alloc::Global;
+use std::rt::Files;
+use std::test::Fail;
+
+/// What is in both slots, and the number of the load that fails, or 0.
+#[derive(Clone, Copy)]
+pub struct Held<'a> {
+    pub zero: &'a str,
+    pub one: &'a str,
+    pub failing_load: u64,
+}
+
+/// The number of the save that fails, or 0; and that of the save within which the run is stopped, and how many bytes this leaves.
+#[derive(Clone, Copy)]
+pub struct Saves {
+    pub failing: u64,
+    pub stop_at: u32,
+    pub kept: u32,
+}
+
+/// Of which one save may fail, and within none of which the run is stopped.
+pub fn saves_failing(failing: u64) -> Saves {
+    Saves {
+        failing,
+        stop_at: u32::MAX,
+        kept: 0,
+    }
+}
+
+/// The keeper of a run, where it is the `same` over what a run before left.
+pub fn keeper_of<R: Files + AllocGlobal>(
+    rt: &R,
+    held: &Held<'_>,
+    saves: &Saves,
+    before: &MemKeeper,
+) -> Result<StopKeeper, Fail> {
+    let (zero, one) = slots_of(rt, held, before)?;
+    let keeper = keeper_over(rt.alloc(), zero, one, held.failing_load, saves.failing)?;
+    Ok(StopKeeper::new(keeper, saves.stop_at.max(1), saves.kept))
+}
+
+fn slots_of<R: Files + AllocGlobal>(
+    rt: &R,
+    held: &Held<'_>,
+    before: &MemKeeper,
+) -> Result<(Option<Bytes>, Option<Bytes>), Fail> {
+    let zero = slot_of(rt, held.zero, before.slot(0))?;
+    let one = slot_of(rt, held.one, before.slot(1))?;
+    Ok((zero, one))
+}
+
+fn keeper_over(
+    alloc: Global,
+    zero: Option<Bytes>,
+    one: Option<Bytes>,
+    load: u64,
+    save: u64,
+) -> Result<MemKeeper, Memory> {
+    let loads = failing(alloc, load)?;
+    let saves = failing(alloc, save)?;
+    MemKeeper::new(alloc, zero, one, loads, saves)
+}
+
+/// Two absent slots, of which no call fails.
+pub fn absent(alloc: Global) -> Result<MemKeeper, Memory> {
+    keeper_over(alloc, None, None, 0, 0)
+}
+
+/// The same, for a run that nothing stops.
+pub fn absent_keeper(alloc: Global) -> Result<StopKeeper, Memory> {
+    let keeper = absent(alloc)?;
+    Ok(StopKeeper::new(keeper, u32::MAX, 0))
+}

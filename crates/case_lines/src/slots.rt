@@ -1,0 +1,122 @@
+//! What is in a slot before a run, and how a slot is shown after it.
+
+ghost use Rattle.std.specs.Prelude.{◌<◌, ◌≤◌};
+
+use crate::streams::{bytes_of, text_of};
+use audit_io::mem_keeper::MemKeeper;
+use audit_model::buffers::Bytes;
+use audit_model::memory::Memory;
+use hex::{decode, encode};
+use sha2::{Digest, Sha256};
+use std::alloc::Global;
+use std::io;
+use std::rt::Files;
+use std::test::Fail;
+
+/// One byte more than a checkpoint can have.
+const TOO_LONG: usize = 8_000_085;
+
+/// What is in a slot where a line says so: nothing, the bytes of the run before, these with another last byte, too many zeros, or the
+/// bytes whose hexadecimal digits are in a file.
+pub fn slot_of<R: Files + AllocGlobal>(
+    rt: &R,
+    said: &str,
+    before: Option<&[u8]>,
+) -> Result<Option<Bytes>, Fail> {
+    let alloc = rt.alloc();
+    match said {
+        "absent" => Ok(None),
+        "same" => Ok(before.map(|bytes| bytes_of(alloc, bytes)).transpose()?),
+        "spoilt" => Ok(before.map(|bytes| spoilt(alloc, bytes)).transpose()?),
+        "long" => Ok(Some(zeros(alloc, TOO_LONG)?)),
+        file => Ok(Some(decoded(rt, file)?)),
+    }
+}
+
+// The bytes whose hexadecimal digits are in a file.
+fn decoded<R: Files + AllocGlobal>(rt: &R, file: &str) -> Result<Bytes, Fail> {
+    let digits = text_of(rt, file)?;
+    let bytes = decode(rt.alloc(), digits.trim())?;
+    let copy = bytes_of(rt.alloc(), bytes.as_slice())?;
+    Ok(copy)
+}
+
+fn zeros(alloc: Global, count: usize) -> Result<Bytes, Memory> {
+    let mut bytes = Bytes::with_room(alloc, count)?;
+    for _ in 0..count {
+        bytes.push(0)?;
+    }
+    Ok(bytes)
+}
+
+// The bytes with each bit of the last one changed.
+fn spoilt(alloc: Global, bytes: &[u8]) -> Result<Bytes, Memory> {
+    let mut copy = Bytes::new(alloc);
+    if let Some((last, front)) = bytes.split_last() {
+        copy.append(front)?;
+        copy.push(!*last)?;
+    }
+    Ok(copy)
+}
+
+/// Shows both slots: their lengths, of a checkpoint its version, its generation and the ids of its outcomes, and the digest of the bytes.
+pub fn show_slots<R: Print + AllocGlobal>(rt: &R, keeper: &MemKeeper) -> io::Result<()> {
+    show_slot(rt, 0, keeper.slot(0))?;
+    show_slot(rt, 1, keeper.slot(1))
+}
+
+fn show_slot<R: Print + AllocGlobal>(rt: &R, slot: u8, held: Option<&[u8]>) -> io::Result<()> {
+    match held {
+        None => println!(rt; "slot {slot} absent"),
+        Some(bytes) => show_bytes(rt, slot, bytes),
+    }
+}
+
+fn show_bytes<R: Print + AllocGlobal>(rt: &R, slot: u8, bytes: &[u8]) -> io::Result<()> {
+    let length = bytes.len();
+    print!(rt; "slot {slot} {length} bytes")?;
+    if let Some(records) = records_of(bytes) {
+        show_records(rt, bytes, records)?;
+    }
+    let digest = encode(rt.alloc(), Sha256::digest(bytes))?;
+    println!(rt; " sha256 {digest}")
+}
+
+// How many bytes an outcome has in a version.
+fn width_of(version: u32) -> usize
+    ensures some { 1 ≤ result }
+    ensures few { result ≤ 80 }
+{
+    if version == 2 { 80 } else { 44 }
+}
+
+// The records of outcomes, where there are as many bytes as their number says.
+fn records_of(bytes: &[u8]) -> Option<&[u8]> {
+    let width = width_of(number_at(bytes, 8)?);
+    let count = number_at(bytes, 48)? as usize;
+    let (_head, records_and_digest) = bytes.split_first_chunk::<52>()?;
+    let (records, _digest) = records_and_digest.split_last_chunk::<32>()?;
+    if records.len() == width * count {
+        Some(records)
+    } else {
+        None
+    }
+}
+
+// The number of the four bytes at this place.
+fn number_at(bytes: &[u8], place: usize) -> Option<u32> {
+    let four = bytes.get(place..)?.first_chunk::<4>()?;
+    Some(u32::from_be_bytes(*four))
+}
+
+fn show_records<R: Print>(rt: &R, bytes: &[u8], records: &[u8]) -> io::Result<()> {
+    let version = number_at(bytes, 8).unwrap_or(0);
+    let generation = number_at(bytes, 44).unwrap_or(0);
+    print!(rt; " version {version} generation {generation} ids")?;
+    for record in records.chunks_exact(width_of(version)) {
+        if let Some(id) = number_at(record, 0) {
+            print!(rt; " {id}")?;
+        }
+    }
+    Ok(())
+}

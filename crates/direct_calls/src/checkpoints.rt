@@ -1,0 +1,50 @@
+//! A checkpoint of the first version of the format.
+
+use audit_model::buffers::Bytes;
+use audit_model::memory::Memory;
+use audit_model::outcome::Outcome;
+use ckpt_format::decode::{Checkpoint, decode};
+use ckpt_format::encode::encode_old;
+use sha2::{Digest, Sha256};
+use std::alloc::Global;
+use std::io;
+
+// The one outcome of the checkpoint.
+const FOUND: Outcome = Outcome {
+    id: 7,
+    moved: 5,
+    values: [-1, 2, i64::MAX, i64::MIN],
+    bins: [0; 9],
+};
+
+// The checkpoint of a digest of zeros, generation 2 and that outcome.
+fn checkpoint(alloc: Global) -> Result<Bytes, Memory> {
+    let mut out = Bytes::with_room(alloc, 128)?;
+    encode_old(&[0; 32], 2, &[FOUND], &mut out);
+    Ok(out)
+}
+
+/// Shows the digest of the checkpoint's bytes, and what is read of them.
+pub fn show_checkpoint<R: Print + AllocGlobal>(rt: &R) -> io::Result<()> {
+    let Ok(out) = checkpoint(rt.alloc()) else {
+        return println!(rt; "memory");
+    };
+    let digest = hex::encode(rt.alloc(), Sha256::digest(out.as_slice()))?;
+    println!(rt; "checkpoint {} bytes sha256 {digest}", out.len())?;
+    match decode(rt.alloc(), out.as_slice()) {
+        Ok(read) => show_read(rt, &read),
+        Err(_) => println!(rt; "no checkpoint"),
+    }
+}
+
+fn show_read<R: Print>(rt: &R, read: &Checkpoint) -> io::Result<()> {
+    println!(rt; "version {} generation {}", read.version, read.generation)?;
+    for outcome in read.outcomes.as_slice() {
+        let [one, two, three, four] = outcome.values;
+        println!(rt;
+            "id {} moved {} values {one} {two} {three} {four}",
+            outcome.id, outcome.moved
+        )?;
+    }
+    Ok(())
+}

@@ -1,0 +1,57 @@
+//! The outside that never fails, and slots in real files.
+
+ghost use Rattle.std.specs.Prelude.{◌<◌};
+
+use audit_io::file_keeper::FileKeeper;
+use audit_io::keeper::Keeper;
+use audit_io::sink::Sink;
+use audit_io::source::Source;
+use audit_io::sure::{SureSink, SureSource};
+use audit_model::buffers::Bytes;
+use std::io;
+use std::rt::Files;
+
+// Reads three bytes with room for four, and writes them.
+fn show_sure<R: Print + AllocGlobal>(rt: &R) -> io::Result<()> {
+    let mut text = Bytes::new(rt.alloc());
+    if text.append(b"abc").is_err() {
+        return println!(rt; "memory");
+    }
+    let mut room = [0; 4];
+    let read = SureSource::new(text).read(&mut room);
+    let written = SureSink::new().write(&room);
+    println!(rt;
+        "source {} sink {}",
+        read.unwrap_or(0),
+        written.unwrap_or(0)
+    )
+}
+
+// Shows what is loaded from a slot.
+fn show_slot<R: Print, C: Keeper>(
+    rt: &R,
+    keeper: &mut C,
+    slot: u8,
+    room: &mut Bytes,
+) -> io::Result<()>
+    requires { slot < 2 }
+{
+    match keeper.load(slot, 9000, room) {
+        Ok(true) => println!(rt; "slot {slot} {} bytes", room.len()),
+        Ok(false) => println!(rt; "slot {slot} absent"),
+        Err(_) => println!(rt; "slot {slot} not loaded"),
+    }
+}
+
+/// Shows what a source and a sink that never fail answer, and saves in both slots of the folder, of which the first is shown before, too.
+pub fn show_outside<R: Files + Print + AllocGlobal>(rt: &R) -> io::Result<()> {
+    show_sure(rt)?;
+    let mut keeper = FileKeeper::new(rt);
+    let mut room = Bytes::new(rt.alloc());
+    show_slot(rt, &mut keeper, 0, &mut room)?;
+    let saved = keeper.save(1, &[7; 9000]).is_ok() && keeper.save(0, b"longer").is_ok();
+    let again = keeper.save(0, b"first").is_ok();
+    println!(rt; "saved {saved} {again}")?;
+    show_slot(rt, &mut keeper, 0, &mut room)?;
+    show_slot(rt, &mut keeper, 1, &mut room)
+}

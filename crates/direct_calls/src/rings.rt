@@ -1,0 +1,51 @@
+//! Faces of small graphs: how many are found, and which of a list are kept.
+
+use audit_model::memory::Memory;
+use dual_graph::graph::Graph;
+use faces::face::Face;
+use faces::list::list_faces;
+use faces::near::faces_of;
+use std::alloc::Global;
+use std::io;
+
+// A triangle all of whose sides are shared with triangles of smaller units is found: four in all.
+fn faces_amid_three(alloc: Global) -> Result<usize, Memory> {
+    let pairs = [
+        (0, 3),
+        (0, 4),
+        (1, 4),
+        (1, 5),
+        (2, 3),
+        (2, 5),
+        (3, 4),
+        (3, 5),
+        (4, 5),
+    ];
+    let graph = Graph::from_pairs(alloc, 6, &pairs)?;
+    Ok(faces_of(alloc, &graph)?.faces().len())
+}
+
+// A square and a triangle are kept once each of a list that has them twice, and one that is none.
+fn faces_kept(alloc: Global) -> Result<usize, Memory> {
+    let pairs = [(0, 1), (0, 2), (1, 3), (2, 3), (2, 4), (3, 4)];
+    let graph = Graph::from_pairs(alloc, 5, &pairs)?;
+    let square = Face::Square(0, 1, 3, 2);
+    let triangle = Face::Triangle(4, 2, 3);
+    let listed = [
+        square,
+        square,
+        Face::Triangle(2, 3, 4),
+        triangle,
+        Face::Triangle(0, 1, 3),
+    ];
+    Ok(list_faces(alloc, &graph, &listed)?.faces().len())
+}
+
+/// Shows how many faces the graphs have.
+pub fn show_rings<R: Print + AllocGlobal>(rt: &R) -> io::Result<()> {
+    let alloc = rt.alloc();
+    match (faces_amid_three(alloc), faces_kept(alloc)) {
+        (Ok(amid), Ok(kept)) => println!(rt; "faces {amid} {kept}"),
+        _ => println!(rt; "memory"),
+    }
+}

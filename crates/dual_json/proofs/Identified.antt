@@ -1,0 +1,62 @@
+-- The ids that are found of a document against what their definition says.
+use Rattle.std.proofs.Common.{◌≡◌, ℕ, ◌<◌, List, [], length, Option, Some, None, refl, sym, ap, ◌∙◌, arith}
+use Rattle.std.specs.Prelude.{cond, codes, nat_lt, unwrap_or}
+use Rattle.std.specs.Option.{option_map, option_or}
+use Rattle.std.specs.Str.{is_utf8}
+use Rattle.std.proofs.lemmas.List.{ext_get_or}
+use Rattle.dual_graph.proofs.Rows.{length-map_below, get_or-map_below}
+use Rattle.serde_json.specs.Data.{Data}
+use Rattle.serde_json.specs.Read.{read}
+use Rattle.audit_model.specs.declared.fault.GraphFault.{GraphFault}
+use Rattle.audit_model.specs.declared.fault.GraphFault.TheVariants as fault
+use Rattle.audit_model.specs.declared.setting.Columns.{Columns}
+use Rattle.audit_model.specs.declared.setting.Label.{Label}
+use Rattle.audit_model.specs.declared.setting.Label.TheVariants.{Word}
+use Rattle.audit_model.specs.Below.{map_below}
+use Rattle.graph_definitions.specs.Reading.{Document, document, id_of, label_count, node, node_count, refusal, refused_if}
+use Rattle.graph_definitions.specs.Regions.{id_reading}
+use Rattle.dual_json.specs.Districts.{count_fault}
+use Rattle.dual_json.specs.Edges.{is_unnamed}
+use Rattle.dual_json.specs.Places.{first_unnamed, AreLabels}
+use Rattle.dual_json.specs.Shape.{frame_fault}
+use Rattle.dual_json.specs.Stages.{edge_count, entry_fault, graph_fault, ids_fault, is_stranger, labels_fault, repeated_in}
+use Rattle.dual_json.proofs.Bridge.{refusal_is}
+use Rattle.dual_json.proofs.Regioned.{document_is_of, past}
+
+front : {A : Type 0} → (o rest : Option A) → option_or o rest ≡ None → o ≡ None
+front None rest e = refl
+front (Some a) rest e = cc e
+
+unmapped : {A B : Type 0} → (f : A → B) (o : Option A) → option_map f o ≡ None → o ≡ None
+unmapped f None e = refl
+unmapped f (Some a) e = cc e
+
+-- the refusals after those of the ids
+later : Document → Option GraphFault
+later d = option_or (entry_fault d is_unnamed fault.BadNeighbour) (option_or (entry_fault d (is_stranger d.nodes) fault.UnknownNeighbour)
+    (refused_if (nat_lt 400000 (edge_count d)) (fault.TooManyEdges (edge_count d))))
+
+-- where nothing is refused, each node has an id
+pub all_named : (d : Document) (columns : Columns) → refusal d columns ≡ None → first_unnamed (codes "id") d.nodes ≡ None
+unfolding later
+all_named d columns none =
+    let whole : graph_fault d ≡ None =
+    front (graph_fault d) (option_or (labels_fault columns d.nodes) (count_fault (label_count d columns))) (sym (refusal_is d columns) ∙ none) in
+    let ids : ids_fault d.nodes ≡ None =
+    front (ids_fault d.nodes) (later d) (past (frame_fault d.directed (length d.nodes) (length d.adjacency)) (option_or (ids_fault d.nodes) (later d)) whole) in
+    unmapped fault.BadId (first_unnamed (codes "id") d.nodes) (front (option_map fault.BadId (first_unnamed (codes "id") d.nodes)) (repeated_in d.nodes) ids)
+
+-- the ids of the nodes of a document
+ids_in : Document → List Label
+ids_in d = map_below (node_count d) (λ i. unwrap_or (id_of (node d i)) (Word []))
+
+pub ids_are : (bytes : List ℕ) (root : Data) (d : Document) (ids : List Label) → cond (is_utf8 bytes) (read bytes) None ≡ Some root → document root ≡ d → AreLabels (codes "id") d.nodes ids → ids ≡ id_reading bytes
+unfolding id_reading ids_in
+ids_are bytes root d ids is same are =
+    let f = λ (i : ℕ). unwrap_or (id_of (node d i)) (Word []) in
+    let found : map_below (length d.nodes) f ≡ ids =
+    ext_get_or (Word []) (map_below (length d.nodes) f) ids (length-map_below (length d.nodes) f ∙ sym are.count)
+    (λ i l.
+    let inside : i < length d.nodes = omega (arith, l, length-map_below (length d.nodes) f) in
+    get_or-map_below (length d.nodes) f i (Word []) inside ∙ ap (λ o. unwrap_or o (Word [])) (are.each i inside)) in
+    sym (ap ids_in (document_is_of bytes root is ∙ same) ∙ found)

@@ -1,0 +1,51 @@
+//! The ids of the units.
+
+ghost use Rattle.std.specs.Prelude.{◌≡◌, ◌≤◌, None, Ok, codes, length, IfOk};
+ghost use Rattle.audit_model.specs.declared.setting.Columns.{Columns};
+ghost use Rattle.audit_model.specs.Parsed.{Parsed};
+ghost use Rattle.graph_definitions.specs.Reading.{reading};
+ghost use Rattle.graph_definitions.specs.Regions.{id_reading};
+ghost use Rattle.dual_json.specs.Numbered.{IsGraphText};
+ghost use Rattle.dual_json.specs.Places.{first_unnamed, AreLabels};
+ghost use Rattle.dual_json.specs.Shape.{views};
+
+use crate::districts::labels_of;
+use crate::names::{Unnamed, names_at};
+use crate::read::value_of;
+use crate::shape::parts_of;
+use audit_model::lists::LabelList;
+use audit_model::memory::Memory;
+use serde_json::Value;
+use std::alloc::Global;
+
+/// The ids of the nodes, each of which has one.
+fn ids_in(alloc: Global, nodes: &[Value]) -> Result<LabelList, Memory>
+    requires few { length nodes.now ≤ 100000 }
+    requires named { first_unnamed (codes "id") (views nodes.now) ≡ None }
+    ensures { IfOk result (λ ids. AreLabels (codes "id") (views nodes.now) ids) }
+{
+    match names_at(alloc, nodes, "id") {
+        Ok(names) => match labels_of(alloc, &names) {
+            Ok(ids) => Ok(ids),
+            Err(_) => Err(Memory),
+        },
+        Err(Unnamed::At(_)) => unreachable!(),
+        Err(Unnamed::Memory) => Err(Memory),
+    }
+}
+
+/// The ids of the units of a text that is a graph, in their order.
+pub fn read_ids(alloc: Global, bytes: &[u8]) -> Result<LabelList, Memory>
+    requires graph { IsGraphText bytes.now }
+    ensures read { IfOk result (λ ids. ids ≡ id_reading bytes.now) }
+    ensures width { IfOk result (λ ids. (columns : Columns) (parsed : Parsed) → reading bytes.now columns ≡ Ok parsed → length ids ≡ parsed.graph.units) }
+    ensures few { IfOk result (λ ids. length ids ≤ 100000) }
+{
+    match value_of(alloc, bytes) {
+        Ok(root) => match parts_of(&root) {
+            Ok(parts) => ids_in(alloc, parts.nodes),
+            Err(_) => unreachable!(),
+        },
+        Err(_) => Err(Memory),
+    }
+}

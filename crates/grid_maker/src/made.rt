@@ -1,0 +1,115 @@
+//! What is read of the grid, with no text between.
+
+ghost use Rattle.std.specs.Prelude.{◌≡◌, ◌-◌, ◌*◌, ◌/◌, ◌≤◌, Ok, pos, length, IfOk, OnOk};
+ghost use Rattle.audit_model.specs.declared.setting.Label.TheVariants.{Whole};
+ghost use Rattle.audit_model.specs.Below.{map_below};
+ghost use Rattle.audit_model.specs.Limits.{AreWithin};
+ghost use Rattle.draw_definitions.specs.Grid.{grid, side, first_votes_of};
+ghost use Rattle.dual_graph.specs.Read.{parsed_of};
+ghost use Rattle.graph_definitions.specs.Reading.{reading};
+ghost use Rattle.grid_maker.specs.Columns.{grid_columns};
+ghost use Rattle.grid_maker.specs.Pairs.{extended, pairs_until};
+
+use crate::adjacency::{below, right};
+use crate::nodes::VOTES_STREAM;
+use audit_model::lists::{LabelList, NumList, UnitList};
+use audit_model::memory::Memory;
+use audit_model::outcome::Counts;
+use audit_model::setting::Label;
+use chacha_draws::Draws;
+use dual_graph::graph::Graph;
+use dual_graph::parsed::Parsed;
+use std::alloc::Global;
+
+/// Appends the pair of a unit and another, where there is another.
+fn push_pair(pairs: &mut Vec<(u32, u32)>, unit: u32, other: Option<u32>) -> Result<(), Memory>
+    ensures { OnOk result (pairs.new.items ≡ extended pairs.old.items unit other) }
+{
+    if let Some(neighbour) = other {
+        pairs.push((unit, neighbour))?;
+    }
+    Ok(())
+}
+
+/// The pairs of units beside each other, in rising order.
+fn pairs_of(alloc: Global, size: u32) -> Result<Vec<(u32, u32)>, Memory>
+    requires { (1 ≤ size) × (size ≤ 30) }
+    ensures { IfOk result (λ pairs. pairs.items ≡ pairs_until (side size) (side size * side size)) }
+{
+    let side = 10 * size;
+    let mut pairs = Vec::new(alloc);
+    for unit in 0..side * side {
+        push_pair(&mut pairs, unit, right(side, unit))?;
+        push_pair(&mut pairs, unit, below(side, unit))?;
+    }
+    Ok(pairs)
+}
+
+/// The population and the votes of each unit.
+fn counts_of(alloc: Global, size: u32, key: [u8; 32]) -> Result<Counts, Memory>
+    requires { (1 ≤ size) × (size ≤ 30) }
+    ensures population { IfOk result (λ counts. counts.population ≡ map_below (side size * side size) (λ u. 100)) }
+    ensures first { IfOk result (λ counts. counts.first ≡ map_below (side size * side size) (first_votes_of key)) }
+    ensures second { IfOk result (λ counts. counts.second ≡ map_below (side size * side size) (λ u. 100 - first_votes_of key u)) }
+{
+    let mut draws = Draws::new(key, VOTES_STREAM);
+    let mut population = NumList::new(alloc);
+    let mut first = NumList::new(alloc);
+    let mut second = NumList::new(alloc);
+    let side = 10 * size;
+    for _unit in 0..side * side {
+        let votes = draws.next() % 101;
+        population.push(100)?;
+        first.push(votes)?;
+        second.push(100 - votes)?;
+    }
+    Ok(Counts {
+        population,
+        first,
+        second,
+    })
+}
+
+/// The district of each unit.
+fn start_of(alloc: Global, size: u32) -> Result<UnitList, Memory>
+    requires { (1 ≤ size) × (size ≤ 30) }
+    ensures { IfOk result (λ start. start ≡ map_below (side size * side size) (λ u. u / side size / size)) }
+{
+    let mut start = UnitList::new(alloc);
+    let side = 10 * size;
+    for unit in 0..side * side {
+        start.push(unit / side / size)?;
+    }
+    Ok(start)
+}
+
+/// The labels of the ten districts.
+fn ten_labels(alloc: Global) -> Result<LabelList, Memory>
+    ensures { IfOk result (λ labels. labels ≡ map_below 10 (λ d. Whole (pos d))) }
+{
+    let mut labels = LabelList::new(alloc);
+    for district in 0..10u32 {
+        labels.push(Label::Whole(i128::from(district)))?;
+    }
+    Ok(labels)
+}
+
+/// What is read of the grid of a size, whose votes are drawn under a key: what [`crate::make`] writes need not be written for it.
+pub fn read_made(alloc: Global, size: u32, key: [u8; 32]) -> Result<Parsed, Memory>
+    requires { (1 ≤ size) × (size ≤ 30) }
+    ensures read { IfOk result (λ p. reading (grid size key) grid_columns ≡ Ok (parsed_of p)) }
+    ensures within { IfOk result (λ p. AreWithin p.graph p.counts p.start (length p.labels)) }
+{
+    let side = 10 * size;
+    let pairs = pairs_of(alloc, size)?;
+    let graph = Graph::from_pairs(alloc, side * side, &pairs)?;
+    let counts = counts_of(alloc, size, key)?;
+    let start = start_of(alloc, size)?;
+    let labels = ten_labels(alloc)?;
+    Ok(Parsed {
+        graph,
+        counts,
+        start,
+        labels,
+    })
+}

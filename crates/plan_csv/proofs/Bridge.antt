@@ -1,0 +1,110 @@
+-- What the units of the records say of the records themselves.
+use Rattle.std.proofs.Common.{◌≡◌, ◌<◌, ℕ, suc, List, [], length, bytes_eq, not, Option, Some, None, Bool, true, false, refl, sym, ap, ◌∙◌, inl, inr, arith, eq-eqb}
+use Rattle.std.specs.List.{slice_index_or}
+use Rattle.std.specs.Option.{option_map, unwrap_or, is_none}
+use Rattle.std.specs.Cmp.Lexicographic.{bytes_decides}
+use Rattle.std.proofs.lemmas.Bool.{cases_lt, eqb-true, eqb-false, both_ways, true_from_ne_false}
+use Rattle.audit_model.specs.Below.{any_below}
+use Rattle.audit_model.specs.First.{first_below}
+use Rattle.audit_model.specs.declared.fault.TableFault.TheVariants as fault
+use Rattle.audit_model.specs.declared.setting.Label.{Label}
+use Rattle.table_definitions.specs.Table.{unit_text, names_unit, is_shared, shared_id, repeated_unit, missing_unit, entry_of}
+use Rattle.plan_csv.specs.Stages.{AreUnits, ArePlaces, AreThere, is_of, repeated, unnamed}
+use Rattle.dual_json.proofs.First.{first_below_same, any_below_same, first_passes, none_passes, any_at, any_from_none, any_from_some}
+
+abbrev id_at : List (List (List ℕ)) → ℕ → List ℕ
+id_at rows e = slice_index_or (slice_index_or rows e []) 0 []
+
+same_bool : (a b : Bool) → (a ≡ true → b ≡ true) → (b ≡ true → a ≡ true) → a ≡ b
+same_bool true b f g = sym (f refl)
+same_bool false true f g = g refl
+same_bool false false f g = refl
+
+nothing_mapped : {A B : Type 0} → (f : A → B) (x : Option A) → option_map f x ≡ None → x ≡ None
+nothing_mapped f None e = refl
+nothing_mapped f (Some a) e = cc e
+
+none_or_any : (n : ℕ) (t : ℕ → Bool) (x : Option ℕ) → first_below n t ≡ x → not (any_below n t) ≡ is_none x
+none_or_any n t None e = ap not (any_from_none n t e)
+none_or_any n t (Some a) e = ap not (any_from_some n t a e)
+
+some_is : (a b : ℕ) → Some a ≡ Some b → a ≡ b
+some_is a b e = cc e
+
+module _ (ids : List Label) (rows : List (List (List ℕ))) (units : List ℕ) (are : AreUnits ids rows units) where
+  module _ (e : ℕ) (l : e < length rows) where
+    unit : ℕ
+    unit = slice_index_or units e 0
+
+    pub unit_under : slice_index_or units e 0 < length ids
+    unit_under = (first_passes (length ids) (names_unit ids [] rows e) (slice_index_or units e 0) (are.each e l)).0
+
+    text_at : id_at rows e ≡ unit_text ids [] [] (slice_index_or units e 0)
+    text_at =
+        (bytes_decides (id_at rows e) (unit_text ids [] [] (slice_index_or units e 0))).0
+        (first_passes (length ids) (names_unit ids [] rows e) (slice_index_or units e 0) (are.each e l)).1
+
+  -- two records name one unit where their ids are one text
+  same_unit : (b e : ℕ) → b < length rows → e < length rows → bytes_eq (id_at rows b) (id_at rows e) ≡ is_of units (slice_index_or units e 0) b
+  same_unit b e lb le =
+      same_bool (bytes_eq (id_at rows b) (id_at rows e)) (is_of units (slice_index_or units e 0) b)
+      (λ same.
+      let text = (bytes_decides (id_at rows b) (id_at rows e)).0 same in
+      eq-eqb (slice_index_or units b 0) (slice_index_or units e 0)
+      (some_is (slice_index_or units b 0) (slice_index_or units e 0)
+      (sym (are.each b lb) ∙ ap (λ t. first_below (length ids) (λ u. bytes_eq t (unit_text ids [] [] u))) text ∙ are.each e le)))
+      (λ same.
+      let unit = eqb-true (slice_index_or units b 0) (slice_index_or units e 0) same in
+      (bytes_decides (id_at rows b) (id_at rows e)).1 (text_at b lb ∙ ap (unit_text ids [] []) unit ∙ sym (text_at e le)))
+
+  pub repeated_is : repeated_unit ids [] rows ≡ repeated units
+  repeated_is =
+      ap (option_map (λ e. fault.Twice (suc e)))
+      (first_below_same (length rows) (λ e. any_below e (λ b. bytes_eq (id_at rows b) (id_at rows e))) (λ e. any_below e (is_of units (slice_index_or units e 0)))
+      (λ e le. any_below_same e (λ b. bytes_eq (id_at rows b) (id_at rows e)) (is_of units (slice_index_or units e 0)) (λ b lb. same_unit b e (omega (arith, lb, le)) le))
+      ∙ ap (λ n. first_below n (λ e. any_below e (is_of units (slice_index_or units e 0)))) (sym are.count))
+
+  module _ (apart : shared_id ids [] [] ≡ None) where
+    -- a record names no unit but its own
+    names_own : (e u : ℕ) → e < length rows → u < length ids → names_unit ids [] rows e u ≡ is_of units u e
+    names_own e u le lu =
+        same_bool (names_unit ids [] rows e u) (is_of units u e)
+        (λ named. true_from_ne_false (is_of units u e) (λ off.
+        let ne = eqb-false (slice_index_or units e 0) u off in
+        let first = first_passes (length ids) (names_unit ids [] rows e) (slice_index_or units e 0) (are.each e le) in
+        let text = (bytes_decides (id_at rows e) (unit_text ids [] [] u)).0 named in
+        elim (cases_lt u (slice_index_or units e 0)) [
+          | inl below ↦ both_ways (names_unit ids [] rows e u) (first.2 u below) named
+          | inr from ↦
+              let above : slice_index_or units e 0 < u = omega (arith, from, ne) in
+              both_ways (any_below u (is_shared ids [] [] u))
+              (none_passes (length ids) (λ other. any_below other (is_shared ids [] [] other)) (nothing_mapped _ _ apart) u lu)
+              (any_at u (is_shared ids [] [] u) (slice_index_or units e 0) above
+              ((bytes_decides (unit_text ids [] [] (slice_index_or units e 0)) (unit_text ids [] [] u)).1 (sym (text_at e le) ∙ text)))
+        ]))
+        (λ same.
+        let unit = eqb-true (slice_index_or units e 0) u same in
+        (bytes_decides (id_at rows e) (unit_text ids [] [] u)).1 (text_at e le ∙ ap (unit_text ids [] []) unit))
+
+    module _ (places : List (Option ℕ)) (placed : ArePlaces units (length ids) places) where
+      first_of : (u : ℕ) → u < length ids → first_below (length rows) (λ e. names_unit ids [] rows e u) ≡ slice_index_or places u None
+      first_of u lu =
+          first_below_same (length rows) (λ e. names_unit ids [] rows e u) (is_of units u) (λ e le. names_own e u le lu)
+          ∙ ap (λ n. first_below n (is_of units u)) (sym are.count) ∙ sym (placed.each u lu)
+
+      pub missing_is : missing_unit ids [] rows ≡ unnamed places
+      missing_is =
+          ap (option_map fault.MissingUnit)
+          (first_below_same (length ids) (λ u. not (any_below (length rows) (λ e. names_unit ids [] rows e u))) (λ u. is_none (slice_index_or places u None))
+          (λ u lu. none_or_any (length rows) (λ e. names_unit ids [] rows e u) (slice_index_or places u None) (first_of u lu))
+          ∙ ap (λ n. first_below n (λ u. is_none (slice_index_or places u None))) (sym placed.size))
+
+      module _ (records : List ℕ) (have : AreThere places records) (u : ℕ) (lu : u < length ids) where
+        here : first_below (length rows) (λ e. names_unit ids [] rows e u) ≡ Some (slice_index_or records u 0)
+        here = first_of u lu ∙ have.each u (omega (arith, lu, placed.size))
+
+        pub entry_is : entry_of ids [] rows u ≡ slice_index_or records u 0
+        entry_is = ap (λ o. unwrap_or o 0) here
+
+        pub entry_under : slice_index_or records u 0 < length rows
+        entry_under = (first_passes (length rows) (λ e. names_unit ids [] rows e u) (slice_index_or records u 0) here).0

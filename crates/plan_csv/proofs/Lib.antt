@@ -1,0 +1,13 @@
+mod Assembled
+mod Bridge
+mod Chosen
+mod Early
+mod Heads
+mod Indexed
+mod Labelled
+mod Placed
+mod Pushed
+mod Records
+mod Refused
+mod United
+mod Unread

@@ -1,0 +1,62 @@
+//! The first record: a title and the plans' names.
+
+ghost use Rattle.std.specs.Prelude.{◌≡◌, ◌∷◌, ◌&&◌, nat_le, None, Some, [], MatchResult};
+ghost use Rattle.std.specs.List.{list_all};
+ghost use Rattle.csv.specs.Records.{fields_of};
+ghost use Rattle.audit_model.specs.First.{first_some};
+ghost use Rattle.table_definitions.specs.Table as table;
+
+use crate::rows::field;
+use audit_model::fault::TableFault;
+use csv::StringRecord;
+
+/// How many plans a table may have.
+pub const MOST_PLANS: usize = 16;
+
+/// Whether a byte is seen.
+fn is_seen(c: u8) -> bool
+    ensures { result ≡ (nat_le 33 c && nat_le c 126) }
+{
+    c >= 33 && c <= 126
+}
+
+/// Whether each byte is seen.
+fn are_seen(bytes: &[u8]) -> bool
+    ensures { result ≡ list_all (λ c. nat_le 33 c && nat_le c 126) bytes.now }
+{
+    bytes.iter().all(|c| is_seen(*c))
+}
+
+/// Whether a text is 1 to 100 bytes that are seen.
+pub fn is_plan_name(name: &str) -> bool
+    ensures { result ≡ table.is_plan_name name.now }
+{
+    let bytes = name.as_bytes();
+    let seen = are_seen(bytes);
+    1 <= bytes.len() && bytes.len() <= 100 && seen
+}
+
+/// How many plans the first record names.
+pub fn plans_of(header: &StringRecord) -> Result<usize, TableFault>
+    ensures { MatchResult result
+        (λ plans. (plans ≡ table.plan_count [] (fields_of header.now) [])
+        × (table.lacks_header [] (fields_of header.now) [] ≡ None)
+        × (table.too_many [] (fields_of header.now) [] ≡ None)
+        × (table.bad_name [] (fields_of header.now) [] ≡ None))
+        (λ f. first_some (table.lacks_header [] (fields_of header.now) [] ∷ table.too_many [] (fields_of header.now) [] ∷ table.bad_name [] (fields_of header.now) [] ∷ []) ≡ Some f) }
+{
+    let columns = header.len();
+    if columns < 2 {
+        return Err(TableFault::NoHeader);
+    }
+    let plans = columns - 1;
+    if plans > MOST_PLANS {
+        return Err(TableFault::TooManyPlans(plans as u64));
+    }
+    for plan in 0..plans {
+        if !is_plan_name(field(header, plan + 1)) {
+            return Err(TableFault::BadName(plan as u32));
+        }
+    }
+    Ok(plans)
+}

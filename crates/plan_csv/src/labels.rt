@@ -1,0 +1,127 @@
+//! The labels of a plan, and the plan that they make.
+
+ghost use Rattle.std.specs.Prelude.{◌≡◌, ◌≤◌, ◌<◌, ◌||◌, ◌⊎◌, ℕ, nat_lt, true, false, [], length, map, slice_index, IfOk, MatchResult};
+ghost use Rattle.csv.specs.Records.{fields_of};
+ghost use Rattle.audit_model.specs.Below.{map_below};
+ghost use Rattle.audit_model.specs.declared.fault.TableFault.TheVariants as fault;
+ghost use Rattle.dual_json.specs.Districts.{AreDifferent, AreDistricts};
+ghost use Rattle.dual_json.specs.Places.{labels_from};
+ghost use Rattle.table_definitions.specs.Table as table;
+ghost use Rattle.plan_csv.specs.Fit.{IsPlanOf};
+ghost use Rattle.plan_csv.specs.Stages.{assigned_by, AreLabels, IsAssigned};
+
+use crate::rows::field;
+use audit_model::fault::TableFault;
+use audit_model::lists::UnitList;
+use audit_model::memory::Memory;
+use audit_model::plans::Assigned;
+use audit_model::text::Text;
+use csv::StringRecord;
+use dual_json::districts::{different, labels_of, start_of};
+use dual_json::names::Name;
+use std::alloc::Global;
+
+/// The label of each record in a plan.
+fn names_of<'e>(
+    alloc: Global,
+    entries: &'e [StringRecord],
+    plan: usize,
+) -> Result<Vec<Name<'e>>, Memory>
+    requires { plan < 16 }
+    ensures { IfOk result (λ names. AreLabels (map fields_of entries.now) plan (labels_from names.items)) }
+{
+    let mut names = Vec::with_capacity(alloc, entries.len())?;
+    for entry in 0..entries.len() {
+        names.push(Name::Word(field(&entries[entry], plan + 1)))?;
+    }
+    Ok(names)
+}
+
+/// Whether a plan may not have so many districts.
+pub fn is_miscounted(districts: usize) -> bool
+    ensures { result ≡ (nat_lt districts 2 || nat_lt 200 districts) }
+{
+    districts < 2 || districts > 200
+}
+
+/// A text of its own.
+fn text_of(alloc: Global, text: &str) -> Result<Text, Memory>
+    ensures { IfOk result (λ copy. copy ≡ text.now) }
+{
+    let mut copy = Text::new(alloc);
+    copy.push_str(text)?;
+    Ok(copy)
+}
+
+/// The district of each unit, where that of each record and each unit's record are known.
+fn picked(alloc: Global, districts: &[u32], records: &[usize]) -> Result<UnitList, Memory>
+    requires { (u : ℕ) → u < length records.now → slice_index records.now u < length districts.now }
+    ensures { IfOk result (λ start. start ≡ map_below (length records.now) (λ u. slice_index districts.now (slice_index records.now u))) }
+{
+    let mut start = UnitList::with_room(alloc, records.len())?;
+    for unit in 0..records.len() {
+        start.push(districts[records[unit]])?;
+    }
+    Ok(start)
+}
+
+/// The plan of a name, where the label of each record, the different ones among these and each unit's record are known.
+fn assigned_of(
+    alloc: Global,
+    name: &str,
+    names: &[Name<'_>],
+    found: &[Name<'_>],
+    records: &[usize],
+) -> Result<Assigned, Memory>
+    requires different { AreDifferent names.now found.now }
+    requires few { length found.now ≤ 200 }
+    requires under { (u : ℕ) → u < length records.now → slice_index records.now u < length names.now }
+    ensures { IfOk result (λ plan. IsAssigned name.now (labels_from names.now) (labels_from found.now) records.now plan) }
+{
+    let Ok(districts) = start_of(alloc, names, found) else {
+        return Err(Memory);
+    };
+    let Ok(labels) = labels_of(alloc, found) else {
+        return Err(Memory);
+    };
+    Ok(Assigned {
+        name: text_of(alloc, name)?,
+        start: picked(alloc, districts.as_slice(), records)?,
+        labels,
+    })
+}
+
+/// The plan whose labels stand in the column after its number, where each unit's record is known; or that it has too few or too many districts.
+pub fn plan_of(
+    alloc: Global,
+    header: &StringRecord,
+    entries: &[StringRecord],
+    records: &[usize],
+    plan: usize,
+) -> Result<Assigned, TableFault>
+    requires few { plan < 16 }
+    requires under { (u : ℕ) → u < length records.now → slice_index records.now u < length entries.now }
+    ensures read { MatchResult result
+        (λ a. (table.is_miscounted [] [] (map fields_of entries.now) plan ≡ false) × (a ≡ assigned_by (fields_of header.now) (map fields_of entries.now) records.now plan))
+        (λ f. (f ≡ fault.Memory) ⊎ ((f ≡ fault.DistrictCount plan (table.label_count [] [] (map fields_of entries.now) plan))
+        × (table.is_miscounted [] [] (map fields_of entries.now) plan ≡ true))) }
+    ensures fit { IfOk result (λ a. IsPlanOf (length records.now) a) }
+{
+    let Ok(names) = names_of(alloc, entries, plan) else {
+        return Err(TableFault::Memory);
+    };
+    let Ok(found) = different(alloc, &names) else {
+        return Err(TableFault::Memory);
+    };
+    let districts = found.len();
+    if is_miscounted(districts) {
+        return Err(TableFault::DistrictCount {
+            plan: plan as u32,
+            count: districts as u64,
+        });
+    }
+    match assigned_of(alloc, field(header, plan + 1), &names, &found, records) {
+        Ok(assigned) => Ok(assigned),
+        Err(_) => Err(TableFault::Memory),
+    }
+}

@@ -1,0 +1,105 @@
+//! The whole reading.
+
+ghost use Rattle.std.specs.Prelude.{◌≡◌, ◌≤◌, ◌<◌, ◌^◌, ◌⊎◌, ℕ, [], None, Some, Ok, Err, length, map, slice_index, All, IfOk, MatchResult};
+ghost use Rattle.csv.specs.Records.{fields_of};
+ghost use Rattle.audit_model.specs.Below.{map_below};
+ghost use Rattle.audit_model.specs.declared.fault.TableFault.TheVariants as fault;
+ghost use Rattle.table_definitions.specs.Table as table;
+ghost use Rattle.plan_csv.specs.Fit.{IsPlanOf};
+ghost use Rattle.plan_csv.specs.Stages.{assigned_by, later};
+
+use crate::header::plans_of;
+use crate::labels::plan_of;
+use crate::rows::{columns_of, records_of, texts_of};
+use crate::units::records_from;
+use audit_model::fault::TableFault;
+use audit_model::lists::LabelList;
+use audit_model::plans::AssignedList;
+use csv::StringRecord;
+use std::alloc::Global;
+
+/// The plans whose labels stand in the columns after the first, where each unit's record is known.
+fn labelled(
+    alloc: Global,
+    header: &StringRecord,
+    entries: &[StringRecord],
+    records: &[usize],
+    plans: usize,
+) -> Result<AssignedList, TableFault>
+    requires few { plans ≤ 16 }
+    requires all { plans ≡ table.plan_count [] (fields_of header.now) [] }
+    requires under { (u : ℕ) → u < length records.now → slice_index records.now u < length entries.now }
+    ensures read { MatchResult result
+        (λ list. (table.refused_count [] (fields_of header.now) (map fields_of entries.now) ≡ None)
+        × (list ≡ map_below plans (assigned_by (fields_of header.now) (map fields_of entries.now) records.now)))
+        (λ f. (f ≡ fault.Memory) ⊎ (table.refused_count [] (fields_of header.now) (map fields_of entries.now) ≡ Some f)) }
+    ensures fit { IfOk result (λ list. All (IsPlanOf (length records.now)) list) }
+{
+    let mut list = AssignedList::new(alloc);
+    for plan in 0..plans {
+        match plan_of(alloc, header, entries, records, plan) {
+            Err(fault) => return Err(fault),
+            Ok(assigned) => {
+                let Ok(()) = list.push(assigned) else {
+                    return Err(TableFault::Memory);
+                };
+            }
+        }
+    }
+    Ok(list)
+}
+
+/// The plans of records that are texts with as many fields as the first.
+fn plans_from(
+    alloc: Global,
+    header: &StringRecord,
+    entries: &[StringRecord],
+    ids: &LabelList,
+) -> Result<AssignedList, TableFault>
+    requires few { length ids.now ≤ 100000 }
+    requires small { length entries.now < 2 ^ 63 }
+    ensures read { MatchResult result
+        (λ list. (later ids.now (fields_of header.now) (map fields_of entries.now) ≡ None)
+        × (list ≡ map_below (table.plan_count ids.now (fields_of header.now) (map fields_of entries.now)) (table.assigned ids.now (fields_of header.now) (map fields_of entries.now))))
+        (λ f. (f ≡ fault.Memory) ⊎ (later ids.now (fields_of header.now) (map fields_of entries.now) ≡ Some f)) }
+    ensures fit { IfOk result (λ list. All (IsPlanOf (length ids.now)) list) }
+{
+    let plans = plans_of(header)?;
+    let records = records_from(alloc, entries, ids.as_slice())?;
+    labelled(alloc, header, entries, records.as_slice(), plans)
+}
+
+/// The plans of a table over units with these ids, or the first reason to refuse it.
+///
+/// The table's first record is a title and the plans' names; each further one is a unit's id and its labels.
+///
+/// # Errors
+///
+/// The refusals are tested in the order of the variants of [`TableFault`], each over the whole table and at its least place.
+///
+/// - `Unreadable`: a record with another number of fields than the first, or with a field that is no text.
+/// - `NoHeader`: there is no record, or the first has fewer than two fields.
+/// - `TooManyPlans`: how many plans there are, which are more than 16.
+/// - `BadName`: a plan whose name is not 1 to 100 bytes that are seen.
+/// - `SharedId`: the least unit whose id as text is that of an earlier one.
+/// - `UnknownId`: a record whose first field is no unit's id as text.
+/// - `Twice`: a record whose unit an earlier record names.
+/// - `MissingUnit`: a unit that no record names.
+/// - `DistrictCount`: a plan with fewer than 2 or more than 200 different labels.
+/// - `Memory`: there was no memory for the records, or for the plans.
+pub fn read_plans(alloc: Global, bytes: &[u8], ids: &LabelList) -> Result<AssignedList, TableFault>
+    requires { length ids.now ≤ 100000 }
+    ensures read { MatchResult result (λ plans. table.table_reading bytes.now ids.now ≡ Ok plans)
+        (λ f. (f ≡ fault.Memory) ⊎ (table.table_reading bytes.now ids.now ≡ Err f)) }
+    ensures fit { IfOk result (λ plans. All (IsPlanOf (length ids.now)) plans) }
+{
+    let Ok(rows) = records_of(alloc, bytes) else {
+        return Err(TableFault::Memory);
+    };
+    let columns = columns_of(rows.as_slice());
+    let texts = texts_of(alloc, rows, columns)?;
+    match texts.as_slice() {
+        [header, entries @ ..] => plans_from(alloc, header, entries, ids),
+        [] => Err(TableFault::NoHeader),
+    }
+}

@@ -1,0 +1,147 @@
+//! The units that the records name.
+
+ghost use Rattle.std.specs.Prelude.{◌≡◌, ◌≤◌, ◌<◌, ◌^◌, ◌⊎◌, ℕ, List, [], None, Some, length, map, string_bytes, IfOk, MatchResult};
+ghost use Rattle.std.specs.List.{slice_index_or};
+ghost use Rattle.csv.specs.Records.{fields_of};
+ghost use Rattle.audit_model.specs.declared.fault.TableFault.TheVariants as fault;
+ghost use Rattle.audit_model.specs.declared.setting.Label.{Label};
+ghost use Rattle.table_definitions.specs.Table as table;
+ghost use Rattle.plan_csv.specs.Stages.{repeated, refused_units, unnamed, AreRecords, IsIndex, AreUnits, ArePlaces, AreThere};
+
+use crate::rows::field;
+use audit_model::fault::TableFault;
+use audit_model::memory::Memory;
+use audit_model::setting::Label;
+use csv::StringRecord;
+use itoa::Buffer;
+use std::alloc::Global;
+use std::collections::BTreeMap;
+
+/// An id as text.
+pub fn id_text(alloc: Global, id: &Label) -> Result<String, Memory>
+    ensures { IfOk result (λ text. string_bytes text ≡ table.id_text id.now) }
+{
+    match id {
+        Label::Whole(number) => {
+            let mut buffer = Buffer::new();
+            Ok(String::from_str(alloc, buffer.format(*number))?)
+        }
+        Label::Word(text) => Ok(String::from_str(alloc, text.as_str())?),
+    }
+}
+
+/// The unit of each id as text, or the first unit whose text an earlier one has too.
+pub fn index_of(alloc: Global, ids: &[Label]) -> Result<BTreeMap<String, u32>, TableFault>
+    requires { length ids.now ≤ 100000 }
+    ensures { MatchResult result (λ index. (table.shared_id ids.now [] [] ≡ None) × IsIndex string_bytes ids.now index.entries)
+        (λ f. (f ≡ fault.Memory) ⊎ (table.shared_id ids.now [] [] ≡ Some f)) }
+{
+    let mut index = BTreeMap::new(alloc);
+    for unit in 0..ids.len() {
+        let Ok(text) = id_text(alloc, &ids[unit]) else {
+            return Err(TableFault::Memory);
+        };
+        let other = unit as u32;
+        if let Some(one) = index.get(text.as_str()) {
+            return Err(TableFault::SharedId { one: *one, other });
+        }
+        let Ok(_) = index.insert(text, other) else {
+            return Err(TableFault::Memory);
+        };
+    }
+    Ok(index)
+}
+
+/// The unit that each record names, or the first record that names none.
+pub fn units_of(
+    alloc: Global,
+    index: &BTreeMap<String, u32>,
+    entries: &[StringRecord],
+) -> Result<Vec<u32>, TableFault>
+    requires { length entries.now < 2 ^ 63 }
+    ensures { (ids : List Label) → IsIndex string_bytes ids index.now.entries
+        → MatchResult result (λ units. (table.unknown_id ids [] (map fields_of entries.now) ≡ None) × AreUnits ids (map fields_of entries.now) units.items)
+        (λ f. (f ≡ fault.Memory) ⊎ (table.unknown_id ids [] (map fields_of entries.now) ≡ Some f)) }
+{
+    let mut units = Vec::new(alloc);
+    for entry in 0..entries.len() {
+        let Some(unit) = index.get(field(&entries[entry], 0)) else {
+            return Err(TableFault::UnknownId(entry as u64 + 1));
+        };
+        let Ok(()) = units.push(*unit) else {
+            return Err(TableFault::Memory);
+        };
+    }
+    Ok(units)
+}
+
+/// No record for each of `count` units.
+fn blanks(alloc: Global, count: usize) -> Result<Vec<Option<usize>>, Memory>
+    ensures { IfOk result (λ places. (length places.items ≡ count) × ((u : ℕ) → slice_index_or places.items u None ≡ None)) }
+{
+    let mut places = Vec::with_capacity(alloc, count)?;
+    for _ in 0..count {
+        places.push(None)?;
+    }
+    Ok(places)
+}
+
+/// The record of each of `count` units where one names it, or the first record that repeats a unit.
+pub fn places_of(
+    alloc: Global,
+    units: &[u32],
+    count: usize,
+) -> Result<Vec<Option<usize>>, TableFault>
+    requires few { count ≤ 100000 }
+    requires small { length units.now < 2 ^ 63 }
+    requires within { (k : ℕ) → k < length units.now → slice_index_or units.now k 0 < count }
+    ensures { MatchResult result (λ places. (repeated units.now ≡ None) × ArePlaces units.now count places.items)
+        (λ f. (f ≡ fault.Memory) ⊎ (repeated units.now ≡ Some f)) }
+{
+    let Ok(mut places) = blanks(alloc, count) else {
+        return Err(TableFault::Memory);
+    };
+    for entry in 0..units.len() {
+        let unit = units[entry] as usize;
+        if places[unit].is_some() {
+            return Err(TableFault::Twice(entry as u64 + 1));
+        }
+        places[unit] = Some(entry);
+    }
+    Ok(places)
+}
+
+/// The record of each unit, or the first unit that no record names.
+pub fn records_of(alloc: Global, places: &[Option<usize>]) -> Result<Vec<usize>, TableFault>
+    requires { length places.now ≤ 100000 }
+    ensures { MatchResult result (λ records. (unnamed places.now ≡ None) × AreThere places.now records.items)
+        (λ f. (f ≡ fault.Memory) ⊎ (unnamed places.now ≡ Some f)) }
+{
+    let mut records = Vec::new(alloc);
+    for unit in 0..places.len() {
+        let Some(record) = places[unit] else {
+            return Err(TableFault::MissingUnit(unit as u32));
+        };
+        let Ok(()) = records.push(record) else {
+            return Err(TableFault::Memory);
+        };
+    }
+    Ok(records)
+}
+
+/// The record of each unit, or the first refusal of the ids and of the units that the records name.
+pub fn records_from(
+    alloc: Global,
+    entries: &[StringRecord],
+    ids: &[Label],
+) -> Result<Vec<usize>, TableFault>
+    requires few { length ids.now ≤ 100000 }
+    requires small { length entries.now < 2 ^ 63 }
+    ensures { MatchResult result (λ records. (refused_units ids.now (map fields_of entries.now) ≡ None) × AreRecords ids.now (map fields_of entries.now) records.items)
+        (λ f. (f ≡ fault.Memory) ⊎ (refused_units ids.now (map fields_of entries.now) ≡ Some f)) }
+{
+    let index = index_of(alloc, ids)?;
+    let units = units_of(alloc, &index, entries)?;
+    let places = places_of(alloc, units.as_slice(), ids.len())?;
+    records_of(alloc, places.as_slice())
+}

@@ -1,0 +1,5 @@
+pub mod Ends
+pub mod Named
+pub mod Reading
+pub mod Shared
+pub mod Stages

@@ -1,0 +1,6 @@
+//! The workers of a run whose tests stop early: they walk all outlier trajectories, and then ends in rounds, until every test has stopped.
+#![tactic(auto)]
+
+pub mod crew;
+pub mod settling;
+pub mod walking;

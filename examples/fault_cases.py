@@ -1,0 +1,64 @@
+"""Runs of which one call after the other fails, and runs where none can, by a plain program: what `audit_cases` must print for each line of
+its files `faults` and `sure`.
+
+Usage: python3 fault_cases.py FOLDER
+FOLDER has both files and those that they name, as crates/audit_cases/data. Runs, checkpoints and trajectories are those of
+checkpoint_cases.py, over a source that gives at most so many bytes a call, its end being a call of its own, and an output that takes as many;
+of an outside that cannot fail only the status, the ids and the note are shown.
+"""
+import pathlib
+import sys
+
+from checkpoint_cases import End, Keeper, audit, shown, slot_of, told
+
+ROOM = 4000
+
+
+def calls_for(count, most):
+    """How many calls move so many bytes."""
+    return -(-count // most)
+
+
+def lined(parts):
+    """The parts that are not empty, each ended by a line feed."""
+    return "".join(part.removesuffix("\n") + "\n" for part in parts if part)
+
+
+def run_once(folder, calls, number, most, said, text, words):
+    """What one run prints, and its status."""
+    slots = [slot_of(folder, one, None) for one in said]
+    if calls == "reads" and words[0] != "make" and number <= calls_for(len(text.encode()), most) + 1:
+        end = End(4, [], "", "read fault")
+        keeper = Keeper(slots, 0, "0")
+    else:
+        keeper = Keeper(slots, number if calls == "loads" else 0, str(number if calls == "saves" else 0))
+        end = audit(words, text, keeper, ROOM)
+        if calls == "writes" and number <= calls_for(len(end.out), most):
+            end = End(5, end.told, end.out[:most * (number - 1)], "write fault")
+    lines = [f"run {number}", f"status {end.status}", told(end.told), end.out + end.note]
+    return lined([*lines, *(shown(place, data) for place, data in enumerate(keeper.slots))]), end.status
+
+
+def run_surely(folder, zero, one, file, *words):
+    """What a run prints where nothing can fail."""
+    end = audit(words, (folder / file).read_text(), Keeper([slot_of(folder, said, None) for said in (zero, one)], 0, "0"), ROOM)
+    return lined([f"status {end.status}", told(end.told), end.note])
+
+
+def main(name):
+    folder = pathlib.Path(name)
+    for line in (folder / "faults").read_text().splitlines():
+        print(line)
+        calls, most, zero, one, file, *words = line.split()
+        number, status = 0, None
+        while status not in (0, 7):
+            number += 1
+            text, status = run_once(folder, calls, number, int(most), (zero, one), (folder / file).read_text(), words)
+            print(text, end="")
+    for line in (folder / "sure").read_text().splitlines():
+        print(line)
+        print(run_surely(folder, *line.split()), end="")
+
+
+if __name__ == "__main__":
+    main(*sys.argv[1:])
