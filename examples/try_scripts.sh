@@ -140,13 +140,14 @@ try_networkx() {
     local python
     python=$(python_with networkx)
     if [ -z "$python" ]; then
-        missing "write_grid.py, write_rough.py, compare.py, compare_walks.py, compare_chains.py, checkpoints.py, checkpoint_cases.py, fault_cases.py" networkx
+        missing "write_grid.py, write_rough.py, compare.py, compare_walks.py, compare_shapes.py, compare_chains.py, checkpoints.py, checkpoint_cases.py, fault_cases.py" networkx
         return
     fi
     "$python" write_grid.py >"$room/grid.json" && same "$room/grid.json" grid.json "write_grid.py does not write grid.json"
     "$python" write_rough.py >"$room/rough.json" && same "$room/rough.json" rough.json "write_rough.py does not write rough.json"
     "$python" compare.py "$auditor" cycle.json pop a b d 5000 >"$room/told" 2>&1 || bad "compare.py: $(tail -n 1 "$room/told")"
     "$python" compare_walks.py "$auditor" 5 2 >"$room/told" 2>&1 || bad "compare_walks.py: $(tail -n 1 "$room/told")"
+    "$python" compare_shapes.py "$auditor" 8 2 500 >"$room/told" 2>&1 || bad "compare_shapes.py: $(head -n 1 "$room/told")"
     "$python" compare_chains.py "$auditor" 3 2 >"$room/told" 2>&1 || bad "compare_chains.py: $(tail -n 1 "$room/told")"
     "$python" checkpoints.py run --pop pop --first a --second b --district d --slack 5000 --steps 8 --ask gap:low,gap:high --key $key \
         <cycle.json >"$room/whole"
