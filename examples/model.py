@@ -4,8 +4,10 @@
 Words, notes and standard output are bytes; a slot is bytes or None. JSON is read as serde_json reads it: by Python's json with whole
 numbers of 64 bits, at most 127 levels, and neither lone surrogates nor numbers too great for a float. One worker is assumed for the slots.
 """
+import csv
 import functools
 import hashlib
+import io
 import json
 import math
 import re
@@ -26,6 +28,7 @@ COMMANDS = {
     "check": (*BASE, "--slack", "--max-cut", *RULES_OF_REGIONS),
     "run": tuple(name for name in TABLE if name != "--size"),
     "make": tuple(name for name in TABLE if name not in BASE and name not in RULES_OF_REGIONS),
+    "plans": tuple(name for name in TABLE if name not in ("--size", "--budget", "--save", "--resume")),
 }
 DEFAULTS = {"--slack": "500", "--walks": "1", "--steps": "1000", "--ends": "0", "--hub-steps": "1000", "--workers": "1",
             "--budget": "100000", "--save": "0", "--resume": "no", "--max-cut": "400000", "--shift": "no", "--stop": "0",
@@ -104,6 +107,8 @@ class Setting:
             return plans & plans - 1 == 0
         if name in ("--resume", "--shift", "--serial"):
             return text in ("yes", "no")
+        if name == "--district" and self.command == "plans":
+            return "\n" not in text
         if name in BASE or name == "--region":
             return True
         low, high = RANGES[name]
@@ -304,6 +309,66 @@ def reading(data, columns, region):
     if not 2 <= districts <= 200:
         refuse(f"{districts} districts, not 2 to 200")
     return edges, people, first, second, plan, districts, regions_of(nodes, region)
+
+
+# ---- tables
+
+def refuse_table(note):
+    raise Refused(2, "table: " + note)
+
+
+def records_of(data):
+    """The records of a table, each a list of fields of bytes: no empty lines, no byte order mark, and any line end."""
+    text = data.removeprefix(b"\xef\xbb\xbf").decode("latin-1")
+    rows = csv.reader(io.StringIO(text, newline=""))
+    return [[field.encode("latin-1") for field in row] for row in rows if row]
+
+
+def is_text(field):
+    try:
+        field.decode("utf-8")
+    except UnicodeDecodeError:
+        return False
+    return True
+
+
+def plans_of(data, ids):
+    """The name of each plan of a table, how many districts it has and the district of each unit, or the first refusal."""
+    records = records_of(data)
+    for at, record in enumerate(records):
+        if len(record) != len(records[0]) or not all(is_text(field) for field in record):
+            refuse_table(f"record {at} is unreadable")
+    if not records or len(records[0]) < 2:
+        refuse_table("no header")
+    names = records[0][1:]
+    if len(names) > 16:
+        refuse_table(f"{len(names)} plans, more than 16")
+    for plan, name in enumerate(names):
+        if not re.fullmatch(rb"[!-~]{1,100}", name):
+            refuse_table(f"plan {plan} has no usable name")
+    units = {}
+    for unit, one in enumerate(ids):
+        if one in units:
+            refuse_table(f"units {units[one]} and {unit} share an id")
+        units[one] = unit
+    for at, record in enumerate(records[1:]):
+        if record[0] not in units:
+            refuse_table(f"record {at + 1} names no unit")
+    rows = {}
+    for at, record in enumerate(records[1:]):
+        if record[0] in rows:
+            refuse_table(f"record {at + 1} repeats a unit")
+        rows[record[0]] = record
+    for unit, one in enumerate(ids):
+        if one not in rows:
+            refuse_table(f"unit {unit} is missing")
+    made = []
+    for plan, name in enumerate(names):
+        districts, start = numbered([rows[one][plan + 1] for one in ids])
+        if not 2 <= districts <= 200:
+            refuse_table(f"plan {plan} has {districts} districts, not 2 to 200")
+        made.append((name.decode("ascii"), districts, start))
+    return made
 
 
 # ---- draws
@@ -667,10 +732,29 @@ def job_of(setting, graph):
     return Job(setting, *reading(graph, setting.columns, setting.region))
 
 
+def jobs_of(setting, data):
+    """The name and the job of each plan: of the graph's own, and of each plan of the table behind the first line feed."""
+    graph, _, table = data.partition(b"\n")
+    if len(data) > MOST_INPUT:
+        refuse(f"more than {MOST_INPUT} bytes")
+    *rest, plan, districts, regions = reading(graph, setting.columns, setting.region)
+    ids = [str(node["id"]).encode("utf-8") for node in parsed(graph)["nodes"]]
+    plans = plans_of(table, ids)
+    jobs = [(setting.columns[3], Job(setting, *rest, plan, districts, regions))]
+    for name, districts, plan in plans:
+        try:
+            jobs.append((name, Job(setting, *rest, plan, districts, regions)))
+        except Refused as refusal:
+            raise Refused(2, refusal.note.replace("plan:", f"plan {name}:", 1)) from refusal
+    return jobs
+
+
 def audit(words, graph, slots):
     """How a call with ample memory, over files that do not fail, must end."""
     try:
         setting = Setting(words)
+        if setting.command == "plans":
+            return End(0, "".join(f"plan {name}\n" + report(job, asked(job, job.digest())) for name, job in jobs_of(setting, graph)), "", list(slots))
         job = job_of(setting, graph)
         if setting.command == "check":
             return End(0, check_text(job), "", list(slots))

@@ -3,11 +3,13 @@
 Usage: python3 refused_memory.py PROGRAM
 Builds a small library with gcc that stands before the C library's allocations and refuses the one with a given number, or that one and all
 after it, and runs the program under it for each number from 1 until a run ends in which none was refused: over an outlier trajectory, the
-parallel test, the serial test with the tally of seats, a run of three workers, a run with regions, a made grid, each run of a chain that is
-halted and resumed, and one that goes on from the first version of the format with the tally. The status must be 3 or the run's own; after 3 the
-output must be empty and both files as before; else output, note and files must be those of the run with all its memory.
+parallel test, the serial test with the tally of seats, a run of three workers, a run with regions, one that stops early, one of several plans,
+a made grid, each run of a chain that is halted and resumed, and one that goes on from the first version of the format with the tally. The
+status must be 3 or the run's own; after 3 the output must be empty and both files as before; else output, note and files must be those of the
+run with all its memory.
 Prints how many runs there were, and each that is not so; ends with 1 where there is one.
 """
+import json
 import os
 import pathlib
 import shutil
@@ -119,11 +121,23 @@ def runs():
         "three workers": [([*CHAIN, "--workers", "3"], cycle)],
         "regions": [(["run", *BASE, "--slack", "5000", *KEY, "--walks", "3", "--steps", "7", "--ask", "gap:low", "--region", "county", "--max-split",
                       "2", "--serial", "yes", "--workers", "2"], counties)],
+        "early stops": [(["run", *BASE, "--slack", "5000", *KEY, "--steps", "8", "--ends", "5", "--hub-steps", "8", "--stop", "2", "--ask",
+                          "gap:low,cut-edges:high", "--workers", "2"], cycle)],
+        "several plans": [(["plans", *BASE, "--slack", "5000", *KEY, "--steps", "7", "--ends", "2", "--hub-steps", "4", "--ask", "gap:low",
+                            "--serial", "yes", "--workers", "2"], several(cycle))],
         "make": [(["make", "--size", "1", "--slack", "3000", *KEY, "--steps", "50", "--ask", "mean-median:low,cut-edges:high"], b"")],
         "chain": [([*CHAIN, *SAVED], cycle), ([*CHAIN, *SAVED, "--resume", "yes"], cycle), ([*CHAIN, *SAVED, "--resume", "yes"], cycle)],
         OLD: [([*CHAIN, *SAVED, "--resume", "yes", "--shift", "yes"], cycle), ([*CHAIN, "--save", "3", "--resume", "yes", "--shift", "yes"], cycle),
               ([*CHAIN, "--save", "3", "--resume", "yes", "--workers", "3"], cycle)],
     }
+
+
+def several(graph):
+    """The graph as one line, and a table with two more plans of its units."""
+    ids = [unit["id"] for unit in json.loads(graph)["nodes"]]
+    half = len(ids) // 2
+    rows = [f"{name},{int(at < half)},{'xy'[0 < at <= half]}" for at, name in enumerate(ids)]
+    return graph.replace(b"\n", b"") + "\n".join(["", "id,halves,turned", *rows, ""]).encode()
 
 
 def built(folder):

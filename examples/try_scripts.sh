@@ -136,6 +136,21 @@ try_install() {
     [ -x "$room/bin/audit_slots" ] || bad "install.sh leaves no audit_slots"
 }
 
+try_plans() {
+    python3 compare_plans.py "$auditor" 20 3 >"$room/told" 2>&1 || bad "compare_plans.py: $(tail -n 1 "$room/told")"
+    python3 plans_cost.py "$auditor" 100 1 >"$room/told" 2>&1 || bad "plans_cost.py: $(tail -n 1 "$room/told")"
+    { tr -d '\n' <grid.json; echo; cat plans.csv; } >"$room/plans"
+    "$auditor" plans "${columns[@]}" --slack 1000 --key $key --steps 100 --ask cut-edges:low <"$room/plans" >"$room/told" 2>&1
+    [ "$(grep '^plan ' "$room/told" | tr '\n' ' ')" = "plan CD plan blocks plan columns " ] || bad "the auditor does not audit the plans of plans.csv"
+    local python
+    python=$(python_with pandas)
+    if [ -z "$python" ]; then
+        missing write_plans.py pandas
+        return
+    fi
+    "$python" write_plans.py >"$room/plans.csv" && same "$room/plans.csv" plans.csv "write_plans.py does not write plans.csv"
+}
+
 try_networkx() {
     local python
     python=$(python_with networkx)
@@ -168,5 +183,6 @@ try_picture
 try_cost
 try_slots
 try_install
+try_plans
 try_networkx
 exit $status

@@ -18,6 +18,67 @@ use std::{fs, io};
 // The most bytes of one read.
 const PIECE: usize = 4096;
 
+/// Two slots as the files `audit-0.ckpt` and `audit-1.ckpt` of the working folder.
+///
+/// A save answers `Ok` only after the system has answered that the file's bytes and its length are stored and, since the last file was made
+/// anew, that the folder is. It is trusted that the file system keeps what it has stored, gives it back, and leaves the other file alone: this keeper
+/// tells nothing of what its slots hold.
+#[derive(Drop)]
+pub struct FileKeeper<R: Files + Drop> {
+    files: R,
+    settled: bool,
+    load_faults: u64,
+    save_faults: u64,
+}
+
+impl<R: Files + Drop> FileKeeper<R> {
+    /// A keeper over the files that this part of the runtime opens, of which no call has failed. It tells nothing.
+    pub fn new(files: R) -> FileKeeper<R>
+        ensures slots { ⟦<FileKeeper<R> as Keeper>⟧.slots result ≡ None }
+        ensures tried { ⟦<FileKeeper<R> as Keeper>⟧.tried result ≡ None }
+        ensures load_faults { ⟦<FileKeeper<R> as Keeper>⟧.load_faults result ≡ 0 }
+        ensures save_faults { ⟦<FileKeeper<R> as Keeper>⟧.save_faults result ≡ 0 }
+    {
+        FileKeeper {
+            files,
+            settled: false,
+            load_faults: 0,
+            save_faults: 0,
+        }
+    }
+}
+
+impl<R: Files + Drop> Keeper for FileKeeper<R> {
+    ghost slots = { λ _. None };
+
+    ghost tried = { λ _. None };
+
+    ghost load_faults = { λ k. k.load_faults };
+
+    ghost save_faults = { λ k. k.save_faults };
+
+    /// A slot is absent exactly where opening its file answers that there is none; a file that was read is there, whatever its length. Want of
+    /// memory, the system's too, is `Memory`.
+    fn load(&mut self, slot: u8, limit: u64, room: &mut Bytes) -> Result<bool, LoadError> {
+        let loaded = load_opened(fs::open(&self.files, name_of(slot)), limit, room);
+        if loaded == Err(LoadError::Failed) {
+            self.load_faults = self.load_faults.saturating_add(1);
+        }
+        loaded
+    }
+
+    /// Makes the file where there is none, and touches no other. Want of memory is `Failed`.
+    fn save(&mut self, slot: u8, bytes: &[u8]) -> Result<(), Failed> {
+        match save_file(&self.files, name_of(slot), bytes, &mut self.settled) {
+            Ok(()) => Ok(()),
+            Err(_) => {
+                self.save_faults = self.save_faults.saturating_add(1);
+                Err(Failed)
+            }
+        }
+    }
+}
+
 // The file of a slot.
 fn name_of(slot: u8) -> &'static str
     requires { slot < 2 }
@@ -130,60 +191,4 @@ fn save_file<R: Files>(files: &R, name: &str, bytes: &[u8], settled: &mut bool) 
         *settled = true;
     }
     Ok(())
-}
-
-/// Two slots as the files `audit-0.ckpt` and `audit-1.ckpt` of the working folder.
-///
-/// A save answers `Ok` only after the system has answered that the file's bytes and its length are stored and, since the last file was made
-/// anew, that the folder is. It is trusted that the file system keeps what it has stored, gives it back, and leaves the other file alone: this keeper
-/// tells nothing of what its slots hold.
-#[derive(Drop)]
-pub struct FileKeeper<R: Files + Drop> {
-    files: R,
-    settled: bool,
-    load_faults: u64,
-    save_faults: u64,
-}
-
-impl<R: Files + Drop> FileKeeper<R> {
-    /// A keeper over the files that this part of the runtime opens, of which no call has failed.
-    pub fn new(files: R) -> FileKeeper<R> {
-        FileKeeper {
-            files,
-            settled: false,
-            load_faults: 0,
-            save_faults: 0,
-        }
-    }
-}
-
-impl<R: Files + Drop> Keeper for FileKeeper<R> {
-    ghost slots = { λ _. None };
-
-    ghost tried = { λ _. None };
-
-    ghost load_faults = { λ k. k.load_faults };
-
-    ghost save_faults = { λ k. k.save_faults };
-
-    /// A slot is absent exactly where opening its file answers that there is none; a file that was read is there, whatever its length. Want of
-    /// memory, the system's too, is `Memory`.
-    fn load(&mut self, slot: u8, limit: u64, room: &mut Bytes) -> Result<bool, LoadError> {
-        let loaded = load_opened(fs::open(&self.files, name_of(slot)), limit, room);
-        if loaded == Err(LoadError::Failed) {
-            self.load_faults = self.load_faults.saturating_add(1);
-        }
-        loaded
-    }
-
-    /// Makes the file where there is none, and touches no other. Want of memory is `Failed`.
-    fn save(&mut self, slot: u8, bytes: &[u8]) -> Result<(), Failed> {
-        match save_file(&self.files, name_of(slot), bytes, &mut self.settled) {
-            Ok(()) => Ok(()),
-            Err(_) => {
-                self.save_faults = self.save_faults.saturating_add(1);
-                Err(Failed)
-            }
-        }
-    }
 }

@@ -8,7 +8,7 @@ pub mod gate;
 pub mod keeper;
 pub mod mem_keeper;
 pub mod mem_sink;
-pub mod mem_slot;
+mod mem_slot;
 pub mod mem_source;
 pub mod sink;
 pub mod source;

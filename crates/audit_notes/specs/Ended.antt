@@ -10,7 +10,7 @@ use Rattle.audit_model.specs.declared.fault.WordFault.{WordFault}
 use Rattle.audit_model.specs.declared.fault.WordFault.TheVariants as word
 use Rattle.audit_notes.specs.declared.ended.Ended.{Ended}
 use Rattle.audit_notes.specs.declared.ended.Ended.TheVariants as ended
-use Rattle.note_definitions.specs.Note.{Ending, bad_words, too_many_bytes, bad_graph, bad_regions, bad_plan, no_memory, read_fault, write_fault, load_fault, stopped, damaged, other_job, save_fault}
+use Rattle.note_definitions.specs.Note.{Ending, bad_words, too_many_bytes, bad_graph, bad_regions, bad_table, bad_plan, bad_plan_named, no_memory, read_fault, write_fault, load_fault, stopped, damaged, other_job, save_fault}
 use Rattle.audit_model.specs.declared.setting.Columns.{Columns}
 use Rattle.ckpt_store.specs.View.{slot_view}
 use Rattle.audit_statement.specs.Accepted.{no_columns}
@@ -40,6 +40,8 @@ ending_of ended.TooManyBytes = Some too_many_bytes
 ending_of (ended.BadGraph f columns) = Some (bad_graph f)
 ending_of (ended.BadRegions f column) = Some (bad_regions column f)
 ending_of (ended.BadPlan f) = Some (bad_plan f)
+ending_of (ended.BadTable f) = Some (bad_table f)
+ending_of (ended.BadPlanNamed name f) = Some (bad_plan_named name f)
 ending_of ended.NoMemory = Some no_memory
 ending_of ended.ReadFault = Some read_fault
 ending_of ended.WriteFault = Some write_fault
@@ -57,6 +59,8 @@ columns_kept ended.TooManyBytes = no_columns
 columns_kept (ended.BadGraph f columns) = columns
 columns_kept (ended.BadRegions f column) = no_columns
 columns_kept (ended.BadPlan f) = no_columns
+columns_kept (ended.BadTable f) = no_columns
+columns_kept (ended.BadPlanNamed name f) = no_columns
 columns_kept ended.NoMemory = no_columns
 columns_kept ended.ReadFault = no_columns
 columns_kept ended.WriteFault = no_columns

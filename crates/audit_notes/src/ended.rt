@@ -1,6 +1,6 @@
 //! Why a call ended.
 
-use audit_model::fault::{GraphFault, PlanFault, RegionFault, WordFault};
+use audit_model::fault::{GraphFault, PlanFault, RegionFault, TableFault, WordFault};
 use audit_model::setting::Columns;
 use audit_model::text::Text;
 use ckpt_store::slots::Slots;
@@ -17,6 +17,9 @@ pub enum Ended {
     /// With the column that the words name.
     BadRegions(RegionFault, Text),
     BadPlan(PlanFault),
+    BadTable(TableFault),
+    /// With the name of the plan.
+    BadPlanNamed(Text, PlanFault),
     NoMemory,
     ReadFault,
     WriteFault,

@@ -16,7 +16,9 @@ use crate::piece::Piece;
 use crate::piece::Piece::{Digest, Number, Text};
 use crate::writing::write_all;
 use audit_io::sink::Sink;
-use audit_model::fault::{CkptFault, Column, GraphFault, Part, PlanFault, RegionFault, WordFault};
+use audit_model::fault::{
+    CkptFault, Column, GraphFault, Part, PlanFault, RegionFault, TableFault, WordFault,
+};
 use audit_model::setting::Columns;
 use audit_model::text;
 use ckpt_store::slots::{Slot, Slots};
@@ -40,6 +42,7 @@ fn say<N: Sink>(note: &mut N, first: &str, pieces: &[Piece])
     for piece in pieces {
         going = add_piece(note, going, piece);
     }
+    // Nothing follows, whether the whole line was written or a front of it.
     let _ended = add(note, going, b"\n");
 }
 
@@ -77,6 +80,7 @@ fn digits_of(digest: &[u8; 32]) -> [u8; 64]
     ensures { result ≡ encode_lower digest.now }
 {
     let mut digits = [0; 64];
+    // It fails only where the room is not twice the length, and here it is.
     let _ = encode_to_slice(digest.as_slice(), &mut digits);
     digits
 }
@@ -91,6 +95,8 @@ fn tell_line<N: Sink>(why: &Ended, note: &mut N)
         Ended::BadGraph(fault, columns) => tell_graph(fault, columns, note),
         Ended::BadRegions(fault, column) => tell_regions(fault, column, note),
         Ended::BadPlan(fault) => tell_plan(fault, note),
+        Ended::BadTable(fault) => tell_table(fault, note),
+        Ended::BadPlanNamed(name, fault) => tell_named(name, fault, note),
         Ended::NoMemory => say(note, "memory", &[]),
         Ended::ReadFault => say(note, "read fault", &[]),
         Ended::WriteFault => say(note, "write fault", &[]),
@@ -354,6 +360,149 @@ fn tell_plan<N: Sink>(fault: &PlanFault, note: &mut N)
     }
 }
 
+fn tell_table<N: Sink>(fault: &TableFault, note: &mut N)
+    ensures { AddsLine (stream N.taken N.faults note.old) (stream N.taken N.faults note.new) (terms.joined (codes "table: " ∷ terms.table_note fault.now)) }
+{
+    match fault {
+        TableFault::Unreadable(record) => say(
+            note,
+            "table: ",
+            &[Text("record "), Number(*record), Text(" is unreadable")],
+        ),
+        TableFault::NoHeader => say(note, "table: ", &[Text("no header")]),
+        TableFault::TooManyPlans(n) => say(
+            note,
+            "table: ",
+            &[Number(*n), Text(" plans, more than 16")],
+        ),
+        TableFault::BadName(plan) => say(
+            note,
+            "table: ",
+            &[
+                Text("plan "),
+                Number(u64::from(*plan)),
+                Text(" has no usable name"),
+            ],
+        ),
+        TableFault::SharedId { one, other } => say(
+            note,
+            "table: ",
+            &[
+                Text("units "),
+                Number(u64::from(*one)),
+                Text(" and "),
+                Number(u64::from(*other)),
+                Text(" share an id"),
+            ],
+        ),
+        TableFault::UnknownId(record) => say(
+            note,
+            "table: ",
+            &[Text("record "), Number(*record), Text(" names no unit")],
+        ),
+        TableFault::Twice(record) => say(
+            note,
+            "table: ",
+            &[Text("record "), Number(*record), Text(" repeats a unit")],
+        ),
+        TableFault::MissingUnit(unit) => say(
+            note,
+            "table: ",
+            &[Text("unit "), Number(u64::from(*unit)), Text(" is missing")],
+        ),
+        TableFault::DistrictCount { plan, count } => say(
+            note,
+            "table: ",
+            &[
+                Text("plan "),
+                Number(u64::from(*plan)),
+                Text(" has "),
+                Number(*count),
+                Text(" districts, not 2 to 200"),
+            ],
+        ),
+        TableFault::Memory => say(note, "table: ", &[Text("memory")]),
+    }
+}
+
+fn tell_named<N: Sink>(name: &text::Text, fault: &PlanFault, note: &mut N)
+    ensures { AddsLine (stream N.taken N.faults note.old) (stream N.taken N.faults note.new) (terms.joined (codes "plan " ∷ name.now ∷ codes ": " ∷ terms.plan_note fault.now)) }
+{
+    let name = name.as_str();
+    match fault {
+        PlanFault::NoVotes => say(note, "plan ", &[Text(name), Text(": "), Text("no votes")]),
+        PlanFault::OutOfBounds {
+            district,
+            population,
+            low,
+            high,
+        } => say(
+            note,
+            "plan ",
+            &[
+                Text(name),
+                Text(": "),
+                Text("district "),
+                Number(u64::from(*district)),
+                Text(" has population "),
+                Number(*population),
+                Text(", outside "),
+                Number(*low),
+                Text(" to "),
+                Number(*high),
+            ],
+        ),
+        PlanFault::Disconnected {
+            district,
+            one,
+            other,
+        } => say(
+            note,
+            "plan ",
+            &[
+                Text(name),
+                Text(": "),
+                Text("district "),
+                Number(u64::from(*district)),
+                Text(" has no path from unit "),
+                Number(u64::from(*one)),
+                Text(" to unit "),
+                Number(u64::from(*other)),
+            ],
+        ),
+        PlanFault::TooManyCut { cut, most } => say(
+            note,
+            "plan ",
+            &[
+                Text(name),
+                Text(": "),
+                Number(u64::from(*cut)),
+                Text(" cut edges, more than "),
+                Number(u64::from(*most)),
+            ],
+        ),
+        PlanFault::TooManySplit {
+            region,
+            districts,
+            most,
+        } => say(
+            note,
+            "plan ",
+            &[
+                Text(name),
+                Text(": "),
+                Text("region "),
+                Number(u64::from(*region)),
+                Text(" lies in "),
+                Number(u64::from(*districts)),
+                Text(" districts, more than "),
+                Number(u64::from(*most)),
+            ],
+        ),
+        PlanFault::Memory => say(note, "plan ", &[Text(name), Text(": "), Text("memory")]),
+    }
+}
+
 fn tell_stopped<N: Sink>(note: &mut N, done: u32, total: u32)
     ensures { AddsLine (stream N.taken N.faults note.old) (stream N.taken N.faults note.new) (terms.joined (codes "stopped: " ∷ decimal done ∷ codes " of " ∷ decimal total ∷ codes " done" ∷ [])) }
 {
@@ -453,6 +602,8 @@ pub(crate) fn status(why: &Ended) -> u8
         Ended::BadGraph(_, _) => 2,
         Ended::BadRegions(_, _) => 2,
         Ended::BadPlan(_) => 2,
+        Ended::BadTable(_) => 2,
+        Ended::BadPlanNamed(_, _) => 2,
         Ended::NoMemory => 3,
         Ended::ReadFault => 4,
         Ended::WriteFault => 5,

@@ -1,7 +1,7 @@
 //! An audit over a source, an output and a keeper that never fail.
 
-ghost use Rattle.audit_statement.specs.Ends.{EndsFor};
-ghost use Rattle.audit_statement.specs.Sure.{EndsSurely, sure_world};
+ghost use Rattle.audit_statement.specs.Sure.{EachEndsSurely, sure_world};
+ghost use Rattle.audit_statement.specs.Whole.{KeepsEachPromise};
 ghost use Rattle.audit_statement.specs.World.{stream};
 ghost use Rattle.audit_words.specs.Spoken.{spoken};
 
@@ -17,7 +17,7 @@ use std::thread::Threads;
 /// Does what the words ask for where nothing outside fails, and answers the status and the keeper.
 ///
 /// Where words, graph and plan are accepted, the slots say how a run that resumes is to start, and the budget is enough for what they lack, the
-/// status is 0 or, for want of memory, 3, and no other.
+/// status is 0 or, for want of memory, 3, and no other. So it is where words, graph, regions, table and several plans are accepted.
 pub fn audit_surely<R: Threads + Wait + Sync, N: Sink, G: Gate + Sync>(
     rt: &R,
     alloc: Global,
@@ -28,8 +28,8 @@ pub fn audit_surely<R: Threads + Wait + Sync, N: Sink, G: Gate + Sync>(
     keeper: SureKeeper,
     gate: &G,
 ) -> (u8, SureKeeper)
-    ensures complete { EndsSurely (spoken words.now) (sure_world graph.old keeper) result.0 }
-    ensures ends { EndsFor (spoken words.now) (sure_world graph.old keeper) (sure_world graph.new result.1)
+    ensures complete { EachEndsSurely (spoken words.now) (sure_world graph.old keeper) result.0 }
+    ensures kept { KeepsEachPromise (spoken words.now) (sure_world graph.old keeper) (sure_world graph.new result.1)
         (stream N.taken N.faults note.old) (stream N.taken N.faults note.new) result.0 }
 {
     audit(rt, alloc, words, graph, out, note, keeper, gate)

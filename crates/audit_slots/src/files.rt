@@ -1,10 +1,10 @@
 //! The files of the slots in a folder.
 
 use crate::held::LIMIT;
+use audit_input::reading::{ReadEnd, read_source};
 use audit_io::std_adapters::ReadSource;
 use audit_model::buffers::Bytes;
 use audit_notes::ended::Ended;
-use audit_run::reading::{ReadEnd, read_source};
 use std::alloc::Global;
 use std::io::{ErrorKind, Read};
 use std::rt::Files;

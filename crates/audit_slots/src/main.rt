@@ -14,6 +14,7 @@ use crate::files::load;
 use crate::held::{held_of, newest};
 use crate::lines::{newest_line, progress_line, slot_line};
 use crate::progress::progress_of;
+use audit_input::prepare::prepare;
 use audit_io::std_adapters::{ReadSource, WriteSink};
 use audit_model::buffers::Bytes;
 use audit_model::fault::WordFault;
@@ -21,7 +22,6 @@ use audit_model::setting::Command;
 use audit_model::text::Text;
 use audit_notes::ended::Ended;
 use audit_notes::note::tell;
-use audit_run::prepare::prepare;
 use audit_words::names::command_of;
 use plan_core::job::Job;
 use std::alloc::{AllocError, Global};
@@ -110,12 +110,20 @@ fn show_folder<R: Files + Print>(
     }
 }
 
-// The refusal of a check, which has no trajectories.
-fn no_run(alloc: Global) -> Ended {
+// The refusal of a command that saves nothing.
+fn no_run(alloc: Global, command: &str) -> Ended {
     let mut word = Text::new(alloc);
-    match word.push_str("check") {
+    match word.push_str(command) {
         Ok(()) => Ended::BadWords(WordFault::UnknownCommand(word)),
         Err(_) => Ended::NoMemory,
+    }
+}
+
+// The words are those of the command on several plans.
+fn names_plans(words: &[String]) -> bool {
+    match words {
+        [word, ..] => word.as_str() == "plans",
+        [] => false,
     }
 }
 
@@ -124,9 +132,12 @@ fn job_of(rt: &HostRuntime, words: &[String]) -> Result<Option<Job>, Ended> {
     if words.is_empty() {
         return Ok(None);
     }
+    if names_plans(words) {
+        return Err(no_run(rt.alloc(), "plans"));
+    }
     let job = prepare(rt.alloc(), words, &mut ReadSource::new(rt.stdin()))?;
     if job.setting().command == Command::Check {
-        return Err(no_run(rt.alloc()));
+        return Err(no_run(rt.alloc(), "check"));
     }
     Ok(Some(job))
 }

@@ -60,9 +60,20 @@ abbrev pub passes : (Setting → Bool) → Result Setting WordFault → Bool
 passes test (Ok setting) = test setting
 passes test (Err f) = false
 
--- ---- the opening, as far as the keeper tells
+-- ---- the slots that were seen, and the opening
 
--- not told; told, and undefined; or told
+-- there are two slots that were seen, the told ones where the keeper tells, and this holds of them
+pub record Saw (slots : Option Pair) (P : Pair → Type 0) : Type 0 where
+  pub pair : Pair
+  pub same : IfKnown slots (λ p. pair ≡ p)
+  pub holds : P pair
+
+-- the outcomes with which a run starts that finds these slots, where it may start: nothing, unless it resumes
+abbrev pub opening_from : Bool → Job → Pair → Option (List Outcome)
+opening_from false job p = Some []
+opening_from true job p = opening true job.setting (slot_of job (job_digest job) p.zero_slot) (slot_of job (job_digest job) p.one_slot)
+
+-- the opening, where the keeper tells: not told; told, and undefined; or told
 abbrev pub opening_by : Bool → Job → Option Pair → Option (Option (List Outcome))
 opening_by false job slots = Some (Some [])
 opening_by true job slots = option_map (λ p. opening true job.setting (slot_of job (job_digest job) p.zero_slot) (slot_of job (job_digest job) p.one_slot)) slots
@@ -70,9 +81,9 @@ opening_by true job slots = option_map (λ p. opening true job.setting (slot_of 
 abbrev pub told_opening : Job → Option Pair → Option (Option (List Outcome))
 told_opening job slots = opening_by job.setting.resume job slots
 
--- these are outcomes with which a run may start, and where the keeper tells, they are those with which it starts
+-- these are the outcomes with which a run starts that finds the slots that were seen
 pub record IsOpening (job : Job) (slots : Option Pair) (outcomes : List Outcome) : Type 0 where
-  pub told : IfKnown (told_opening job slots) (λ o. o ≡ Some outcomes)
+  pub seen : Saw slots (λ p. opening_from job.setting.resume job p ≡ Some outcomes)
   pub apart : AllApart (map (λ o. o.id) outcomes)
   pub fitting : IsTrue (list_all (fits job) outcomes)
 
@@ -287,13 +298,12 @@ pub record IsStopped (words : List (List ℕ)) (before after : World) (done all 
   pub all_is : all ≡ total job
   pub saved : SavesAll ⊤ job before after
 
--- resuming was asked, and the slots do not say how a run may start
-pub record IsSlotsFault (words : List (List ℕ)) (before after : World) (told : Job → Pair → Type 0) : Type 0 where
+-- resuming was asked, and the slots that were seen do not say how a run may start, and are so for the job
+pub record IsSlotsFault (words : List (List ℕ)) (before after : World) (found : Job → Pair → Type 0) : Type 0 where
   pub job : Job
   pub prepared : IsPrepared words before.source after.source job
   pub resuming : IsTrue (is_walking job.setting.command && job.setting.resume)
-  pub undefined : IfKnown (told_opening job before.keeper.slots) (λ o. o ≡ None)
-  pub told_so : IfKnown before.keeper.slots (told job)
+  pub seen : Saw before.keeper.slots (λ p. (opening_from job.setting.resume job p ≡ None) × found job p)
 
 -- both slots as they are, of which none is intact
 pub record AreDamaged (zero one : Slot) (job : Job) (p : Pair) : Type 0 where

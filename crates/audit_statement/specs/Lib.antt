@@ -7,7 +7,9 @@ pub mod Headline
 pub mod Left
 pub mod Promise
 pub mod Rerun
+pub mod Several
 pub mod Status
 pub mod Sure
 pub mod Visits
+pub mod Whole
 pub mod World

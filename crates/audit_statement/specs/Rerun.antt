@@ -5,6 +5,7 @@ use Rattle.audit_io.specs.Faults.{Rose}
 use Rattle.audit_io.specs.Slots.{Pair}
 use Rattle.audit_io.specs.Tries.{Try}
 use Rattle.audit_model.specs.declared.outcome.Outcome.{Outcome}
+use Rattle.audit_model.specs.declared.setting.Command.{Command}
 use Rattle.audit_model.specs.Job.{Job}
 use Rattle.audit_model.specs.Run.{fits}
 use Rattle.audit_model.specs.Serially.{serial_of}
@@ -26,10 +27,19 @@ use Rattle.audit_statement.specs.World.{Stream, World}
 abbrev pub asking : Job → Bool → Bool → Job
 asking job shift serial = record job { setting = record job.setting { shift = shift; serial = serial } }
 
--- the same job in another run: with other workers, another budget, saving and resuming or not, and asking for bins and for the serial test or not
-abbrev pub rerun : Job → ℕ → ℕ → ℕ → Bool → Bool → Bool → Job
-rerun job workers budget save_every resume shift serial = record job {
-  setting = record job.setting { workers = workers; budget = budget; save_every = save_every; resume = resume; shift = shift; serial = serial };
+-- the same job in another run: by another command, as `run` of one plan in place of `plans` of several, with other workers, another budget, saving and
+-- resuming or not, and asking for bins and for the serial test or not
+abbrev pub rerun : Job → Command → ℕ → ℕ → ℕ → Bool → Bool → Bool → Job
+rerun job command workers budget save_every resume shift serial = record job {
+  setting = record job.setting {
+    command = command;
+    workers = workers;
+    budget = budget;
+    save_every = save_every;
+    resume = resume;
+    shift = shift;
+    serial = serial;
+  };
 }
 
 -- Both have the same digest, each trajectory finds the same, with all its bins, in both, so does the serial test, whether it is asked for or not,
@@ -47,9 +57,11 @@ pub record AreAlike (job other : Job) : Type 0 where
   pub same_report : other.setting.shift ≡ job.setting.shift → (outcomes : List Outcome) (stops : List (List ℕ)) (serial : Option (ℕ × List ℕ))
       → report other outcomes stops serial ≡ report job outcomes stops serial
 
--- workers, budget, saving, resuming and asking for the serial test change nothing of what a job finds, and bins nothing of what it holds for its own
+-- the command, workers, budget, saving, resuming and asking for the serial test change nothing of what a job finds, and bins nothing of what it holds
+-- for its own
 abbrev pub RerunsAreAlike : Type 0
-RerunsAreAlike = (job : Job) (workers budget save_every : ℕ) (resume shift serial : Bool) → AreAlike job (rerun job workers budget save_every resume shift serial)
+RerunsAreAlike = (job : Job) (command : Command) (workers budget save_every : ℕ) (resume shift serial : Bool)
+    → AreAlike job (rerun job command workers budget save_every resume shift serial)
 
 -- ---- a stop
 
@@ -79,7 +91,7 @@ pub record Link : Type 0 where
 
 -- the job as this run had it
 abbrev pub job_in : Job → Link → Job
-job_in job l = rerun job l.workers l.budget l.save_every l.resume l.shift l.serial
+job_in job l = rerun job job.setting.command l.workers l.budget l.save_every l.resume l.shift l.serial
 
 -- a run of the job over these slots, of which its keeper told what was tried before and after it, and what was tried is as the top call promises
 pub record IsRunOver (job : Job) (p : Pair) (l : Link) : Type 0 where

@@ -1,10 +1,13 @@
 -- An audit over a source, an output and a keeper of which no call fails: what it begins with, and that it then does all.
-use Rattle.std.specs.Prelude.{◌≡◌, ◌⊎◌, ℕ, List, Some, None, Ok}
+use Rattle.std.specs.Prelude.{◌≡◌, ◌⊎◌, ℕ, true, false, List, Some, None, Ok}
+use Rattle.audit_model.specs.declared.setting.Setting.{Setting}
 use Rattle.audit_model.specs.Job.{Job}
 use Rattle.audit_io.specs.Mem.{SureSlots}
 use Rattle.audit_statement.specs.Accepted.{judged}
 use Rattle.audit_statement.specs.Causes.{HasBudget, IsTold}
 use Rattle.audit_statement.specs.Ends.{is_walking}
+use Rattle.audit_statement.specs.Several.{AreTheJobs, names_plans}
+use Rattle.plan_jobs.specs.Reading.{Jobs}
 use Rattle.audit_statement.specs.World.{World}
 
 -- the outside: these bytes to read, an output that tells nothing, these slots, and no fault
@@ -26,3 +29,18 @@ pub record MayBegin (words : List (List ℕ)) (before : World) : Type 0 where
 -- then all is done, or there was no memory
 abbrev pub EndsSurely : List (List ℕ) → World → ℕ → Type 0
 EndsSurely words before status = MayBegin words before → (status ≡ 0) ⊎ (status ≡ 3)
+
+-- words, graph, regions, table and plans are accepted as these jobs
+pub record MayBeginPlans (words : List (List ℕ)) (before : World) : Type 0 where
+  pub setting : Setting
+  pub jobs : Jobs
+  pub the_jobs : AreTheJobs words before setting jobs
+
+-- then all is done, or there was no memory
+abbrev pub PlansEndSurely : List (List ℕ) → World → ℕ → Type 0
+PlansEndSurely words before status = MayBeginPlans words before → (status ≡ 0) ⊎ (status ≡ 3)
+
+-- so it is with one plan, and with several
+pub record EachEndsSurely (words : List (List ℕ)) (before : World) (status : ℕ) : Type 0 where
+  pub one : names_plans words ≡ false → EndsSurely words before status
+  pub several : names_plans words ≡ true → PlansEndSurely words before status

@@ -10,7 +10,8 @@ use Rattle.audit_model.specs.declared.setting.Ask.{Ask as AskOf}
 use Rattle.audit_model.specs.declared.setting.Command.TheVariants.{Check, Run, Make, Plans}
 use Rattle.audit_model.specs.declared.setting.Command.{Command}
 use Rattle.word_definitions.specs.Words.{Pair, all_different, are_asks, ask_of, asks_of, command_of, has_split, is_good, is_number, names_of, number_at, number_of, parts_between, text_of}
-use Rattle.audit_words.specs.Judged.{AreGood, AreReadable, fault_of_values}
+use Rattle.audit_words.specs.Judged.{AreGood, AreReadable, fault_of_pairs, fault_of_values}
+use Rattle.audit_words.proofs.Unnamed.{good_budget, good_resume, good_save}
 use Rattle.audit_words.proofs.Asking.{filter_map-ask_of}
 
 value_of_some : {A : Type 0} (o : Option A) → is_some o ≡ true → (x : A) × (o ≡ Some x)
@@ -85,25 +86,36 @@ AreGood-values words more h =
       serial = good 14 (omega arith);
     }
 
--- no word spells the command of several plans
-chosen : (check run make : Bool) → Some Plans ≡ cond check (Some Check) (cond run (Some Run) (cond make (Some Make) None)) → ⊥
-chosen true run make h = cc
-chosen false true make h = cc
-chosen false false true h = cc
-chosen false false false h = cc
-
-not_plans : (word : List ℕ) → Some Plans ≡ command_of word → ⊥
-not_plans word h = chosen (bytes_eq word (codes "check")) (bytes_eq word (codes "run")) (bytes_eq word (codes "make")) h
-
 -- where no value of a command that a word spells is bad, those of its setting are good
-pub AreReadable-good : (word : List ℕ) (command : Command) (words : List Pair) → Some command ≡ command_of word → fault_of_values command words ≡ None → AreReadable command words
-AreReadable-good word Check words spells h =
+pub AreReadable-good : (word : List ℕ) (command : Command) (words : List Pair) → Some command ≡ command_of word → fault_of_pairs command words ≡ None → fault_of_values command words ≡ None
+    → AreReadable command words
+AreReadable-good word Check words spells faultless h =
     let good = find-all (is_good Check words) (names_of Check) h in
     (good 4 (omega arith), good 5 (omega arith), good 7 (omega arith))
-AreReadable-good word Run words spells h =
+AreReadable-good word Run words spells faultless h =
     let good = find-all (is_good Check words) (names_before (Region ∷ MaxSplit ∷ [])) h in
     (AreGood-values words (Region ∷ MaxSplit ∷ []) h, good 16 (omega arith))
-AreReadable-good word Make words spells h =
+AreReadable-good word Make words spells faultless h =
     let size = find-last (is_good Make words) Size (drop 1 (names_of Make)) h in
     (AreGood-values words [] size.1, size.0)
-AreReadable-good word Plans words spells h = absurd (not_plans word spells)
+AreReadable-good word Plans words spells faultless h =
+    let good = find-all (is_good Plans words) (names_of Plans) h in (
+      record {
+        slack = good 4 (omega arith);
+        key = good 5 (omega arith);
+        walks = good 6 (omega arith);
+        steps = good 7 (omega arith);
+        ends = good 8 (omega arith);
+        hub_steps = good 9 (omega arith);
+        ask = good 10 (omega arith);
+        workers = good 11 (omega arith);
+        budget = good_budget words faultless (good 8 (omega arith));
+        save = good_save words faultless;
+        resume = good_resume words faultless;
+        max_cut = good 12 (omega arith);
+        shift = good 13 (omega arith);
+        stop = good 14 (omega arith);
+        serial = good 15 (omega arith);
+      },
+      good 17 (omega arith),
+    )

@@ -9,3 +9,4 @@ pub mod Parting
 pub mod Powers
 pub mod Reading
 pub mod Spelling
+pub mod Unnamed

@@ -1,5 +1,5 @@
 -- What stands earlier in the table of names.
-use Rattle.std.proofs.Common.{◌≡◌, ℕ, zero, suc, ◌<◌, Bool, true, false, not, List, [], ◌∷◌, length, get_or, ap, arith, refl, subst, inl, inr}
+use Rattle.std.proofs.Common.{◌≡◌, ℕ, zero, suc, ◌<◌, Bool, true, false, not, List, [], ◌∷◌, length, get_or, ap, arith, refl, subst, inl, inr, None}
 use Rattle.std.proofs.lemmas.Bool.{and_parts, both_ways, false≢true, not-true, or_cases}
 use Rattle.std.specs.Prelude.{◌&&◌, ◌||◌}
 use Rattle.audit_model.specs.declared.fault.Name.{Name}
@@ -7,7 +7,8 @@ use Rattle.audit_model.specs.declared.fault.Name.TheVariants.{Pop, Walks, Steps,
 use Rattle.audit_model.specs.declared.setting.Command.{Command}
 use Rattle.audit_model.specs.declared.setting.Command.TheVariants.{Check, Run, Make, Plans}
 use Rattle.word_definitions.specs.Words.{Pair, is_good, names_of}
-use Rattle.audit_words.specs.Judged.{RestsOnGood}
+use Rattle.audit_words.specs.Judged.{RestsOnGood, fault_of_pairs}
+use Rattle.audit_words.proofs.Unnamed.{good_save}
 
 -- no name of the second kind stands before one of the first
 abbrev leads : (Name → Bool) → (Name → Bool) → List Name → Bool
@@ -83,7 +84,6 @@ record IsOrdered (names : List Name) : Type 0 where
   walks : leads is_walks on_walks names ≡ true
   steps : leads is_steps on_steps names ≡ true
   ends : leads is_ends on_ends names ≡ true
-  save : leads is_save on_save names ≡ true
 
 module _ (command : Command) (words : List Pair) (names : List Name) (k : ℕ) (inside : k < length names) (below : (j : ℕ) → j < k → is_good command words (get_or names j Pop) ≡ true) (ordered : IsOrdered names) where
   good_leader : (first second : Name → Bool) (name : Name) → leads first second names ≡ true → ((n : Name) → first n ≡ true → n ≡ name) → second (get_or names k Pop) ≡ true → is_good command words name ≡ true
@@ -100,23 +100,32 @@ module _ (command : Command) (words : List Pair) (names : List Name) (k : ℕ) (
   good_ends : on_ends (get_or names k Pop) ≡ true → is_good Check words Ends ≡ true
   good_ends rests = good_leader is_ends on_ends Ends ordered.ends is_ends-Ends rests
 
-  good_save : on_save (get_or names k Pop) ≡ true → is_good Check words Save ≡ true
-  good_save rests = good_leader is_save on_save Save ordered.save is_save-Save rests
+  saved_before : leads is_save on_save names ≡ true → on_save (get_or names k Pop) ≡ true → is_good Check words Save ≡ true
+  saved_before led rests = good_leader is_save on_save Save led is_save-Save rests
 
-  rests : (name : Name) → get_or names k Pop ≡ name → RestsOnGood words name
-  rests Ends is = good_walks (ap on_walks is)
-  rests Budget is = (good_walks (ap on_walks is), good_ends (ap on_ends is))
-  rests Stop is = (good_ends (ap on_ends is), good_save (ap on_save is))
-  rests Serial is = good_steps (ap on_steps is)
-  rests _ is = tt
+  rests : (on_save (get_or names k Pop) ≡ true → is_good Check words Save ≡ true) → (name : Name) → get_or names k Pop ≡ name → RestsOnGood words name
+  rests saved Ends is = good_walks (ap on_walks is)
+  rests saved Budget is = (good_walks (ap on_walks is), good_ends (ap on_ends is))
+  rests saved Stop is = (good_ends (ap on_ends is), saved (ap on_save is))
+  rests saved Serial is = good_steps (ap on_steps is)
+  rests saved _ is = tt
 
 is_ordered : (command : Command) → IsOrdered (names_of command)
-is_ordered Check = record { walks = refl; steps = refl; ends = refl; save = refl }
-is_ordered Run = record { walks = refl; steps = refl; ends = refl; save = refl }
-is_ordered Make = record { walks = refl; steps = refl; ends = refl; save = refl }
-is_ordered Plans = record { walks = refl; steps = refl; ends = refl; save = refl }
+is_ordered Check = record { walks = refl; steps = refl; ends = refl }
+is_ordered Run = record { walks = refl; steps = refl; ends = refl }
+is_ordered Make = record { walks = refl; steps = refl; ends = refl }
+is_ordered Plans = record { walks = refl; steps = refl; ends = refl }
+
+-- where a name rests on how often a run saves, that stands before it, or the command does not take it
+saved_by : (command : Command) (words : List Pair) (k : ℕ) → k < length (names_of command) → fault_of_pairs command words ≡ None
+    → ((j : ℕ) → j < k → is_good command words (get_or (names_of command) j Pop) ≡ true) → on_save (get_or (names_of command) k Pop) ≡ true → is_good Check words Save ≡ true
+saved_by Check words k inside faultless below on = saved_before Check words (names_of Check) k inside below (is_ordered Check) refl on
+saved_by Run words k inside faultless below on = saved_before Run words (names_of Run) k inside below (is_ordered Run) refl on
+saved_by Make words k inside faultless below on = saved_before Make words (names_of Make) k inside below (is_ordered Make) refl on
+saved_by Plans words k inside faultless below on = good_save words faultless
 
 -- behind good values a name rests on good ones
-pub RestsOnGood-behind : (command : Command) (words : List Pair) (k : ℕ) → k < length (names_of command)
+pub RestsOnGood-behind : (command : Command) (words : List Pair) (k : ℕ) → k < length (names_of command) → fault_of_pairs command words ≡ None
     → ((j : ℕ) → j < k → is_good command words (get_or (names_of command) j Pop) ≡ true) → RestsOnGood words (get_or (names_of command) k Pop)
-RestsOnGood-behind command words k inside below = rests command words (names_of command) k inside below (is_ordered command) (get_or (names_of command) k Pop) refl
+RestsOnGood-behind command words k inside faultless below =
+    rests command words (names_of command) k inside below (is_ordered command) (saved_by command words k inside faultless below) (get_or (names_of command) k Pop) refl

@@ -60,6 +60,27 @@ const OF_MAKE: [Name; 16] = [
     Name::Serial,
 ];
 
+const OF_PLANS: [Name; 18] = [
+    Name::Pop,
+    Name::First,
+    Name::Second,
+    Name::District,
+    Name::Slack,
+    Name::Key,
+    Name::Walks,
+    Name::Steps,
+    Name::Ends,
+    Name::HubSteps,
+    Name::Ask,
+    Name::Workers,
+    Name::MaxCut,
+    Name::Shift,
+    Name::Stop,
+    Name::Serial,
+    Name::Region,
+    Name::MaxSplit,
+];
+
 /// The value of a name that is not given, where the name may be left out.
 pub fn default_of(name: Name) -> Option<&'static str>
     ensures { option_map (λ s. s.now) result ≡ definition.default_of name }
@@ -87,7 +108,7 @@ pub fn names_of(command: Command) -> &'static [Name]
         Command::Check => &OF_CHECK,
         Command::Run => &OF_RUN,
         Command::Make => &OF_MAKE,
-        Command::Plans => &[],
+        Command::Plans => &OF_PLANS,
     }
 }
 
@@ -101,6 +122,8 @@ pub fn command_of(word: &str) -> Option<Command>
         Some(Command::Run)
     } else if word == "make" {
         Some(Command::Make)
+    } else if word == "plans" {
+        Some(Command::Plans)
     } else {
         None
     }

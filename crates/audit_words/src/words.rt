@@ -1,6 +1,6 @@
 //! From the words to the setting.
 
-ghost use Rattle.std.specs.Prelude.{◌≡◌, ◌⊎◌, ◌<◌, length, Ok, Err, IfOk, MatchResult};
+ghost use Rattle.std.specs.Prelude.{◌≡◌, ◌⊎◌, ◌<◌, length, None, Ok, Err, IfOk, MatchResult};
 ghost use Rattle.audit_model.specs.Limits.{IsSetting};
 ghost use Rattle.audit_model.specs.declared.fault.WordFault.TheVariants as fault;
 ghost use Rattle.audit_words.specs.Judged.{fault_of_pairs, fault_of_names, fault_of_values};
@@ -100,6 +100,7 @@ fn judge_missing(command: Command, words: &[String]) -> Result<(), WordFault>
 
 /// Refuses the first name of the table whose value is bad.
 fn judge_values(command: Command, words: &[String]) -> Result<(), WordFault>
+    requires { fault_of_pairs command (pairs_in words.now) ≡ None }
     ensures { Tells result (fault_of_values command (pairs_in words.now)) }
 {
     for name in names_of(command) {

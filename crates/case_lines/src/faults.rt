@@ -5,11 +5,12 @@
 //! first of these calls fails in the first run, the second in the second, and so on, until a run ends with status 0 or 7.
 
 use crate::given::{Given, case_of};
-use crate::held::{Held, absent, keeper_of, saves_failing};
+use crate::held::{Held, keeper_of, saves_failing};
 use crate::runs::Case;
-use crate::shown::{self, show_ended};
+use crate::shown::run_shown;
 use crate::streams::{number, text_of, word};
 use audit_io::stop_keeper::StopKeeper;
+use std::io;
 use std::rt::Files;
 use std::str::SplitWhitespace;
 use std::test::Fail;
@@ -79,8 +80,7 @@ fn keeper_for<R: Files + AllocGlobal>(
         failing_load: failing_call(setup, "loads", run),
     };
     let saves = saves_failing(failing_call(setup, "saves", run));
-    let nothing = absent(rt.alloc())?;
-    keeper_of(rt, &held, &saves, &nothing)
+    keeper_of(rt, &held, &saves, [None, None])
 }
 
 // Makes the run with this number over a case, and shows its end.
@@ -94,8 +94,7 @@ fn run_over<R: Files + Print + AllocGlobal, A: Fn(&mut Case, StopKeeper) -> (u8,
     requires { A.IsAlwaysCallable audit.now }
 {
     let keeper = keeper_for(rt, setup, run)?;
-    let ended = shown::run(audit, case, keeper);
-    show_ended(rt, case, &ended)?;
+    let ended = run_shown(rt, audit, case, keeper)?;
     Ok(ended.status)
 }
 
@@ -109,9 +108,31 @@ fn run_once<R: Files + Print + AllocGlobal, A: Fn(&mut Case, StopKeeper) -> (u8,
 ) -> Result<u8, Fail>
     requires { A.IsAlwaysCallable audit.now }
 {
-    println!(rt; "run {run}")?;
     let mut case = case_for(rt, setup, parts, run)?;
     run_over(rt, audit, setup, run, &mut case)
+}
+
+fn show_number<R: Print>(rt: &R, run: u64) -> io::Result<()> {
+    println!(rt; "run {run}")
+}
+
+// Makes one run after the other.
+fn run_all<R: Files + Print + AllocGlobal, A: Fn(&mut Case, StopKeeper) -> (u8, StopKeeper)>(
+    rt: &R,
+    audit: &A,
+    setup: &Setup<'_>,
+    parts: &SplitWhitespace<'_>,
+) -> Result<(), Fail>
+    requires { A.IsAlwaysCallable audit.now }
+{
+    for run in 1..MOST_RUNS {
+        show_number(rt, run)?;
+        let status = run_once(rt, audit, setup, parts.clone()?, run)?;
+        if status == 0 || status == 7 {
+            return Ok(());
+        }
+    }
+    Ok(())
 }
 
 // Makes the runs of one line.
@@ -125,13 +146,7 @@ fn run_line<R: Files + Print + AllocGlobal, A: Fn(&mut Case, StopKeeper) -> (u8,
     rt.println(line)?;
     let mut parts = line.split_whitespace();
     let setup = setup_of(&mut parts)?;
-    for run in 1..MOST_RUNS {
-        let status = run_once(rt, audit, &setup, parts.clone()?, run)?;
-        if status == 0 || status == 7 {
-            return Ok(());
-        }
-    }
-    Ok(())
+    run_all(rt, audit, &setup, &parts)
 }
 
 /// Makes the runs of each line of a file.

@@ -17,7 +17,7 @@ pub struct NotingGate {
 }
 
 impl NotingGate {
-    /// A gate at which nobody has been, and which holds nobody where it wants less than two.
+    /// A gate at which nobody has been, which holds nobody where it wants less than two, and is not shown where it wants none.
     pub fn new(wanted: u64) -> NotingGate {
         NotingGate {
             wanted,
@@ -25,6 +25,11 @@ impl NotingGate {
             ids: AtomicU64::new(0),
             seen: AtomicU64::new(0),
         }
+    }
+
+    /// Whether it is shown what it was told.
+    pub fn is_shown(&self) -> bool {
+        self.wanted > 0
     }
 
     /// Whether it holds its first caller.

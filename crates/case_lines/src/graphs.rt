@@ -1,8 +1,8 @@
 //! Checks of graphs, one for each line of a file, which is the whole text of a graph, or `hex` and the hexadecimal digits of its bytes.
 
 use crate::given::{Given, READ, WRITE, case_over};
-use crate::runs::{Case, run_absent};
-use crate::shown::show_case;
+use crate::runs::Case;
+use crate::shown::run_absent;
 use crate::streams::{source_of, text_of};
 use audit_io::mem_source::MemSource;
 use audit_io::stop_keeper::StopKeeper;
@@ -40,6 +40,17 @@ fn graph_of(alloc: Global, line: &str) -> Result<MemSource, Fail> {
     Ok(source)
 }
 
+fn check_source<R: Print + AllocGlobal, A: Fn(&mut Case, StopKeeper) -> (u8, StopKeeper)>(
+    rt: &R,
+    audit: &A,
+    source: MemSource,
+) -> Result<(), Fail>
+    requires { A.IsAlwaysCallable audit.now }
+{
+    let mut case = case_over(rt.alloc(), source, &GIVEN, WORDS.split_whitespace())?;
+    run_absent(rt, audit, &mut case)
+}
+
 fn check_line<R: Print + AllocGlobal, A: Fn(&mut Case, StopKeeper) -> (u8, StopKeeper)>(
     rt: &R,
     audit: &A,
@@ -49,10 +60,7 @@ fn check_line<R: Print + AllocGlobal, A: Fn(&mut Case, StopKeeper) -> (u8, StopK
 {
     rt.println(line)?;
     let source = graph_of(rt.alloc(), line)?;
-    let mut case = case_over(rt.alloc(), source, &GIVEN, WORDS.split_whitespace())?;
-    let status = run_absent(rt.alloc(), audit, &mut case)?;
-    show_case(rt, status, false, &case)?;
-    Ok(())
+    check_source(rt, audit, source)
 }
 
 /// Checks the graph of each line of a file.

@@ -35,12 +35,12 @@ pub fn saves_failing(failing: u64) -> Saves {
     }
 }
 
-/// The keeper of a run, where it is the `same` over what a run before left.
+/// The keeper of a run, where it is the `same` over what a run before left in both slots.
 pub fn keeper_of<R: Files + AllocGlobal>(
     rt: &R,
     held: &Held<'_>,
     saves: &Saves,
-    before: &MemKeeper,
+    before: [Option<&[u8]>; 2],
 ) -> Result<StopKeeper, Fail> {
     let (zero, one) = slots_of(rt, held, before)?;
     let keeper = keeper_over(rt.alloc(), zero, one, held.failing_load, saves.failing)?;
@@ -50,10 +50,10 @@ pub fn keeper_of<R: Files + AllocGlobal>(
 fn slots_of<R: Files + AllocGlobal>(
     rt: &R,
     held: &Held<'_>,
-    before: &MemKeeper,
+    before: [Option<&[u8]>; 2],
 ) -> Result<(Option<Bytes>, Option<Bytes>), Fail> {
-    let zero = slot_of(rt, held.zero, before.slot(0))?;
-    let one = slot_of(rt, held.one, before.slot(1))?;
+    let zero = slot_of(rt, held.zero, before[0])?;
+    let one = slot_of(rt, held.one, before[1])?;
     Ok((zero, one))
 }
 

@@ -8,7 +8,7 @@
 use crate::given::{Given, READ, WRITE, case_of};
 use crate::held::{Held, Saves, absent, keeper_of, saves_failing};
 use crate::runs::Case;
-use crate::shown::{self, show_ended};
+use crate::shown::run_shown;
 use crate::streams::{number, text_of, word};
 use audit_io::mem_keeper::MemKeeper;
 use audit_io::stop_keeper::StopKeeper;
@@ -16,21 +16,30 @@ use std::rt::Files;
 use std::str::SplitWhitespace;
 use std::test::Fail;
 
+fn small(said: &str) -> Result<u32, Fail> {
+    let number = said.parse::<u32>()?;
+    Ok(number)
+}
+
+fn failing_save(said: &str) -> Result<Saves, Fail> {
+    let failing = said.parse::<u64>()?;
+    Ok(saves_failing(failing))
+}
+
+fn stopping_save(at: &str, kept: &str) -> Result<Saves, Fail> {
+    let stop_at = small(at)?;
+    let kept = small(kept)?;
+    Ok(Saves {
+        failing: 0,
+        stop_at,
+        kept,
+    })
+}
+
 fn saves_of(said: &str) -> Result<Saves, Fail> {
     match said.split_once('/') {
-        None => {
-            let failing = said.parse::<u64>()?;
-            Ok(saves_failing(failing))
-        }
-        Some((at, kept)) => {
-            let stop_at = at.parse::<u32>()?;
-            let kept = kept.parse::<u32>()?;
-            Ok(Saves {
-                failing: 0,
-                stop_at,
-                kept,
-            })
-        }
+        None => failing_save(said),
+        Some((at, kept)) => stopping_save(at, kept),
     }
 }
 
@@ -59,37 +68,88 @@ fn given_of<'a>(parts: &mut SplitWhitespace<'a>) -> Result<Given<'a>, Fail> {
     })
 }
 
-// Makes a run and shows its end.
-fn run_over<R: Print + AllocGlobal, A: Fn(&mut Case, StopKeeper) -> (u8, StopKeeper)>(
+// What a line says before the words of its audit.
+#[derive(Clone, Copy)]
+struct Said<'a> {
+    held: Held<'a>,
+    saves: Saves,
+    given: Given<'a>,
+}
+
+fn said_of<'a>(parts: &mut SplitWhitespace<'a>) -> Result<Said<'a>, Fail> {
+    let held = held_of(parts)?;
+    let saves = saves_of(word(parts)?)?;
+    let given = given_of(parts)?;
+    Ok(Said { held, saves, given })
+}
+
+// Makes a run over what the run before left, and leaves there what it leaves.
+fn run_over<R: Files + Print + AllocGlobal, A: Fn(&mut Case, StopKeeper) -> (u8, StopKeeper)>(
     rt: &R,
     audit: &A,
     case: &mut Case,
-    keeper: StopKeeper,
-) -> Result<MemKeeper, Fail>
+    said: &Said<'_>,
+    left: &mut MemKeeper,
+) -> Result<(), Fail>
     requires { A.IsAlwaysCallable audit.now }
 {
-    let ended = shown::run(audit, case, keeper);
-    show_ended(rt, case, &ended)?;
-    Ok(ended.left)
+    let keeper = keeper_of(rt, &said.held, &said.saves, [left.slot(0), left.slot(1)])?;
+    let ended = run_shown(rt, audit, case, keeper)?;
+    *left = ended.left;
+    Ok(())
 }
 
-// Runs one line over what the line before left.
+fn run_said<R: Files + Print + AllocGlobal, A: Fn(&mut Case, StopKeeper) -> (u8, StopKeeper)>(
+    rt: &R,
+    audit: &A,
+    said: &Said<'_>,
+    parts: SplitWhitespace<'_>,
+    left: &mut MemKeeper,
+) -> Result<(), Fail>
+    requires { A.IsAlwaysCallable audit.now }
+{
+    let mut case = case_of(rt, &said.given, parts)?;
+    run_over(rt, audit, &mut case, said, left)
+}
+
+// Makes the run of one line.
 fn run_line<R: Files + Print + AllocGlobal, A: Fn(&mut Case, StopKeeper) -> (u8, StopKeeper)>(
     rt: &R,
     audit: &A,
     line: &str,
-    before: &MemKeeper,
-) -> Result<MemKeeper, Fail>
+    left: &mut MemKeeper,
+) -> Result<(), Fail>
     requires { A.IsAlwaysCallable audit.now }
 {
     rt.println(line)?;
     let mut parts = line.split_whitespace();
-    let held = held_of(&mut parts)?;
-    let saves = saves_of(word(&mut parts)?)?;
-    let given = given_of(&mut parts)?;
-    let mut case = case_of(rt, &given, parts)?;
-    let keeper = keeper_of(rt, &held, &saves, before)?;
-    run_over(rt, audit, &mut case, keeper)
+    let said = said_of(&mut parts)?;
+    run_said(rt, audit, &said, parts, left)
+}
+
+fn run_lines<R: Files + Print + AllocGlobal, A: Fn(&mut Case, StopKeeper) -> (u8, StopKeeper)>(
+    rt: &R,
+    audit: &A,
+    lines: &str,
+    left: &mut MemKeeper,
+) -> Result<(), Fail>
+    requires { A.IsAlwaysCallable audit.now }
+{
+    for line in lines.lines() {
+        run_line(rt, audit, line, left)?;
+    }
+    Ok(())
+}
+
+fn run_text<R: Files + Print + AllocGlobal, A: Fn(&mut Case, StopKeeper) -> (u8, StopKeeper)>(
+    rt: &R,
+    audit: &A,
+    lines: &str,
+) -> Result<(), Fail>
+    requires { A.IsAlwaysCallable audit.now }
+{
+    let mut left = absent(rt.alloc())?;
+    run_lines(rt, audit, lines, &mut left)
 }
 
 /// Runs each line of a file.
@@ -101,9 +161,5 @@ pub fn run_file<R: Files + Print + AllocGlobal, A: Fn(&mut Case, StopKeeper) -> 
     requires { A.IsAlwaysCallable audit.now }
 {
     let lines = text_of(rt, file)?;
-    let mut left = absent(rt.alloc())?;
-    for line in lines.lines() {
-        left = run_line(rt, audit, line, &left)?;
-    }
-    Ok(())
+    run_text(rt, audit, lines.as_str())
 }

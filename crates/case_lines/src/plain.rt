@@ -4,8 +4,8 @@
 //! begin before the first one may walk, 0 for a gate that holds nobody and is not shown, then the file of the graph, and the words of the audit.
 
 use crate::given::{Given, READ, WRITE, case_of};
-use crate::runs::{Case, run_absent};
-use crate::shown::show_case;
+use crate::runs::Case;
+use crate::shown::run_absent;
 use crate::streams::{number, text_of, word};
 use audit_io::stop_keeper::StopKeeper;
 use std::rt::Files;
@@ -28,6 +28,18 @@ fn given_of<'a>(parts: &mut SplitWhitespace<'a>) -> Result<Given<'a>, Fail> {
     })
 }
 
+fn run_given<R: Files + Print + AllocGlobal, A: Fn(&mut Case, StopKeeper) -> (u8, StopKeeper)>(
+    rt: &R,
+    audit: &A,
+    given: &Given<'_>,
+    parts: SplitWhitespace<'_>,
+) -> Result<(), Fail>
+    requires { A.IsAlwaysCallable audit.now }
+{
+    let mut case = case_of(rt, given, parts)?;
+    run_absent(rt, audit, &mut case)
+}
+
 fn run_line<R: Files + Print + AllocGlobal, A: Fn(&mut Case, StopKeeper) -> (u8, StopKeeper)>(
     rt: &R,
     audit: &A,
@@ -38,10 +50,7 @@ fn run_line<R: Files + Print + AllocGlobal, A: Fn(&mut Case, StopKeeper) -> (u8,
     rt.println(line)?;
     let mut parts = line.split_whitespace();
     let given = given_of(&mut parts)?;
-    let mut case = case_of(rt, &given, parts)?;
-    let status = run_absent(rt.alloc(), audit, &mut case)?;
-    show_case(rt, status, given.wanted > 0, &case)?;
-    Ok(())
+    run_given(rt, audit, &given, parts)
 }
 
 /// Runs each line of a file.

@@ -26,11 +26,33 @@ pub fn slot_of<R: Files + AllocGlobal>(
     let alloc = rt.alloc();
     match said {
         "absent" => Ok(None),
-        "same" => Ok(before.map(|bytes| bytes_of(alloc, bytes)).transpose()?),
-        "spoilt" => Ok(before.map(|bytes| spoilt(alloc, bytes)).transpose()?),
-        "long" => Ok(Some(zeros(alloc, TOO_LONG)?)),
-        file => Ok(Some(decoded(rt, file)?)),
+        "same" => held_again(alloc, before),
+        "spoilt" => held_spoilt(alloc, before),
+        "long" => held_zeros(alloc),
+        file => held_file(rt, file),
     }
+}
+
+fn held_again(alloc: Global, before: Option<&[u8]>) -> Result<Option<Bytes>, Fail> {
+    match before {
+        Some(bytes) => Ok(Some(bytes_of(alloc, bytes)?)),
+        None => Ok(None),
+    }
+}
+
+fn held_spoilt(alloc: Global, before: Option<&[u8]>) -> Result<Option<Bytes>, Fail> {
+    match before {
+        Some(bytes) => Ok(Some(spoilt(alloc, bytes)?)),
+        None => Ok(None),
+    }
+}
+
+fn held_zeros(alloc: Global) -> Result<Option<Bytes>, Fail> {
+    Ok(Some(zeros(alloc, TOO_LONG)?))
+}
+
+fn held_file<R: Files + AllocGlobal>(rt: &R, file: &str) -> Result<Option<Bytes>, Fail> {
+    Ok(Some(decoded(rt, file)?))
 }
 
 // The bytes whose hexadecimal digits are in a file.
@@ -75,9 +97,18 @@ fn show_slot<R: Print + AllocGlobal>(rt: &R, slot: u8, held: Option<&[u8]>) -> i
 fn show_bytes<R: Print + AllocGlobal>(rt: &R, slot: u8, bytes: &[u8]) -> io::Result<()> {
     let length = bytes.len();
     print!(rt; "slot {slot} {length} bytes")?;
-    if let Some(records) = records_of(bytes) {
-        show_records(rt, bytes, records)?;
+    show_checkpoint(rt, bytes)?;
+    show_digest(rt, bytes)
+}
+
+fn show_checkpoint<R: Print>(rt: &R, bytes: &[u8]) -> io::Result<()> {
+    match records_of(bytes) {
+        Some(records) => show_records(rt, bytes, records),
+        None => Ok(()),
     }
+}
+
+fn show_digest<R: Print + AllocGlobal>(rt: &R, bytes: &[u8]) -> io::Result<()> {
     let digest = encode(rt.alloc(), Sha256::digest(bytes))?;
     println!(rt; " sha256 {digest}")
 }
@@ -114,9 +145,14 @@ fn show_records<R: Print>(rt: &R, bytes: &[u8], records: &[u8]) -> io::Result<()
     let generation = number_at(bytes, 44).unwrap_or(0);
     print!(rt; " version {version} generation {generation} ids")?;
     for record in records.chunks_exact(width_of(version)) {
-        if let Some(id) = number_at(record, 0) {
-            print!(rt; " {id}")?;
-        }
+        show_id(rt, record)?;
     }
     Ok(())
+}
+
+fn show_id<R: Print>(rt: &R, record: &[u8]) -> io::Result<()> {
+    match number_at(record, 0) {
+        Some(id) => print!(rt; " {id}"),
+        None => Ok(()),
+    }
 }

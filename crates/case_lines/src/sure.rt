@@ -11,6 +11,7 @@ use crate::slots::slot_of;
 use crate::streams::{bytes_of, text_of, word, words_of};
 use audit_io::sure::{SureSink, SureSource};
 use audit_io::sure_keeper::SureKeeper;
+use std::alloc::Global;
 use std::io;
 use std::rt::Files;
 use std::str::SplitWhitespace;
@@ -22,14 +23,13 @@ fn source_of<R: Files + AllocGlobal>(rt: &R, file: &str) -> Result<SureSource, F
     Ok(SureSource::new(bytes))
 }
 
-fn case_of<R: Files + AllocGlobal>(
-    rt: &R,
-    file: &str,
+fn case_over(
+    alloc: Global,
+    source: SureSource,
     parts: SplitWhitespace<'_>,
 ) -> Result<SureCase, Fail> {
-    let source = source_of(rt, file)?;
-    let words = words_of(rt.alloc(), parts)?;
-    let note = note_of(rt.alloc())?;
+    let words = words_of(alloc, parts)?;
+    let note = note_of(alloc)?;
     Ok(SureCase {
         words,
         source,
@@ -39,37 +39,81 @@ fn case_of<R: Files + AllocGlobal>(
     })
 }
 
-fn keeper_of<R: Files + AllocGlobal>(
+fn case_of<R: Files + AllocGlobal>(
     rt: &R,
-    parts: &mut SplitWhitespace<'_>,
-) -> Result<SureKeeper, Fail> {
-    let zero = slot_of(rt, word(parts)?, None)?;
-    let one = slot_of(rt, word(parts)?, None)?;
+    file: &str,
+    parts: SplitWhitespace<'_>,
+) -> Result<SureCase, Fail> {
+    let source = source_of(rt, file)?;
+    case_over(rt.alloc(), source, parts)
+}
+
+// The keeper whose slots hold what these words say.
+fn keeper_of<R: Files + AllocGlobal>(rt: &R, zero: &str, one: &str) -> Result<SureKeeper, Fail> {
+    let zero = slot_of(rt, zero, None)?;
+    let one = slot_of(rt, one, None)?;
     let keeper = SureKeeper::new(rt.alloc(), zero, one)?;
     Ok(keeper)
 }
 
 // Shows the status, the ids that the gate was told, and the note.
-fn show<R: Print>(rt: &R, status: u8, case: &SureCase) -> io::Result<()> {
+fn show<R: Print>(rt: &R, status: u8, gate: &NotingGate, note: &[u8]) -> io::Result<()> {
     println!(rt; "status {status}")?;
-    show_told(rt, &case.gate)?;
-    rt.write_all(case.note.bytes())
+    show_told(rt, gate)?;
+    rt.write_all(note)
 }
 
-// Makes a run over this keeper.
+fn status_of<A: Fn(&mut SureCase, SureKeeper) -> (u8, SureKeeper)>(
+    audit: &A,
+    case: &mut SureCase,
+    keeper: SureKeeper,
+) -> u8
+    requires { A.IsAlwaysCallable audit.now }
+{
+    let (status, _keeper) = audit(case, keeper);
+    status
+}
+
+// Makes a run over a keeper whose slots hold what these words say.
 fn run_over<R: Files + Print + AllocGlobal, A: Fn(&mut SureCase, SureKeeper) -> (u8, SureKeeper)>(
     rt: &R,
     audit: &A,
-    keeper: SureKeeper,
+    zero: &str,
+    one: &str,
+    case: &mut SureCase,
+) -> Result<(), Fail>
+    requires { A.IsAlwaysCallable audit.now }
+{
+    let keeper = keeper_of(rt, zero, one)?;
+    let status = status_of(audit, case, keeper);
+    show(rt, status, &case.gate, case.note.bytes())?;
+    Ok(())
+}
+
+fn run_slots<R: Files + Print + AllocGlobal, A: Fn(&mut SureCase, SureKeeper) -> (u8, SureKeeper)>(
+    rt: &R,
+    audit: &A,
+    zero: &str,
+    one: &str,
     mut parts: SplitWhitespace<'_>,
 ) -> Result<(), Fail>
     requires { A.IsAlwaysCallable audit.now }
 {
     let file = word(&mut parts)?;
     let mut case = case_of(rt, file, parts)?;
-    let (status, _keeper) = audit(&mut case, keeper);
-    show(rt, status, &case)?;
-    Ok(())
+    run_over(rt, audit, zero, one, &mut case)
+}
+
+fn run_parts<R: Files + Print + AllocGlobal, A: Fn(&mut SureCase, SureKeeper) -> (u8, SureKeeper)>(
+    rt: &R,
+    audit: &A,
+    mut parts: SplitWhitespace<'_>,
+) -> Result<(), Fail>
+    requires { A.IsAlwaysCallable audit.now }
+{
+    let zero = word(&mut parts)?;
+    let one = word(&mut parts)?;
+    run_slots(rt, audit, zero, one, parts)
 }
 
 // Makes the run of one line.
@@ -81,9 +125,7 @@ fn run_line<R: Files + Print + AllocGlobal, A: Fn(&mut SureCase, SureKeeper) -> 
     requires { A.IsAlwaysCallable audit.now }
 {
     rt.println(line)?;
-    let mut parts = line.split_whitespace();
-    let keeper = keeper_of(rt, &mut parts)?;
-    run_over(rt, audit, keeper, parts)
+    run_parts(rt, audit, line.split_whitespace())
 }
 
 /// Makes the run of each line of a file.

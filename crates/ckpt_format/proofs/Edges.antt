@@ -8,21 +8,10 @@ use Rattle.std.proofs.lemmas.List.Elements.{filter_more}
 use Rattle.sha2.specs.declared.Sha256.{Sha256}
 use Rattle.audit_model.specs.Below.{filter_below}
 use Rattle.audit_model.specs.Graph.{Graph, IsGraph, has}
-use Rattle.dual_graph.proofs.Marking.{at_has, has_at}
+use Rattle.model_laws.proofs.Below.{filter_below_cut}
+use Rattle.model_laws.proofs.Lists.{has_at, at_has}
 use Rattle.ckpt_format.specs.Hashed.{Hashes, edges_from, pair_bytes}
 use Rattle.ckpt_format.proofs.Hashing.{hashes_same, hashes_then}
-
--- none between two bounds passes
-filter_below_cut : (test : ℕ → Bool) (a b : ℕ) → a ≤ b → ((k : ℕ) → a ≤ k → k < b → test k ≡ false) → filter_below b test ≡ filter_below a test
-filter_below_cut test a zero l none = let e : zero ≡ a = omega arith in ap (λ n. filter_below n test) e
-filter_below_cut test a (suc n) l none = elim (cases_eq a (suc n)) [
-  | inl e ↦ ap (λ m. filter_below m test) (sym e)
-  | inr off ↦
-      let inside : a ≤ n = omega arith in
-      let last : test n ≡ false = none n inside (omega arith) in
-      ap (λ (b : Bool). filter_below n test ++ cond b (n ∷ []) []) last ∙ append-nil (filter_below n test)
-      ∙ filter_below_cut test a n inside (λ k m r. none k m (omega arith))
-]
 
 -- each number of the list is greater than the one before it
 abbrev pub Rises : List ℕ → Type 0

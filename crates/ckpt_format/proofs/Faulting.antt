@@ -3,11 +3,12 @@ use Rattle.std.proofs.Common.{◌≡◌, ℕ, ◌+◌, ◌-◌, ◌*◌, ◌<◌
 use Rattle.std.specs.Prelude.{◌==◌, nat_lt, bytes_eq, option_map, ◌||◌}
 use Rattle.std.specs.Option.{option_or}
 use Rattle.std.specs.Int.{w32}
-use Rattle.std.proofs.lemmas.Bool.{true≢false, false≢true, not_from_true, or_from, eq-eqb, cond-true, cond-false, lt-ltb, le-ltb, ltb-false, eqb-true, or_parts, not-false}
+use Rattle.std.proofs.lemmas.Bool.{false≢true, not_from_true, or_from, eq-eqb, cond-true, cond-false, lt-ltb, le-ltb, ltb-false, eqb-true, or_parts, not-false}
 use Rattle.std.proofs.lemmas.Slice.Eq.{bytes_eq-Decides}
 use Rattle.sha2.specs.Sha256.{sha256}
 use Rattle.audit_model.specs.declared.fault.CkptFault.TheVariants.{TooShort, BadMagic, BadVersion, BadGeneration, BadCount, BadOrder, BadDigest}
 use Rattle.audit_model.specs.First.{first_below}
+use Rattle.model_laws.proofs.Options.{or_of_none, some_is_not_none, option_or_none, option_map_none, cond_some_none, cond_none}
 use Rattle.checkpoint_definitions.specs.Checkpoint.{checkpoint_fault, number_at, outcome_size, stated_count, stated_version}
 use Rattle.ckpt_format.specs.Faults.{length_fault, magic_fault, version_fault, generation_fault, count_fault, order_fault, digest_fault, head_fault, is_unordered}
 
@@ -44,34 +45,15 @@ fault_of_many bytes many =
 
 -- ---- what no fault says
 
-some_is_not_none : {A : Type 0} (x : A) → Some x ≡ None → ⊥
-some_is_not_none x h = cc
-
-or_is_none : {A : Type 0} (a b : Option A) → option_or a b ≡ None → (a ≡ None) × (b ≡ None)
-or_is_none None b h = (refl, h)
-or_is_none (Some x) b h = absurd (some_is_not_none x h)
-
-or_of_none : {A : Type 0} (a b : Option A) → a ≡ None → b ≡ None → option_or a b ≡ None
-or_of_none None b h k = k
-or_of_none (Some x) b h k = absurd (some_is_not_none x h)
-
-then_none : {A : Type 0} (b : Bool) (x : A) → cond b (Some x) None ≡ None → b ≡ false
-then_none true x h = absurd (some_is_not_none x h)
-then_none false x h = refl
-
 else_none : {A : Type 0} (b : Bool) (x : A) → cond b None (Some x) ≡ None → b ≡ true
 else_none true x h = refl
 else_none false x h = absurd (some_is_not_none x h)
-
-map_none : {A B : Type 0} (f : A → B) (o : Option A) → option_map f o ≡ None → o ≡ None
-map_none f None h = refl
-map_none f (Some x) h = absurd (some_is_not_none (f x) h)
 
 -- the number of outcomes fits the length
 pub count_is_right : (version count size : ℕ) → count_fault version count size ≡ None → (count ≤ 100000) × (size ≡ 84 + outcome_size version * count)
 count_is_right version count size none =
     let right = 84 + outcome_size version * count in
-    let parts = or_parts (nat_lt 100000 count) (not (size == right)) (then_none _ (BadCount count size) none) in
+    let parts = or_parts (nat_lt 100000 count) (not (size == right)) (cond_some_none _ (BadCount count size) none) in
     (ltb-false 100000 count parts.0, eqb-true size right (not-false (size == right) parts.1))
 
 -- the version is one of both
@@ -95,12 +77,12 @@ pub record HasHead (bytes : List ℕ) : Type 0 where
 
 pub head_is_right : (bytes : List ℕ) → head_fault bytes ≡ None → HasHead bytes
 head_is_right bytes none =
-    let magic = or_is_none (magic_fault bytes) _ none in
-    let version = or_is_none (version_fault (stated_version bytes)) _ magic.1 in
-    let generation = or_is_none (generation_fault (number_at w32 44 bytes)) _ version.1 in
-    let count = or_is_none (count_fault (stated_version bytes) (stated_count bytes) (length bytes)) None generation.1 in
+    let magic = option_or_none (magic_fault bytes) _ none in
+    let version = option_or_none (version_fault (stated_version bytes)) _ magic.1 in
+    let generation = option_or_none (generation_fault (number_at w32 44 bytes)) _ version.1 in
+    let count = option_or_none (count_fault (stated_version bytes) (stated_count bytes) (length bytes)) None generation.1 in
     let right = count_is_right (stated_version bytes) (stated_count bytes) (length bytes) count.0 in
-    let small : number_at w32 44 bytes ≤ 2 = ltb-false 2 (number_at w32 44 bytes) (then_none _ (BadGeneration (number_at w32 44 bytes)) generation.0) in
+    let small : number_at w32 44 bytes ≤ 2 = ltb-false 2 (number_at w32 44 bytes) (cond_some_none _ (BadGeneration (number_at w32 44 bytes)) generation.0) in
     record {
       magic = (bytes_eq-Decides (take 8 bytes) (codes "DISTCKPT")).0 (else_none _ BadMagic magic.0);
       version = version_is_known (stated_version bytes) version.0;
@@ -118,14 +100,14 @@ pub record IsFaultless (bytes : List ℕ) : Type 0 where
 pub IsFaultless-from_none : (bytes : List ℕ) → checkpoint_fault bytes ≡ None → IsFaultless bytes
 IsFaultless-from_none bytes none =
     let tail = option_or (order_fault bytes (stated_count bytes)) (digest_fault bytes) in
-    let long = or_is_none (length_fault bytes) (option_or (head_fault bytes) tail) (sym (fault_is bytes) ∙ none) in
-    let head = or_is_none (head_fault bytes) tail long.1 in
-    let order = or_is_none (order_fault bytes (stated_count bytes)) (digest_fault bytes) head.1 in
+    let long = option_or_none (length_fault bytes) (option_or (head_fault bytes) tail) (sym (fault_is bytes) ∙ none) in
+    let head = option_or_none (head_fault bytes) tail long.1 in
+    let order = option_or_none (order_fault bytes (stated_count bytes)) (digest_fault bytes) head.1 in
     let found = drop (length bytes - 32) bytes in
     let computed = sha256 (take (length bytes - 32) bytes) in
     record {
       head = head_is_right bytes head.0;
-      ordered = map_none BadOrder (first_below (stated_count bytes) (is_unordered bytes)) order.0;
+      ordered = option_map_none BadOrder (first_below (stated_count bytes) (is_unordered bytes)) order.0;
       last = (bytes_eq-Decides found computed).0 (else_none (bytes_eq found computed) (BadDigest found computed) order.1);
     }
 
@@ -133,14 +115,10 @@ else_is_none : {A : Type 0} (b : Bool) (x : A) → b ≡ true → cond b None (S
 else_is_none true x h = refl
 else_is_none false x h = absurd (false≢true h)
 
-then_is_none : {A : Type 0} (b : Bool) (x : A) → b ≡ false → cond b (Some x) None ≡ None
-then_is_none true x h = absurd (true≢false h)
-then_is_none false x h = refl
-
 no_count_fault : (version count size : ℕ) → count ≤ 100000 → size ≡ 84 + outcome_size version * count → count_fault version count size ≡ None
 no_count_fault version count size few same =
     let right = 84 + outcome_size version * count in
-    then_is_none (nat_lt 100000 count || not (size == right)) (BadCount count size)
+    cond_none (nat_lt 100000 count || not (size == right)) (BadCount count size)
     (or_from (nat_lt 100000 count) (not (size == right)) (le-ltb 100000 count few) (not_from_true (size == right) (eq-eqb size right same)))
 
 no_version_fault : (version : ℕ) → (version ≡ 1) ⊎ (version ≡ 2) → version_fault version ≡ None
@@ -152,7 +130,7 @@ no_head_fault bytes head =
     or_of_none (magic_fault bytes) _ (else_is_none (bytes_eq (take 8 bytes) (codes "DISTCKPT")) BadMagic ((bytes_eq-Decides (take 8 bytes) (codes "DISTCKPT")).1 head.magic))
     (or_of_none (version_fault (stated_version bytes)) _ (no_version_fault (stated_version bytes) head.version)
     (or_of_none (generation_fault (number_at w32 44 bytes)) _
-    (then_is_none (nat_lt 2 (number_at w32 44 bytes)) (BadGeneration (number_at w32 44 bytes)) (le-ltb 2 (number_at w32 44 bytes) (omega (arith, head.generation))))
+    (cond_none (nat_lt 2 (number_at w32 44 bytes)) (BadGeneration (number_at w32 44 bytes)) (le-ltb 2 (number_at w32 44 bytes) (omega (arith, head.generation))))
     (or_of_none (count_fault (stated_version bytes) (stated_count bytes) (length bytes)) None (no_count_fault (stated_version bytes) (stated_count bytes) (length bytes) head.few head.size) refl)))
 
 pub none-from_IsFaultless : (bytes : List ℕ) → IsFaultless bytes → checkpoint_fault bytes ≡ None

@@ -10,10 +10,10 @@ use Rattle.audit_model.specs.Below.{map_below}
 use Rattle.audit_model.specs.declared.outcome.Outcome.{Outcome}
 use Rattle.std.proofs.lemmas.List.Elements.{All-from_recursion}
 use Rattle.audit_model.specs.Trajectory.{no_bins}
+use Rattle.model_laws.proofs.Below.{length-map_below, get_or-map_below}
+use Rattle.model_laws.proofs.First.{none_first_below}
 use Rattle.checkpoint_definitions.specs.Checkpoint.{AreRising, HoldsBins, IsCheckpoint, IsOutcome, checkpoint, checkpoint_body, checkpoint_fault, has_bins, number_at, outcome_bytes, outcome_size, stated_count, stated_id, stated_version}
 use Rattle.checkpoint_definitions.specs.Slots.{outcome_in, outcomes_in}
-use Rattle.plan_core.proofs.Firsts.{none_first_below}
-use Rattle.dual_graph.proofs.Rows.{length-map_below, get_or-map_below}
 use Rattle.ckpt_format.specs.Faults.{is_unordered}
 use Rattle.ckpt_format.specs.Laws.{StandsIn}
 use Rattle.ckpt_format.proofs.Cutting.{part-mid}

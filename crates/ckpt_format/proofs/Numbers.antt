@@ -11,9 +11,9 @@ use Rattle.std.proofs.lemmas.List.Elements.{All-from_get_or, All-from_recursion,
 use Rattle.audit_model.specs.Below.{map_below}
 use Rattle.audit_model.specs.declared.outcome.Outcome.{Outcome}
 use Rattle.audit_model.specs.Trajectory.{no_bins}
+use Rattle.model_laws.proofs.Below.{length-map_below, get_or-map_below}
 use Rattle.checkpoint_definitions.specs.Checkpoint.{IsOutcome, bin_bytes, number_at}
 use Rattle.checkpoint_definitions.specs.Slots.{bins_at}
-use Rattle.dual_graph.proofs.Rows.{length-map_below, get_or-map_below}
 use Rattle.ckpt_format.specs.Written.{bytes_by, size_by}
 use Rattle.ckpt_format.proofs.Cutting.{AreBytes, join-parts, length-part, part-bytes, part-mid}
 use Rattle.ckpt_format.proofs.Pieces.{piece_apart, pieces_joined}

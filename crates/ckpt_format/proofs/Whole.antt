@@ -13,10 +13,10 @@ use Rattle.audit_model.specs.Below.{map_below}
 use Rattle.audit_model.specs.First.{first_below}
 use Rattle.audit_model.specs.declared.outcome.Outcome.{Outcome}
 use Rattle.audit_model.specs.Trajectory.{no_bins}
+use Rattle.model_laws.proofs.Below.{length-map_below, get_or-map_below}
+use Rattle.model_laws.proofs.First.{first_below_none}
 use Rattle.checkpoint_definitions.specs.Checkpoint.{AreRising, HoldsBins, IsCheckpoint, IsOutcome, checkpoint, checkpoint_body, has_bins, number_at, outcome_bytes, outcome_size, outcome_start, stated_count, stated_id, stated_version}
 use Rattle.checkpoint_definitions.specs.Slots.{bins_at, outcome_in, outcomes_in}
-use Rattle.dual_graph.proofs.Rows.{length-map_below, get_or-map_below}
-use Rattle.plan_core.proofs.Firsts.{first_below_none}
 use Rattle.ckpt_format.specs.Faults.{is_unordered}
 use Rattle.ckpt_format.proofs.Cutting.{AreBytes, join-parts, part-bytes, length-part}
 use Rattle.ckpt_format.proofs.Faulting.{HasHead}

@@ -168,5 +168,6 @@ fn append(out: &mut Bytes, bytes: &[u8])
     requires { length bytes.now ≤ out.old.spare }
     ensures { Appends out.old out.new bytes.now }
 {
+    // There is room, so it takes no memory and cannot fail.
     let _ = out.append(bytes);
 }

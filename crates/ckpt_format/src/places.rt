@@ -26,22 +26,6 @@ pub(crate) fn u32_at(bytes: &[u8], at: usize) -> u32
     u32::from_be_bytes(array_at(bytes, at))
 }
 
-/// The number of eight bytes.
-fn u64_at(bytes: &[u8], at: usize) -> u64
-    requires { at + 8 ≤ length bytes.now }
-    ensures { result ≡ number_at w64 at bytes.now }
-{
-    u64::from_be_bytes(array_at(bytes, at))
-}
-
-/// The number of eight bytes, in two's complement.
-fn i64_at(bytes: &[u8], at: usize) -> i64
-    requires { at + 8 ≤ length bytes.now }
-    ensures { result ≡ cast_signed w64 (number_at w64 at bytes.now) }
-{
-    u64_at(bytes, at).cast_signed()
-}
-
 /// How many bytes an outcome has in a version of the format.
 pub(crate) fn outcome_size(version: u32) -> usize
     ensures value { result ≡ outcome_size version }
@@ -64,6 +48,22 @@ pub(crate) fn outcome_in(bytes: &[u8], place: u32) -> Outcome
     ensures { result ≡ outcome_in bytes.now place }
 {
     outcome_at(bytes, outcome_start(bytes, place))
+}
+
+/// The number of eight bytes.
+fn u64_at(bytes: &[u8], at: usize) -> u64
+    requires { at + 8 ≤ length bytes.now }
+    ensures { result ≡ number_at w64 at bytes.now }
+{
+    u64::from_be_bytes(array_at(bytes, at))
+}
+
+/// The number of eight bytes, in two's complement.
+fn i64_at(bytes: &[u8], at: usize) -> i64
+    requires { at + 8 ≤ length bytes.now }
+    ensures { result ≡ cast_signed w64 (number_at w64 at bytes.now) }
+{
+    u64_at(bytes, at).cast_signed()
 }
 
 /// The outcome whose bytes begin at a place.

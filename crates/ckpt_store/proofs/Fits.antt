@@ -5,13 +5,13 @@ use Rattle.std.specs.List.{All, list_all}
 use Rattle.std.proofs.lemmas.Bool.{not-false}
 use Rattle.std.proofs.lemmas.List.Folds.{list_all_more}
 use Rattle.std.proofs.lemmas.Option.{slice_get-get_or}
-use Rattle.plan_core.proofs.Firsts.{first_below_none}
 use Rattle.audit_model.specs.declared.outcome.Outcome.{Outcome}
 use Rattle.audit_model.specs.Below.{all_below}
 use Rattle.audit_model.specs.First.{first_below}
 use Rattle.audit_model.specs.Job.{Job}
 use Rattle.audit_model.specs.Run.{fits}
 use Rattle.audit_model.specs.Trajectory.{value_at}
+use Rattle.model_laws.proofs.First.{first_below_none}
 use Rattle.ckpt_store.specs.Fitting.{is_unfit, is_unfit_one}
 
 -- the first elements all pass where the elements at the first places do

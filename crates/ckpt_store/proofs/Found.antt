@@ -1,5 +1,5 @@
 -- What a slot says of its bytes.
-use Rattle.std.proofs.Common.{◌≡◌, ℕ, ◌<◌, Bool, true, false, not, List, length, get_or, Option, Some, None, refl, sym, ap, subst, ◌∙◌, arith}
+use Rattle.std.proofs.Common.{◌≡◌, ℕ, ◌<◌, Bool, true, false, not, List, length, Option, Some, None, refl, sym, ap, subst, ◌∙◌, arith}
 use Rattle.std.specs.Prelude.{IsTrue, bytes_eq, nat_lt, slice_range}
 use Rattle.std.specs.Int.{w32}
 use Rattle.std.specs.List.{All, list_all}
@@ -7,17 +7,16 @@ use Rattle.std.proofs.lemmas.List.Sums.{list_all-from_AllPass}
 use Rattle.std.proofs.lemmas.Slice.Eq.{bytes_eq-Decides}
 use Rattle.audit_model.specs.declared.fault.CkptFault.{CkptFault}
 use Rattle.audit_model.specs.declared.fault.CkptFault.TheVariants.{TooLong, Unfit}
-use Rattle.audit_model.specs.declared.outcome.Outcome.{Outcome}
 use Rattle.audit_model.specs.First.{first_below}
 use Rattle.audit_model.specs.Job.{Job}
 use Rattle.audit_model.specs.Run.{fits}
+use Rattle.model_laws.proofs.Below.{length-map_below, get_or-map_below}
+use Rattle.model_laws.proofs.First.{first_below_none}
 use Rattle.checkpoint_definitions.specs.Checkpoint.{IsCheckpoint, checkpoint_fault, number_at, stated_count, stated_version}
-use Rattle.checkpoint_definitions.specs.Slots.{broken, checkpoint_limit, other, ours, outcome_in, outcomes_in, slot_of, slot_of_bytes, slot_of_checkpoint, slot_of_digest, slot_of_ours}
+use Rattle.checkpoint_definitions.specs.Slots.{broken, checkpoint_limit, outcome_in, outcomes_in, slot_of, slot_of_bytes, slot_of_checkpoint, slot_of_digest, slot_of_ours}
 use Rattle.ckpt_format.specs.Laws.{CheckpointsAreRead, FaultlessAreCheckpoints, IsSomeCheckpoint}
 use Rattle.ckpt_store.specs.Laws.{IsReadFrom, SlotsAreWhatTheyAre}
 use Rattle.ckpt_store.proofs.Ours.{checkpoints_are_ours}
-use Rattle.dual_graph.proofs.Rows.{length-map_below, get_or-map_below}
-use Rattle.plan_core.proofs.Firsts.{first_below_none}
 
 -- where no place is of one that does not fit, all fit
 all_fit : (job : Job) (bytes : List ℕ) → first_below (stated_count bytes) (λ place. not (fits job (outcome_in bytes place))) ≡ None

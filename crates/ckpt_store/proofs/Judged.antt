@@ -3,8 +3,6 @@ use Rattle.std.proofs.Common.{◌≡◌, ℕ, ◌≤◌, Bool, true, false, not,
 use Rattle.std.specs.Prelude.{◌⊎◌, Result, Ok, Err, IfOk, OnOk, bytes_eq}
 use Rattle.std.specs.Int.{w32}
 use Rattle.std.proofs.lemmas.Bool.{le-ltb}
-use Rattle.dual_graph.proofs.Rows.{length-map_below, get_or-map_below}
-use Rattle.plan_core.proofs.Firsts.{first_below_same}
 use Rattle.audit_model.specs.declared.fault.CkptFault.{CkptFault}
 use Rattle.audit_model.specs.declared.fault.CkptFault.TheVariants as variant
 use Rattle.audit_model.specs.declared.memory.Memory.{Memory}
@@ -12,6 +10,8 @@ use Rattle.audit_model.specs.declared.outcome.Outcome.{Outcome}
 use Rattle.audit_model.specs.First.{first_below}
 use Rattle.audit_model.specs.Job.{Job}
 use Rattle.audit_model.specs.Run.{fits}
+use Rattle.model_laws.proofs.Below.{length-map_below, get_or-map_below}
+use Rattle.model_laws.proofs.First.{first_below_same}
 use Rattle.checkpoint_definitions.specs.Checkpoint.{checkpoint_fault, number_at, stated_count}
 use Rattle.checkpoint_definitions.specs.Slots.{ours, other, checkpoint_limit, outcome_in, outcomes_in, slot_of, slot_of_bytes, slot_of_checkpoint, slot_of_digest, slot_of_ours}
 use Rattle.ckpt_format.specs.declared.decode.Checkpoint.{Checkpoint}

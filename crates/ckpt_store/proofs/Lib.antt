@@ -7,3 +7,4 @@ pub mod Turns
 pub mod Keeping
 pub mod Outlasted
 pub mod Prefixes
+pub mod Seen

@@ -5,11 +5,11 @@ use Rattle.std.specs.List.{list_all}
 use Rattle.std.proofs.lemmas.Bool.{not_from_true}
 use Rattle.std.proofs.lemmas.List.Sums.{AllPass-from_list_all}
 use Rattle.std.proofs.lemmas.Slice.Eq.{bytes_eq-Decides}
-use Rattle.plan_core.proofs.Firsts.{none_first_below}
 use Rattle.audit_model.specs.declared.outcome.Outcome.{Outcome}
 use Rattle.audit_model.specs.First.{first_below}
 use Rattle.audit_model.specs.Job.{Job}
 use Rattle.audit_model.specs.Run.{fits}
+use Rattle.model_laws.proofs.First.{none_first_below}
 use Rattle.checkpoint_definitions.specs.Slots.{outcome_at, ours}
 use Rattle.ckpt_format.specs.declared.decode.Checkpoint.{Checkpoint}
 use Rattle.ckpt_format.proofs.Made.{none-from_checkpoint}

@@ -1,10 +1,10 @@
 -- What a look at the slots says.
-use Rattle.std.specs.Prelude.{◌≡◌, ℕ, List, Result, Ok, Err}
+use Rattle.std.specs.Prelude.{◌≡◌, ℕ, List, Option, Result, Ok, Err}
 use Rattle.audit_io.specs.Faults.{Counts, Rose}
-use Rattle.audit_io.specs.Slots.{Pair}
+use Rattle.audit_io.specs.Slots.{IfTold, Pair, Stored, stored}
 use Rattle.audit_io.specs.declared.keeper.LoadError.{LoadError}
 use Rattle.audit_io.specs.declared.keeper.LoadError.TheVariants as load
-use Rattle.audit_model.specs.declared.fault.CkptFault.TheVariants.{TooLong}
+use Rattle.audit_model.specs.declared.fault.CkptFault.TheVariants.{Memory, TooLong}
 use Rattle.audit_model.specs.Job.{Job}
 use Rattle.checkpoint_definitions.specs.Slots.{slot_of}
 use Rattle.ckpt_store.specs.declared.look.LookFault.{LookFault}
@@ -18,6 +18,25 @@ use Rattle.ckpt_store.specs.View.{slot_view}
 pub record AreSlots (job : Job) (digest : List ℕ) (p : Pair) (slots : Slots) : Type 0 where
   pub zero : slot_view slots.zero ≡ slot_of job digest p.zero_slot
   pub one : slot_view slots.one ≡ slot_of job digest p.one_slot
+
+-- a slot as it was seen: what is stored there, which is what is told where the keeper tells, and that the slot is this for the job
+pub record SawSlot (job : Job) (digest : List ℕ) (told : Option Pair) (number : ℕ) (slot : Slot) : Type 0 where
+  pub bytes : Stored
+  pub same : IfTold told (λ p. bytes ≡ stored p number)
+  pub is : slot_view slot ≡ slot_of job digest bytes
+
+-- both slots as they were seen: the pair, which is the told one where the keeper tells, and that the slots are this for the job
+pub record SawSlots (job : Job) (digest : List ℕ) (told : Option Pair) (slots : Slots) : Type 0 where
+  pub pair : Pair
+  pub same : IfTold told (λ p. pair ≡ p)
+  pub are : AreSlots job digest pair slots
+
+-- a slot is broken for its bytes, and never for want of memory
+abbrev pub IsByBytes : Slot → Type 0
+IsByBytes slot.Absent = Unit {0}
+IsByBytes (slot.Broken fault) = fault ≡ Memory → ⊥
+IsByBytes (slot.Other found generation) = Unit {0}
+IsByBytes (slot.Ours checkpoint) = Unit {0}
 
 -- what a fault of a look says of the count of loads that failed
 abbrev pub FaultCause : ℕ → ℕ → LookFault → Type 0

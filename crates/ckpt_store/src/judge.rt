@@ -5,6 +5,7 @@ ghost use Rattle.audit_model.specs.declared.fault.CkptFault.TheVariants as varia
 ghost use Rattle.checkpoint_definitions.specs.Checkpoint.{AreRising};
 ghost use Rattle.checkpoint_definitions.specs.Slots.{checkpoint_limit, slot_of};
 ghost use Rattle.ckpt_store.specs.Fitting.{HasFitOutcomes, judged};
+ghost use Rattle.ckpt_store.specs.Looked.{IsByBytes};
 ghost use Rattle.ckpt_store.specs.View.{slot_view};
 
 use crate::fitting::first_unfit;
@@ -30,9 +31,11 @@ pub fn judge_bytes(
     requires { length bytes.now ≤ checkpoint_limit }
     ensures slot { IfOk result (λ s. slot_view s ≡ slot_of job.now digest.now (Some bytes.now)) }
     ensures sound { IfOk result (λ s. HasFitOutcomes job.now s) }
+    ensures by_bytes { IfOk result IsByBytes }
 {
     match decode(alloc, bytes) {
         Ok(checkpoint) => {
+            // A law, called for what its contract says: what a checkpoint was made of stands at its places.
             checkpoints_are_read();
             Ok(judge(job, digest, checkpoint))
         }
@@ -44,6 +47,7 @@ pub fn judge_bytes(
 fn broken(fault: CkptFault) -> Result<Slot, Memory>
     ensures slot { IfOk result (λ s. s ≡ Slot.Broken fault) }
     ensures known { OnOk result (fault ≡ variant.Memory → ⊥) }
+    ensures by_bytes { IfOk result IsByBytes }
 {
     match fault {
         CkptFault::Memory => Err(Memory),
@@ -57,6 +61,7 @@ fn judge(job: &Job, digest: &[u8; 32], checkpoint: Checkpoint) -> Slot
     requires rising { AreRising (map (λ o. o.id) checkpoint.outcomes.items) }
     ensures slot { slot_view result ≡ judged job.now digest.now checkpoint }
     ensures sound { HasFitOutcomes job.now result }
+    ensures by_bytes { IsByBytes result }
 {
     if checkpoint.digest != *digest {
         return Slot::Other {

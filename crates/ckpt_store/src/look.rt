@@ -1,10 +1,10 @@
 //! Looking at both slots of a keeper.
 
 ghost use Rattle.std.specs.Prelude.{◌≡◌, ◌<◌, ◌≤◌, IfErr, IfOk, length};
-ghost use Rattle.audit_io.specs.Slots.{IfTold, stored, stored_if};
+ghost use Rattle.audit_io.specs.Slots.{stored_if};
 ghost use Rattle.checkpoint_definitions.specs.Slots.{checkpoint_limit, slot_of};
 ghost use Rattle.ckpt_store.specs.Fitting.{HasFitOutcomes};
-ghost use Rattle.ckpt_store.specs.Looked.{AreSlots, HasLookCause, unloaded};
+ghost use Rattle.ckpt_store.specs.Looked.{HasLookCause, IsByBytes, SawSlot, SawSlots, unloaded};
 ghost use Rattle.ckpt_store.specs.View.{slot_view};
 
 use crate::judge::judge_bytes;
@@ -27,7 +27,8 @@ pub enum LookFault {
     Memory,
 }
 
-/// What both slots are for the job with this digest: slot 0 is looked at first. No slot is changed.
+/// What both slots are for the job with this digest: slot 0 is looked at first. No slot is changed. Whatever the keeper tells, there are two
+/// slots that were seen, and what is answered is what these are for the job.
 ///
 /// # Errors
 ///
@@ -40,8 +41,9 @@ pub fn look<C: Keeper>(
     digest: &[u8; 32],
     room: &mut Bytes,
 ) -> Result<Slots, LookFault>
-    ensures told { IfTold (C.slots keeper.old) (λ p. IfOk result (AreSlots job.now digest.now p)) }
+    ensures saw { IfOk result (SawSlots job.now digest.now (C.slots keeper.old)) }
     ensures sound { IfOk result (λ s. HasFitOutcomes job.now s.zero × HasFitOutcomes job.now s.one) }
+    ensures by_bytes { IfOk result (λ s. IsByBytes s.zero × IsByBytes s.one) }
     ensures slots { C.slots keeper.new ≡ C.slots keeper.old }
     ensures cause { HasLookCause (C.load_faults keeper.old) (C.load_faults keeper.new) result }
     ensures saves { C.save_faults keeper.new ≡ C.save_faults keeper.old }
@@ -62,8 +64,9 @@ fn look_at<C: Keeper>(
     room: &mut Bytes,
 ) -> Result<Slot, LookFault>
     requires { slot < 2 }
-    ensures told { IfTold (C.slots keeper.old) (λ p. IfOk result (λ s. slot_view s ≡ slot_of job.now digest.now (stored p slot))) }
+    ensures saw { IfOk result (SawSlot job.now digest.now (C.slots keeper.old) slot) }
     ensures sound { IfOk result (λ s. HasFitOutcomes job.now s) }
+    ensures by_bytes { IfOk result IsByBytes }
     ensures slots { C.slots keeper.new ≡ C.slots keeper.old }
     ensures cause { HasLookCause (C.load_faults keeper.old) (C.load_faults keeper.new) result }
     ensures saves { C.save_faults keeper.new ≡ C.save_faults keeper.old }
@@ -86,6 +89,7 @@ fn judge_loaded(
     requires { length bytes.now ≤ checkpoint_limit }
     ensures slot { IfOk result (λ s. slot_view s ≡ slot_of job.now digest.now (stored_if found bytes.now)) }
     ensures sound { IfOk result (λ s. HasFitOutcomes job.now s) }
+    ensures by_bytes { IfOk result IsByBytes }
     ensures err { IfErr result (λ e. e ≡ LookFault.Memory) }
 {
     if !found {

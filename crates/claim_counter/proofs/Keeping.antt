@@ -7,8 +7,9 @@ use Rattle.std.specs.List.{sum_by, flat_map}
 use Rattle.std.proofs.lemmas.List.Sums.{sum_by_push}
 use Rattle.atomic_table.proofs.Lists.{at_set, at_snoc, set_else}
 use Rattle.claim_counter.specs.declared.record.PassRecord.{PassRecord}
-use Rattle.claim_counter.specs.Records.{times, once_below, fresh, spent, with_claim, at_end, with_less_spare, joined, AreAllBelow, IsLive, IsCounted, IsSole}
-use Rattle.claim_counter.proofs.Counting.{sum_set, sum_at, sum_le, sum_sole, times-append, times_push, once_below_more, once_below_past, permutation_below, times-flat_map}
+use Rattle.claim_counter.specs.Records.{fresh, spent, with_claim, at_end, with_less_spare, joined, AreAllBelow, IsLive, IsCounted, IsSole}
+use Rattle.model_laws.specs.Times.{times, once_below}
+use Rattle.model_laws.proofs.Times.{sum_set, sum_at, sum_le, sum_sole, times-append, times_push, once_below_more, once_below_past, permutation_below, times-flat_map}
 
 abbrev SpentOrLive : PassRecord → Type 0
 SpentOrLive p = (p ≡ spent) ⊎ IsLive p

@@ -11,10 +11,11 @@ use Rattle.atomic_table.proofs.Lists.{at_set, at_snoc, set_again, at_map}
 use Rattle.claim_counter.specs.declared.record.PassRecord.{PassRecord}
 use Rattle.claim_counter.specs.declared.record.View.{View}
 use Rattle.claim_counter.specs.declared.record.Size.{Size}
-use Rattle.claim_counter.specs.Records.{IsCounted, IsSole, once_below, with_claim, at_end, with_less_spare, fresh, spent, AreDifferentBelow, AreAllBelow}
+use Rattle.claim_counter.specs.Records.{IsCounted, IsSole, with_claim, at_end, with_less_spare, fresh, spent, AreDifferentBelow, AreAllBelow}
 use Rattle.claim_counter.specs.Views.{HasAllSeats, view, own_of, Kept, Draws, Looks, left_view, right_view, joined_view, spent_view}
 use Rattle.claim_counter.proofs.Keeping.{claim_keeps, claim_is_new, end_keeps, split_keeps, join_keeps, count_bounded, share_bounded, claims_bounded, sole_pass}
-use Rattle.claim_counter.proofs.Counting.{permutation_below, apart_push, length-apart}
+use Rattle.model_laws.specs.Times.{once_below}
+use Rattle.model_laws.proofs.Times.{permutation_below, apart_push, length-apart}
 
 abbrev Mine : Type 0
 Mine = Me (Unit {0}) View

@@ -4,7 +4,8 @@ use Rattle.std.specs.List.{flat_map}
 use mathlib.Core.Option.{some}
 use lib.ListN.{get_elem?}
 use Rattle.claim_counter.specs.declared.record.PassRecord.{PassRecord}
-use Rattle.claim_counter.specs.Records.{times, once_below, fresh, spent, with_claim, at_end, with_less_spare, joined, AreDifferentBelow, AreAllBelow, IsCounted, IsSole}
+use Rattle.claim_counter.specs.Records.{fresh, spent, with_claim, at_end, with_less_spare, joined, AreDifferentBelow, AreAllBelow, IsCounted, IsSole}
+use Rattle.model_laws.specs.Times.{times, once_below}
 
 -- there are these passes, the i-th of them is p, and it is in use
 pub record Has (limit count word : ℕ) (ps : List PassRecord) (i : ℕ) (p : PassRecord) : Type 0 where

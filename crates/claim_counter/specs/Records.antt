@@ -1,18 +1,11 @@
 -- The rule of a counter, over the plain records of its passes.
-use Rattle.std.specs.Prelude.{◌≡◌, ℕ, ◌+◌, ◌-◌, ◌<◌, ◌≤◌, ◌==◌, ◌&&◌, nat_lt, min, true, false, if◌then◌else◌, List, [], ◌∷◌, ◌++◌, sum_by, count_by, ◌⊎◌}
+use Rattle.std.specs.Prelude.{◌≡◌, ℕ, ◌+◌, ◌-◌, ◌<◌, ◌≤◌, ◌&&◌, min, true, false, List, [], ◌∷◌, ◌++◌, sum_by, ◌⊎◌}
 use Rattle.std.specs.List.{range_with_len}
 use Rattle.std.specs.List.Sorted.{IsPermutation}
 use mathlib.Core.Option.{some}
 use lib.ListN.{get_elem?}
 use Rattle.claim_counter.specs.declared.record.PassRecord.{PassRecord}
-
--- how often x stands in the list
-abbrev pub times : ℕ → List ℕ → ℕ
-times x xs = count_by (λ y. y == x) xs
-
--- 1 for a number below n, and 0 for any other
-abbrev pub once_below : ℕ → ℕ → ℕ
-once_below x n = if nat_lt x n then 1 else 0
+use Rattle.model_laws.specs.Times.{times, once_below}
 
 -- the numbers in the list differ, and are below n
 abbrev pub AreDifferentBelow : ℕ → List ℕ → Type 0

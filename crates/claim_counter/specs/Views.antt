@@ -6,7 +6,8 @@ use Rattle.atomic_table.specs.Table.{State, Me, Step}
 use Rattle.claim_counter.specs.declared.record.PassRecord.{PassRecord}
 use Rattle.claim_counter.specs.declared.record.View.{View}
 use Rattle.claim_counter.specs.declared.record.Size.{Size}
-use Rattle.claim_counter.specs.Records.{IsCounted, fresh, spent, with_claim, at_end, with_less_spare, joined, times, AreDifferentBelow, AreAllBelow}
+use Rattle.claim_counter.specs.Records.{IsCounted, fresh, spent, with_claim, at_end, with_less_spare, joined, AreDifferentBelow, AreAllBelow}
+use Rattle.model_laws.specs.Times.{times}
 
 -- all seats are the pass's: there is no other pass, and what can be split off is split off it
 abbrev pub HasAllSeats : Size → PassRecord → Type 0

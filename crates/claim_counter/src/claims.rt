@@ -28,7 +28,8 @@ pub struct Closed {
 
 impl Claims {
     ghost use Rattle.std.specs.Prelude.{◌≡◌, ◌-◌, ◌<◌, ◌≤◌, true, false, length, IfOk, IfSome, IfNone};
-    ghost use Rattle.claim_counter.specs.Records.{fresh, with_claim, at_end, with_less_spare, joined, times, AreDifferentBelow, AreAllBelow};
+    ghost use Rattle.claim_counter.specs.Records.{fresh, with_claim, at_end, with_less_spare, joined, AreDifferentBelow, AreAllBelow};
+    ghost use Rattle.model_laws.specs.Times.{times};
     ghost use Rattle.claim_counter.specs.Views.{HasAllSeats};
     ghost use Rattle.claim_counter.specs.Passes.{own, size_of, BelongsTo};
 

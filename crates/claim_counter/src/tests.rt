@@ -10,6 +10,32 @@ use std::thread::Threads;
 
 const LIMIT: u32 = 100_000;
 
+// A thread's pass, and how often it drew each number.
+#[derive(Drop)]
+struct Drawer {
+    pass: Pass,
+    times: Vec<u32>,
+}
+
+impl Drawer {
+    fn new(alloc: Global, pass: Pass) -> Result<Drawer, Memory>
+        ensures { IfOk result (λ d. d.pass ≡ pass) }
+    {
+        let mut times = Vec::new(alloc);
+        times.resize(LIMIT as usize, 0)?;
+        Ok(Drawer { pass, times })
+    }
+
+    fn draw_all(&mut self, claims: &Claims)
+        requires pass { BelongsTo claims.now self.old.pass }
+        requires before_end { (own self.old.pass).ended ≡ false }
+    {
+        while let Some(number) = claims.claim(&mut self.pass) {
+            count(self.times.as_mut_slice(), number as usize);
+        }
+    }
+}
+
 // Draws once more, where the pass has not ended.
 fn draw(claims: &Claims, pass: &mut Pass) -> Option<u32>
     requires { BelongsTo claims.now pass.old }
@@ -41,32 +67,6 @@ fn three_passes_draw_three_numbers(rt: HostRuntime) -> Result<(), Fail> {
     assert!(rt; all.ended() && all.spare() == 0);
     assert_eq!(rt; claims.close(all).drawn, 3);
     Ok(())
-}
-
-// A thread's pass, and how often it drew each number.
-#[derive(Drop)]
-struct Drawer {
-    pass: Pass,
-    times: Vec<u32>,
-}
-
-impl Drawer {
-    fn new(alloc: Global, pass: Pass) -> Result<Drawer, Memory>
-        ensures { IfOk result (λ d. d.pass ≡ pass) }
-    {
-        let mut times = Vec::new(alloc);
-        times.resize(LIMIT as usize, 0)?;
-        Ok(Drawer { pass, times })
-    }
-
-    fn draw_all(&mut self, claims: &Claims)
-        requires pass { BelongsTo claims.now self.old.pass }
-        requires before_end { (own self.old.pass).ended ≡ false }
-    {
-        while let Some(number) = claims.claim(&mut self.pass) {
-            count(self.times.as_mut_slice(), number as usize);
-        }
-    }
 }
 
 fn count(times: &mut [u32], number: usize) {

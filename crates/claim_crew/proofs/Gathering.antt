@@ -1,8 +1,7 @@
 -- The shares of workers, one after the other, go into a book.
-use Rattle.std.proofs.Common.{◌≡◌, ◌∙◌, sym, ap, subst, ℕ, ◌<◌, ◌≤◌, Bool, List, [], ◌∷◌, ◌++◌, length, length-append, map, take, get_or, All, AllPairs, append_assoc, arith}
+use Rattle.std.proofs.Common.{◌≡◌, ◌∙◌, sym, ap, subst, ℕ, ◌<◌, List, [], ◌++◌, length, map, get_or, All, AllPairs, append_assoc, arith}
 use Rattle.std.specs.Prelude.{◌≢◌, IsFalse}
-use Rattle.std.proofs.Math.Seq.{get_or-append_seam}
-use Rattle.std.proofs.lemmas.List.{map-append, get_or-take, get_or_append_left, length-take}
+use Rattle.std.proofs.lemmas.List.{map-append}
 use Rattle.std.proofs.lemmas.List.Elements.{All-map}
 use Rattle.audit_model.specs.declared.outcome.Outcome.{Outcome}
 use Rattle.audit_model.specs.Job.{Job}
@@ -14,38 +13,12 @@ use Rattle.claim_counter.specs.declared.claims.Claims.{Claims}
 use Rattle.claim_counter.specs.Records.{AreDifferentBelow}
 use Rattle.claim_counter.specs.Passes.{own, size_of}
 use Rattle.claim_crew.specs.declared.worker.Worker.{Worker}
-use Rattle.audit_model.specs.declared.rules.Rules.{Rules}
-use Rattle.walker.specs.declared.walker.Walker.{Walker}
-use Rattle.walker.specs.Seated.{IsSeated, held_of}
-use Rattle.claim_crew.specs.Crews.{IsDone, IsReady}
+use Rattle.claim_crew.specs.Workers.{IsDone}
 use Rattle.claim_crew.specs.Walks.{found_at, Lacks, IsTodo, IsWithin}
 use Rattle.claim_crew.proofs.Sharing.{found_is, share_within, share_apart, share_absent, lacks_others}
 
-pub popped_last : {A : Type 0} (P : A → Type 0) (all rest : List A) (x : A) → All P all → all ≡ rest ++ x ∷ [] → P x
-popped_last P all rest x each is =
-    subst P (ap (λ xs. get_or xs (length rest) x) is ∙ get_or-append_seam rest x [] x)
-    (each (length rest) x (omega (arith, ap length is, length-append rest (x ∷ []))))
-
-pub popped_rest : {A : Type 0} (P : A → Type 0) (all rest : List A) (x : A) → All P all → all ≡ rest ++ x ∷ [] → All P rest
-popped_rest P all rest x each is k d inside =
-    subst P (ap (λ xs. get_or xs k d) is ∙ get_or_append_left rest (x ∷ []) d k inside)
-    (each k d (omega (arith, ap length is, length-append rest (x ∷ []))))
-
 pub none_yet : {A : Type 0} (P : A → Type 0) (xs : List A) → length xs ≡ 0 → All P xs
 none_yet P xs none = λ k d inside. absurd (omega (arith, inside, none))
-
--- a worker that has walked the hub is as ready as before
-pub hub_walked : {J : Type 0} (keeps : J → Type 0) (stands : J → List ℕ → Type 0) (takes : J → ℕ → ℕ → Bool) (by : J → Rules) (job : Job) (c : Claims) (w : Worker J)
-    → IsReady keeps stands takes by job c w → (walker : Walker J) → (held_of walker).job ≡ job → IsSeated job keeps stands takes by walker
-    → IsReady keeps stands takes by job c (record w { walker = walker })
-hub_walked keeps stands takes by job c w ready walker made seated =
-    record { made = made; seated = seated; pass = ready.pass; fresh = ready.fresh; empty = ready.empty; room = ready.room }
-
--- what was lent and came back whole
-pub taken_all : {A : Type 0} (P : A → Type 0) (n : ℕ) (new rest : List A) → All P new → n ≤ length new → All P (take n (new ++ rest))
-taken_all P n new rest each enough = λ k d inside.
-    let within : k < n = omega (arith, inside, length-take n (new ++ rest)) in
-    subst P (sym (get_or-take n (new ++ rest) k d within ∙ get_or_append_left new rest d k (omega (arith, within, enough)))) (each k d (omega (arith, within, enough)))
 
 module _ {J : Type 0} (job : Job) (todo : List ℕ) (c : Claims) (w : Worker J) (done : IsDone job todo c w) (count : (size_of c).limit ≡ length todo) where
   abbrev places : List ℕ

@@ -2,34 +2,23 @@
 use Rattle.std.proofs.Common.{◌≡◌, ◌∙◌, refl, sym, ap, subst, ℕ, zero, suc, ◌+◌, ◌<◌, ◌≤◌, ◌⊎◌, inl, inr, Bool, true, false, cond, ◌||◌, List, [], ◌∷◌, ◌++◌, length, map, get_or, All, AllPairs, arith}
 use Rattle.std.specs.Prelude.{◌≢◌, ◌==◌, nat_lt, IsFalse, IsPermutation}
 use Rattle.std.specs.List.{range_with_len}
-use Rattle.std.proofs.lemmas.Bool.{cases_order, eq-eqb, ne_eqb, le-ltb}
+use Rattle.std.proofs.lemmas.Bool.{cases_order, ne_eqb}
 use Rattle.std.proofs.lemmas.List.{map-append, get_or-map, length-map}
 use Rattle.std.proofs.lemmas.List.Elements.{All-map}
 use Rattle.std.proofs.lemmas.List.Folds.{list_any-append, list_any_none}
 use Rattle.std.proofs.lemmas.List.Sorted.{IsPermutation-append_right, IsPermutation-map}
-use Rattle.std.proofs.lemmas.List.Sums.{sum_by-cons, sum_by-append}
 use Rattle.audit_model.specs.declared.outcome.Outcome.{Outcome}
 use Rattle.audit_model.specs.Job.{Job}
 use Rattle.audit_model.specs.Run.{total, has_id}
 use Rattle.audit_model.specs.Trajectory.{outcome, outcome_by}
+use Rattle.model_laws.specs.Times.{times, once_below}
+use Rattle.model_laws.proofs.Times.{one_same, times-cons, times-append}
 use Rattle.draw_definitions.specs.Draw.{draw}
 use Rattle.outcome_book.specs.Booked.{AreApart}
-use Rattle.claim_counter.specs.Records.{times, once_below, AreDifferentBelow}
+use Rattle.claim_counter.specs.Records.{AreDifferentBelow}
 use Rattle.claim_crew.specs.Walks.{found, found_at, Lacks, IsTodo, IsWithin}
 
 -- ---- lists in which no number stands twice
-
-abbrev one : ℕ → ℕ → ℕ
-one x y = cond (y == x) 1 0
-
-one_same : (x : ℕ) → one x x ≡ 1
-one_same x = ap (λ (b : Bool). cond b 1 0) (eq-eqb x x refl)
-
-times-cons : (x y : ℕ) (ys : List ℕ) → times x (y ∷ ys) ≡ one x y + times x ys
-times-cons x y ys = sum_by-cons (one x) y ys
-
-times-append : (x : ℕ) (ys zs : List ℕ) → times x (ys ++ zs) ≡ times x ys + times x zs
-times-append x ys zs = sum_by-append (one x) ys zs
 
 times_at : (xs : List ℕ) (j d : ℕ) → j < length xs → 1 ≤ times (get_or xs j d) xs
 times_at [] j d inside = absurd (omega arith)
@@ -45,9 +34,6 @@ once_differ (x ∷ xs) once zero (suc j) d before inside same =
 once_differ (x ∷ xs) once (suc i) zero d before inside same = absurd (omega arith)
 once_differ (x ∷ xs) once (suc i) (suc j) d before inside same =
     once_differ xs (λ y. omega (arith, once y, times-cons y x xs)) i j d (omega arith) (omega arith) same
-
-once_below_past : (x n : ℕ) → n ≤ x → once_below x n ≡ 0
-once_below_past x n past = ap (λ (b : Bool). cond b 1 0) (le-ltb x n past)
 
 module _ (n : ℕ) (xs : List ℕ) (different : AreDifferentBelow n xs) where
   different_once : (x : ℕ) → times x xs ≤ 1

@@ -1,56 +1,13 @@
--- What clauses say of workers.
-use Rattle.std.specs.Prelude.{◌≡◌, ℕ, ◌+◌, ◌<◌, ◌≤◌, Bool, true, false, List, [], length, map, vec_len}
-use Rattle.std.specs.List.{All}
-use Rattle.claim_counter.specs.declared.claims.Claims.{Claims}
-use Rattle.claim_counter.specs.declared.pass.Pass.{Pass}
-use Rattle.claim_counter.specs.Records.{fresh, AreDifferentBelow}
-use Rattle.claim_counter.specs.Passes.{own, size_of, BelongsTo}
+-- What clauses say of all workers of a run.
+use Rattle.std.specs.Prelude.{ℕ, Bool, List}
 use Rattle.audit_model.specs.Job.{Job}
-use Rattle.audit_model.specs.Room.{RoomyOutcomes}
 use Rattle.audit_model.specs.declared.rules.Rules.{Rules}
-use Rattle.walker.specs.declared.walker.Walker.{Walker}
-use Rattle.walker.specs.Seated.{IsSeated, held_of}
 use Rattle.claim_crew.specs.declared.crew.Crew.{Crew}
-use Rattle.claim_crew.specs.declared.worker.Worker.{Worker}
-use Rattle.claim_crew.specs.Walks.{found_at}
+use Rattle.claim_crew.specs.Parts.{IsPart, IsTeam}
 
--- ---- workers beside judges, of which it is known what they keep, for which plans they stand, which they take, and by which rules
-
-module _ {J : Type 0} (keeps : J → Type 0) (stands : J → List ℕ → Type 0) (takes : J → ℕ → ℕ → Bool) (by : J → Rules) where
-  -- it has drawn nothing, and has room for all outcomes
-  pub record IsReady (job : Job) (c : Claims) (w : Worker J) : Type 0 where
-    pub made : (held_of w.walker).job ≡ job
-    pub seated : IsSeated job keeps stands takes by w.walker
-    pub pass : BelongsTo c w.pass
-    pub fresh : own w.pass ≡ fresh 0
-    pub empty : w.share.items ≡ []
-    pub room : (size_of c).limit ≤ w.share.spare
-
-  -- between two draws: the share is what the places that were drawn give
-  pub record IsAtWork (job : Job) (todo : List ℕ) (c : Claims) (w : Walker J) (p : Pass) (share : RoomyOutcomes) : Type 0 where
-    pub made : (held_of w).job ≡ job
-    pub seated : IsSeated job keeps stands takes by w
-    pub pass : BelongsTo c p
-    pub going : (own p).ended ≡ false
-    pub weight : (own p).weight ≡ 1
-    pub spare : (own p).spare ≡ 0
-    pub shared : share.items ≡ map (found_at job todo) (own p).claims
-    pub room : (size_of c).limit ≤ length share.items + share.spare
-
-  -- so many workers, who are ready to walk so many trajectories of the job
-  pub record IsCrew (job : Job) (count workers : ℕ) (c : Crew J) : Type 0 where
-    pub limit : (size_of c.claims).limit ≡ count
-    pub seats : (size_of c.claims).seats ≡ vec_len c.workers
-    pub some : 0 < vec_len c.workers
-    pub workers_are : vec_len c.workers ≡ workers
-    pub ready : All (IsReady job c.claims) c.workers.items
-    pub hub : length c.hub ≡ job.graph.units
-
--- no place is left, and its share is what the places that it drew give
-pub record IsDone {J : Type 0} (job : Job) (todo : List ℕ) (c : Claims) (w : Worker J) : Type 0 where
-  pub pass : BelongsTo c w.pass
-  pub ended : (own w.pass).ended ≡ true
-  pub weight : (own w.pass).weight ≡ 1
-  pub spare : (own w.pass).spare ≡ 0
-  pub different : AreDifferentBelow (size_of c).limit (own w.pass).claims
-  pub shared : w.share.items ≡ map (found_at job todo) (own w.pass).claims
+-- so many workers, who are ready to walk so many trajectories of the job, beside judges, of which it is known what they keep, for which plans
+-- they stand, which they take, and by which rules
+pub record IsCrew {J : Type 0} (keeps : J → Type 0) (stands : J → List ℕ → Type 0) (takes : J → ℕ → ℕ → Bool) (by : J → Rules)
+    (job : Job) (count workers : ℕ) (c : Crew J) : Type 0 where
+  pub part : IsPart count workers c.part
+  pub team : IsTeam keeps stands takes by job workers c.team

@@ -1,3 +1,4 @@
 pub mod Crews
 pub mod Parts
 pub mod Walks
+pub mod Workers

@@ -8,7 +8,7 @@ use Rattle.claim_counter.specs.declared.claims.Claims.{Claims}
 use Rattle.claim_counter.specs.Records.{fresh}
 use Rattle.claim_counter.specs.Passes.{own, size_of, BelongsTo}
 use Rattle.walker.specs.Seated.{IsSeated, held_of}
-use Rattle.claim_crew.specs.Crews.{IsDone, IsReady}
+use Rattle.claim_crew.specs.Workers.{IsDone, IsReady}
 use Rattle.claim_crew.specs.declared.parts.Hand.{Hand}
 use Rattle.claim_crew.specs.declared.parts.Part.{Part}
 use Rattle.claim_crew.specs.declared.parts.Team.{Team}

@@ -5,8 +5,8 @@ use Rattle.audit_model.specs.declared.outcome.Outcome.{Outcome}
 use Rattle.audit_model.specs.Job.{Job}
 use Rattle.audit_model.specs.Run.{total, has_id}
 use Rattle.audit_model.specs.Trajectory.{hub, outcome}
+use Rattle.model_laws.specs.Times.{times}
 use Rattle.draw_definitions.specs.Draw.{draw}
-use Rattle.claim_counter.specs.Records.{times}
 
 -- what the trajectory with this id finds, by the draws of the job's key
 unfoldable pub found : Job → ℕ → Outcome

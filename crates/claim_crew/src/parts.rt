@@ -112,6 +112,7 @@ fn lend<J: Judge>(job: &Job, claims: &Claims, hand: Hand<J>, pass: Pass) -> Work
     requires hand { IsHand J.keeps J.stands J.takes J.rules job.now hand }
     ensures { IsLent J.keeps J.stands J.takes J.rules job.now claims.now result }
 {
+    // Called for what its contract says: so many trajectories there are, which fits 32 bits.
     let _total = job.total();
     let Hand { walker, share } = hand;
     Worker {
@@ -193,6 +194,7 @@ fn rest<J: Judge>(job: &Job, walker: Walker<J>, mut share: OutcomeList, hands: &
     ensures count { vec_len hands.new ≡ vec_len hands.old + 1 }
     ensures room { vec_capacity hands.new ≡ vec_capacity hands.old }
 {
+    // Called for what its contract says: so many trajectories there are, which fits 32 bits.
     let _total = job.total();
     share.clear();
     hands.push_reserved(Hand { walker, share });
@@ -264,11 +266,11 @@ fn take_next<J: Judge>(
     let Worker {
         walker,
         pass: other,
-        share,
+        share: outcomes,
     } = worker;
     let both = claims.join(pass, other);
-    book.merge(share.as_slice());
-    rest(job, walker, share, hands);
+    book.merge(outcomes.as_slice());
+    rest(job, walker, outcomes, hands);
     both
 }
 
@@ -299,6 +301,7 @@ fn take_all<J: Judge>(
     ensures none { vec_len workers.new ≡ 0 }
     ensures workers_room { vec_capacity workers.new ≡ vec_capacity workers.old }
 {
+    // Called for what their contracts say: bins add up to few enough for a book, and the job is within its limits.
     outcomes_have_few_visits();
     let _units = job.units();
     let Some(first) = workers.pop() else {
@@ -317,6 +320,7 @@ pub fn find_hub<J: Judge>(job: &Job, team: &mut Team<J>, seats: u32)
     ensures team { IsTeam J.keeps J.stands J.takes J.rules job.now seats team.new }
     ensures hub { team.new.hub ≡ hub_of job.now (draw job.now.setting.key) }
 {
+    // Read for the proof alone: the number fits 32 bits.
     let _seats = seats;
     let hand = &mut team.hands[0];
     hand.walker.hub_into(job, team.hub.as_mut_slice());
@@ -346,6 +350,7 @@ pub fn walk_part<R: Threads + Sync, J: Judge + Send, G: Gate + Sync>(
     ensures total { book.new.total ≡ book.old.total }
     ensures outcomes { IsPermutation book.new.outcomes (book.old.outcomes ++ map (found job.now) todo.now) }
 {
+    // Read for the proof alone: the number fits 32 bits.
     let _seats = seats;
     let Part { claims, pass } = part;
     let hands = &mut team.hands;

@@ -2,12 +2,10 @@
 
 use audit_io::gate::Gate;
 use audit_model::buffers::OutcomeList;
-use audit_model::memory::Memory;
 use audit_model::outcome::Outcome;
 use claim_counter::{Claims, Pass};
 use flip_guard::judge::Judge;
 use plan_core::job::Job;
-use std::alloc::Global;
 use walker::walker::Walker;
 
 /// A walker, a pass, and room for the outcomes of all numbers that the pass may draw.
@@ -19,40 +17,12 @@ pub struct Worker<J> {
 }
 
 impl<J: Judge> Worker<J> {
-    ghost use Rattle.std.specs.Prelude.{◌≡◌, ◌+◌, IfOk, length};
-    ghost use Rattle.audit_model.specs.Job.{rules};
-    ghost use Rattle.flip_kernel.specs.Judged.{TakesPlansOf};
-    ghost use Rattle.claim_counter.specs.Records.{fresh};
-    ghost use Rattle.claim_counter.specs.Passes.{own, size_of, BelongsTo};
-    ghost use Rattle.claim_crew.specs.Crews.{IsReady, IsDone};
+    ghost use Rattle.std.specs.Prelude.{◌≡◌, ◌+◌, length};
+    ghost use Rattle.claim_counter.specs.Passes.{size_of};
+    ghost use Rattle.claim_crew.specs.Workers.{IsReady, IsDone};
     ghost use Rattle.claim_crew.specs.Parts.{IsBack, IsLent};
     ghost use Rattle.walker.specs.Seated.{IsSeated, held_of};
     ghost use Rattle.claim_crew.specs.Walks.{IsWithin, ServesEnds};
-
-    /// A worker for the job, with room for `count` outcomes.
-    pub fn new(
-        alloc: Global,
-        job: &Job,
-        claims: &Claims,
-        pass: Pass,
-        count: u32,
-        judge: J,
-    ) -> Result<Worker<J>, Memory>
-        requires count { (size_of claims.now).limit ≡ count }
-        requires pass { BelongsTo claims.now pass × (own pass ≡ fresh 0) }
-        requires kept { J.keeps judge }
-        requires rules { J.rules judge ≡ rules job.now }
-        requires plans { TakesPlansOf job.now (J.takes judge) }
-        ensures { IfOk result (IsReady J.keeps J.stands J.takes J.rules job.now claims.now) }
-    {
-        let walker = Walker::new(alloc, job, judge)?;
-        let share = OutcomeList::with_room(alloc, count as usize)?;
-        Ok(Worker {
-            walker,
-            pass,
-            share,
-        })
-    }
 
     /// Draws places of `todo` until none is left, and walks the trajectories with the ids that stand there.
     pub fn run<G: Gate>(&mut self, job: &Job, todo: &[u32], hub: &[u32], gate: &G, claims: &Claims)
@@ -102,5 +72,6 @@ fn append(share: &mut OutcomeList, outcome: Outcome)
     ensures items { share.new.items ≡ share.old.items ++ outcome ∷ [] }
     ensures spare { share.new.spare + 1 ≡ share.old.spare }
 {
+    // There is room, so it takes no memory and cannot fail.
     let _ = share.push(outcome);
 }

@@ -6,9 +6,9 @@ use Rattle.audit_model.specs.Plan.{in_district}
 use Rattle.std.specs.Prelude.{slice_index}
 use Rattle.audit_model.specs.Local.{is_mate, stays_behind, MayLeave}
 use Rattle.audit_model.specs.Graph.{IsGraph}
+use Rattle.model_laws.proofs.Paths.{path_one, path_end}
 use Rattle.dual_graph.specs.Marked.{Marked}
 use Rattle.contig.specs.Parts.{AllOne, IsSpread, IsSeeded, IsGrowing}
-use Rattle.contig.proofs.Paths.{path_one, path_end}
 use Rattle.contig.proofs.Growing.{joined_all, mate_stays}
 use Rattle.contig.proofs.Leaving.{leaves, has_mate}
 

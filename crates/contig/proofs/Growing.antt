@@ -7,10 +7,10 @@ use Rattle.audit_model.specs.Path.{HasPath, IsConnected}
 use Rattle.audit_model.specs.Plan.{in_district}
 use Rattle.audit_model.specs.Local.{is_mate, stays_behind}
 use Rattle.audit_model.specs.Graph.{IsGraph}
+use Rattle.model_laws.proofs.Lists.{has_at, at_has}
+use Rattle.model_laws.proofs.Paths.{path_one, path_stays, path_end}
 use Rattle.dual_graph.specs.Marked.{Marked}
-use Rattle.dual_graph.proofs.Marking.{at_has, has_at}
 use Rattle.contig.specs.Parts.{part, IsJoined, AllOne, NotOne, IsSpread, IsSeeded, IsGrowing}
-use Rattle.contig.proofs.Paths.{path_one, path_stays, path_end}
 
 -- ---- the beginning
 

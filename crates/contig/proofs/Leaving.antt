@@ -7,7 +7,7 @@ use Rattle.audit_model.specs.Local.{is_mate, stays_behind, MayLeave}
 use Rattle.audit_model.specs.Path.{IsPath, HasPath, IsConnected}
 use Rattle.audit_model.specs.Plan.{in_district}
 use Rattle.audit_model.specs.Graph.{IsGraph}
-use Rattle.contig.proofs.Paths.{path_one, path_before, path_joined, first_in}
+use Rattle.model_laws.proofs.Paths.{path_one, path_before, path_joined, first_in}
 use Rattle.contig.proofs.Growing.{mate_stays}
 
 module _ (g : Graph) (plan : List ℕ) (u : ℕ) (graph : IsGraph g) where

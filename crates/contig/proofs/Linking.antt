@@ -4,10 +4,10 @@ use Rattle.std.proofs.lemmas.Bool.{cases_eq}
 use Rattle.audit_model.specs.Graph.{Graph, adjacent, IsIn}
 use Rattle.audit_model.specs.Local.{is_mate, stays_behind, IsLocal}
 use Rattle.audit_model.specs.Graph.{IsGraph}
+use Rattle.model_laws.proofs.Lists.{has_at}
+use Rattle.model_laws.proofs.Paths.{path_stays, path_within}
 use Rattle.dual_graph.specs.Marked.{Marked}
-use Rattle.dual_graph.proofs.Marking.{has_at}
 use Rattle.contig.specs.Parts.{part, IsJoined, AllOne, NotOne, IsSpread, IsSeeded, IsLinking}
-use Rattle.contig.proofs.Paths.{path_stays, path_within}
 use Rattle.contig.proofs.Growing.{joined_all, mate_stays}
 
 module _ (g : Graph) (plan : List ℕ) (u last : ℕ) (m : Marked) (s : IsSeeded g plan u last m) where

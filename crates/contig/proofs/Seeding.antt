@@ -5,20 +5,9 @@ use Rattle.std.proofs.lemmas.List.{get_or-take, length-take-le, get_or_append_le
 use Rattle.audit_model.specs.Graph.{Graph, has, IsIn}
 use Rattle.audit_model.specs.Local.{is_mate}
 use Rattle.model_laws.proofs.Connected.{has-append_left, has-append_right, has-append_parts}
+use Rattle.model_laws.proofs.Lists.{has_one, one_has, has_at, rises}
 use Rattle.dual_graph.specs.Marked.{Marked, IsMarked}
-use Rattle.dual_graph.proofs.Marking.{has_one, one_has, has_at}
 use Rattle.contig.specs.Parts.{IsSeeded, IsSeeding}
-
--- a number of a list that rises does not stand before its place
-rises : (xs : List ℕ) (i k : ℕ) → ((j : ℕ) → j + 1 < length xs → get_or xs j 0 < get_or xs (j + 1) 0) → i < k → k < length xs → get_or xs i 0 < get_or xs k 0
-rises xs i zero rising l b = absurd (omega arith)
-rises xs i (suc k) rising l b =
-    let next : get_or xs k 0 < get_or xs (k + 1) 0 = rising k (omega arith) in
-    let at : get_or xs (k + 1) 0 ≡ get_or xs (suc k) 0 = ap (λ t. get_or xs t 0) (omega arith) in
-    elim (cases_eq i k) [
-      | inl e ↦ let same : get_or xs i 0 ≡ get_or xs k 0 = ap (λ t. get_or xs t 0) e in omega (arith, next, at, same)
-      | inr off ↦ omega (arith, rises xs i k rising (omega arith) (omega arith), next, at)
-    ]
 
 pub not_before : (xs : List ℕ) (k : ℕ) → ((j : ℕ) → j + 1 < length xs → get_or xs j 0 < get_or xs (j + 1) 0) → k < length xs → has (take k xs) (get_or xs k 0) ≡ true → ⊥
 not_before xs k rising b h =

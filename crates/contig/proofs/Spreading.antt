@@ -6,10 +6,10 @@ use Rattle.std.proofs.lemmas.List.{get_or_append_left, get_or_push}
 use Rattle.audit_model.specs.Graph.{Graph, adjacent, IsIn}
 use Rattle.audit_model.specs.Path.{HasPath}
 use Rattle.model_laws.proofs.Connected.{has-append_parts}
+use Rattle.model_laws.proofs.Lists.{has_one}
+use Rattle.model_laws.proofs.Paths.{path_one, path_before, path_after, path_joined, path_end}
 use Rattle.dual_graph.specs.Marked.{Marked, IsMarked}
-use Rattle.dual_graph.proofs.Marking.{has_one}
 use Rattle.contig.specs.Parts.{part, IsJoined, IsSpread, Replaced}
-use Rattle.contig.proofs.Paths.{path_one, path_before, path_after, path_joined, path_end}
 
 -- the root of one label in the place of that of another
 abbrev moved : List ℕ → ℕ → ℕ → ℕ → ℕ

@@ -1,6 +1,6 @@
 //! May a unit leave its district?
 
-ghost use Rattle.std.specs.Prelude.{◌≡◌, ◌+◌, ◌<◌, ◌≤◌, ◌↔◌, ⊤, [], length, slice_index, IsTrue, MatchOption};
+ghost use Rattle.std.specs.Prelude.{◌≡◌, ◌+◌, ◌<◌, ◌≤◌, ◌^◌, ◌-◌, ◌↔◌, ⊤, [], length, slice_index, IsTrue, MatchOption};
 ghost use Rattle.std.specs.List.{slice_index_or};
 ghost use Rattle.audit_model.specs.Local.{IsLocal, MayLeave};
 ghost use Rattle.audit_model.specs.Path.{IsConnected};
@@ -8,7 +8,7 @@ ghost use Rattle.audit_model.specs.Plan.{in_district};
 ghost use Rattle.face_table.specs.Counts.{AreCounts, HasNoHole};
 ghost use Rattle.faces.specs.Faces.{AreLinked};
 
-use crate::flood::is_whole;
+use crate::flood::{mates_are_whole, rest_is_whole};
 use crate::parts::{MOST, are_linked, mark_mates, meet};
 use audit_model::steps::Steps;
 use dual_graph::graph::Graph;
@@ -28,7 +28,7 @@ pub fn local_holds(g: &Graph, plan: &[u32], u: u32, marks: &mut Marks) -> bool
 {
     let mates = mark_mates(g, plan, u, marks);
     if mates == 0 || mates > MOST {
-        return is_whole(g, plan, u, true, marks);
+        return mates_are_whole(g, plan, u, marks);
     }
     let mut roots: [u8; 17] = [0, 1, 2, 3, 4, 5, 6, 7, 8, 9, 10, 11, 12, 13, 14, 15, 16];
     are_linked(g, plan, u, marks, &mut roots, mates)
@@ -49,41 +49,49 @@ pub fn search_holds<L: Ledger>(
     ensures leaves { IsTrue result ↔ MayLeave g.now plan.now u }
     ensures cost { steps.new ≡ steps.old + 1 }
 {
-    steps.tick();
-    is_whole(g, plan, u, false, marks)
+    rest_is_whole(g, plan, u, marks, steps)
 }
 
 /// Whether a unit's district stays connected without it, where it is connected. It searches only where the unit's neighbours there are not connected among themselves.
+/// Code cannot read the counter, which takes no bytes: a number rises with it.
 pub fn leaves_connected<L: Ledger>(
     g: &Graph,
     plan: &[u32],
     u: u32,
     marks: &mut Marks,
     steps: &mut Steps<L>,
+    searches: &mut u64,
 ) -> bool
     requires plan { length plan.now ≡ g.now.units }
     requires unit { u < g.now.units }
     requires marks { marks.old.units ≡ g.now.units }
+    requires room { searches.old < 2 ^ 64 - 1 }
     ensures marks { marks.new.units ≡ marks.old.units }
     ensures leaves { IsConnected g.now (in_district plan.now (slice_index plan.now u)) → (IsTrue result ↔ MayLeave g.now plan.now u) }
+    ensures counted { searches.new + steps.old ≡ searches.old + steps.new }
     ensures local { IsLocal g.now plan.now u → steps.new ≡ steps.old }
     ensures rising { steps.old ≤ steps.new }
     ensures most { steps.new ≤ steps.old + 1 }
 {
+    // Called for what its contract says: the graph is sound, and has at most 100,000 units.
     let _units = g.units();
     let mates = mark_mates(g, plan, u, marks);
     if mates == 1 {
         return true;
     }
     if mates == 0 || mates > MOST {
-        return is_whole(g, plan, u, true, marks) || search_holds(g, plan, u, marks, steps);
+        if mates_are_whole(g, plan, u, marks) {
+            return true;
+        }
+        *searches += 1;
+        return search_holds(g, plan, u, marks, steps);
     }
     let mut roots: [u8; 17] = [0, 1, 2, 3, 4, 5, 6, 7, 8, 9, 10, 11, 12, 13, 14, 15, 16];
     if are_linked(g, plan, u, marks, &mut roots, mates) {
         return true;
     }
-    steps.tick();
-    meet(g, plan, u, marks, &mut roots, mates)
+    *searches += 1;
+    meet(g, plan, u, marks, &mut roots, mates, steps)
 }
 
 /// Whether a unit's district, which is connected, stays so without it, where counting tells: it does where the unit's
@@ -143,6 +151,6 @@ pub fn may_leave<L: Ledger>(
 {
     match counting_tells(g, plan, u, table, counts) {
         Some(may) => may,
-        None => leaves_connected(g, plan, u, marks, steps),
+        None => leaves_connected(g, plan, u, marks, steps, &mut 0),
     }
 }

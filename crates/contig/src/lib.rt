@@ -1,6 +1,6 @@
 //! May a unit leave its district without disconnecting it?
 #![tactic(auto)]
 
-pub mod flood;
+mod flood;
 pub mod leave;
-pub mod parts;
+mod parts;

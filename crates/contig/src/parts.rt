@@ -10,11 +10,110 @@ ghost use Rattle.contig.specs.Parts.{IsJoined, AllOne, NotOne, Replaced, IsSprea
 ghost use Rattle.audit_model.specs.Graph.{IsGraph};
 ghost use Rattle.dual_graph.specs.Marked.{IsMarked};
 
+use audit_model::steps::Steps;
 use dual_graph::graph::Graph;
 use dual_graph::marks::Marks;
+use std::sync::ledger::Ledger;
 
 /// The greatest label. The labels begin with 1.
 pub const MOST: usize = 16;
+
+/// Whether a unit may leave its district, where that is connected, its mates have the labels 1 to `last`, and labels of one root are joined.
+/// It searches the district, which is counted.
+#[inline(never)]
+pub fn meet<L: Ledger>(
+    g: &Graph,
+    plan: &[u32],
+    u: u32,
+    marks: &mut Marks,
+    roots: &mut [u8],
+    last: usize,
+    steps: &mut Steps<L>,
+) -> bool
+    requires plan { length plan.now ≡ g.now.units }
+    requires unit { u < g.now.units }
+    requires last { (0 < last) × (last ≤ 16) }
+    requires seeded { IsSeeded g.now plan.now u last marks.old }
+    requires roots { length roots.old ≡ 17 }
+    requires joined { IsJoined g.now (stays_behind plan.now u) marks.old.labels roots.old }
+    requires parted { NotOne roots.old last }
+    ensures units { marks.new.units ≡ g.now.units }
+    ensures leaves { IsConnected g.now (in_district plan.now (slice_index plan.now u)) → (IsTrue result ↔ MayLeave g.now plan.now u) }
+    ensures cost { steps.new ≡ steps.old + 1 }
+{
+    steps.tick();
+    // Called for what its contract says: the graph is sound, and has at most 100,000 units.
+    let _units = g.units();
+    let mut ends: [usize; 17] = [0, 1, 2, 3, 4, 5, 6, 7, 8, 9, 10, 11, 12, 13, 14, 15, 16];
+    let mut at = 0;
+    while at < marks.count() {
+        let unit = marks.at(at);
+        let label = marks.label(unit);
+        let before = marks.count();
+        at += 1;
+        if spread(g, plan, u, marks, roots, unit, label) && all_one(roots, last) {
+            return true;
+        }
+        if marks.count() > before {
+            ends[label as usize] = marks.count();
+        } else if ends[label as usize] <= at && !goes_on(roots, &ends, last, label, at) {
+            return false;
+        }
+    }
+    false
+}
+
+/// Whether the mates of a unit, which have the labels 1 to `last`, are connected among themselves; labels of mates that are joined get one root.
+pub fn are_linked(
+    g: &Graph,
+    plan: &[u32],
+    u: u32,
+    marks: &Marks,
+    roots: &mut [u8],
+    last: usize,
+) -> bool
+    requires unit { u < g.now.units }
+    requires last { (0 < last) × (last ≤ 16) }
+    requires seeded { IsSeeded g.now plan.now u last marks.now }
+    requires roots { length roots.old ≡ 17 }
+    requires joined { IsJoined g.now (is_mate g.now plan.now u) marks.now.labels roots.old }
+    ensures local { IsTrue result ↔ IsLocal g.now plan.now u }
+    ensures joined { IsJoined g.now (stays_behind plan.now u) marks.now.labels roots.new }
+    ensures parted { IsFalse result → NotOne roots.new last }
+{
+    // Called for what its contract says: the graph is sound, and has at most 100,000 units.
+    let _units = g.units();
+    for place in 0..marks.count() {
+        link(g, plan, u, marks, roots, last, marks.at(place));
+    }
+    all_one(roots, last)
+}
+
+/// Marks the mates of a unit, each with a label of its own, and tells how many there are; where there are more than sixteen it answers seventeen.
+pub fn mark_mates(g: &Graph, plan: &[u32], u: u32, marks: &mut Marks) -> usize
+    requires plan { length plan.now ≡ g.now.units }
+    requires unit { u < g.now.units }
+    requires units { marks.old.units ≡ g.now.units }
+    ensures units { marks.new.units ≡ g.now.units }
+    ensures seeded { result ≤ 16 → IsSeeded g.now plan.now u result marks.new }
+{
+    // Called for what its contract says: the graph is sound, and has at most 100,000 units.
+    let _units = g.units();
+    let district = plan[u as usize];
+    let mut count = 0usize;
+    marks.clear();
+    for other in g.neighbours(u) {
+        let v = *other;
+        if plan[v as usize] == district {
+            if count == MOST {
+                return MOST + 1;
+            }
+            count += 1;
+            marks.mark_as(v, count as u8);
+        }
+    }
+    count
+}
 
 /// Gives the labels of one root that of another label.
 fn join(roots: &mut [u8], from: u8, into: u8)
@@ -98,46 +197,6 @@ fn goes_on(roots: &[u8], ends: &[usize], last: usize, label: u8, at: usize) -> b
     false
 }
 
-/// Whether a unit may leave its district, where that is connected, its mates have the labels 1 to `last`, and labels of one root are joined.
-#[inline(never)]
-pub fn meet(
-    g: &Graph,
-    plan: &[u32],
-    u: u32,
-    marks: &mut Marks,
-    roots: &mut [u8],
-    last: usize,
-) -> bool
-    requires plan { length plan.now ≡ g.now.units }
-    requires unit { u < g.now.units }
-    requires last { (0 < last) × (last ≤ 16) }
-    requires seeded { IsSeeded g.now plan.now u last marks.old }
-    requires roots { length roots.old ≡ 17 }
-    requires joined { IsJoined g.now (stays_behind plan.now u) marks.old.labels roots.old }
-    requires parted { NotOne roots.old last }
-    ensures units { marks.new.units ≡ g.now.units }
-    ensures leaves { IsConnected g.now (in_district plan.now (slice_index plan.now u)) → (IsTrue result ↔ MayLeave g.now plan.now u) }
-{
-    let _units = g.units();
-    let mut ends: [usize; 17] = [0, 1, 2, 3, 4, 5, 6, 7, 8, 9, 10, 11, 12, 13, 14, 15, 16];
-    let mut at = 0;
-    while at < marks.count() {
-        let unit = marks.at(at);
-        let label = marks.label(unit);
-        let before = marks.count();
-        at += 1;
-        if spread(g, plan, u, marks, roots, unit, label) && all_one(roots, last) {
-            return true;
-        }
-        if marks.count() > before {
-            ends[label as usize] = marks.count();
-        } else if ends[label as usize] <= at && !goes_on(roots, &ends, last, label, at) {
-            return false;
-        }
-    }
-    false
-}
-
 /// Joins a mate's part with those of the mates beside it.
 #[inline]
 fn link(g: &Graph, plan: &[u32], u: u32, marks: &Marks, roots: &mut [u8], last: usize, unit: u32)
@@ -156,54 +215,4 @@ fn link(g: &Graph, plan: &[u32], u: u32, marks: &Marks, roots: &mut [u8], last: 
             join(roots, there, label);
         }
     }
-}
-
-/// Whether the mates of a unit, which have the labels 1 to `last`, are connected among themselves; labels of mates that are joined get one root.
-pub fn are_linked(
-    g: &Graph,
-    plan: &[u32],
-    u: u32,
-    marks: &Marks,
-    roots: &mut [u8],
-    last: usize,
-) -> bool
-    requires unit { u < g.now.units }
-    requires last { (0 < last) × (last ≤ 16) }
-    requires seeded { IsSeeded g.now plan.now u last marks.now }
-    requires roots { length roots.old ≡ 17 }
-    requires joined { IsJoined g.now (is_mate g.now plan.now u) marks.now.labels roots.old }
-    ensures local { IsTrue result ↔ IsLocal g.now plan.now u }
-    ensures joined { IsJoined g.now (stays_behind plan.now u) marks.now.labels roots.new }
-    ensures parted { IsFalse result → NotOne roots.new last }
-{
-    let _units = g.units();
-    for place in 0..marks.count() {
-        link(g, plan, u, marks, roots, last, marks.at(place));
-    }
-    all_one(roots, last)
-}
-
-/// Marks the mates of a unit, each with a label of its own, and tells how many there are; where there are more than sixteen it answers seventeen.
-pub fn mark_mates(g: &Graph, plan: &[u32], u: u32, marks: &mut Marks) -> usize
-    requires plan { length plan.now ≡ g.now.units }
-    requires unit { u < g.now.units }
-    requires units { marks.old.units ≡ g.now.units }
-    ensures units { marks.new.units ≡ g.now.units }
-    ensures seeded { result ≤ 16 → IsSeeded g.now plan.now u result marks.new }
-{
-    let _units = g.units();
-    let district = plan[u as usize];
-    let mut count = 0usize;
-    marks.clear();
-    for other in g.neighbours(u) {
-        let v = *other;
-        if plan[v as usize] == district {
-            if count == MOST {
-                return MOST + 1;
-            }
-            count += 1;
-            marks.mark_as(v, count as u8);
-        }
-    }
-    count
 }

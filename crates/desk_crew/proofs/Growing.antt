@@ -1,17 +1,15 @@
 -- Each later save of a run holds more, and how many of its saves failed.
-use Rattle.std.proofs.Common.{◌≡◌, ℕ, zero, suc, ◌+◌, ◌-◌, ◌*◌, ◌<◌, ◌≤◌, ◌&&◌, not, Bool, true, false, cond, List, [], ◌∷◌, ◌++◌, length, length-append, map, count_by, refl, sym, ap, ◌∙◌, subst, append_assoc, All, AllPairs, get_or, arith}
+use Rattle.std.proofs.Common.{◌≡◌, ℕ, zero, suc, ◌+◌, ◌-◌, ◌*◌, ◌<◌, ◌≤◌, ◌&&◌, not, Bool, true, false, cond, List, [], ◌∷◌, ◌++◌, length, length-append, map, refl, sym, ap, ◌∙◌, subst, append_assoc, All, AllPairs, arith}
 use Rattle.std.proofs.lemmas.Bool.{true≢false}
-use Rattle.std.proofs.lemmas.List.{append-nil}
 use Rattle.std.proofs.lemmas.List.Elements.{All-append, All-cons, All-head, All-nil}
 use Rattle.std.proofs.lemmas.List.Sums.{sum_by-append, sum_by-cons}
 use Rattle.audit_io.specs.Tries.{Try}
 use Rattle.audit_model.specs.Run.{total}
+use Rattle.model_laws.specs.Times.{times}
 use Rattle.checkpoint_definitions.specs.Checkpoint.{IsCheckpoint, checkpoint, job_digest}
 use Rattle.ckpt_format.proofs.Sizes.{length-checkpoint}
-use Rattle.claim_counter.specs.Records.{times}
 use Rattle.outcome_book.specs.Booked.{by_id}
 use Rattle.tally_desk.specs.declared.entry.Entry.{Entry}
-use Rattle.tally_desk.specs.Desks.{AreDue}
 use Rattle.tally_desk.specs.Entries.{ends_saved, ids_of, is_due, missed, saves}
 use Rattle.tally_desk.specs.Homes.{IsSound, Made, booked, made, made_after, made_with, moved, tries, try_made}
 use Rattle.tally_desk.specs.Parts.{IsPlan, Parts}

@@ -6,8 +6,9 @@ use Rattle.std.proofs.lemmas.List.Sorted.{All-permutation, Contains-permutation,
 use Rattle.audit_model.specs.declared.outcome.Outcome.{Outcome}
 use Rattle.audit_model.specs.Job.{Job}
 use Rattle.audit_model.specs.Run.{fits, has_id, total}
+use Rattle.model_laws.specs.Times.{times}
+use Rattle.model_laws.proofs.Times.{one, one_same, times-append, times-cons}
 use Rattle.checkpoint_definitions.specs.Checkpoint.{IsCheckpoint, job_digest}
-use Rattle.claim_counter.specs.Records.{times}
 use Rattle.outcome_book.specs.Booked.{AreApart, by_id}
 use Rattle.outcome_book.proofs.ById.{by_id-permutation}
 use Rattle.outcome_book.proofs.Indexed.{apart_more}
@@ -16,7 +17,6 @@ use Rattle.tally_desk.specs.Entries.{id_of, ids_of}
 use Rattle.tally_desk.specs.Homes.{booked}
 use Rattle.tally_desk.specs.Parts.{IsPlan, Parts, found}
 use Rattle.tally_desk.proofs.Booking.{absent_of_book, booked-push, booked_fit, by_id_fit}
-use Rattle.tally_desk.proofs.Counting.{one, one_same, times-append, times-cons}
 use Rattle.tally_desk.proofs.Found.{found_id}
 use Rattle.tally_desk.proofs.Righting.{saved_outcomes_are_right}
 use Rattle.tally_desk.proofs.Todo.{todo_once, todo_within}

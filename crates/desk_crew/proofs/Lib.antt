@@ -1,6 +1,5 @@
 pub mod Crossing
 pub mod Found
-pub mod Gathering
 pub mod Growing
 pub mod Holding
 pub mod LastSave

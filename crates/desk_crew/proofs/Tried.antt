@@ -8,9 +8,9 @@ use Rattle.std.proofs.lemmas.List.Sums.{sum_by-append}
 use Rattle.std.proofs.lemmas.List.Elements.{All-append, All-cons, All-head, All-nil, All-tail}
 use Rattle.audit_io.specs.Tries.{Try}
 use Rattle.audit_model.specs.Run.{fits, total}
+use Rattle.model_laws.specs.Times.{times}
 use Rattle.checkpoint_definitions.specs.Checkpoint.{IsCheckpoint, checkpoint, job_digest}
 use Rattle.ckpt_store.specs.Histories.{AreInTurn, IsSaveAt}
-use Rattle.claim_counter.specs.Records.{times}
 use Rattle.outcome_book.specs.Booked.{by_id}
 use Rattle.tally_desk.specs.declared.entry.Entry.{Entry}
 use Rattle.tally_desk.specs.Desks.{AreDue}

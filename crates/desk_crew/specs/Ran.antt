@@ -8,10 +8,10 @@ use Rattle.audit_io.specs.Tries.{Try, tried_all}
 use Rattle.audit_model.specs.declared.outcome.Outcome.{Outcome}
 use Rattle.audit_model.specs.Job.{Job}
 use Rattle.audit_model.specs.Run.{total}
+use Rattle.model_laws.specs.Times.{times}
 use Rattle.checkpoint_definitions.specs.Checkpoint.{IsCheckpoint, checkpoint, job_digest}
 use Rattle.ckpt_store.specs.declared.slots.Place.{Place}
 use Rattle.ckpt_store.specs.Histories.{AreInTurn}
-use Rattle.claim_counter.specs.Records.{times}
 use Rattle.outcome_book.specs.Booked.{IsBook, by_id}
 use Rattle.tally_desk.specs.declared.entry.Entry.{Entry}
 use Rattle.tally_desk.specs.Entries.{ids_of}

@@ -27,19 +27,6 @@ pub struct Crew<J> {
     pub(crate) hub: UnitList,
 }
 
-// A walker for each judge.
-fn hire<J: Judge>(alloc: Global, job: &Job, mut judges: Vec<J>) -> Result<Vec<Walker<J>>, Memory>
-    requires judges { AreJudges job.now J.keeps J.takes J.rules judges.items }
-    ensures walkers { IfOk result (λ w. AreWalkers job.now J.keeps J.stands J.takes J.rules w.items) }
-    ensures count { IfOk result (λ w. vec_len w ≡ vec_len judges) }
-{
-    let mut walkers = Vec::with_capacity(alloc, judges.len())?;
-    while let Some(judge) = judges.pop() {
-        walkers.push_reserved(Walker::new(alloc, job, judge)?);
-    }
-    Ok(walkers)
-}
-
 /// A worker for each judge, who judges by the rules of the job. The only error is want of memory, and walking takes no more of it.
 pub fn recruit<J: Judge>(alloc: Global, job: &Job, judges: Vec<J>) -> Result<Crew<J>, Memory>
     requires judges { AreJudges job.now J.keeps J.takes J.rules judges.items }
@@ -72,6 +59,7 @@ pub(crate) fn seat<C: Keeper, J: Judge>(
     ensures ready { All (IsReady desk.now.table.shared.table_id (parts_of C.load_faults C.save_faults C.slots C.tried desk.now.table.shared.key) J.keeps J.stands J.takes J.rules) result.items }
     ensures count { vec_len result ≡ vec_len walkers }
 {
+    // A law, called for what its contract says: a pass that posts what it claims has posted all that it claimed.
     posts_stay_whole();
     let Some(last) = walkers.pop() else {
         unreachable!()
@@ -82,4 +70,17 @@ pub(crate) fn seat<C: Keeper, J: Judge>(
     }
     workers.push_reserved(DeskWorker { walker: last, pass });
     workers
+}
+
+// A walker for each judge.
+fn hire<J: Judge>(alloc: Global, job: &Job, mut judges: Vec<J>) -> Result<Vec<Walker<J>>, Memory>
+    requires judges { AreJudges job.now J.keeps J.takes J.rules judges.items }
+    ensures walkers { IfOk result (λ w. AreWalkers job.now J.keeps J.stands J.takes J.rules w.items) }
+    ensures count { IfOk result (λ w. vec_len w ≡ vec_len judges) }
+{
+    let mut walkers = Vec::with_capacity(alloc, judges.len())?;
+    while let Some(judge) = judges.pop() {
+        walkers.push_reserved(Walker::new(alloc, job, judge)?);
+    }
+    Ok(walkers)
 }

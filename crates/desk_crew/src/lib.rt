@@ -2,9 +2,9 @@
 #![tactic(auto)]
 
 pub mod crew;
-pub mod hub;
+mod hub;
 pub mod laws;
 pub mod ran;
-pub mod saving;
-pub mod walking;
-pub mod worker;
+mod saving;
+mod walking;
+mod worker;

@@ -42,6 +42,51 @@ pub struct Ran<C> {
     pub saved: Result<(), Failed>,
 }
 
+/// Walks the trajectories with these ids, and saves a checkpoint of all outcomes each time that as many were found as the plan says, and at the
+/// end. A save that fails stops nothing; the next one is tried as it would have been. Each worker is a thread, where one can be started, and
+/// each id goes to whichever of them asks next; before it walks an id it tells the gate. `sorted` becomes all outcomes by rising id.
+///
+/// # Errors
+///
+/// There was no memory for the desk: nothing was walked or saved.
+pub fn run_over<R: Threads + Wait + Sync, C: Keeper + Send, J: Judge + Send, G: Gate + Sync>(
+    rt: &R,
+    alloc: Global,
+    job: &Job,
+    plan: DeskPlan,
+    todo: UnitList,
+    crew: Crew<J>,
+    book: Book,
+    keeper: C,
+    gate: &G,
+    sorted: &mut OutcomeList,
+    room: &mut Bytes,
+) -> Result<Ran<C>, Refused<C>>
+    requires digest { plan.digest ≡ job_digest job.now }
+    requires every { 1 ≤ plan.save_every }
+    requires slot { plan.place.slot < 2 }
+    requires generation { plan.place.generation < 3 }
+    requires place { IsPlaceFor job.now (C.slots keeper) plan.place }
+    requires total { book.total ≡ total job.now }
+    requires fit { All (λ o. IsTrue (fits job.now o)) book.outcomes }
+    requires todo { IsTodoFor job.now book.outcomes todo }
+    requires within { IsWithin job.now todo }
+    requires crew { IsCrew job.now J.keeps J.stands J.takes J.rules (vec_len crew.walkers) crew }
+    requires workers { (1 ≤ vec_len crew.walkers) × (vec_len crew.walkers ≤ 32) }
+    requires sorted_room { book.total ≤ length sorted.old.items + sorted.old.spare }
+    requires save_room { 84 + 80 * book.total ≤ length room.old.items + room.old.spare }
+    ensures ran { IfOk result (λ r. HasRun
+        (starts C.load_faults C.save_faults C.slots C.tried job.now book.outcomes todo plan.save_every (vec_len crew.walkers) plan.place keeper)
+        (C.load_faults r.keeper) (C.save_faults r.keeper) (C.slots r.keeper) (C.tried r.keeper) sorted.new.items r.saved) }
+    ensures refused { IfErr result (λ r. (r.book ≡ book) × (r.keeper ≡ keeper)) }
+{
+    let digest = plan.digest;
+    match walk_over(rt, alloc, job, plan, todo, crew, book, keeper, gate) {
+        Ok(kept) => Ok(finish(kept, &digest, sorted, room)),
+        Err(refused) => Err(refused),
+    }
+}
+
 // No save failed where none did at the desk, nor the last one.
 fn both(failed: u32, rest: Result<(), Failed>) -> Result<(), Failed>
     ensures { BothSaved failed rest result }
@@ -140,6 +185,7 @@ fn finish<C: Keeper>(
     ensures { (parts : Parts) (v : PassView) → IsClosedWith C.load_faults C.save_faults C.slots C.tried parts v kept digest.now
         → HasRun parts (C.load_faults result.keeper) (C.save_faults result.keeper) (C.slots result.keeper) (C.tried result.keeper) sorted.new.items result.saved }
 {
+    // A law, called for what its contract says: where no save failed, the last one is whole and in turn.
     unfailed_runs_save_in_turn();
     let rest = save_rest(&mut kept, digest, sorted, room);
     let saved = both(kept.failed_saves, rest);
@@ -151,49 +197,4 @@ fn finish<C: Keeper>(
         last_saved: _,
     } = kept;
     Ran { keeper, saved }
-}
-
-/// Walks the trajectories with these ids, and saves a checkpoint of all outcomes each time that as many were found as the plan says, and at the
-/// end. A save that fails stops nothing; the next one is tried as it would have been. Each worker is a thread, where one can be started, and
-/// each id goes to whichever of them asks next; before it walks an id it tells the gate. `sorted` becomes all outcomes by rising id.
-///
-/// # Errors
-///
-/// There was no memory for the desk: nothing was walked or saved.
-pub fn run_over<R: Threads + Wait + Sync, C: Keeper + Send, J: Judge + Send, G: Gate + Sync>(
-    rt: &R,
-    alloc: Global,
-    job: &Job,
-    plan: DeskPlan,
-    todo: UnitList,
-    crew: Crew<J>,
-    book: Book,
-    keeper: C,
-    gate: &G,
-    sorted: &mut OutcomeList,
-    room: &mut Bytes,
-) -> Result<Ran<C>, Refused<C>>
-    requires digest { plan.digest ≡ job_digest job.now }
-    requires every { 1 ≤ plan.save_every }
-    requires slot { plan.place.slot < 2 }
-    requires generation { plan.place.generation < 3 }
-    requires place { IsPlaceFor job.now (C.slots keeper) plan.place }
-    requires total { book.total ≡ total job.now }
-    requires fit { All (λ o. IsTrue (fits job.now o)) book.outcomes }
-    requires todo { IsTodoFor job.now book.outcomes todo }
-    requires within { IsWithin job.now todo }
-    requires crew { IsCrew job.now J.keeps J.stands J.takes J.rules (vec_len crew.walkers) crew }
-    requires workers { (1 ≤ vec_len crew.walkers) × (vec_len crew.walkers ≤ 32) }
-    requires sorted_room { book.total ≤ length sorted.old.items + sorted.old.spare }
-    requires save_room { 84 + 80 * book.total ≤ length room.old.items + room.old.spare }
-    ensures ran { IfOk result (λ r. HasRun
-        (starts C.load_faults C.save_faults C.slots C.tried job.now book.outcomes todo plan.save_every (vec_len crew.walkers) plan.place keeper)
-        (C.load_faults r.keeper) (C.save_faults r.keeper) (C.slots r.keeper) (C.tried r.keeper) sorted.new.items r.saved) }
-    ensures refused { IfErr result (λ r. (r.book ≡ book) × (r.keeper ≡ keeper)) }
-{
-    let digest = plan.digest;
-    match walk_over(rt, alloc, job, plan, todo, crew, book, keeper, gate) {
-        Ok(kept) => Ok(finish(kept, &digest, sorted, room)),
-        Err(refused) => Err(refused),
-    }
 }

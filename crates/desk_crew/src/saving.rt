@@ -33,7 +33,9 @@ pub fn save_rest<C: Keeper>(
     ensures rising { AllPairs (λ a b. a.id < b.id) sorted.new.items }
     ensures rest { SavesLast C.load_faults C.save_faults C.slots C.tried kept.old kept.new digest.now sorted.new.items result }
 {
+    // A law, called for what its contract says: outcomes by rising id are as a checkpoint asks for them.
     rising_pairs_rise();
+    // Called for what its contract says: the book holds no more than it has room for.
     let _count = kept.book.len();
     kept.book.sorted_into(sorted);
     if kept.last_saved {

@@ -57,6 +57,7 @@ pub fn gather<C: Keeper, J: Judge>(desk: &Desk<C>, mut workers: Vec<DeskWorker<J
     ensures seats { (view_of result).own.weight + (view_of result).own.spare ≡ vec_len workers }
     ensures whole { HasPostedAll (parts_of C.load_faults C.save_faults C.slots C.tried desk.now.table.shared.key) (view_of result) }
 {
+    // A law, called for what its contract says: a pass that posts what it claims has posted all that it claimed.
     posts_stay_whole();
     let Some(first) = workers.pop() else {
         unreachable!()

@@ -38,6 +38,7 @@ impl<J: Judge> DeskWorker<J> {
         requires hub { ServesEnds job.now desk.now.table.shared.key.todo.value hub.now }
         ensures { IsDone desk.now.table.shared.table_id (parts_of C.load_faults C.save_faults C.slots C.tried desk.now.table.shared.key) self.new }
     {
+        // A law, called for what its contract says: a pass that posts what it claims has posted all that it claimed.
         posts_stay_whole();
         let walker = &mut self.walker;
         let pass = &mut self.pass;

@@ -1,14 +1,14 @@
 //! A small book.
 
+use audit_model::memory::Memory;
 use audit_model::outcome::Outcome;
 use outcome_book::book::Book;
+use std::alloc::Global;
 use std::io;
 
-/// Shows how many outcomes the book has after two posts and a merge, and the sum of their bins.
-pub fn show_book<R: Print + AllocGlobal>(rt: &R) -> io::Result<()> {
-    let Ok(mut book) = Book::with_room(rt.alloc(), 3) else {
-        return println!(rt; "memory");
-    };
+// A book after two posts and a merge.
+fn book(alloc: Global) -> Result<Book, Memory> {
+    let mut book = Book::with_room(alloc, 3)?;
     book.post(Outcome {
         id: 2,
         moved: 7,
@@ -27,9 +27,21 @@ pub fn show_book<R: Print + AllocGlobal>(rt: &R) -> io::Result<()> {
         values: [0; 4],
         bins: [1, 0, 0, 0, 4, 0, 0, 0, 4],
     }]);
+    Ok(book)
+}
+
+fn show_tally<R: Print>(rt: &R, book: &Book) -> io::Result<()> {
     print!(rt; "book {} tally", book.len())?;
     for sum in book.tally() {
         print!(rt; " {sum}")?;
     }
     println!(rt; "")
+}
+
+/// Shows how many outcomes the book has, and the sum of their bins.
+pub fn show_book<R: Print + AllocGlobal>(rt: &R) -> io::Result<()> {
+    match book(rt.alloc()) {
+        Ok(book) => show_tally(rt, &book),
+        Err(_) => println!(rt; "memory"),
+    }
 }

@@ -26,25 +26,37 @@ fn checkpoint(alloc: Global) -> Result<Bytes, Memory> {
 
 /// Shows the digest of the checkpoint's bytes, and what is read of them.
 pub fn show_checkpoint<R: Print + AllocGlobal>(rt: &R) -> io::Result<()> {
-    let Ok(out) = checkpoint(rt.alloc()) else {
-        return println!(rt; "memory");
-    };
-    let digest = hex::encode(rt.alloc(), Sha256::digest(out.as_slice()))?;
-    println!(rt; "checkpoint {} bytes sha256 {digest}", out.len())?;
-    match decode(rt.alloc(), out.as_slice()) {
+    match checkpoint(rt.alloc()) {
+        Ok(out) => show_bytes(rt, out.as_slice()),
+        Err(_) => println!(rt; "memory"),
+    }
+}
+
+fn show_bytes<R: Print + AllocGlobal>(rt: &R, bytes: &[u8]) -> io::Result<()> {
+    show_digest(rt, bytes)?;
+    match decode(rt.alloc(), bytes) {
         Ok(read) => show_read(rt, &read),
         Err(_) => println!(rt; "no checkpoint"),
     }
 }
 
+fn show_digest<R: Print + AllocGlobal>(rt: &R, bytes: &[u8]) -> io::Result<()> {
+    let digest = hex::encode(rt.alloc(), Sha256::digest(bytes))?;
+    println!(rt; "checkpoint {} bytes sha256 {digest}", bytes.len())
+}
+
 fn show_read<R: Print>(rt: &R, read: &Checkpoint) -> io::Result<()> {
     println!(rt; "version {} generation {}", read.version, read.generation)?;
     for outcome in read.outcomes.as_slice() {
-        let [one, two, three, four] = outcome.values;
-        println!(rt;
-            "id {} moved {} values {one} {two} {three} {four}",
-            outcome.id, outcome.moved
-        )?;
+        show_outcome(rt, outcome)?;
     }
     Ok(())
+}
+
+fn show_outcome<R: Print>(rt: &R, outcome: &Outcome) -> io::Result<()> {
+    let [one, two, three, four] = outcome.values;
+    println!(rt;
+        "id {} moved {} values {one} {two} {three} {four}",
+        outcome.id, outcome.moved
+    )
 }

@@ -1,17 +1,23 @@
-//! Proposals near the last draw, and the draw that leads back.
+//! Proposals near the last draw, the draw that leads back, and walks whose searches are counted.
 
 ghost use Rattle.std.specs.Prelude.{◌≡◌, ◌<◌, ◌≤◌};
+ghost use Rattle.audit_model.specs.Job.{rules};
+ghost use Rattle.flip_kernel.specs.Judged.{IsSeated, TakesPlansOf, held_of};
 
+use crate::searches::show_walk;
 use audit_model::lists::UnitList;
 use audit_model::outcome::SumsView;
 use audit_model::rules::Rules;
 use flip_guard::guard::Guard;
+use flip_guard::judge::Judge;
 use flip_kernel::flip::mirror;
 use flip_kernel::proposal::propose;
 use flip_kernel::state::State;
 use plan_core::job::Job;
 use std::alloc::Global;
 use std::io;
+use std::marker::Brand;
+use std::sync::ledger::Blank;
 
 // Shows what a draw proposes, of three units and three districts.
 fn show_proposal<R: Print>(rt: &R, draw: u64) -> io::Result<()> {
@@ -21,31 +27,49 @@ fn show_proposal<R: Print>(rt: &R, draw: u64) -> io::Result<()> {
     }
 }
 
-// The draw that leads back from the plan after this one, where the job has no regions.
-fn mirrored(alloc: Global, job: &Job, draw: u64) -> Option<u64> {
+/// Shows proposals of the last draws.
+pub fn show_proposals<R: Print>(rt: &R) -> io::Result<()> {
+    for draw in [u64::MAX, u64::MAX - 6, u64::MAX - 7] {
+        show_proposal(rt, draw)?;
+    }
+    Ok(())
+}
+
+// Shows the mirrored draw of one that moves a unit of the path, and a walk.
+fn show_state<R: Print, J: Judge>(rt: &R, job: &Job, state: &mut State<J>) -> io::Result<()>
+    requires made { (held_of state.old).job ≡ job.now }
+    requires seated { IsSeated job.now J.keeps J.stands J.takes J.rules state.old }
+{
+    let mirrored = mirror(job, state, 0x8665eeb269b687c3);
+    println!(rt; "mirrored {mirrored}")?;
+    show_walk::<R, J, Brand>(rt, job, state, Blank::new(1))
+}
+
+fn show_judged<R: Print + AllocGlobal, J: Judge>(rt: &R, job: &Job, judge: J) -> io::Result<()>
+    requires kept { J.keeps judge }
+    requires rules { J.rules judge ≡ rules job.now }
+    requires plans { TakesPlansOf job.now (J.takes judge) }
+{
+    match State::new(rt.alloc(), job, judge) {
+        Ok(mut state) => show_state(rt, job, &mut state),
+        Err(_) => println!(rt; "memory"),
+    }
+}
+
+/// Shows flips of a job without regions.
+pub fn show_flips<R: Print + AllocGlobal>(rt: &R, job: &Job) -> io::Result<()> {
     if job.rules().regions.len() > 0 {
-        return None;
+        return println!(rt; "regions");
     }
     let max_cut = job.rules().max_cut;
     let rules = Rules {
         max_cut,
-        regions: UnitList::new(alloc),
+        regions: UnitList::new(rt.alloc()),
         max_split: job.rules().max_split,
     };
-    let guard = Guard::new(move |sums: &SumsView| sums.cut <= max_cut, rules);
-    match State::new(alloc, job, guard) {
-        Ok(mut state) => Some(mirror(job, &mut state, draw)),
-        Err(_) => None,
-    }
-}
-
-/// Shows proposals of the last draws, and the mirrored draw of one that moves a unit of the job.
-pub fn show_flips<R: Print + AllocGlobal>(rt: &R, job: &Job) -> io::Result<()> {
-    for draw in [u64::MAX, u64::MAX - 6, u64::MAX - 7] {
-        show_proposal(rt, draw)?;
-    }
-    match mirrored(rt.alloc(), job, 0x8665eeb269b687c3) {
-        Some(draw) => println!(rt; "mirrored {draw}"),
-        None => println!(rt; "memory"),
-    }
+    show_judged(
+        rt,
+        job,
+        Guard::new(move |sums: &SumsView| sums.cut <= max_cut, rules),
+    )
 }

@@ -19,12 +19,7 @@ fn show_answer<R: Print>(rt: &R, did: Did) -> io::Result<()> {
 }
 
 // Shows what each event did, and how many ids are done and saved at the end.
-fn show_run<R: Print + AllocGlobal>(rt: &R, total: u32, events: &[Event]) -> io::Result<()>
-    requires { total ≤ 100000 }
-{
-    let Ok(mut core) = Core::new(rt.alloc(), total) else {
-        return println!(rt; "memory");
-    };
+fn show_events<R: Print>(rt: &R, core: &mut Core, events: &[Event]) -> io::Result<()> {
     print!(rt; "machine")?;
     for event in events {
         show_answer(rt, core.step(*event))?;
@@ -33,8 +28,18 @@ fn show_run<R: Print + AllocGlobal>(rt: &R, total: u32, events: &[Event]) -> io:
     println!(rt; "done {} saved {}", core.done().len(), core.saved().len())
 }
 
-/// Shows two workers, a save and a halt, and an open id that comes again after a halt.
-pub fn show_machine<R: Print + AllocGlobal>(rt: &R) -> io::Result<()> {
+// Shows the events of a machine of its own.
+fn show_run<R: Print + AllocGlobal>(rt: &R, total: u32, events: &[Event]) -> io::Result<()>
+    requires { total ≤ 100000 }
+{
+    match Core::new(rt.alloc(), total) {
+        Ok(mut core) => show_events(rt, &mut core, events),
+        Err(_) => println!(rt; "memory"),
+    }
+}
+
+// Two workers, a save and a halt.
+fn show_two<R: Print + AllocGlobal>(rt: &R) -> io::Result<()> {
     let events = [
         Event::Claim(0),
         Event::Claim(1),
@@ -45,7 +50,11 @@ pub fn show_machine<R: Print + AllocGlobal>(rt: &R) -> io::Result<()> {
         Event::Halt,
         Event::Claim(0),
     ];
-    show_run(rt, 2, &events)?;
+    show_run(rt, 2, &events)
+}
+
+// An open id that comes again after a halt.
+fn show_again<R: Print + AllocGlobal>(rt: &R) -> io::Result<()> {
     let events = [
         Event::Claim(32),
         Event::Claim(0),
@@ -59,4 +68,10 @@ pub fn show_machine<R: Print + AllocGlobal>(rt: &R) -> io::Result<()> {
         Event::Claim(0),
     ];
     show_run(rt, 1, &events)
+}
+
+/// Shows two workers, a save and a halt, and an open id that comes again after a halt.
+pub fn show_machine<R: Print + AllocGlobal>(rt: &R) -> io::Result<()> {
+    show_two(rt)?;
+    show_again(rt)
 }

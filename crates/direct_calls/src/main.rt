@@ -1,5 +1,5 @@
 //! Public calls that no command of the auditor makes, calls whose answer no contract says, and the auditor's outside over real files:
-//! each call is made once, and what it answers is printed.
+//! each call is made once, and what it answers is printed. Then walks of which it is shown how many steps searched.
 #![tactic(auto)]
 
 mod books;
@@ -9,27 +9,51 @@ mod jobs;
 mod machine;
 mod outside;
 mod rings;
+mod searches;
+mod settings;
+mod shown;
+mod texts;
 
 use crate::books::show_book;
 use crate::checkpoints::show_checkpoint;
-use crate::flips::show_flips;
-use crate::jobs::{plain_job, show_again, show_jobs};
+use crate::flips::show_proposals;
+use crate::jobs::{grid_job, other_job, plain_job, strict_job};
 use crate::machine::show_machine;
 use crate::outside::show_outside;
 use crate::rings::show_rings;
+use crate::shown::{Shown, show_job};
+use crate::texts::show_texts;
+use std::rt::Files;
 use std::{fs, io};
 
+fn show_path_text<R: Print + AllocGlobal>(rt: &R, text: &[u8]) -> io::Result<()> {
+    show_texts(rt, text)?;
+    show_job(rt, strict_job(rt.alloc(), text, "a"), Shown::Legal)?;
+    show_job(rt, strict_job(rt.alloc(), text, "district"), Shown::Legal)?;
+    show_job(rt, other_job(rt.alloc(), text), Shown::Legal)?;
+    show_proposals(rt)?;
+    show_job(rt, plain_job(rt.alloc(), text), Shown::Flips)
+}
+
+// Four units in a row.
+fn show_path<R: Files + Print + AllocGlobal>(rt: &R) -> io::Result<()> {
+    let text = fs::read(rt, "path.json")?;
+    show_path_text(rt, text.as_slice())
+}
+
+// A ring of six units with one beside it: its district has a hole, so that counting alone does not tell.
+fn show_ring<R: Files + Print + AllocGlobal>(rt: &R) -> io::Result<()> {
+    let text = fs::read(rt, "ring.json")?;
+    show_job(rt, plain_job(rt.alloc(), text.as_slice()), Shown::Flips)
+}
+
 fn main(rt: HostRuntime) -> io::Result<()> {
-    let text = fs::read(&rt, "path.json")?;
     show_outside(&rt)?;
     show_checkpoint(&rt)?;
     show_book(&rt)?;
     show_machine(&rt)?;
     show_rings(&rt)?;
-    show_jobs(&rt, text.as_slice())?;
-    let Some(job) = plain_job(rt.alloc(), text.as_slice()) else {
-        return println!(&rt; "memory");
-    };
-    show_again(&rt, &job)?;
-    show_flips(&rt, &job)
+    show_path(&rt)?;
+    show_ring(&rt)?;
+    show_job(&rt, grid_job(rt.alloc()), Shown::Flips)
 }

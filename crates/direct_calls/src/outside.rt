@@ -1,6 +1,6 @@
 //! The outside that never fails, and slots in real files.
 
-ghost use Rattle.std.specs.Prelude.{◌<◌};
+ghost use Rattle.std.specs.Prelude.{◌<◌, length};
 
 use audit_io::file_keeper::FileKeeper;
 use audit_io::keeper::Keeper;
@@ -8,23 +8,27 @@ use audit_io::sink::Sink;
 use audit_io::source::Source;
 use audit_io::sure::{SureSink, SureSource};
 use audit_model::buffers::Bytes;
+use std::alloc::Global;
 use std::io;
 use std::rt::Files;
 
+// Reads three bytes.
+fn read_three(alloc: Global, room: &mut [u8]) -> usize
+    requires { 0 < length room.old }
+{
+    let mut text = Bytes::new(alloc);
+    if text.append(b"abc").is_err() {
+        return 0;
+    }
+    SureSource::new(text).read(room).unwrap_or(0)
+}
+
 // Reads three bytes with room for four, and writes them.
 fn show_sure<R: Print + AllocGlobal>(rt: &R) -> io::Result<()> {
-    let mut text = Bytes::new(rt.alloc());
-    if text.append(b"abc").is_err() {
-        return println!(rt; "memory");
-    }
     let mut room = [0; 4];
-    let read = SureSource::new(text).read(&mut room);
-    let written = SureSink::new().write(&room);
-    println!(rt;
-        "source {} sink {}",
-        read.unwrap_or(0),
-        written.unwrap_or(0)
-    )
+    let read = read_three(rt.alloc(), &mut room);
+    let written = SureSink::new().write(&room).unwrap_or(0);
+    println!(rt; "source {read} sink {written}")
 }
 
 // Shows what is loaded from a slot.
@@ -43,15 +47,25 @@ fn show_slot<R: Print, C: Keeper>(
     }
 }
 
+// Saves in both slots, and in the first once more.
+fn show_saves<R: Print, C: Keeper>(rt: &R, keeper: &mut C) -> io::Result<()> {
+    let saved = keeper.save(1, &[7; 9000]).is_ok() && keeper.save(0, b"longer").is_ok();
+    let again = keeper.save(0, b"first").is_ok();
+    println!(rt; "saved {saved} {again}")
+}
+
+// Saves in both slots, of which the first is shown before, too.
+fn show_keeper<R: Print, C: Keeper>(rt: &R, keeper: &mut C, room: &mut Bytes) -> io::Result<()> {
+    show_slot(rt, keeper, 0, room)?;
+    show_saves(rt, keeper)?;
+    show_slot(rt, keeper, 0, room)?;
+    show_slot(rt, keeper, 1, room)
+}
+
 /// Shows what a source and a sink that never fail answer, and saves in both slots of the folder, of which the first is shown before, too.
 pub fn show_outside<R: Files + Print + AllocGlobal>(rt: &R) -> io::Result<()> {
     show_sure(rt)?;
     let mut keeper = FileKeeper::new(rt);
     let mut room = Bytes::new(rt.alloc());
-    show_slot(rt, &mut keeper, 0, &mut room)?;
-    let saved = keeper.save(1, &[7; 9000]).is_ok() && keeper.save(0, b"longer").is_ok();
-    let again = keeper.save(0, b"first").is_ok();
-    println!(rt; "saved {saved} {again}")?;
-    show_slot(rt, &mut keeper, 0, &mut room)?;
-    show_slot(rt, &mut keeper, 1, &mut room)
+    show_keeper(rt, &mut keeper, &mut room)
 }

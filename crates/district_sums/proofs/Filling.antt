@@ -5,8 +5,7 @@ use Rattle.std.proofs.lemmas.Bool.{cases_eq}
 use Rattle.std.proofs.lemmas.List.{ext_get_or, get_or-set_same, get_or-set_other}
 use Rattle.audit_model.specs.Below.{count_below, map_below}
 use Rattle.audit_model.specs.Graph.{Graph, IsGraph, adjacent}
-use Rattle.model_laws.proofs.Below.{count_below_same}
-use Rattle.dual_graph.proofs.Rows.{length-map_below, get_or-map_below}
+use Rattle.model_laws.proofs.Below.{count_below_same, length-map_below, get_or-map_below}
 use Rattle.district_sums.specs.Following.{apart_of}
 
 -- the counts of the units before this one are the plan's

@@ -2,6 +2,7 @@
 use Rattle.std.proofs.Common.{◌≡◌, ℕ, zero, suc, ◌+◌, ◌<◌, ◌≤◌, Bool, false, cond, refl, ap, ◌∙◌, inl, inr, arith}
 use Rattle.std.proofs.lemmas.Bool.{cases_eq, cond-false}
 use Rattle.audit_model.specs.Below.{count_below, sum_below}
+use Rattle.model_laws.proofs.Below.{count_below_same}
 
 -- sums of two functions that agree but at one number
 pub sum_below_but_one : (n u : ℕ) (f h : ℕ → ℕ) → u < n → ((k : ℕ) → k < n → (k ≡ u → ⊥) → f k ≡ h k) → sum_below n f + h u ≡ sum_below n h + f u
@@ -39,13 +40,6 @@ pub count_below_more : (n : ℕ) (p : ℕ → Bool) → count_below (suc n) p �
 unfolding count_below
 count_below_more n p = refl
 
-count_below_agree : (n : ℕ) (p q : ℕ → Bool) → ((k : ℕ) → k < n → p k ≡ q k) → count_below n p ≡ count_below n q
-unfolding count_below
-count_below_agree zero p q same = refl
-count_below_agree (suc n) p q same =
-    ap (λ m. m + cond {A = ℕ} (p n) 1 0) (count_below_agree n p q (λ k l. same k (omega arith)))
-    ∙ ap (λ b. count_below n q + cond {A = ℕ} b 1 0) (same n (omega arith))
-
 -- the pairs of numbers below a bound that pass a test, each from its greater number
 abbrev pub pairs_below : ℕ → (ℕ → ℕ → Bool) → ℕ
 pairs_below n p = sum_below n (λ v. count_below v (λ a. p a v))
@@ -62,7 +56,7 @@ pairs_before : (m u : ℕ) (p q : ℕ → ℕ → Bool) → AgreeBut u p q → m
 pairs_before zero u p q agree l = refl
 pairs_before (suc m) u p q agree l =
     let before = pairs_before m u p q agree (omega arith) in
-    let last = count_below_agree m (λ a. p a m) (λ a. q a m) (λ a under. agree.same a m (λ e. omega (arith, e)) (λ e. omega (arith, e))) in
+    let last = count_below_same m (λ a. p a m) (λ a. q a m) (λ a under. agree.same a m (λ e. omega (arith, e)) (λ e. omega (arith, e))) in
     omega (arith, before, last)
 
 -- the two counts of pairs differ as the two counts of the unit's pairs
@@ -71,8 +65,8 @@ pairs_but_one zero u p q agree l = absurd (omega arith)
 pairs_but_one (suc m) u p q agree l = elim (cases_eq m u) [
   | inl e ↦
       let before = pairs_before m u p q agree (omega (arith, e)) in
-      let row : count_below m (λ a. p a m) ≡ count_below m (p u) = ap (λ (v : ℕ). count_below m (λ a. p a v)) e ∙ count_below_agree m (λ a. p a u) (p u) (λ a under. agree.turned a) in
-      let other_row : count_below m (λ a. q a m) ≡ count_below m (q u) = ap (λ (v : ℕ). count_below m (λ a. q a v)) e ∙ count_below_agree m (λ a. q a u) (q u) (λ a under. agree.other_turned a) in
+      let row : count_below m (λ a. p a m) ≡ count_below m (p u) = ap (λ (v : ℕ). count_below m (λ a. p a v)) e ∙ count_below_same m (λ a. p a u) (p u) (λ a under. agree.turned a) in
+      let other_row : count_below m (λ a. q a m) ≡ count_below m (q u) = ap (λ (v : ℕ). count_below m (λ a. q a v)) e ∙ count_below_same m (λ a. q a u) (q u) (λ a under. agree.other_turned a) in
       let none : cond {A = ℕ} (p u m) 1 0 ≡ 0 = cond-false {A = ℕ} (p u m) 1 0 (ap (p u) e ∙ agree.none) in
       let other_none : cond {A = ℕ} (q u m) 1 0 ≡ 0 = cond-false {A = ℕ} (q u m) 1 0 (ap (q u) e ∙ agree.other_none) in
       omega (arith, before, row, other_row, none, other_none, count_below_more m (p u), count_below_more m (q u))

@@ -4,12 +4,11 @@ use Rattle.std.proofs.Math.ListN.{set, length-set}
 use Rattle.std.proofs.lemmas.Bool.{cases_eq, eq-eqb, ne_eqb, and_left, cond-true, cond-false}
 use Rattle.std.proofs.lemmas.List.{ext_get_or, get_or-set_same, get_or-set_other}
 use Rattle.audit_model.specs.Below.{count_below, sum_below, map_below}
-use Rattle.dual_graph.proofs.Rows.{length-map_below, get_or-map_below}
 use Rattle.audit_model.specs.Graph.{Graph, IsGraph, adjacent}
 use Rattle.audit_model.specs.Plan.{in_district, district_sum, cut_edges}
-use Rattle.model_laws.proofs.Below.{count_below_same}
+use Rattle.model_laws.proofs.Below.{count_below_same, length-map_below, get_or-map_below}
+use Rattle.model_laws.proofs.Columns.{part_small}
 use Rattle.district_sums.specs.Following.{apart_of}
-use Rattle.district_sums.proofs.Summing.{part_small}
 use Rattle.district_sums.proofs.Moving.{sum_below_but_one, count_below_but_one, pairs_but_one}
 
 pub places : (n : ℕ) (f : ℕ → ℕ) (xs : List ℕ) → xs ≡ map_below n f → length xs ≡ n

@@ -1,13 +1,12 @@
 -- What stands for a plan, part by part.
-use Rattle.std.proofs.Common.{◌≡◌, ℕ, ◌≤◌, ◌==◌, true, not, List, length, get_or, sym, ap, ◌∙◌, arith}
+use Rattle.std.proofs.Common.{◌≡◌, ℕ, List, length, sym, ap, ◌∙◌}
 use Rattle.audit_model.specs.declared.outcome.Counts.{Counts}
 use Rattle.audit_model.specs.declared.outcome.SumsView.{SumsView}
 use Rattle.audit_model.specs.Below.{map_below}
-use Rattle.audit_model.specs.Graph.{Graph, count_edges}
+use Rattle.audit_model.specs.Graph.{Graph}
 use Rattle.audit_model.specs.Plan.{district_sum, cut_edges}
 use Rattle.audit_model.specs.Score.{sums_of}
 use Rattle.district_sums.specs.Following.{Following, AreAdded, StandsFor, districts_in, apart_of}
-use Rattle.district_sums.proofs.Counting.{counted_edges_le}
 use Rattle.district_sums.proofs.Shifted.{places}
 
 module _ (g : Graph) (counts : Counts) (plan : List ℕ) (sums : Following) (stands : StandsFor g counts plan sums) where
@@ -29,10 +28,6 @@ module _ (g : Graph) (counts : Counts) (plan : List ℕ) (sums : Following) (sta
 
   pub cut_is : sums.view.cut ≡ cut_edges g plan
   cut_is = ap (λ (v : SumsView). v.cut) stands.view
-
--- no plan cuts more edges than there are
-pub cut_few : (g : Graph) (plan : List ℕ) → cut_edges g plan ≤ count_edges g (λ u v. true)
-cut_few g plan = counted_edges_le g (λ u v. not (get_or plan u 0 == get_or plan v 0)) g.units (omega arith)
 
 -- sums of so many districts have so many places
 pub as_many : (g : Graph) (counts : Counts) (n : ℕ) (plan : List ℕ) (view : SumsView) → view ≡ sums_of g counts n plan → length view.population ≡ n

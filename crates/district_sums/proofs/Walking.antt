@@ -1,31 +1,26 @@
 -- A walk along the row of a unit that moves.
 use Rattle.std.proofs.Common.{◌≡◌, ℕ, zero, suc, ◌+◌, ◌<◌, ◌≤◌, Bool, true, false, cond, not, ◌&&◌, ◌||◌, ◌==◌, List, [], ◌∷◌, ◌++◌, length, get_or, take, refl, sym, ap, ◌∙◌, subst, inl, inr, arith}
-use Rattle.std.specs.Prelude.{nat_lt, count_by}
+use Rattle.std.specs.Prelude.{count_by}
 use Rattle.std.specs.List.{slice_index_or}
 use Rattle.std.proofs.Math.ListN.{set, length-set}
-use Rattle.std.proofs.lemmas.Bool.{cases_eq, eq-eqb, ne_eqb, or_cases, or_left, or_right, eqb-true, lt-ltb, and_from, false_from_ne_true, false≢true, not_from_true, cases_Bool, cond-true, cond-false}
+use Rattle.std.proofs.lemmas.Bool.{cases_eq, eq-eqb, ne_eqb, or_cases, or_left, or_right, eqb-true, and_from, false_from_ne_true, false≢true, not_from_true}
 use Rattle.std.proofs.lemmas.List.{ext_get_or, get_or-set_same, get_or-set_other}
-use Rattle.std.proofs.lemmas.List.Sums.{sum_by-cons, sum_by-take-le, count_by_more_yes, count_by_more_no}
+use Rattle.std.proofs.lemmas.List.Sums.{sum_by-take-le}
 use Rattle.audit_model.specs.Below.{count_below, map_below}
 use Rattle.audit_model.specs.Graph.{Graph, IsGraph, has, adjacent}
-use Rattle.model_laws.proofs.Below.{count_below_without}
-use Rattle.dual_graph.proofs.Rows.{length-map_below, get_or-map_below}
+use Rattle.model_laws.proofs.Below.{count_below_without, count_below_le, length-map_below, get_or-map_below}
+use Rattle.model_laws.proofs.Lists.{at_has}
+use Rattle.model_laws.proofs.Rows.{IsRising, tail_rises, above, row_rises, row_counted}
 use Rattle.district_sums.specs.Following.{apart_of}
-use Rattle.district_sums.proofs.Counting.{IsRising, tail_rises, above, count_rising, row_rises, count_below_le}
 use Rattle.district_sums.proofs.Shifted.{shifted_apart, own_apart}
 
 -- ---- rows
-
-has_get : (xs : List ℕ) (k : ℕ) → k < length xs → has xs (get_or xs k 0) ≡ true
-has_get [] k l = absurd (omega arith)
-has_get (x ∷ xs) zero l = or_left (x == x) (has xs x) (eq-eqb x x refl)
-has_get (x ∷ xs) (suc k) l = or_right (x == get_or xs k 0) (has xs (get_or xs k 0)) (has_get xs k (omega arith))
 
 front_below : (xs : List ℕ) (k v : ℕ) → IsRising xs → k < length xs → has (take k xs) v ≡ true → v < get_or xs k 0
 front_below [] k v r l h = absurd (omega arith)
 front_below (x ∷ xs) zero v r l h = absurd (omega (arith, ap (λ b. cond {A = ℕ} b 1 0) h))
 front_below (x ∷ xs) (suc k) v r l h = elim (or_cases (x == v) (has (take k xs) v) h) [
-  | inl e ↦ omega (arith, eqb-true x v e, above x xs r (get_or xs k 0) (has_get xs k (omega arith)))
+  | inl e ↦ omega (arith, eqb-true x v e, above x xs r (get_or xs k 0) (at_has xs k (omega arith)))
   | inr e ↦ front_below xs k v (tail_rises x xs r) (omega arith) e
 ]
 
@@ -40,24 +35,6 @@ has_last (x ∷ xs) v = or_right (x == v) (has (xs ++ v ∷ []) v) (has_last xs 
 has_others : (xs : List ℕ) (v w : ℕ) → (v ≡ w → ⊥) → has (xs ++ v ∷ []) w ≡ has xs w
 has_others [] v w off = ap (λ b. b || false) (ne_eqb v w off)
 has_others (x ∷ xs) v w off = ap (λ b. (x == w) || b) (has_others xs v w off)
-
-inside_counted : (n : ℕ) (test : ℕ → Bool) (xs : List ℕ) → ((v : ℕ) → has xs v ≡ true → v < n) → count_by test xs ≡ count_by (λ v. nat_lt v n && test v) xs
-inside_counted n test [] inside = refl
-inside_counted n test (x ∷ xs) inside =
-    let first : count_by test (x ∷ xs) ≡ cond {A = ℕ} (test x) 1 0 + count_by test xs = sum_by-cons (λ v. cond {A = ℕ} (test v) 1 0) x xs in
-    let other : count_by (λ v. nat_lt v n && test v) (x ∷ xs) ≡ cond {A = ℕ} (nat_lt x n && test x) 1 0 + count_by (λ v. nat_lt v n && test v) xs =
-    sum_by-cons (λ v. cond {A = ℕ} (nat_lt v n && test v) 1 0) x xs in
-    let same : cond {A = ℕ} (nat_lt x n && test x) 1 0 ≡ cond {A = ℕ} (test x) 1 0 =
-    ap (λ b. cond {A = ℕ} (b && test x) 1 0) (lt-ltb x n (inside x (or_left (x == x) (has xs x) (eq-eqb x x refl)))) in
-    let rest = inside_counted n test xs (λ v h. inside v (or_right (x == v) (has xs v) h)) in
-    omega (arith, first, other, same, rest)
-
--- the neighbours that pass a test
-pub row_counted : (g : Graph) (u : ℕ) (test : ℕ → Bool) → IsGraph g
-    → count_by test (slice_index_or g.neighbours u []) ≡ count_below g.units (λ v. adjacent g u v && test v)
-row_counted g u test sound =
-    inside_counted g.units test (slice_index_or g.neighbours u []) (λ v h. sound.below u v h)
-    ∙ count_rising g.units test (slice_index_or g.neighbours u []) (row_rises g u sound)
 
 -- ---- the walk
 
@@ -124,7 +101,7 @@ apart_some g plan u v sound l near off =
 module _ (g : Graph) (plan : List ℕ) (u d i : ℕ) (row old new : List ℕ) (sound : IsGraph g) (is_row : row ≡ slice_index_or g.neighbours u []) (lt : i < length row)
     (is_old : old ≡ map_below g.units (apart_of g plan)) (walked : IsWalked plan (get_or plan u 0) d (take i row) old new) where
   pub near : adjacent g u (get_or row i 0) ≡ true
-  near = subst (λ (xs : List ℕ). has xs (get_or row i 0) ≡ true) is_row (has_get row i lt)
+  near = subst (λ (xs : List ℕ). has xs (get_or row i 0) ≡ true) is_row (at_has row i lt)
 
   pub fresh : has (take i row) (get_or row i 0) ≡ false
   fresh = is_new row i (subst IsRising (sym is_row) (row_rises g u sound)) lt
@@ -144,18 +121,6 @@ row_few g u i test row sound is_row =
     let part : count_by test (take i row) ≤ count_by test row = sum_by-take-le (λ v. cond {A = ℕ} (test v) 1 0) row i in
     let all : count_by test row ≡ count_below g.units (λ v. adjacent g u v && test v) = ap (count_by test) is_row ∙ row_counted g u test sound in
     omega (arith, part, all, count_below_le g.units (λ v. adjacent g u v && test v))
-
-pub counted_more : (test : ℕ → Bool) (row : List ℕ) (i : ℕ) → i < length row → count_by test (take (i + 1) row) ≡ count_by test (take i row) + cond {A = ℕ} (test (get_or row i 0)) 1 0
-counted_more test row i lt = elim (cases_Bool (test (get_or row i 0))) [
-  | inl passes ↦
-      let more = count_by_more_yes test row i 0 lt passes in
-      let one : cond {A = ℕ} (test (get_or row i 0)) 1 0 ≡ 1 = cond-true {A = ℕ} (test (get_or row i 0)) 1 0 passes in
-      omega (arith, more, one)
-  | inr fails ↦
-      let same = count_by_more_no test row i 0 lt fails in
-      let none : cond {A = ℕ} (test (get_or row i 0)) 1 0 ≡ 0 = cond-false {A = ℕ} (test (get_or row i 0)) 1 0 fails in
-      omega (arith, same, none)
-]
 
 -- at the end of the row, with the unit's own count, the counts are those of the plan with the unit moved
 pub walked_all : (g : Graph) (plan : List ℕ) (u d count : ℕ) (row old new : List ℕ) → IsGraph g → length plan ≡ g.units → u < g.units

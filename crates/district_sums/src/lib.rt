@@ -2,5 +2,5 @@
 #![tactic(auto)]
 
 pub mod scratch;
-pub mod shifting;
+mod shifting;
 pub mod sums;

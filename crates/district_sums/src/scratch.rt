@@ -11,6 +11,45 @@ use audit_model::lists::{NumList, UnitList};
 use audit_model::outcome::{Counts, SumsView};
 use dual_graph::graph::Graph;
 
+/// How many edges a plan cuts. It takes no memory.
+pub fn count_cut(g: &Graph, plan: &[u32]) -> u32
+    requires graph { IsGraph g.now }
+    requires plan { length plan.now ≡ g.now.units }
+    requires few { count_edges g.now (λ u v. true) ≤ 400000 }
+    ensures { result ≡ cut_edges g.now plan.now }
+{
+    let mut cut = 0;
+    for unit in 0..g.units() {
+        cut += others_below(g, plan, unit, unit);
+    }
+    cut
+}
+
+/// The same into a list that has a place for each unit.
+pub(crate) fn refill_apart(g: &Graph, plan: &[u32], apart: &mut UnitList)
+    requires plan { length plan.now ≡ g.now.units }
+    requires width { length apart.old ≡ g.now.units }
+    ensures { apart.new ≡ map_below g.now.units (apart_of g.now plan.now) }
+{
+    count_apart(g, plan, apart.as_mut_slice());
+}
+
+/// Makes the sums of the districts those of a plan.
+pub(crate) fn refill_view(g: &Graph, counts: &Counts, plan: &[u32], view: &mut SumsView)
+    requires inputs { AreInputs g.now counts.now (length view.old.population) plan.now }
+    requires first { length view.old.first ≡ length view.old.population }
+    requires second { length view.old.second ≡ length view.old.population }
+    ensures { view.new ≡ sums_of g.now counts.now (length view.old.population) plan.now }
+{
+    // Called for what their contracts say: the graph is sound, with at most 100,000 units and 400,000 edges.
+    let _units = g.units();
+    let _edges = g.edges();
+    refill_column(&counts.population, plan, &mut view.population);
+    refill_column(&counts.first, plan, &mut view.first);
+    refill_column(&counts.second, plan, &mut view.second);
+    view.cut = count_cut(g, plan);
+}
+
 /// Writes the sum of a column over each district.
 fn add_up(column: &[u64], plan: &[u32], sums: &mut [u64])
     requires lengths { length column.now ≡ length plan.now }
@@ -53,20 +92,6 @@ fn others_below(g: &Graph, plan: &[u32], unit: u32, bound: u32) -> u32
     others as u32
 }
 
-/// How many edges a plan cuts. It takes no memory.
-pub fn count_cut(g: &Graph, plan: &[u32]) -> u32
-    requires graph { IsGraph g.now }
-    requires plan { length plan.now ≡ g.now.units }
-    requires few { count_edges g.now (λ u v. true) ≤ 400000 }
-    ensures { result ≡ cut_edges g.now plan.now }
-{
-    let mut cut = 0;
-    for unit in 0..g.units() {
-        cut += others_below(g, plan, unit, unit);
-    }
-    cut
-}
-
 /// Writes for each unit how many of its neighbours are in another district.
 fn count_apart(g: &Graph, plan: &[u32], apart: &mut [u32])
     requires plan { length plan.now ≡ g.now.units }
@@ -77,28 +102,4 @@ fn count_apart(g: &Graph, plan: &[u32], apart: &mut [u32])
     for unit in 0..units {
         apart[unit as usize] = others_below(g, plan, unit, units);
     }
-}
-
-/// The same into a list that has a place for each unit.
-pub(crate) fn refill_apart(g: &Graph, plan: &[u32], apart: &mut UnitList)
-    requires plan { length plan.now ≡ g.now.units }
-    requires width { length apart.old ≡ g.now.units }
-    ensures { apart.new ≡ map_below g.now.units (apart_of g.now plan.now) }
-{
-    count_apart(g, plan, apart.as_mut_slice());
-}
-
-/// Makes the sums of the districts those of a plan.
-pub(crate) fn refill_view(g: &Graph, counts: &Counts, plan: &[u32], view: &mut SumsView)
-    requires inputs { AreInputs g.now counts.now (length view.old.population) plan.now }
-    requires first { length view.old.first ≡ length view.old.population }
-    requires second { length view.old.second ≡ length view.old.population }
-    ensures { view.new ≡ sums_of g.now counts.now (length view.old.population) plan.now }
-{
-    let _units = g.units();
-    let _edges = g.edges();
-    refill_column(&counts.population, plan, &mut view.population);
-    refill_column(&counts.first, plan, &mut view.first);
-    refill_column(&counts.second, plan, &mut view.second);
-    view.cut = count_cut(g, plan);
 }

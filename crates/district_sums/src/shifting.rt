@@ -11,6 +11,54 @@ use audit_model::lists::{NumList, UnitList};
 use audit_model::outcome::{Counts, SumsView};
 use dual_graph::graph::Graph;
 
+/// The population and the votes of the districts where a unit moves to another district.
+pub(crate) fn shift_counts(counts: &Counts, plan: &[u32], u: u32, d: u32, view: &mut SumsView)
+    requires population { IsColumn (length plan.now) counts.now.population }
+    requires first { IsColumn (length plan.now) counts.now.first }
+    requires second { IsColumn (length plan.now) counts.now.second }
+    requires few { length plan.now ≤ 100000 }
+    requires unit { u < length plan.now }
+    requires home { slice_index plan.now u < length view.old.population }
+    requires district { d < length view.old.population }
+    requires elsewhere { slice_index plan.now u ≢ d }
+    requires added { AreAdded counts.now (length view.old.population) plan.now view.old }
+    ensures added { AreAdded counts.now (length view.old.population) (slice_set plan.now u d) view.new }
+    ensures cut { view.new.cut ≡ view.old.cut }
+{
+    shift_list(&counts.population, plan, u, d, &mut view.population);
+    shift_list(&counts.first, plan, u, d, &mut view.first);
+    shift_list(&counts.second, plan, u, d, &mut view.second);
+}
+
+/// The same for the counts in a list.
+pub(crate) fn shift_apart(g: &Graph, plan: &[u32], u: u32, d: u32, apart: &mut UnitList)
+    requires plan { length plan.now ≡ g.now.units }
+    requires unit { u < g.now.units }
+    requires width { length apart.old ≡ g.now.units }
+    requires apart { apart.old ≡ map_below g.now.units (apart_of g.now plan.now) }
+    ensures { apart.new ≡ map_below g.now.units (apart_of g.now (slice_set plan.now u d)) }
+{
+    recount(g, plan, u, d, apart.as_mut_slice());
+}
+
+/// How many neighbours of a unit are in other districts than this.
+#[inline]
+pub(crate) fn others_than(g: &Graph, plan: &[u32], unit: u32, district: u32) -> u32
+    requires plan { length plan.now ≡ g.now.units }
+    requires unit { unit < g.now.units }
+    ensures { result ≡ count_below g.now.units (λ v. adjacent g.now unit v && not (slice_index plan.now v == district)) }
+{
+    // Called for what its contract says: the graph is sound, and has at most 100,000 units.
+    let _units = g.units();
+    let mut others = 0usize;
+    for other in g.neighbours(unit) {
+        if plan[*other as usize] != district {
+            others += 1;
+        }
+    }
+    others as u32
+}
+
 /// Moves a unit's part of a column from its district's sum to that of another district.
 fn shift_column(column: &[u64], plan: &[u32], u: u32, d: u32, sums: &mut [u64])
     requires lengths { length column.now ≡ length plan.now }
@@ -41,25 +89,6 @@ fn shift_list(column: &NumList, plan: &[u32], u: u32, d: u32, sums: &mut NumList
     ensures { sums.new ≡ map_below (length sums.old) (district_sum column.now (slice_set plan.now u d)) }
 {
     shift_column(column.as_slice(), plan, u, d, sums.as_mut_slice());
-}
-
-/// The population and the votes of the districts where a unit moves to another district.
-pub(crate) fn shift_counts(counts: &Counts, plan: &[u32], u: u32, d: u32, view: &mut SumsView)
-    requires population { IsColumn (length plan.now) counts.now.population }
-    requires first { IsColumn (length plan.now) counts.now.first }
-    requires second { IsColumn (length plan.now) counts.now.second }
-    requires few { length plan.now ≤ 100000 }
-    requires unit { u < length plan.now }
-    requires home { slice_index plan.now u < length view.old.population }
-    requires district { d < length view.old.population }
-    requires elsewhere { slice_index plan.now u ≢ d }
-    requires added { AreAdded counts.now (length view.old.population) plan.now view.old }
-    ensures added { AreAdded counts.now (length view.old.population) (slice_set plan.now u d) view.new }
-    ensures cut { view.new.cut ≡ view.old.cut }
-{
-    shift_list(&counts.population, plan, u, d, &mut view.population);
-    shift_list(&counts.first, plan, u, d, &mut view.first);
-    shift_list(&counts.second, plan, u, d, &mut view.second);
 }
 
 /// The count with one more where the neighbour counts.
@@ -93,6 +122,7 @@ fn recount(g: &Graph, plan: &[u32], u: u32, d: u32, apart: &mut [u32])
     requires apart { apart.old ≡ map_below g.now.units (apart_of g.now plan.now) }
     ensures { apart.new ≡ map_below g.now.units (apart_of g.now (slice_set plan.now u d)) }
 {
+    // Called for what its contract says: the graph is sound, and has at most 100,000 units.
     let _units = g.units();
     let home = plan[u as usize];
     let mut others = 0;
@@ -103,32 +133,4 @@ fn recount(g: &Graph, plan: &[u32], u: u32, d: u32, apart: &mut [u32])
         others = with_one(others, district != d);
     }
     apart[u as usize] = others;
-}
-
-/// The same for the counts in a list.
-pub(crate) fn shift_apart(g: &Graph, plan: &[u32], u: u32, d: u32, apart: &mut UnitList)
-    requires plan { length plan.now ≡ g.now.units }
-    requires unit { u < g.now.units }
-    requires width { length apart.old ≡ g.now.units }
-    requires apart { apart.old ≡ map_below g.now.units (apart_of g.now plan.now) }
-    ensures { apart.new ≡ map_below g.now.units (apart_of g.now (slice_set plan.now u d)) }
-{
-    recount(g, plan, u, d, apart.as_mut_slice());
-}
-
-/// How many neighbours of a unit are in other districts than this.
-#[inline]
-pub(crate) fn others_than(g: &Graph, plan: &[u32], unit: u32, district: u32) -> u32
-    requires plan { length plan.now ≡ g.now.units }
-    requires unit { unit < g.now.units }
-    ensures { result ≡ count_below g.now.units (λ v. adjacent g.now unit v && not (slice_index plan.now v == district)) }
-{
-    let _units = g.units();
-    let mut others = 0usize;
-    for other in g.neighbours(unit) {
-        if plan[*other as usize] != district {
-            others += 1;
-        }
-    }
-    others as u32
 }

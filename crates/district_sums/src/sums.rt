@@ -65,6 +65,7 @@ impl Sums {
         ensures districts { districts_in self.new ≡ districts_in self.old }
         ensures stands { StandsFor g.now counts.now plan.new self.new }
     {
+        // Called for what their contracts say: the graph is sound, with at most 100,000 units and 400,000 edges.
         let _units = g.units();
         let _edges = g.edges();
         if plan[u as usize] == d {
@@ -87,6 +88,7 @@ impl Sums {
         requires apart { self.now.apart ≡ map_below g.now.units (apart_of g.now plan.now) }
         ensures { result ≡ cut_edges g.now (slice_set plan.now u d) }
     {
+        // Called for what their contracts say: the graph is sound, with at most 100,000 units and 400,000 edges.
         let _units = g.units();
         let _edges = g.edges();
         let before = self.apart.as_slice()[u as usize];
@@ -114,6 +116,7 @@ impl Sums {
         ensures view { self.new.view ≡ sums_of _g.now counts.now (districts_in self.old) (slice_set plan.now u d) }
         ensures apart { self.new.apart ≡ self.old.apart }
     {
+        // Called for what its contract says: the graph is sound, and has at most 100,000 units.
         let _units = _g.units();
         shift_counts(counts, plan, u, d, &mut self.view);
         self.view.cut = cut;

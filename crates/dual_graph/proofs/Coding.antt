@@ -1,5 +1,5 @@
 -- The numbers of the edges.
-use Rattle.std.proofs.Common.{◌≡◌, ℕ, zero, suc, ◌+◌, ◌*◌, ◌<◌, ◌≤◌, true, List, [], ◌∷◌, ◌++◌, length, get_or, sym, ap, ◌∙◌, subst, inl, inr, arith, length-append}
+use Rattle.std.proofs.Common.{◌≡◌, ℕ, ◌+◌, ◌*◌, ◌<◌, ◌≤◌, true, List, [], ◌∷◌, ◌++◌, length, get_or, sym, ap, ◌∙◌, subst, inl, inr, arith, length-append}
 use Rattle.std.specs.List.{Contains, dedup}
 use Rattle.std.specs.Prelude.{◌↔◌, eqb}
 use Rattle.std.proofs.lemmas.Bool.{cases_eq}
@@ -7,19 +7,8 @@ use Rattle.std.proofs.lemmas.List.{get_or_default}
 use Rattle.std.proofs.lemmas.List.Kept.{Contains-dedup_nat, Contains-from_dedup}
 use Rattle.audit_model.specs.Graph.{has}
 use Rattle.model_laws.proofs.Connected.{has-append_left, has-append_right, has-append_parts}
+use Rattle.model_laws.proofs.Lists.{has_one, one_has, has_at, at_has, rises}
 use Rattle.dual_graph.specs.Pairs.{pair_at, IsCoded}
-use Rattle.dual_graph.proofs.Marking.{has_one, one_has, has_at, at_has}
-
--- rising numbers rise from any place to any later one
-pub rises : (xs : List ℕ) (i k : ℕ) → ((j : ℕ) → j + 1 < length xs → get_or xs j 0 < get_or xs (j + 1) 0) → i < k → k < length xs → get_or xs i 0 < get_or xs k 0
-rises xs i zero rising l b = absurd (omega arith)
-rises xs i (suc k) rising l b =
-    let next : get_or xs k 0 < get_or xs (k + 1) 0 = rising k (omega arith) in
-    let at : get_or xs (k + 1) 0 ≡ get_or xs (suc k) 0 = ap (λ t. get_or xs t 0) (omega arith) in
-    elim (cases_eq i k) [
-      | inl e ↦ let same : get_or xs i 0 ≡ get_or xs k 0 = ap (λ t. get_or xs t 0) e in omega (arith, next, at, same)
-      | inr off ↦ omega (arith, rises xs i k rising (omega arith) (omega arith), next, at)
-    ]
 
 pub never_falls : (xs : List ℕ) (i k : ℕ) → ((j : ℕ) → j + 1 < length xs → get_or xs j 0 < get_or xs (j + 1) 0) → i ≤ k → k < length xs → get_or xs i 0 ≤ get_or xs k 0
 never_falls xs i k rising l b = elim (cases_eq i k) [

@@ -1,11 +1,10 @@
 -- How many edges a graph has whose edges are the pairs of a list.
 use Rattle.std.proofs.Common.{◌≡◌, ℕ, zero, suc, ◌+◌, ◌*◌, ◌%◌, ◌<◌, ◌≤◌, Bool, true, false, cond, ◌&&◌, ◌||◌, List, [], ◌∷◌, length, map, get_or, refl, sym, ap, ◌∙◌, subst, inl, inr, arith}
 use Rattle.std.specs.Prelude.{◌==◌, ◌↔◌}
-use Rattle.std.specs.List.{list_any}
-use Rattle.std.proofs.lemmas.Bool.{and_parts, and_from, and_left, and_right, or_cases, or_left, or_right, cases_eq, cond-true, cond-false, eq-eqb, eqb-true, ne_eqb, both_ways, false≢true, false_from_ne_true}
+use Rattle.std.proofs.lemmas.Bool.{and_parts, and_from, and_left, and_right, or_cases, or_left, or_right, cases_eq, cond-true, cond-false, eq-eqb, eqb-true, ne_eqb, false≢true}
 use Rattle.audit_model.specs.Below.{count_below, sum_below}
 use Rattle.audit_model.specs.Graph.{Graph, IsGraph, has, adjacent, count_edges}
-use Rattle.model_laws.proofs.Below.{count_below_same}
+use Rattle.model_laws.proofs.Below.{count_below_same, count_below_none}
 use Rattle.dual_graph.specs.Flat.{graph_of, HasRows, HasEdges}
 use Rattle.dual_graph.specs.Pairs.{pair_at, IsBefore, ArePairs, IsCoded, IsLower, Joins}
 use Rattle.dual_graph.proofs.Building.{built_rows, built_graph, code_sound, code_joins, joins_code, adjacent_from, adjacent_to}
@@ -32,13 +31,6 @@ sum_below_one (suc n) b f l one none = elim (cases_eq n b) [
 sum_below_plus : (n : ℕ) (f g : ℕ → ℕ) → sum_below n (λ k. f k + g k) ≡ sum_below n f + sum_below n g
 sum_below_plus zero f g = refl
 sum_below_plus (suc n) f g = omega (arith, sum_below_plus n f g)
-
-pub count_below_none : (n : ℕ) (test : ℕ → Bool) → ((k : ℕ) → k < n → test k ≡ false) → count_below n test ≡ 0
-unfolding count_below
-count_below_none zero test none = refl
-count_below_none (suc n) test none =
-    let last : cond {A = ℕ} (test n) 1 0 ≡ 0 = cond-false {A = ℕ} (test n) 1 0 (none n (omega arith)) in
-    omega (arith, count_below_none n test (λ k l. none k (omega arith)), last)
 
 pub count_below_one : (n a : ℕ) (test : ℕ → Bool) → a < n → test a ≡ true → ((k : ℕ) → k < n → (k ≡ a → ⊥) → test k ≡ false) → count_below n test ≡ 1
 unfolding count_below

@@ -1,74 +1,11 @@
 -- Lists of different numbers, and one mark more or less.
-use Rattle.std.proofs.Common.{◌≡◌, ℕ, zero, suc, ◌+◌, ◌<◌, ◌≤◌, Bool, true, false, not, ◌&&◌, ◌||◌, List, [], ◌∷◌, ◌++◌, length, get_or, set, refl, sym, ap, ◌∙◌, subst, inl, inr, arith, length-append, length-set, get_or-set_same, get_or-set_other}
-use Rattle.std.specs.Prelude.{◌==◌}
-use Rattle.std.proofs.lemmas.Bool.{or_cases, or_left, or_right, or_parts, cases_eq, eqb-true, eq-eqb, ne_eqb, false≢true, both_ways, not_from_true, not_from_false, false_from_ne_true}
-use Rattle.audit_model.specs.Below.{count_below}
+use Rattle.std.proofs.Common.{◌≡◌, ℕ, zero, suc, ◌+◌, ◌<◌, ◌≤◌, true, false, List, [], ◌∷◌, ◌++◌, length, get_or, set, refl, sym, ◌∙◌, subst, inl, inr, arith, length-append, length-set, get_or-set_same, get_or-set_other}
+use Rattle.std.proofs.lemmas.Bool.{cases_eq, false≢true, false_from_ne_true}
 use Rattle.audit_model.specs.Apart.{AllApart}
 use Rattle.audit_model.specs.Graph.{has}
-use Rattle.model_laws.proofs.Below.{count_below_same, count_below_without}
-use Rattle.model_laws.proofs.Connected.{has-append_left, has-append_right, has-append_parts, count_below_le}
+use Rattle.model_laws.proofs.Connected.{has-append_left, has-append_right, has-append_parts}
+use Rattle.model_laws.proofs.Lists.{has_one, one_has, has_at, apart_more, apart_le}
 use Rattle.dual_graph.specs.Marked.{Marked, IsMarked}
-
-pub has_one : (x n : ℕ) → has (x ∷ []) n ≡ true → x ≡ n
-has_one x n h = elim (or_cases (x == n) false h) [ inl e ↦ eqb-true x n e | inr e ↦ absurd (false≢true e) ]
-
-pub one_has : (x : ℕ) → has (x ∷ []) x ≡ true
-one_has x = or_left (x == x) false (eq-eqb x x refl)
-
--- a number stands at some place
-pub has_at : (xs : List ℕ) (n : ℕ) → has xs n ≡ true → (k : ℕ) × (k < length xs) × (get_or xs k 0 ≡ n)
-has_at [] n h = absurd (false≢true h)
-has_at (x ∷ xs) n h = elim (or_cases (x == n) (has xs n) h) [
-  | inl e ↦ (zero, omega arith, eqb-true x n e)
-  | inr e ↦ let found = has_at xs n e in (suc found.0, omega (arith, found.1), found.2)
-]
-
-pub at_has : (xs : List ℕ) (k : ℕ) → k < length xs → has xs (get_or xs k 0) ≡ true
-at_has [] k l = absurd (omega arith)
-at_has (x ∷ xs) zero l = or_left (x == x) (has xs x) (eq-eqb x x refl)
-at_has (x ∷ xs) (suc k) l = or_right (x == get_or xs k 0) (has xs (get_or xs k 0)) (at_has xs k (omega arith))
-
--- one more number that was not there
-pub apart_more : (xs : List ℕ) (n : ℕ) → AllApart xs → has xs n ≡ false → AllApart (xs ++ n ∷ [])
-apart_more [] n a h = (refl, tt)
-apart_more (x ∷ xs) n a h =
-    let parts = or_parts (x == n) (has xs n) h in (
-      false_from_ne_true (has (xs ++ n ∷ []) x) (λ there. elim (has-append_parts xs (n ∷ []) x there) [
-        | inl e ↦ both_ways (has xs x) a.0 e
-        | inr e ↦ both_ways (x == n) parts.0 (eq-eqb x n (sym (has_one n x e)))
-      ]),
-      apart_more xs n a.1 parts.1,
-    )
-
-and_false : (b c : Bool) → c ≡ false → (b && c) ≡ false
-and_false true c h = h
-and_false false c h = refl
-
-and_true : (b c : Bool) → c ≡ true → (b && c) ≡ b
-and_true true c h = h
-and_true false c h = refl
-
--- numbers below a bound that are all different are no more than the bound
-apart_counted : (n : ℕ) (xs : List ℕ) → AllApart xs → ((v : ℕ) → has xs v ≡ true → v < n) → length xs ≤ count_below n (has xs)
-apart_counted n [] a below = omega arith
-apart_counted n (x ∷ xs) a below =
-    let rest = apart_counted n xs a.1 (λ v h. below v (or_right (x == v) (has xs v) h)) in
-    let without = count_below_without n (has (x ∷ xs)) x (below x (or_left (x == x) (has xs x) (eq-eqb x x refl))) (or_left (x == x) (has xs x) (eq-eqb x x refl)) in
-    let same = count_below_same n (λ k. has (x ∷ xs) k && not (k == x)) (has xs) (λ k l. alike k) in
-    omega (arith, rest, without, same)
-  where
-    alike : (k : ℕ) → (has (x ∷ xs) k && not (k == x)) ≡ has xs k
-    alike k = elim (cases_eq k x) [
-      | inl e ↦
-          let none : not (k == x) ≡ false = not_from_true (k == x) (eq-eqb k x e) in
-          and_false (has (x ∷ xs) k) (not (k == x)) none ∙ sym (ap (has xs) e ∙ a.0)
-      | inr off ↦
-          ap (λ b. (b || has xs k) && not (k == x)) (ne_eqb x k (λ e. off (sym e)))
-          ∙ and_true (has xs k) (not (k == x)) (not_from_false (k == x) (ne_eqb k x off))
-    ]
-
-pub apart_le : (n : ℕ) (xs : List ℕ) → AllApart xs → ((v : ℕ) → has xs v ≡ true → v < n) → length xs ≤ n
-apart_le n xs a below = omega (arith, apart_counted n xs a below, count_below_le n (has xs))
 
 -- a unit without a label is not in the list
 pub absent : (m : Marked) (u : ℕ) → IsMarked m → get_or m.labels u 0 ≡ 0 → has m.items u ≡ false

@@ -1,20 +1,9 @@
 -- The neighbours of a unit are a part of the list of all.
-use Rattle.std.proofs.Common.{◌≡◌, ℕ, zero, suc, ◌+◌, ◌-◌, ◌<◌, List, [], ◌∷◌, length, get_or, take, drop, refl, sym, ap, ◌∙◌, subst, inl, inr, arith, length-append}
-use Rattle.std.proofs.lemmas.Bool.{cases_eq}
-use Rattle.std.proofs.lemmas.List.{get_or_append_left, get_or_push, length-take, length-drop, get_or-take, get_or-drop, get_or_default}
+use Rattle.std.proofs.Common.{◌≡◌, ℕ, ◌+◌, ◌-◌, ◌<◌, List, [], length, get_or, take, drop, sym, ap, ◌∙◌, subst, arith}
+use Rattle.std.proofs.lemmas.List.{length-take, length-drop, get_or-take, get_or-drop, get_or_default}
 use Rattle.dual_graph.specs.Flat.{row}
 use Rattle.audit_model.specs.Below.{map_below}
-
-pub length-map_below : {A : Type 0} → (n : ℕ) (f : ℕ → A) → length (map_below n f) ≡ n
-length-map_below zero f = refl
-length-map_below (suc n) f = omega (arith, length-append (map_below n f) (f n ∷ []), length-map_below n f)
-
-pub get_or-map_below : {A : Type 0} → (n : ℕ) (f : ℕ → A) (u : ℕ) (d : A) → u < n → get_or (map_below n f) u d ≡ f u
-get_or-map_below zero f u d l = absurd (omega arith)
-get_or-map_below (suc n) f u d l = elim (cases_eq u n) [
-  | inl e ↦ get_or_push (map_below n f) (f n) d u (length-map_below n f ∙ sym e) ∙ ap f (sym e)
-  | inr off ↦ get_or_append_left (map_below n f) (f n ∷ []) d u (omega (arith, length-map_below n f)) ∙ get_or-map_below n f u d (omega arith)
-]
+use Rattle.model_laws.proofs.Below.{get_or-map_below}
 
 pub row_is : (n : ℕ) (begins near : List ℕ) (u a b : ℕ) (xs : List ℕ) → u < n → a ≡ get_or begins u 0 → b ≡ get_or begins (u + 1) 0 → xs ≡ near
     → take (b - a) (drop a xs) ≡ get_or (map_below n (row begins near)) u []

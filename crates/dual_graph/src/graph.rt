@@ -63,6 +63,7 @@ impl Graph {
         ensures few { self.now.units ≤ 100000 }
         ensures sound { IsGraph self.now }
     {
+        // Reads the fields, so that what the type says of them is known.
         let _ = &self.near;
         self.units
     }
@@ -73,6 +74,7 @@ impl Graph {
         ensures edges { result ≡ count_edges self.now (λ u v. true) }
         ensures few { count_edges self.now (λ u v. true) ≤ 400000 }
     {
+        // Reads the fields, so that what the type says of them is known.
         let _ = &self.near;
         self.edges
     }

@@ -1,5 +1,5 @@
 -- What is found of a document against what its definition says.
-use Rattle.std.proofs.Common.{◌≡◌, ℕ, zero, suc, ◌^◌, ◌<◌, ◌≤◌, Bool, true, false, not, cond, ◌&&◌, ◌||◌, List, [], ◌∷◌, ◌++◌, length, get_or, Option, Some, None, Err, refl, sym, ap, ◌∙◌, subst, arith}
+use Rattle.std.proofs.Common.{◌≡◌, ℕ, zero, suc, ◌^◌, ◌<◌, ◌≤◌, Bool, true, false, not, cond, ◌&&◌, ◌||◌, List, [], length, get_or, Option, Some, None, Err, refl, sym, ap, ◌∙◌, subst, arith}
 use Rattle.std.specs.Prelude.{◌==◌, nat_lt, nat_le, codes}
 use Rattle.std.specs.Str.{is_utf8}
 use Rattle.std.specs.Option.{option_or, option_map, option_and_then, unwrap_or, is_none}
@@ -20,15 +20,14 @@ use Rattle.audit_model.specs.Label.{same_label, label_before}
 use Rattle.audit_model.specs.Limits.{IsColumn, AreWithin}
 use Rattle.audit_model.specs.Parsed.{Parsed}
 use Rattle.graph_definitions.specs.Reading.{Document, graph, joined, id_of, same_id, refused_if, label_count, label_at, is_new_label, district_at, refusal, parsed, reading, of_root, of_json, bad_part}
-use Rattle.dual_graph.proofs.Rows.{length-map_below, get_or-map_below}
-use Rattle.model_laws.proofs.Below.{count_below_same}
+use Rattle.model_laws.proofs.Below.{count_below_same, filter_below_same, length-map_below, get_or-map_below, map_below_same}
+use Rattle.model_laws.proofs.First.{first_below_same, first_some_below_same, any_below_same, any_from_none, first_passes, any_from_some}
 use Rattle.dual_json.specs.Columns.{count_from, count_in, missing, bad, numbers_in}
 use Rattle.dual_json.specs.Districts.{AreDistricts, count_fault, is_new, different_count}
 use Rattle.dual_json.specs.Edges.{entries_at, first_in, first_entry_in, is_unknown, is_unnamed, joined_in, graph_in, edges_fault, names_node}
 use Rattle.dual_json.specs.Places.{object_at, nth, first_unnamed, AreLabels, place_in, repeated}
 use Rattle.dual_json.specs.Stages.{repeated_in, entry_fault, is_stranger, edge_count, graph_fault, labels_fault, AreRows}
 use Rattle.dual_json.proofs.Counted.{label_count_is, district_is, labels_are, start_is}
-use Rattle.dual_json.proofs.First.{first_below_same, first_some_below_same, any_below_same, first_passes, any_from_none, any_from_some}
 
 option_map_same : {A B : Type 0} → (o : Option A) (f g : A → B) → ((a : A) → o ≡ Some a → f a ≡ g a) → option_map f o ≡ option_map g o
 option_map_same None f g same = refl
@@ -82,17 +81,6 @@ module _ (nodes : List Data) (ids : List Label) (are : AreLabels (codes "id") no
   stranger_same e = stranger_by (id_of e)
 
 -- ---- the graph
-
-filter_below_same : (n : ℕ) (p q : ℕ → Bool) → ((k : ℕ) → k < n → p k ≡ q k) → filter_below n p ≡ filter_below n q
-filter_below_same zero p q same = refl
-filter_below_same (suc n) p q same =
-    ap (λ (xs : List ℕ). xs ++ cond (p n) (n ∷ []) []) (filter_below_same n p q (λ k l. same k (omega (arith, l))))
-    ∙ ap (λ b. filter_below n q ++ cond b (n ∷ []) []) (same n (omega arith))
-
-map_below_same : {A : Type 0} (n : ℕ) (f g : ℕ → A) → ((k : ℕ) → k < n → f k ≡ g k) → map_below n f ≡ map_below n g
-map_below_same zero f g same = refl
-map_below_same {A} (suc n) f g same =
-    ap (λ (xs : List A). xs ++ f n ∷ []) (map_below_same n f g (λ k l. same k (omega (arith, l)))) ∙ ap (λ x. map_below n g ++ x ∷ []) (same n (omega arith))
 
 module _ (d : Document) (ids : List Label) (are : AreLabels (codes "id") d.nodes ids) where
   joined_same : (i j : ℕ) → i < length d.nodes → j < length d.nodes → joined d i j ≡ joined_in ids d.adjacency i j

@@ -13,12 +13,11 @@ use Rattle.audit_model.specs.declared.setting.Label.TheVariants.{Whole, Word}
 use Rattle.audit_model.specs.Below.{any_below, count_below, map_below}
 use Rattle.audit_model.specs.First.{first_below}
 use Rattle.audit_model.specs.Label.{same_label, label_before}
-use Rattle.dual_graph.proofs.Rows.{length-map_below, get_or-map_below}
-use Rattle.model_laws.proofs.Below.{count_below_same, count_below_into}
+use Rattle.model_laws.proofs.Below.{count_below_same, count_below_into, any_below_some, any_below_from, length-map_below, get_or-map_below}
+use Rattle.model_laws.proofs.First.{none_passes, first_passes}
 use Rattle.dual_json.specs.Districts.{AreDistricts, is_new}
 use Rattle.dual_json.specs.Names.{label_total}
 use Rattle.dual_json.specs.Places.{nth}
-use Rattle.dual_json.proofs.First.{any_at, any_passes, first_passes, none_passes}
 
 -- ---- labels that are the same
 
@@ -59,7 +58,7 @@ count_below_front (suc n) p test l front back = elim (cases_eq p (suc n)) [
 new_one : (labels : List Label) (i j : ℕ) → is_new labels j ≡ true → i < j → nth labels i ≡ nth labels j → ⊥
 new_one labels i j new l same =
     both_ways (any_below j (λ k. same_label (nth labels k) (nth labels j))) (not-true (any_below j (λ k. same_label (nth labels k) (nth labels j))) new)
-    (any_at j (λ k. same_label (nth labels k) (nth labels j)) i l (equal_same (nth labels i) (nth labels j) same))
+    (any_below_from j (λ k. same_label (nth labels k) (nth labels j)) i l (equal_same (nth labels i) (nth labels j) same))
 
 new_apart : (labels : List Label) (i j : ℕ) → is_new labels i ≡ true → is_new labels j ≡ true → nth labels i ≡ nth labels j → i ≡ j
 new_apart labels i j a b same = elim (cases_order i j) [
@@ -97,7 +96,7 @@ module _ (labels found : List Label) (start : List ℕ) (are : AreDistricts labe
         first.0,
         same,
         not_from_false (any_below a (λ j. same_label (nth labels j) (nth labels a))) (false_from_ne_true (any_below a (λ j. same_label (nth labels j) (nth labels a))) (λ some.
-            let one = any_passes a (λ j. same_label (nth labels j) (nth labels a)) some in
+            let one = any_below_some a (λ j. same_label (nth labels j) (nth labels a)) some in
             both_ways (same_label (nth labels one.0) (nth found k)) (first.2 one.0 one.1) (ap (same_label (nth labels one.0)) (sym same) ∙ one.2))),
       )
 

@@ -4,7 +4,6 @@ use Rattle.std.specs.Prelude.{cond, codes, nat_lt, unwrap_or}
 use Rattle.std.specs.Option.{option_map, option_or}
 use Rattle.std.specs.Str.{is_utf8}
 use Rattle.std.proofs.lemmas.List.{ext_get_or}
-use Rattle.dual_graph.proofs.Rows.{length-map_below, get_or-map_below}
 use Rattle.serde_json.specs.Data.{Data}
 use Rattle.serde_json.specs.Read.{read}
 use Rattle.audit_model.specs.declared.fault.GraphFault.{GraphFault}
@@ -13,6 +12,8 @@ use Rattle.audit_model.specs.declared.setting.Columns.{Columns}
 use Rattle.audit_model.specs.declared.setting.Label.{Label}
 use Rattle.audit_model.specs.declared.setting.Label.TheVariants.{Word}
 use Rattle.audit_model.specs.Below.{map_below}
+use Rattle.model_laws.proofs.Options.{option_map_none}
+use Rattle.model_laws.proofs.Below.{length-map_below, get_or-map_below}
 use Rattle.graph_definitions.specs.Reading.{Document, document, id_of, label_count, node, node_count, refusal, refused_if}
 use Rattle.graph_definitions.specs.Regions.{id_reading}
 use Rattle.dual_json.specs.Districts.{count_fault}
@@ -27,10 +28,6 @@ front : {A : Type 0} → (o rest : Option A) → option_or o rest ≡ None → o
 front None rest e = refl
 front (Some a) rest e = cc e
 
-unmapped : {A B : Type 0} → (f : A → B) (o : Option A) → option_map f o ≡ None → o ≡ None
-unmapped f None e = refl
-unmapped f (Some a) e = cc e
-
 -- the refusals after those of the ids
 later : Document → Option GraphFault
 later d = option_or (entry_fault d is_unnamed fault.BadNeighbour) (option_or (entry_fault d (is_stranger d.nodes) fault.UnknownNeighbour)
@@ -44,7 +41,7 @@ all_named d columns none =
     front (graph_fault d) (option_or (labels_fault columns d.nodes) (count_fault (label_count d columns))) (sym (refusal_is d columns) ∙ none) in
     let ids : ids_fault d.nodes ≡ None =
     front (ids_fault d.nodes) (later d) (past (frame_fault d.directed (length d.nodes) (length d.adjacency)) (option_or (ids_fault d.nodes) (later d)) whole) in
-    unmapped fault.BadId (first_unnamed (codes "id") d.nodes) (front (option_map fault.BadId (first_unnamed (codes "id") d.nodes)) (repeated_in d.nodes) ids)
+    option_map_none fault.BadId (first_unnamed (codes "id") d.nodes) (front (option_map fault.BadId (first_unnamed (codes "id") d.nodes)) (repeated_in d.nodes) ids)
 
 -- the ids of the nodes of a document
 ids_in : Document → List Label

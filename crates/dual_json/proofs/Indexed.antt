@@ -1,5 +1,5 @@
 -- A map from names to their first places, one place after another.
-use Rattle.std.proofs.Common.{◌≡◌, ℕ, suc, ◌+◌, ◌<◌, List, length, true, false, cond, Option, Some, None, refl, sym, ap, ◌∙◌, subst, inl, inr, arith}
+use Rattle.std.proofs.Common.{◌≡◌, ℕ, suc, ◌+◌, ◌<◌, List, length, true, false, cond, Some, None, sym, ap, ◌∙◌, subst, inl, inr, arith}
 use Rattle.std.specs.HashMap.{HashMap, get}
 use Rattle.std.specs.Cmp.{eq_by_cmp_equiv}
 use Rattle.std.specs.Option.{option_or, option_map, unwrap_or}
@@ -9,20 +9,17 @@ use Rattle.audit_model.specs.declared.setting.Label.{Label}
 use Rattle.audit_model.specs.Below.{any_below}
 use Rattle.audit_model.specs.First.{first_below}
 use Rattle.audit_model.specs.Label.{same_label}
+use Rattle.model_laws.proofs.Options.{or_nothing}
+use Rattle.model_laws.proofs.First.{first_below_same, first_below_more, first_below_found, any_from_none, any_from_some}
 use Rattle.dual_json.specs.Names.{label_from, label_total, same_name}
 use Rattle.dual_json.specs.Places.{nth, repeated, IsIndex}
 use Rattle.dual_json.specs.declared.names.Name.{Name}
-use Rattle.dual_json.proofs.First.{first_below_same, first_below_more, first_below_found, any_from_some, any_from_none}
 
 pub same_turned : (a b : Label) → same_label a b ≡ same_label b a
 same_turned a b = (eq_by_cmp_equiv label_total).symm a b
 
 pub same_alike : (a b c : Label) → same_label a b ≡ true → same_label a c ≡ same_label b c
 same_alike a b c e = (eq_by_cmp_equiv label_total).congr a b c e
-
-or_nothing : (x : Option ℕ) → option_or x None ≡ x
-or_nothing None = refl
-or_nothing (Some a) = refl
 
 -- the first places below j, and no label there that an earlier place has
 pub record IsIndexed {S : Type 0} (labels : List Label) (j : ℕ) (places : HashMap Name ℕ S) : Type 0 where

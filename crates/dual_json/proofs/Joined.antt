@@ -1,7 +1,7 @@
 -- The numbers of the edges against the pairs of nodes that are joined.
 use Rattle.std.proofs.Common.{◌≡◌, ℕ, zero, suc, ◌+◌, ◌*◌, ◌/◌, ◌%◌, ◌<◌, ◌≤◌, Bool, true, false, not, ◌||◌, cond, List, [], ◌∷◌, ◌++◌, length, map, get_or, Option, Some, None, refl, sym, ap, ◌∙◌, subst, inl, inr, arith, length-append, append-nil}
 use Rattle.std.specs.Prelude.{◌==◌, ◌⊎◌, ◌↔◌, ◌≢◌, nat_lt}
-use Rattle.std.specs.Option.{option_map, option_and_then}
+use Rattle.std.specs.Option.{option_and_then}
 use Rattle.std.proofs.lemmas.Bool.{and_parts, and_from, or_cases, or_left, or_right, cases_lt, cases_order, cond-true, cond-false, lt-ltb, le-ltb, eq-eqb, eqb-true, ne_eqb, both_ways, false≢true, not_from_false, not-true, false_from_ne_true}
 use Rattle.std.proofs.lemmas.List.{length-map, get_or-map, get_or_append_left, get_or_push, get_or_past, ext_get_or}
 use Rattle.serde_json.specs.Data.{Data}
@@ -11,27 +11,23 @@ use Rattle.audit_model.specs.Graph.{Graph, IsGraph, has, adjacent}
 use Rattle.audit_model.specs.Label.{same_label}
 use Rattle.graph_definitions.specs.Reading.{id_of, same_id}
 use Rattle.model_laws.proofs.Connected.{has-filter_below, filter_below-has}
+use Rattle.model_laws.proofs.Options.{option_map_none}
+use Rattle.model_laws.proofs.Below.{any_below_some, any_below_from, length-map_below, get_or-map_below}
+use Rattle.model_laws.proofs.First.{none_passes, first_passes}
+use Rattle.model_laws.proofs.Lists.{has_at, at_has, rises, first_has}
 use Rattle.dual_graph.specs.Pairs.{pair_at, IsBefore, ArePairs, Joins}
-use Rattle.dual_graph.proofs.Coding.{rises}
 use Rattle.dual_graph.proofs.Counting.{edges_counted}
-use Rattle.dual_graph.proofs.Marking.{has_at, at_has}
-use Rattle.dual_graph.proofs.Rows.{length-map_below, get_or-map_below}
 use Rattle.dual_json.specs.Edges.{entries_at, edge_code, names_node, joined_in, graph_in, edges_in, pairs_in, LeadsTo, AreCodes, AreEdges}
 use Rattle.dual_json.specs.Places.{nth, object_at, place_in, repeated}
-use Rattle.dual_json.proofs.First.{any_at, any_passes, first_passes, none_passes}
 use Rattle.dual_json.proofs.Indexed.{same_turned, same_alike}
 
 -- ---- ids that all differ
 
-nothing : {A B : Type 0} → (f : A → B) (o : Option A) → option_map f o ≡ None → o ≡ None
-nothing f None e = refl
-nothing f (Some a) e = cc e
-
 pub ids_apart : (ids : List Label) → repeated ids ≡ None → (i j : ℕ) → i < j → j < length ids → same_label (nth ids i) (nth ids j) ≡ false
 ids_apart ids none i j l inside =
-    let never = none_passes (length ids) (λ k. any_below k (λ m. same_label (nth ids m) (nth ids k))) (nothing _ _ none) j inside in
+    let never = none_passes (length ids) (λ k. any_below k (λ m. same_label (nth ids m) (nth ids k))) (option_map_none _ _ none) j inside in
     false_from_ne_true (same_label (nth ids i) (nth ids j)) (λ same. both_ways (any_below j (λ m. same_label (nth ids m) (nth ids j))) never
-    (any_at j (λ m. same_label (nth ids m) (nth ids j)) i l same))
+    (any_below_from j (λ m. same_label (nth ids m) (nth ids j)) i l same))
 
 module _ (ids : List Label) (apart : repeated ids ≡ None) where
   -- the only place of a label
@@ -66,11 +62,11 @@ module _ (ids : List Label) (apart : repeated ids ≡ None) where
   leads_names : (entries : List Data) (v : ℕ) → LeadsTo ids entries (length entries) v → (v < length ids) × (names_node ids entries v ≡ true)
   leads_names entries v leads =
       let same = place_same (id_of (object_at entries leads.0)) v leads.2 in
-      (same.0, any_at (length entries) (λ place. same_id (id_of (object_at entries place)) (Some (nth ids v))) leads.0 leads.1 same.1)
+      (same.0, any_below_from (length entries) (λ place. same_id (id_of (object_at entries place)) (Some (nth ids v))) leads.0 leads.1 same.1)
 
   names_leads : (entries : List Data) (v : ℕ) → v < length ids → names_node ids entries v ≡ true → LeadsTo ids entries (length entries) v
   names_leads entries v lv names =
-      let found = any_passes (length entries) (λ place. same_id (id_of (object_at entries place)) (Some (nth ids v))) names in
+      let found = any_below_some (length entries) (λ place. same_id (id_of (object_at entries place)) (Some (nth ids v))) names in
       (found.0, found.1, same_place (id_of (object_at entries found.0)) v lv found.2)
 
 -- ---- numbers of edges
@@ -161,9 +157,6 @@ later x xs rising i l =
 
 one_of : (x : ℕ) (xs : List ℕ) (v : ℕ) → has (x ∷ xs) v ≡ true → (x ≡ v) ⊎ (has xs v ≡ true)
 one_of x xs v h = elim (or_cases (x == v) (has xs v) h) [ inl e ↦ inl (eqb-true x v e) | inr e ↦ inr e ]
-
-first_has : (x : ℕ) (xs : List ℕ) → has (x ∷ xs) x ≡ true
-first_has x xs = or_left (x == x) (has xs x) (eq-eqb x x refl)
 
 -- rising lists with the same numbers are the same
 pub rising_same : (xs ys : List ℕ) → ((i : ℕ) → i + 1 < length xs → get_or xs i 0 < get_or xs (i + 1) 0) → ((i : ℕ) → i + 1 < length ys → get_or ys i 0 < get_or ys (i + 1) 0)

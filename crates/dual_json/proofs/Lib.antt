@@ -1,7 +1,6 @@
 pub mod Bridge
 pub mod Counted
 pub mod Edging
-pub mod First
 pub mod Identified
 pub mod Indexed
 pub mod Joined

@@ -6,6 +6,7 @@ use Rattle.std.proofs.lemmas.Bool.{and_from, and_left, and_right}
 use Rattle.std.proofs.lemmas.List.{length-map}
 use Rattle.audit_model.specs.Below.{map_below}
 use Rattle.audit_model.specs.First.{first_some_below}
+use Rattle.model_laws.proofs.First.{first_some_below_more, first_some_below_found}
 use Rattle.serde_json.specs.Data.{Data, Items, null}
 use Rattle.serde_json.specs.View.{items_of, items_view, view}
 use Rattle.serde_json.specs.declared.value.Value.{Value}
@@ -14,7 +15,6 @@ use Rattle.dual_json.specs.Names.{label_from}
 use Rattle.dual_json.specs.declared.names.Name.{Name}
 use Rattle.dual_json.specs.Places.{object_at}
 use Rattle.dual_json.specs.Shape.{views, lists_in}
-use Rattle.dual_json.proofs.First.{first_some_below_more, first_some_below_found}
 
 -- what a function gives of the element at a place
 pub get_or-map_at : {A B : Type 0} → (f : A → B) (xs : List A) (i : ℕ) (x : A) (d : B) → i < length xs → x ≡ get_or xs i x → get_or (map f xs) i d ≡ f x

@@ -6,12 +6,12 @@ use Rattle.std.proofs.lemmas.List.{length-map, ext_get_or}
 use Rattle.audit_model.specs.Below.{map_below}
 use Rattle.audit_model.specs.First.{first_below}
 use Rattle.audit_model.specs.declared.setting.Label.TheVariants.{Word}
+use Rattle.model_laws.proofs.Below.{length-map_below, get_or-map_below}
+use Rattle.model_laws.proofs.First.{first_below_more}
 use Rattle.serde_json.specs.Data.{Data}
-use Rattle.dual_graph.proofs.Rows.{length-map_below, get_or-map_below}
 use Rattle.dual_json.specs.Names.{label_from}
 use Rattle.dual_json.specs.Places.{label_in, object_at, nth, labels_from, first_unnamed, AreLabels}
 use Rattle.dual_json.specs.declared.names.Name.{Name}
-use Rattle.dual_json.proofs.First.{first_below_more}
 
 pub nth-push_same : (names : List Name) (name : Name) → nth (labels_from (names ++ name ∷ [])) (length names) ≡ label_from name
 nth-push_same [] name = refl

@@ -16,13 +16,14 @@ use Rattle.audit_model.specs.declared.setting.Columns.{Columns}
 use Rattle.audit_model.specs.declared.setting.Label.{Label}
 use Rattle.audit_model.specs.Limits.{AreRegions}
 use Rattle.audit_model.specs.Parsed.{Parsed}
+use Rattle.model_laws.proofs.Options.{none_or}
+use Rattle.model_laws.proofs.First.{or_some}
 use Rattle.graph_definitions.specs.Reading.{Document, document, reading, of_root, accepted_or, bad_part, refusal, parsed, refused_if}
 use Rattle.graph_definitions.specs.Regions.{as_districts, document_of, region_fault, region_reading, regions, regions_or}
 use Rattle.dual_json.specs.Districts.{different_count}
 use Rattle.dual_json.specs.Numbered.{first_without, AreNumbered}
 use Rattle.dual_json.specs.Places.{first_unnamed, AreLabels}
 use Rattle.dual_json.proofs.Bridge.{different_same, start_same, reading_of}
-use Rattle.dual_json.proofs.First.{or_none, or_some}
 use Rattle.dual_json.proofs.Shapes.{is_refused, not_refused}
 
 -- ---- refusals
@@ -35,15 +36,15 @@ absent_is f (Some x) found false is e = ap is_none (sym is)
 
 pub fault_unlabelled : (d : Document) (column : List ℕ) (node : ℕ) → first_without column d.nodes ≡ None → first_unnamed column d.nodes ≡ Some node → region_fault d column ≡ Some (BadLabel node)
 fault_unlabelled d column node all bad =
-    or_none (option_map Missing (first_without column d.nodes)) _ (ap (option_map Missing) all)
+    none_or (option_map Missing (first_without column d.nodes)) _ (ap (option_map Missing) all)
     ∙ or_some (option_map BadLabel (first_unnamed column d.nodes)) _ (BadLabel node) (ap (option_map BadLabel) bad)
 
 -- where each node has a label, only their number is a reason
 fault_counted : (d : Document) (column : List ℕ) (labels : List Label) → first_without column d.nodes ≡ None → first_unnamed column d.nodes ≡ None → AreLabels column d.nodes labels
     → region_fault d column ≡ option_or (refused_if (nat_lt 5000 (different_count labels)) (TooMany (different_count labels))) None
 fault_counted d column labels all named are =
-    or_none (option_map Missing (first_without column d.nodes)) _ (ap (option_map Missing) all)
-    ∙ or_none (option_map BadLabel (first_unnamed column d.nodes)) _ (ap (option_map BadLabel) named)
+    none_or (option_map Missing (first_without column d.nodes)) _ (ap (option_map Missing) all)
+    ∙ none_or (option_map BadLabel (first_unnamed column d.nodes)) _ (ap (option_map BadLabel) named)
     ∙ ap (λ n. option_or (refused_if (nat_lt 5000 n) (TooMany n)) None) (different_same d (as_districts column) labels are)
 
 pub fault_many : (d : Document) (column : List ℕ) (labels : List Label) → first_without column d.nodes ≡ None → first_unnamed column d.nodes ≡ None → AreLabels column d.nodes labels
@@ -56,7 +57,7 @@ pub fault_none : (d : Document) (column : List ℕ) (labels : List Label) → fi
     → nat_lt 5000 (different_count labels) ≡ false → region_fault d column ≡ None
 fault_none d column labels all named are few =
     fault_counted d column labels all named are
-    ∙ or_none (refused_if (nat_lt 5000 (different_count labels)) (TooMany (different_count labels))) None (not_refused (nat_lt 5000 (different_count labels)) (TooMany (different_count labels)) few)
+    ∙ none_or (refused_if (nat_lt 5000 (different_count labels)) (TooMany (different_count labels))) None (not_refused (nat_lt 5000 (different_count labels)) (TooMany (different_count labels)) few)
 
 -- ---- the numbers
 

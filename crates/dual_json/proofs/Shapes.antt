@@ -1,16 +1,14 @@
 -- A root whose parts all have their shape.
 use Rattle.std.proofs.Common.{◌≡◌, Bool, true, false, not, List, [], ◌∷◌, map, Option, Some, None, refl, sym, ap, ◌∙◌}
 use Rattle.std.specs.List.{list_all}
-use Rattle.std.specs.Option.{option_or, is_some, is_none, unwrap_or, option_and_then, MatchOption}
+use Rattle.std.specs.Option.{is_some, is_none, unwrap_or, option_and_then, MatchOption}
 use Rattle.std.specs.Prelude.{codes}
 use Rattle.std.proofs.lemmas.Bool.{cond-false, not_from_true}
 use Rattle.audit_model.specs.declared.fault.Part.TheVariants as part
+use Rattle.model_laws.proofs.Options.{or_of_none}
 use Rattle.serde_json.specs.Data.{Data, Members, null}
 use Rattle.serde_json.specs.Find.{get, as_bool, as_object}
 use Rattle.graph_definitions.specs.Reading.{Document, document, bad_part, is_no_flag, list_at, list_of, refused_if}
-
-pub or_both : {A : Type 0} → (x y : Option A) → x ≡ None → y ≡ None → option_or x y ≡ None
-or_both x y e f = ap (λ o. option_or o y) e ∙ f
 
 pub not_refused : {A : Type 0} → (b : Bool) (f : A) → b ≡ false → refused_if b f ≡ None
 not_refused b f e = cond-false b (Some f) None e
@@ -29,13 +27,13 @@ flag_good (Some b) a P h there = h.0
 pub parts_good : (root : Data) (nodes adjacency : List Data) → is_some (as_object root) ≡ true → Some nodes ≡ list_at (codes "nodes") root → Some adjacency ≡ list_at (codes "adjacency") root
     → list_all (λ d. is_some (list_of d)) adjacency ≡ true → is_no_flag (codes "directed") root ≡ false → is_no_flag (codes "multigraph") root ≡ false → bad_part root ≡ None
 parts_good root nodes adjacency is_object has_nodes has_lists lists directed multigraph =
-    or_both (refused_if (is_none (as_object root)) part.Root) _ (not_refused (is_none (as_object root)) part.Root (some_is_there (as_object root) is_object))
-    (or_both (refused_if (is_none (list_at (codes "nodes") root)) part.Nodes) _ (not_refused (is_none (list_at (codes "nodes") root)) part.Nodes (ap is_none (sym has_nodes)))
-    (or_both (refused_if (not (list_all (λ d. is_some (list_of d)) (unwrap_or (list_at (codes "adjacency") root) (null ∷ [])))) part.Adjacency) _
+    or_of_none (refused_if (is_none (as_object root)) part.Root) _ (not_refused (is_none (as_object root)) part.Root (some_is_there (as_object root) is_object))
+    (or_of_none (refused_if (is_none (list_at (codes "nodes") root)) part.Nodes) _ (not_refused (is_none (list_at (codes "nodes") root)) part.Nodes (ap is_none (sym has_nodes)))
+    (or_of_none (refused_if (not (list_all (λ d. is_some (list_of d)) (unwrap_or (list_at (codes "adjacency") root) (null ∷ [])))) part.Adjacency) _
     (not_refused (not (list_all (λ d. is_some (list_of d)) (unwrap_or (list_at (codes "adjacency") root) (null ∷ [])))) part.Adjacency
     (ap (λ o. not (list_all (λ d. is_some (list_of d)) (unwrap_or o (null ∷ [])))) (sym has_lists) ∙ not_from_true (list_all (λ d. is_some (list_of d)) adjacency) lists))
-    (or_both (refused_if (is_no_flag (codes "directed") root) part.Directed) _ (not_refused (is_no_flag (codes "directed") root) part.Directed directed)
-    (or_both (refused_if (is_no_flag (codes "multigraph") root) part.Multigraph) None (not_refused (is_no_flag (codes "multigraph") root) part.Multigraph multigraph) refl))))
+    (or_of_none (refused_if (is_no_flag (codes "directed") root) part.Directed) _ (not_refused (is_no_flag (codes "directed") root) part.Directed directed)
+    (or_of_none (refused_if (is_no_flag (codes "multigraph") root) part.Multigraph) None (not_refused (is_no_flag (codes "multigraph") root) part.Multigraph multigraph) refl))))
 
 document_from : List Data → List (List Data) → Bool → Document
 document_from nodes adjacency directed = record { nodes = nodes; adjacency = adjacency; directed = directed }

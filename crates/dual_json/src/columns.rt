@@ -14,6 +14,52 @@ use audit_model::text::Text;
 use serde_json::Value;
 use std::alloc::Global;
 
+/// Whether each node has all columns, or the first that has not.
+pub fn check_columns(nodes: &[Value], columns: &Columns) -> Result<(), GraphFault>
+    requires { length nodes.now ≤ 100000 }
+    ensures { MatchResult result (λ _. missing columns.now (views nodes.now) ≡ None) (λ f. missing columns.now (views nodes.now) ≡ Some f) }
+{
+    for node in 0..nodes.len() {
+        if let Some(column) = missing_column(&nodes[node], columns) {
+            return Err(GraphFault::Missing {
+                node: node as u32,
+                column,
+            });
+        }
+    }
+    Ok(())
+}
+
+/// Whether each node has its numbers, or the first that has not.
+pub fn check_numbers(nodes: &[Value], columns: &Columns) -> Result<(), GraphFault>
+    requires { length nodes.now ≤ 100000 }
+    ensures { MatchResult result (λ _. bad columns.now (views nodes.now) ≡ None) (λ f. bad columns.now (views nodes.now) ≡ Some f) }
+{
+    for node in 0..nodes.len() {
+        if let Some(column) = bad_number(&nodes[node], columns) {
+            return Err(GraphFault::BadNumber {
+                node: node as u32,
+                column,
+            });
+        }
+    }
+    Ok(())
+}
+
+/// The three columns.
+pub fn counts_of(alloc: Global, nodes: &[Value], columns: &Columns) -> Result<Counts, GraphFault>
+    ensures memory { IfErr result (λ f. f ≡ Memory) }
+    ensures population { IfOk result (λ counts. counts.population ≡ numbers_in columns.now.population (views nodes.now)) }
+    ensures first { IfOk result (λ counts. counts.first ≡ numbers_in columns.now.first (views nodes.now)) }
+    ensures second { IfOk result (λ counts. counts.second ≡ numbers_in columns.now.second (views nodes.now)) }
+{
+    Ok(Counts {
+        population: numbers_of(alloc, nodes, &columns.population)?,
+        first: numbers_of(alloc, nodes, &columns.first)?,
+        second: numbers_of(alloc, nodes, &columns.second)?,
+    })
+}
+
 /// The first column that a node has not.
 fn missing_column(node: &Value, columns: &Columns) -> Option<Column>
     ensures { result ≡ missing_in columns.now (view node.now) }
@@ -29,22 +75,6 @@ fn missing_column(node: &Value, columns: &Columns) -> Option<Column>
     } else {
         None
     }
-}
-
-/// Whether each node has all columns, or the first that has not.
-pub fn check_columns(nodes: &[Value], columns: &Columns) -> Result<(), GraphFault>
-    requires { length nodes.now ≤ 100000 }
-    ensures { MatchResult result (λ _. missing columns.now (views nodes.now) ≡ None) (λ f. missing columns.now (views nodes.now) ≡ Some f) }
-{
-    for node in 0..nodes.len() {
-        if let Some(column) = missing_column(&nodes[node], columns) {
-            return Err(GraphFault::Missing {
-                node: node as u32,
-                column,
-            });
-        }
-    }
-    Ok(())
 }
 
 /// The whole number from 0 to 10^9 in a column.
@@ -81,22 +111,6 @@ fn bad_number(node: &Value, columns: &Columns) -> Option<Column>
     }
 }
 
-/// Whether each node has its numbers, or the first that has not.
-pub fn check_numbers(nodes: &[Value], columns: &Columns) -> Result<(), GraphFault>
-    requires { length nodes.now ≤ 100000 }
-    ensures { MatchResult result (λ _. bad columns.now (views nodes.now) ≡ None) (λ f. bad columns.now (views nodes.now) ≡ Some f) }
-{
-    for node in 0..nodes.len() {
-        if let Some(column) = bad_number(&nodes[node], columns) {
-            return Err(GraphFault::BadNumber {
-                node: node as u32,
-                column,
-            });
-        }
-    }
-    Ok(())
-}
-
 /// One column.
 fn numbers_of(alloc: Global, nodes: &[Value], key: &Text) -> Result<NumList, GraphFault>
     ensures { MatchResult result (λ numbers. numbers ≡ numbers_in key.now (views nodes.now)) (λ f. f ≡ Memory) }
@@ -109,18 +123,4 @@ fn numbers_of(alloc: Global, nodes: &[Value], key: &Text) -> Result<NumList, Gra
         };
     }
     Ok(numbers)
-}
-
-/// The three columns.
-pub fn counts_of(alloc: Global, nodes: &[Value], columns: &Columns) -> Result<Counts, GraphFault>
-    ensures memory { IfErr result (λ f. f ≡ Memory) }
-    ensures population { IfOk result (λ counts. counts.population ≡ numbers_in columns.now.population (views nodes.now)) }
-    ensures first { IfOk result (λ counts. counts.first ≡ numbers_in columns.now.first (views nodes.now)) }
-    ensures second { IfOk result (λ counts. counts.second ≡ numbers_in columns.now.second (views nodes.now)) }
-{
-    Ok(Counts {
-        population: numbers_of(alloc, nodes, &columns.population)?,
-        first: numbers_of(alloc, nodes, &columns.first)?,
-        second: numbers_of(alloc, nodes, &columns.second)?,
-    })
 }

@@ -18,18 +18,6 @@ use dual_graph::pairs::put_in_order;
 use serde_json::Value;
 use std::alloc::Global;
 
-/// The first entry that has no id.
-fn unnamed_entry(entries: &[Value]) -> Option<usize>
-    ensures { result ≡ first_in is_unnamed (views entries.now) }
-{
-    for place in 0..entries.len() {
-        if name_at(&entries[place], "id").is_none() {
-            return Some(place);
-        }
-    }
-    None
-}
-
 /// Whether each entry has an id, or the first that has none.
 pub fn check_entries(adjacency: &[Value]) -> Result<(), GraphFault>
     requires { length adjacency.now ≤ 100000 }
@@ -45,6 +33,42 @@ pub fn check_entries(adjacency: &[Value]) -> Result<(), GraphFault>
         }
     }
     Ok(())
+}
+
+/// The graph whose edges are the pairs of different nodes of which one lists the other.
+pub fn graph_of<'v>(
+    alloc: Global,
+    units: u32,
+    adjacency: &'v [Value],
+    index: &Index<'v>,
+) -> Result<Graph, GraphFault>
+    requires few { units ≤ 100000 }
+    requires lists { length adjacency.now ≡ units }
+    requires ids { length index.now ≡ units }
+    requires different { repeated index.now ≡ None }
+    ensures { MatchResult result
+        (λ g. (edges_fault index.now (lists_in adjacency.now) ≡ None) × (g ≡ graph_in index.now (lists_in adjacency.now)) × IsGraph g × (edges_in index.now (lists_in adjacency.now) ≤ 400000))
+        (λ f. (f ≡ Memory) ⊎ (edges_fault index.now (lists_in adjacency.now) ≡ Some f)) }
+{
+    let mut codes = codes_of(alloc, adjacency, index)?;
+    put_in_order(&mut codes);
+    let edges = codes.len() as u64;
+    if edges > 400000 {
+        return Err(GraphFault::TooManyEdges(edges));
+    }
+    graph_from(alloc, units, &codes)
+}
+
+/// The first entry that has no id.
+fn unnamed_entry(entries: &[Value]) -> Option<usize>
+    ensures { result ≡ first_in is_unnamed (views entries.now) }
+{
+    for place in 0..entries.len() {
+        if name_at(&entries[place], "id").is_none() {
+            return Some(place);
+        }
+    }
+    None
 }
 
 /// An edge as one number, the smaller end first.
@@ -138,28 +162,4 @@ fn graph_from(alloc: Global, units: u32, codes: &[u64]) -> Result<Graph, GraphFa
         Ok(graph) => Ok(graph),
         Err(_) => Err(GraphFault::Memory),
     }
-}
-
-/// The graph whose edges are the pairs of different nodes of which one lists the other.
-pub fn graph_of<'v>(
-    alloc: Global,
-    units: u32,
-    adjacency: &'v [Value],
-    index: &Index<'v>,
-) -> Result<Graph, GraphFault>
-    requires few { units ≤ 100000 }
-    requires lists { length adjacency.now ≡ units }
-    requires ids { length index.now ≡ units }
-    requires different { repeated index.now ≡ None }
-    ensures { MatchResult result
-        (λ g. (edges_fault index.now (lists_in adjacency.now) ≡ None) × (g ≡ graph_in index.now (lists_in adjacency.now)) × IsGraph g × (edges_in index.now (lists_in adjacency.now) ≤ 400000))
-        (λ f. (f ≡ Memory) ⊎ (edges_fault index.now (lists_in adjacency.now) ≡ Some f)) }
-{
-    let mut codes = codes_of(alloc, adjacency, index)?;
-    put_in_order(&mut codes);
-    let edges = codes.len() as u64;
-    if edges > 400000 {
-        return Err(GraphFault::TooManyEdges(edges));
-    }
-    graph_from(alloc, units, &codes)
 }

@@ -18,22 +18,6 @@ use audit_model::memory::Memory;
 use serde_json::Value;
 use std::alloc::Global;
 
-/// The ids of the nodes, each of which has one.
-fn ids_in(alloc: Global, nodes: &[Value]) -> Result<LabelList, Memory>
-    requires few { length nodes.now ≤ 100000 }
-    requires named { first_unnamed (codes "id") (views nodes.now) ≡ None }
-    ensures { IfOk result (λ ids. AreLabels (codes "id") (views nodes.now) ids) }
-{
-    match names_at(alloc, nodes, "id") {
-        Ok(names) => match labels_of(alloc, &names) {
-            Ok(ids) => Ok(ids),
-            Err(_) => Err(Memory),
-        },
-        Err(Unnamed::At(_)) => unreachable!(),
-        Err(Unnamed::Memory) => Err(Memory),
-    }
-}
-
 /// The ids of the units of a text that is a graph, in their order.
 pub fn read_ids(alloc: Global, bytes: &[u8]) -> Result<LabelList, Memory>
     requires graph { IsGraphText bytes.now }
@@ -47,5 +31,21 @@ pub fn read_ids(alloc: Global, bytes: &[u8]) -> Result<LabelList, Memory>
             Err(_) => unreachable!(),
         },
         Err(_) => Err(Memory),
+    }
+}
+
+/// The ids of the nodes, each of which has one.
+fn ids_in(alloc: Global, nodes: &[Value]) -> Result<LabelList, Memory>
+    requires few { length nodes.now ≤ 100000 }
+    requires named { first_unnamed (codes "id") (views nodes.now) ≡ None }
+    ensures { IfOk result (λ ids. AreLabels (codes "id") (views nodes.now) ids) }
+{
+    match names_at(alloc, nodes, "id") {
+        Ok(names) => match labels_of(alloc, &names) {
+            Ok(ids) => Ok(ids),
+            Err(_) => Err(Memory),
+        },
+        Err(Unnamed::At(_)) => unreachable!(),
+        Err(Unnamed::Memory) => Err(Memory),
     }
 }

@@ -31,6 +31,30 @@ impl<'v> Model for Index<'v> {
     ghost invariant = { λ x. IsIndex (labels_from x.names.items) x.places };
 }
 
+impl<'v> Index<'v> {
+    /// The index of the names, or the first name that an earlier place has too.
+    pub fn of(alloc: Global, names: Vec<Name<'v>>) -> Result<Index<'v>, GraphFault>
+        requires { length names.items ≤ 100000 }
+        ensures { MatchResult result (λ index. (repeated (labels_from names.entry.items) ≡ None) × (index ≡ labels_from names.entry.items))
+            (λ f. (f ≡ Memory) ⊎ (repeated (labels_from names.entry.items) ≡ Some f)) }
+    {
+        let places = places_of(alloc, &names)?;
+        Ok(Index { names, places })
+    }
+
+    /// The node that an entry names.
+    pub fn node_of(&self, entry: &'v Value) -> Option<u32>
+        ensures { result ≡ place_of self.now (view entry.now) }
+    {
+        // Reads the fields, so that what the type says of them is known.
+        let _ = &self.names;
+        match name_at(entry, "id") {
+            Some(name) => self.places.get(&name).copied(),
+            None => None,
+        }
+    }
+}
+
 /// The place of each name, or the first name that an earlier place has too.
 fn places_of<'v>(alloc: Global, names: &[Name<'v>]) -> Result<HashMap<Name<'v>, u32>, GraphFault>
     requires { length names.now ≤ 100000 }
@@ -49,27 +73,4 @@ fn places_of<'v>(alloc: Global, names: &[Name<'v>]) -> Result<HashMap<Name<'v>, 
         }
     }
     Ok(places)
-}
-
-impl<'v> Index<'v> {
-    /// The index of the names, or the first name that an earlier place has too.
-    pub fn of(alloc: Global, names: Vec<Name<'v>>) -> Result<Index<'v>, GraphFault>
-        requires { length names.items ≤ 100000 }
-        ensures { MatchResult result (λ index. (repeated (labels_from names.entry.items) ≡ None) × (index ≡ labels_from names.entry.items))
-            (λ f. (f ≡ Memory) ⊎ (repeated (labels_from names.entry.items) ≡ Some f)) }
-    {
-        let places = places_of(alloc, &names)?;
-        Ok(Index { names, places })
-    }
-
-    /// The node that an entry names.
-    pub fn node_of(&self, entry: &'v Value) -> Option<u32>
-        ensures { result ≡ place_of self.now (view entry.now) }
-    {
-        let _ = &self.names;
-        match name_at(entry, "id") {
-            Some(name) => self.places.get(&name).copied(),
-            None => None,
-        }
-    }
 }

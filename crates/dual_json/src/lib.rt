@@ -1,15 +1,15 @@
 //! Reading a dual graph from networkx's adjacency data.
 #![tactic(auto)]
 
-pub mod columns;
+mod columns;
 pub mod districts;
-pub mod edges;
-pub mod ids;
-pub mod index;
+mod edges;
+mod ids;
+mod index;
 pub mod names;
-pub mod read;
-pub mod regions;
-pub mod shape;
+mod read;
+mod regions;
+mod shape;
 
 pub use crate::ids::read_ids;
 pub use crate::read::read_graph;

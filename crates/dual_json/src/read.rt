@@ -44,6 +44,29 @@ pub(crate) fn value_of(alloc: Global, bytes: &[u8]) -> Result<Value, GraphFault>
     }
 }
 
+/// What is read of the columns.
+#[derive(Drop)]
+struct Rows {
+    counts: Counts,
+    start: UnitList,
+    labels: LabelList,
+}
+
+/// The graph of a text, its counts, its start plan and its labels, or the first reason to refuse it.
+///
+/// The text is networkx's adjacency data. The refusals are tested in the order of the variants of [`GraphFault`], each over the whole text, and the least place is given.
+pub fn read_graph(alloc: Global, bytes: &[u8], cols: &Columns) -> Result<Parsed, GraphFault>
+    ensures read { MatchResult result (λ p. reading bytes.now cols.now ≡ Ok (parsed_of p))
+        (λ f. (f ≡ fault.Memory) ⊎ (reading bytes.now cols.now ≡ Err f)) }
+    ensures within { IfOk result (λ p. AreWithin p.graph p.counts p.start (length p.labels)) }
+{
+    let root = value_of(alloc, bytes)?;
+    match parts_of(&root) {
+        Ok(parts) => read_parts(alloc, &parts, cols),
+        Err(part) => Err(GraphFault::BadShape(part)),
+    }
+}
+
 /// The ids of the nodes.
 fn ids_of<'v>(alloc: Global, nodes: &'v [Value]) -> Result<Index<'v>, GraphFault>
     requires { length nodes.now ≤ 100000 }
@@ -67,14 +90,6 @@ fn graph_in(alloc: Global, parts: &Parts<'_>) -> Result<Graph, GraphFault>
     let index = ids_of(alloc, parts.nodes)?;
     check_entries(parts.adjacency)?;
     graph_of(alloc, parts.nodes.len() as u32, parts.adjacency, &index)
-}
-
-/// What is read of the columns.
-#[derive(Drop)]
-struct Rows {
-    counts: Counts,
-    start: UnitList,
-    labels: LabelList,
 }
 
 /// The label of each node's district, where all columns are there and all numbers are good.
@@ -138,19 +153,4 @@ fn read_parts(alloc: Global, parts: &Parts<'_>, columns: &Columns) -> Result<Par
         start: rows.start,
         labels: rows.labels,
     })
-}
-
-/// The graph of a text, its counts, its start plan and its labels, or the first reason to refuse it.
-///
-/// The text is networkx's adjacency data. The refusals are tested in the order of the variants of [`GraphFault`], each over the whole text, and the least place is given.
-pub fn read_graph(alloc: Global, bytes: &[u8], cols: &Columns) -> Result<Parsed, GraphFault>
-    ensures read { MatchResult result (λ p. reading bytes.now cols.now ≡ Ok (parsed_of p))
-        (λ f. (f ≡ fault.Memory) ⊎ (reading bytes.now cols.now ≡ Err f)) }
-    ensures within { IfOk result (λ p. AreWithin p.graph p.counts p.start (length p.labels)) }
-{
-    let root = value_of(alloc, bytes)?;
-    match parts_of(&root) {
-        Ok(parts) => read_parts(alloc, &parts, cols),
-        Err(part) => Err(GraphFault::BadShape(part)),
-    }
 }

@@ -23,6 +23,31 @@ use audit_model::text::Text;
 use serde_json::Value;
 use std::alloc::Global;
 
+/// The region of each unit of a text that is a graph, or the first reason to refuse them.
+///
+/// A region is a county or the like. Regions are the labels of one more column and are numbered as districts are: by the order of their labels, from 0.
+///
+/// # Errors
+///
+/// - `Missing`: the least node that has not the column.
+/// - `BadLabel`: the least node whose label is neither a text nor a whole number.
+/// - `TooMany`: how many different labels there are, which are more than 5,000.
+/// - `Memory`: there was no memory to read the text again, or for the numbers.
+pub fn read_regions(alloc: Global, bytes: &[u8], column: &Text) -> Result<UnitList, RegionFault>
+    requires graph { IsGraphText bytes.now }
+    ensures read { MatchResult result (λ numbers. region_reading bytes.now column.now ≡ Ok numbers)
+        (λ f. (f ≡ fault.Memory) ⊎ (region_reading bytes.now column.now ≡ Err f)) }
+    ensures within { IfOk result (λ numbers. (columns : Columns) (parsed : Parsed) → reading bytes.now columns ≡ Ok parsed → AreRegions parsed.graph.units numbers) }
+{
+    match value_of(alloc, bytes) {
+        Ok(root) => match parts_of(&root) {
+            Ok(parts) => regions_in(alloc, &parts, column),
+            Err(_) => unreachable!(),
+        },
+        Err(_) => Err(RegionFault::Memory),
+    }
+}
+
 /// The first node that has not the column.
 fn first_missing(nodes: &[Value], column: &Text) -> Option<u32>
     requires { length nodes.now ≤ 100000 }
@@ -71,30 +96,5 @@ fn regions_in(alloc: Global, parts: &Parts<'_>, column: &Text) -> Result<UnitLis
         Ok(names) => numbers_of(alloc, &names),
         Err(Unnamed::At(node)) => Err(RegionFault::BadLabel(node)),
         Err(Unnamed::Memory) => Err(RegionFault::Memory),
-    }
-}
-
-/// The region of each unit of a text that is a graph, or the first reason to refuse them.
-///
-/// A region is a county or the like. Regions are the labels of one more column and are numbered as districts are: by the order of their labels, from 0.
-///
-/// # Errors
-///
-/// - `Missing`: the least node that has not the column.
-/// - `BadLabel`: the least node whose label is neither a text nor a whole number.
-/// - `TooMany`: how many different labels there are, which are more than 5,000.
-/// - `Memory`: there was no memory to read the text again, or for the numbers.
-pub fn read_regions(alloc: Global, bytes: &[u8], column: &Text) -> Result<UnitList, RegionFault>
-    requires graph { IsGraphText bytes.now }
-    ensures read { MatchResult result (λ numbers. region_reading bytes.now column.now ≡ Ok numbers)
-        (λ f. (f ≡ fault.Memory) ⊎ (region_reading bytes.now column.now ≡ Err f)) }
-    ensures within { IfOk result (λ numbers. (columns : Columns) (parsed : Parsed) → reading bytes.now columns ≡ Ok parsed → AreRegions parsed.graph.units numbers) }
-{
-    match value_of(alloc, bytes) {
-        Ok(root) => match parts_of(&root) {
-            Ok(parts) => regions_in(alloc, &parts, column),
-            Err(_) => unreachable!(),
-        },
-        Err(_) => Err(RegionFault::Memory),
     }
 }

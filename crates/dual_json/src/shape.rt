@@ -18,42 +18,6 @@ pub struct Parts<'v> {
     pub directed: bool,
 }
 
-/// The elements of the list at a key.
-fn list_at<'v>(root: &'v Value, key: &str) -> Option<&'v [Value]>
-    ensures { option_map (λ s. views s.now) result ≡ list_in key.now (view root.now) }
-{
-    match root.get(key) {
-        Some(value) => match value.as_array() {
-            Some(list) => Some(list.as_slice()),
-            None => None,
-        },
-        None => None,
-    }
-}
-
-/// Whether each value is a list.
-fn are_lists(values: &[Value]) -> bool
-    ensures { result ≡ list_all (λ d. is_some (list_of d)) (views values.now) }
-{
-    for value in values {
-        if !value.is_array() {
-            return false;
-        }
-    }
-    true
-}
-
-/// The truth value at a key, false where there is no such key; none where there is another value.
-fn flag_at(root: &Value, key: &str) -> Option<bool>
-    ensures { MatchOption result (is_no_flag key.now (view root.now) ≡ true)
-        (λ flag. (is_no_flag key.now (view root.now) ≡ false) × (unwrap_or (option_and_then as_bool (get key.now (view root.now))) false ≡ flag)) }
-{
-    match root.get(key) {
-        Some(value) => value.as_bool(),
-        None => Some(false),
-    }
-}
-
 /// The parts, or the first of them that has not its shape.
 pub fn parts_of(root: &Value) -> Result<Parts<'_>, Part>
     ensures { MatchResult result (λ parts. (bad_part (view root.now) ≡ None) × (document (view root.now) ≡ document_of parts))
@@ -112,5 +76,41 @@ pub fn entries_of<'v>(adjacency: &'v [Value], node: usize) -> &'v [Value]
     match adjacency[node].as_array() {
         Some(list) => list.as_slice(),
         None => &[],
+    }
+}
+
+/// The elements of the list at a key.
+fn list_at<'v>(root: &'v Value, key: &str) -> Option<&'v [Value]>
+    ensures { option_map (λ s. views s.now) result ≡ list_in key.now (view root.now) }
+{
+    match root.get(key) {
+        Some(value) => match value.as_array() {
+            Some(list) => Some(list.as_slice()),
+            None => None,
+        },
+        None => None,
+    }
+}
+
+/// Whether each value is a list.
+fn are_lists(values: &[Value]) -> bool
+    ensures { result ≡ list_all (λ d. is_some (list_of d)) (views values.now) }
+{
+    for value in values {
+        if !value.is_array() {
+            return false;
+        }
+    }
+    true
+}
+
+/// The truth value at a key, false where there is no such key; none where there is another value.
+fn flag_at(root: &Value, key: &str) -> Option<bool>
+    ensures { MatchOption result (is_no_flag key.now (view root.now) ≡ true)
+        (λ flag. (is_no_flag key.now (view root.now) ≡ false) × (unwrap_or (option_and_then as_bool (get key.now (view root.now))) false ≡ flag)) }
+{
+    match root.get(key) {
+        Some(value) => value.as_bool(),
+        None => Some(false),
     }
 }

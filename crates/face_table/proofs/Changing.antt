@@ -8,13 +8,13 @@ use Rattle.std.proofs.lemmas.List.Sums.{sum_by-cons}
 use Rattle.audit_model.specs.Below.{count_below, sum_below}
 use Rattle.audit_model.specs.Graph.{Graph, IsGraph, has, adjacent, count_edges}
 use Rattle.audit_model.specs.Local.{IsSimple}
-use Rattle.model_laws.proofs.Below.{count_below_same}
+use Rattle.model_laws.proofs.Below.{count_below_same, count_below_le}
+use Rattle.model_laws.proofs.Lists.{first_has}
+use Rattle.model_laws.proofs.Rows.{counted_edges_le}
 use Rattle.faces.specs.Faces.{AreFaces, count_inner_edges, count_inner_faces, without_unit, count_mates}
 use Rattle.faces.proofs.Counts.{units_with, edges_with, faces_with}
-use Rattle.faces.proofs.Rings.{has_1}
 use Rattle.face_table.specs.Corners.{is_filled, corners_at}
 use Rattle.face_table.specs.Counts.{filled_of}
-use Rattle.face_table.proofs.Counting.{count_below_le, counted_edges_le}
 use Rattle.face_table.proofs.Seeing.{IsOther, AreOthers, corners_other, count_corners}
 
 -- ---- sets that are the same
@@ -22,7 +22,7 @@ use Rattle.face_table.proofs.Seeing.{IsOther, AreOthers, corners_other, count_co
 all_alike : (p q : ℕ → Bool) (ring : List ℕ) → ((v : ℕ) → has ring v ≡ true → p v ≡ q v) → list_all p ring ≡ list_all q ring
 all_alike p q [] same = refl
 all_alike p q (v ∷ rest) same =
-    ap (λ b. b && list_all p rest) (same v (has_1 v rest))
+    ap (λ b. b && list_all p rest) (same v (first_has v rest))
     ∙ ap (λ b. q v && b) (all_alike p q rest (λ w h. same w (or_right (v == w) (has rest w) h)))
 
 faces_alike : (g : Graph) (p q : ℕ → Bool) (faces : List (List ℕ)) → AreFaces g faces → ((v : ℕ) → v < g.units → p v ≡ q v) → count_inner_faces p faces ≡ count_inner_faces q faces

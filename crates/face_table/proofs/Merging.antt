@@ -10,15 +10,16 @@ use Rattle.audit_model.specs.Graph.{Graph, IsGraph, adjacent, IsIn}
 use Rattle.audit_model.specs.Local.{is_mate}
 use Rattle.audit_model.specs.Path.{IsPath, HasPath}
 use Rattle.audit_model.specs.Plan.{in_district}
-use Rattle.dual_graph.proofs.Marking.{at_has, has_at}
-use Rattle.dual_graph.proofs.Rows.{get_or-map_below}
+use Rattle.model_laws.proofs.Below.{get_or-map_below}
+use Rattle.model_laws.proofs.Lists.{has_at, at_has}
+use Rattle.model_laws.proofs.Rows.{row_rises}
 use Rattle.faces.specs.Faces.{AreFaces, AreLinked, share_face, link_graph}
 use Rattle.faces.proofs.Linking.{link_near, near_link, share_turned}
-use Rattle.faces.proofs.Around.{path_before, path_joined, path_none}
+use Rattle.model_laws.proofs.Paths.{path_one, path_before, joined_from}
 use Rattle.face_table.specs.declared.corner.Corner.{Corner}
 use Rattle.face_table.specs.Corners.{IsPlaced, is_filled, units_of, corners_at}
 use Rattle.face_table.specs.Links.{Replaced, AreClasses, AreMerged, is_inner}
-use Rattle.face_table.proofs.Counting.{row_rises, rising_once}
+use Rattle.face_table.proofs.Counting.{rising_once}
 use Rattle.face_table.proofs.Seeing.{corners_share, shared_corner}
 
 -- what of classes is kept, where the corners are those of faces
@@ -114,7 +115,7 @@ module _ (g : Graph) (plan : List ℕ) (u : ℕ) (sound : IsGraph g) (lu : u < g
       → HasPath (link_graph g faces (home plan u) u) (is_mate g plan u) x y
   linked_path x y ix iy h =
       path_before (link_graph g faces (home plan u) u) (is_mate g plan u) x y y ix (link_near g faces (home plan u) u x y ix.0 iy.0 h)
-      (path_none (link_graph g faces (home plan u) u) (is_mate g plan u) y iy)
+      (path_one (link_graph g faces (home plan u) u) (is_mate g plan u) y iy)
 
   module _ (corners : List Corner) (is : map (units_of (row g u)) corners ≡ corners_at u faces) (placed : All (IsPlaced g (row g u)) corners) (few : length (row g u) ≤ 32) where
     units_at : (k : ℕ) (d : Corner) → k < length corners → units_of (row g u) (get_or corners k d) ≡ get_or (corners_at u faces) k (0, 0, 0)
@@ -148,7 +149,7 @@ module _ (g : Graph) (plan : List ℕ) (u : ℕ) (sound : IsGraph g) (lu : u < g
       by m lm hm a b first then la lb ma mb =
           let im = near_mate m lm hm in
           let path = first la lm ma im in
-          path_joined (link_graph g faces (home plan u) u) (is_mate g plan u) path.0 (get_or (row g u) a 0) (get_or (row g u) m 0) (get_or (row g u) b 0) path.1 (then lm lb im mb)
+          joined_from (link_graph g faces (home plan u) u) (is_mate g plan u) path.0 (get_or (row g u) a 0) (get_or (row g u) m 0) (get_or (row g u) b 0) path.1 (then lm lb im mb)
 
       -- mates of classes that are one now are linked
       pub classes_joined : Replaced old new (get_or corners k d).one (get_or corners k d).other → length new ≡ 32 → AreClasses g faces plan u old → AreClasses g faces plan u new
@@ -229,7 +230,7 @@ module _ (g : Graph) (plan : List ℕ) (u : ℕ) (sound : IsGraph g) (lu : u < g
     linked = λ i j li lj mi mj e.
         let same : i ≡ j = sym (own i (omega (arith, li, few))) ∙ e ∙ own j (omega (arith, lj, few)) in
         subst (λ t. HasPath (link_graph g faces (home plan u) u) (is_mate g plan u) (get_or (row g u) i 0) (get_or (row g u) t 0)) same
-        (path_none (link_graph g faces (home plan u) u) (is_mate g plan u) (get_or (row g u) i 0) mi);
+        (path_one (link_graph g faces (home plan u) u) (is_mate g plan u) (get_or (row g u) i 0) mi);
   }
     where
       own : (k : ℕ) → k < 32 → get_or classes k 0 ≡ k

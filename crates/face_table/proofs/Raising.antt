@@ -6,11 +6,11 @@ use Rattle.std.proofs.lemmas.Bool.{and_left, and_right, and_from, cases_eq, case
 use Rattle.audit_model.specs.Below.{count_below, sum_below}
 use Rattle.audit_model.specs.Graph.{Graph, IsGraph, adjacent}
 use Rattle.audit_model.specs.Plan.{in_district}
-use Rattle.model_laws.proofs.Below.{count_below_same}
+use Rattle.model_laws.proofs.Below.{count_below_same, count_none}
+use Rattle.model_laws.proofs.Bools.{and_true}
 use Rattle.faces.specs.Faces.{AreFaces, count_inner_edges, count_inner_faces, count_mates}
 use Rattle.face_table.specs.Corners.{is_filled, corners_at}
 use Rattle.face_table.specs.Counts.{Counted, filled_of, AreCountsOf, is_before}
-use Rattle.face_table.proofs.Counting.{count_none}
 use Rattle.face_table.proofs.Changing.{edges_alike, filled_alike, edges_more, filled_more}
 
 module _ (g : Graph) (sound : IsGraph g) (faces : List (List ℕ)) (are : AreFaces g faces) where
@@ -130,10 +130,6 @@ module _ (g : Graph) (sound : IsGraph g) (faces : List (List ℕ)) (are : AreFac
 
 pub before_none : (plan : List ℕ) (x v : ℕ) → is_before plan 0 x v ≡ false
 before_none plan x v = and_right (in_district plan x v) (nat_lt v 0) (false_from_ne_true (nat_lt v 0) (λ h. let l = ltb-true v 0 h in omega (arith, l)))
-
-and_true : (b c : Bool) → c ≡ true → (b && c) ≡ b
-and_true true c h = h
-and_true false c h = refl
 
 pub before_all : (plan : List ℕ) (end x v : ℕ) → v < end → is_before plan end x v ≡ in_district plan x v
 before_all plan end x v l = and_true (in_district plan x v) (nat_lt v end) (lt-ltb v end l)

@@ -8,8 +8,9 @@ use Rattle.std.proofs.lemmas.List.Elements.{All-push, All-weaker, All-nil}
 use Rattle.std.proofs.lemmas.List.Sums.{sum_by-append, sum_by-cons}
 use Rattle.audit_model.specs.Apart.{AllApart}
 use Rattle.audit_model.specs.Graph.{Graph, has}
+use Rattle.model_laws.proofs.Lists.{first_has}
 use Rattle.faces.specs.Faces.{is_pair, has_side, IsRing, AreFaces, share_face, count_inner_faces_at}
-use Rattle.faces.proofs.Rings.{pair_same, pair_turned, pair_is, in_1, in_4, other, has_1, has_2, has_3, has_4, side_in, each_passes}
+use Rattle.faces.proofs.Rings.{pair_same, pair_turned, pair_is, in_1, in_4, other, has_2, has_3, has_4, side_in, each_passes}
 use Rattle.face_table.specs.Corners.{with_corner, with_face, corners_at, is_filled}
 
 -- ---- the corner of a ring
@@ -108,7 +109,7 @@ turned4 a b c d u t s = record {
 
 first3 : (a b c : ℕ) → (a ≡ b → ⊥) → (a ≡ c → ⊥) → IsCornerOf (a ∷ b ∷ c ∷ []) a (b, c, c)
 first3 a b c ab ac = record {
-  own = has_1 a (b ∷ c ∷ []);
+  own = first_has a (b ∷ c ∷ []);
   one = or_left (is_pair a b a b || is_pair b c a b) (is_pair c a a b) (or_left (is_pair a b a b) (is_pair b c a b) (pair_same a b));
   other = or_right (is_pair a b a c || is_pair b c a c) (is_pair c a a c) (pair_turned c a c a (pair_same c a));
   units = (has_2 a b (c ∷ []), has_3 a b c [], has_3 a b c []);
@@ -131,7 +132,7 @@ first3 a b c ab ac = record {
 
 first4 : (a b c d : ℕ) → (a ≡ b → ⊥) → (a ≡ c → ⊥) → (a ≡ d → ⊥) → IsCornerOf (a ∷ b ∷ c ∷ d ∷ []) a (b, d, c)
 first4 a b c d ab ac ad = record {
-  own = has_1 a (b ∷ c ∷ d ∷ []);
+  own = first_has a (b ∷ c ∷ d ∷ []);
   one = in_1 (is_pair a b a b) (is_pair b c a b) (is_pair c d a b) (is_pair d a a b) (pair_same a b);
   other = in_4 (is_pair a b a d) (is_pair b c a d) (is_pair c d a d) (is_pair d a a d) (pair_turned d a d a (pair_same d a));
   units = (has_2 a b (c ∷ d ∷ []), has_4 a b c d [], has_3 a b c (d ∷ []));
@@ -281,12 +282,12 @@ seen g u cs ring is = by_size ring is.size is.apart
     by_size (a ∷ []) size apart = elim size [ inl e ↦ absurd (omega (arith, e)) | inr e ↦ absurd (omega (arith, e)) ]
     by_size (a ∷ b ∷ []) size apart = elim size [ inl e ↦ absurd (omega (arith, e)) | inr e ↦ absurd (omega (arith, e)) ]
     by_size (a ∷ b ∷ c ∷ []) size apart =
-        seen3 u cs a b c (λ e. other (b ∷ c ∷ []) a b apart.0 (has_1 b (c ∷ [])) e) (λ e. other (b ∷ c ∷ []) a c apart.0 (has_2 b c []) e)
-        (λ e. other (c ∷ []) b c apart.1.0 (has_1 c []) e)
+        seen3 u cs a b c (λ e. other (b ∷ c ∷ []) a b apart.0 (first_has b (c ∷ [])) e) (λ e. other (b ∷ c ∷ []) a c apart.0 (has_2 b c []) e)
+        (λ e. other (c ∷ []) b c apart.1.0 (first_has c []) e)
     by_size (a ∷ b ∷ c ∷ d ∷ []) size apart =
-        seen4 u cs a b c d (λ e. other (b ∷ c ∷ d ∷ []) a b apart.0 (has_1 b (c ∷ d ∷ [])) e) (λ e. other (b ∷ c ∷ d ∷ []) a c apart.0 (has_2 b c (d ∷ [])) e)
-        (λ e. other (b ∷ c ∷ d ∷ []) a d apart.0 (has_3 b c d []) e) (λ e. other (c ∷ d ∷ []) b c apart.1.0 (has_1 c (d ∷ [])) e)
-        (λ e. other (c ∷ d ∷ []) b d apart.1.0 (has_2 c d []) e) (λ e. other (d ∷ []) c d apart.1.1.0 (has_1 d []) e)
+        seen4 u cs a b c d (λ e. other (b ∷ c ∷ d ∷ []) a b apart.0 (first_has b (c ∷ d ∷ [])) e) (λ e. other (b ∷ c ∷ d ∷ []) a c apart.0 (has_2 b c (d ∷ [])) e)
+        (λ e. other (b ∷ c ∷ d ∷ []) a d apart.0 (has_3 b c d []) e) (λ e. other (c ∷ d ∷ []) b c apart.1.0 (first_has c (d ∷ [])) e)
+        (λ e. other (c ∷ d ∷ []) b d apart.1.0 (has_2 c d []) e) (λ e. other (d ∷ []) c d apart.1.1.0 (first_has d []) e)
     by_size (a ∷ b ∷ c ∷ d ∷ e ∷ rest) size apart = elim size [ inl h ↦ absurd (omega (arith, h)) | inr h ↦ absurd (omega (arith, h)) ]
 
 -- ---- all faces
@@ -294,7 +295,7 @@ seen g u cs ring is = by_size ring is.size is.apart
 all_from : (test : ℕ → Bool) (ring : List ℕ) → ((v : ℕ) → has ring v ≡ true → test v ≡ true) → list_all test ring ≡ true
 all_from test [] each = refl
 all_from test (v ∷ rest) each =
-    and_from (test v) (list_all test rest) (each v (has_1 v rest)) (all_from test rest (λ w h. each w (or_right (v == w) (has rest w) h)))
+    and_from (test v) (list_all test rest) (each v (first_has v rest)) (all_from test rest (λ w h. each w (or_right (v == w) (has rest w) h)))
 
 module _ (inside : ℕ → Bool) (u : ℕ) (in_set : inside u ≡ true) where
   -- a face is inside where the units of its corner are

@@ -26,50 +26,6 @@ impl Model for FaceCounts {
     ghost view = { λ c. record { edges = c.edges.items; filled = c.filled.items } };
 }
 
-/// How many neighbours of a unit are in a district, of the units before an end.
-#[inline]
-fn mates_in(g: &Graph, plan: &[u32], unit: u32, district: u32, end: u32) -> u64
-    requires plan { length plan.now ≡ g.now.units }
-    requires unit { unit < g.now.units }
-    ensures { result ≡ count_mates g.now (is_before plan.now end district) unit }
-{
-    let _units = g.units();
-    let mut count = 0;
-    for other in g.neighbours(unit) {
-        if plan[*other as usize] == district && *other < end {
-            count += 1;
-        }
-    }
-    count
-}
-
-/// How many faces at a unit have all their other units in a district, of the units before an end.
-#[inline]
-fn corners_in(g: &Graph, table: &FaceTable, plan: &[u32], unit: u32, district: u32, end: u32) -> u64
-    requires made { table.now.graph ≡ g.now }
-    requires plan { length plan.now ≡ g.now.units }
-    requires unit { unit < g.now.units }
-    ensures { result ≡ count_by (is_filled (is_before plan.now end district)) (corners_at unit table.now.faces) }
-{
-    let row = g.neighbours(unit);
-    let mut count = 0;
-    for corner in table.at(unit) {
-        let one = row[corner.one as usize];
-        let other = row[corner.other as usize];
-        let far = corner.far;
-        if plan[one as usize] == district
-            && one < end
-            && plan[other as usize] == district
-            && other < end
-            && plan[far as usize] == district
-            && far < end
-        {
-            count += 1;
-        }
-    }
-    count
-}
-
 impl FaceCounts {
     /// Zeros, for so many districts.
     fn zeros(alloc: Global, districts: u32) -> Result<FaceCounts, Memory>
@@ -144,6 +100,7 @@ impl FaceCounts {
         requires in_range { (u : ℕ) → u < g.now.units → slice_index plan.now u < length self.old.edges }
         ensures { AreCounts g.now table.now.faces (length self.old.edges) plan.now self.new }
     {
+        // Called for what their contracts say: the table's faces are the graph's, and few, and the graph has at most 400,000 edges.
         let _units = table.units();
         let _edges = g.edges();
         self.clear();
@@ -168,6 +125,7 @@ impl FaceCounts {
         ensures { AreCounts g.now table.now.faces (length self.old.edges) (slice_set plan.now unit district) self.new }
     {
         let units = g.units();
+        // Called for what their contracts say: the graph has at most 400,000 edges, and the table's faces are the graph's, and few.
         let _edges = g.edges();
         let _units = table.units();
         let home = plan[unit as usize];
@@ -191,4 +149,49 @@ impl FaceCounts {
     {
         self.edges[district as usize] < self.filled[district as usize]
     }
+}
+
+/// How many neighbours of a unit are in a district, of the units before an end.
+#[inline]
+fn mates_in(g: &Graph, plan: &[u32], unit: u32, district: u32, end: u32) -> u64
+    requires plan { length plan.now ≡ g.now.units }
+    requires unit { unit < g.now.units }
+    ensures { result ≡ count_mates g.now (is_before plan.now end district) unit }
+{
+    // Called for what its contract says: the graph is sound, and has at most 100,000 units.
+    let _units = g.units();
+    let mut count = 0;
+    for other in g.neighbours(unit) {
+        if plan[*other as usize] == district && *other < end {
+            count += 1;
+        }
+    }
+    count
+}
+
+/// How many faces at a unit have all their other units in a district, of the units before an end.
+#[inline]
+fn corners_in(g: &Graph, table: &FaceTable, plan: &[u32], unit: u32, district: u32, end: u32) -> u64
+    requires made { table.now.graph ≡ g.now }
+    requires plan { length plan.now ≡ g.now.units }
+    requires unit { unit < g.now.units }
+    ensures { result ≡ count_by (is_filled (is_before plan.now end district)) (corners_at unit table.now.faces) }
+{
+    let row = g.neighbours(unit);
+    let mut count = 0;
+    for corner in table.at(unit) {
+        let one = row[corner.one as usize];
+        let other = row[corner.other as usize];
+        let far = corner.far;
+        if plan[one as usize] == district
+            && one < end
+            && plan[other as usize] == district
+            && other < end
+            && plan[far as usize] == district
+            && far < end
+        {
+            count += 1;
+        }
+    }
+    count
 }

@@ -1,7 +1,7 @@
 //! The faces at each unit, and what counting them in each district says of a unit that would leave.
 #![tactic(auto)]
 
-pub mod corner;
+mod corner;
 pub mod counts;
 pub mod links;
 mod rows;

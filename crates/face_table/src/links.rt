@@ -14,6 +14,31 @@ use dual_graph::graph::Graph;
 /// A unit with more neighbours is not asked.
 pub const MOST: usize = 32;
 
+/// Whether the neighbours of a unit in its district are linked, one to the next, through faces inside it.
+pub fn are_linked(g: &Graph, plan: &[u32], u: u32, corners: &[Corner]) -> bool
+    requires plan { length plan.now ≡ g.now.units }
+    requires unit { u < g.now.units }
+    requires few { length (slice_index_or g.now.neighbours u []) ≤ 32 }
+    requires placed { All (IsPlaced g.now (slice_index_or g.now.neighbours u [])) corners.now }
+    ensures { (faces : List (List ℕ)) → AreFaces g.now faces →
+        map (units_of (slice_index_or g.now.neighbours u [])) corners.now ≡ corners_at u faces →
+        IsTrue result ↔ AreLinked g.now faces plan.now u }
+{
+    // Called for what its contract says: the graph is sound, and has at most 100,000 units.
+    let _units = g.units();
+    match first_mate(g, plan, u) {
+        None => false,
+        Some(first) => {
+            let mut classes: [u8; 32] = [
+                0, 1, 2, 3, 4, 5, 6, 7, 8, 9, 10, 11, 12, 13, 14, 15, 16, 17, 18, 19, 20, 21, 22,
+                23, 24, 25, 26, 27, 28, 29, 30, 31,
+            ];
+            merge(g, plan, u, corners, &mut classes);
+            all_of(g, plan, u, &classes, classes[first])
+        }
+    }
+}
+
 /// Gives the neighbours of one class that of another.
 #[inline]
 fn join(classes: &mut [u8], from: u32, into: u32)
@@ -58,6 +83,7 @@ fn merge(g: &Graph, plan: &[u32], u: u32, corners: &[Corner], classes: &mut [u8]
         map (units_of (slice_index_or g.now.neighbours u [])) corners.now ≡ corners_at u faces →
         AreClasses g.now faces plan.now u classes.old → AreClasses g.now faces plan.now u classes.new }
 {
+    // Called for what its contract says: the graph is sound, and has at most 100,000 units.
     let _units = g.units();
     for corner in corners {
         if is_inner(g, plan, u, *corner)
@@ -76,6 +102,7 @@ fn first_mate(g: &Graph, plan: &[u32], u: u32) -> Option<usize>
     ensures { MatchOption result ((v : ℕ) → IsIn g.now (is_mate g.now plan.now u) v → ⊥)
         (λ i. (i < length (slice_index_or g.now.neighbours u [])) × IsIn g.now (is_mate g.now plan.now u) (slice_index (slice_index_or g.now.neighbours u []) i)) }
 {
+    // Called for what its contract says: the graph is sound, and has at most 100,000 units.
     let _units = g.units();
     let row = g.neighbours(u);
     let district = plan[u as usize];
@@ -99,6 +126,7 @@ fn all_of(g: &Graph, plan: &[u32], u: u32, classes: &[u8], class: u8) -> bool
     ensures no { IsFalse result → (i : ℕ) × (i < length (slice_index_or g.now.neighbours u []))
         × IsIn g.now (is_mate g.now plan.now u) (slice_index (slice_index_or g.now.neighbours u []) i) × (slice_index classes.now i ≢ class) }
 {
+    // Called for what its contract says: the graph is sound, and has at most 100,000 units.
     let _units = g.units();
     let row = g.neighbours(u);
     let district = plan[u as usize];
@@ -108,28 +136,4 @@ fn all_of(g: &Graph, plan: &[u32], u: u32, classes: &[u8], class: u8) -> bool
         }
     }
     true
-}
-
-/// Whether the neighbours of a unit in its district are linked, one to the next, through faces inside it.
-pub fn are_linked(g: &Graph, plan: &[u32], u: u32, corners: &[Corner]) -> bool
-    requires plan { length plan.now ≡ g.now.units }
-    requires unit { u < g.now.units }
-    requires few { length (slice_index_or g.now.neighbours u []) ≤ 32 }
-    requires placed { All (IsPlaced g.now (slice_index_or g.now.neighbours u [])) corners.now }
-    ensures { (faces : List (List ℕ)) → AreFaces g.now faces →
-        map (units_of (slice_index_or g.now.neighbours u [])) corners.now ≡ corners_at u faces →
-        IsTrue result ↔ AreLinked g.now faces plan.now u }
-{
-    let _units = g.units();
-    match first_mate(g, plan, u) {
-        None => false,
-        Some(first) => {
-            let mut classes: [u8; 32] = [
-                0, 1, 2, 3, 4, 5, 6, 7, 8, 9, 10, 11, 12, 13, 14, 15, 16, 17, 18, 19, 20, 21, 22,
-                23, 24, 25, 26, 27, 28, 29, 30, 31,
-            ];
-            merge(g, plan, u, corners, &mut classes);
-            all_of(g, plan, u, &classes, classes[first])
-        }
-    }
 }

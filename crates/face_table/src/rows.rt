@@ -14,6 +14,18 @@ use dual_graph::graph::Graph;
 use faces::face::Face;
 use std::alloc::Global;
 
+/// The corners of the faces at each unit.
+pub fn rows_of(alloc: Global, g: &Graph, faces: &[Face]) -> Result<Vec<CornerList>, Memory>
+    requires faces { AreFaces g.now (rings faces.now) }
+    ensures { IfOk result (λ rows. HasCorners g.now (λ w. corners_at w (rings faces.now)) rows.items) }
+{
+    let mut rows = no_rows(alloc, g.units())?;
+    for face in faces {
+        add_face(g, &mut rows, *face)?;
+    }
+    Ok(rows)
+}
+
 /// The place of a neighbour among a unit's neighbours.
 fn place_of(g: &Graph, u: u32, v: u32) -> u32
     requires unit { u < g.now.units }
@@ -21,6 +33,7 @@ fn place_of(g: &Graph, u: u32, v: u32) -> u32
     ensures within { result < length (slice_index_or g.now.neighbours u []) }
     ensures there { slice_index (slice_index_or g.now.neighbours u []) result ≡ v }
 {
+    // Called for what its contract says: the graph is sound, and has at most 100,000 units.
     let _units = g.units();
     let row = g.neighbours(u);
     for place in 0..row.len() {
@@ -89,18 +102,6 @@ fn no_rows(alloc: Global, n: u32) -> Result<Vec<CornerList>, Memory>
     let mut rows = Vec::with_capacity(alloc, n as usize)?;
     for _ in 0..n {
         rows.push(CornerList::new(alloc))?;
-    }
-    Ok(rows)
-}
-
-/// The corners of the faces at each unit.
-pub fn rows_of(alloc: Global, g: &Graph, faces: &[Face]) -> Result<Vec<CornerList>, Memory>
-    requires faces { AreFaces g.now (rings faces.now) }
-    ensures { IfOk result (λ rows. HasCorners g.now (λ w. corners_at w (rings faces.now)) rows.items) }
-{
-    let mut rows = no_rows(alloc, g.units())?;
-    for face in faces {
-        add_face(g, &mut rows, *face)?;
     }
     Ok(rows)
 }

@@ -41,18 +41,6 @@ impl Model for FaceTable {
     ghost invariant = { λ t. IsTable (record { graph = t.graph.value; faces = t.list.value }) t.rows.items };
 }
 
-/// The faces of a graph, or none where they are too many.
-fn some_faces(alloc: Global, g: &Graph) -> Result<FaceList, Memory>
-    ensures faces { IfOk result (λ l. AreFaces g.now l) }
-    ensures few { IfOk result (λ l. length l ≤ 4000000) }
-{
-    let list = faces_of(alloc, g)?;
-    if list.faces().len() > MOST {
-        return Ok(FaceList::new(alloc));
-    }
-    Ok(list)
-}
-
 impl FaceTable {
     /// The faces of a graph.
     pub fn of(alloc: Global, g: &Graph) -> Result<FaceTable, Memory>
@@ -101,7 +89,20 @@ impl FaceTable {
             count_inner_edges g.now (in_district plan.now (slice_index plan.now u)) + 1
             ≤ filled_of g.now self.now.faces (in_district plan.now (slice_index plan.now u)) → MayLeave g.now plan.now u → ⊥ }
     {
+        // Called for what its contract says: the graph is sound, and has at most 100,000 units.
         let _units = g.units();
         are_linked(g, plan, u, self.at(u))
     }
+}
+
+/// The faces of a graph, or none where they are too many.
+fn some_faces(alloc: Global, g: &Graph) -> Result<FaceList, Memory>
+    ensures faces { IfOk result (λ l. AreFaces g.now l) }
+    ensures few { IfOk result (λ l. length l ≤ 4000000) }
+{
+    let list = faces_of(alloc, g)?;
+    if list.faces().len() > MOST {
+        return Ok(FaceList::new(alloc));
+    }
+    Ok(list)
 }

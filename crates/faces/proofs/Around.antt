@@ -6,34 +6,11 @@ use Rattle.audit_model.specs.Graph.{Graph, has, adjacent, IsIn}
 use Rattle.audit_model.specs.Local.{IsSimple, is_mate, stays_behind, MayLeave}
 use Rattle.audit_model.specs.Path.{IsPath, HasPath, IsConnected}
 use Rattle.audit_model.specs.Plan.{in_district}
+use Rattle.model_laws.proofs.Paths.{path_one, path_before, joined_from, first_in}
+use Rattle.model_laws.proofs.Lists.{first_has}
 use Rattle.faces.proofs.Linking.{near_link, share_ring}
-use Rattle.faces.proofs.Rings.{pair_same, pair_is, side_in, each_passes, other, has_1, has_2, has_3, has_4, in_1, in_2, in_3, in_4}
+use Rattle.faces.proofs.Rings.{pair_same, pair_is, side_in, each_passes, other, has_2, has_3, has_4, in_1, in_2, in_3, in_4}
 use Rattle.faces.specs.Faces.{is_pair, has_side, IsRing, AreFaces, share_face, link_graph, AreLinked}
-
--- ---- paths
-
-module _ (g : Graph) (inside : ℕ → Bool) where
-  pub path_before : (x v z : ℕ) → IsIn g inside x → adjacent g x v ≡ true → HasPath g inside v z → HasPath g inside x z
-  path_before x v z i a path = front path.0 path.1
-    where
-      front : (units : List ℕ) → IsPath g inside units v z → HasPath g inside x z
-      front [] p = absurd p
-      front (w ∷ []) p = (x ∷ w ∷ [], (refl, i, subst (λ t. adjacent g x t ≡ true) (sym p.0) a, (refl, p.1, p.2)))
-      front (w ∷ t ∷ rest) p = (x ∷ w ∷ t ∷ rest, (refl, i, subst (λ t. adjacent g x t ≡ true) (sym p.0) a, (refl, p.1, p.2, p.3)))
-
-  pub path_joined : (units : List ℕ) (x y z : ℕ) → IsPath g inside units x y → HasPath g inside y z → HasPath g inside x z
-  path_joined [] x y z p path = absurd p
-  path_joined (w ∷ []) x y z p path = subst (λ t. HasPath g inside t z) (sym p.1 ∙ p.0) path
-  path_joined (w ∷ t ∷ rest) x y z p path =
-      subst (λ s. HasPath g inside s z) p.0 (path_before w t z p.1 p.2 (path_joined (t ∷ rest) t y z p.3 path))
-
-  pub path_none : (x : ℕ) → IsIn g inside x → HasPath g inside x x
-  path_none x i = (x ∷ [], (refl, refl, i))
-
-  -- the first unit of a path is in the set
-  first_in : (v : ℕ) (rest : List ℕ) (y : ℕ) → IsPath g inside (v ∷ rest) v y → IsIn g inside v
-  first_in v [] y p = p.2
-  first_in v (w ∷ rest) y p = p.1
 
 -- ---- rings, turned so that they begin with u
 
@@ -109,12 +86,12 @@ module _ (g : Graph) (simple : IsSimple g) (set : ℕ → Bool) (u : ℕ) where
   between : (b d p q : ℕ) → HasPath g set b d → HasPath g set d b → IsIn g set b → IsIn g set d → (p ≡ b) ⊎ (p ≡ d) → (q ≡ b) ⊎ (q ≡ d) → HasPath g set p q
   between b d p q there back ib id ep eq = elim ep [
     | inl e ↦ elim eq [
-      | inl f ↦ subst (λ t. HasPath g set p t) (e ∙ sym f) (path_none g set p (subst (IsIn g set) (sym e) ib))
+      | inl f ↦ subst (λ t. HasPath g set p t) (e ∙ sym f) (path_one g set p (subst (IsIn g set) (sym e) ib))
       | inr f ↦ subst (λ t. HasPath g set t q) (sym e) (subst (λ t. HasPath g set b t) (sym f) there)
     ]
     | inr e ↦ elim eq [
       | inl f ↦ subst (λ t. HasPath g set t q) (sym e) (subst (λ t. HasPath g set d t) (sym f) back)
-      | inr f ↦ subst (λ t. HasPath g set p t) (e ∙ sym f) (path_none g set p (subst (IsIn g set) (sym e) id))
+      | inr f ↦ subst (λ t. HasPath g set p t) (e ∙ sym f) (path_one g set p (subst (IsIn g set) (sym e) id))
     ]
   ]
 
@@ -124,7 +101,7 @@ module _ (g : Graph) (simple : IsSimple g) (set : ℕ → Bool) (u : ℕ) where
   past_three a b c p q e off-b off-c ib ic bc hp hq =
       let which : (t : ℕ) → has_side (a ∷ b ∷ c ∷ []) u t ≡ true → (t ≡ b) ⊎ (t ≡ c) =
       λ t h. beside_three u b c t (λ f. off-b (e ∙ f)) (λ f. off-c (e ∙ f)) (subst (λ k. has_side (k ∷ b ∷ c ∷ []) u t ≡ true) e h) in
-      between b c p q (path_before g set b c c ib bc (path_none g set c ic)) (path_before g set c b b ic (turned_near b c bc) (path_none g set b ib)) ib ic (which p hp) (which q hq)
+      between b c p q (path_before g set b c c ib bc (path_one g set c ic)) (path_before g set c b b ic (turned_near b c bc) (path_one g set b ib)) ib ic (which p hp) (which q hq)
 
   past_four : (a b c d p q : ℕ) → a ≡ u → (a ≡ b → ⊥) → (a ≡ c → ⊥) → (a ≡ d → ⊥) → IsIn g set b → IsIn g set c → IsIn g set d
       → adjacent g b c ≡ true → adjacent g c d ≡ true
@@ -132,8 +109,8 @@ module _ (g : Graph) (simple : IsSimple g) (set : ℕ → Bool) (u : ℕ) where
   past_four a b c d p q e off-b off-c off-d ib ic id bc cd hp hq =
       let which : (t : ℕ) → has_side (a ∷ b ∷ c ∷ d ∷ []) u t ≡ true → (t ≡ b) ⊎ (t ≡ d) =
       λ t h. beside_four u b c d t (λ f. off-b (e ∙ f)) (λ f. off-c (e ∙ f)) (λ f. off-d (e ∙ f)) (subst (λ k. has_side (k ∷ b ∷ c ∷ d ∷ []) u t ≡ true) e h) in
-      between b d p q (path_before g set b c d ib bc (path_before g set c d d ic cd (path_none g set d id)))
-      (path_before g set d c b id (turned_near c d cd) (path_before g set c b b ic (turned_near b c bc) (path_none g set b ib))) ib id (which p hp) (which q hq)
+      between b d p q (path_before g set b c d ib bc (path_before g set c d d ic cd (path_one g set d id)))
+      (path_before g set d c b id (turned_near c d cd) (path_before g set c b b ic (turned_near b c bc) (path_one g set b ib))) ib id (which p hp) (which q hq)
 
   -- round any ring at u whose other units are in the set
   past_ring : (ring : List ℕ) (p q : ℕ) → IsRing g ring → ((v : ℕ) → has ring v ≡ true → (v ≡ u → ⊥) → IsIn g set v)
@@ -153,13 +130,13 @@ module _ (g : Graph) (simple : IsSimple g) (set : ℕ → Bool) (u : ℕ) where
   ]
     where
       a-b : a ≡ b → ⊥
-      a-b e = other (b ∷ c ∷ []) a b is_ring.apart.0 (has_1 b (c ∷ [])) e
+      a-b e = other (b ∷ c ∷ []) a b is_ring.apart.0 (first_has b (c ∷ [])) e
 
       a-c : a ≡ c → ⊥
       a-c e = other (b ∷ c ∷ []) a c is_ring.apart.0 (has_2 b c []) e
 
       b-c : b ≡ c → ⊥
-      b-c e = other (c ∷ []) b c is_ring.apart.1.0 (has_1 c []) e
+      b-c e = other (c ∷ []) b c is_ring.apart.1.0 (first_has c []) e
 
       ab : adjacent g a b ≡ true
       ab = is_ring.sides a b (or_left (is_pair a b a b || is_pair b c a b) (is_pair c a a b) (or_left (is_pair a b a b) (is_pair b c a b) (pair_same a b)))
@@ -171,7 +148,7 @@ module _ (g : Graph) (simple : IsSimple g) (set : ℕ → Bool) (u : ℕ) where
       ca = is_ring.sides c a (or_right (is_pair a b c a || is_pair b c c a) (is_pair c a c a) (pair_same c a))
 
       in_a : (a ≡ u → ⊥) → IsIn g set a
-      in_a off = others a (has_1 a (b ∷ c ∷ [])) off
+      in_a off = others a (first_has a (b ∷ c ∷ [])) off
 
       in_b : (b ≡ u → ⊥) → IsIn g set b
       in_b off = others b (has_2 a b (c ∷ [])) off
@@ -204,7 +181,7 @@ module _ (g : Graph) (simple : IsSimple g) (set : ℕ → Bool) (u : ℕ) where
   ]
     where
       a-b : a ≡ b → ⊥
-      a-b e = other (b ∷ c ∷ d ∷ []) a b is_ring.apart.0 (has_1 b (c ∷ d ∷ [])) e
+      a-b e = other (b ∷ c ∷ d ∷ []) a b is_ring.apart.0 (first_has b (c ∷ d ∷ [])) e
 
       a-c : a ≡ c → ⊥
       a-c e = other (b ∷ c ∷ d ∷ []) a c is_ring.apart.0 (has_2 b c (d ∷ [])) e
@@ -213,13 +190,13 @@ module _ (g : Graph) (simple : IsSimple g) (set : ℕ → Bool) (u : ℕ) where
       a-d e = other (b ∷ c ∷ d ∷ []) a d is_ring.apart.0 (has_3 b c d []) e
 
       b-c : b ≡ c → ⊥
-      b-c e = other (c ∷ d ∷ []) b c is_ring.apart.1.0 (has_1 c (d ∷ [])) e
+      b-c e = other (c ∷ d ∷ []) b c is_ring.apart.1.0 (first_has c (d ∷ [])) e
 
       b-d : b ≡ d → ⊥
       b-d e = other (c ∷ d ∷ []) b d is_ring.apart.1.0 (has_2 c d []) e
 
       c-d : c ≡ d → ⊥
-      c-d e = other (d ∷ []) c d is_ring.apart.1.1.0 (has_1 d []) e
+      c-d e = other (d ∷ []) c d is_ring.apart.1.1.0 (first_has d []) e
 
       ab : adjacent g a b ≡ true
       ab = is_ring.sides a b (in_1 (is_pair a b a b) (is_pair b c a b) (is_pair c d a b) (is_pair d a a b) (pair_same a b))
@@ -234,7 +211,7 @@ module _ (g : Graph) (simple : IsSimple g) (set : ℕ → Bool) (u : ℕ) where
       da = is_ring.sides d a (in_4 (is_pair a b d a) (is_pair b c d a) (is_pair c d d a) (is_pair d a d a) (pair_same d a))
 
       in_a : (a ≡ u → ⊥) → IsIn g set a
-      in_a off = others a (has_1 a (b ∷ c ∷ d ∷ [])) off
+      in_a off = others a (first_has a (b ∷ c ∷ d ∷ [])) off
 
       in_b : (b ≡ u → ⊥) → IsIn g set b
       in_b off = others b (has_2 a b (c ∷ d ∷ [])) off
@@ -290,7 +267,7 @@ module _ (g : Graph) (faces : List (List ℕ)) (plan : List ℕ) (u : ℕ) (simp
   links_path (w ∷ []) p q path = (w ∷ [], (path.0, path.1, mate_behind w path.2))
   links_path (w ∷ t ∷ rest) p q path =
       let step = link_path w t (near_link g faces (in_district plan (slice_index plan u)) u w t path.1.0 path.2) in
-      subst (λ k. HasPath g (stays_behind plan u) k q) path.0 (path_joined g (stays_behind plan u) step.0 w t q step.1 (links_path (t ∷ rest) t q path.3))
+      subst (λ k. HasPath g (stays_behind plan u) k q) path.0 (joined_from g (stays_behind plan u) step.0 w t q step.1 (links_path (t ∷ rest) t q path.3))
 
   module _ (linked : AreLinked g faces plan u) where
     -- two mates have a path that leaves u out
@@ -317,9 +294,9 @@ module _ (g : Graph) (faces : List (List ℕ)) (plan : List ℕ) (u : ℕ) (simp
           | inl at ↦
               let au : adjacent g w u ≡ true = subst (λ v. adjacent g w v ≡ true) at p.2 in
               let ub : adjacent g u s ≡ true = subst (λ v. adjacent g v s ≡ true) at p.3.2 in
-              let path = way_round w s p.1 (first_in g (in_district plan (slice_index plan u)) s rest y p.3.3) au ub in
+              let path = way_round w s p.1 (first_in g (in_district plan (slice_index plan u)) s rest s y p.3.3) au ub in
               subst (λ v. HasPath g (stays_behind plan u) v y) p.0
-              (path_joined g (stays_behind plan u) path.0 w s y path.1 (detour (s ∷ rest) s y p.3.3 (not_beside_itself s ub) off-y))
+              (joined_from g (stays_behind plan u) path.0 w s y path.1 (detour (s ∷ rest) s y p.3.3 (not_beside_itself s ub) off-y))
         ]
 
     pub linked_may_leave : IsConnected g (in_district plan (slice_index plan u)) → MayLeave g plan u

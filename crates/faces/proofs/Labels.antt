@@ -5,30 +5,23 @@ use Rattle.std.proofs.lemmas.Bool.{and_parts, and_from, cases_Bool, cases_eq, co
 use Rattle.audit_model.specs.Below.{count_below, sum_below}
 use Rattle.audit_model.specs.Graph.{Graph, adjacent, IsIn, count_edges}
 use Rattle.audit_model.specs.Path.{IsPath}
-use Rattle.model_laws.proofs.Below.{count_below_into, count_below_without}
+use Rattle.model_laws.proofs.Below.{count_below_into, count_below_without, count_below_more, sum_below_more}
+use Rattle.model_laws.proofs.Paths.{first_in}
 
 -- ---- counts
-
--- a weaker test counts no less
-pub count_le : (n : ℕ) (p q : ℕ → Bool) → ((k : ℕ) → p k ≡ true → q k ≡ true) → count_below n p ≤ count_below n q
-count_le n p q weaker = count_below_into n n p q (λ k. k) (λ k l h. (l, weaker k h)) (λ j k lj lk hj hk e. e)
 
 -- one that also passes x counts more
 pub count_less : (n : ℕ) (p q : ℕ → Bool) (x : ℕ) → x < n → ((k : ℕ) → p k ≡ true → q k ≡ true) → q x ≡ true → p x ≡ false
     → count_below n p + 1 ≤ count_below n q
 count_less n p q x l weaker has-x lacks-x =
-    let rest = count_le n p (λ k. q k && not (k == x)) (λ k h. and_from (q k) (not (k == x)) (weaker k h)
+    let rest = count_below_more n p (λ k. q k && not (k == x)) (λ k h. and_from (q k) (not (k == x)) (weaker k h)
     (not_from_false (k == x) (ne_eqb k x (λ e. both_ways (p x) lacks-x (subst (λ m. p m ≡ true) e h))))) in
     omega (arith, rest, count_below_without n q x l has-x)
-
-pub sum_le : (n : ℕ) (f h : ℕ → ℕ) → ((k : ℕ) → f k ≤ h k) → sum_below n f ≤ sum_below n h
-sum_le zero f h each = omega arith
-sum_le (suc n) f h each = omega (arith, sum_le n f h each, each n)
 
 pub sum_less : (n : ℕ) (f h : ℕ → ℕ) (k : ℕ) → k < n → ((j : ℕ) → f j ≤ h j) → f k + 1 ≤ h k → sum_below n f + 1 ≤ sum_below n h
 sum_less zero f h k l each less = absurd (omega arith)
 sum_less (suc n) f h k l each less = elim (cases_eq k n) [
-  | inl e ↦ let last : f n + 1 ≤ h n = subst (λ m. f m + 1 ≤ h m) e less in omega (arith, sum_le n f h each, last)
+  | inl e ↦ let last : f n + 1 ≤ h n = subst (λ m. f m + 1 ≤ h m) e less in omega (arith, sum_below_more n f h each, last)
   | inr off ↦ omega (arith, sum_less n f h k (omega arith) each less, each n)
 ]
 
@@ -60,7 +53,7 @@ pub edges_less : (g : Graph) (t less : ℕ → ℕ → Bool) (a b : ℕ) → a <
     → ((v w : ℕ) → less v w ≡ true → t v w ≡ true) → count_edges g less + 1 ≤ count_edges g t
 edges_less g t less a b ab bound near has-edge lacks-edge weaker =
     sum_less g.units (λ v. count_below v (λ w. adjacent g w v && less w v)) (λ v. count_below v (λ w. adjacent g w v && t w v)) b bound
-    (λ v. count_le v (λ w. adjacent g w v && less w v) (λ w. adjacent g w v && t w v) (λ w h. more w v h))
+    (λ v. count_below_more v (λ w. adjacent g w v && less w v) (λ w. adjacent g w v && t w v) (λ w h. more w v h))
     (count_less b (λ w. adjacent g w b && less w b) (λ w. adjacent g w b && t w b) a ab (λ w h. more w b h)
     (and_from (adjacent g a b) (t a b) near has-edge) (never (adjacent g a b) (less a b) lacks-edge))
   where
@@ -110,10 +103,10 @@ merged_joins label p q = merged_on label p q p refl ∙ elim (cases_eq (label q)
 merged_roots : (n : ℕ) (set : ℕ → Bool) (label : ℕ → ℕ) (p q : ℕ) → count_roots n set label ≤ count_roots n set (merged label p q) + 1
 merged_roots n set label p q = elim (cases_Bool (here (label p))) [
   | inl yes-h ↦ elim (below_or (label p)) [
-    | inl l ↦ omega (arith, count_below_without n here (label p) l yes-h, count_le n (λ k. here k && not (k == label p)) there others)
+    | inl l ↦ omega (arith, count_below_without n here (label p) l yes-h, count_below_more n (λ k. here k && not (k == label p)) there others)
     | inr l ↦ omega (arith, count_below_into n n here there (λ k. k) (λ k b h. (b, stays k h (λ e. omega (arith, l, b, e)))) (λ j k lj lk hj hk e. e))
   ]
-  | inr no-h ↦ omega (arith, count_le n here there (λ k h. stays k h (λ e. both_ways (here (label p)) no-h (subst (λ m. here m ≡ true) e h))))
+  | inr no-h ↦ omega (arith, count_below_more n here there (λ k h. stays k h (λ e. both_ways (here (label p)) no-h (subst (λ m. here m ≡ true) e h))))
 ]
   where
     here : ℕ → Bool
@@ -177,7 +170,7 @@ module _ (at : ℕ → ℕ → ℕ) (n : ℕ) (set : ℕ → Bool) where
     λ v w a b h. absurd (omega (arith, b)),
     omega (
       arith,
-      count_le n set (λ k. set k && (k == k))
+      count_below_more n set (λ k. set k && (k == k))
           (λ k h. and_from (set k) (k == k) h (eq-eqb k k refl)),
     ),
   )
@@ -201,8 +194,4 @@ pub path_same : (g : Graph) (inside : ℕ → Bool) (label : ℕ → ℕ)
 path_same g inside label step [] x y p = absurd p
 path_same g inside label step (w ∷ []) x y p = ap label (sym p.0 ∙ p.1)
 path_same g inside label step (w ∷ v ∷ rest) x y p =
-    ap label (sym p.0) ∙ step w v p.1 (first_in v rest y p.3) p.2 ∙ path_same g inside label step (v ∷ rest) v y p.3
-  where
-    first_in : (v : ℕ) (rest : List ℕ) (y : ℕ) → IsPath g inside (v ∷ rest) v y → IsIn g inside v
-    first_in v [] y q = q.2
-    first_in v (t ∷ rest) y q = q.1
+    ap label (sym p.0) ∙ step w v p.1 (first_in g inside v rest v y p.3) p.2 ∙ path_same g inside label step (v ∷ rest) v y p.3

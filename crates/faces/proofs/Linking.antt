@@ -8,8 +8,9 @@ use Rattle.audit_model.specs.Graph.{Graph, has, adjacent, IsIn}
 use Rattle.audit_model.specs.Local.{IsSimple, is_mate, MayLeave}
 use Rattle.audit_model.specs.Path.{IsPath, HasPath, IsConnected, reached}
 use Rattle.audit_model.specs.Plan.{in_district}
-use Rattle.dual_graph.proofs.Rows.{get_or-map_below}
 use Rattle.model_laws.proofs.Connected.{has-filter_below, filter_below-has, path_more, reached_has_path, path_is_reached}
+use Rattle.model_laws.proofs.Below.{get_or-map_below}
+use Rattle.model_laws.proofs.Paths.{first_in}
 use Rattle.faces.proofs.Parting.{district_parts}
 use Rattle.faces.proofs.Rings.{side_in, side_turned, each_passes}
 use Rattle.faces.specs.Faces.{has_side, IsRing, AreFaces, share_face, IsClassing, count_units, count_inner_edges, count_inner_faces, link_graph, AreLinked}
@@ -119,12 +120,8 @@ module _ (g : Graph) (faces : List (List ℕ)) (plan : List ℕ) (u : ℕ) (simp
   first_mate [] w p off = absurd p
   first_mate (t ∷ []) w p off = absurd (off (sym p.1 ∙ p.0))
   first_mate (t ∷ v ∷ rest) w p off =
-      let i = first_in v rest w p.3 in
+      let i = first_in g (in_district plan (slice_index plan u)) v rest v w p.3 in
       (v, (i.0, and_from (adjacent g u v) (in_district plan (slice_index plan u) v) (subst (λ k. adjacent g k v ≡ true) p.0 p.2) i.1))
-    where
-      first_in : (v : ℕ) (rest : List ℕ) (y : ℕ) → IsPath g (in_district plan (slice_index plan u)) (v ∷ rest) v y → IsIn g (in_district plan (slice_index plan u)) v
-      first_in v [] y q = q.2
-      first_in v (t ∷ rest) y q = q.1
 
   pub leaving_is_linked : u < g.units → IsConnected g (in_district plan (slice_index plan u))
       → count_inner_edges g (in_district plan (slice_index plan u)) + 1

@@ -8,7 +8,8 @@ use Rattle.audit_model.specs.Graph.{Graph, adjacent, count_edges, IsIn}
 use Rattle.audit_model.specs.Local.{IsSimple, is_mate, stays_behind, MayLeave}
 use Rattle.audit_model.specs.Plan.{in_district}
 use Rattle.audit_model.specs.Path.{HasPath, IsConnected}
-use Rattle.faces.proofs.Labels.{count_le, count_roots, edge_labels, edges_less, two_counted, path_same}
+use Rattle.model_laws.proofs.Below.{count_below_more}
+use Rattle.faces.proofs.Labels.{count_roots, edge_labels, edges_less, two_counted, path_same}
 use Rattle.faces.proofs.Rings.{pair_same, pair_is, pair_turned, side_at, side_turned, side_in, own_side, round, each_passes}
 use Rattle.faces.specs.Faces.{is_pair, has_side, IsRing, AreFaces, count_units, count_inner_edges, count_inner_faces, IsClassing}
 
@@ -45,7 +46,7 @@ module _ (g : Graph) (simple : IsSimple g) (inside : ℕ → Bool) (u : ℕ) (cl
   unfolding doubled count_below
   count_doubled = omega (
     arith,
-    count_le g.units inside doubled (λ k h. or_right (k == g.units) (inside k) h),
+    count_below_more g.units inside doubled (λ k h. or_right (k == g.units) (inside k) h),
     cond-true {A = ℕ} (doubled g.units) 1 0 (or_left (g.units == g.units) (inside g.units) (eq-eqb g.units g.units refl)),
   )
 

@@ -5,6 +5,7 @@ use Rattle.std.specs.List.{list_all}
 use Rattle.std.proofs.lemmas.Bool.{and_parts, and_from, or_cases, or_left, or_right, eq-eqb, eqb-true, both_ways, false≢true, false_from_ne_true}
 use Rattle.audit_model.specs.Apart.{AllApart}
 use Rattle.audit_model.specs.Graph.{has}
+use Rattle.model_laws.proofs.Lists.{first_has}
 use Rattle.faces.specs.Faces.{is_pair, has_side}
 
 -- ---- pairs
@@ -95,11 +96,8 @@ own_side a b (c ∷ d ∷ e ∷ rest) size = absurd (no_five size)
 pub other : (xs : List ℕ) (n m : ℕ) → has xs n ≡ false → has xs m ≡ true → n ≡ m → ⊥
 other xs n m lacks has-m e = both_ways (has xs n) lacks (subst (λ k. has xs k ≡ true) (sym e) has-m)
 
-pub has_1 : (a : ℕ) (xs : List ℕ) → has (a ∷ xs) a ≡ true
-has_1 a xs = or_left (a == a) (has xs a) (eq-eqb a a refl)
-
 pub has_2 : (a b : ℕ) (xs : List ℕ) → has (a ∷ b ∷ xs) b ≡ true
-has_2 a b xs = or_right (a == b) (has (b ∷ xs) b) (has_1 b xs)
+has_2 a b xs = or_right (a == b) (has (b ∷ xs) b) (first_has b xs)
 
 pub has_3 : (a b c : ℕ) (xs : List ℕ) → has (a ∷ b ∷ c ∷ xs) c ≡ true
 has_3 a b c xs = or_right (a == c) (has (b ∷ c ∷ xs) c) (has_2 b c xs)
@@ -128,7 +126,7 @@ round at label a b (c ∷ []) apart own edge corner =
     a-c e = other (b ∷ c ∷ []) a c apart.0 (has_2 b c []) e
 
     b-c : b ≡ c → ⊥
-    b-c e = other (c ∷ []) b c apart.1.0 (has_1 c []) e
+    b-c e = other (c ∷ []) b c apart.1.0 (first_has c []) e
 round at label a b (c ∷ d ∷ []) apart own edge corner =
     ap label (corner a b d own ad) ∙ edge a d ad (not_pair a b a d (λ e f. b-d f) (λ e f. a-d e))
     ∙ ap label (corner d a c (turn a d ad) dc) ∙ edge d c dc (not_pair a b d c (λ e f. a-d e) (λ e f. a-c e))
@@ -154,7 +152,7 @@ round at label a b (c ∷ d ∷ []) apart own edge corner =
     a-d e = other (b ∷ c ∷ d ∷ []) a d apart.0 (has_3 b c d []) e
 
     b-c : b ≡ c → ⊥
-    b-c e = other (c ∷ d ∷ []) b c apart.1.0 (has_1 c (d ∷ [])) e
+    b-c e = other (c ∷ d ∷ []) b c apart.1.0 (first_has c (d ∷ [])) e
 
     b-d : b ≡ d → ⊥
     b-d e = other (c ∷ d ∷ []) b d apart.1.0 (has_2 c d []) e
@@ -178,20 +176,20 @@ side_in (a ∷ []) x y h = absurd (false≢true h)
 side_in (a ∷ b ∷ []) x y h = absurd (false≢true h)
 side_in (a ∷ b ∷ c ∷ []) x y h = elim (or_cases (is_pair a b x y || is_pair b c x y) (is_pair c a x y) h) [
   | inl e ↦ elim (or_cases (is_pair a b x y) (is_pair b c x y) e) [
-    | inl f ↦ pair_in (a ∷ b ∷ c ∷ []) a b x y (has_1 a (b ∷ c ∷ [])) (has_2 a b (c ∷ [])) f
+    | inl f ↦ pair_in (a ∷ b ∷ c ∷ []) a b x y (first_has a (b ∷ c ∷ [])) (has_2 a b (c ∷ [])) f
     | inr f ↦ pair_in (a ∷ b ∷ c ∷ []) b c x y (has_2 a b (c ∷ [])) (has_3 a b c []) f
   ]
-  | inr f ↦ pair_in (a ∷ b ∷ c ∷ []) c a x y (has_3 a b c []) (has_1 a (b ∷ c ∷ [])) f
+  | inr f ↦ pair_in (a ∷ b ∷ c ∷ []) c a x y (has_3 a b c []) (first_has a (b ∷ c ∷ [])) f
 ]
 side_in (a ∷ b ∷ c ∷ d ∷ []) x y h = elim (or_cases (is_pair a b x y || is_pair b c x y || is_pair c d x y) (is_pair d a x y) h) [
   | inl e ↦ elim (or_cases (is_pair a b x y || is_pair b c x y) (is_pair c d x y) e) [
     | inl e' ↦ elim (or_cases (is_pair a b x y) (is_pair b c x y) e') [
-      | inl f ↦ pair_in (a ∷ b ∷ c ∷ d ∷ []) a b x y (has_1 a (b ∷ c ∷ d ∷ [])) (has_2 a b (c ∷ d ∷ [])) f
+      | inl f ↦ pair_in (a ∷ b ∷ c ∷ d ∷ []) a b x y (first_has a (b ∷ c ∷ d ∷ [])) (has_2 a b (c ∷ d ∷ [])) f
       | inr f ↦ pair_in (a ∷ b ∷ c ∷ d ∷ []) b c x y (has_2 a b (c ∷ d ∷ [])) (has_3 a b c (d ∷ [])) f
     ]
     | inr f ↦ pair_in (a ∷ b ∷ c ∷ d ∷ []) c d x y (has_3 a b c (d ∷ [])) (has_4 a b c d []) f
   ]
-  | inr f ↦ pair_in (a ∷ b ∷ c ∷ d ∷ []) d a x y (has_4 a b c d []) (has_1 a (b ∷ c ∷ d ∷ [])) f
+  | inr f ↦ pair_in (a ∷ b ∷ c ∷ d ∷ []) d a x y (has_4 a b c d []) (first_has a (b ∷ c ∷ d ∷ [])) f
 ]
 side_in (a ∷ b ∷ c ∷ d ∷ e ∷ rest) x y h = absurd (false≢true h)
 

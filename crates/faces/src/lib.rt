@@ -5,4 +5,4 @@ pub mod face;
 pub mod laws;
 pub mod list;
 pub mod near;
-pub mod peel;
+mod peel;

@@ -14,6 +14,89 @@ use std::alloc::Global;
 use std::collections::HashSet;
 use std::marker::Model;
 
+/// Faces, seen as their rings with the last first.
+#[derive(Drop)]
+pub struct FaceList {
+    faces: Vec<Face>,
+    codes: HashSet<u64>,
+}
+
+impl Model for FaceList {
+    ghost use Rattle.std.specs.Prelude.{ℕ, List};
+    ghost use Rattle.faces.specs.Listed.{rings, HoldsSides};
+
+    ghost Value = { List (List ℕ) };
+
+    ghost view = { λ l. rings l.faces.items };
+
+    ghost invariant = { λ l. HoldsSides (rings l.faces.items) l.codes };
+}
+
+impl FaceList {
+    /// The empty list.
+    pub fn new(alloc: Global) -> FaceList
+        ensures { result ≡ [] }
+    {
+        FaceList {
+            faces: Vec::new(alloc),
+            codes: HashSet::new(alloc),
+        }
+    }
+
+    /// The faces, the last of the list first.
+    pub fn faces(&self) -> &[Face]
+        ensures { rings result.now ≡ self.now }
+    {
+        // Reads the fields, so that what the type says of them is known.
+        let _ = &self.codes;
+        &self.faces
+    }
+
+    /// Puts a face in front, where it is a ring and no face of the list has its own side.
+    pub fn push(&mut self, g: &Graph, face: Face) -> Result<bool, Memory>
+        requires faces { AreFaces g.now self.old }
+        ensures faces { AreFaces g.now self.new }
+        ensures added { IfOk result (λ added. OnTrue added (self.new ≡ ring_of face ∷ self.old)) }
+        ensures unchanged { IfOk result (λ added. OnFalse added (self.new ≡ self.old)) }
+        ensures err { OnErr result (self.new ≡ self.old) }
+    {
+        // Called for what its contract says: the graph is sound, and has at most 100,000 units.
+        let _units = g.units();
+        if !face.is_ring(g) || has_own(&self.codes, face) {
+            return Ok(false);
+        }
+        note_sides(&mut self.codes, face)?;
+        self.faces.push(face)?;
+        Ok(true)
+    }
+
+    /// Puts a face in front, begun at the first of its units at which its own side is one that no face of the list has.
+    pub fn push_turned(&mut self, g: &Graph, face: Face) -> Result<(), Memory>
+        requires faces { AreFaces g.now self.old }
+        ensures faces { AreFaces g.now self.new }
+    {
+        let mut turn = face;
+        for _ in 0..4 {
+            if self.push(g, turn)? {
+                return Ok(());
+            }
+            turn = turn.turned();
+        }
+        Ok(())
+    }
+}
+
+/// The faces among the candidates, each put in front of those before it where it has a side that none of them has.
+pub fn list_faces(alloc: Global, g: &Graph, candidates: &[Face]) -> Result<FaceList, Memory>
+    ensures { IfOk result (λ l. AreFaces g.now l) }
+{
+    let mut list = FaceList::new(alloc);
+    for face in candidates {
+        list.push(g, *face)?;
+    }
+    Ok(list)
+}
+
 /// One number for two units in either order.
 fn code(x: u32, y: u32) -> u64
     ensures { result ≡ side_code x y }
@@ -64,85 +147,4 @@ fn has_own(codes: &HashSet<u64>, face: Face) -> bool
         Face::Triangle(a, b, _) => codes.contains(&code(a, b)),
         Face::Square(a, b, _, _) => codes.contains(&code(a, b)),
     }
-}
-
-/// Faces, seen as their rings with the last first.
-#[derive(Drop)]
-pub struct FaceList {
-    faces: Vec<Face>,
-    codes: HashSet<u64>,
-}
-
-impl Model for FaceList {
-    ghost use Rattle.std.specs.Prelude.{ℕ, List};
-    ghost use Rattle.faces.specs.Listed.{rings, HoldsSides};
-
-    ghost Value = { List (List ℕ) };
-
-    ghost view = { λ l. rings l.faces.items };
-
-    ghost invariant = { λ l. HoldsSides (rings l.faces.items) l.codes };
-}
-
-impl FaceList {
-    /// The empty list.
-    pub fn new(alloc: Global) -> FaceList
-        ensures { result ≡ [] }
-    {
-        FaceList {
-            faces: Vec::new(alloc),
-            codes: HashSet::new(alloc),
-        }
-    }
-
-    /// The faces, the last of the list first.
-    pub fn faces(&self) -> &[Face]
-        ensures { rings result.now ≡ self.now }
-    {
-        let _ = &self.codes;
-        &self.faces
-    }
-
-    /// Puts a face in front, where it is a ring and no face of the list has its own side.
-    pub fn push(&mut self, g: &Graph, face: Face) -> Result<bool, Memory>
-        requires faces { AreFaces g.now self.old }
-        ensures faces { AreFaces g.now self.new }
-        ensures added { IfOk result (λ added. OnTrue added (self.new ≡ ring_of face ∷ self.old)) }
-        ensures unchanged { IfOk result (λ added. OnFalse added (self.new ≡ self.old)) }
-        ensures err { OnErr result (self.new ≡ self.old) }
-    {
-        let _units = g.units();
-        if !face.is_ring(g) || has_own(&self.codes, face) {
-            return Ok(false);
-        }
-        note_sides(&mut self.codes, face)?;
-        self.faces.push(face)?;
-        Ok(true)
-    }
-
-    /// Puts a face in front, begun at the first of its units at which its own side is one that no face of the list has.
-    pub fn push_turned(&mut self, g: &Graph, face: Face) -> Result<(), Memory>
-        requires faces { AreFaces g.now self.old }
-        ensures faces { AreFaces g.now self.new }
-    {
-        let mut turn = face;
-        for _ in 0..4 {
-            if self.push(g, turn)? {
-                return Ok(());
-            }
-            turn = turn.turned();
-        }
-        Ok(())
-    }
-}
-
-/// The faces among the candidates, each put in front of those before it where it has a side that none of them has.
-pub fn list_faces(alloc: Global, g: &Graph, candidates: &[Face]) -> Result<FaceList, Memory>
-    ensures { IfOk result (λ l. AreFaces g.now l) }
-{
-    let mut list = FaceList::new(alloc);
-    for face in candidates {
-        list.push(g, *face)?;
-    }
-    Ok(list)
 }

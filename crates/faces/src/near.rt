@@ -16,6 +16,15 @@ const DEGREE: usize = 32;
 /// With more rings there are no faces.
 const MOST: usize = 4000000;
 
+/// Triangles and squares of a graph, each with a side that no later one has.
+pub fn faces_of(alloc: Global, g: &Graph) -> Result<FaceList, Memory>
+    ensures { IfOk result (λ l. AreFaces g.now l) }
+{
+    let rings = rings_of(alloc, g)?;
+    let order = peeled(alloc, g, &rings)?;
+    list_faces(alloc, g, &order)
+}
+
 /// Whether a unit is adjacent to all of these.
 fn is_near_all(g: &Graph, x: u32, units: &[u32]) -> bool
     requires { x < g.now.units }
@@ -99,13 +108,4 @@ fn rings_of(alloc: Global, g: &Graph) -> Result<Vec<Face>, Memory> {
         }
     }
     Ok(rings)
-}
-
-/// Triangles and squares of a graph, each with a side that no later one has.
-pub fn faces_of(alloc: Global, g: &Graph) -> Result<FaceList, Memory>
-    ensures { IfOk result (λ l. AreFaces g.now l) }
-{
-    let rings = rings_of(alloc, g)?;
-    let order = peeled(alloc, g, &rings)?;
-    list_faces(alloc, g, &order)
 }

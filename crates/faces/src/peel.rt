@@ -19,34 +19,6 @@ struct Sides {
     ready: Vec<usize>,
 }
 
-/// The number of the first side of each unit, and behind them that of all.
-fn begins_of(alloc: Global, g: &Graph) -> Result<Vec<usize>, Memory> {
-    let mut begins = Vec::new(alloc);
-    let mut end = 0usize;
-    for u in 0..g.units() {
-        begins.push(end)?;
-        end = end.wrapping_add(g.neighbours(u).len());
-    }
-    begins.push(end)?;
-    Ok(begins)
-}
-
-/// How many sides a ring has.
-fn length_of(ring: Face) -> usize {
-    match ring {
-        Face::Triangle(_, _, _) => 3,
-        Face::Square(_, _, _, _) => 4,
-    }
-}
-
-/// The first two units of a ring.
-fn first_two(ring: Face) -> (u32, u32) {
-    match ring {
-        Face::Triangle(a, b, _) => (a, b),
-        Face::Square(a, b, _, _) => (a, b),
-    }
-}
-
 impl Sides {
     /// The number of a ring's own side.
     fn own(&self, g: &Graph, ring: Face) -> usize {
@@ -159,6 +131,49 @@ impl Sides {
     }
 }
 
+/// The rings that are taken off while one has a side alone, the last first, each begun with that side. Where none has,
+/// one is dropped.
+pub fn peeled(alloc: Global, g: &Graph, rings: &[Face]) -> Result<Vec<Face>, Memory> {
+    let mut sides = Sides::of(alloc, g, rings)?;
+    let mut left: Vec<bool> = vec![in alloc; true; rings.len()]?;
+    let mut kept = Vec::new(alloc);
+    for number in 0..rings.len() {
+        keep_ready(g, rings, &mut sides, &mut left, &mut kept)?;
+        take_off(g, rings, &mut sides, &mut left, number)?;
+    }
+    keep_ready(g, rings, &mut sides, &mut left, &mut kept)?;
+    kept.reverse();
+    Ok(kept)
+}
+
+/// The number of the first side of each unit, and behind them that of all.
+fn begins_of(alloc: Global, g: &Graph) -> Result<Vec<usize>, Memory> {
+    let mut begins = Vec::new(alloc);
+    let mut end = 0usize;
+    for u in 0..g.units() {
+        begins.push(end)?;
+        end = end.wrapping_add(g.neighbours(u).len());
+    }
+    begins.push(end)?;
+    Ok(begins)
+}
+
+/// How many sides a ring has.
+fn length_of(ring: Face) -> usize {
+    match ring {
+        Face::Triangle(_, _, _) => 3,
+        Face::Square(_, _, _, _) => 4,
+    }
+}
+
+/// The first two units of a ring.
+fn first_two(ring: Face) -> (u32, u32) {
+    match ring {
+        Face::Triangle(a, b, _) => (a, b),
+        Face::Square(a, b, _, _) => (a, b),
+    }
+}
+
 /// Takes a ring off, and tells whether it was left.
 fn take_off(
     g: &Graph,
@@ -194,19 +209,4 @@ fn keep_ready(
         }
     }
     Ok(())
-}
-
-/// The rings that are taken off while one has a side alone, the last first, each begun with that side. Where none has,
-/// one is dropped.
-pub fn peeled(alloc: Global, g: &Graph, rings: &[Face]) -> Result<Vec<Face>, Memory> {
-    let mut sides = Sides::of(alloc, g, rings)?;
-    let mut left: Vec<bool> = vec![in alloc; true; rings.len()]?;
-    let mut kept = Vec::new(alloc);
-    for number in 0..rings.len() {
-        keep_ready(g, rings, &mut sides, &mut left, &mut kept)?;
-        take_off(g, rings, &mut sides, &mut left, number)?;
-    }
-    keep_ready(g, rings, &mut sides, &mut left, &mut kept)?;
-    kept.reverse();
-    Ok(kept)
 }

@@ -34,6 +34,7 @@ impl<F: Fn(&SumsView) -> bool + Drop> Guard<F> {
         requires answers { (sums : Sums) (answer : Bool) → sums.cut < 2 ^ 32 → FnReturnsAt F.Fn self.now.test sums answer → answer ≡ nat_le sums.cut self.now.rules.max_cut }
         ensures { result ≡ nat_le sums.now.cut self.now.rules.max_cut }
     {
+        // Read for the proof alone: the number fits 32 bits.
         let _cut = sums.cut;
         (self.test)(sums)
     }

@@ -6,7 +6,7 @@ use Rattle.std.proofs.lemmas.List.{get_or-set_same, get_or-set_other}
 use Rattle.std.proofs.lemmas.List.Folds.{list_any_at}
 use Rattle.audit_model.specs.Graph.{Graph, IsGraph, has, adjacent}
 use Rattle.audit_model.specs.Plan.{in_district}
-use Rattle.dual_graph.proofs.Marking.{has_at}
+use Rattle.model_laws.proofs.Lists.{has_at}
 use Rattle.flip_kernel.specs.Openings.{is_open}
 
 some_of : (test : ℕ → Bool) (xs : List ℕ) → list_any test xs ≡ true → (v : ℕ) × (has xs v ≡ true) × (test v ≡ true)

@@ -6,7 +6,7 @@ use Rattle.audit_model.specs.declared.outcome.SumsView.{SumsView}
 use Rattle.audit_model.specs.Job.{Job}
 use Rattle.audit_model.specs.JobOf.{IsJob}
 use Rattle.audit_model.specs.Plan.{district_sum}
-use Rattle.dual_graph.proofs.Rows.{get_or-map_below}
+use Rattle.model_laws.proofs.Below.{get_or-map_below}
 use Rattle.district_sums.specs.Following.{Following, districts_in}
 use Rattle.face_table.specs.Counts.{Counted}
 use Rattle.face_table.specs.Table.{Faced}

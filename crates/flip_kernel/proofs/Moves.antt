@@ -1,6 +1,6 @@
 -- A proposal is a move exactly where its pair is open, both populations stay within the bounds, the plan after it meets the rules, and the
 -- unit may leave its district.
-use Rattle.std.proofs.Common.{◌≡◌, ℕ, ◌+◌, ◌<◌, ◌≤◌, Bool, true, false, cond, not, ◌&&◌, ◌==◌, List, [], ◌∷◌, length, get_or, set, refl, sym, ap, ◌∙◌, subst, inl, inr, arith, length-set}
+use Rattle.std.proofs.Common.{◌≡◌, ℕ, ◌+◌, ◌<◌, ◌≤◌, Bool, true, cond, not, ◌==◌, List, [], ◌∷◌, length, get_or, set, refl, sym, ap, ◌∙◌, subst, inl, inr, arith, length-set}
 use Rattle.std.specs.Prelude.{◌⊎◌}
 use Rattle.std.proofs.lemmas.Bool.{cases_eq, eq-eqb, eqb-true, ne_eqb, and_right, both_ways, cond-true, cond-false, not_from_true, not_from_false}
 use Rattle.std.proofs.lemmas.List.{get_or-set_same, get_or-set_other}
@@ -12,7 +12,8 @@ use Rattle.audit_model.specs.Meets.{Meets}
 use Rattle.audit_model.specs.Path.{IsPath, HasPath, IsConnected}
 use Rattle.audit_model.specs.Plan.{in_district, district_sum, cut_edges, IsBalanced, IsLegal, least_population, greatest_population}
 use Rattle.model_laws.proofs.Accepted.{balanced_between}
-use Rattle.contig.proofs.Paths.{path_one, path_before, path_after, path_joined, path_within, first_in}
+use Rattle.model_laws.proofs.Bools.{and_true}
+use Rattle.model_laws.proofs.Paths.{path_one, path_before, path_after, path_joined, path_within, first_in}
 use Rattle.district_sums.proofs.Shifted.{shifted_sum}
 use Rattle.flip_kernel.specs.Held.{IsMove, KeepsBounds}
 use Rattle.flip_kernel.specs.Openings.{is_open}
@@ -65,10 +66,6 @@ second_of g inside [] u x p off = absurd p
 second_of g inside (a ∷ []) u x p off = absurd (off (sym p.1 ∙ p.0))
 second_of g inside (a ∷ b ∷ rest) u x p off = (b, subst (λ (v : ℕ). adjacent g v b ≡ true) p.0 p.2, (first_in g inside b rest b x p.3).1)
 
-and_with : (b c : Bool) → c ≡ true → (b && c) ≡ b
-and_with true c h = h
-and_with false c h = refl
-
 -- ---- the plan with the unit in the district
 
 module _ (job : Job) (plan : List ℕ) (u d : ℕ) (sound : IsJob job) (legal : IsLegal job plan) (inside : u < job.graph.units) (within : d < job.districts)
@@ -91,7 +88,7 @@ module _ (job : Job) (plan : List ℕ) (u d : ℕ) (sound : IsJob job) (legal : 
         ∙ sym (and_right (in_district plan (get_or plan u 0) v) (not (v == u)) (not_from_true (v == u) (eq-eqb v u e)))
     | inr apart ↦
         ap (λ (x : ℕ). x == get_or plan u 0) (get_or-set_other plan u v d 0 apart)
-        ∙ sym (and_with (in_district plan (get_or plan u 0) v) (not (v == u)) (not_from_false (v == u) (ne_eqb v u apart)))
+        ∙ sym (and_true (in_district plan (get_or plan u 0) v) (not (v == u)) (not_from_false (v == u) (ne_eqb v u apart)))
   ]
 
   u_in : in_district (set plan u d) d u ≡ true

@@ -9,8 +9,9 @@ use Rattle.std.proofs.lemmas.List.Folds.{list_any_more}
 use Rattle.std.proofs.lemmas.Nat.{mul-add-lt, same_from_place}
 use Rattle.audit_model.specs.Graph.{Graph, IsGraph, has, adjacent}
 use Rattle.audit_model.specs.Plan.{in_district}
-use Rattle.dual_graph.proofs.Marking.{has_at}
-use Rattle.flip_kernel.specs.Openings.{is_open, flag_of, IsTable, IsOpening}
+use Rattle.model_laws.proofs.Bools.{and_true}
+use Rattle.model_laws.proofs.Lists.{has_at}
+use Rattle.flip_kernel.specs.Openings.{is_open, flag_of, IsTable, HasOpened}
 use Rattle.flip_kernel.proofs.Beside.{open_other, open_far}
 
 -- ---- one pair
@@ -29,17 +30,13 @@ flag_other table districts u d v e flag ld le off =
 
 -- ---- the pairs of one unit
 
-and_with : (b c : Bool) → c ≡ true → (b && c) ≡ b
-and_with true c h = h
-and_with false c h = refl
-
 or_without : (b c : Bool) → c ≡ false → (b || c) ≡ b
 or_without true c h = refl
 or_without false c h = h
 
 pub opening_more : (plan : List ℕ) (districts unit : ℕ) (row : List ℕ) (i : ℕ) (old new : List Bool) → i < length row → get_or plan (get_or row i 0) 0 < districts
-    → unit * districts + get_or plan (get_or row i 0) 0 < length new → IsOpening plan districts unit (take i row) old new
-    → IsOpening plan districts unit (take (i + 1) row) old
+    → unit * districts + get_or plan (get_or row i 0) 0 < length new → HasOpened plan districts unit (take i row) old new
+    → HasOpened plan districts unit (take (i + 1) row) old
     (set new (unit * districts + get_or plan (get_or row i 0) 0) (not (get_or plan unit 0 == get_or plan (get_or row i 0) 0)))
 opening_more plan districts unit row i old new l there inside before = record {
   width = length-set new (unit * districts + e) flag ∙ before.width;
@@ -62,7 +59,7 @@ opening_more plan districts unit row i old new l there inside before = record {
           ap (λ (x : ℕ). flag_of (set new (unit * districts + get_or plan (get_or row i 0) 0) (not (get_or plan unit 0 == get_or plan (get_or row i 0) 0))) districts unit x) here
           ∙ flag_same new districts unit (get_or plan (get_or row i 0) 0) (not (get_or plan unit 0 == get_or plan (get_or row i 0) 0)) inside
           ∙ ap (λ (x : ℕ). not (get_or plan unit 0 == x)) (sym here)
-          ∙ sym (and_with (not (in_district plan d unit)) (list_any (in_district plan d) (take (i + 1) row))
+          ∙ sym (and_true (not (in_district plan d unit)) (list_any (in_district plan d) (take (i + 1) row))
           (more d ∙ or_right (list_any (in_district plan d) (take i row)) (get_or plan (get_or row i 0) 0 == d) (eq-eqb (get_or plan (get_or row i 0) 0) d (sym here))))
       | inr off ↦
           flag_other new districts unit d unit (get_or plan (get_or row i 0) 0) (not (get_or plan unit 0 == get_or plan (get_or row i 0) 0)) ld there (λ _ same. off same)

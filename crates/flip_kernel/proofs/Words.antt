@@ -4,8 +4,8 @@ use Rattle.std.specs.Int.{bit_at}
 use Rattle.std.proofs.lemmas.Bool.{cases_eq}
 use Rattle.std.proofs.lemmas.List.{ext_get_or, length-replicate, get_or-replicate}
 use Rattle.std.proofs.lemmas.Nat.Bits.{bit_at-zero}
-use Rattle.dual_graph.proofs.Rows.{length-map_below, get_or-map_below}
 use Rattle.flip_kernel.specs.Flags.{bit_of, flags_of}
+use Rattle.model_laws.proofs.Below.{length-map_below, get_or-map_below}
 
 pub length-flags_of : (words : List ℕ) → length (flags_of words) ≡ 64 * length words
 unfolding flags_of

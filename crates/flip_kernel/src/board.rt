@@ -1,6 +1,6 @@
 //! A plan that is legal for a job, with its sums and its open pairs.
 
-ghost use Rattle.std.specs.Prelude.{◌≡◌, ◌≢◌, ◌+◌, ◌<◌, ◌≤◌, ◌↔◌, ℕ, ⊤, length, slice_index, slice_set, IfOk, MatchOption, IsTrue};
+ghost use Rattle.std.specs.Prelude.{◌≡◌, ◌≢◌, ◌+◌, ◌<◌, ◌≤◌, ◌^◌, ◌-◌, ◌↔◌, ℕ, ⊤, length, slice_index, slice_set, IfOk, MatchOption, IsTrue};
 ghost use Rattle.audit_model.specs.JobOf.{IsJob};
 ghost use Rattle.audit_model.specs.Local.{IsLocal, MayLeave};
 ghost use Rattle.audit_model.specs.Job.{rules};
@@ -54,94 +54,6 @@ impl Model for Board {
     ghost view = { λ s. record { job = s.job.value; plan = s.plan } };
 
     ghost invariant = { λ s. IsHeld s.job.value s.plan s.sums s.marks.units s.openings s.pairs s.low s.high s.faces s.counts };
-}
-
-/// Moves a unit to a district in the plan and in its sums.
-fn shift(job: &Job, sums: &mut Sums, plan: &mut UnitList, unit: u32, district: u32)
-    requires legal { IsLegal job.now plan.old }
-    requires places { districts_in sums.old ≡ job.now.districts }
-    requires stands { StandsFor job.now.graph job.now.counts plan.old sums.old }
-    requires unit { unit < job.now.graph.units }
-    requires district { district < job.now.districts }
-    ensures plan { plan.new ≡ slice_set plan.old unit district }
-    ensures places { districts_in sums.new ≡ job.now.districts }
-    ensures stands { StandsFor job.now.graph job.now.counts plan.new sums.new }
-{
-    let _units = job.units();
-    sums.shift(
-        job.graph(),
-        job.counts(),
-        plan.as_mut_slice(),
-        unit,
-        district,
-    );
-}
-
-/// Moves a unit to another district in the plan and in the sums of its districts: so many edges are cut then.
-#[inline]
-fn shift_view(job: &Job, sums: &mut Sums, plan: &mut UnitList, unit: u32, district: u32, cut: u32)
-    requires complete { length plan.old ≡ job.now.graph.units }
-    requires in_range { (u : ℕ) → u < job.now.graph.units → slice_index plan.old u < job.now.districts }
-    requires places { districts_in sums.old ≡ job.now.districts }
-    requires view { sums.old.view ≡ sums_in job.now plan.old }
-    requires unit { unit < job.now.graph.units }
-    requires district { district < job.now.districts }
-    requires elsewhere { slice_index plan.old unit ≢ district }
-    requires cut { cut ≡ cut_edges job.now.graph (slice_set plan.old unit district) }
-    ensures plan { plan.new ≡ slice_set plan.old unit district }
-    ensures places { districts_in sums.new ≡ job.now.districts }
-    ensures view { sums.new.view ≡ sums_in job.now plan.new }
-    ensures apart { sums.new.apart ≡ sums.old.apart }
-{
-    let _units = job.units();
-    sums.shift_view(
-        job.graph(),
-        job.counts(),
-        plan.as_slice(),
-        unit,
-        district,
-        cut,
-    );
-    plan.as_mut_slice()[unit as usize] = district;
-}
-
-/// Whether a judge permits the plan with a unit in another district. The plan and its sums are as before afterwards.
-fn is_permitted<J: Judge>(
-    job: &Job,
-    judge: &J,
-    sums: &mut Sums,
-    plan: &mut UnitList,
-    unit: u32,
-    district: u32,
-) -> bool
-    requires legal { IsLegal job.now plan.old }
-    requires places { districts_in sums.old ≡ job.now.districts }
-    requires stands { StandsFor job.now.graph job.now.counts plan.old sums.old }
-    requires unit { unit < job.now.graph.units }
-    requires district { district < job.now.districts }
-    requires elsewhere { slice_index plan.old unit ≢ district }
-    requires judge { IsJudge job.now plan.old (J.keeps judge.now) (J.stands judge.now) (J.takes judge.now) (J.rules judge.now) }
-    ensures meets { result ≡ meets_rules (rules job.now) (cut_edges job.now.graph (slice_set plan.old unit district)) (slice_set plan.old unit district) }
-    ensures plan { plan.new ≡ plan.old }
-    ensures sums { sums.new ≡ sums.old }
-{
-    let home = plan.as_slice()[unit as usize];
-    let before = sums.view().cut;
-    let after = sums.cut_after(job.graph(), plan.as_slice(), unit, district);
-    shift_view(job, sums, plan, unit, district, after);
-    let permitted = judge.permits(plan.as_slice(), sums.view(), unit, home);
-    shift_view(job, sums, plan, unit, home, before);
-    permitted
-}
-
-/// Whether the bounds are kept where people leave one district and join another, by the populations before.
-#[inline]
-fn are_kept(low: u64, high: u64, people: u64, from: u64, to: u64) -> bool
-    requires people { people ≤ from }
-    requires from { from ≤ high }
-    ensures { IsTrue result ↔ KeepsBounds low high people from to }
-{
-    from - people >= low && to <= high - people
 }
 
 impl Board {
@@ -231,6 +143,7 @@ impl Board {
         ensures { IsTrue result ↔ KeepsBounds (least_population job.now) (greatest_population job.now) (slice_index job.now.counts.population unit)
             (district_sum job.now.counts.population self.now.plan (slice_index self.now.plan unit)) (district_sum job.now.counts.population self.now.plan district) }
     {
+        // Called for what its contract says: the job is within its limits, and its start plan is legal.
         let _units = job.units();
         let people = job.counts().population.as_slice()[unit as usize];
         let home = self.plan.as_slice()[unit as usize];
@@ -274,11 +187,19 @@ impl Board {
     }
 
     /// Whether the unit may leave its district, by a search where its neighbours there are not connected among themselves.
-    fn searching_tells<L: Ledger>(&mut self, job: &Job, unit: u32, steps: &mut Steps<L>) -> bool
+    fn searching_tells<L: Ledger>(
+        &mut self,
+        job: &Job,
+        unit: u32,
+        steps: &mut Steps<L>,
+        searches: &mut u64,
+    ) -> bool
         requires made { self.old.job ≡ job.now }
         requires unit { unit < job.now.graph.units }
+        requires room { searches.old < 2 ^ 64 - 1 }
         ensures leaves { IsTrue result ↔ MayLeave job.now.graph self.old.plan unit }
         ensures same { self.new ≡ self.old }
+        ensures counted { searches.new + steps.old ≡ searches.old + steps.new }
         ensures searches { (steps.old ≤ steps.new) × (steps.new ≤ steps.old + 1) }
         ensures local { IsLocal job.now.graph self.old.plan unit → steps.new ≡ steps.old }
     {
@@ -288,11 +209,12 @@ impl Board {
             unit,
             &mut self.marks,
             steps,
+            searches,
         )
     }
 
     /// Whether the unit can move to the district, which is open to it: the plan is legal then. The populations are tested
-    /// first, then the counts of faces, then the rules, and a search comes last; the counter is that of the searches.
+    /// first, then the counts of faces, then the rules, and a search comes last; the counter and the number are those of the searches.
     pub(crate) fn may_move<J: Judge, L: Ledger>(
         &mut self,
         job: &Job,
@@ -300,17 +222,21 @@ impl Board {
         unit: u32,
         district: u32,
         steps: &mut Steps<L>,
+        searches: &mut u64,
     ) -> bool
         requires made { self.old.job ≡ job.now }
         requires judge { IsJudge job.now self.old.plan (J.keeps judge.now) (J.stands judge.now) (J.takes judge.now) (J.rules judge.now) }
         requires unit { unit < job.now.graph.units }
         requires district { district < job.now.districts }
         requires beside { IsTrue (is_open job.now.graph self.old.plan unit district) }
+        requires room { searches.old < 2 ^ 64 - 1 }
         ensures moves { IsTrue result ↔ IsMove job.now self.old.plan unit district }
         ensures same { self.new ≡ self.old }
+        ensures counted { searches.new + steps.old ≡ searches.old + steps.new }
         ensures searches { (steps.old ≤ steps.new) × (steps.new ≤ steps.old + 1) }
         ensures local { IsLocal job.now.graph self.old.plan unit → steps.new ≡ steps.old }
     {
+        // Called for what their contracts say: the job is within its limits, and the plan is legal.
         let _units = job.units();
         let _plan = self.plan();
         if !self.keeps_bounds(job, unit, district) {
@@ -319,7 +245,8 @@ impl Board {
         match self.counting_tells(job, unit) {
             Some(may) => may && self.permits(job, judge, unit, district),
             None => {
-                self.permits(job, judge, unit, district) && self.searching_tells(job, unit, steps)
+                self.permits(job, judge, unit, district)
+                    && self.searching_tells(job, unit, steps, searches)
             }
         }
     }
@@ -350,4 +277,94 @@ impl Board {
             home,
         );
     }
+}
+
+/// Moves a unit to a district in the plan and in its sums.
+fn shift(job: &Job, sums: &mut Sums, plan: &mut UnitList, unit: u32, district: u32)
+    requires legal { IsLegal job.now plan.old }
+    requires places { districts_in sums.old ≡ job.now.districts }
+    requires stands { StandsFor job.now.graph job.now.counts plan.old sums.old }
+    requires unit { unit < job.now.graph.units }
+    requires district { district < job.now.districts }
+    ensures plan { plan.new ≡ slice_set plan.old unit district }
+    ensures places { districts_in sums.new ≡ job.now.districts }
+    ensures stands { StandsFor job.now.graph job.now.counts plan.new sums.new }
+{
+    // Called for what its contract says: the job is within its limits, and its start plan is legal.
+    let _units = job.units();
+    sums.shift(
+        job.graph(),
+        job.counts(),
+        plan.as_mut_slice(),
+        unit,
+        district,
+    );
+}
+
+/// Moves a unit to another district in the plan and in the sums of its districts: so many edges are cut then.
+#[inline]
+fn shift_view(job: &Job, sums: &mut Sums, plan: &mut UnitList, unit: u32, district: u32, cut: u32)
+    requires complete { length plan.old ≡ job.now.graph.units }
+    requires in_range { (u : ℕ) → u < job.now.graph.units → slice_index plan.old u < job.now.districts }
+    requires places { districts_in sums.old ≡ job.now.districts }
+    requires view { sums.old.view ≡ sums_in job.now plan.old }
+    requires unit { unit < job.now.graph.units }
+    requires district { district < job.now.districts }
+    requires elsewhere { slice_index plan.old unit ≢ district }
+    requires cut { cut ≡ cut_edges job.now.graph (slice_set plan.old unit district) }
+    ensures plan { plan.new ≡ slice_set plan.old unit district }
+    ensures places { districts_in sums.new ≡ job.now.districts }
+    ensures view { sums.new.view ≡ sums_in job.now plan.new }
+    ensures apart { sums.new.apart ≡ sums.old.apart }
+{
+    // Called for what its contract says: the job is within its limits, and its start plan is legal.
+    let _units = job.units();
+    sums.shift_view(
+        job.graph(),
+        job.counts(),
+        plan.as_slice(),
+        unit,
+        district,
+        cut,
+    );
+    plan.as_mut_slice()[unit as usize] = district;
+}
+
+/// Whether a judge permits the plan with a unit in another district. The plan and its sums are as before afterwards.
+fn is_permitted<J: Judge>(
+    job: &Job,
+    judge: &J,
+    sums: &mut Sums,
+    plan: &mut UnitList,
+    unit: u32,
+    district: u32,
+) -> bool
+    requires legal { IsLegal job.now plan.old }
+    requires places { districts_in sums.old ≡ job.now.districts }
+    requires stands { StandsFor job.now.graph job.now.counts plan.old sums.old }
+    requires unit { unit < job.now.graph.units }
+    requires district { district < job.now.districts }
+    requires elsewhere { slice_index plan.old unit ≢ district }
+    requires judge { IsJudge job.now plan.old (J.keeps judge.now) (J.stands judge.now) (J.takes judge.now) (J.rules judge.now) }
+    ensures meets { result ≡ meets_rules (rules job.now) (cut_edges job.now.graph (slice_set plan.old unit district)) (slice_set plan.old unit district) }
+    ensures plan { plan.new ≡ plan.old }
+    ensures sums { sums.new ≡ sums.old }
+{
+    let home = plan.as_slice()[unit as usize];
+    let before = sums.view().cut;
+    let after = sums.cut_after(job.graph(), plan.as_slice(), unit, district);
+    shift_view(job, sums, plan, unit, district, after);
+    let permitted = judge.permits(plan.as_slice(), sums.view(), unit, home);
+    shift_view(job, sums, plan, unit, home, before);
+    permitted
+}
+
+/// Whether the bounds are kept where people leave one district and join another, by the populations before.
+#[inline]
+fn are_kept(low: u64, high: u64, people: u64, from: u64, to: u64) -> bool
+    requires people { people ≤ from }
+    requires from { from ≤ high }
+    ensures { IsTrue result ↔ KeepsBounds low high people from to }
+{
+    from - people >= low && to <= high - people
 }

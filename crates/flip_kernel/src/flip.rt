@@ -1,6 +1,6 @@
 //! One step of the chain of plans, and the draw that leads back.
 
-ghost use Rattle.std.specs.Prelude.{◌≡◌, ℕ, ◌+◌, ◌<◌, ◌-◌, ◌*◌, ◌%◌, ◌≤◌, ◌↔◌, Some, slice_index, IsTrue, IsFalse};
+ghost use Rattle.std.specs.Prelude.{◌≡◌, ℕ, ◌+◌, ◌<◌, ◌-◌, ◌*◌, ◌^◌, ◌%◌, ◌≤◌, ◌↔◌, Some, slice_index, IsTrue, IsFalse};
 ghost use Rattle.audit_model.specs.Local.{IsLocal};
 ghost use Rattle.audit_model.specs.Proposal.{proposal};
 ghost use Rattle.audit_model.specs.Plan.{IsLegal};
@@ -14,9 +14,37 @@ use plan_core::job::Job;
 use std::marker::Brand;
 use std::sync::ledger::{Blank, Ledger};
 
+/// As [`try_flip`], where code is to read how many searches there were: the number rises with the counter, which takes no bytes.
+#[inline]
+pub fn try_flip_counting<J: Judge, L: Ledger>(
+    job: &Job,
+    state: &mut State<J>,
+    draw: u64,
+    steps: &mut Steps<L>,
+    searches: &mut u64,
+) -> bool
+    requires made { (held_of state.old).job ≡ job.now }
+    requires seated { IsSeated job.now J.keeps J.stands J.takes J.rules state.old }
+    requires room { searches.old < 2 ^ 64 - 1 }
+    ensures next { held_of state.new ≡ record (held_of state.old) { plan = next job.now (held_of state.old).plan draw } }
+    ensures seated { IsSeated job.now J.keeps J.stands J.takes J.rules state.new }
+    ensures held { IsFalse result ↔ ((held_of state.new).plan ≡ (held_of state.old).plan) }
+
+    ensures counted { searches.new + steps.old ≡ searches.old + steps.new }
+    ensures searches { (steps.old ≤ steps.new) × (steps.new ≤ steps.old + 1) }
+    ensures local { (unit district : ℕ) → proposal job.now.graph.units job.now.districts draw ≡ Some (unit, district) →
+        IsLocal job.now.graph (held_of state.old).plan unit → steps.new ≡ steps.old }
+{
+    match state.proposed(draw) {
+        None => false,
+        Some((unit, district)) => state.flip(job, unit, district, steps, searches),
+    }
+}
+
 /// Makes the plan the one after the draw, and tells whether it changed. The counter is that of the
-/// searches: none where the unit's neighbours in its district are connected among themselves, and at
-/// most one elsewhere.
+/// searches of a district: the two functions of `contig` that make one take it, and add one to it. None
+/// is made where the unit's neighbours in its district are connected among themselves, and at most one
+/// elsewhere.
 #[inline]
 pub fn try_flip<J: Judge, L: Ledger>(
     job: &Job,
@@ -34,38 +62,7 @@ pub fn try_flip<J: Judge, L: Ledger>(
     ensures local { (unit district : ℕ) → proposal job.now.graph.units job.now.districts draw ≡ Some (unit, district) →
         IsLocal job.now.graph (held_of state.old).plan unit → steps.new ≡ steps.old }
 {
-    match state.proposed(draw) {
-        None => false,
-        Some((unit, district)) => state.flip(job, unit, district, steps),
-    }
-}
-
-// The draw itself where it moves no unit. Elsewhere the place in its block is that of the unit's old district.
-// Only tests are made, and no move; their searches have a counter of their own.
-fn led_back<J: Judge, L: Ledger>(job: &Job, state: &mut State<J>, draw: u64, blank: Blank) -> u64
-    requires name { blank.name ≡ L.name }
-    requires parts { blank.parts ≡ L.parts }
-    requires some { 0 < L.parts }
-    requires made { (held_of state.old).job ≡ job.now }
-    requires seated { IsSeated job.now J.keeps J.stands J.takes J.rules state.old }
-    ensures value { result ≡ mirrored job.now (held_of state.old).plan draw }
-    ensures same { state.new ≡ state.old }
-    ensures legal { IsLegal job.now (held_of state.old).plan }
-{
-    let _units = job.units();
-    let plan = state.plan();
-    match state.proposed(draw) {
-        None => draw,
-        Some((unit, district)) => {
-            let home = plan.as_slice()[unit as usize];
-            let mut steps: Steps<L> = Steps::new(blank);
-            if state.may_move(job, unit, district, &mut steps) {
-                draw - u64::from(district) + u64::from(home)
-            } else {
-                draw
-            }
-        }
-    }
+    try_flip_counting(job, state, draw, steps, &mut 0)
 }
 
 /// The draw itself where it moves no unit, and elsewhere the draw of the same block that leads back. The
@@ -84,4 +81,33 @@ pub fn mirror<J: Judge>(job: &Job, state: &mut State<J>, draw: u64) -> u64
     ensures again { mirrored job.now (next job.now (held_of state.old).plan draw) result ≡ draw }
 {
     led_back::<J, Brand>(job, state, draw, Blank::new(1))
+}
+
+// The draw itself where it moves no unit. Elsewhere the place in its block is that of the unit's old district.
+// Only tests are made, and no move; their searches have a counter of their own.
+fn led_back<J: Judge, L: Ledger>(job: &Job, state: &mut State<J>, draw: u64, blank: Blank) -> u64
+    requires name { blank.name ≡ L.name }
+    requires parts { blank.parts ≡ L.parts }
+    requires some { 0 < L.parts }
+    requires made { (held_of state.old).job ≡ job.now }
+    requires seated { IsSeated job.now J.keeps J.stands J.takes J.rules state.old }
+    ensures value { result ≡ mirrored job.now (held_of state.old).plan draw }
+    ensures same { state.new ≡ state.old }
+    ensures legal { IsLegal job.now (held_of state.old).plan }
+{
+    // Called for what its contract says: the job is within its limits, and its start plan is legal.
+    let _units = job.units();
+    let plan = state.plan();
+    match state.proposed(draw) {
+        None => draw,
+        Some((unit, district)) => {
+            let home = plan.as_slice()[unit as usize];
+            let mut steps: Steps<L> = Steps::new(blank);
+            if state.may_move(job, unit, district, &mut steps, &mut 0) {
+                draw - u64::from(district) + u64::from(home)
+            } else {
+                draw
+            }
+        }
+    }
 }

@@ -4,7 +4,7 @@ ghost use Rattle.std.specs.Int.{bit_at};
 ghost use Rattle.std.specs.Prelude.{◌≡◌, ◌≢◌, ℕ, ◌+◌, ◌*◌, ◌/◌, ◌<◌, ◌≤◌, cond, false, [], length, slice_index, slice_set, replicate, IfOk};
 ghost use Rattle.std.specs.List.{slice_index_or};
 ghost use Rattle.flip_kernel.specs.Flags.{bit_of, flags_of};
-ghost use Rattle.flip_kernel.specs.Openings.{is_open, flag_of, IsTable, IsOpening};
+ghost use Rattle.flip_kernel.specs.Openings.{is_open, flag_of, IsTable, HasOpened};
 
 use audit_model::memory::Memory;
 use dual_graph::graph::Graph;
@@ -25,6 +25,93 @@ impl Model for Openings {
     ghost Value = { List Bool };
 
     ghost view = { λ o. flags_of o.words.items };
+}
+
+impl Openings {
+    /// No pair is open, of so many units and districts.
+    pub fn none(alloc: Global, units: u32, districts: u32) -> Result<Openings, Memory>
+        ensures { IfOk result (λ o. units * districts ≤ length o) }
+    {
+        Ok(Openings {
+            words: vec![in alloc; 0; place_of(units, 0, districts) / 64 + 1]?,
+        })
+    }
+
+    /// Whether the pair at a place is open.
+    #[inline]
+    pub fn has(&self, place: usize) -> bool
+        requires { place < length self.now }
+        ensures { result ≡ slice_index_or self.now place false }
+    {
+        bit_of(&self.words, place)
+    }
+
+    /// Opens or closes a pair.
+    #[inline]
+    fn put(&mut self, districts: u32, unit: u32, district: u32, flag: bool)
+        requires { unit * districts + district < length self.old }
+        ensures { self.new ≡ slice_set self.old (unit * districts + district) flag }
+    {
+        put_bit(&mut self.words, place_of(unit, district, districts), flag);
+    }
+
+    /// Closes all pairs.
+    fn clear(&mut self)
+        ensures { self.new ≡ replicate (length self.old) false }
+    {
+        self.words.fill(0);
+    }
+
+    /// Opens the districts of a unit's neighbours to the unit, to which none is open.
+    fn open_beside(&mut self, g: &Graph, plan: &[u32], districts: u32, unit: u32)
+        requires plan { length plan.now ≡ g.now.units }
+        requires in_range { (u : ℕ) → u < g.now.units → slice_index plan.now u < districts }
+        requires unit { unit < g.now.units }
+        requires width { g.now.units * districts ≤ length self.old }
+        requires closed { (d : ℕ) → d < districts → flag_of self.old districts unit d ≡ false }
+        ensures { HasOpened plan.now districts unit (slice_index_or g.now.neighbours unit []) self.old self.new }
+    {
+        let home = plan[unit as usize];
+        for other in g.neighbours(unit) {
+            let district = plan[*other as usize];
+            self.put(districts, unit, district, home != district);
+        }
+    }
+
+    /// Makes the openings those of a plan. It takes no memory.
+    pub fn refill(&mut self, g: &Graph, plan: &[u32], districts: u32)
+        requires plan { length plan.now ≡ g.now.units }
+        requires in_range { (u : ℕ) → u < g.now.units → slice_index plan.now u < districts }
+        requires width { g.now.units * districts ≤ length self.old }
+        ensures { IsTable g.now plan.now districts self.new }
+    {
+        self.clear();
+        for unit in 0..g.units() {
+            self.open_beside(g, plan, districts, unit);
+        }
+    }
+
+    /// Follows a unit that was in one district and is in another now. It reads the unit's neighbours and
+    /// theirs alone, and takes no memory.
+    pub fn renew(&mut self, g: &Graph, plan: &[u32], districts: u32, unit: u32, home: u32)
+        requires plan { length plan.now ≡ g.now.units }
+        requires in_range { (u : ℕ) → u < g.now.units → slice_index plan.now u < districts }
+        requires unit { unit < g.now.units }
+        requires home { home < districts }
+        requires table { IsTable g.now (slice_set plan.now unit home) districts self.old }
+        ensures { IsTable g.now plan.now districts self.new }
+    {
+        // Called for what its contract says: the graph is sound, and has at most 100,000 units.
+        let _units = g.units();
+        let district = plan[unit as usize];
+        for other in g.neighbours(unit) {
+            let v = *other;
+            self.put(districts, v, district, plan[v as usize] != district);
+            self.put(districts, v, home, is_open(g, plan, v, home));
+        }
+        self.put(districts, unit, district, false);
+        self.put(districts, unit, home, is_open(g, plan, unit, home));
+    }
 }
 
 /// The place of a pair of a unit and a district.
@@ -80,90 +167,4 @@ fn is_open(g: &Graph, plan: &[u32], unit: u32, district: u32) -> bool
         }
     }
     false
-}
-
-impl Openings {
-    /// No pair is open, of so many units and districts.
-    pub fn none(alloc: Global, units: u32, districts: u32) -> Result<Openings, Memory>
-        ensures { IfOk result (λ o. units * districts ≤ length o) }
-    {
-        Ok(Openings {
-            words: vec![in alloc; 0; place_of(units, 0, districts) / 64 + 1]?,
-        })
-    }
-
-    /// Whether the pair at a place is open.
-    #[inline]
-    pub fn has(&self, place: usize) -> bool
-        requires { place < length self.now }
-        ensures { result ≡ slice_index_or self.now place false }
-    {
-        bit_of(&self.words, place)
-    }
-
-    /// Opens or closes a pair.
-    #[inline]
-    fn put(&mut self, districts: u32, unit: u32, district: u32, flag: bool)
-        requires { unit * districts + district < length self.old }
-        ensures { self.new ≡ slice_set self.old (unit * districts + district) flag }
-    {
-        put_bit(&mut self.words, place_of(unit, district, districts), flag);
-    }
-
-    /// Closes all pairs.
-    fn clear(&mut self)
-        ensures { self.new ≡ replicate (length self.old) false }
-    {
-        self.words.fill(0);
-    }
-
-    /// Opens the districts of a unit's neighbours to the unit, to which none is open.
-    fn open_beside(&mut self, g: &Graph, plan: &[u32], districts: u32, unit: u32)
-        requires plan { length plan.now ≡ g.now.units }
-        requires in_range { (u : ℕ) → u < g.now.units → slice_index plan.now u < districts }
-        requires unit { unit < g.now.units }
-        requires width { g.now.units * districts ≤ length self.old }
-        requires closed { (d : ℕ) → d < districts → flag_of self.old districts unit d ≡ false }
-        ensures { IsOpening plan.now districts unit (slice_index_or g.now.neighbours unit []) self.old self.new }
-    {
-        let home = plan[unit as usize];
-        for other in g.neighbours(unit) {
-            let district = plan[*other as usize];
-            self.put(districts, unit, district, home != district);
-        }
-    }
-
-    /// Makes the openings those of a plan. It takes no memory.
-    pub fn refill(&mut self, g: &Graph, plan: &[u32], districts: u32)
-        requires plan { length plan.now ≡ g.now.units }
-        requires in_range { (u : ℕ) → u < g.now.units → slice_index plan.now u < districts }
-        requires width { g.now.units * districts ≤ length self.old }
-        ensures { IsTable g.now plan.now districts self.new }
-    {
-        self.clear();
-        for unit in 0..g.units() {
-            self.open_beside(g, plan, districts, unit);
-        }
-    }
-
-    /// Follows a unit that was in one district and is in another now. It reads the unit's neighbours and
-    /// theirs alone, and takes no memory.
-    pub fn renew(&mut self, g: &Graph, plan: &[u32], districts: u32, unit: u32, home: u32)
-        requires plan { length plan.now ≡ g.now.units }
-        requires in_range { (u : ℕ) → u < g.now.units → slice_index plan.now u < districts }
-        requires unit { unit < g.now.units }
-        requires home { home < districts }
-        requires table { IsTable g.now (slice_set plan.now unit home) districts self.old }
-        ensures { IsTable g.now plan.now districts self.new }
-    {
-        let _units = g.units();
-        let district = plan[unit as usize];
-        for other in g.neighbours(unit) {
-            let v = *other;
-            self.put(districts, v, district, plan[v as usize] != district);
-            self.put(districts, v, home, is_open(g, plan, v, home));
-        }
-        self.put(districts, unit, district, false);
-        self.put(districts, unit, home, is_open(g, plan, unit, home));
-    }
 }

@@ -1,6 +1,6 @@
 //! A legal plan of a job beside a judge that stands for it.
 
-ghost use Rattle.std.specs.Prelude.{◌≡◌, ◌≢◌, ◌+◌, ◌<◌, ◌≤◌, ◌↔◌, slice_index, slice_set, IfOk, MatchOption, IsTrue, IsFalse};
+ghost use Rattle.std.specs.Prelude.{◌≡◌, ◌≢◌, ◌+◌, ◌<◌, ◌≤◌, ◌^◌, ◌-◌, ◌↔◌, slice_index, slice_set, IfOk, MatchOption, IsTrue, IsFalse};
 ghost use Rattle.audit_model.specs.Job.{rules};
 ghost use Rattle.audit_model.specs.Local.{IsLocal};
 ghost use Rattle.audit_model.specs.Plan.{IsLegal};
@@ -80,25 +80,29 @@ impl<J: Judge> State<J> {
         self.board.proposed(draw)
     }
 
-    /// Whether the unit can move to the district, which is open to it. The counter is that of the searches.
+    /// Whether the unit can move to the district, which is open to it. The counter and the number are those of the searches.
     pub(crate) fn may_move<L: Ledger>(
         &mut self,
         job: &Job,
         unit: u32,
         district: u32,
         steps: &mut Steps<L>,
+        searches: &mut u64,
     ) -> bool
         requires made { (held_of self.old).job ≡ job.now }
         requires seated { IsSeated job.now J.keeps J.stands J.takes J.rules self.old }
         requires unit { unit < job.now.graph.units }
         requires district { district < job.now.districts }
         requires beside { IsTrue (is_open job.now.graph (held_of self.old).plan unit district) }
+        requires room { searches.old < 2 ^ 64 - 1 }
         ensures moves { IsTrue result ↔ IsMove job.now (held_of self.old).plan unit district }
         ensures same { self.new ≡ self.old }
+        ensures counted { searches.new + steps.old ≡ searches.old + steps.new }
         ensures searches { (steps.old ≤ steps.new) × (steps.new ≤ steps.old + 1) }
         ensures local { IsLocal job.now.graph (held_of self.old).plan unit → steps.new ≡ steps.old }
     {
-        self.board.may_move(job, &self.judge, unit, district, steps)
+        self.board
+            .may_move(job, &self.judge, unit, district, steps, searches)
     }
 
     /// Moves the unit to the district, which it can.
@@ -125,20 +129,23 @@ impl<J: Judge> State<J> {
         unit: u32,
         district: u32,
         steps: &mut Steps<L>,
+        searches: &mut u64,
     ) -> bool
         requires made { (held_of self.old).job ≡ job.now }
         requires seated { IsSeated job.now J.keeps J.stands J.takes J.rules self.old }
         requires unit { unit < job.now.graph.units }
         requires district { district < job.now.districts }
         requires beside { IsTrue (is_open job.now.graph (held_of self.old).plan unit district) }
+        requires room { searches.old < 2 ^ 64 - 1 }
         ensures moves { IsTrue result ↔ IsMove job.now (held_of self.old).plan unit district }
         ensures moved { IsTrue result → held_of self.new ≡ record (held_of self.old) { plan = slice_set (held_of self.old).plan unit district } }
         ensures held { IsFalse result → held_of self.new ≡ held_of self.old }
         ensures seated { IsSeated job.now J.keeps J.stands J.takes J.rules self.new }
+        ensures counted { searches.new + steps.old ≡ searches.old + steps.new }
         ensures searches { (steps.old ≤ steps.new) × (steps.new ≤ steps.old + 1) }
         ensures local { IsLocal job.now.graph (held_of self.old).plan unit → steps.new ≡ steps.old }
     {
-        if !self.may_move(job, unit, district, steps) {
+        if !self.may_move(job, unit, district, steps, searches) {
             return false;
         }
         self.make_move(job, unit, district);

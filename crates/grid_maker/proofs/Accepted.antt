@@ -13,14 +13,15 @@ use Rattle.audit_model.specs.First.{first_some}
 use Rattle.audit_model.specs.Graph.{adjacent, count_edges, has}
 use Rattle.audit_model.specs.Label.{same_label}
 use Rattle.draw_definitions.specs.Grid.{side, are_beside, first_votes_of}
-use Rattle.dual_graph.proofs.Rows.{length-map_below, get_or-map_below}
 use Rattle.graph_definitions.specs.Reading.{Document, node_count, node, entries, entry, id_of, label_of, same_id, lists, joined, graph, count_of, label_at, is_new_label, label_count, refused_if, repeated_id, first_entry, missing_column, bad_number, refusal}
-use Rattle.model_laws.proofs.Below.{count_below_into}
-use Rattle.model_laws.proofs.Connected.{has-filter_below, count_below_le}
+use Rattle.model_laws.proofs.Below.{count_below_into, count_below_le, any_below_some, any_below_none, length-map_below, get_or-map_below}
+use Rattle.model_laws.proofs.Connected.{has-filter_below}
+use Rattle.model_laws.proofs.Options.{or_of_none}
+use Rattle.model_laws.proofs.First.{none_first_below}
 use Rattle.grid_maker.specs.Columns.{grid_columns}
 use Rattle.grid_maker.specs.Tree.{entry_tree, node_tree}
 use Rattle.grid_maker.proofs.Districts.{district_of, units_of, few_units, district_below, first_of, first_district, before_first, first_inside}
-use Rattle.grid_maker.proofs.Finding.{or_none, none_below, none_some_below, none_passes, one_passes, some_passes, item_passes, get_or-map, length-map}
+use Rattle.grid_maker.proofs.Finding.{none_some_below, one_passes, item_passes, get_or-map, length-map}
 
 -- the units beside a unit
 abbrev pub units_beside : ℕ → ℕ → List ℕ
@@ -80,12 +81,12 @@ module _ (size : ℕ) (key : List ℕ) where
   -- ---- ids
 
   repeated : repeated_id made grid_columns ≡ None
-  repeated = map_none _ _ (none_below (node_count made) _ (λ j lj. none_passes j _ (λ i li.
+  repeated = map_none _ _ (none_first_below (node_count made) _ (λ j lj. any_below_none j _ (λ i li.
       ap₂ same_id (id_at i (omega (arith, li, lj))) (id_at j lj) ∙ whole_same i j ∙ ne_eqb i j (λ e. omega (arith, li, e)))))
 
   no_entry : (test : Data → Bool) (f : ℕ → ℕ → GraphFault) → ((i place : ℕ) → i < node_count made → place < length (entries made i) → test (entry made i place) ≡ false)
       → first_entry made grid_columns test f ≡ None
-  no_entry test f off = none_some_below (node_count made) _ (λ i l. map_none _ _ (none_below (length (entries made i)) _ (λ place lp. off i place l lp)))
+  no_entry test f off = none_some_below (node_count made) _ (λ i l. map_none _ _ (none_first_below (length (entries made i)) _ (λ place lp. off i place l lp)))
 
   known : (i place : ℕ) → i < node_count made → place < length (entries made i)
       → any_below (node_count made) (λ j. same_id (id_of (entry made i place)) (id_of (node made j))) ≡ true
@@ -163,7 +164,7 @@ module _ (size : ℕ) (key : List ℕ) (some : 1 ≤ size) (small : size ≤ 30)
 
   pub lists_beside : (i j : ℕ) → i < node_count grid_made → j < node_count grid_made → lists grid_made i j ≡ true → are_beside size i j ≡ true
   lists_beside i j li lj h =
-      let found = some_passes (length (entries grid_made i)) (λ place. same_id (id_of (entry grid_made i place)) (id_of (node grid_made j))) h in
+      let found = any_below_some (length (entries grid_made i)) (λ place. same_id (id_of (entry grid_made i place)) (id_of (node grid_made j))) h in
       let v : ℕ = get_or (units_beside size i) found.0 0 in
       let same : v ≡ j = eqb-true v j (sym (whole_same v j) ∙ sym (ap₂ same_id (entry_id size key i found.0 li found.1) (id_at size key j lj)) ∙ found.2) in
       subst (λ (k : ℕ). are_beside size i k ≡ true) same (item_passes (units_of size) (are_beside size i) found.0 (place_at size key i found.0 li found.1)).1
@@ -247,7 +248,7 @@ module _ (size : ℕ) (key : List ℕ) (some : 1 ≤ size) (small : size ≤ 30)
   first_is_new : (d : ℕ) → d < 2 → is_new_label grid_made grid_columns (first_of size d) ≡ true
   first_is_new d l =
       let inside : first_of size d < node_count grid_made = omega (arith, count_is size key, first_inside size d some (omega (arith, l))) in
-      ap not (none_passes (first_of size d) (λ i. same_label (label_at grid_made grid_columns i) (label_at grid_made grid_columns (first_of size d)))
+      ap not (any_below_none (first_of size d) (λ i. same_label (label_at grid_made grid_columns i) (label_at grid_made grid_columns (first_of size d)))
       (λ j lj.
       same_districts j (first_of size d) (omega (arith, lj, inside)) inside
       ∙ ne_eqb (district_of size j) (district_of size (first_of size d)) (λ e. omega (arith, e, first_district size d some, before_first size d j some lj))))
@@ -264,18 +265,18 @@ module _ (size : ℕ) (key : List ℕ) (some : 1 ≤ size) (small : size ≤ 30)
 
   pub accepted : refusal grid_made grid_columns ≡ None
   accepted =
-      or_none _ _ (not_refused _ _ (ap not (eq-eqb (node_count grid_made) (length grid_made.adjacency)
+      or_of_none _ _ (not_refused _ _ (ap not (eq-eqb (node_count grid_made) (length grid_made.adjacency)
       (count_is size key ∙ sym (length-map_below (units_of size) (λ u. map entry_tree (units_beside size u)))))))
-      (or_none _ _ (not_refused _ _ (le-ltb 100000 (node_count grid_made) (omega (arith, count_is size key, few_units size small))))
-      (or_none _ _ (map_none _ _ (none_below (node_count grid_made) _ (λ i l. ap is_none (id_at size key i l))))
-      (or_none _ _ (repeated size key)
-      (or_none _ _ (no_entry size key (λ d. is_none (id_of d)) fault.BadNeighbour (λ i place l lp. ap is_none (entry_id size key i place l lp)))
-      (or_none _ _ (no_entry size key (λ d. not (any_below (node_count grid_made) (λ j. same_id (id_of d) (id_of (node grid_made j))))) fault.UnknownNeighbour
+      (or_of_none _ _ (not_refused _ _ (le-ltb 100000 (node_count grid_made) (omega (arith, count_is size key, few_units size small))))
+      (or_of_none _ _ (map_none _ _ (none_first_below (node_count grid_made) _ (λ i l. ap is_none (id_at size key i l))))
+      (or_of_none _ _ (repeated size key)
+      (or_of_none _ _ (no_entry size key (λ d. is_none (id_of d)) fault.BadNeighbour (λ i place l lp. ap is_none (entry_id size key i place l lp)))
+      (or_of_none _ _ (no_entry size key (λ d. not (any_below (node_count grid_made) (λ j. same_id (id_of d) (id_of (node grid_made j))))) fault.UnknownNeighbour
       (λ i place l lp. ap not (known size key i place l lp)))
-      (or_none _ _ (not_refused _ _ (le-ltb 400000 (count_edges (graph grid_made) (λ u v. true)) few_edges))
-      (or_none _ _ (none_some_below (node_count grid_made) (missing_column grid_made grid_columns) missing)
-      (or_none _ _ (none_some_below (node_count grid_made) (bad_number grid_made grid_columns) numbers)
-      (or_none _ _ (map_none _ _ (none_below (node_count grid_made) _ (λ i l.
+      (or_of_none _ _ (not_refused _ _ (le-ltb 400000 (count_edges (graph grid_made) (λ u v. true)) few_edges))
+      (or_of_none _ _ (none_some_below (node_count grid_made) (missing_column grid_made grid_columns) missing)
+      (or_of_none _ _ (none_some_below (node_count grid_made) (bad_number grid_made grid_columns) numbers)
+      (or_of_none _ _ (map_none _ _ (none_first_below (node_count grid_made) _ (λ i l.
       ap (λ (d : Data). is_none (option_and_then label_of (get (codes "district") d))) (node_at size key i l))))
-      (or_none _ _ (not_refused _ _ (rw (le-ltb (label_count grid_made grid_columns) 2 two_labels, le-ltb 200 (label_count grid_made grid_columns) (omega (arith, few_labels))) refl))
+      (or_of_none _ _ (not_refused _ _ (rw (le-ltb (label_count grid_made grid_columns) 2 two_labels, le-ltb 200 (label_count grid_made grid_columns) (omega (arith, few_labels))) refl))
       refl))))))))))

@@ -14,8 +14,6 @@ use Rattle.audit_model.specs.Label.{label_cmp}
 use Rattle.audit_model.specs.Limits.{AreWithin}
 use Rattle.draw_definitions.specs.Grid.{grid, side, are_beside, first_votes_of}
 use Rattle.dual_graph.specs.Pairs.{Joins}
-use Rattle.dual_graph.proofs.Marking.{has_at}
-use Rattle.dual_graph.proofs.Rows.{length-map_below, get_or-map_below}
 use Rattle.dual_json.specs.Columns.{count_in, numbers_in}
 use Rattle.dual_json.specs.Districts.{AreDistricts}
 use Rattle.dual_json.specs.Places.{nth, label_in, AreLabels}
@@ -24,6 +22,8 @@ use Rattle.dual_json.proofs.Bridge.{parsed_is, within_is}
 use Rattle.dual_json.proofs.Joined.{graph_is}
 use Rattle.graph_definitions.specs.Reading.{Document, node_count, node, entries, entry, id_of, same_id, lists, joined, graph, reading}
 use Rattle.model_laws.proofs.Connected.{filter_below-has}
+use Rattle.model_laws.proofs.Below.{length-map_below, get_or-map_below}
+use Rattle.model_laws.proofs.Lists.{has_at}
 use Rattle.grid_maker.specs.Columns.{grid_columns}
 use Rattle.grid_maker.specs.Pairs.{pairs_until}
 use Rattle.grid_maker.specs.Tree.{entry_tree, node_tree}

@@ -7,6 +7,7 @@ use Rattle.serde_json.specs.Data.{Data}
 use Rattle.serde_json.specs.Read.{read}
 use Rattle.serde_json.specs.View.{items_of}
 use Rattle.audit_model.specs.Below.{map_below}
+use Rattle.model_laws.proofs.Options.{or_of_none}
 use Rattle.draw_definitions.specs.Grid.{grid}
 use Rattle.graph_definitions.specs.Reading.{Document, elements, list_of, bad_part, document, parsed, refusal, accepted_or, of_root, of_json, reading}
 use Rattle.grid_maker.specs.Columns.{grid_columns}
@@ -14,7 +15,6 @@ use Rattle.grid_maker.specs.Tree.{entry_tree, neighbours_tree, node_tree, grid_t
 use Rattle.grid_maker.proofs.Accepted.{units_beside, grid_document, not_refused, accepted}
 use Rattle.grid_maker.proofs.Compact.{map-map_below}
 use Rattle.grid_maker.proofs.Districts.{units_of}
-use Rattle.grid_maker.proofs.Finding.{or_none}
 use Rattle.grid_maker.proofs.Readable.{grid_read, grid_utf8}
 
 elements-items_of : (ds : List Data) → elements (items_of ds) ≡ ds
@@ -41,7 +41,7 @@ module _ (size : ℕ) (key : List ℕ) where
       ∙ list_all_below (λ d. is_some (list_of d)) (units_of size) (neighbours_tree size) (λ k. refl)
 
   shaped : bad_part (grid_tree size key) ≡ None
-  shaped = or_none _ _ (not_refused _ _ (ap not all_lists)) refl
+  shaped = or_of_none _ _ (not_refused _ _ (ap not all_lists)) refl
 
   document_is : document (grid_tree size key) ≡ grid_document size key
   unfolding document_from

@@ -1,24 +1,15 @@
 -- The units beside a unit of a grid, in rising order.
 use Rattle.std.proofs.Common.{◌≡◌, ℕ, zero, suc, ◌+◌, ◌-◌, ◌*◌, ◌/◌, ◌%◌, ◌<◌, ◌≤◌, Bool, true, false, cond, ◌&&◌, ◌||◌, List, [], ◌∷◌, ◌++◌, Some, None, refl, sym, ap, ◌∙◌, inl, inr, arith, append-nil, add-one}
 use Rattle.std.specs.Prelude.{◌==◌, nat_lt, option_to_list}
-use Rattle.std.proofs.lemmas.Bool.{cases_lt, cases_eq, eq-eqb, ne_eqb, lt-ltb, le-ltb, le-leb, lt-leb}
+use Rattle.std.proofs.lemmas.Bool.{cases_lt, eq-eqb, ne_eqb, lt-ltb, le-ltb, le-leb, lt-leb}
 use Rattle.std.proofs.lemmas.Nat.{div-add-mod', div-mul-add, mod-mul-add, mod_below}
 use Rattle.std.proofs.Math.Nat.{suc-mul}
 use Rattle.audit_model.specs.Below.{filter_below}
+use Rattle.model_laws.proofs.Below.{filter_below_cut}
 use Rattle.draw_definitions.specs.Grid.{side, are_beside}
 use Rattle.grid_maker.specs.Beside.{above, left, right, below}
 
 -- ---- steps over numbers of which none passes
-
-filter_past : (test : ℕ → Bool) (a b : ℕ) → a ≤ b → ((v : ℕ) → a ≤ v → v < b → test v ≡ false) → filter_below b test ≡ filter_below a test
-filter_past test a zero l off = let start : 0 ≡ a = omega (arith, l) in ap (λ (n : ℕ). filter_below n test) start
-filter_past test a (suc b) l off = elim (cases_eq a (suc b)) [
-  | inl e ↦ ap (λ (n : ℕ). filter_below n test) (sym e)
-  | inr ne ↦
-      let last : filter_below b test ++ cond (test b) (b ∷ []) [] ≡ filter_below b test =
-      ap (λ (t : Bool). filter_below b test ++ cond t (b ∷ []) []) (off b (omega (arith, l, ne)) (omega arith)) ∙ append-nil (filter_below b test) in
-      last ∙ filter_past test a b (omega (arith, l, ne)) (λ v la lb. off v la (omega (arith, lb)))
-]
 
 filter_at : (test : ℕ → Bool) (n : ℕ) (b : Bool) → test n ≡ b → filter_below (n + 1) test ≡ filter_below n test ++ cond b (n ∷ []) []
 filter_at test n b is = ap (λ (k : ℕ). filter_below k test) (let e : n + 1 ≡ suc n = omega arith in e) ∙ ap (λ (t : Bool). filter_below n test ++ cond t (n ∷ []) []) is
@@ -108,18 +99,18 @@ right_is_beside width u wide =
 to_above : (width u : ℕ) → 2 ≤ width → filter_below (u - 1) (beside width u) ≡ option_to_list (above width u)
 to_above width u wide = elim (cases_lt u width) [
   | inl first ↦
-      filter_past (beside width u) 0 (u - 1) (omega arith)
+      filter_below_cut (beside width u) 0 (u - 1) (omega arith)
       (λ v la lb. off_beside width u v (λ e. omega (arith, lb, e)) (λ e. omega (arith, lb, e)) (λ e. omega (arith, lb, e)) (λ e. omega (arith, first, e)))
       ∙ sym (ap (λ (b : Bool). option_to_list (cond b (Some (u - width)) None)) (lt-leb width u first))
   | inr l ↦
       let d : ℕ = u - width in
       let between : filter_below (u - 1) (beside width u) ≡ filter_below (d + 1) (beside width u) =
-      filter_past (beside width u) (d + 1) (u - 1) (omega (arith, l, wide))
+      filter_below_cut (beside width u) (d + 1) (u - 1) (omega (arith, l, wide))
       (λ v la lb. off_beside width u v (λ e. omega (arith, lb, e)) (λ e. omega (arith, lb, e)) (λ e. omega (arith, lb, e)) (λ e. omega (arith, la, l, e))) in
       let here : filter_below (d + 1) (beside width u) ≡ filter_below d (beside width u) ++ d ∷ [] =
       filter_at (beside width u) d true (above_is_beside width u d (omega (arith, l))) in
       let none : filter_below d (beside width u) ≡ [] =
-      filter_past (beside width u) 0 d (omega arith)
+      filter_below_cut (beside width u) 0 d (omega arith)
       (λ v la lb. off_beside width u v (λ e. omega (arith, lb, e)) (λ e. omega (arith, lb, wide, e)) (λ e. omega (arith, lb, e)) (λ e. omega (arith, lb, l, e))) in
       between ∙ here ∙ ap (λ (xs : List ℕ). xs ++ d ∷ []) none
       ∙ sym (ap (λ (b : Bool). option_to_list (cond b (Some d) None)) (le-leb width u l))
@@ -160,7 +151,7 @@ to_last : (width u : ℕ) → 2 ≤ width → u < width * width → width * widt
     → filter_below (width * width) (beside width u) ≡ filter_below (u + 2) (beside width u)
 to_last width u wide inside past = elim (cases_lt (u + 1) (width * width)) [
   | inl more ↦
-      filter_past (beside width u) (u + 2) (width * width) (omega (arith, more))
+      filter_below_cut (beside width u) (u + 2) (width * width) (omega (arith, more))
       (λ v la lb. off_beside width u v (λ e. omega (arith, la, e)) (λ e. omega (arith, la, e)) (λ e. omega (arith, lb, past, e)) (λ e. omega (arith, la, e)))
   | inr last ↦
       let end : u + 1 ≡ width * width = omega (arith, last, inside) in
@@ -177,12 +168,12 @@ to_below width u wide inside = elim (cases_lt (u + width) (width * width)) [
   | inl l ↦
       let v : ℕ = u + width in
       let rest : filter_below (width * width) (beside width u) ≡ filter_below (v + 1) (beside width u) =
-      filter_past (beside width u) (v + 1) (width * width) (omega (arith, l))
+      filter_below_cut (beside width u) (v + 1) (width * width) (omega (arith, l))
       (λ w la lb. off_beside width u w (λ e. omega (arith, la, wide, e)) (λ e. omega (arith, la, e)) (λ e. omega (arith, la, e)) (λ e. omega (arith, la, e))) in
       let here : filter_below (v + 1) (beside width u) ≡ filter_below v (beside width u) ++ v ∷ [] =
       filter_at (beside width u) v true (below_is_beside width u v refl) in
       let between : filter_below v (beside width u) ≡ filter_below (u + 2) (beside width u) =
-      filter_past (beside width u) (u + 2) v (omega (arith, wide))
+      filter_below_cut (beside width u) (u + 2) v (omega (arith, wide))
       (λ w la lb. off_beside width u w (λ e. omega (arith, la, e)) (λ e. omega (arith, la, e)) (λ e. omega (arith, lb, e)) (λ e. omega (arith, la, e))) in
       rest ∙ here ∙ ap (λ (xs : List ℕ). xs ++ v ∷ []) between
       ∙ sym (ap (λ (b : Bool). filter_below (u + 2) (beside width u) ++ option_to_list (cond b (Some v) None)) (lt-ltb v (width * width) l))

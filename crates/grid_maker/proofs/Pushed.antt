@@ -5,6 +5,7 @@ use Rattle.serde_json.specs.Data.{Data}
 use Rattle.serde_json.specs.View.{view}
 use Rattle.serde_json.specs.declared.value.Value.{Value}
 use Rattle.audit_model.specs.Below.{map_below}
+use Rattle.std.proofs.lemmas.List.{map-append}
 
 map_view-append : (vs ws : List Value) → map view (vs ++ ws) ≡ map view vs ++ map view ws
 map_view-append [] ws = refl
@@ -18,10 +19,6 @@ pushed n f vs ws v is before at =
     ∙ ap (λ (ds : List Data). ds ++ view v ∷ []) before
     ∙ ap (λ (d : Data). map_below n f ++ d ∷ []) at
     ∙ rw add-one refl
-
-map-append : (f : ℕ → Data) (xs ys : List ℕ) → map f (xs ++ ys) ≡ map f xs ++ map f ys
-map-append f [] ys = refl
-map-append f (x ∷ xs) ys = ap (λ (ds : List Data). f x ∷ ds) (map-append f xs ys)
 
 one_more : (f : ℕ → Data) (before after : List Data) (numbers : List ℕ) (o p : Option ℕ) → before ≡ map f numbers → o ≡ p
     → after ≡ before ++ map f (option_to_list o) → after ≡ map f (numbers ++ option_to_list p)

@@ -18,6 +18,7 @@ use Rattle.serde_json.specs.Written.{compact_text, items_text, outline, items_ou
 use Rattle.serde_json.proofs.Numbers.{number_of-decimal}
 use Rattle.serde_json.proofs.Texts.{print-outline}
 use Rattle.audit_model.specs.Below.{map_below, filter_below}
+use Rattle.std.proofs.lemmas.List.{map-append}
 use Rattle.draw_definitions.specs.Grid.{side, are_beside, first_votes_of, grid}
 use Rattle.grid_maker.specs.Tree.{entry_tree, neighbours_tree, node_tree, adjacency_tree, nodes_tree, root_tree, grid_tree}
 use Rattle.grid_maker.proofs.Districts.{units_of, few_units, district_below}
@@ -46,10 +47,6 @@ readable_below : (deep n : ℕ) (f : ℕ → Data) → ((k : ℕ) → k < n → 
 readable_below deep zero f h = tt
 readable_below deep (suc n) f h =
     readable-append deep (map_below n f) (f n ∷ []) (readable_below deep n f (λ k l. h k (omega (arith, l)))) (h n (omega arith), tt)
-
-map-append : (f : ℕ → Data) (xs ys : List ℕ) → map f (xs ++ ys) ≡ map f xs ++ map f ys
-map-append f [] ys = refl
-map-append f (x ∷ xs) ys = ap (λ (ds : List Data). f x ∷ ds) (map-append f xs ys)
 
 readable_filter : (deep n : ℕ) (test : ℕ → Bool) (f : ℕ → Data) → ((k : ℕ) → k < n → IsReadable deep (f k)) → AreReadable deep (map f (filter_below n test))
 readable_filter deep zero test f h = tt

@@ -10,25 +10,6 @@ use audit_model::memory::Memory;
 use serde_json::{Value, json};
 use std::alloc::Global;
 
-/// The unit above.
-fn above(side: u32, unit: u32) -> Option<u32>
-    ensures { result ≡ unit_above side unit }
-{
-    unit.checked_sub(side)
-}
-
-/// The unit to the left, in the same row.
-fn left(side: u32, unit: u32) -> Option<u32>
-    requires { 1 ≤ side }
-    ensures { result ≡ unit_left side unit }
-{
-    if unit % side > 0 {
-        Some(unit - 1)
-    } else {
-        None
-    }
-}
-
 /// The unit to the right, in the same row.
 pub(crate) fn right(side: u32, unit: u32) -> Option<u32>
     requires side { (1 ≤ side) × (side ≤ 300) }
@@ -56,6 +37,38 @@ pub(crate) fn below(side: u32, unit: u32) -> Option<u32>
     }
 }
 
+/// The lists of all units.
+pub fn adjacency_of(alloc: Global, size: u32) -> Result<Value, Memory>
+    requires { (1 ≤ size) × (size ≤ 30) }
+    ensures { IfOk result (λ value. view value ≡ adjacency_tree size) }
+{
+    let side = 10 * size;
+    let mut list = Vec::new(alloc);
+    for unit in 0..side * side {
+        list.push(neighbours_of(alloc, size, unit)?)?;
+    }
+    Ok(Value::Array(list))
+}
+
+/// The unit above.
+fn above(side: u32, unit: u32) -> Option<u32>
+    ensures { result ≡ unit_above side unit }
+{
+    unit.checked_sub(side)
+}
+
+/// The unit to the left, in the same row.
+fn left(side: u32, unit: u32) -> Option<u32>
+    requires { 1 ≤ side }
+    ensures { result ≡ unit_left side unit }
+{
+    if unit % side > 0 {
+        Some(unit - 1)
+    } else {
+        None
+    }
+}
+
 /// Appends the entry of a neighbour, where there is one.
 fn push_entry(alloc: Global, list: &mut Vec<Value>, neighbour: Option<u32>) -> Result<(), Memory>
     ensures { OnOk result (map view list.new.items ≡ map view list.old.items ++ map entry_tree (option_to_list neighbour)) }
@@ -78,18 +91,5 @@ fn neighbours_of(alloc: Global, size: u32, unit: u32) -> Result<Value, Memory>
     push_entry(alloc, &mut list, left(side, unit))?;
     push_entry(alloc, &mut list, right(side, unit))?;
     push_entry(alloc, &mut list, below(side, unit))?;
-    Ok(Value::Array(list))
-}
-
-/// The lists of all units.
-pub fn adjacency_of(alloc: Global, size: u32) -> Result<Value, Memory>
-    requires { (1 ≤ size) × (size ≤ 30) }
-    ensures { IfOk result (λ value. view value ≡ adjacency_tree size) }
-{
-    let side = 10 * size;
-    let mut list = Vec::new(alloc);
-    for unit in 0..side * side {
-        list.push(neighbours_of(alloc, size, unit)?)?;
-    }
     Ok(Value::Array(list))
 }

@@ -19,6 +19,17 @@ use audit_model::memory::Memory;
 use serde_json::{Value, json};
 use std::alloc::Global;
 
+/// The grid of a size, whose votes are drawn under a key: ten times the size is the number of its rows and of its columns.
+pub fn make(alloc: Global, size: u32, key: [u8; 32]) -> Result<Bytes, Memory>
+    requires { (1 ≤ size) × (size ≤ 30) }
+    ensures { IfOk result (λ bytes. bytes.items ≡ grid size key) }
+{
+    let adjacency = adjacency_of(alloc, size)?;
+    let nodes = nodes_of(alloc, size, key)?;
+    let root = root_of(alloc, adjacency, nodes)?;
+    written(alloc, &root)
+}
+
 /// The root of the JSON, from the lists of neighbours and the nodes.
 fn root_of(alloc: Global, adjacency: Value, nodes: Value) -> Result<Value, Memory>
     ensures { IfOk result (λ root. view root ≡ root_tree (view adjacency) (view nodes)) }
@@ -41,15 +52,4 @@ fn written(alloc: Global, value: &Value) -> Result<Bytes, Memory>
     let mut bytes = Bytes::with_room(alloc, text.len())?;
     bytes.append(&text)?;
     Ok(bytes)
-}
-
-/// The grid of a size, whose votes are drawn under a key: ten times the size is the number of its rows and of its columns.
-pub fn make(alloc: Global, size: u32, key: [u8; 32]) -> Result<Bytes, Memory>
-    requires { (1 ≤ size) × (size ≤ 30) }
-    ensures { IfOk result (λ bytes. bytes.items ≡ grid size key) }
-{
-    let adjacency = adjacency_of(alloc, size)?;
-    let nodes = nodes_of(alloc, size, key)?;
-    let root = root_of(alloc, adjacency, nodes)?;
-    written(alloc, &root)
 }

@@ -21,6 +21,26 @@ use dual_graph::graph::Graph;
 use dual_graph::parsed::Parsed;
 use std::alloc::Global;
 
+/// What is read of the grid of a size, whose votes are drawn under a key: what [`crate::make`] writes need not be written for it.
+pub fn read_made(alloc: Global, size: u32, key: [u8; 32]) -> Result<Parsed, Memory>
+    requires { (1 ≤ size) × (size ≤ 30) }
+    ensures read { IfOk result (λ p. reading (grid size key) grid_columns ≡ Ok (parsed_of p)) }
+    ensures within { IfOk result (λ p. AreWithin p.graph p.counts p.start (length p.labels)) }
+{
+    let side = 10 * size;
+    let pairs = pairs_of(alloc, size)?;
+    let graph = Graph::from_pairs(alloc, side * side, &pairs)?;
+    let counts = counts_of(alloc, size, key)?;
+    let start = start_of(alloc, size)?;
+    let labels = ten_labels(alloc)?;
+    Ok(Parsed {
+        graph,
+        counts,
+        start,
+        labels,
+    })
+}
+
 /// Appends the pair of a unit and another, where there is another.
 fn push_pair(pairs: &mut Vec<(u32, u32)>, unit: u32, other: Option<u32>) -> Result<(), Memory>
     ensures { OnOk result (pairs.new.items ≡ extended pairs.old.items unit other) }
@@ -92,24 +112,4 @@ fn ten_labels(alloc: Global) -> Result<LabelList, Memory>
         labels.push(Label::Whole(i128::from(district)))?;
     }
     Ok(labels)
-}
-
-/// What is read of the grid of a size, whose votes are drawn under a key: what [`crate::make`] writes need not be written for it.
-pub fn read_made(alloc: Global, size: u32, key: [u8; 32]) -> Result<Parsed, Memory>
-    requires { (1 ≤ size) × (size ≤ 30) }
-    ensures read { IfOk result (λ p. reading (grid size key) grid_columns ≡ Ok (parsed_of p)) }
-    ensures within { IfOk result (λ p. AreWithin p.graph p.counts p.start (length p.labels)) }
-{
-    let side = 10 * size;
-    let pairs = pairs_of(alloc, size)?;
-    let graph = Graph::from_pairs(alloc, side * side, &pairs)?;
-    let counts = counts_of(alloc, size, key)?;
-    let start = start_of(alloc, size)?;
-    let labels = ten_labels(alloc)?;
-    Ok(Parsed {
-        graph,
-        counts,
-        start,
-        labels,
-    })
 }

@@ -13,6 +13,21 @@ use std::alloc::Global;
 /// The stream of the draws of which the votes are made.
 pub(crate) const VOTES_STREAM: u64 = 4_294_967_296;
 
+/// All units.
+pub fn nodes_of(alloc: Global, size: u32, key: [u8; 32]) -> Result<Value, Memory>
+    requires { (1 ≤ size) × (size ≤ 30) }
+    ensures { IfOk result (λ value. view value ≡ nodes_tree size key) }
+{
+    let mut draws = Draws::new(key, VOTES_STREAM);
+    let side = 10 * size;
+    let mut list = Vec::new(alloc);
+    for unit in 0..side * side {
+        let first = draws.next() % 101;
+        list.push(node_of(alloc, size, unit, first)?)?;
+    }
+    Ok(Value::Array(list))
+}
+
 /// A unit of 100 people, of whom so many vote for the first party and the others for the second.
 fn node_of(alloc: Global, size: u32, unit: u32, first: u64) -> Result<Value, Memory>
     requires size { (1 ≤ size) × (size ≤ 30) }
@@ -27,19 +42,4 @@ fn node_of(alloc: Global, size: u32, unit: u32, first: u64) -> Result<Value, Mem
         "id": unit,
         "pop": 100u32
     })?)
-}
-
-/// All units.
-pub fn nodes_of(alloc: Global, size: u32, key: [u8; 32]) -> Result<Value, Memory>
-    requires { (1 ≤ size) × (size ≤ 30) }
-    ensures { IfOk result (λ value. view value ≡ nodes_tree size key) }
-{
-    let mut draws = Draws::new(key, VOTES_STREAM);
-    let side = 10 * size;
-    let mut list = Vec::new(alloc);
-    for unit in 0..side * side {
-        let first = draws.next() % 101;
-        list.push(node_of(alloc, size, unit, first)?)?;
-    }
-    Ok(Value::Array(list))
 }

@@ -1,9 +1,9 @@
 -- The population bounds as two numbers, and which start plans are accepted.
-use Rattle.std.proofs.Common.{◌≡◌, ℕ, zero, suc, ◌+◌, ◌-◌, ◌*◌, ◌/◌, ◌<◌, ◌≤◌, Bool, true, false, cond, [], ◌∷◌, length, Option, Some, None, refl, sym, ap, ◌∙◌, subst, inl, inr, arith}
+use Rattle.std.proofs.Common.{◌≡◌, ℕ, ◌+◌, ◌-◌, ◌*◌, ◌/◌, ◌<◌, ◌≤◌, false, [], ◌∷◌, length, Some, None, ap, ◌∙◌, arith}
 use Rattle.std.specs.Prelude.{◌↔◌, slice_index, option_map}
 use Rattle.std.specs.Option.{option_or}
 use Rattle.std.proofs.Math.Nat.{mul_comm}
-use Rattle.std.proofs.lemmas.Bool.{cases_eq, cond-false, leb-true, le-leb, le-ltb, ltb-false, not-false, not_from_true}
+use Rattle.std.proofs.lemmas.Bool.{cond-false, leb-true, le-leb, le-ltb, ltb-false, not-false, not_from_true}
 use Rattle.std.proofs.lemmas.Nat.{mul-le, div-add-mod', le-div}
 use Rattle.audit_model.specs.Below.{above_all}
 use Rattle.audit_model.specs.First.{first_some, first_below}
@@ -18,6 +18,8 @@ use Rattle.model_laws.proofs.Connected.{connected_passes, passes_connected}
 use Rattle.model_laws.proofs.Least.{quotient_up_is_least}
 use Rattle.model_laws.proofs.Legal.{balanced_passes, passes_balanced}
 use Rattle.model_laws.proofs.Meeting.{splits_from}
+use Rattle.model_laws.proofs.Options.{option_map_none, option_or_none, cond_some_none}
+use Rattle.model_laws.proofs.First.{first_below_none, none_first_below}
 
 -- ---- the bounds
 
@@ -49,36 +51,6 @@ balanced_between job population above =
     (λ h. (low.0 h.0, high.0 h.1), λ h. (low.1 h.0, high.1 h.1))
 
 -- ---- the first of several
-
-some_is_not_none : {A : Type 0} (x : A) → Some x ≡ None → ⊥
-some_is_not_none x h = cc
-
-option_or_none : {A : Type 0} (a b : Option A) → option_or a b ≡ None → (a ≡ None) × (b ≡ None)
-option_or_none None b h = (refl, h)
-option_or_none (Some x) b h = absurd (some_is_not_none x h)
-
-option_map_none : {A B : Type 0} (f : A → B) (o : Option A) → option_map f o ≡ None → o ≡ None
-option_map_none f None h = refl
-option_map_none f (Some x) h = absurd (some_is_not_none (f x) h)
-
-cond_some_none : {A : Type 0} (b : Bool) (x : A) → cond b (Some x) None ≡ None → b ≡ false
-cond_some_none true x h = absurd (some_is_not_none x h)
-cond_some_none false x h = refl
-
-first_below_none : (n : ℕ) (test : ℕ → Bool) (k : ℕ) → first_below n test ≡ None → k < n → test k ≡ false
-first_below_none zero test k h l = absurd (omega arith)
-first_below_none (suc n) test k h l =
-    let parts = option_or_none (first_below n test) (cond (test n) (Some n) None) h in
-    elim (cases_eq k n) [
-      | inl e ↦ subst (λ m. test m ≡ false) (sym e) (cond_some_none (test n) n parts.1)
-      | inr off ↦ first_below_none n test k parts.0 (omega arith)
-    ]
-
-none_first_below : (n : ℕ) (test : ℕ → Bool) → ((k : ℕ) → k < n → test k ≡ false) → first_below n test ≡ None
-none_first_below zero test each = refl
-none_first_below (suc n) test each =
-    ap (λ o. option_or o (cond (test n) (Some n) None)) (none_first_below n test (λ k l. each k (omega arith)))
-    ∙ ap (λ b. cond b (Some n) None) (each n (omega arith))
 
 -- ---- which start plans are accepted
 

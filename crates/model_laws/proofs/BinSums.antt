@@ -1,9 +1,9 @@
 -- Each visited plan is in one bin, so that the bins of a walk add up to the number of its visits.
-use Rattle.std.proofs.Common.{◌≡◌, ℕ, zero, suc, ◌+◌, ◌≤◌, ◌-◌, Bool, true, false, cond, min, refl, sym, ap, ◌∙◌, arith}
+use Rattle.std.proofs.Common.{◌≡◌, ℕ, zero, suc, ◌+◌, ◌≤◌, Bool, true, cond, refl, ◌∙◌, arith}
 use Rattle.std.specs.Prelude.{◌==◌, sum}
-use Rattle.audit_model.specs.Below.{count_below, map_below}
+use Rattle.audit_model.specs.Below.{count_below}
 use Rattle.audit_model.specs.Job.{Job}
-use Rattle.audit_model.specs.Trajectory.{bin_of, bins_by, plan_seats, visit, visits_in_bin}
+use Rattle.audit_model.specs.Trajectory.{bin_of, bins_by, plan_seats, visit}
 
 one : Bool → ℕ
 one b = cond b 1 0
@@ -39,7 +39,7 @@ module _ (f : ℕ → ℕ) (few : (i : ℕ) → f i ≤ 8) where
       let next : nine (λ b. one (f n == b)) ≡ 1 = in_one (f n) (few n) in
       more ∙ (let before = counted n in omega (arith, before, next))
 
-few_bins : (a b : ℕ) → bin_of a b ≤ 8
+pub few_bins : (a b : ℕ) → bin_of a b ≤ 8
 few_bins a b = omega arith
 
 -- the bins of a walk add up to the number of its visits, the start's among them

@@ -1,5 +1,5 @@
 -- What each trajectory finds could be its outcome, with its bins and without.
-use Rattle.std.proofs.Common.{◌≡◌, ℕ, zero, suc, ◌+◌, ◌*◌, ◌<◌, ◌≤◌, ◌&&◌, ◌||◌, not, Bool, true, false, cond, List, [], ◌∷◌, ◌++◌, length, map, take, drop, refl, sym, ap, ◌∙◌, arith}
+use Rattle.std.proofs.Common.{◌≡◌, ℕ, zero, suc, ◌+◌, ◌*◌, ◌<◌, ◌≤◌, ◌&&◌, ◌||◌, not, Bool, true, false, cond, List, [], ◌∷◌, ◌++◌, length, map, take, drop, refl, ap, ◌∙◌, arith}
 use Rattle.std.specs.Prelude.{nat_lt, nat_le, sum, ◌==◌, ℤ, pos, negsuc, int_le}
 use Rattle.std.specs.List.{list_all, slice_index_or}
 use Rattle.std.specs.Ordering.{int_eq}
@@ -12,13 +12,12 @@ use Rattle.audit_model.specs.Below.{all_below, count_below}
 use Rattle.audit_model.specs.Job.{Job}
 use Rattle.audit_model.specs.Run.{total, steps_of, bins_fit, fits, is_bare}
 use Rattle.audit_model.specs.Trajectory.{Draws, visit, plan_value, in_tail, visits_in_tail, four_values, value_at, walk_outcome, end_outcome, outcome_by, outcome_with, bins_by}
-use Rattle.model_laws.proofs.Below.{all_below_from}
+use Rattle.model_laws.proofs.Below.{all_below_from, count_below_le}
 use Rattle.model_laws.proofs.BinSums.{bins_add_up}
-use Rattle.model_laws.proofs.Connected.{count_below_le}
 
 -- ---- counts
 
-one_of : (b : Bool) → b ≡ true → cond {A = ℕ} b 1 0 ≡ 1
+pub one_of : (b : Bool) → b ≡ true → cond {A = ℕ} b 1 0 ≡ 1
 one_of true e = refl
 one_of false e = cc
 
@@ -29,11 +28,11 @@ counts_first zero test above first = absurd (omega arith)
 counts_first (suc zero) test above first = omega (arith, one_of (test 0) first)
 counts_first (suc (suc n)) test above first = omega (arith, counts_first (suc n) test (omega arith) first)
 
-le_self : (v : ℤ) → int_le v v ≡ true
+pub le_self : (v : ℤ) → int_le v v ≡ true
 le_self (pos n) = le-leb n n (omega arith)
 le_self (negsuc n) = le-leb n n (omega arith)
 
-in_own_tail : (tail : Tail) (v : ℤ) → in_tail tail v v ≡ true
+pub in_own_tail : (tail : Tail) (v : ℤ) → in_tail tail v v ≡ true
 in_own_tail Low v = le_self v
 in_own_tail High v = le_self v
 

@@ -1,33 +1,20 @@
 -- The test of the rules answers whether a plan meets them.
-use Rattle.std.proofs.Common.{◌≡◌, ℕ, zero, suc, ◌<◌, ◌≤◌, Bool, true, false, cond, not, ◌&&◌, List, [], ◌∷◌, length, refl, ap, inl, inr, arith}
+use Rattle.std.proofs.Common.{◌≡◌, ℕ, zero, suc, ◌<◌, ◌≤◌, true, not, ◌&&◌, List, [], ◌∷◌, length, refl, ap, inl, inr, arith}
 use Rattle.std.specs.Prelude.{◌==◌, nat_le, slice_index}
-use Rattle.std.proofs.lemmas.Bool.{and_left, and_parts, and_from, or_from, cases_lt, cond-false, leb-true, le-leb, ne_eqb}
+use Rattle.std.proofs.lemmas.Bool.{and_left, and_parts, and_from, cases_lt, leb-true, le-leb, ne_eqb}
 use Rattle.audit_model.specs.declared.rules.Rules.{Rules}
-use Rattle.audit_model.specs.Below.{above_all, any_below, count_below, sum_below}
+use Rattle.audit_model.specs.Below.{above_all, count_below}
 use Rattle.audit_model.specs.Graph.{Graph, adjacent, count_edges}
 use Rattle.audit_model.specs.Job.{Job, rules}
 use Rattle.audit_model.specs.Meets.{Meets, are_whole, lies_in, meets_rules, split_of}
 use Rattle.audit_model.specs.Plan.{cut_edges}
-use Rattle.model_laws.proofs.Below.{all_below_at, all_below_from, count_below_into}
+use Rattle.model_laws.proofs.Below.{all_below_at, all_below_from, any_below_none, count_below_none, count_below_more, sum_below_more}
 
 -- each number of a list is below the one above all
 pub below_above_all : (xs : List ℕ) (u : ℕ) → u < length xs → slice_index xs u < above_all xs
 below_above_all [] u l = absurd (omega arith)
 below_above_all (x ∷ xs) zero l = omega arith
 below_above_all (x ∷ xs) (suc u) l = let rest = below_above_all xs u (omega arith) in omega (arith, rest)
-
--- where none passes
-any_below_none : (n : ℕ) (test : ℕ → Bool) → ((k : ℕ) → k < n → test k ≡ false) → any_below n test ≡ false
-any_below_none zero test none = refl
-any_below_none (suc n) test none = or_from (any_below n test) (test n) (any_below_none n test (λ k l. none k (omega arith))) (none n (omega arith))
-
-pub count_below_none : (n : ℕ) (test : ℕ → Bool) → ((k : ℕ) → k < n → test k ≡ false) → count_below n test ≡ 0
-unfolding count_below
-count_below_none zero test none = refl
-count_below_none (suc n) test none =
-    let before = count_below_none n test (λ k l. none k (omega arith)) in
-    let last : cond {A = ℕ} (test n) 1 0 ≡ 0 = cond-false {A = ℕ} (test n) 1 0 (none n (omega arith)) in
-    omega (arith, before, last)
 
 -- a region of no unit lies in no district
 pub no_split : (regions plan : List ℕ) (region : ℕ) → above_all regions ≤ region → split_of regions plan region ≡ 0
@@ -61,14 +48,6 @@ passes_meets rules cut plan h =
     }
 
 -- ---- the rules by default
-
--- fewer pass a test that asks more
-count_below_more : (n : ℕ) (p q : ℕ → Bool) → ((k : ℕ) → p k ≡ true → q k ≡ true) → count_below n p ≤ count_below n q
-count_below_more n p q more = count_below_into n n p q (λ k. k) (λ k l h. (l, more k h)) (λ j k lj lk hj hk e. e)
-
-sum_below_more : (n : ℕ) (f g : ℕ → ℕ) → ((k : ℕ) → f k ≤ g k) → sum_below n f ≤ sum_below n g
-sum_below_more zero f g more = omega arith
-sum_below_more (suc n) f g more = let before = sum_below_more n f g more in let last = more n in omega (arith, before, last)
 
 -- no more edges are cut than there are
 pub cut_edges_few : (g : Graph) (plan : List ℕ) → cut_edges g plan ≤ count_edges g (λ u v. true)

@@ -1,7 +1,7 @@
 -- What holds of a run after any events.
 use Rattle.std.proofs.Common.{◌≡◌, ℕ, zero, suc, ◌<◌, Bool, true, false, cond, not, List, [], ◌∷◌, ◌++◌, length, take, replicate, Option, Some, None, refl, sym, ap, ◌∙◌, subst, inl, inr, arith, append_assoc}
 use Rattle.std.specs.Prelude.{◌==◌, ◌⊎◌, slice_get, slice_set}
-use Rattle.std.proofs.lemmas.Bool.{or_cases, or_left, or_right, or_parts, cases_eq, eqb-true, eq-eqb, false≢true, both_ways, false_from_ne_true, not-true}
+use Rattle.std.proofs.lemmas.Bool.{or_left, or_right, cases_eq, eq-eqb, both_ways, false_from_ne_true, not-true}
 use Rattle.std.proofs.lemmas.List.{append-nil}
 use Rattle.audit_model.specs.declared.outcome.Event.{Event}
 use Rattle.audit_model.specs.declared.outcome.Event.TheVariants.{Claim, Post, Save, Halt}
@@ -10,17 +10,13 @@ use Rattle.audit_model.specs.Below.{filter_below}
 use Rattle.audit_model.specs.Graph.{has}
 use Rattle.audit_model.specs.Machine.{Machine, started, todo, claimed, claim, post, step, state_after, IsFront, IsOpen, IsAt, IsRun}
 use Rattle.model_laws.proofs.Connected.{has-append_left, has-append_right, has-append_parts, has-filter_below}
+use Rattle.model_laws.proofs.Lists.{has_one, apart_more, has-take}
+use Rattle.std.proofs.lemmas.Option.{none-some, same_Some}
 
 -- ---- lists
 
-none_is_not_some : {A : Type 0} (x : A) → None ≡ Some x → ⊥
-none_is_not_some x h = cc
-
-same_some : {A : Type 0} (x y : A) → Some x ≡ Some y → x ≡ y
-same_some x y h = cc
-
 get_set_same : {A : Type 0} (xs : List A) (k : ℕ) (old new : A) → slice_get xs k ≡ Some old → slice_get (slice_set xs k new) k ≡ Some new
-get_set_same [] k old new h = absurd (none_is_not_some old h)
+get_set_same [] k old new h = absurd (none-some old h)
 get_set_same (x ∷ xs) zero old new h = refl
 get_set_same (x ∷ xs) (suc k) old new h = get_set_same xs k old new h
 
@@ -31,50 +27,28 @@ get_set_other (x ∷ xs) zero (suc k) new off = refl
 get_set_other (x ∷ xs) (suc j) zero new off = refl
 get_set_other (x ∷ xs) (suc j) (suc k) new off = get_set_other xs j k new (λ e. off (ap suc e))
 
-get-replicate : (n k id : ℕ) → slice_get (replicate {A = Option ℕ} n None) k ≡ Some (Some id) → ⊥
-get-replicate zero k id h = none_is_not_some (Some id) h
-get-replicate (suc n) zero id h = none_is_not_some id (same_some None (Some id) h)
+pub get-replicate : (n k id : ℕ) → slice_get (replicate {A = Option ℕ} n None) k ≡ Some (Some id) → ⊥
+get-replicate zero k id h = none-some (Some id) h
+get-replicate (suc n) zero id h = none-some id (same_Some None (Some id) h)
 get-replicate (suc n) (suc k) id h = get-replicate n k id h
 
 get_has : (xs : List ℕ) (k id : ℕ) → slice_get xs k ≡ Some id → has xs id ≡ true
-get_has [] k id h = absurd (none_is_not_some id h)
-get_has (x ∷ xs) zero id h = or_left (x == id) (has xs id) (eq-eqb x id (same_some x id h))
+get_has [] k id h = absurd (none-some id h)
+get_has (x ∷ xs) zero id h = or_left (x == id) (has xs id) (eq-eqb x id (same_Some x id h))
 get_has (x ∷ xs) (suc k) id h = or_right (x == id) (has xs id) (get_has xs k id h)
 
 -- where no number stands twice, a number has one place
 one_place : (xs : List ℕ) (j k id : ℕ) → AllApart xs → slice_get xs j ≡ Some id → slice_get xs k ≡ Some id → j ≡ k
-one_place [] j k id a hj hk = absurd (none_is_not_some id hj)
+one_place [] j k id a hj hk = absurd (none-some id hj)
 one_place (x ∷ xs) zero zero id a hj hk = refl
-one_place (x ∷ xs) zero (suc k) id a hj hk = absurd (both_ways (has xs x) a.0 (subst (λ y. has xs y ≡ true) (sym (same_some x id hj)) (get_has xs k id hk)))
-one_place (x ∷ xs) (suc j) zero id a hj hk = absurd (both_ways (has xs x) a.0 (subst (λ y. has xs y ≡ true) (sym (same_some x id hk)) (get_has xs j id hj)))
+one_place (x ∷ xs) zero (suc k) id a hj hk = absurd (both_ways (has xs x) a.0 (subst (λ y. has xs y ≡ true) (sym (same_Some x id hj)) (get_has xs k id hk)))
+one_place (x ∷ xs) (suc j) zero id a hj hk = absurd (both_ways (has xs x) a.0 (subst (λ y. has xs y ≡ true) (sym (same_Some x id hk)) (get_has xs j id hj)))
 one_place (x ∷ xs) (suc j) (suc k) id a hj hk = ap suc (one_place xs j k id a.1 hj hk)
-
-has_one : (x n : ℕ) → has (x ∷ []) n ≡ true → x ≡ n
-has_one x n h = elim (or_cases (x == n) false h) [ inl e ↦ eqb-true x n e | inr e ↦ absurd (false≢true e) ]
-
-apart_more : (xs : List ℕ) (n : ℕ) → AllApart xs → has xs n ≡ false → AllApart (xs ++ n ∷ [])
-apart_more [] n a h = (refl, tt)
-apart_more (x ∷ xs) n a h =
-    let parts = or_parts (x == n) (has xs n) h in (
-      false_from_ne_true (has (xs ++ n ∷ []) x) (λ there. elim (has-append_parts xs (n ∷ []) x there) [
-        | inl e ↦ both_ways (has xs x) a.0 e
-        | inr e ↦ both_ways (x == n) parts.0 (eq-eqb x n (sym (has_one n x e)))
-      ]),
-      apart_more xs n a.1 parts.1,
-    )
 
 apart_front : (xs ys : List ℕ) → AllApart (xs ++ ys) → AllApart xs
 apart_front [] ys a = tt
 apart_front (x ∷ xs) ys a =
     (false_from_ne_true (has xs x) (λ there. both_ways (has (xs ++ ys) x) a.0 (has-append_left xs ys x there)), apart_front xs ys a.1)
-
-has-take : (n : ℕ) (xs : List ℕ) (x : ℕ) → has (take n xs) x ≡ true → has xs x ≡ true
-has-take zero xs x h = absurd (false≢true h)
-has-take (suc n) [] x h = h
-has-take (suc n) (y ∷ xs) x h = elim (or_cases (y == x) (has (take n xs) x) h) [
-  | inl e ↦ or_left (y == x) (has xs x) e
-  | inr e ↦ or_right (y == x) (has xs x) (has-take n xs x e)
-]
 
 apart-take : (n : ℕ) (xs : List ℕ) → AllApart xs → AllApart (take n xs)
 apart-take zero xs a = tt
@@ -119,7 +93,7 @@ module _ (m : Machine) (run : IsRun m) where
     open_after_claim v x h = elim (cases_eq v w) [
       | inl e ↦ inl (
         e,
-        same_some x id (same_some (Some x) (Some id)
+        same_Some x id (same_Some (Some x) (Some id)
             (sym h ∙ ap (slice_get (slice_set m.held w (Some id))) e ∙ get_set_same m.held w None (Some id) free)),
       )
       | inr off ↦ inr (sym (get_set_other m.held v w (Some id) off) ∙ h)
@@ -141,14 +115,14 @@ module _ (m : Machine) (run : IsRun m) where
       saved_front = run.saved_front;
       claimed = λ k x l h. elim (cases_eq k m.next) [
         | inl e ↦
-            let same : x ≡ id = same_some x id (sym h ∙ ap (slice_get (todo m)) e ∙ at) in
+            let same : x ≡ id = same_Some x id (sym h ∙ ap (slice_get (todo m)) e ∙ at) in
             inr (w, get_set_same m.held w None (Some id) free ∙ ap (λ y. Some (Some y)) (sym same))
         | inr off ↦ elim (run.claimed k x (omega (arith, l)) h) [
           | inl done ↦ inl done
           | inr holder ↦ inr (
             holder.0,
             get_set_other m.held holder.0 w (Some id)
-                (λ e. none_is_not_some x (same_some None (Some x) (sym free ∙ ap (slice_get m.held) (sym e) ∙ holder.1))) ∙ holder.1,
+                (λ e. none-some x (same_Some None (Some x) (sym free ∙ ap (slice_get m.held) (sym e) ∙ holder.1))) ∙ holder.1,
           )
         ]
       ];
@@ -181,7 +155,7 @@ module _ (m : Machine) (run : IsRun m) where
     open_after_post : (v x : ℕ) → IsOpen after_post v x → (v ≡ w → ⊥) × IsOpen m v x
     unfolding after_post
     open_after_post v x h = elim (cases_eq v w) [
-      | inl e ↦ absurd (none_is_not_some x (same_some None (Some x)
+      | inl e ↦ absurd (none-some x (same_Some None (Some x)
           (sym (get_set_same m.held w (Some id) None open_id) ∙ ap (slice_get (slice_set m.held w None)) (sym e) ∙ h)))
       | inr off ↦ (off, sym (get_set_other m.held v w None off) ∙ h)
     ]
@@ -205,7 +179,7 @@ module _ (m : Machine) (run : IsRun m) where
         | inl done ↦ inl (has-append_left m.done (id ∷ []) x done)
         | inr holder ↦ elim (cases_eq holder.0 w) [
           | inl e ↦
-              let same : id ≡ x = same_some id x (same_some (Some id) (Some x) (sym open_id ∙ ap (slice_get m.held) (sym e) ∙ holder.1)) in
+              let same : id ≡ x = same_Some id x (same_Some (Some id) (Some x) (sym open_id ∙ ap (slice_get m.held) (sym e) ∙ holder.1)) in
               inl (has-append_right m.done (id ∷ []) x (or_left (id == x) false (eq-eqb id x same)))
           | inr off ↦ inr (holder.0, get_set_other m.held holder.0 w None off ∙ holder.1)
         ]
@@ -253,7 +227,7 @@ module _ (m : Machine) (run : IsRun m) where
     ahead = λ k id l h. (at_is_new (step m Halt).0 k id h).1;
   }
 
-step_keeps : (m : Machine) (event : Event) → IsRun m → IsRun (step m event).0
+pub step_keeps : (m : Machine) (event : Event) → IsRun m → IsRun (step m event).0
 unfolding after_claim after_post
 step_keeps m (Claim w) run = by (slice_get m.held w) refl
   where

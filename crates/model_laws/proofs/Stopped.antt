@@ -8,14 +8,9 @@ use Rattle.audit_model.specs.declared.setting.Tail.{Tail}
 use Rattle.audit_model.specs.First.{first_below}
 use Rattle.audit_model.specs.Stopping.{count_in_tail, stop, stopped_at}
 use Rattle.audit_model.specs.Trajectory.{in_tail}
+use Rattle.model_laws.proofs.First.{first_below_same}
 
 -- ---- the first of several
-
-first_below_same : (n : ℕ) (p q : ℕ → Bool) → ((k : ℕ) → k < n → p k ≡ q k) → first_below n p ≡ first_below n q
-first_below_same zero p q same = refl
-first_below_same (suc n) p q same =
-    ap (λ o. option_or o (cond (p n) (Some n) None)) (first_below_same n p q (λ k l. same k (omega arith)))
-    ∙ ap (λ b. option_or (first_below n q) (cond b (Some n) None)) (same n (omega arith))
 
 -- what is found below a bound is found below a greater one
 first_below_more : (n more : ℕ) (test : ℕ → Bool) (k : ℕ) → first_below n test ≡ Some k → first_below (more + n) test ≡ Some k

@@ -5,15 +5,13 @@ use Rattle.std.proofs.lemmas.Bool.{and_parts, eqb-true, lt-ltb}
 use Rattle.std.proofs.lemmas.List.Folds.{sum_by-zero}
 use Rattle.std.proofs.lemmas.List.Sums.{sum_by_push}
 use Rattle.audit_model.specs.declared.outcome.Outcome.{Outcome}
-use Rattle.audit_model.specs.declared.setting.Command.{Command}
-use Rattle.audit_model.specs.declared.setting.Command.TheVariants.{Check, Run, Make, Plans}
-use Rattle.audit_model.specs.declared.setting.Setting.{Setting}
 use Rattle.audit_model.specs.Below.{count_below, map_below}
 use Rattle.audit_model.specs.Job.{Job}
 use Rattle.audit_model.specs.JobOf.{IsJob}
-use Rattle.audit_model.specs.Limits.{IsSettingOf}
 use Rattle.audit_model.specs.Run.{bins_fit, fits, is_bare}
 use Rattle.audit_model.specs.Trajectory.{Draws, bin_of, outcome_by, outcome, plan_seats, visit, whole}
+use Rattle.model_laws.proofs.BinSums.{few_bins}
+use Rattle.model_laws.proofs.Limits.{few_steps}
 use Rattle.outcome_book.specs.Booked.{HasFewVisits}
 
 sums_add : (n : ℕ) (f g : ℕ → ℕ) → sum (map_below n (λ b. f b + g b)) ≡ sum (map_below n f) + sum (map_below n g)
@@ -61,14 +59,11 @@ counts_add_up (suc n) f small =
     count_in_more n f ∙ sums_add 9 (count_in n f) (λ b. cond {A = ℕ} (eqb (f n) b) 1 0) in
     omega (arith, more, counts_add_up n f small, one_bin (f n) (small n))
 
-bin_small : (a b : ℕ) → bin_of a b ≤ 8
-bin_small a b = omega arith
-
 walks_add_up : (job : Job) (draws : Draws) (id : ℕ) → sum (outcome_by true true job draws id).bins ≡ job.setting.steps + 1
 unfolding count_in
 walks_add_up job draws id =
     let bin : ℕ → ℕ = λ i. bin_of (plan_seats job (visit job (draws (2 * id)) job.start i)) (plan_seats job job.start) in
-    counts_add_up (job.setting.steps + 1) bin (λ i. bin_small (plan_seats job (visit job (draws (2 * id)) job.start i)) (plan_seats job job.start))
+    counts_add_up (job.setting.steps + 1) bin (λ i. few_bins (plan_seats job (visit job (draws (2 * id)) job.start i)) (plan_seats job job.start))
 
 pub whole_adds_up : (job : Job) (draws : Draws) (id : ℕ) → id < job.setting.walks → sum (whole job draws id).bins ≡ job.setting.steps + 1
 whole_adds_up job draws id walks =
@@ -79,15 +74,6 @@ few_by true true job draws id few = let sums = walks_add_up job draws id in omeg
 few_by true false job draws id few = lit≤ tt
 few_by false true job draws id few = lit≤ tt
 few_by false false job draws id few = lit≤ tt
-
-few_of : (command : Command) (s : Setting) → IsSettingOf command s → s.steps ≤ 10 ^ 9
-few_of Check s h = omega (arith, h.no_steps)
-few_of Run s h = h.few_steps
-few_of Make s h = h.few_steps
-few_of Plans s h = h.few_steps
-
-few_steps : (job : Job) → IsJob job → job.setting.steps ≤ 10 ^ 9
-few_steps job sound = few_of job.setting.command job.setting sound.within.setting.command
 
 pub found_has_few : (job : Job) (draws : Draws) (id : ℕ) → IsJob job → HasFewVisits (outcome job draws id)
 found_has_few job draws id sound = few_by (nat_lt id job.setting.walks) job.setting.shift job draws id (few_steps job sound)

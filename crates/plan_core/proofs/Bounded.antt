@@ -12,9 +12,9 @@ use Rattle.audit_model.specs.JobOf.{is_unbalanced, out_of_bounds, bounds_fault}
 use Rattle.audit_model.specs.Plan.{in_district, district_sum, is_balanced, least_population, greatest_population}
 use Rattle.model_laws.proofs.Accepted.{balanced_between}
 use Rattle.model_laws.proofs.Legal.{balanced_passes, passes_balanced}
+use Rattle.model_laws.proofs.Bools.{same_bool}
+use Rattle.model_laws.proofs.First.{first_below_same, first_below_some}
 use Rattle.plan_core.specs.Outside.{is_outside, outside, first_outside}
-use Rattle.plan_core.proofs.Firsts.{first_below_same, first_below_some}
-use Rattle.plan_core.proofs.Parted.{same_bool}
 
 pub sum_small : (xs : List ℕ) → length xs ≤ 100000 → All (λ n. n ≤ 1000000000) xs → sum xs ≤ 100000000000000
 sum_small xs few small = omega (arith, sum_by-le (λ x. x) 1000000000 xs small)

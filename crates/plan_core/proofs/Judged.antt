@@ -1,7 +1,7 @@
 -- What the refusals of a plan say of it.
 use Rattle.std.proofs.Common.{◌≡◌, ℕ, ◌<◌, [], ◌∷◌, Bool, true, false, not, ◌&&◌, List, length, get_or, Option, Some, None, refl, sym, ap, ◌∙◌, subst, inl, inr}
 use Rattle.std.specs.Prelude.{◌↔◌, is_none, is_some, option_map, unwrap_or, ◌⊎◌, Result, Ok, Err, IfOk, MatchResult}
-use Rattle.std.proofs.lemmas.Bool.{and_parts, and_from, cases_Bool, cond-true, cond-false, le-ltb, ltb-false, not-false, not_from_true, not_from_false}
+use Rattle.std.proofs.lemmas.Bool.{and_parts, and_from, cases_Bool, cond-true, cond-false, le-ltb, ltb-false, not-false, not_from_true, not_from_false, and_left}
 use Rattle.audit_model.specs.declared.fault.PlanFault.{PlanFault}
 use Rattle.audit_model.specs.declared.fault.PlanFault.TheVariants.{Disconnected, TooManyCut, Memory}
 use Rattle.audit_model.specs.declared.setting.Label.{Label}
@@ -20,20 +20,18 @@ use Rattle.model_laws.proofs.Accepted.{accepted_is_legal}
 use Rattle.model_laws.proofs.Connected.{connected_passes, passes_connected}
 use Rattle.model_laws.proofs.Legal.{balanced_passes, passes_balanced, legal_passes, passes_legal}
 use Rattle.model_laws.proofs.Meeting.{splits_from}
+use Rattle.model_laws.proofs.Bools.{same_bool}
+use Rattle.model_laws.proofs.Options.{none_or, option_or_none, cond_some_none, some_is_not_none, option_map_none}
+use Rattle.model_laws.proofs.First.{first_below_here, first_below_none, none_first_below}
 use Rattle.plan_core.specs.Input.{with_start, shape_fault}
 use Rattle.plan_core.specs.Parting.{least_in, parted_in, parting_of}
-use Rattle.plan_core.proofs.Firsts.{none_or, option_or_none, cond_some_none, first_below_here, first_below_none, none_first_below}
-use Rattle.plan_core.proofs.Parted.{same_bool}
 
 -- ---- the refusal of a parted district
-
-none_is_not_some : {A : Type 0} (x : A) → Some x ≡ None → ⊥
-none_is_not_some x h = cc
 
 pub parting_parts : (g : Graph) (inside : ℕ → Bool) (one other : ℕ) → Some (one, other) ≡ parting_of g inside
     → (is_connected g inside ≡ false) × (one ≡ least_in g inside) × (other ≡ parted_in g inside)
 parting_parts g inside one other h = elim (cases_Bool (is_connected g inside)) [
-  | inl yes-connected ↦ absurd (none_is_not_some (one, other) (h ∙ cond-true (is_connected g inside) None (Some (least_in g inside, parted_in g inside)) yes-connected))
+  | inl yes-connected ↦ absurd (some_is_not_none (one, other) (h ∙ cond-true (is_connected g inside) None (Some (least_in g inside, parted_in g inside)) yes-connected))
   | inr off ↦
       let same : Some (one, other) ≡ Some (least_in g inside, parted_in g inside) =
       h ∙ cond-false (is_connected g inside) None (Some (least_in g inside, parted_in g inside)) off in
@@ -52,10 +50,6 @@ parted_is_fault job d one other none l h =
 
 -- ---- a plan that is not refused is legal
 
-option_map_none : {A B : Type 0} (f : A → B) (o : Option A) → option_map f o ≡ None → o ≡ None
-option_map_none f None h = refl
-option_map_none f (Some x) h = absurd (none_is_not_some (f x) h)
-
 none_passes : {A : Type 0} (o : Option A) → is_none o ≡ true → o ≡ None
 none_passes None h = refl
 none_passes (Some x) h = cc
@@ -67,10 +61,6 @@ passes_none (Some x) h = cc
 turned : (b r : Bool) → b ≡ not r → r ≡ not b
 turned b true h = sym (ap not h)
 turned b false h = sym (ap not h)
-
-and_first : (a b : Bool) → a ≡ false → (a && b) ≡ false
-and_first false b h = refl
-and_first true b h = cc
 
 and_second : (a b : Bool) → a ≡ true → (a && b) ≡ b
 and_second true b h = refl
@@ -151,7 +141,7 @@ module _ (job : Job) (plan : List ℕ) (complete : length plan ≡ job.graph.uni
       refused : r ≡ (is_none (bounds_fault (with_start job plan)) && is_none (shape_fault (with_start job plan)))
       refused =
           let none : is_none (bounds_fault (with_start job plan)) ≡ false = sym (ap is_none bounds_is) ∙ sym (turned (is_some bounds) r some) ∙ off in
-          off ∙ sym (and_first (is_none (bounds_fault (with_start job plan))) (is_none (shape_fault (with_start job plan))) none)
+          off ∙ sym (and_left (is_none (bounds_fault (with_start job plan))) (is_none (shape_fault (with_start job plan))) none)
 
       pub refused_decides : (r ≡ true) ↔ IsLegal job plan
       refused_decides = judged r refused

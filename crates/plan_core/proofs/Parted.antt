@@ -1,27 +1,19 @@
 -- The two units that show that a set is not connected, from what a search found.
 use Rattle.std.proofs.Common.{◌≡◌, ℕ, Bool, true, false, not, ◌&&◌, List, Some, None, refl, sym, ap, ◌∙◌, subst}
 use Rattle.std.specs.Prelude.{◌↔◌, unwrap_or}
-use Rattle.std.proofs.lemmas.Bool.{and_parts, and_from, cond-true, cond-false, both_ways, not_from_true, not_from_false, false_from_ne_true, true_from_ne_false}
+use Rattle.std.proofs.lemmas.Bool.{and_parts, and_from, cond-true, cond-false, both_ways, not_from_true, not_from_false, false_from_ne_true, true_from_ne_false, and_left}
 use Rattle.audit_model.specs.First.{first_below}
 use Rattle.audit_model.specs.Graph.{Graph, IsGraph, has, IsIn}
 use Rattle.audit_model.specs.Path.{HasPath, is_connected, reached}
 use Rattle.model_laws.proofs.Connected.{connected_passes, passes_connected, reached_has_path, path_is_reached}
+use Rattle.model_laws.proofs.Bools.{same_bool}
+use Rattle.model_laws.proofs.First.{first_below_none, none_first_below, first_below_some, first_below_same}
+use Rattle.model_laws.proofs.Searching.{whole}
 use Rattle.plan_core.specs.Parting.{least_in, parted_in, parting_of}
-use Rattle.plan_core.proofs.Firsts.{first_below_none, none_first_below, first_below_some, first_below_same}
-use Rattle.plan_core.proofs.Searching.{whole}
-
-pub same_bool : (a b : Bool) → (a ≡ true → b ≡ true) → (b ≡ true → a ≡ true) → a ≡ b
-same_bool true b to from = sym (to refl)
-same_bool false true to from = from refl
-same_bool false false to from = refl
 
 and_same : (a b c : Bool) → (a ≡ true → b ≡ c) → (a && not b) ≡ (a && not c)
 and_same true b c h = ap not (h refl)
 and_same false b c h = refl
-
-and_not_false : (a b : Bool) → a ≡ false → (a && b) ≡ false
-and_not_false false b h = refl
-and_not_false true b h = cc
 
 module _ (g : Graph) (inside : ℕ → Bool) where
   -- a set without a unit
@@ -33,7 +25,7 @@ module _ (g : Graph) (inside : ℕ → Bool) where
       let least : least_in g inside ≡ 0 = ap (λ o. unwrap_or o 0) none in
       let parted : parted_in g inside ≡ 0 = ap (λ o. unwrap_or o 0)
       (none_first_below g.units (λ u. inside u && not (has (reached g inside (least_in g inside)) u))
-      (λ k l. and_not_false (inside k) (not (has (reached g inside (least_in g inside)) k)) (first_below_none g.units inside k none l))) in
+      (λ k l. and_left (inside k) (not (has (reached g inside (least_in g inside)) k)) (first_below_none g.units inside k none l))) in
       cond-false (is_connected g inside) None (Some (least_in g inside, parted_in g inside)) off
       ∙ ap (λ (n : ℕ). Some (n, parted_in g inside)) least ∙ ap (λ (n : ℕ). Some (0, n)) parted
 

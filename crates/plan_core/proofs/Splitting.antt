@@ -1,18 +1,14 @@
 -- Regions that a plan splits among too many districts, found by counting.
-use Rattle.std.proofs.Common.{◌≡◌, ℕ, zero, suc, ◌+◌, ◌<◌, ◌≤◌, Bool, true, false, ◌&&◌, ◌||◌, List, [], ◌∷◌, ◌++◌, length, refl, sym, ap, ◌∙◌, subst, cond, inl, inr, arith, set, get_or-set_same, get_or-set_other, add-one}
-use Rattle.std.specs.Prelude.{◌==◌, max, slice_index}
+use Rattle.std.proofs.Common.{◌≡◌, ℕ, suc, ◌+◌, ◌<◌, ◌≤◌, Bool, true, false, ◌&&◌, ◌||◌, List, [], ◌∷◌, length, refl, sym, ap, ◌∙◌, subst, inl, inr, arith, set, get_or-set_same, get_or-set_other, add-one}
+use Rattle.std.specs.Prelude.{◌==◌, slice_index}
 use Rattle.std.specs.List.{slice_index_or}
-use Rattle.std.proofs.lemmas.Bool.{and_parts, cases_Bool, cases_eq, cond-true, cond-false, eq-eqb, ne_eqb, eqb-true}
+use Rattle.std.proofs.lemmas.Bool.{and_parts, cases_eq, eq-eqb, ne_eqb, eqb-true}
 use Rattle.audit_model.specs.Below.{above_all, any_below, count_below}
 use Rattle.audit_model.specs.Meets.{lies_in, split_of}
-use Rattle.model_laws.proofs.Below.{count_below_into}
+use Rattle.model_laws.proofs.Below.{count_below_into, any_below_some}
 use Rattle.model_laws.proofs.Meeting.{below_above_all}
 
 -- ---- one more than the greatest number
-
-pub above_all_more : (xs : List ℕ) (x : ℕ) → above_all (xs ++ x ∷ []) ≡ max (above_all xs) (x + 1)
-above_all_more [] x = omega arith
-above_all_more (y ∷ xs) x = omega (arith, above_all_more xs x)
 
 above_all_most : (xs : List ℕ) (n : ℕ) → ((u : ℕ) → u < length xs → slice_index xs u < n) → above_all xs ≤ n
 above_all_most [] n each = omega arith
@@ -62,35 +58,10 @@ seen_more regions plan region unit d seen below own so_far =
 
 -- ---- how many districts those are
 
-pub counted_none : (test : ℕ → Bool) → 0 ≡ count_below 0 test
-unfolding count_below
-counted_none test = refl
-
-pub counted_on : (n count : ℕ) (test : ℕ → Bool) → count ≡ count_below n test → test n ≡ true → count + 1 ≡ count_below (n + 1) test
-unfolding count_below
-counted_on n count test so_far passes =
-    let last : cond {A = ℕ} (test n) 1 0 ≡ 1 = cond-true {A = ℕ} (test n) 1 0 passes in
-    let more : count_below (n + 1) test ≡ count_below n test + cond {A = ℕ} (test n) 1 0 = rw add-one refl in
-    omega (arith, so_far, last, more)
-
-pub counted_off : (n count : ℕ) (test : ℕ → Bool) → count ≡ count_below n test → test n ≡ false → count ≡ count_below (n + 1) test
-unfolding count_below
-counted_off n count test so_far fails =
-    let last : cond {A = ℕ} (test n) 1 0 ≡ 0 = cond-false {A = ℕ} (test n) 1 0 fails in
-    let more : count_below (n + 1) test ≡ count_below n test + cond {A = ℕ} (test n) 1 0 = rw add-one refl in
-    omega (arith, so_far, last, more)
-
-some_below : (n : ℕ) (test : ℕ → Bool) → any_below n test ≡ true → (k : ℕ) × (k < n) × (test k ≡ true)
-some_below zero test h = cc
-some_below (suc n) test h = elim (cases_Bool (any_below n test)) [
-  | inl before ↦ let some = some_below n test before in (some.0, omega (arith, some.1), some.2)
-  | inr none ↦ (n, omega arith, subst (λ b. (b || test n) ≡ true) none h)
-]
-
 in_range : (regions plan : List ℕ) (region d : ℕ) → length regions ≤ length plan → lies_in regions plan region d ≡ true
     → (u : ℕ) × (u < length plan) × (slice_index plan u ≡ d)
 in_range regions plan region d shorter h =
-    let some = some_below (length regions) (λ u. (slice_index regions u == region) && (slice_index plan u == d)) h in
+    let some = any_below_some (length regions) (λ u. (slice_index regions u == region) && (slice_index plan u == d)) h in
     (some.0, omega (arith, some.1, shorter), eqb-true (slice_index plan some.0) d (and_parts (slice_index regions some.0 == region) (slice_index plan some.0 == d) some.2).1)
 
 pub split_is : (regions plan : List ℕ) (region : ℕ) → length regions ≤ length plan → ((u : ℕ) → u < length plan → slice_index plan u < 200)

@@ -1,6 +1,5 @@
 pub mod Input
 pub mod Outside
 pub mod Parting
-pub mod Search
 pub mod Splits
 pub mod Valued

@@ -148,7 +148,7 @@ impl Job {
 
     /// Whether a plan is legal: each district has a unit, is connected and has a population within the
     /// bounds, and the plan meets the rules. It takes no memory; the marks are left with what was marked
-    /// last.
+    /// last. It searches every district and counts no search: no step of a walk asks it.
     pub fn legal(&self, plan: &[u32], marks: &mut Marks) -> bool
         requires complete { length plan.now ≡ self.now.graph.units }
         requires in_range { (u : ℕ) → u < self.now.graph.units → slice_index plan.now u < self.now.districts }

@@ -8,7 +8,7 @@ ghost use Rattle.audit_model.specs.Path.{HasPath};
 ghost use Rattle.audit_model.specs.Plan.{in_district};
 ghost use Rattle.dual_graph.specs.Marked.{IsMarked};
 ghost use Rattle.plan_core.specs.Parting.{parting_of};
-ghost use Rattle.plan_core.specs.Search.{AddsFrom};
+ghost use Rattle.model_laws.specs.Search.{AddsFrom};
 
 use dual_graph::graph::Graph;
 use dual_graph::marks::Marks;
@@ -84,6 +84,7 @@ pub fn parting(graph: &Graph, plan: &[u32], district: u32, marks: &mut Marks) ->
     ensures units { marks.new.units ≡ graph.now.units }
     ensures parting { result ≡ parting_of graph.now (in_district plan.now district) }
 {
+    // Called for what its contract says: the graph is sound, and has at most 100,000 units.
     let _units = graph.units();
     match first_unit(graph, plan, district) {
         None => Some((0, 0)),

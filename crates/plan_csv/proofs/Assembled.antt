@@ -1,5 +1,5 @@
 -- The plans of a table, one after another, and the whole reading.
-use Rattle.std.proofs.Common.{◌≡◌, ℕ, ◌+◌, ◌-◌, ◌<◌, ◌++◌, true, false, List, [], ◌∷◌, length, map, get_or, Option, Some, None, Result, Ok, Err, refl, sym, ap, ◌∙◌, subst, arith}
+use Rattle.std.proofs.Common.{◌≡◌, ℕ, ◌+◌, ◌-◌, ◌<◌, ◌++◌, true, false, List, [], ◌∷◌, length, map, get_or, Some, None, Ok, Err, refl, sym, ap, ◌∙◌, subst, arith}
 use Rattle.std.specs.List.{All}
 use Rattle.std.specs.Option.{option_map}
 use Rattle.std.proofs.lemmas.List.Elements.{All-push}
@@ -11,12 +11,12 @@ use Rattle.audit_model.specs.declared.plans.Assigned.{Assigned}
 use Rattle.audit_model.specs.declared.setting.Label.{Label}
 use Rattle.audit_model.specs.Below.{map_below}
 use Rattle.audit_model.specs.First.{first_below}
-use Rattle.dual_json.proofs.First.{first_below_found, first_below_more}
+use Rattle.model_laws.proofs.Below.{map_below_same}
+use Rattle.model_laws.proofs.First.{first_below_more, first_below_found}
 use Rattle.dual_json.proofs.Listed.{map_below_more}
-use Rattle.table_definitions.specs.Table.{accepted_or, assigned, district_in, entry_of, is_miscounted, label_count, of_rows, plan_count, refusal, refused_count, table_reading}
+use Rattle.table_definitions.specs.Table.{accepted_or, assigned, district_in, entry_of, is_miscounted, label_count, of_rows, plan_count, refused_count, table_reading}
 use Rattle.plan_csv.specs.Fit.{IsPlanOf}
-use Rattle.plan_csv.specs.Stages.{assigned_by, later, refused, AreRecords}
-use Rattle.plan_csv.proofs.Labelled.{map_below_same}
+use Rattle.plan_csv.specs.Stages.{assigned_by, refused, AreRecords}
 
 -- the first plans, none of which is refused
 pub record AreListed (header : List (List ℕ)) (rows : List (List (List ℕ))) (records : List ℕ) (j : ℕ) (list : List Assigned) : Type 0 where

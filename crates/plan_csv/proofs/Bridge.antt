@@ -1,5 +1,5 @@
 -- What the units of the records say of the records themselves.
-use Rattle.std.proofs.Common.{◌≡◌, ◌<◌, ℕ, suc, List, [], length, bytes_eq, not, Option, Some, None, Bool, true, false, refl, sym, ap, ◌∙◌, inl, inr, arith, eq-eqb}
+use Rattle.std.proofs.Common.{◌≡◌, ◌<◌, ℕ, suc, List, [], length, bytes_eq, not, Option, Some, None, Bool, sym, ap, ◌∙◌, inl, inr, arith, eq-eqb}
 use Rattle.std.specs.List.{slice_index_or}
 use Rattle.std.specs.Option.{option_map, unwrap_or, is_none}
 use Rattle.std.specs.Cmp.Lexicographic.{bytes_decides}
@@ -8,21 +8,15 @@ use Rattle.audit_model.specs.Below.{any_below}
 use Rattle.audit_model.specs.First.{first_below}
 use Rattle.audit_model.specs.declared.fault.TableFault.TheVariants as fault
 use Rattle.audit_model.specs.declared.setting.Label.{Label}
+use Rattle.model_laws.proofs.Bools.{same_bool}
+use Rattle.model_laws.proofs.Options.{option_map_none}
+use Rattle.model_laws.proofs.Below.{any_below_from}
+use Rattle.model_laws.proofs.First.{first_below_same, any_below_same, any_from_none, none_passes, first_passes, any_from_some}
 use Rattle.table_definitions.specs.Table.{unit_text, names_unit, is_shared, shared_id, repeated_unit, missing_unit, entry_of}
 use Rattle.plan_csv.specs.Stages.{AreUnits, ArePlaces, AreThere, is_of, repeated, unnamed}
-use Rattle.dual_json.proofs.First.{first_below_same, any_below_same, first_passes, none_passes, any_at, any_from_none, any_from_some}
 
 abbrev id_at : List (List (List ℕ)) → ℕ → List ℕ
 id_at rows e = slice_index_or (slice_index_or rows e []) 0 []
-
-same_bool : (a b : Bool) → (a ≡ true → b ≡ true) → (b ≡ true → a ≡ true) → a ≡ b
-same_bool true b f g = sym (f refl)
-same_bool false true f g = g refl
-same_bool false false f g = refl
-
-nothing_mapped : {A B : Type 0} → (f : A → B) (x : Option A) → option_map f x ≡ None → x ≡ None
-nothing_mapped f None e = refl
-nothing_mapped f (Some a) e = cc e
 
 none_or_any : (n : ℕ) (t : ℕ → Bool) (x : Option ℕ) → first_below n t ≡ x → not (any_below n t) ≡ is_none x
 none_or_any n t None e = ap not (any_from_none n t e)
@@ -78,8 +72,8 @@ module _ (ids : List Label) (rows : List (List (List ℕ))) (units : List ℕ) (
           | inr from ↦
               let above : slice_index_or units e 0 < u = omega (arith, from, ne) in
               both_ways (any_below u (is_shared ids [] [] u))
-              (none_passes (length ids) (λ other. any_below other (is_shared ids [] [] other)) (nothing_mapped _ _ apart) u lu)
-              (any_at u (is_shared ids [] [] u) (slice_index_or units e 0) above
+              (none_passes (length ids) (λ other. any_below other (is_shared ids [] [] other)) (option_map_none _ _ apart) u lu)
+              (any_below_from u (is_shared ids [] [] u) (slice_index_or units e 0) above
               ((bytes_decides (unit_text ids [] [] (slice_index_or units e 0)) (unit_text ids [] [] u)).1 (sym (text_at e le) ∙ text)))
         ]))
         (λ same.

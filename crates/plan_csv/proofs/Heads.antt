@@ -4,8 +4,8 @@ use Rattle.std.specs.Option.{option_map, option_or}
 use Rattle.std.proofs.lemmas.Bool.{cond-false, le-ltb}
 use Rattle.audit_model.specs.First.{first_below, first_some}
 use Rattle.audit_model.specs.declared.fault.TableFault.TheVariants as fault
+use Rattle.model_laws.proofs.First.{first_below_found}
 use Rattle.table_definitions.specs.Table.{is_plan_name, plan_name, lacks_header, too_many, bad_name}
-use Rattle.dual_json.proofs.First.{first_below_found}
 
 module _ (header : List (List ℕ)) where
   pub enough : 2 ≤ length header → lacks_header [] header [] ≡ None

@@ -12,9 +12,9 @@ use Rattle.audit_model.specs.Below.{any_below}
 use Rattle.audit_model.specs.First.{first_below}
 use Rattle.audit_model.specs.declared.fault.TableFault.TheVariants as fault
 use Rattle.audit_model.specs.declared.setting.Label.{Label}
+use Rattle.model_laws.proofs.First.{first_below_same, first_below_more, first_below_found, any_from_none, any_from_some}
 use Rattle.table_definitions.specs.Table.{unit_text, is_shared, shared_id}
 use Rattle.plan_csv.specs.Stages.{IsIndex}
-use Rattle.dual_json.proofs.First.{first_below_same, first_below_more, first_below_found, any_from_some, any_from_none}
 
 module _ {K : Type 0} (text : K → List ℕ) where
   -- whether a key's text is q

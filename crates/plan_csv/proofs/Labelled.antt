@@ -1,7 +1,7 @@
 -- The labels of a plan, the different ones among them, and the district of each record.
-use Rattle.std.proofs.Common.{◌≡◌, ℕ, zero, suc, ◌+◌, ◌<◌, ◌≤◌, ◌++◌, ◌&&◌, ◌||◌, Bool, true, false, not, nat_lt, List, [], ◌∷◌, length, map, get_or, Option, Some, None, refl, sym, ap, ◌∙◌, subst, inl, inr, arith, length-append}
+use Rattle.std.proofs.Common.{◌≡◌, ℕ, ◌+◌, ◌<◌, ◌≤◌, ◌++◌, ◌&&◌, not, List, [], ◌∷◌, length, get_or, Option, Some, None, refl, sym, ap, ◌∙◌, subst, inl, inr, arith, length-append}
 use Rattle.std.specs.Prelude.{◌==◌}
-use Rattle.std.specs.List.{Contains, slice_index_or}
+use Rattle.std.specs.List.{Contains}
 use Rattle.std.specs.Option.{option_map, unwrap_or}
 use Rattle.std.proofs.lemmas.Bool.{both_ways, cases_eq}
 use Rattle.std.proofs.lemmas.List.{length-map}
@@ -9,20 +9,19 @@ use Rattle.std.proofs.lemmas.List.Elements.{Contains-get_or}
 use Rattle.audit_model.specs.declared.plans.Assigned.{Assigned}
 use Rattle.audit_model.specs.declared.setting.Label.{Label}
 use Rattle.audit_model.specs.declared.setting.Label.TheVariants.{Word}
-use Rattle.audit_model.specs.Below.{any_below, count_below, map_below}
+use Rattle.audit_model.specs.Below.{count_below, map_below}
 use Rattle.audit_model.specs.First.{first_below}
 use Rattle.audit_model.specs.Label.{same_label, label_before}
-use Rattle.model_laws.proofs.Below.{count_below_same}
-use Rattle.dual_graph.proofs.Rows.{length-map_below, get_or-map_below}
+use Rattle.model_laws.proofs.Below.{count_below_same, length-map_below, get_or-map_below, map_below_same}
+use Rattle.model_laws.proofs.First.{any_below_same, none_passes, first_passes}
 use Rattle.dual_json.specs.Districts.{AreDifferent, AreDistricts, is_new}
 use Rattle.dual_json.specs.Names.{label_from}
 use Rattle.dual_json.specs.Places.{nth, labels_from}
 use Rattle.dual_json.specs.declared.names.Name.{Name}
 use Rattle.dual_json.proofs.Counted.{same_equal, equal_same, label_count_is, district_is, labels_are}
-use Rattle.dual_json.proofs.First.{any_below_same, first_passes, none_passes}
 use Rattle.dual_json.proofs.Named.{nth_get, nth-push_same, nth-push_other}
-use Rattle.dual_json.proofs.Started.{AreStarted, started_all}
-use Rattle.table_definitions.specs.Table.{plan_name, is_new_label, is_miscounted, label_count, label_in, label_of_district, district_in}
+use Rattle.dual_json.proofs.Started.{started_all}
+use Rattle.table_definitions.specs.Table.{plan_name, is_new_label, label_count, label_in, label_of_district, district_in}
 use Rattle.plan_csv.specs.Fit.{IsPlanOf}
 use Rattle.plan_csv.specs.Stages.{assigned_by, AreLabels, IsAssigned}
 
@@ -91,12 +90,6 @@ module _ (names found : List Name) (are : AreDifferent names found) where
   )
 
 -- ---- the definitions at the labels of the records
-
-pub map_below_same : {A : Type 0} (n : ℕ) (f g : ℕ → A) → ((k : ℕ) → k < n → f k ≡ g k) → map_below n f ≡ map_below n g
-map_below_same zero f g same = refl
-map_below_same {A} (suc n) f g same =
-    ap (λ (xs : List A). xs ++ f n ∷ []) (map_below_same n f g (λ k l. same k (omega (arith, l))))
-    ∙ ap (λ (a : A). map_below n g ++ a ∷ []) (same n (omega arith))
 
 module _ (rows : List (List (List ℕ))) (plan : ℕ) (labels found : List Label) (districts : List ℕ) (of : AreLabels rows plan labels) (are : AreDistricts labels found districts) where
   new_same : (e : ℕ) → e < length rows → is_new_label [] [] rows plan e ≡ is_new labels e

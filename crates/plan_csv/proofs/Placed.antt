@@ -6,18 +6,15 @@ use Rattle.std.proofs.lemmas.Bool.{cases_eq, cond-false, ne_eqb, false≢true}
 use Rattle.audit_model.specs.Below.{any_below}
 use Rattle.audit_model.specs.First.{first_below}
 use Rattle.audit_model.specs.declared.fault.TableFault.TheVariants as fault
+use Rattle.model_laws.proofs.Options.{or_nothing}
+use Rattle.model_laws.proofs.First.{first_below_more, first_below_found, any_from_none, any_from_some}
 use Rattle.plan_csv.specs.Stages.{is_of, repeated, unnamed, ArePlaces, AreThere}
-use Rattle.dual_json.proofs.First.{first_below_more, first_below_found, any_from_some, any_from_none}
 use Rattle.plan_csv.proofs.Pushed.{push_same, push_other}
 
 pub record IsPlaced (units : List ℕ) (count j : ℕ) (places : List (Option ℕ)) : Type 0 where
   pub size : length places ≡ count
   pub none : first_below j (λ e. any_below e (is_of units (slice_index_or units e 0))) ≡ None
   pub each : (u : ℕ) → u < count → slice_index_or places u None ≡ first_below j (is_of units u)
-
-or_nothing : (x : Option ℕ) → option_or x None ≡ x
-or_nothing None = refl
-or_nothing (Some a) = refl
 
 there : (x : Option ℕ) → is_some x ≡ true → (a : ℕ) × (x ≡ Some a)
 there None e = absurd (false≢true e)

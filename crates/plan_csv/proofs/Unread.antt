@@ -3,14 +3,14 @@ use Rattle.std.proofs.Common.{◌≡◌, ◌≢◌, ◌<◌, ◌+◌, ◌==◌, 
 use Rattle.std.specs.List.{list_all, slice_index_or}
 use Rattle.std.specs.Option.{option_map}
 use Rattle.std.specs.Str.{is_utf8}
-use Rattle.std.proofs.lemmas.Bool.{eqb-true}
+use Rattle.std.proofs.lemmas.Bool.{eqb-true, and_from}
 use Rattle.std.proofs.lemmas.List.{length-map, map-append, append-nil}
 use Rattle.std.proofs.lemmas.Str.{IsUtf8-from_is_utf8, is_utf8-from_IsUtf8}
 use Rattle.csv.specs.Records.{AllText, Row, fields_of, field_at}
 use Rattle.audit_model.specs.First.{first_below}
 use Rattle.audit_model.specs.declared.fault.TableFault.TheVariants as fault
+use Rattle.model_laws.proofs.First.{first_below_more, first_below_found}
 use Rattle.plan_csv.specs.Stages.{is_unread, unread}
-use Rattle.dual_json.proofs.First.{first_below_more, first_below_found}
 
 pub none_there : (fields : List (List ℕ)) (i : ℕ) → field_at fields i ≡ None → slice_index_or fields i [] ≡ []
 unfolding field_at
@@ -26,14 +26,10 @@ text_then : (a b : Bool) → (a && b) ≡ true → b ≡ true
 text_then true b e = e
 text_then false b e = cc e
 
-both : (a b : Bool) → a ≡ true → b ≡ true → (a && b) ≡ true
-both true b e f = f
-both false b e f = e
-
 all_text : (row : List (List ℕ)) → AllText row → list_all is_utf8 row ≡ true
 unfolding AllText
 all_text [] h = refl
-all_text (f ∷ fs) h = both (is_utf8 f) (list_all is_utf8 fs) (is_utf8-from_IsUtf8 f h.0) (all_text fs h.1)
+all_text (f ∷ fs) h = and_from (is_utf8 f) (list_all is_utf8 fs) (is_utf8-from_IsUtf8 f h.0) (all_text fs h.1)
 
 text_all : (row : List (List ℕ)) → list_all is_utf8 row ≡ true → AllText row
 unfolding AllText

@@ -13,20 +13,6 @@ use csv::StringRecord;
 /// How many plans a table may have.
 pub const MOST_PLANS: usize = 16;
 
-/// Whether a byte is seen.
-fn is_seen(c: u8) -> bool
-    ensures { result ≡ (nat_le 33 c && nat_le c 126) }
-{
-    c >= 33 && c <= 126
-}
-
-/// Whether each byte is seen.
-fn are_seen(bytes: &[u8]) -> bool
-    ensures { result ≡ list_all (λ c. nat_le 33 c && nat_le c 126) bytes.now }
-{
-    bytes.iter().all(|c| is_seen(*c))
-}
-
 /// Whether a text is 1 to 100 bytes that are seen.
 pub fn is_plan_name(name: &str) -> bool
     ensures { result ≡ table.is_plan_name name.now }
@@ -59,4 +45,18 @@ pub fn plans_of(header: &StringRecord) -> Result<usize, TableFault>
         }
     }
     Ok(plans)
+}
+
+/// Whether a byte is seen.
+fn is_seen(c: u8) -> bool
+    ensures { result ≡ (nat_le 33 c && nat_le c 126) }
+{
+    c >= 33 && c <= 126
+}
+
+/// Whether each byte is seen.
+fn are_seen(bytes: &[u8]) -> bool
+    ensures { result ≡ list_all (λ c. nat_le 33 c && nat_le c 126) bytes.now }
+{
+    bytes.iter().all(|c| is_seen(*c))
 }

@@ -21,6 +21,48 @@ use dual_json::districts::{different, labels_of, start_of};
 use dual_json::names::Name;
 use std::alloc::Global;
 
+/// Whether a plan may not have so many districts.
+pub fn is_miscounted(districts: usize) -> bool
+    ensures { result ≡ (nat_lt districts 2 || nat_lt 200 districts) }
+{
+    districts < 2 || districts > 200
+}
+
+/// The plan whose labels stand in the column after its number, where each unit's record is known; or that it has too few or too many districts.
+pub fn plan_of(
+    alloc: Global,
+    header: &StringRecord,
+    entries: &[StringRecord],
+    records: &[usize],
+    plan: usize,
+) -> Result<Assigned, TableFault>
+    requires few { plan < 16 }
+    requires under { (u : ℕ) → u < length records.now → slice_index records.now u < length entries.now }
+    ensures read { MatchResult result
+        (λ a. (table.is_miscounted [] [] (map fields_of entries.now) plan ≡ false) × (a ≡ assigned_by (fields_of header.now) (map fields_of entries.now) records.now plan))
+        (λ f. (f ≡ fault.Memory) ⊎ ((f ≡ fault.DistrictCount plan (table.label_count [] [] (map fields_of entries.now) plan))
+        × (table.is_miscounted [] [] (map fields_of entries.now) plan ≡ true))) }
+    ensures fit { IfOk result (λ a. IsPlanOf (length records.now) a) }
+{
+    let Ok(names) = names_of(alloc, entries, plan) else {
+        return Err(TableFault::Memory);
+    };
+    let Ok(found) = different(alloc, &names) else {
+        return Err(TableFault::Memory);
+    };
+    let districts = found.len();
+    if is_miscounted(districts) {
+        return Err(TableFault::DistrictCount {
+            plan: plan as u32,
+            count: districts as u64,
+        });
+    }
+    match assigned_of(alloc, field(header, plan + 1), &names, &found, records) {
+        Ok(assigned) => Ok(assigned),
+        Err(_) => Err(TableFault::Memory),
+    }
+}
+
 /// The label of each record in a plan.
 fn names_of<'e>(
     alloc: Global,
@@ -35,13 +77,6 @@ fn names_of<'e>(
         names.push(Name::Word(field(&entries[entry], plan + 1)))?;
     }
     Ok(names)
-}
-
-/// Whether a plan may not have so many districts.
-pub fn is_miscounted(districts: usize) -> bool
-    ensures { result ≡ (nat_lt districts 2 || nat_lt 200 districts) }
-{
-    districts < 2 || districts > 200
 }
 
 /// A text of its own.
@@ -89,39 +124,4 @@ fn assigned_of(
         start: picked(alloc, districts.as_slice(), records)?,
         labels,
     })
-}
-
-/// The plan whose labels stand in the column after its number, where each unit's record is known; or that it has too few or too many districts.
-pub fn plan_of(
-    alloc: Global,
-    header: &StringRecord,
-    entries: &[StringRecord],
-    records: &[usize],
-    plan: usize,
-) -> Result<Assigned, TableFault>
-    requires few { plan < 16 }
-    requires under { (u : ℕ) → u < length records.now → slice_index records.now u < length entries.now }
-    ensures read { MatchResult result
-        (λ a. (table.is_miscounted [] [] (map fields_of entries.now) plan ≡ false) × (a ≡ assigned_by (fields_of header.now) (map fields_of entries.now) records.now plan))
-        (λ f. (f ≡ fault.Memory) ⊎ ((f ≡ fault.DistrictCount plan (table.label_count [] [] (map fields_of entries.now) plan))
-        × (table.is_miscounted [] [] (map fields_of entries.now) plan ≡ true))) }
-    ensures fit { IfOk result (λ a. IsPlanOf (length records.now) a) }
-{
-    let Ok(names) = names_of(alloc, entries, plan) else {
-        return Err(TableFault::Memory);
-    };
-    let Ok(found) = different(alloc, &names) else {
-        return Err(TableFault::Memory);
-    };
-    let districts = found.len();
-    if is_miscounted(districts) {
-        return Err(TableFault::DistrictCount {
-            plan: plan as u32,
-            count: districts as u64,
-        });
-    }
-    match assigned_of(alloc, field(header, plan + 1), &names, &found, records) {
-        Ok(assigned) => Ok(assigned),
-        Err(_) => Err(TableFault::Memory),
-    }
 }

@@ -18,6 +18,41 @@ use audit_model::plans::AssignedList;
 use csv::StringRecord;
 use std::alloc::Global;
 
+/// The plans of a table over units with these ids, or the first reason to refuse it.
+///
+/// The table's first record is a title and the plans' names; each further one is a unit's id and its labels.
+///
+/// # Errors
+///
+/// The refusals are tested in the order of the variants of [`TableFault`], each over the whole table and at its least place.
+///
+/// - `Unreadable`: a record with another number of fields than the first, or with a field that is no text.
+/// - `NoHeader`: there is no record, or the first has fewer than two fields.
+/// - `TooManyPlans`: how many plans there are, which are more than 16.
+/// - `BadName`: a plan whose name is not 1 to 100 bytes that are seen.
+/// - `SharedId`: the least unit whose id as text is that of an earlier one.
+/// - `UnknownId`: a record whose first field is no unit's id as text.
+/// - `Twice`: a record whose unit an earlier record names.
+/// - `MissingUnit`: a unit that no record names.
+/// - `DistrictCount`: a plan with fewer than 2 or more than 200 different labels.
+/// - `Memory`: there was no memory for the records, or for the plans.
+pub fn read_plans(alloc: Global, bytes: &[u8], ids: &LabelList) -> Result<AssignedList, TableFault>
+    requires { length ids.now ≤ 100000 }
+    ensures read { MatchResult result (λ plans. table.table_reading bytes.now ids.now ≡ Ok plans)
+        (λ f. (f ≡ fault.Memory) ⊎ (table.table_reading bytes.now ids.now ≡ Err f)) }
+    ensures fit { IfOk result (λ plans. All (IsPlanOf (length ids.now)) plans) }
+{
+    let Ok(rows) = records_of(alloc, bytes) else {
+        return Err(TableFault::Memory);
+    };
+    let columns = columns_of(rows.as_slice());
+    let texts = texts_of(alloc, rows, columns)?;
+    match texts.as_slice() {
+        [header, entries @ ..] => plans_from(alloc, header, entries, ids),
+        [] => Err(TableFault::NoHeader),
+    }
+}
+
 /// The plans whose labels stand in the columns after the first, where each unit's record is known.
 fn labelled(
     alloc: Global,
@@ -67,39 +102,4 @@ fn plans_from(
     let plans = plans_of(header)?;
     let records = records_from(alloc, entries, ids.as_slice())?;
     labelled(alloc, header, entries, records.as_slice(), plans)
-}
-
-/// The plans of a table over units with these ids, or the first reason to refuse it.
-///
-/// The table's first record is a title and the plans' names; each further one is a unit's id and its labels.
-///
-/// # Errors
-///
-/// The refusals are tested in the order of the variants of [`TableFault`], each over the whole table and at its least place.
-///
-/// - `Unreadable`: a record with another number of fields than the first, or with a field that is no text.
-/// - `NoHeader`: there is no record, or the first has fewer than two fields.
-/// - `TooManyPlans`: how many plans there are, which are more than 16.
-/// - `BadName`: a plan whose name is not 1 to 100 bytes that are seen.
-/// - `SharedId`: the least unit whose id as text is that of an earlier one.
-/// - `UnknownId`: a record whose first field is no unit's id as text.
-/// - `Twice`: a record whose unit an earlier record names.
-/// - `MissingUnit`: a unit that no record names.
-/// - `DistrictCount`: a plan with fewer than 2 or more than 200 different labels.
-/// - `Memory`: there was no memory for the records, or for the plans.
-pub fn read_plans(alloc: Global, bytes: &[u8], ids: &LabelList) -> Result<AssignedList, TableFault>
-    requires { length ids.now ≤ 100000 }
-    ensures read { MatchResult result (λ plans. table.table_reading bytes.now ids.now ≡ Ok plans)
-        (λ f. (f ≡ fault.Memory) ⊎ (table.table_reading bytes.now ids.now ≡ Err f)) }
-    ensures fit { IfOk result (λ plans. All (IsPlanOf (length ids.now)) plans) }
-{
-    let Ok(rows) = records_of(alloc, bytes) else {
-        return Err(TableFault::Memory);
-    };
-    let columns = columns_of(rows.as_slice());
-    let texts = texts_of(alloc, rows, columns)?;
-    match texts.as_slice() {
-        [header, entries @ ..] => plans_from(alloc, header, entries, ids),
-        [] => Err(TableFault::NoHeader),
-    }
 }

@@ -75,17 +75,6 @@ pub fn units_of(
     Ok(units)
 }
 
-/// No record for each of `count` units.
-fn blanks(alloc: Global, count: usize) -> Result<Vec<Option<usize>>, Memory>
-    ensures { IfOk result (λ places. (length places.items ≡ count) × ((u : ℕ) → slice_index_or places.items u None ≡ None)) }
-{
-    let mut places = Vec::with_capacity(alloc, count)?;
-    for _ in 0..count {
-        places.push(None)?;
-    }
-    Ok(places)
-}
-
 /// The record of each of `count` units where one names it, or the first record that repeats a unit.
 pub fn places_of(
     alloc: Global,
@@ -144,4 +133,15 @@ pub fn records_from(
     let units = units_of(alloc, &index, entries)?;
     let places = places_of(alloc, units.as_slice(), ids.len())?;
     records_of(alloc, places.as_slice())
+}
+
+/// No record for each of `count` units.
+fn blanks(alloc: Global, count: usize) -> Result<Vec<Option<usize>>, Memory>
+    ensures { IfOk result (λ places. (length places.items ≡ count) × ((u : ℕ) → slice_index_or places.items u None ≡ None)) }
+{
+    let mut places = Vec::with_capacity(alloc, count)?;
+    for _ in 0..count {
+        places.push(None)?;
+    }
+    Ok(places)
 }

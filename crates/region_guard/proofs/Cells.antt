@@ -2,10 +2,10 @@
 use Rattle.std.proofs.Common.{◌≡◌, ℕ, zero, suc, ◌+◌, ◌*◌, ◌<◌, ◌≤◌, Bool, true, false, cond, not, ◌&&◌, ◌||◌, ◌==◌, List, length, get_or, refl, sym, ap, ◌∙◌, inl, inr, arith}
 use Rattle.std.specs.Prelude.{nat_lt}
 use Rattle.std.proofs.Math.Nat.{mul-le-mul_right}
-use Rattle.std.proofs.lemmas.Bool.{cases_eq, cases_lt, cases_Bool, cond-true, cond-false, eq-eqb, ne_eqb, lt-ltb, ltb-true, or_right, or_from, and_right, not_from_true, not_from_false, false_from_ne_true}
+use Rattle.std.proofs.lemmas.Bool.{cases_eq, cases_lt, cases_Bool, cond-true, cond-false, eq-eqb, ne_eqb, lt-ltb, ltb-true, or_right, and_right, not_from_true, not_from_false, false_from_ne_true}
 use Rattle.audit_model.specs.Below.{above_all, all_below, any_below, count_below}
 use Rattle.audit_model.specs.Meets.{lies_in, split_of}
-use Rattle.model_laws.proofs.Below.{count_below_same, count_below_without}
+use Rattle.model_laws.proofs.Below.{count_below_same, count_below_without, any_below_none, count_below_zero}
 use Rattle.model_laws.proofs.Meeting.{below_above_all}
 use Rattle.region_guard.specs.Standing.{units_among}
 
@@ -17,10 +17,6 @@ one_if b = cond {A = ℕ} b 1 0
 pub count_more : (n : ℕ) (f : ℕ → Bool) → count_below (suc n) f ≡ count_below n f + one_if (f n)
 unfolding count_below
 count_more n f = refl
-
-pub count_none : (f : ℕ → Bool) → count_below 0 f ≡ 0
-unfolding count_below
-count_none f = refl
 
 pub count_but_one : (n u : ℕ) (f g : ℕ → Bool) → u < n → ((v : ℕ) → v < n → (v ≡ u → ⊥) → f v ≡ g v)
     → count_below n f + one_if (g u) ≡ count_below n g + one_if (f u)
@@ -67,7 +63,7 @@ pub some_counted : (n x : ℕ) (f : ℕ → Bool) → x < n → f x ≡ true →
 some_counted n x f l h = omega (arith, count_below_without n f x l h)
 
 pub any_is_some : (n : ℕ) (f : ℕ → Bool) → any_below n f ≡ nat_lt 0 (count_below n f)
-any_is_some zero f = sym (false_from_ne_true (nat_lt 0 (count_below 0 f)) (λ h. let l = ltb-true 0 (count_below 0 f) h in omega (arith, l, count_none f)))
+any_is_some zero f = sym (false_from_ne_true (nat_lt 0 (count_below 0 f)) (λ h. let l = ltb-true 0 (count_below 0 f) h in omega (arith, l, count_below_zero f)))
 any_is_some (suc n) f = elim (cases_Bool (f n)) [
   | inl hit ↦
       let one = cond-true {A = ℕ} (f n) 1 0 hit in
@@ -82,13 +78,9 @@ any_is_some (suc n) f = elim (cases_Bool (f n)) [
     or_none true b h = refl
     or_none false b h = h
 
-any_none : (n : ℕ) (f : ℕ → Bool) → ((k : ℕ) → k < n → f k ≡ false) → any_below n f ≡ false
-any_none zero f none = refl
-any_none (suc n) f none = or_from (any_below n f) (f n) (any_none n f (λ k l. none k (omega (arith, l)))) (none n (omega arith))
-
 -- all pass where none fails
 pub all_is_none : (n : ℕ) (f : ℕ → Bool) → (count_below n (λ k. not (f k)) == 0) ≡ all_below n f
-all_is_none zero f = eq-eqb (count_below 0 (λ k. not (f k))) 0 (count_none (λ k. not (f k)))
+all_is_none zero f = eq-eqb (count_below 0 (λ k. not (f k))) 0 (count_below_zero (λ k. not (f k)))
 all_is_none (suc n) f = elim (cases_Bool (f n)) [
   | inl hit ↦
       let none : one_if (not (f n)) ≡ 0 = cond-false {A = ℕ} (not (f n)) 1 0 (not_from_true (f n) hit) in
@@ -140,7 +132,7 @@ lies_is_counted regions plan q d = any_is_some (length regions) (λ u. (get_or r
 pub split_is_counted : (regions plan : List ℕ) (districts q : ℕ) → length plan ≡ length regions → above_all plan ≤ districts
     → split_of regions plan q ≡ count_below districts (λ d. nat_lt 0 (units_among (length regions) regions plan q d))
 split_is_counted regions plan districts q long l =
-    count_longer districts (above_all plan) (lies_in regions plan q) l (λ d past. any_none (length regions)
+    count_longer districts (above_all plan) (lies_in regions plan q) l (λ d past. any_below_none (length regions)
     (λ u. (get_or regions u 0 == q) && (get_or plan u 0 == d)) (λ u under. and_right (get_or regions u 0 == q) (get_or plan u 0 == d)
     (ne_eqb (get_or plan u 0) d (λ e. omega (arith, e, past, below_above_all plan u (omega (arith, under, long)))))))
     ∙ count_below_same districts (lies_in regions plan q) (λ d. nat_lt 0 (units_among (length regions) regions plan q d)) (λ d under. lies_is_counted regions plan q d)

@@ -1,5 +1,5 @@
 -- What a move changes in the counts.
-use Rattle.std.proofs.Common.{◌≡◌, ℕ, zero, suc, ◌+◌, ◌*◌, ◌-◌, ◌<◌, ◌≤◌, Bool, true, false, not, max, ◌&&◌, ◌==◌, List, [], ◌∷◌, ◌++◌, length, take, drop, get_or, refl, sym, ap, ◌∙◌, subst, inl, inr, arith, add-one}
+use Rattle.std.proofs.Common.{◌≡◌, ℕ, zero, suc, ◌+◌, ◌*◌, ◌-◌, ◌<◌, ◌≤◌, Bool, true, false, not, ◌&&◌, ◌==◌, List, [], ◌∷◌, ◌++◌, length, take, drop, get_or, refl, sym, ap, ◌∙◌, subst, inl, inr, arith, add-one}
 use Rattle.std.specs.Prelude.{nat_lt, nat_le}
 use Rattle.std.proofs.Math.Nat.{mul-le-mul_right}
 use Rattle.std.proofs.Math.ListN.{set, length-set}
@@ -8,14 +8,10 @@ use Rattle.std.proofs.lemmas.List.{get_or-set_same, get_or-set_other, set-get_or
 use Rattle.audit_model.specs.Below.{above_all, count_below}
 use Rattle.audit_model.specs.declared.rules.Rules.{Rules}
 use Rattle.audit_model.specs.Meets.{are_whole, meets_rules, split_of}
-use Rattle.model_laws.proofs.Below.{count_below_same}
-use Rattle.model_laws.proofs.Connected.{count_below_le}
+use Rattle.model_laws.proofs.Below.{count_below_same, count_below_le}
 use Rattle.model_laws.proofs.Meeting.{below_above_all}
 use Rattle.region_guard.specs.Standing.{IsStanding, IsStep, IsTable, broken_in, cell, is_fitting, units_among}
 use Rattle.region_guard.proofs.Cells.{one_if, all_is_none, count_more, count_but_one, count_but_two, some_counted, split_is_counted, cell_inside, row_of_cell, place_of_cell}
-
-pub count_few : (n : ℕ) (f : ℕ → Bool) → count_below n f ≤ n
-count_few n f = count_below_le n f
 
 module _ (regions after : List ℕ) (most districts u from : ℕ) (step : IsStep regions districts after u from) where
   abbrev pub before : List ℕ
@@ -148,10 +144,10 @@ module _ (regions after : List ℕ) (most districts u from : ℕ) (step : IsStep
         omega (arith, some, split_before region)
 
     pub few_split : split_of regions before region ≤ districts
-    few_split = omega (arith, split_before region, count_few districts (λ d. nat_lt 0 (units_before region d)))
+    few_split = omega (arith, split_before region, count_below_le districts (λ d. nat_lt 0 (units_before region d)))
 
     pub few_put : units_before region to + 1 ≤ length regions
-    few_put = omega (arith, put, count_few (length regions) (λ v. (get_or regions v 0 == region) && (get_or after v 0 == to)))
+    few_put = omega (arith, put, count_below_le (length regions) (λ v. (get_or regions v 0 == region) && (get_or after v 0 == to)))
 
     pub kept_units : (r d : ℕ) → (r ≡ region → ⊥) → units_after r d ≡ units_before r d
     kept_units r d off = other_region r d off
@@ -163,7 +159,7 @@ module _ (regions after : List ℕ) (most districts u from : ℕ) (step : IsStep
   kept_splits r off = split_other r off
 
   pub broken_few : broken_in regions most before ≤ above_all regions
-  broken_few = count_few (above_all regions) (λ r. not (nat_le (split_of regions before r) most))
+  broken_few = count_below_le (above_all regions) (λ r. not (nat_le (split_of regions before r) most))
 
   pub broken_some : nat_le (split_of regions before region) most ≡ false → 1 ≤ broken_in regions most before
   broken_some h = some_counted (above_all regions) region (λ r. not (nat_le (split_of regions before r) most)) region_below
@@ -316,10 +312,6 @@ counted_on regions plan cells districts unit rows places lr lp before q d lq ld 
           let kept = get_or-set_other cells place (q * districts + d) (get_or cells place 0 + 1) 0 off in
           omega (arith, next, none, kept, before q d lq ld)
     ]
-
-pub above_push : (xs : List ℕ) (x : ℕ) → above_all (xs ++ x ∷ []) ≡ max (above_all xs) (x + 1)
-above_push [] x = omega arith
-above_push (y ∷ ys) x = omega (arith, above_push ys x)
 
 pub above_few : (n : ℕ) (xs : List ℕ) → ((k : ℕ) → k < length xs → get_or xs k 0 < n) → above_all xs ≤ n
 above_few n [] each = omega arith

@@ -28,23 +28,6 @@ pub(crate) fn count_units(
     }
 }
 
-/// How many districts have units of a region.
-fn width(cells: &[u64], rows: usize, districts: usize, region: usize) -> u32
-    requires few_rows { rows ≤ 5000 }
-    requires few { districts ≤ 200 }
-    requires places { length cells.now ≡ rows * districts }
-    requires region { region < rows }
-    ensures { result ≡ count_below districts (λ district. nat_lt 0 (cell districts cells.now region district)) }
-{
-    let mut width = 0;
-    for district in 0..districts {
-        if cells[region * districts + district] > 0 {
-            width += 1;
-        }
-    }
-    width
-}
-
 /// Writes for each region how many districts have units of it.
 pub(crate) fn count_widths(cells: &[u64], districts: usize, widths: &mut [u32])
     requires few_rows { length widths.old ≤ 5000 }
@@ -91,4 +74,21 @@ pub(crate) fn row_count(regions: &[u32]) -> u32
         }
     }
     rows
+}
+
+/// How many districts have units of a region.
+fn width(cells: &[u64], rows: usize, districts: usize, region: usize) -> u32
+    requires few_rows { rows ≤ 5000 }
+    requires few { districts ≤ 200 }
+    requires places { length cells.now ≡ rows * districts }
+    requires region { region < rows }
+    ensures { result ≡ count_below districts (λ district. nat_lt 0 (cell districts cells.now region district)) }
+{
+    let mut width = 0;
+    for district in 0..districts {
+        if cells[region * districts + district] > 0 {
+            width += 1;
+        }
+    }
+    width
 }

@@ -13,6 +13,33 @@ use audit_model::rules::Rules;
 use flip_guard::guard::Guard;
 use std::alloc::Global;
 
+/// So many judges by one test of the cut edges and one of the number of districts of a region, each with rules and counts of its own. None
+/// stands for a plan before it is reset to one. The only error is want of memory.
+pub fn region_guards<F: Fn(&SumsView) -> bool + Copy + Drop, T: Fn(u32) -> bool + Copy + Drop>(
+    alloc: Global,
+    cut: F,
+    test: T,
+    rules: &Rules,
+    districts: u32,
+    count: u32,
+) -> Result<Vec<RegionGuard<F, T>>, Memory>
+    requires cut_callable { F.IsAlwaysCallable cut }
+    requires cut_answers { (sums : Sums) (answer : Bool) → sums.cut < 2 ^ 32 → FnReturnsAt F.Fn cut sums answer → answer ≡ nat_le sums.cut rules.now.max_cut }
+    requires callable { T.IsAlwaysCallable test }
+    requires answers { (width : ℕ) (answer : Bool) → width < 2 ^ 32 → T.post test width answer → answer ≡ nat_le width rules.now.max_split }
+    requires some_regions { rules.now.regions ≢ [] }
+    requires few_regions { All (λ r. r < 5000) rules.now.regions }
+    requires districts { (1 ≤ districts) × (districts ≤ 200) }
+    ensures each { IfOk result (λ j. AreRegionGuards cut test rules.now districts j.items) }
+    ensures count { IfOk result (λ j. vec_len j ≡ count) }
+{
+    let mut judges = Vec::with_capacity(alloc, count as usize)?;
+    for _ in 0..count {
+        judges.push(region_guard_of(alloc, cut, test, rules, districts)?)?;
+    }
+    Ok(judges)
+}
+
 // One judge, with rules of its own. The only error is want of memory.
 fn region_guard_of<F: Fn(&SumsView) -> bool + Copy + Drop, T: Fn(u32) -> bool + Copy + Drop>(
     alloc: Global,
@@ -41,31 +68,4 @@ fn region_guard_of<F: Fn(&SumsView) -> bool + Copy + Drop, T: Fn(u32) -> bool + 
         max_split: rules.max_split,
     };
     RegionGuard::new(alloc, Guard::new(cut, cuts), test, own, districts)
-}
-
-/// So many judges by one test of the cut edges and one of the number of districts of a region, each with rules and counts of its own. None
-/// stands for a plan before it is reset to one. The only error is want of memory.
-pub fn region_guards<F: Fn(&SumsView) -> bool + Copy + Drop, T: Fn(u32) -> bool + Copy + Drop>(
-    alloc: Global,
-    cut: F,
-    test: T,
-    rules: &Rules,
-    districts: u32,
-    count: u32,
-) -> Result<Vec<RegionGuard<F, T>>, Memory>
-    requires cut_callable { F.IsAlwaysCallable cut }
-    requires cut_answers { (sums : Sums) (answer : Bool) → sums.cut < 2 ^ 32 → FnReturnsAt F.Fn cut sums answer → answer ≡ nat_le sums.cut rules.now.max_cut }
-    requires callable { T.IsAlwaysCallable test }
-    requires answers { (width : ℕ) (answer : Bool) → width < 2 ^ 32 → T.post test width answer → answer ≡ nat_le width rules.now.max_split }
-    requires some_regions { rules.now.regions ≢ [] }
-    requires few_regions { All (λ r. r < 5000) rules.now.regions }
-    requires districts { (1 ≤ districts) × (districts ≤ 200) }
-    ensures each { IfOk result (λ j. AreRegionGuards cut test rules.now districts j.items) }
-    ensures count { IfOk result (λ j. vec_len j ≡ count) }
-{
-    let mut judges = Vec::with_capacity(alloc, count as usize)?;
-    for _ in 0..count {
-        judges.push(region_guard_of(alloc, cut, test, rules, districts)?)?;
-    }
-    Ok(judges)
 }

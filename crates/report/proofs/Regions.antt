@@ -1,21 +1,18 @@
 -- How many regions there are, counted by marks.
-use Rattle.std.proofs.Common.{◌≡◌, ℕ, suc, ◌+◌, ◌<◌, ◌≤◌, Bool, true, false, ◌||◌, List, [], ◌∷◌, ◌++◌, length, All, refl, sym, ap, ◌∙◌, subst, cond, inl, inr, arith, set, get_or-set_same, get_or-set_other, add-one}
+use Rattle.std.proofs.Common.{◌≡◌, ℕ, suc, ◌+◌, ◌<◌, ◌≤◌, Bool, true, false, ◌||◌, List, [], ◌∷◌, ◌++◌, length, All, refl, sym, ap, ◌∙◌, subst, inl, inr, arith, set, get_or-set_same, get_or-set_other}
 use Rattle.std.specs.Prelude.{◌==◌}
 use Rattle.std.specs.List.{slice_index_or}
-use Rattle.std.proofs.lemmas.Bool.{cases_Bool, cases_eq, cond-true, cond-false, eq-eqb, ne_eqb, eqb-true}
+use Rattle.std.proofs.lemmas.Bool.{cases_Bool, cases_eq, eq-eqb, ne_eqb, eqb-true}
 use Rattle.audit_model.specs.Below.{above_all, count_below}
 use Rattle.audit_model.specs.Graph.{has}
 use Rattle.audit_model.specs.Meets.{region_count}
 use Rattle.model_laws.proofs.Below.{count_below_into}
+use Rattle.model_laws.proofs.Bools.{or_false}
 
 -- ---- the marks
 
-or_no : (b : Bool) → (b || false) ≡ b
-or_no true = refl
-or_no false = refl
-
 has_more : (xs : List ℕ) (x r : ℕ) → has (xs ++ x ∷ []) r ≡ (has xs r || (x == r))
-has_more [] x r = or_no (x == r)
+has_more [] x r = or_false (x == r)
 has_more (y ∷ xs) x r = or_both (y == r) (has (xs ++ x ∷ []) r) (has xs r) (x == r) (has_more xs x r)
   where
     or_both : (a b c d : Bool) → b ≡ (c || d) → (a || b) ≡ ((a || c) || d)
@@ -32,28 +29,10 @@ seen_more seen xs x r below so_far = elim (cases_eq r x) [
       let here : slice_index_or (set seen x true) r false ≡ true = subst (λ t. slice_index_or (set seen x true) t false ≡ true) (sym e) (get_or-set_same seen x true false below) in
       here ∙ sym (has_more xs x r ∙ ap (λ b. has xs r || b) (eq-eqb x r (sym e)) ∙ or_yes (has xs r))
   | inr off ↦
-      get_or-set_other seen x r true false off ∙ so_far ∙ sym (has_more xs x r ∙ ap (λ b. has xs r || b) (ne_eqb x r (λ e. off (sym e))) ∙ or_no (has xs r))
+      get_or-set_other seen x r true false off ∙ so_far ∙ sym (has_more xs x r ∙ ap (λ b. has xs r || b) (ne_eqb x r (λ e. off (sym e))) ∙ or_false (has xs r))
 ]
 
 -- ---- how many marks
-
-pub counted_none : (test : ℕ → Bool) → 0 ≡ count_below 0 test
-unfolding count_below
-counted_none test = refl
-
-pub counted_on : (n count : ℕ) (test : ℕ → Bool) → count ≡ count_below n test → test n ≡ true → count + 1 ≡ count_below (n + 1) test
-unfolding count_below
-counted_on n count test so_far passes =
-    let last : cond {A = ℕ} (test n) 1 0 ≡ 1 = cond-true {A = ℕ} (test n) 1 0 passes in
-    let more : count_below (n + 1) test ≡ count_below n test + cond {A = ℕ} (test n) 1 0 = rw add-one refl in
-    omega (arith, so_far, last, more)
-
-pub counted_off : (n count : ℕ) (test : ℕ → Bool) → count ≡ count_below n test → test n ≡ false → count ≡ count_below (n + 1) test
-unfolding count_below
-counted_off n count test so_far fails =
-    let last : cond {A = ℕ} (test n) 1 0 ≡ 0 = cond-false {A = ℕ} (test n) 1 0 fails in
-    let more : count_below (n + 1) test ≡ count_below n test + cond {A = ℕ} (test n) 1 0 = rw add-one refl in
-    omega (arith, so_far, last, more)
 
 -- ---- no region has a number past the marks
 

@@ -50,6 +50,7 @@ pub fn push_key(out: &mut Bytes, key: &[u8; 32]) -> Result<(), Memory>
     ensures { Appends out.old out.new (encode_lower key.now) result }
 {
     let mut digits = [0; 64];
+    // It fails only where the room is not twice the length, and here it is.
     let _ = encode_to_slice(key.as_slice(), &mut digits);
     out.append(&digits)
 }

@@ -47,6 +47,7 @@ fn report_room(job: &Job) -> usize
         length (definition.report job.now outcomes stops serial) ≤ result }
     ensures few { result ≤ 90000000 }
 {
+    // Called for what its contract says: the job is within its limits, and its start plan is legal.
     let _units = job.units();
     let lines_of_ask = job.setting().walks as usize + 2;
     FRAME_ROOM + lines_of_ask * asks_of(job).len() * LINE_ROOM

@@ -59,6 +59,7 @@ fn regions_of(job: &Job) -> &[u32]
     ensures value { result.now ≡ job.now.regions }
     ensures few { All (λ r. r < 5000) result.now }
 {
+    // Called for what its contract says: the job is within its limits, and its start plan is legal.
     let _units = job.units();
     job.rules().regions.as_slice()
 }

@@ -16,6 +16,7 @@ pub fn push_shift_line(job: &Job, sorted: &[Outcome], out: &mut Bytes) -> Result
     requires { AreOutcomesOf job.now sorted.now }
     ensures { Appends out.old out.new (definition.shift_line job.now.setting.shift sorted.now) result }
 {
+    // Called for what its contract says: the job is within its limits, and its start plan is legal.
     let _units = job.units();
     if !job.setting().shift {
         return Ok(());

@@ -58,6 +58,7 @@ fn push_stopped_line(
     requires stop { IsStop job.now.setting.ends stop }
     ensures { Appends out.old out.new (definition.stopped_line job.now (ask, stop)) result }
 {
+    // Called for what its contract says: the job is within its limits, and its start plan is legal.
     let _units = job.units();
     let [place, top, of] = stop;
     push_line(

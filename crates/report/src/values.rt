@@ -13,6 +13,7 @@ use scores::denominator;
 pub fn denominator_of(job: &Job, score: Score) -> u64
     ensures { result ≡ definition.denominator score job.now.districts (total_votes job.now) }
 {
+    // Called for what its contract says: the job is within its limits, and its start plan is legal.
     let _units = job.units();
     denominator(score, job.districts(), job.votes())
 }
@@ -23,6 +24,7 @@ pub fn visits(job: &Job) -> u64
     ensures value { result ≡ job.now.setting.steps + 1 }
     ensures few { result ≤ 1000000001 }
 {
+    // Called for what its contract says: the job is within its limits, and its start plan is legal.
     let _units = job.units();
     u64::from(job.setting().steps) + 1
 }
@@ -33,6 +35,7 @@ pub fn ranked(job: &Job) -> u64
     ensures value { result ≡ job.now.setting.ends + 1 }
     ensures few { result ≤ 100001 }
 {
+    // Called for what its contract says: the job is within its limits, and its start plan is legal.
     let _units = job.units();
     u64::from(job.setting().ends) + 1
 }
@@ -43,6 +46,7 @@ pub fn asks_of(job: &Job) -> &[Ask]
     ensures value { result.now ≡ job.now.setting.asks }
     ensures few { length result.now ≤ 4 }
 {
+    // Called for what its contract says: the job is within its limits, and its start plan is legal.
     let _units = job.units();
     job.setting().asks.as_slice()
 }

@@ -1,4 +1,3 @@
-pub mod Few
 pub mod Marking
 pub mod Stepping
 pub mod Complete

@@ -1,25 +1,11 @@
 -- Marks on ids, and the ids that are to do.
-use Rattle.std.proofs.Common.{◌≡◌, ℕ, zero, suc, ◌+◌, ◌-◌, ◌<◌, ◌≤◌, Bool, true, false, cond, ◌||◌, List, [], ◌∷◌, ◌++◌, length, take, drop, All, get_or, set, refl, sym, ap, ◌∙◌, subst, inl, inr, arith, length-append, get_or-set_same, get_or-set_other}
+use Rattle.std.proofs.Common.{◌≡◌, ℕ, zero, suc, ◌+◌, ◌-◌, ◌<◌, ◌≤◌, Bool, true, false, ◌||◌, List, [], ◌∷◌, ◌++◌, length, take, drop, All, get_or, set, refl, sym, ap, ◌∙◌, subst, inl, inr, arith, get_or-set_same, get_or-set_other}
 use Rattle.std.specs.Prelude.{◌==◌}
-use Rattle.std.proofs.lemmas.Bool.{or_cases, false≢true, or_left, or_right, cases_eq, eq-eqb, ne_eqb}
+use Rattle.std.proofs.lemmas.Bool.{or_left, or_right, cases_eq, eq-eqb, ne_eqb}
 use Rattle.std.proofs.lemmas.List.{append-nil, take_all, drop_all}
 use Rattle.std.proofs.lemmas.List.Folds.{list_any-append}
-use Rattle.audit_model.specs.Below.{filter_below}
 use Rattle.audit_model.specs.Graph.{has}
-
-pub length-filter_below : (n : ℕ) (test : ℕ → Bool) → length (filter_below n test) ≤ n
-length-filter_below zero test = omega arith
-length-filter_below (suc n) test = omega (arith, length-filter_below n test, length-append (filter_below n test) (cond (test n) (n ∷ []) []), one (test n))
-  where
-    one : (b : Bool) → length (cond b (n ∷ []) []) ≤ 1
-    one true = omega arith
-    one false = omega arith
-
-pub filter_below_same : (n : ℕ) (p q : ℕ → Bool) → ((k : ℕ) → k < n → p k ≡ q k) → filter_below n p ≡ filter_below n q
-filter_below_same zero p q same = refl
-filter_below_same (suc n) p q same =
-    ap (λ xs. xs ++ cond (p n) (n ∷ []) []) (filter_below_same n p q (λ k l. same k (omega arith)))
-    ∙ ap (λ b. filter_below n q ++ cond b (n ∷ []) []) (same n (omega arith))
+use Rattle.model_laws.proofs.Bools.{or_false}
 
 pub take_whole : (n : ℕ) (xs : List ℕ) → length xs ≤ n → take n xs ≡ xs
 take_whole zero [] l = refl
@@ -55,14 +41,6 @@ take_split (suc a) (suc b) (x ∷ xs) l =
     same : b - a ≡ suc b - suc a
     same = omega arith
 
-pub has-take : (n : ℕ) (xs : List ℕ) (x : ℕ) → has (take n xs) x ≡ true → has xs x ≡ true
-has-take zero xs x h = absurd (false≢true h)
-has-take (suc n) [] x h = h
-has-take (suc n) (y ∷ xs) x h = elim (or_cases (y == x) (has (take n xs) x) h) [
-  | inl e ↦ or_left (y == x) (has xs x) e
-  | inr e ↦ or_right (y == x) (has xs x) (has-take n xs x e)
-]
-
 pub has-drop : (n : ℕ) (xs : List ℕ) (x : ℕ) → has (drop n xs) x ≡ true → has xs x ≡ true
 has-drop zero xs x h = h
 has-drop (suc n) [] x h = h
@@ -80,18 +58,14 @@ written new old n same all =
     ∙ ap (take n) (append-nil new) ∙ take_all n new (omega (arith, same, all))
 
 -- the marks are those of before and of the first ids of the list
-abbrev pub IsMarked : List Bool → List Bool → List ℕ → Type 0
-IsMarked before marks ids = (id : ℕ) → id < length before → get_or marks id false ≡ (get_or before id false || has ids id)
+abbrev pub AreMarked : List Bool → List Bool → List ℕ → Type 0
+AreMarked before marks ids = (id : ℕ) → id < length before → get_or marks id false ≡ (get_or before id false || has ids id)
 
-or_false : (b : Bool) → (b || false) ≡ b
-or_false true = refl
-or_false false = refl
-
-pub marked_none : (before : List Bool) → IsMarked before before []
+pub marked_none : (before : List Bool) → AreMarked before before []
 marked_none before id l = sym (or_false (get_or before id false))
 
-pub marked_more : (before marks : List Bool) (ids : List ℕ) (k next x : ℕ) → IsMarked before marks (take k ids) → length marks ≡ length before
-    → k < length ids → next ≡ k + 1 → x ≡ get_or ids k 0 → IsMarked before (set marks x true) (take next ids)
+pub marked_more : (before marks : List Bool) (ids : List ℕ) (k next x : ℕ) → AreMarked before marks (take k ids) → length marks ≡ length before
+    → k < length ids → next ≡ k + 1 → x ≡ get_or ids k 0 → AreMarked before (set marks x true) (take next ids)
 marked_more before marks ids k next x marked width l is_next is id inside =
     by id inside ∙ ap (λ b. get_or before id false || b) (sym grown)
   where

@@ -1,5 +1,5 @@
 -- What is kept at each event.
-use Rattle.std.proofs.Common.{◌≡◌, ℕ, zero, suc, ◌+◌, ◌-◌, ◌<◌, ◌≤◌, Bool, true, false, not, ◌||◌, List, [], ◌∷◌, ◌++◌, length, take, drop, get_or, set, replicate, Option, Some, None, All, refl, sym, ap, ◌∙◌, subst, arith, length-append, length-set}
+use Rattle.std.proofs.Common.{◌≡◌, ℕ, ◌+◌, ◌-◌, ◌<◌, ◌≤◌, Bool, true, false, not, ◌||◌, List, [], ◌∷◌, ◌++◌, length, take, drop, get_or, set, replicate, Option, Some, None, All, refl, sym, ap, ◌∙◌, subst, arith, length-append, length-set}
 use Rattle.std.specs.Prelude.{◌==◌, slice_get}
 use Rattle.std.proofs.lemmas.Bool.{false≢true}
 use Rattle.std.proofs.lemmas.List.{append-nil, length-take-le, length-replicate, get_or-replicate}
@@ -7,32 +7,21 @@ use Rattle.std.proofs.lemmas.List.Folds.{list_any-append}
 use Rattle.std.proofs.lemmas.Option.{slice_get-get_or, slice_get_past}
 use Rattle.audit_model.specs.declared.outcome.Did.{Did}
 use Rattle.audit_model.specs.declared.outcome.Did.TheVariants.{Claimed, Empty, Posted, Saved, Halted}
-use Rattle.audit_model.specs.declared.outcome.Event.{Event}
 use Rattle.audit_model.specs.declared.outcome.Event.TheVariants.{Claim, Post, Save, Halt}
 use Rattle.audit_model.specs.Apart.{AllApart}
 use Rattle.audit_model.specs.Below.{filter_below}
 use Rattle.audit_model.specs.Graph.{has}
 use Rattle.audit_model.specs.Machine.{Machine, todo, claimed, claim, post, step, IsRun, new_machine}
-use Rattle.model_laws.proofs.Running.{events_keep, fresh_run, at_is_new}
+use Rattle.model_laws.proofs.Running.{fresh_run, at_is_new, get-replicate, step_keeps}
+use Rattle.model_laws.proofs.Below.{length-filter_below, filter_below_same}
+use Rattle.model_laws.proofs.Lists.{apart_le, has-take}
 use Rattle.run_core.specs.Kept.{machine, IsKept}
-use Rattle.run_core.specs.Opening.{IsOpening}
-use Rattle.run_core.proofs.Few.{apart_le}
-use Rattle.run_core.proofs.Marking.{length-filter_below, filter_below_same, take_whole, take_front, take_split, all_from_has, has-take, has-drop, IsMarked}
-
-none_is_not_some : {A : Type 0} (x : A) → None ≡ Some x → ⊥
-none_is_not_some x h = cc
-
-same_some : {A : Type 0} (x y : A) → Some x ≡ Some y → x ≡ y
-same_some x y h = cc
+use Rattle.run_core.specs.Opening.{IsStart}
+use Rattle.run_core.proofs.Marking.{take_whole, take_front, take_split, all_from_has, has-drop, AreMarked}
 
 -- ---- openings
 
-held_none : (n k id : ℕ) → slice_get (replicate {A = Option ℕ} n None) k ≡ Some (Some id) → ⊥
-held_none zero k id h = none_is_not_some (Some id) h
-held_none (suc n) zero id h = none_is_not_some id (same_some None (Some id) h)
-held_none (suc n) (suc k) id h = held_none n k id h
-
-pub opening_is_run : (m : Machine) → IsOpening m → IsRun m
+pub opening_is_run : (m : Machine) → IsStart m → IsRun m
 opening_is_run m o = record {
   apart = subst AllApart (sym o.done) o.apart;
   below = λ id h. o.below id (subst (λ xs. has xs id ≡ true) o.done h);
@@ -46,13 +35,10 @@ opening_is_run m o = record {
 }
   where
     none_open : (w id : ℕ) → slice_get m.held w ≡ Some (Some id) → ⊥
-    none_open w id h = held_none (length m.held) w id (subst (λ xs. slice_get xs w ≡ Some (Some id)) o.held h)
+    none_open w id h = get-replicate (length m.held) w id (subst (λ xs. slice_get xs w ≡ Some (Some id)) o.held h)
 
 pub fresh_is_run : (total workers : ℕ) → IsRun (new_machine total workers)
 fresh_is_run total workers = fresh_run total total workers [] tt (λ id h. absurd (false≢true h))
-
-pub step_is_run : (m : Machine) (event : Event) → IsRun m → IsRun (step m event).0
-step_is_run m event run = events_keep m (event ∷ []) run
 
 -- ---- answers
 
@@ -94,7 +80,7 @@ module _ (total started saved : ℕ) (done : List ℕ) (next : ℕ) (held : List
   pub kept_claim : (w id : ℕ) → slice_get held w ≡ Some None → next < length ids → id ≡ get_or ids next 0
       → IsKept (machine total started saved done (next + 1) (set held w (Some id))) started saved ids marks
   kept_claim w id free within is = record {
-    run = subst (λ (r : Machine × Did). IsRun r.0) (sym (claim_is w id free within is)) (step_is_run (machine total started saved done next held) (Claim w) kept.run);
+    run = subst (λ (r : Machine × Did). IsRun r.0) (sym (claim_is w id free within is)) (step_keeps (machine total started saved done next held) (Claim w) kept.run);
     small = kept.small;
     workers = length-set held w (Some id) ∙ kept.workers;
     start_saved = kept.start_saved;
@@ -119,7 +105,7 @@ module _ (total started saved : ℕ) (done : List ℕ) (next : ℕ) (held : List
     post_is = ap (λ (m : Machine). (m, Posted id)) fronts ∙ post_by (machine total started saved done next held) w (Some (Some id)) open_id
 
     run_after : IsRun (machine total started saved (done ++ id ∷ []) next (set held w None))
-    run_after = subst (λ (r : Machine × Did). IsRun r.0) (sym post_is) (step_is_run (machine total started saved done next held) (Post w) kept.run)
+    run_after = subst (λ (r : Machine × Did). IsRun r.0) (sym post_is) (step_keeps (machine total started saved done next held) (Post w) kept.run)
 
     pub done_room : length done < total
     done_room = omega (arith, done_le (machine total started saved (done ++ id ∷ []) next (set held w None)) run_after, length-append done (id ∷ []))
@@ -146,7 +132,7 @@ module _ (total started saved : ℕ) (done : List ℕ) (next : ℕ) (held : List
 
   pub kept_save : (count : ℕ) → count ≡ length done → IsKept (machine total started count done next held) started count ids marks
   kept_save count is = record {
-    run = subst (λ (r : Machine × Did). IsRun r.0) (sym (save_is count is)) (step_is_run (machine total started saved done next held) Save kept.run);
+    run = subst (λ (r : Machine × Did). IsRun r.0) (sym (save_is count is)) (step_keeps (machine total started saved done next held) Save kept.run);
     small = kept.small;
     workers = kept.workers;
     start_saved = omega (arith, is, kept.start_saved, kept.saved_done);
@@ -173,7 +159,7 @@ module _ (total started saved : ℕ) (done : List ℕ) (next : ℕ) (held : List
         → new_ids ≡ filter_below total (λ id. not (get_or new_marks id false))
         → IsKept (machine total saved saved (take saved done) 0 nobody) saved saved new_ids new_marks
     kept_halt new_ids new_marks width marked listed = record {
-      run = subst (λ (r : Machine × Did). IsRun r.0) (sym halt_is) (step_is_run (machine total started saved done next held) Halt kept.run);
+      run = subst (λ (r : Machine × Did). IsRun r.0) (sym halt_is) (step_keeps (machine total started saved done next held) Halt kept.run);
       small = kept.small;
       workers = ap length none ∙ length-replicate {A = Option ℕ} 32 None;
       start_saved = omega arith;
@@ -196,7 +182,7 @@ module _ (total started saved : ℕ) (done : List ℕ) (next : ℕ) (held : List
       halt_steps = ap (λ (m : Machine). (m, Halted)) halted ∙ halt_is
 
       pub kept_halted : (new_ids : List ℕ) (new_marks : List Bool) → length new_marks ≡ total
-          → IsMarked marks new_marks (take (saved - started) (drop started done))
+          → AreMarked marks new_marks (take (saved - started) (drop started done))
           → new_ids ≡ filter_below (length new_marks) (λ id. not (get_or new_marks id false))
           → IsKept (machine count saved saved kept_ids 0 nobody) saved saved new_ids new_marks
       kept_halted new_ids new_marks width marked listed =

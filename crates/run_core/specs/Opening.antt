@@ -1,11 +1,11 @@
--- The states from which a run may start.
+-- The states in which a run may start.
 use Rattle.std.specs.Prelude.{◌≡◌, ℕ, ◌<◌, IsTrue, length, replicate, None}
 use Rattle.audit_model.specs.Apart.{AllApart}
 use Rattle.audit_model.specs.Graph.{has}
 use Rattle.audit_model.specs.Machine.{Machine}
 
 -- what was done at the start is also what was saved and what is done: different ids below the total; nothing is held, and nothing was claimed
-pub record IsOpening (m : Machine) : Type 0 where
+pub record IsStart (m : Machine) : Type 0 where
   pub saved : m.saved ≡ m.start
   pub done : m.done ≡ m.start
   pub apart : AllApart m.start

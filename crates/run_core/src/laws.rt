@@ -8,7 +8,7 @@ ghost use Rattle.audit_model.specs.Machine.{Machine, IsRun, new_machine, step, s
 ghost use Rattle.audit_model.specs.Run.{total};
 ghost use Rattle.audit_model.specs.Trajectory.{Draws, outcome, sequence};
 ghost use Rattle.outcome_book.specs.Booked.{by_id};
-ghost use Rattle.run_core.specs.Opening.{IsOpening};
+ghost use Rattle.run_core.specs.Opening.{IsStart};
 
 use outcome_book::laws::outcomes_by_id_are_mapped;
 
@@ -16,7 +16,7 @@ use outcome_book::laws::outcomes_by_id_are_mapped;
 /// among them, and each id that was claimed is either done or open under one worker, and no other id is open.
 pub fn runs_stay_right()
     ensures fresh { (total workers : ℕ) (events : List Event) → IsRun (state_after (new_machine total workers) events) }
-    ensures resumed { (m : Machine) (events : List Event) → IsOpening m → IsRun (state_after m events) }
+    ensures resumed { (m : Machine) (events : List Event) → IsStart m → IsRun (state_after m events) }
     ensures step { (m : Machine) (event : Event) → IsRun m → IsRun (step m event).0 }
     ensures events { (m : Machine) (events : List Event) → IsRun m → IsRun (state_after m events) }
 {}

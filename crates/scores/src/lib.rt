@@ -44,7 +44,7 @@ pub fn denominator(score: Score, districts: u32, votes: u64) -> u64
 }
 
 /// How many districts the first party wins. A tie is the second party's.
-#[tactic(auto, using(crate::proofs::Below::count_below_yes, crate::proofs::Below::count_below_no, crate::proofs::Below::count_below_none, crate::proofs::Below::count_below_le))]
+#[tactic(auto, using(crate::proofs::Below::count_below_yes, crate::proofs::Below::count_below_no, model_laws::proofs::Below::count_below_zero, model_laws::proofs::Below::count_below_le))]
 fn seats(sums: &SumsView) -> u32
     requires { AreVotes sums.now.first sums.now.second }
     ensures { result ≡ definition.seats sums.now }

@@ -3,7 +3,7 @@ use Rattle.std.proofs.Common.{◌≡◌, ℕ, zero, suc, ◌+◌, ◌<◌, ◌�
 use Rattle.std.specs.Prelude.{nat_le, nat_lt, find, unwrap_or, option_map, ℤ, pos}
 use Rattle.std.specs.List.{All}
 use Rattle.std.specs.Option.{option_or}
-use Rattle.std.proofs.lemmas.Bool.{cases_eq, cases_Bool, or_cases, or_right, eq-eqb, eqb-true, leb-true, le-leb, false_from_ne_true, not_from_true}
+use Rattle.std.proofs.lemmas.Bool.{cases_eq, cases_Bool, or_cases, or_right, eq-eqb, eqb-true, leb-true, le-leb, false_from_ne_true, not_from_true, not-false}
 use Rattle.std.proofs.lemmas.List.{map-append}
 use Rattle.std.proofs.lemmas.List.Elements.{filter-append}
 use Rattle.audit_model.specs.declared.outcome.Outcome.{Outcome}
@@ -16,7 +16,8 @@ use Rattle.audit_model.specs.Run.{IsRight, has_id}
 use Rattle.audit_model.specs.Stopping.{count_in_tail, end_values, ends_before_gap, known_values, settled, some_if, stop_of, value_with_id}
 use Rattle.audit_model.specs.Trajectory.{Draws, outcome, outcome_by, plan_value, sequence, value_at}
 use Rattle.model_laws.proofs.Stopped.{stop_is_settled}
-use Rattle.sequential_test.proofs.Settled.{first_below_none, length-map_below}
+use Rattle.model_laws.proofs.First.{none_first_below}
+use Rattle.sequential_test.proofs.Settled.{length-map_below}
 
 -- ---- what is known of right outcomes
 
@@ -88,10 +89,6 @@ first_is : (n : ℕ) (test : ℕ → Bool) → IsFirst n test (unwrap_or (first_
 first_is zero test = record { within = omega arith; before = λ k l. absurd (omega (arith, l)) }
 first_is (suc n) test = first_more n test (first_below n test) (first_is n test)
 
-true_from_not : (b : Bool) → not b ≡ false → b ≡ true
-true_from_not true h = refl
-true_from_not false h = cc
-
 some_parts : (b : Bool) (x s : Stop) → some_if b x ≡ Some s → (b ≡ true) × (x ≡ s)
 some_parts true x s h = (refl, ap (λ o. unwrap_or o x) h)
 some_parts false x s h = cc
@@ -149,7 +146,7 @@ module _ (job : Job) (draws : Draws) (place : ℕ) where
 
     known_are : known_values job place outcomes ≡ map_below gap end_value
     known_are = map_below_same gap (λ j. value_with_id place outcomes (walks + j)) end_value (λ j l.
-        found_value job draws place outcomes (walks + j) right.found (true_from_not (has_id outcomes (walks + j)) (gap_is_first.before j l)))
+        found_value job draws place outcomes (walks + j) right.found (not-false (has_id outcomes (walks + j)) (gap_is_first.before j l)))
 
     final_by : (ask : Ask) (enough : ℕ) (s : Stop)
         → (nat_le enough (count_in_tail ask.tail (plan_value job job.start ask.score) (known_values job place outcomes)) ≡ true)
@@ -182,7 +179,7 @@ pub all_are_settled : (job : Job) (place : ℕ) (ask : Ask) (enough : ℕ) (outc
     → settled job (place, ask) enough outcomes ≡ Some (stop_of job (place, ask) (known_values job place outcomes) enough)
 all_are_settled job place ask enough outcomes there =
     let known : ends_before_gap job outcomes ≡ job.setting.ends =
-    ap (λ o. unwrap_or o job.setting.ends) (first_below_none job.setting.ends (λ j. not (has_id outcomes (job.setting.walks + j)))
+    ap (λ o. unwrap_or o job.setting.ends) (none_first_below job.setting.ends (λ j. not (has_id outcomes (job.setting.walks + j)))
     (λ k l. not_from_true (has_id outcomes (job.setting.walks + k)) (there k l))) in
     let values = known_values job place outcomes in
     let long : length values ≡ job.setting.ends =

@@ -15,7 +15,8 @@ use Rattle.audit_model.specs.Job.{Job}
 use Rattle.audit_model.specs.Run.{has_id}
 use Rattle.audit_model.specs.Stopping.{count_in_tail, settled, some_if, stop, stopped_at, value_with_id}
 use Rattle.audit_model.specs.Trajectory.{in_tail, plan_value}
-use Rattle.model_laws.proofs.Connected.{count_below_le}
+use Rattle.model_laws.proofs.Below.{count_below_le}
+use Rattle.model_laws.proofs.First.{none_first_below}
 use Rattle.sequential_test.specs.Ranks.{ends_below, tails_below}
 use Rattle.sequential_test.proofs.Ranks.{AreApart, ends_counted, tails_counted, ends_ranked}
 
@@ -60,17 +61,11 @@ count_rises (suc n) m test l = elim (cases_eq m (suc n)) [
 
 -- ---- the first below a bound
 
-pub first_below_none : (n : ℕ) (test : ℕ → Bool) → ((k : ℕ) → k < n → test k ≡ false) → first_below n test ≡ None
-first_below_none zero test none = refl
-first_below_none (suc n) test none =
-    ap (λ o. option_or o (cond (test n) (Some n) None)) (first_below_none n test (λ k l. none k (omega arith)))
-    ∙ cond-false (test n) (Some n) None (none n (omega arith))
-
 pub first_below_is : (n : ℕ) (test : ℕ → Bool) (k : ℕ) → k < n → ((j : ℕ) → j < k → test j ≡ false) → test k ≡ true → first_below n test ≡ Some k
 first_below_is zero test k l none hit = absurd (omega arith)
 first_below_is (suc n) test k l none hit = elim (cases_eq k n) [
   | inl e ↦
-      ap (λ o. option_or o (cond (test n) (Some n) None)) (first_below_none n test (λ j less. none j (omega (arith, less, e))))
+      ap (λ o. option_or o (cond (test n) (Some n) None)) (none_first_below n test (λ j less. none j (omega (arith, less, e))))
       ∙ cond-true (test n) (Some n) None (subst (λ m. test m ≡ true) e hit) ∙ ap Some (sym e)
   | inr off ↦ ap (λ o. option_or o (cond (test n) (Some n) None)) (first_below_is n test k (omega arith) none hit)
 ]
@@ -154,7 +149,7 @@ module _ (tail : Tail) (start : ℤ) (g : ℕ) (f : ℕ → ℤ) (enough : ℕ) 
   -- all ends are there, and too few in the tail
   pub ended : inside g < enough → Some (record { place = g; top = inside g + 1; of = g + 1 }) ≡ settled_from g tail start values enough
   ended few =
-      let none : first_below (length values + 1) reached ≡ None = first_below_none (length values + 1) reached
+      let none : first_below (length values + 1) reached ≡ None = none_first_below (length values + 1) reached
       (λ k l. too_few k (omega (arith, l, length-map_below g f)) (let lower = count_rises g k (λ j. in_tail tail (f j) start) (omega (arith, l, length-map_below g f)) in omega (arith, lower, few))) in
       let stop_is : stop tail start values enough ≡ record { place = g; top = inside g + 1; of = g + 1 } =
       ap (stopped_at enough tail start values) none ∙ three (length-map_below g f) all_counted in
@@ -207,7 +202,7 @@ module _ (walks ends g : ℕ) (outcomes : List Outcome) (apart : AreApart outcom
         (λ j less. not_from_true (there j) (all_there j less)) (not_from_false (there g) (missing l)))
     | inr past ↦
         let e : ends ≡ g = omega (arith, past, h.within) in
-        ap (λ o. unwrap_or o ends) (first_below_none ends (λ j. not (there j)) (λ j less. not_from_true (there j) (all_there j (omega (arith, less, e))))) ∙ e
+        ap (λ o. unwrap_or o ends) (none_first_below ends (λ j. not (there j)) (λ j less. not_from_true (there j) (all_there j (omega (arith, less, e))))) ∙ e
   ]
 
   -- the count of ends in the tail is that of their values by place

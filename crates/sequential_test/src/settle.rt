@@ -22,6 +22,36 @@ struct EndTest {
     tail: Tail,
 }
 
+/// What the outcomes that are there settle for an ask: the place at which Besag and Clifford's test stops that needs `h` ends in the tail,
+/// and its p-value as a fraction. The outcomes may be in any order, and some may be past that place.
+///
+/// Only ends by rising id up to the first that is missing count. Where `h` of these are in the tail, the place is the least number of them
+/// among which there are `h`, and the fraction is `h` out of that number. Where fewer are and none is missing, the place is the number of
+/// all ends, and the fraction is one more than are in the tail out of one more than there are. Elsewhere nothing is settled: `None`. It
+/// takes no memory.
+pub fn settle(job: &Job, ask: u32, h: u32, posted: &[Outcome]) -> Option<Stop>
+    requires ask { ask < length job.now.setting.asks }
+    requires some { 1 ≤ h }
+    requires apart { AllPairs (λ a b. a.id ≡ b.id → ⊥) posted.now }
+    ensures settled { IfSome (slice_get job.now.setting.asks ask) (λ asked. result ≡ settled job.now (ask, asked) h posted.now) }
+    ensures part { IfSome result (λ s. (s.place ≤ job.now.setting.ends) × (1 ≤ s.top) × (s.top ≤ s.of) × (s.of ≤ job.now.setting.ends + 1)) }
+{
+    // Called for what its contract says: the job is within its limits, and its start plan is legal.
+    let _units = job.units();
+    let setting = job.setting();
+    let place = ask as usize;
+    let tail = setting.asks.as_slice()[place].tail;
+    settle_values(
+        setting.walks,
+        setting.ends,
+        tail,
+        job.start_value(ask),
+        place,
+        h,
+        posted,
+    )
+}
+
 /// How many of the first `n` ends are there.
 fn count_ends(walks: u32, posted: &[Outcome], n: u32) -> usize
     requires few { walks + n ≤ 100000 }
@@ -136,35 +166,6 @@ fn settle_values(
         top: inside as u32 + 1,
         of: known + 1,
     })
-}
-
-/// What the outcomes that are there settle for an ask: the place at which Besag and Clifford's test stops that needs `h` ends in the tail,
-/// and its p-value as a fraction. The outcomes may be in any order, and some may be past that place.
-///
-/// Only ends by rising id up to the first that is missing count. Where `h` of these are in the tail, the place is the least number of them
-/// among which there are `h`, and the fraction is `h` out of that number. Where fewer are and none is missing, the place is the number of
-/// all ends, and the fraction is one more than are in the tail out of one more than there are. Elsewhere nothing is settled: `None`. It
-/// takes no memory.
-pub fn settle(job: &Job, ask: u32, h: u32, posted: &[Outcome]) -> Option<Stop>
-    requires ask { ask < length job.now.setting.asks }
-    requires some { 1 ≤ h }
-    requires apart { AllPairs (λ a b. a.id ≡ b.id → ⊥) posted.now }
-    ensures settled { IfSome (slice_get job.now.setting.asks ask) (λ asked. result ≡ settled job.now (ask, asked) h posted.now) }
-    ensures part { IfSome result (λ s. (s.place ≤ job.now.setting.ends) × (1 ≤ s.top) × (s.top ≤ s.of) × (s.of ≤ job.now.setting.ends + 1)) }
-{
-    let _units = job.units();
-    let setting = job.setting();
-    let place = ask as usize;
-    let tail = setting.asks.as_slice()[place].tail;
-    settle_values(
-        setting.walks,
-        setting.ends,
-        tail,
-        job.start_value(ask),
-        place,
-        h,
-        posted,
-    )
 }
 
 #[cfg(test)]

@@ -1,23 +1,16 @@
 -- Powers of two divide 2 ^ 64.
-use Rattle.std.proofs.Common.{◌≡◌, ◌∙◌, ℕ, zero, suc, ◌+◌, ◌-◌, ◌*◌, ◌^◌, ◌<◌, ◌≤◌, Bool, true, ◌||◌, ap, sym, subst, arith, inl, inr}
+use Rattle.std.proofs.Common.{◌≡◌, ◌∙◌, ℕ, ◌+◌, ◌-◌, ◌*◌, ◌^◌, ◌≤◌, true, ap, sym, arith, inl, inr}
 use Rattle.std.specs.Prelude.{◌==◌}
 use Rattle.std.proofs.Math.Pow.{pow_mono}
-use Rattle.std.proofs.lemmas.Bool.{cases_Bool, cases_lt, eqb-true}
+use Rattle.std.proofs.lemmas.Bool.{cases_lt, eqb-true}
 use Rattle.std.proofs.lemmas.Nat.{pow-add}
-use Rattle.audit_model.specs.Below.{any_below}
 use Rattle.audit_model.specs.Power.{is_power_of_two}
+use Rattle.model_laws.proofs.Below.{any_below_some}
 use Rattle.serial_test.specs.Places.{ArePlaces, DividesDraws}
-
-some_below : (n : ℕ) (test : ℕ → Bool) → any_below n test ≡ true → (k : ℕ) × (k < n) × (test k ≡ true)
-some_below zero test h = cc
-some_below (suc n) test h = elim (cases_Bool (any_below n test)) [
-  | inl before ↦ let some = some_below n test before in (some.0, omega (arith, some.1), some.2)
-  | inr none ↦ (n, omega arith, subst (λ b. (b || test n) ≡ true) none h)
-]
 
 pub divides_draws : (of : ℕ) → ArePlaces of → DividesDraws of
 divides_draws of h =
-    let some = some_below 64 (λ k. 2 ^ k == of) h.power in
+    let some = any_below_some 64 (λ k. 2 ^ k == of) h.power in
     let k = some.0 in
     let same : 2 ^ k ≡ of = eqb-true (2 ^ k) of some.2 in
     let rest : (64 - k) + k ≡ 64 = omega (arith, some.1) in
@@ -32,7 +25,7 @@ few_places k n same few = elim (cases_lt k 30) [
 -- a run of at most 10 ^ 9 steps that visits as many plans as a power of two visits at most 2 ^ 29
 pub run_has_places : (steps : ℕ) → 1 ≤ steps → steps ≤ 1000000000 → is_power_of_two (steps + 1) ≡ true → ArePlaces (steps + 1)
 run_has_places steps some few power =
-    let found = some_below 64 (λ k. 2 ^ k == steps + 1) power in
+    let found = any_below_some 64 (λ k. 2 ^ k == steps + 1) power in
     record {
       some = omega (arith, some);
       few = few_places found.0 (steps + 1) (eqb-true (2 ^ found.0) (steps + 1) found.2) (omega (arith, few));

@@ -1,33 +1,19 @@
 -- The ranks that both runs give are the definition's.
-use Rattle.std.proofs.Common.{◌≡◌, ◌∙◌, ℕ, zero, suc, ◌+◌, ◌-◌, ◌<◌, ◌≤◌, Bool, true, false, cond, List, [], ◌∷◌, ◌++◌, length, map, take, replicate, ap, refl, arith}
-use Rattle.std.specs.Prelude.{ℤ, pos, negsuc, int_le, slice_index}
-use Rattle.std.proofs.lemmas.Bool.{le-leb}
+use Rattle.std.proofs.Common.{◌≡◌, ◌∙◌, ℕ, zero, suc, ◌+◌, ◌-◌, ◌<◌, ◌≤◌, Bool, cond, List, [], ◌∷◌, ◌++◌, length, map, take, replicate, ap, refl, arith}
+use Rattle.std.specs.Prelude.{pos, slice_index}
 use Rattle.std.proofs.Math.Path.{fun_ext}
 use Rattle.audit_model.specs.declared.setting.Ask.{Ask}
-use Rattle.audit_model.specs.declared.setting.Tail.{Tail}
-use Rattle.audit_model.specs.declared.setting.Tail.TheVariants.{Low, High}
 use Rattle.audit_model.specs.declared.outcome.Outcome.{Outcome}
 use Rattle.audit_model.specs.declared.outcome.Serial.{Serial}
 use Rattle.audit_model.specs.Below.{count_below}
 use Rattle.audit_model.specs.Job.{Job}
 use Rattle.audit_model.specs.Serially.{later_visits_in_tail, run_outcome, serial_at, serial_of, serial_place, serial_rank}
 use Rattle.audit_model.specs.Trajectory.{Draws, four_values, in_tail, moves, plan_value, visit, visits_in_tail}
-use Rattle.model_laws.proofs.Connected.{count_below_le}
+use Rattle.model_laws.proofs.Below.{count_below_le}
+use Rattle.model_laws.proofs.Fitting.{one_of, in_own_tail}
 use Rattle.serial_test.specs.Ranks.{HasRanks, ranks_of}
 
 -- ---- the start plan is in its own tail
-
-le_self : (v : ℤ) → int_le v v ≡ true
-le_self (pos n) = le-leb n n (omega arith)
-le_self (negsuc n) = le-leb n n (omega arith)
-
-in_own_tail : (tail : Tail) (v : ℤ) → in_tail tail v v ≡ true
-in_own_tail Low v = le_self v
-in_own_tail High v = le_self v
-
-one_of : (b : Bool) → b ≡ true → cond {A = ℕ} b 1 0 ≡ 1
-one_of true e = refl
-one_of false e = cc
 
 -- the first number beside the others
 count_below_first : (n : ℕ) (test : ℕ → Bool) → count_below (suc n) test ≡ cond (test 0) 1 0 + count_below n (λ i. test (suc i))

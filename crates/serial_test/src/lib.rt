@@ -2,8 +2,8 @@
 //! start plan's rank among all plans of the run. It needs no hub, and each step counts.
 #![tactic(auto)]
 
-pub mod place;
-pub mod ranks;
+mod place;
+mod ranks;
 pub mod run;
 
 pub use audit_model::outcome;

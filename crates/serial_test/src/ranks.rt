@@ -3,13 +3,6 @@
 ghost use Rattle.std.specs.Prelude.{◌≡◌, ◌+◌, ◌-◌, ◌<◌, ◌∷◌, [], slice_index, unsigned_abs};
 ghost use Rattle.serial_test.specs.Ranks.{rank_of, ranks_of};
 
-/// How many plans of both runs are in the tail of an ask, where the start plan counts once. It is 0 where both numbers are, as they are past the asks.
-fn rank(forward: i64, backward: i64) -> u64
-    ensures { result ≡ rank_of forward backward }
-{
-    forward.unsigned_abs() + backward.unsigned_abs().saturating_sub(1)
-}
-
 /// The rank at each of four places.
 pub fn ranks(forward: [i64; 4], backward: [i64; 4]) -> [u64; 4]
     ensures { result ≡ ranks_of forward backward }
@@ -20,4 +13,11 @@ pub fn ranks(forward: [i64; 4], backward: [i64; 4]) -> [u64; 4]
         rank(forward[2], backward[2]),
         rank(forward[3], backward[3]),
     ]
+}
+
+/// How many plans of both runs are in the tail of an ask, where the start plan counts once. It is 0 where both numbers are, as they are past the asks.
+fn rank(forward: i64, backward: i64) -> u64
+    ensures { result ≡ rank_of forward backward }
+{
+    forward.unsigned_abs() + backward.unsigned_abs().saturating_sub(1)
 }

@@ -40,7 +40,9 @@ pub fn serial<J: Judge>(walker: &mut Walker<J>, job: &Job) -> Serial
     ensures made { (held_of walker.new).job ≡ job.now }
     ensures seated { IsSeated job.now J.keeps J.stands J.takes J.rules walker.new }
 {
+    // A law, called for what its contract says: each plan that is visited from a legal plan is legal.
     visits_stay_legal();
+    // Called for what its contract says: the job is within its limits, and its start plan is legal.
     let _units = job.units();
     let setting = job.setting();
     let steps = setting.steps;

@@ -59,6 +59,7 @@ pub fn recruit<J: Judge>(
     requires judges { AreJudges job.now J.keeps J.takes J.rules judges.items }
     ensures { IfOk result (IsStoppingCrew J.keeps J.stands J.takes J.rules job.now (vec_len judges)) }
 {
+    // Called for what its contract says: the job is within its limits, and its start plan is legal.
     let _units = job.units();
     let seats = judges.len() as u32;
     let walks = Part::new(alloc, job.setting().walks, seats)?;

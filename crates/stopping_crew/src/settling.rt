@@ -18,6 +18,7 @@ pub fn settle_all(job: &Job, outcomes: &[Outcome]) -> Option<[[u32; 3]; 4]>
     ensures four { IfSome result (λ stops. length stops ≡ 4) }
     ensures none { IfNone result (AreSettled job.now outcomes.now → ⊥) }
 {
+    // Called for what its contract says: the job is within its limits, and its start plan is legal.
     let _units = job.units();
     let enough = job.setting().stop;
     let mut stops = [[0; 3]; 4];

@@ -63,9 +63,11 @@ fn walk_to<R: Threads + Sync, J: Judge + Send, G: Gate + Sync>(
     ensures rising { AllPairs (λ a b. a.id ≡ b.id → ⊥) sorted.new.items }
     ensures room { total job.now ≤ length sorted.new.items + sorted.new.spare }
 {
+    // A law, called for what its contract says: the outcomes by id are what is found of the ids in turn.
     outcomes_by_id_are_mapped();
     let ids = ids_from(todo, from, to);
     walk_part(rt, job, ids, gate, part, team, seats, book);
+    // Called for what its contract says: the book holds no more than it has room for.
     let _all = book.len();
     book.sorted_into(sorted);
 }
@@ -97,6 +99,7 @@ fn walk_rounds<R: Threads + Sync, J: Judge + Send, G: Gate + Sync>(
     ensures parts { AreParts job.now.setting.ends (length job.now.setting.asks) result }
     ensures four { length result ≡ 4 }
 {
+    // Called for what their contracts say: where no end is missing every test has stopped, and the job is within its limits.
     all_ends_settle();
     let _units = job.units();
     let walks = job.setting().walks;
@@ -150,6 +153,7 @@ pub fn walk_to_stops<R: Threads + Sync, J: Judge + Send, G: Gate + Sync>(
     ensures parts { AreParts job.now.setting.ends (length job.now.setting.asks) result }
     ensures four { length result ≡ 4 }
 {
+    // Called for what their contracts say: a stop that is settled stays so whatever ends follow, and the job is within its limits.
     settled_stops_are_final();
     let _units = job.units();
     let StoppingCrew {

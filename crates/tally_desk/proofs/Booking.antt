@@ -8,13 +8,13 @@ use Rattle.std.proofs.lemmas.List.Folds.{list_all-append, list_any-append}
 use Rattle.audit_model.specs.declared.outcome.Outcome.{Outcome}
 use Rattle.audit_model.specs.Job.{Job}
 use Rattle.audit_model.specs.Run.{total, fits, has_id}
-use Rattle.claim_counter.specs.Records.{times}
+use Rattle.model_laws.specs.Times.{times}
+use Rattle.model_laws.proofs.Times.{one, times-cons, one_same}
 use Rattle.outcome_book.specs.Booked.{by_id, with_id}
 use Rattle.tally_desk.specs.declared.entry.Entry.{Entry}
 use Rattle.tally_desk.specs.Entries.{id_of, ids_of, up_to_save}
 use Rattle.tally_desk.specs.Homes.{booked}
 use Rattle.tally_desk.specs.Parts.{Parts, IsPlan, found}
-use Rattle.tally_desk.proofs.Counting.{one, times-cons, one_same}
 use Rattle.tally_desk.proofs.Found.{found_fits, found_id}
 use Rattle.tally_desk.proofs.Marking.{ids_up_to_save}
 use Rattle.tally_desk.proofs.Todo.{todo_within, todo_lacked}

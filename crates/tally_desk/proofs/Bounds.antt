@@ -9,8 +9,9 @@ use Rattle.std.specs.List.Sorted.{IsPermutation}
 use mathlib.Core.List.{map-append}
 use Rattle.std.proofs.lemmas.List.Concat.{length-flat_map}
 use Rattle.claim_counter.specs.declared.record.PassRecord.{PassRecord}
-use Rattle.claim_counter.specs.Records.{times, once_below, IsCounted}
-use Rattle.tally_desk.proofs.Counting.{sum_set, sum_le, times-append, one, length-apart, times_push, permutation_below}
+use Rattle.claim_counter.specs.Records.{IsCounted}
+use Rattle.model_laws.specs.Times.{times, once_below}
+use Rattle.model_laws.proofs.Times.{sum_set, sum_le, times-append, one, length-apart, times_push, permutation_below}
 
 module _ {A : Type 0} where
   pub sum_same : (f : A → ℕ) (xs : List A) (i : ℕ) (v w : A) → get_elem? xs i ≡ some v → f v ≡ f w → sum_by f (set xs i w) ≡ sum_by f xs

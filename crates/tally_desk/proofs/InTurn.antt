@@ -5,10 +5,10 @@ use Rattle.std.proofs.lemmas.Bool.{and_cases, and_parts, eq-eqb, eqb-true, ltb-f
 use Rattle.std.proofs.lemmas.List.Sums.{sum_by-cons}
 use Rattle.audit_io.specs.Slots.{Pair, Stored, stored}
 use Rattle.audit_model.specs.Run.{total, fits}
+use Rattle.model_laws.specs.Times.{times}
 use Rattle.checkpoint_definitions.specs.Checkpoint.{job_digest}
 use Rattle.ckpt_store.specs.declared.slots.Place.{Place}
 use Rattle.ckpt_store.specs.Laws.{CheckpointsAreOurs, SavedSlotsAreNewest, newest_for, place_for}
-use Rattle.claim_counter.specs.Records.{times}
 use Rattle.outcome_book.specs.Booked.{by_id}
 use Rattle.tally_desk.specs.declared.entry.Entry.{Entry}
 use Rattle.tally_desk.specs.Entries.{AreRegular, ends_saved, ids_of, is_missed, missed, saves, up_to_save, after_save}

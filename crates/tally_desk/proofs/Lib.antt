@@ -1,6 +1,5 @@
 pub mod Booking
 pub mod Bounds
-pub mod Counting
 pub mod Events
 pub mod Found
 pub mod InTurn

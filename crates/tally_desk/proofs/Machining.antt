@@ -14,12 +14,12 @@ use Rattle.audit_model.specs.Below.{filter_below, map_below}
 use Rattle.audit_model.specs.Graph.{has}
 use Rattle.audit_model.specs.Machine.{Machine, claim, claimed, post, state_after, step, todo}
 use Rattle.audit_model.specs.Run.{total, has_id}
-use Rattle.claim_counter.specs.Records.{times}
+use Rattle.model_laws.specs.Times.{times}
+use Rattle.model_laws.proofs.Times.{one, one_same, times-cons, times_push}
 use Rattle.tally_desk.specs.declared.entry.Entry.{Entry}
 use Rattle.tally_desk.specs.Entries.{entry, id_of, ids_of, saves, up_to_save}
 use Rattle.tally_desk.specs.Machines.{machine_of, open_at, opening_ids, post_events}
 use Rattle.tally_desk.specs.Parts.{Parts, IsPlan}
-use Rattle.tally_desk.proofs.Counting.{one, one_same, times-cons, times_push}
 use Rattle.tally_desk.proofs.Marking.{saves-push, up_to_save-all, up_to_save-kept}
 use Rattle.tally_desk.proofs.Todo.{todo_once}
 

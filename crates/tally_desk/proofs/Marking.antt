@@ -1,10 +1,10 @@
 -- What one more post does to the marked posts and to those that missed a save.
 use Rattle.std.proofs.Common.{◌≡◌, ℕ, zero, suc, ◌+◌, ◌≤◌, Bool, true, false, cond, List, [], ◌∷◌, ◌++◌, refl, ap, arith}
 use Rattle.std.proofs.lemmas.List.Sums.{sum_by-cons, sum_by_push}
-use Rattle.claim_counter.specs.Records.{times}
 use Rattle.tally_desk.specs.declared.entry.Entry.{Entry}
 use Rattle.tally_desk.specs.Entries.{entry, ids_of, is_saved, is_missed, saves, missed, up_to_save, after_save, ends_saved_from}
-use Rattle.tally_desk.proofs.Counting.{times-cons}
+use Rattle.model_laws.specs.Times.{times}
+use Rattle.model_laws.proofs.Times.{times-cons}
 
 abbrev pub mark : Entry → ℕ
 mark e = cond (is_saved e) 1 0

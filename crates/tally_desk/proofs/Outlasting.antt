@@ -8,9 +8,9 @@ use Rattle.std.proofs.lemmas.List.Sums.{sum_by-append}
 use Rattle.std.proofs.lemmas.List.Elements.{All-cons, All-head, All-nil, All-tail}
 use Rattle.audit_io.specs.Tries.{Try}
 use Rattle.audit_model.specs.Run.{IsRight, fits, total}
+use Rattle.model_laws.specs.Times.{times}
 use Rattle.checkpoint_definitions.specs.Checkpoint.{job_digest}
 use Rattle.ckpt_store.specs.Histories.{AreInTurn, IsRightSave, IsSaveAt, SavesKeepTheNewest, SavesLeaveHonestSlots}
-use Rattle.claim_counter.specs.Records.{times}
 use Rattle.draw_definitions.specs.Draw.{draw}
 use Rattle.tally_desk.specs.declared.entry.Entry.{Entry}
 use Rattle.tally_desk.specs.Entries.{id_of, ids_of, is_due, saves}

@@ -9,19 +9,17 @@ use Rattle.audit_model.specs.declared.outcome.Outcome.{Outcome}
 use Rattle.audit_model.specs.Job.{Job}
 use Rattle.audit_model.specs.Run.{total}
 use Rattle.audit_model.specs.Trajectory.{outcome}
-use Rattle.claim_counter.specs.Records.{times}
+use Rattle.model_laws.specs.Times.{times}
+use Rattle.model_laws.proofs.Times.{one_same, times-cons}
+use Rattle.std.proofs.lemmas.Option.{same_Some}
 use Rattle.draw_definitions.specs.Draw.{draw}
 use Rattle.outcome_book.specs.Booked.{by_id, with_id}
 use Rattle.tally_desk.specs.Entries.{ids_of}
 use Rattle.tally_desk.specs.Homes.{booked}
 use Rattle.tally_desk.specs.Parts.{found}
 use Rattle.tally_desk.specs.Righted.{SavedOutcomesAreRight}
-use Rattle.tally_desk.proofs.Counting.{one_same, times-cons}
 use Rattle.tally_desk.proofs.Found.{found_id, found_right}
 use Rattle.tally_desk.proofs.Todo.{todo_within}
-
-same_some : (x y : Outcome) → Some x ≡ Some y → x ≡ y
-same_some x y h = cc
 
 -- what holds of each outcome holds of what is found, which has the id
 found_in : (P : Outcome → Type 0) (os : List Outcome) (id : ℕ) (o : Outcome) → All P os → with_id os id ≡ Some o → P o × (o.id ≡ id)
@@ -30,7 +28,7 @@ found_in P (x ∷ xs) id o all h = by (x.id == id) refl (λ e. found_in P xs id 
   where
     by : (b : Bool) → (x.id == id) ≡ b → (with_id xs id ≡ Some o → P o × (o.id ≡ id)) → P o × (o.id ≡ id)
     by true e rest =
-        let at : x ≡ o = same_some x o (ap (λ b. cond b (Some x) (with_id xs id)) (sym e) ∙ h) in
+        let at : x ≡ o = same_Some x o (ap (λ b. cond b (Some x) (with_id xs id)) (sym e) ∙ h) in
         (subst P at (all 0 x (omega arith)), subst (λ (y : Outcome). y.id ≡ id) at (eqb-true x.id id e))
     by false e rest = rest (ap (λ b. cond b (Some x) (with_id xs id)) (sym e) ∙ h)
 

@@ -1,11 +1,12 @@
 -- What a seat knows when it comes out of a pass and goes back.
 use Rattle.std.proofs.Common.{◌≡◌, ℕ, ◌<◌, ◌≤◌, List, [], ◌∷◌, length, get_or, sym, ap, ◌∙◌, subst, Some}
 use Rattle.atomic_table.specs.Table.{Me, Step}
-use Rattle.claim_counter.specs.Records.{times, with_claim}
+use Rattle.claim_counter.specs.Records.{with_claim}
 use Rattle.tally_desk.specs.declared.home.Home.{Home}
 use Rattle.tally_desk.specs.Desks.{DrawsPlace, claimed_ids, ended_view, with_own}
 use Rattle.tally_desk.specs.Parts.{Parts}
 use Rattle.tally_desk.specs.Views.{PassView, view_in}
+use Rattle.model_laws.specs.Times.{times}
 
 -- a badge of one view
 pub only_view : (views : List PassView) (v : PassView) → views ≡ v ∷ [] → views ≡ view_in views ∷ []

@@ -5,11 +5,11 @@ use Rattle.std.proofs.lemmas.Bool.{true≢false}
 use Rattle.audit_io.specs.Slots.{Pair, Stored, stored, other_stored}
 use Rattle.audit_model.specs.declared.outcome.Outcome.{Outcome}
 use Rattle.audit_model.specs.Run.{total, fits}
+use Rattle.model_laws.specs.Times.{times}
 use Rattle.checkpoint_definitions.specs.Checkpoint.{IsCheckpoint, checkpoint, job_digest}
 use Rattle.checkpoint_definitions.specs.Slots.{generation_of, slot_of}
 use Rattle.ckpt_store.specs.declared.slots.Place.{Place}
 use Rattle.ckpt_store.specs.Laws.{CheckpointsAreOurs, IsNewestForFitJobs, SavedSlotsAreNewest, newest_for, place_for}
-use Rattle.claim_counter.specs.Records.{times}
 use Rattle.outcome_book.specs.Booked.{by_id}
 use Rattle.tally_desk.specs.declared.entry.Entry.{Entry}
 use Rattle.tally_desk.specs.Entries.{entry, ids_of, is_missed, saves, missed, up_to_save, after_save}

@@ -13,7 +13,7 @@ use Rattle.std.proofs.lemmas.List.Sorted.{IsPermutation-map, sum_by-IsPermutatio
 use Rattle.atomic_table.specs.Table.{State, Me, step, keeps, takes, gives, stepped, put_back, rest, Allows, Splits, Joins, Final, Seen, opening}
 use Rattle.atomic_table.proofs.Lists.{at_snoc, set_again, set_else, at_map}
 use Rattle.claim_counter.specs.declared.record.PassRecord.{PassRecord}
-use Rattle.claim_counter.specs.Records.{times, once_below, IsSole, with_claim, at_end}
+use Rattle.claim_counter.specs.Records.{IsSole, with_claim, at_end}
 use Rattle.tally_desk.specs.declared.entry.Entry.{Entry}
 use Rattle.tally_desk.specs.declared.home.Home.{Home}
 use Rattle.tally_desk.specs.Counter.{CounterLaws}
@@ -23,9 +23,10 @@ use Rattle.tally_desk.specs.Parts.{Parts, IsPlan}
 use Rattle.tally_desk.specs.Passes.{HasPostedAll}
 use Rattle.tally_desk.specs.Views.{PassView, Turn, no_turn, waiting, in_turn, turn_ids, spent_view}
 use Rattle.tally_desk.proofs.Bounds.{times-first, sum_mapped, put_first, put_second, put_third}
-use Rattle.tally_desk.proofs.Counting.{sum_at, sum_sole, one, permutation_below, permutation_from_times}
 use Rattle.tally_desk.proofs.Tallying.{awaits, begun, claimed, claims_few, set_here_at, ended, in_use, merged, new_id, none_in_turn, parted, served, ticketed, tickets_bounded}
 use Rattle.tally_desk.proofs.Todo.{todo_small}
+use Rattle.model_laws.specs.Times.{times, once_below}
+use Rattle.model_laws.proofs.Times.{sum_at, sum_sole, one, permutation_below, permutation_from_times}
 
 abbrev ticket_in : Turn → ℕ
 ticket_in no_turn = 0

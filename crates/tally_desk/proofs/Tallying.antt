@@ -11,7 +11,7 @@ use Rattle.std.proofs.lemmas.List.FromFn.{length-range_with_len}
 use Rattle.std.proofs.lemmas.List.Sums.{sum_by_push, sum_by-append}
 use Rattle.atomic_table.proofs.Lists.{at_set, at_snoc, set_again, at_map, set_else}
 use Rattle.claim_counter.specs.declared.record.PassRecord.{PassRecord}
-use Rattle.claim_counter.specs.Records.{times, once_below, IsCounted, with_claim, at_end, with_less_spare, fresh, spent}
+use Rattle.claim_counter.specs.Records.{IsCounted, with_claim, at_end, with_less_spare, fresh, spent}
 use Rattle.claim_counter.specs.RecordLaws.{Has}
 use Rattle.tally_desk.specs.declared.entry.Entry.{Entry}
 use Rattle.tally_desk.specs.declared.home.Home.{Home}
@@ -21,8 +21,9 @@ use Rattle.tally_desk.specs.Entries.{entry, id_of, ids_of, is_due, ticket_of}
 use Rattle.tally_desk.specs.Parts.{Parts}
 use Rattle.tally_desk.specs.Views.{PassView, Turn, no_turn, waiting, in_turn, turn_tickets, turn_ids, spent_view}
 use Rattle.tally_desk.proofs.Bounds.{range_push, sum_same, sum_lt, sum_both, sum_ones, sum_mapped, claim_count, claimed_of_todo}
-use Rattle.tally_desk.proofs.Counting.{sum_set, sum_at, sum_le, times-cons, times-append, times_push, one, one_more_id, one_same, length-apart, length-le}
 use Rattle.tally_desk.proofs.Todo.{todo_once}
+use Rattle.model_laws.specs.Times.{times, once_below}
+use Rattle.model_laws.proofs.Times.{sum_set, sum_at, sum_le, times-cons, times-append, times_push, one, one_more_id, one_same, length-apart, length-le, below_from_once}
 
 one_ticket : (t : Turn) → length (turn_tickets t) ≡ length (turn_ids t)
 one_ticket no_turn = refl
@@ -31,9 +32,6 @@ one_ticket (in_turn t i l) = refl
 
 once_more : (x n : ℕ) → once_below x n + one x n ≡ once_below x (n + 1)
 once_more x n = grind arith
-
-pub below_from_once : (x n : ℕ) → 0 < once_below x n → x < n
-below_from_once x n some_below = grind arith
 
 once_at_most : (x n : ℕ) → once_below x n ≤ 1
 once_at_most x n = grind arith

@@ -5,9 +5,9 @@ use Rattle.std.proofs.lemmas.Bool.{not-true, eqb-true, cases_Bool}
 use Rattle.std.proofs.lemmas.List.Sums.{sum_by-take-le}
 use Rattle.audit_model.specs.Below.{filter_below}
 use Rattle.audit_model.specs.Run.{total, has_id}
-use Rattle.claim_counter.specs.Records.{times, once_below}
+use Rattle.model_laws.specs.Times.{times, once_below}
+use Rattle.model_laws.proofs.Times.{one, times-append, times-cons, length-apart, below_from_once}
 use Rattle.tally_desk.specs.Parts.{Parts, IsPlan}
-use Rattle.tally_desk.proofs.Counting.{one, times-append, times-cons, length-apart}
 
 once_more : (x n : ℕ) → once_below x n + one x n ≡ once_below x (suc n)
 once_more x n = let next : n + 1 ≡ suc n = omega arith in let step : once_below x n + one x n ≡ once_below x (n + 1) = grind arith in step ∙ ap (once_below x) next
@@ -36,9 +36,6 @@ filter_passes x (suc n) test some_here = by (times x (filter_below n test)) refl
     by : (k : ℕ) → times x (filter_below n test) ≡ k → (0 < times x (filter_below n test) → test x ≡ true) → test x ≡ true
     by zero none before = passes_if x n test (test n) refl (omega (arith, some_here, none, times-append x (filter_below n test) (cond (test n) (n ∷ []) [])))
     by (suc k) more before = before (omega (arith, more))
-
-below_from_once : (x n : ℕ) → 0 < once_below x n → x < n
-below_from_once x n some_below = grind arith
 
 module _ (parts : Parts) (plan : IsPlan parts) where
   abbrev lacks : ℕ → Bool

@@ -13,10 +13,11 @@ use Rattle.audit_model.specs.JobOf.{IsJob}
 use Rattle.audit_model.specs.Room.{RoomyBytes, RoomyOutcomes}
 use Rattle.audit_model.specs.Run.{total, fits, has_id}
 use Rattle.audit_model.specs.Trajectory.{Draws, outcome}
+use Rattle.model_laws.specs.Times.{times}
+use Rattle.model_laws.proofs.Times.{length-le, one_more_id}
 use Rattle.checkpoint_definitions.specs.Checkpoint.{IsCheckpoint, checkpoint, job_digest}
 use Rattle.ckpt_store.specs.declared.slots.Place.{Place}
 use Rattle.ckpt_store.specs.Laws.{CheckpointsAreOurs, IsNewestForFitJobs, SavedSlotsAreNewest}
-use Rattle.claim_counter.specs.Records.{times}
 use Rattle.draw_definitions.specs.Draw.{draw}
 use Rattle.outcome_book.specs.Booked.{Booked, HasFewVisits, by_id}
 use Rattle.tally_desk.specs.declared.entry.Entry.{Entry}
@@ -26,7 +27,6 @@ use Rattle.tally_desk.specs.Homes.{HasTurned, IfToldThen, IsSound, KeptAs, MayTu
 use Rattle.tally_desk.specs.Parts.{Parts, IsPlan, IsPlaceFor}
 use Rattle.tally_desk.specs.Saving.{SavedWhereDue, TriedSave, sorted_of}
 use Rattle.tally_desk.proofs.Booking.{absent_of_book, booked-push, booked_fit, by_id_fit}
-use Rattle.tally_desk.proofs.Counting.{length-le, one_more_id}
 use Rattle.tally_desk.proofs.Found.{found_is}
 use Rattle.tally_desk.proofs.Marking.{missed-push, saves-push}
 use Rattle.tally_desk.proofs.Slotting.{moved_slot, moved_generation, other_is, saved_slots, told_map, unsaved_slots}

@@ -1,14 +1,14 @@
 -- A pass that posts what it claims has posted all.
 use Rattle.std.proofs.Common.{◌≡◌, ℕ, ◌+◌, List, [], ◌∷◌, ◌++◌, get_or, refl, sym, ap, ◌∙◌, arith}
 use mathlib.Core.List.{map-append}
-use Rattle.claim_counter.specs.Records.{times}
 use Rattle.tally_desk.specs.declared.entry.Entry.{Entry}
 use Rattle.tally_desk.specs.Desks.{claimed_ids, joined_view}
 use Rattle.tally_desk.specs.Entries.{entry, id_of, ids_of}
 use Rattle.tally_desk.specs.Parts.{Parts}
 use Rattle.tally_desk.specs.Passes.{Claims, HasPostedAll, MayPost, Posts, PostsStayWhole}
 use Rattle.tally_desk.specs.Views.{PassView}
-use Rattle.tally_desk.proofs.Counting.{one, one_same, times-append, times_push}
+use Rattle.model_laws.specs.Times.{times}
+use Rattle.model_laws.proofs.Times.{one, one_same, times-append, times_push}
 
 -- one more claim
 claimed_more : (parts : Parts) (id x : ℕ) (v w : PassView) (c : Claims parts id v w) → times x (claimed_ids parts w) ≡ times x (claimed_ids parts v) + one x id

@@ -6,12 +6,13 @@ use mathlib.Core.Option as maybe
 use lib.ListN.{get_elem?}
 use Rattle.atomic_table.specs.Table.{State, Me, Step}
 use Rattle.claim_counter.specs.declared.record.PassRecord.{PassRecord}
-use Rattle.claim_counter.specs.Records.{times, once_below, fresh, with_claim, at_end, with_less_spare, joined, IsCounted, IsSole}
+use Rattle.claim_counter.specs.Records.{fresh, with_claim, at_end, with_less_spare, joined, IsCounted, IsSole}
 use Rattle.tally_desk.specs.declared.entry.Entry.{Entry}
 use Rattle.tally_desk.specs.declared.home.Home.{Home}
 use Rattle.tally_desk.specs.Entries.{ids_of, tickets_of, is_due, entry}
 use Rattle.tally_desk.specs.Parts.{Parts, IsPlan}
 use Rattle.tally_desk.specs.Views.{PassView, Turn, no_turn, waiting, in_turn, turn_tickets, turn_ids, spent_view}
+use Rattle.model_laws.specs.Times.{times, once_below}
 
 -- ---- what is counted of a view
 

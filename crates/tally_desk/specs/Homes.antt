@@ -7,10 +7,10 @@ use Rattle.audit_io.specs.Tries.{Try, tried_all, try_of}
 use Rattle.audit_model.specs.declared.outcome.Outcome.{Outcome}
 use Rattle.audit_model.specs.Job.{Job}
 use Rattle.audit_model.specs.Run.{total}
+use Rattle.model_laws.specs.Times.{times}
 use Rattle.checkpoint_definitions.specs.Checkpoint.{IsCheckpoint, checkpoint, job_digest}
 use Rattle.ckpt_store.specs.declared.slots.Place.{Place}
 use Rattle.ckpt_store.specs.Laws.{newest_for}
-use Rattle.claim_counter.specs.Records.{times}
 use Rattle.outcome_book.specs.Booked.{Booked, by_id}
 use Rattle.tally_desk.specs.declared.entry.Entry.{Entry}
 use Rattle.tally_desk.specs.declared.home.Home.{Home}

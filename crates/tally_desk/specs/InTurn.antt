@@ -3,10 +3,10 @@ use Rattle.std.specs.Prelude.{◌≡◌, ℕ, ◌+◌, ◌-◌, ◌*◌, ◌/◌
 use Rattle.std.specs.List.{range_with_len}
 use Rattle.audit_io.specs.Slots.{Pair, Stored, stored}
 use Rattle.audit_model.specs.Run.{total}
+use Rattle.model_laws.specs.Times.{times}
 use Rattle.checkpoint_definitions.specs.Checkpoint.{job_digest}
 use Rattle.ckpt_store.specs.declared.slots.Place.{Place}
 use Rattle.ckpt_store.specs.Laws.{IsNewestForFitJobs, newest_for, place_for}
-use Rattle.claim_counter.specs.Records.{times}
 use Rattle.outcome_book.specs.Booked.{by_id}
 use Rattle.tally_desk.specs.declared.entry.Entry.{Entry}
 use Rattle.tally_desk.specs.Desks.{AreDue}

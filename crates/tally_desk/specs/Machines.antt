@@ -8,7 +8,8 @@ use Rattle.audit_model.specs.declared.outcome.Event.TheVariants.{Claim, Post, Sa
 use Rattle.audit_model.specs.Below.{map_below}
 use Rattle.audit_model.specs.Machine.{Machine, state_after}
 use Rattle.audit_model.specs.Run.{total}
-use Rattle.claim_counter.specs.Records.{times, with_claim}
+use Rattle.model_laws.specs.Times.{times}
+use Rattle.claim_counter.specs.Records.{with_claim}
 use Rattle.tally_desk.specs.declared.entry.Entry.{Entry}
 use Rattle.tally_desk.specs.declared.home.Home.{Home}
 use Rattle.tally_desk.specs.Desks.{CanPost, Tallied, ended_view, joined_view, left_view, right_view, with_entry, with_own, with_turn}

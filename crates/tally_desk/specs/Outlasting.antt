@@ -3,10 +3,10 @@ use Rattle.std.specs.Prelude.{◌≡◌, ℕ, ◌≤◌, List}
 use Rattle.std.specs.List.{All}
 use Rattle.audit_io.specs.Slots.{Pair}
 use Rattle.audit_model.specs.Run.{IsRight}
+use Rattle.model_laws.specs.Times.{times}
 use Rattle.checkpoint_definitions.specs.Checkpoint.{job_digest}
 use Rattle.ckpt_store.specs.Histories.{AreCarriedOut, IsNotIntact, KeepsNewest, stopped_in}
 use Rattle.ckpt_store.specs.Laws.{AreHonest, IsNotOurs, place_for}
-use Rattle.claim_counter.specs.Records.{times}
 use Rattle.draw_definitions.specs.Draw.{draw}
 use Rattle.tally_desk.specs.declared.entry.Entry.{Entry}
 use Rattle.tally_desk.specs.Desks.{AreDue}

@@ -6,7 +6,7 @@ use Rattle.atomic_table.specs.Seated.{TableId}
 use Rattle.audit_io.specs.Slots.{Pair}
 use Rattle.audit_io.specs.Tries.{Try}
 use Rattle.ckpt_store.specs.declared.slots.Place.{Place}
-use Rattle.claim_counter.specs.Records.{times, with_claim}
+use Rattle.claim_counter.specs.Records.{with_claim}
 use Rattle.outcome_book.specs.Booked.{Booked}
 use Rattle.tally_desk.specs.declared.entry.Entry.{Entry}
 use Rattle.tally_desk.specs.declared.pass.DeskPass.{DeskPass}
@@ -15,6 +15,7 @@ use Rattle.tally_desk.specs.Entries.{entry, ends_saved, ids_of, tickets_of}
 use Rattle.tally_desk.specs.Homes.{KeptAs}
 use Rattle.tally_desk.specs.Parts.{IsPlan, Parts}
 use Rattle.tally_desk.specs.Views.{PassView, view_in}
+use Rattle.model_laws.specs.Times.{times}
 
 -- what the pass knows
 abbrev pub view_of : DeskPass → PassView

@@ -1,7 +1,7 @@
 -- Where the opening is right, so is each checkpoint of a desk.
 use Rattle.std.specs.Prelude.{ℕ, ◌≤◌, List}
 use Rattle.audit_model.specs.Run.{IsRight, total}
-use Rattle.claim_counter.specs.Records.{times}
+use Rattle.model_laws.specs.Times.{times}
 use Rattle.draw_definitions.specs.Draw.{draw}
 use Rattle.outcome_book.specs.Booked.{by_id}
 use Rattle.tally_desk.specs.declared.entry.Entry.{Entry}

@@ -34,7 +34,7 @@ impl<C: Keeper> Desk<C> {
     ghost use Rattle.std.specs.Prelude.{◌≡◌, ◌+◌, ◌-◌, ◌^◌, ◌<◌, ◌≤◌, ◌∷◌, [], ◌++◌, ℕ, IsTrue, All, IfOk, IfErr, IfSome, IfNone, true, false, length, vec_len};
     ghost use Rattle.audit_model.specs.Run.{fits, total};
     ghost use Rattle.checkpoint_definitions.specs.Checkpoint.{job_digest};
-    ghost use Rattle.claim_counter.specs.Records.{times};
+    ghost use Rattle.model_laws.specs.Times.{times};
     ghost use Rattle.tally_desk.specs.Desks.{BeginsTurn, CanPost, HasServed, IsInTurn, IsWaiting, claimed_ids, ended_view, first_view, joined_view, left_view, right_view, with_turn};
     ghost use Rattle.tally_desk.specs.Entries.{ids_of};
     ghost use Rattle.tally_desk.specs.Founded.{parts_of};
@@ -82,6 +82,7 @@ impl<C: Keeper> Desk<C> {
             Belongs d.0.table.shared.table_id parts d.1 × (view_of d.1 ≡ first_view parts)) }
         ensures refused { IfErr result (λ r. (r.book ≡ book) × (r.keeper ≡ keeper)) }
     {
+        // Called for what their contracts say: the job is within its limits, and the book holds no more than it has room for.
         let _units = job.units();
         let _len = book.len();
         let founding = Founding {
@@ -120,6 +121,7 @@ impl<C: Keeper> Desk<C> {
         ensures end { IfNone result (view_of pass.new ≡ ended_view (view_of pass.old)) }
         ensures few { length (view_of pass.new).own.claims ≤ length self.now.table.shared.key.todo.value }
     {
+        // Laws, called for what their contracts say: what each kind of draw keeps.
         counter_laws();
         let mut seat = take_out(&mut pass.badge);
         let drawn = self.table.shared.fetch_add::<Draw>(&mut seat, 0, 1);
@@ -198,6 +200,7 @@ impl<C: Keeper> Desk<C> {
         ensures rest { Belongs self.now.table.shared.table_id (parts_of C.load_faults C.save_faults C.slots C.tried self.now.table.shared.key) pass.new × (view_of pass.new ≡ left_view (view_of pass.old)) }
         ensures new { Belongs self.now.table.shared.table_id (parts_of C.load_faults C.save_faults C.slots C.tried self.now.table.shared.key) result × (view_of result ≡ right_view (view_of pass.old)) }
     {
+        // Laws, called for what their contracts say: what each kind of draw keeps.
         counter_laws();
         let mut seat = take_out(&mut pass.badge);
         let other = self.table.shared.split_seat::<OnePass>(&mut seat);
@@ -217,6 +220,7 @@ impl<C: Keeper> Desk<C> {
         ensures pass { Belongs self.now.table.shared.table_id (parts_of C.load_faults C.save_faults C.slots C.tried self.now.table.shared.key) result }
         ensures both { view_of result ≡ joined_view (view_of a) (view_of b) }
     {
+        // Laws, called for what their contracts say: what each kind of draw keeps.
         counter_laws();
         let DeskPass {
             mut badge,
@@ -249,6 +253,7 @@ impl<C: Keeper> Desk<C> {
         ensures { IsClosed C.load_faults C.save_faults C.slots C.tried (parts_of C.load_faults C.save_faults C.slots C.tried self.table.shared.key) (view_of pass)
             result.book result.keeper result.place result.failed_saves result.last_saved }
     {
+        // Laws, called for what their contracts say: what each kind of draw keeps.
         counter_laws();
         let Desk { table, todo: _ } = self;
         let DeskPass {

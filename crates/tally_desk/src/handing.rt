@@ -103,6 +103,7 @@ pub(crate) fn open<C: Keeper>(
     ensures seat { IfOk result (λ t. (t.1.table_id ≡ t.0.shared.table_id) × (t.1.me ≡ (first_view (parts_of C.load_faults C.save_faults C.slots C.tried founding.now), []))) }
     ensures refused { IfErr result (λ r. (r.book ≡ home.book) × (r.keeper ≡ home.keeper)) }
 {
+    // Laws, called for what their contracts say: what each kind of draw keeps.
     counter_laws();
     let Ok(mut slots) = Vec::with_capacity(alloc, 1) else {
         return Err(give_back(home));
@@ -111,6 +112,35 @@ pub(crate) fn open<C: Keeper>(
     match Table::new(alloc, &[0, 0, 0], slots, founding) {
         Ok(made) => Ok(made),
         Err(refused) => Err(give_back_only(refused.slots)),
+    }
+}
+
+// What is handed over at the end.
+pub(crate) fn hand_over<C>(home: Home<C>) -> Kept<C>
+    ensures book { result.book ≡ home.book }
+    ensures keeper { result.keeper ≡ home.keeper }
+    ensures place { result.place ≡ home.place }
+    ensures failed { result.failed_saves ≡ home.failed_saves }
+    ensures last { result.last_saved ≡ ends_saved home.posted.items }
+{
+    let last_saved = ends_saved(home.posted.as_slice());
+    let Home {
+        book,
+        keeper,
+        place,
+        failed_saves,
+        posted: _,
+        save_every: _,
+        digest: _,
+        sorted: _,
+        room: _,
+    } = home;
+    Kept {
+        book,
+        keeper,
+        place,
+        failed_saves,
+        last_saved,
     }
 }
 
@@ -141,35 +171,6 @@ fn give_back_only<C>(mut slots: Vec<Home<C>>) -> Refused<C>
     };
     slots.destroy_empty();
     give_back(home)
-}
-
-// What is handed over at the end.
-pub(crate) fn hand_over<C>(home: Home<C>) -> Kept<C>
-    ensures book { result.book ≡ home.book }
-    ensures keeper { result.keeper ≡ home.keeper }
-    ensures place { result.place ≡ home.place }
-    ensures failed { result.failed_saves ≡ home.failed_saves }
-    ensures last { result.last_saved ≡ ends_saved home.posted.items }
-{
-    let last_saved = ends_saved(home.posted.as_slice());
-    let Home {
-        book,
-        keeper,
-        place,
-        failed_saves,
-        posted: _,
-        save_every: _,
-        digest: _,
-        sorted: _,
-        room: _,
-    } = home;
-    Kept {
-        book,
-        keeper,
-        place,
-        failed_saves,
-        last_saved,
-    }
 }
 
 // Whether a save was made with the last post and succeeded.

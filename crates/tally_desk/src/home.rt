@@ -43,8 +43,10 @@ impl<C: Keeper> Home<C> {
         requires save_room { 84 + 80 * self.old.book.total ≤ length self.old.room.items + self.old.room.spare }
         ensures { TriedSave C.load_faults C.save_faults C.slots C.tried self.old self.new result }
     {
+        // Called for what its contract says: the book holds no more than it has room for.
         let _count = self.book.len();
         self.book.sorted_into(&mut self.sorted);
+        // A law, called for what its contract says: outcomes by rising id are as a checkpoint asks for them.
         rising_pairs_rise();
         let saved = save::save(
             &mut self.keeper,
@@ -86,6 +88,7 @@ impl<C: Keeper> Home<C> {
             → HasTurned C.load_faults C.save_faults C.slots C.tried parts self.new posted o result }
         ensures entry { self.new.posted.items ≡ self.old.posted.items ++ entry (length self.old.posted.items) o.id result ∷ [] }
     {
+        // Laws, called for what their contracts say: what is saved is in the newest slot and is the job's, and bins add up to few enough.
         saved_slots_are_newest();
         checkpoints_are_ours();
         outcomes_have_few_visits();

@@ -3,10 +3,10 @@
 
 mod counter;
 pub mod desk;
-pub mod entry;
+mod entry;
 pub mod handing;
-pub mod home;
+mod home;
 pub mod laws;
 pub mod pass;
 mod rule;
-pub mod view;
+mod view;

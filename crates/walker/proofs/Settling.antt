@@ -2,7 +2,7 @@
 use Rattle.std.proofs.Common.{◌≡◌, ℕ, zero, suc, ◌+◌, ◌-◌, ◌*◌, ◌<◌, ◌≤◌, ◌^◌, Bool, true, false, cond, eqb, not, List, [], ◌∷◌, length, get_or, Option, refl, sym, ap, ◌∙◌, subst, inl, inr, arith}
 use Rattle.std.specs.Prelude.{bytes_eq, IsTrue, IsFalse}
 use Rattle.std.specs.List.{slice_get}
-use Rattle.std.proofs.lemmas.Bool.{cases_lt}
+use Rattle.std.proofs.lemmas.Bool.{cases_lt, not-false}
 use Rattle.std.proofs.lemmas.List.{ext_get_or}
 use Rattle.std.proofs.lemmas.Slice.Eq.{bytes_eq-Decides}
 use Rattle.audit_model.specs.declared.setting.Ask.{Ask}
@@ -10,20 +10,16 @@ use Rattle.audit_model.specs.Below.{count_below, map_below}
 use Rattle.audit_model.specs.Job.{Job}
 use Rattle.audit_model.specs.Step.{next}
 use Rattle.audit_model.specs.Trajectory.{no_bins, plan_seats, visit}
+use Rattle.model_laws.proofs.Below.{count_below_le, length-map_below, get_or-map_below}
 use Rattle.chacha_draws.specs.Place.{Place}
 use Rattle.draw_definitions.specs.Draw.{draw}
-use Rattle.dual_graph.proofs.Rows.{length-map_below, get_or-map_below}
 use Rattle.walker.specs.Asked.{each, asked_value, four_more, inside, visits_inside}
 use Rattle.walker.specs.Binned.{first_bins, plan_bin, visits_binned}
 use Rattle.walker.specs.Trail.{IsCounted, IsTested, IsTrail}
 use Rattle.walker.specs.declared.trail.Trail.{Trail}
 use Rattle.walker.proofs.Asking.{each_same, visits_inside_le, visits_inside_none}
-use Rattle.walker.proofs.Stepping.{count_below_le, moves_le, moves_more, moves_none, visit_more, visit_none}
+use Rattle.walker.proofs.Stepping.{moves_le, moves_more, moves_none, visit_more, visit_none}
 use Rattle.walker.proofs.Still.{inside_still, binned_still}
-
-unnot : (t : Bool) → not t ≡ false → t ≡ true
-unnot true e = refl
-unnot false e = cc
 
 visits_binned_le : (job : Job) (draws : ℕ → ℕ) (visits bin : ℕ) → visits_binned job draws visits bin ≤ visits
 unfolding visits_binned
@@ -115,7 +111,7 @@ module _ (job : Job) (draws : ℕ → ℕ) (place : ℕ) (t : Trail) (trail : Is
   stayed test =
       let one = ap (λ (b : Bool). cond {A = ℕ} b 1 0) test in
       let held = (bytes_eq-Decides (visit job draws job.start place) (visit job draws job.start (place + 1))).0
-      (unnot (bytes_eq (visit job draws job.start place) (visit job draws job.start (place + 1))) test) in
+      (not-false (bytes_eq (visit job draws job.start place) (visit job draws job.start (place + 1))) test) in
       record {
         moved = omega (arith, trail.moved, moves_more job draws job.start place, one);
         still = record {

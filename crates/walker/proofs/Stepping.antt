@@ -1,23 +1,15 @@
 -- What a walk has come to, one step more.
-use Rattle.std.proofs.Common.{◌≡◌, ℕ, zero, suc, ◌+◌, ◌≤◌, Bool, true, false, cond, not, List, refl, sym, ap, ◌∙◌, inl, inr, arith, add-one}
+use Rattle.std.proofs.Common.{◌≡◌, ℕ, suc, ◌+◌, ◌≤◌, Bool, true, false, cond, not, List, refl, sym, ap, ◌∙◌, arith, add-one}
 use Rattle.std.specs.Prelude.{bytes_eq}
-use Rattle.std.proofs.lemmas.Bool.{cases_Bool, cond-true, cond-false}
 use Rattle.audit_model.specs.Below.{count_below}
 use Rattle.audit_model.specs.Job.{Job}
 use Rattle.audit_model.specs.Step.{next}
 use Rattle.audit_model.specs.Trajectory.{visit, moves}
+use Rattle.model_laws.proofs.Below.{count_below_le}
 use Rattle.draw_definitions.specs.Draw.{draw}
 use mir.Val.{bool_byte}
 use Rattle.chacha_draws.specs.Place.{Place}
 use Rattle.flip_kernel.specs.Held.{Held}
-
-pub count_below_le : (n : ℕ) (test : ℕ → Bool) → count_below n test ≤ n
-unfolding count_below
-count_below_le zero test = omega arith
-count_below_le (suc n) test = elim (cases_Bool (test n)) [
-  | inl e ↦ omega (arith, count_below_le n test, cond-true {A = ℕ} (test n) 1 0 e)
-  | inr e ↦ omega (arith, count_below_le n test, cond-false {A = ℕ} (test n) 1 0 e)
-]
 
 pub count_below_more : (n : ℕ) (test : ℕ → Bool) → count_below (n + 1) test ≡ count_below n test + cond (test n) 1 0
 unfolding count_below

@@ -21,29 +21,6 @@ pub struct Tally {
     pub counts: [u32; 4],
 }
 
-/// The numerator of a score of the held plan.
-fn held_value<J: Judge>(state: &State<J>, score: Score, room: &mut [u64]) -> i64
-    requires sound { IsJob (held_of state.now).job }
-    requires room { length room.old ≡ 200 }
-    ensures { result ≡ plan_value (held_of state.now).job (held_of state.now).plan score }
-{
-    let _plan = state.plan();
-    value(score, state.view(), room)
-}
-
-/// The value of the ask at a place for the held plan.
-#[tactic(auto, unfolding(crate::specs::Asked::asked_value))]
-fn value_at<J: Judge>(state: &State<J>, asks: &[Ask], place: usize, room: &mut [u64]) -> i64
-    requires sound { IsJob (held_of state.now).job }
-    requires room { length room.old ≡ 200 }
-    ensures { result ≡ asked_value (held_of state.now).job (held_of state.now).plan (slice_get asks.now place) }
-{
-    match asks.get(place) {
-        None => 0,
-        Some(ask) => held_value(state, ask.score, room),
-    }
-}
-
 /// The value of each ask for the held plan.
 pub fn values<J: Judge>(state: &State<J>, asks: &[Ask], room: &mut [u64]) -> [i64; 4]
     requires sound { IsJob (held_of state.now).job }
@@ -56,26 +33,6 @@ pub fn values<J: Judge>(state: &State<J>, asks: &[Ask], room: &mut [u64]) -> [i6
         value_at(state, asks, 2, room),
         value_at(state, asks, 3, room),
     ]
-}
-
-/// One where the held plan is in the tail of the ask at a place, by the start plan's value.
-#[tactic(auto, unfolding(crate::specs::Asked::asked_value, crate::specs::Asked::inside, crate::specs::Asked::is_inside))]
-fn inside_at<J: Judge>(
-    state: &State<J>,
-    asks: &[Ask],
-    place: usize,
-    start: i64,
-    room: &mut [u64],
-) -> u32
-    requires sound { IsJob (held_of state.now).job }
-    requires room { length room.old ≡ 200 }
-    requires start { start ≡ asked_value (held_of state.now).job (held_of state.now).job.start (slice_get asks.now place) }
-    ensures { result ≡ inside (held_of state.now).job (held_of state.now).plan (slice_get asks.now place) }
-{
-    match asks.get(place) {
-        None => 0,
-        Some(ask) => u32::from(in_tail(ask.tail, held_value(state, ask.score, room), start)),
-    }
 }
 
 /// The same numbers with a sign.
@@ -140,5 +97,49 @@ impl Tally {
             self.counts[2] + times * self.inside[2],
             self.counts[3] + times * self.inside[3],
         ];
+    }
+}
+
+/// The numerator of a score of the held plan.
+fn held_value<J: Judge>(state: &State<J>, score: Score, room: &mut [u64]) -> i64
+    requires sound { IsJob (held_of state.now).job }
+    requires room { length room.old ≡ 200 }
+    ensures { result ≡ plan_value (held_of state.now).job (held_of state.now).plan score }
+{
+    // Called for what its contract says: the plan is legal.
+    let _plan = state.plan();
+    value(score, state.view(), room)
+}
+
+/// The value of the ask at a place for the held plan.
+#[tactic(auto, unfolding(crate::specs::Asked::asked_value))]
+fn value_at<J: Judge>(state: &State<J>, asks: &[Ask], place: usize, room: &mut [u64]) -> i64
+    requires sound { IsJob (held_of state.now).job }
+    requires room { length room.old ≡ 200 }
+    ensures { result ≡ asked_value (held_of state.now).job (held_of state.now).plan (slice_get asks.now place) }
+{
+    match asks.get(place) {
+        None => 0,
+        Some(ask) => held_value(state, ask.score, room),
+    }
+}
+
+/// One where the held plan is in the tail of the ask at a place, by the start plan's value.
+#[tactic(auto, unfolding(crate::specs::Asked::asked_value, crate::specs::Asked::inside, crate::specs::Asked::is_inside))]
+fn inside_at<J: Judge>(
+    state: &State<J>,
+    asks: &[Ask],
+    place: usize,
+    start: i64,
+    room: &mut [u64],
+) -> u32
+    requires sound { IsJob (held_of state.now).job }
+    requires room { length room.old ≡ 200 }
+    requires start { start ≡ asked_value (held_of state.now).job (held_of state.now).job.start (slice_get asks.now place) }
+    ensures { result ≡ inside (held_of state.now).job (held_of state.now).plan (slice_get asks.now place) }
+{
+    match asks.get(place) {
+        None => 0,
+        Some(ask) => u32::from(in_tail(ask.tail, held_value(state, ask.score, room), start)),
     }
 }

@@ -22,26 +22,6 @@ pub struct Bins {
     pub counts: [u32; 9],
 }
 
-/// The seats of the held plan.
-fn held_seats<J: Judge>(state: &State<J>, room: &mut [u64]) -> u64
-    requires sound { IsJob (held_of state.now).job }
-    requires room { length room.old ≡ 200 }
-    ensures seats { result ≡ plan_seats (held_of state.now).job (held_of state.now).plan }
-    ensures small { result < 2 ^ 63 }
-{
-    let _plan = state.plan();
-    value(Score::Seats, state.view(), room) as u64
-}
-
-/// The bin of a plan with so many seats: 4 for as many as the start has, and no farther than 4 from there.
-fn bin_of(seats: u64, start: u64) -> usize
-    requires { seats < 2 ^ 63 }
-    ensures bin { result ≡ definition.bin_of seats start }
-    ensures small { result < 9 }
-{
-    (seats + 4).saturating_sub(start).min(8) as usize
-}
-
 impl Bins {
     /// The bins of no plan, where the start plan is held.
     pub fn new<J: Judge>(asked: bool, state: &State<J>, room: &mut [u64]) -> Bins
@@ -96,4 +76,25 @@ impl Bins {
             self.counts[self.bin] += times;
         }
     }
+}
+
+/// The seats of the held plan.
+fn held_seats<J: Judge>(state: &State<J>, room: &mut [u64]) -> u64
+    requires sound { IsJob (held_of state.now).job }
+    requires room { length room.old ≡ 200 }
+    ensures seats { result ≡ plan_seats (held_of state.now).job (held_of state.now).plan }
+    ensures small { result < 2 ^ 63 }
+{
+    // Called for what its contract says: the plan is legal.
+    let _plan = state.plan();
+    value(Score::Seats, state.view(), room) as u64
+}
+
+/// The bin of a plan with so many seats: 4 for as many as the start has, and no farther than 4 from there.
+fn bin_of(seats: u64, start: u64) -> usize
+    requires { seats < 2 ^ 63 }
+    ensures bin { result ≡ definition.bin_of seats start }
+    ensures small { result < 9 }
+{
+    (seats + 4).saturating_sub(start).min(8) as usize
 }

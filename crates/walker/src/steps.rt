@@ -19,6 +19,63 @@ use flip_kernel::state::State;
 use plan_core::job::Job;
 use std::sync::ledger::Ledger;
 
+/// Makes this many steps along a stream from its first draw on, and counts those that change the plan.
+pub fn walk<J: Judge, L: Ledger>(
+    job: &Job,
+    state: &mut State<J>,
+    stream: u64,
+    steps: u32,
+    counter: &mut Steps<L>,
+) -> u32
+    requires made { (held_of state.old).job ≡ job.now }
+    requires seated { IsSeated job.now J.keeps J.stands J.takes J.rules state.old }
+    ensures plan { held_of state.new ≡ record (held_of state.old) { plan = visit job.now (draw job.now.setting.key stream) (held_of state.old).plan steps } }
+    ensures seated { IsSeated job.now J.keeps J.stands J.takes J.rules state.new }
+    ensures moved { result ≡ moves job.now (draw job.now.setting.key stream) (held_of state.old).plan steps }
+{
+    let setting = job.setting();
+    let mut draws = Draws::new(setting.key, stream);
+    let mut moved = 0;
+    for place in 0..steps {
+        moved += u32::from(step(job, state, &mut draws, counter));
+    }
+    moved
+}
+
+/// Walks so many steps along a stream from the start plan, which is held. It answers how many steps changed the plan, and of the
+/// visited plans, the start plan among them, how many are in each ask's tail and, where they are asked for, in each bin. Scores and seats
+/// are computed only where the plan changed.
+pub fn count_visits<J: Judge, L: Ledger>(
+    job: &Job,
+    state: &mut State<J>,
+    stream: u64,
+    steps: u32,
+    shift: bool,
+    room: &mut [u64],
+    counter: &mut Steps<L>,
+) -> Trail
+    requires made { (held_of state.old).job ≡ job.now }
+    requires seated { IsSeated job.now J.keeps J.stands J.takes J.rules state.old }
+    requires start { (held_of state.old).plan ≡ job.now.start }
+    requires few { steps ≤ 10 ^ 9 }
+    requires room { length room.old ≡ 200 }
+    ensures made { (held_of state.new).job ≡ job.now }
+    ensures seated { IsSeated job.now J.keeps J.stands J.takes J.rules state.new }
+    ensures moved { result.moved ≡ moves job.now (draw job.now.setting.key stream) job.now.start steps }
+    ensures counts { result.tally.counts ≡ each (visits_inside job.now (draw job.now.setting.key stream) (steps + 1)) job.now.setting.asks }
+    ensures bins { result.bins.counts ≡ first_bins shift job.now (draw job.now.setting.key stream) (steps + 1) }
+{
+    // Called for what its contract says: the job is within its limits, and its start plan is legal.
+    let _units = job.units();
+    let mut draws = Draws::new(job.setting().key, stream);
+    let mut trail = Trail::new(job, state, shift, room);
+    for place in 0..steps {
+        visit_next(job, state, &mut draws, &mut trail, place, room, counter);
+    }
+    trail.settle(steps + 1);
+    trail
+}
+
 /// Makes one step, and tells whether it changed the plan.
 #[inline]
 fn step<J: Judge, L: Ledger>(
@@ -70,60 +127,4 @@ fn visit_next<J: Judge, L: Ledger>(
     }
     trail.settle(place + 1);
     trail.renew(job, state, room);
-}
-
-/// Makes this many steps along a stream from its first draw on, and counts those that change the plan.
-pub fn walk<J: Judge, L: Ledger>(
-    job: &Job,
-    state: &mut State<J>,
-    stream: u64,
-    steps: u32,
-    counter: &mut Steps<L>,
-) -> u32
-    requires made { (held_of state.old).job ≡ job.now }
-    requires seated { IsSeated job.now J.keeps J.stands J.takes J.rules state.old }
-    ensures plan { held_of state.new ≡ record (held_of state.old) { plan = visit job.now (draw job.now.setting.key stream) (held_of state.old).plan steps } }
-    ensures seated { IsSeated job.now J.keeps J.stands J.takes J.rules state.new }
-    ensures moved { result ≡ moves job.now (draw job.now.setting.key stream) (held_of state.old).plan steps }
-{
-    let setting = job.setting();
-    let mut draws = Draws::new(setting.key, stream);
-    let mut moved = 0;
-    for place in 0..steps {
-        moved += u32::from(step(job, state, &mut draws, counter));
-    }
-    moved
-}
-
-/// Walks so many steps along a stream from the start plan, which is held. It answers how many steps changed the plan, and of the
-/// visited plans, the start plan among them, how many are in each ask's tail and, where they are asked for, in each bin. Scores and seats
-/// are computed only where the plan changed.
-pub fn count_visits<J: Judge, L: Ledger>(
-    job: &Job,
-    state: &mut State<J>,
-    stream: u64,
-    steps: u32,
-    shift: bool,
-    room: &mut [u64],
-    counter: &mut Steps<L>,
-) -> Trail
-    requires made { (held_of state.old).job ≡ job.now }
-    requires seated { IsSeated job.now J.keeps J.stands J.takes J.rules state.old }
-    requires start { (held_of state.old).plan ≡ job.now.start }
-    requires few { steps ≤ 10 ^ 9 }
-    requires room { length room.old ≡ 200 }
-    ensures made { (held_of state.new).job ≡ job.now }
-    ensures seated { IsSeated job.now J.keeps J.stands J.takes J.rules state.new }
-    ensures moved { result.moved ≡ moves job.now (draw job.now.setting.key stream) job.now.start steps }
-    ensures counts { result.tally.counts ≡ each (visits_inside job.now (draw job.now.setting.key stream) (steps + 1)) job.now.setting.asks }
-    ensures bins { result.bins.counts ≡ first_bins shift job.now (draw job.now.setting.key stream) (steps + 1) }
-{
-    let _units = job.units();
-    let mut draws = Draws::new(job.setting().key, stream);
-    let mut trail = Trail::new(job, state, shift, room);
-    for place in 0..steps {
-        visit_next(job, state, &mut draws, &mut trail, place, room, counter);
-    }
-    trail.settle(steps + 1);
-    trail
 }

@@ -176,6 +176,7 @@ impl<J: Judge> Walker<J> {
         ensures made { (held_of self.new).job ≡ job.now }
         ensures seated { IsSeated job.now J.keeps J.stands J.takes J.rules self.new }
     {
+        // Called for what its contract says: the job is within its limits, and its start plan is legal.
         let _units = job.units();
         let setting = job.setting();
         let stream = 2 * u64::from(id);
@@ -200,6 +201,7 @@ impl<J: Judge> Walker<J> {
         ensures made { (held_of self.new).job ≡ job.now }
         ensures seated { IsSeated job.now J.keeps J.stands J.takes J.rules self.new }
     {
+        // Called for what its contract says: the job is within its limits, and its start plan is legal.
         let _units = job.units();
         let setting = job.setting();
         self.state.set(job, hub);

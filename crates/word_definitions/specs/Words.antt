@@ -30,7 +30,8 @@ names_of Check = Pop ∷ First ∷ Second ∷ District ∷ Slack ∷ MaxCut ∷ 
 names_of Run =
     Pop ∷ First ∷ Second ∷ District ∷ Slack ∷ Key ∷ Walks ∷ Steps ∷ Ends ∷ HubSteps ∷ Ask ∷ Workers ∷ Budget ∷ Save ∷ Resume ∷ MaxCut ∷ Shift ∷ Stop ∷ Serial ∷ Region ∷ MaxSplit ∷ []
 names_of Make = Size ∷ Slack ∷ Key ∷ Walks ∷ Steps ∷ Ends ∷ HubSteps ∷ Ask ∷ Workers ∷ Budget ∷ Save ∷ Resume ∷ MaxCut ∷ Shift ∷ Stop ∷ Serial ∷ []
-names_of Plans = []
+names_of Plans =
+    Pop ∷ First ∷ Second ∷ District ∷ Slack ∷ Key ∷ Walks ∷ Steps ∷ Ends ∷ HubSteps ∷ Ask ∷ Workers ∷ MaxCut ∷ Shift ∷ Stop ∷ Serial ∷ Region ∷ MaxSplit ∷ []
 
 -- the value of a name that is not given, where it may be left out
 abbrev pub default_of : Name → Option (List ℕ)
@@ -127,7 +128,8 @@ pairs (name ∷ value ∷ rest) = (name, Some value) ∷ pairs rest
 abbrev pub command_of : List ℕ → Option Command
 command_of word =
     cond (bytes_eq word (codes "check")) (Some Check)
-    (cond (bytes_eq word (codes "run")) (Some Run) (cond (bytes_eq word (codes "make")) (Some Make) None))
+    (cond (bytes_eq word (codes "run")) (Some Run)
+    (cond (bytes_eq word (codes "make")) (Some Make) (cond (bytes_eq word (codes "plans")) (Some Plans) None)))
 
 -- the name of the district column is a line of the report of several plans
 abbrev pub is_one_line : Command → List ℕ → Bool

@@ -13,7 +13,7 @@ is_good-requires c =
     let table = c.names_of-name-items.ensures in
     let inside : c.loop-name.name-index < length (names_of c.args.command) = omega (arith, ap length table) in
     subst (λ names. RestsOnGood (pairs_in c.args.words.now) (get_or names c.loop-name.name-index Pop)) (sym table)
-    (RestsOnGood-behind c.args.command (pairs_in c.args.words.now) c.loop-name.name-index inside c.loop-name.invariant)
+    (RestsOnGood-behind c.args.command (pairs_in c.args.words.now) c.loop-name.name-index inside c.requires c.loop-name.invariant)
 
 pub returns-then-not-is_good : goal.returns-then-not-is_good
 returns-then-not-is_good c =

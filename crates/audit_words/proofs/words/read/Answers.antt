@@ -59,9 +59,9 @@ returns-in-Ok-clause-exact c =
     ∙ ap (λ s. Ok s) (sym c.in-Ok.ensures)
 
 pub setting_for-requires : goal.setting_for-requires
-setting_for-requires c = AreReadable-good c.as_str.result.now c.in-Some-command_of.command (pairs_in c.in-Some.rest.now) c.in-Some-command_of.ensures c.in_ok-judge_values.ensures
+setting_for-requires c = AreReadable-good c.as_str.result.now c.in-Some-command_of.command (pairs_in c.in-Some.rest.now) c.in-Some-command_of.ensures c.in_ok-judge_pairs.ensures c.in_ok-judge_values.ensures
 
 pub returns-in-Ok-clause-within : goal.returns-in-Ok-clause-within
 returns-in-Ok-clause-within c =
-    let readable = AreReadable-good c.as_str.result.now c.in-Some-command_of.command (pairs_in c.in-Some.rest.now) c.in-Some-command_of.ensures c.in_ok-judge_values.ensures in
+    let readable = AreReadable-good c.as_str.result.now c.in-Some-command_of.command (pairs_in c.in-Some.rest.now) c.in-Some-command_of.ensures c.in_ok-judge_pairs.ensures c.in_ok-judge_values.ensures in
     subst IsSetting (sym c.in-Ok.ensures) (IsSetting-good c.in-Some-command_of.command (pairs_in c.in-Some.rest.now) readable)

@@ -2,8 +2,9 @@ use Rattle.std.proofs.Common.{◌≡◌, ◌∙◌, refl, sym, ap, subst, ◌-�
 use Rattle.std.proofs.lemmas.List.Elements.{All-push}
 use Rattle.claim_counter.specs.Records.{fresh, with_less_spare}
 use Rattle.claim_crew.specs.Parts.{IsHand, IsLent}
-use Rattle.claim_crew.proofs.Gathering.{none_yet, popped_last, popped_rest}
+use Rattle.claim_crew.proofs.Gathering.{none_yet}
 use Rattle.claim_crew.proofs.parts.lend_all.Goals as goal
+use Rattle.model_laws.proofs.Lists.{popped_last, popped_rest}
 
 pub lend-requires-clause-hand : goal.lend-requires-clause-hand
 lend-requires-clause-hand g c =

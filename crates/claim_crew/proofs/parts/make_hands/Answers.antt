@@ -2,8 +2,8 @@ use Rattle.std.proofs.Common.{sym, subst, All, arith}
 use Rattle.std.proofs.lemmas.List.Elements.{All-push}
 use Rattle.claim_crew.specs.Parts.{IsHand}
 use Rattle.walker.specs.Judges.{IsJudgeFor}
-use Rattle.claim_crew.proofs.Gathering.{popped_last, popped_rest}
 use Rattle.claim_crew.proofs.parts.make_hands.Goals as goal
+use Rattle.model_laws.proofs.Lists.{popped_last, popped_rest}
 
 pub make_hand-requires : goal.make_hand-requires
 make_hand-requires g c = record {

@@ -1,12 +1,13 @@
 use Rattle.std.proofs.Common.{◌≡◌, ◌∙◌, sym, ap, subst, ◌&&◌, Bool, true, ◌++◌, List, map, arith}
 use Rattle.audit_model.specs.declared.outcome.Outcome.{Outcome}
+use Rattle.model_laws.proofs.Lists.{popped_last, popped_rest}
 use Rattle.claim_counter.specs.declared.pass.Pass.{Pass}
 use Rattle.claim_counter.specs.declared.record.PassRecord.{PassRecord}
 use Rattle.claim_counter.specs.Records.{AreDifferentBelow}
 use Rattle.claim_counter.specs.Passes.{own, size_of, BelongsTo}
 use Rattle.claim_crew.specs.Parts.{IsBack, IsHand}
 use Rattle.claim_crew.specs.Walks.{found_at}
-use Rattle.claim_crew.proofs.Gathering.{popped_last, popped_rest, done_within, done_apart, done_few, first_absent, more_absent, holds_more, none_yet}
+use Rattle.claim_crew.proofs.Gathering.{done_within, done_apart, done_few, first_absent, more_absent, holds_more, none_yet}
 use Rattle.claim_crew.proofs.parts.take_all.Goals as goal
 
 pub take_first-pass-requires-clause-below : goal.take_first-pass-requires-clause-below

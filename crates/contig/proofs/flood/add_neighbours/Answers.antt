@@ -2,9 +2,10 @@ use Rattle.std.proofs.Common.{◌≡◌, ℕ, ◌+◌, ◌<◌, ◌++◌, ◌∷
 use Rattle.std.proofs.lemmas.Bool.{cases_Bool, both_ways, true_from_ne_false}
 use Rattle.std.proofs.lemmas.List.{take_more}
 use Rattle.audit_model.specs.Graph.{Graph, has, IsIn}
+use Rattle.model_laws.proofs.Searching.{adds_passed, adds_pushed}
+use Rattle.model_laws.specs.Search.{AddsFrom}
 use Rattle.dual_graph.specs.Marked.{Marked, IsMarked}
-use Rattle.contig.specs.Search.{region, AddsFrom}
-use Rattle.contig.proofs.Searching.{adds_passed, adds_pushed}
+use Rattle.contig.specs.Search.{region}
 use Rattle.contig.proofs.flood.add_neighbours.Goals as goal
 use Rattle.contig.proofs.flood.add_neighbours.Goals.{then-in_region, else-in_region}
 

@@ -1,7 +1,8 @@
 use Rattle.std.proofs.Common.{◌≡◌, take}
 use Rattle.dual_graph.specs.Marked.{IsMarked}
-use Rattle.contig.specs.Search.{region, AddsFrom}
+use Rattle.contig.specs.Search.{region}
 use Rattle.contig.proofs.flood.add_neighbours.Given as goal
+use Rattle.model_laws.specs.Search.{AddsFrom}
 
 abbrev pub invariant-loop-other : goal.invariant-loop-other
 invariant-loop-other l = record {

@@ -1,6 +1,6 @@
 use Rattle.contig.specs.Search.{region}
-use Rattle.contig.proofs.Searching.{whole}
 use Rattle.contig.proofs.flood.is_whole.Goals as goal
+use Rattle.model_laws.proofs.Searching.{whole}
 
 pub returns-in-Some-clause-whole : goal.returns-in-Some-clause-whole
 returns-in-Some-clause-whole c =

@@ -1,9 +1,11 @@
 use Rattle.std.proofs.Common.{◌≡◌, ℕ, ◌<◌, ◌++◌, ◌∷◌, Bool, false, length, get_or, List, [], arith, sym, ap, subst, ◌∙◌}
 use Rattle.audit_model.specs.Graph.{Graph, has}
+use Rattle.model_laws.proofs.Lists.{at_has}
+use Rattle.model_laws.proofs.Searching.{search_begins, search_goes_on, search_ends}
+use Rattle.model_laws.specs.Search.{IsSearch}
 use Rattle.dual_graph.specs.Marked.{Marked}
-use Rattle.dual_graph.proofs.Marking.{at_has, items_le}
-use Rattle.contig.specs.Search.{region, IsSearch}
-use Rattle.contig.proofs.Searching.{search_begins, search_goes_on, search_ends}
+use Rattle.dual_graph.proofs.Marking.{items_le}
+use Rattle.contig.specs.Search.{region}
 use Rattle.contig.proofs.flood.reach.Goals as goal
 
 pub loop-next-init : goal.loop-next-init

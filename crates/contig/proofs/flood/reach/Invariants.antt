@@ -1,7 +1,8 @@
 use Rattle.std.proofs.Common.{◌≡◌, ◌-◌}
 use Rattle.dual_graph.specs.Marked.{IsMarked}
-use Rattle.contig.specs.Search.{region, IsSearch}
+use Rattle.contig.specs.Search.{region}
 use Rattle.contig.proofs.flood.reach.Given as goal
+use Rattle.model_laws.specs.Search.{IsSearch}
 
 abbrev pub invariant-loop-next : goal.invariant-loop-next
 invariant-loop-next l = record {

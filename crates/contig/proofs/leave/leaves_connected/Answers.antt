@@ -1,15 +1,10 @@
 use Rattle.std.proofs.Common.{◌≤◌, refl, arith}
-use Rattle.audit_model.specs.Local.{IsSimple, IsLocal}
-use Rattle.audit_model.specs.Graph.{Graph}
-use Rattle.model_laws.proofs.Local.{may_leave}
-use Rattle.audit_model.specs.Graph.{IsGraph}
+use Rattle.audit_model.specs.Local.{IsLocal}
+use Rattle.model_laws.proofs.Local.{may_leave, simple}
 use Rattle.contig.proofs.Growing.{seeds_joined}
 use Rattle.contig.proofs.Ending.{one_leaves}
 use Rattle.contig.proofs.Places.{own_labels, own_at}
 use Rattle.contig.proofs.leave.leaves_connected.Goals as goal
-
-simple : (g : Graph) → IsGraph g → IsSimple g
-simple g graph = record { symmetric = graph.symmetric; loopless = graph.loopless }
 
 pub returns-then-mates-eq1-clause-leaves : goal.returns-then-mates-eq1-clause-leaves
 returns-then-mates-eq1-clause-leaves g c connected =
@@ -19,11 +14,11 @@ returns-then-mates-eq1-clause-leaves g c connected =
       λ _. refl,
     )
 
-pub returns-then-is_whole-clause-leaves : goal.returns-then-is_whole-clause-leaves
-returns-then-is_whole-clause-leaves g c connected =
-    let local : IsLocal c.args.g.now c.args.plan.now c.args.u = c.is_whole.ensures.whole.0 c.if-is_whole.true in (
+pub returns-then-mates_are_whole-clause-leaves : goal.returns-then-mates_are_whole-clause-leaves
+returns-then-mates_are_whole-clause-leaves g c connected =
+    let local : IsLocal c.args.g.now c.args.plan.now c.args.u = c.mates_are_whole.ensures.whole.0 c.if-mates_are_whole.true in (
       λ _. may_leave c.args.g.now c.args.plan.now c.args.u (simple c.args.g.now c.units-units.ensures.sound) local connected,
-      λ _. c.if-is_whole.true,
+      λ _. refl,
     )
 
 pub are_linked-requires-clause-joined : goal.are_linked-requires-clause-joined

@@ -1,9 +1,9 @@
 use Rattle.std.proofs.Common.{◌<◌, ◌≤◌, length, get_or, sym, subst, inl, inr, arith}
 use Rattle.std.proofs.lemmas.Bool.{cases_Bool}
 use Rattle.dual_graph.specs.Marked.{Marked}
-use Rattle.dual_graph.proofs.Marking.{at_has}
 use Rattle.contig.proofs.Linking.{linked_stays, linked_one, linked_parted}
 use Rattle.contig.proofs.parts.are_linked.Goals as goal
+use Rattle.model_laws.proofs.Lists.{at_has}
 
 pub link-requires-clause-unit : goal.link-requires-clause-unit
 link-requires-clause-unit c =

@@ -2,8 +2,8 @@ use Rattle.std.proofs.Common.{◌≡◌, ℕ, ◌+◌, ◌<◌, ◌++◌, ◌∷
 use Rattle.std.proofs.lemmas.List.{take_more}
 use Rattle.audit_model.specs.Graph.{Graph, has, adjacent}
 use Rattle.audit_model.specs.Local.{is_mate}
+use Rattle.model_laws.proofs.Lists.{at_has}
 use Rattle.dual_graph.specs.Marked.{Marked}
-use Rattle.dual_graph.proofs.Marking.{at_has}
 use Rattle.contig.specs.Parts.{IsSpread, Replaced}
 use Rattle.contig.proofs.Spreading.{spread_passed, spread_joined, labels_stay_small, above_zero}
 use Rattle.contig.proofs.parts.link.Goals as goal

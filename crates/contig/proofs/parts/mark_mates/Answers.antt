@@ -4,8 +4,8 @@ use Rattle.std.proofs.lemmas.Bool.{and_parts, and_from, eqb-true, eq-eqb}
 use Rattle.std.proofs.lemmas.List.{take_more}
 use Rattle.audit_model.specs.Graph.{Graph, has, adjacent}
 use Rattle.audit_model.specs.Plan.{in_district}
+use Rattle.model_laws.proofs.Lists.{at_has}
 use Rattle.dual_graph.specs.Marked.{Marked}
-use Rattle.dual_graph.proofs.Marking.{at_has}
 use Rattle.contig.specs.Parts.{IsSeeding}
 use Rattle.contig.proofs.Seeding.{seeding_passed, seeding_marked, not_labelled, not_before}
 use Rattle.contig.proofs.parts.mark_mates.Goals as goal

@@ -1,8 +1,9 @@
 use Rattle.std.proofs.Common.{ℕ, ◌+◌, ◌<◌, ◌≤◌, length, get_or, set, List, refl, arith, sym, ap, subst, ◌∙◌, inl, inr}
 use Rattle.std.proofs.lemmas.Bool.{false≢true}
 use Rattle.audit_model.specs.Local.{stays_behind}
+use Rattle.model_laws.proofs.Lists.{at_has}
 use Rattle.dual_graph.specs.Marked.{Marked}
-use Rattle.dual_graph.proofs.Marking.{at_has, items_le}
+use Rattle.dual_graph.proofs.Marking.{items_le}
 use Rattle.contig.specs.Parts.{NotOne}
 use Rattle.contig.proofs.Growing.{grow_more, grow_parted, part_done}
 use Rattle.contig.proofs.Ending.{all_leave}
@@ -10,7 +11,7 @@ use Rattle.contig.proofs.parts.meet.Goals as goal
 use Rattle.contig.proofs.parts.meet.Goals.{else-spread-via-then-spread+else-all_one, else-spread-via-else-spread}
 
 pub spread-requires-clause-unit : goal.spread-requires-clause-unit
-spread-requires-clause-unit c =
+spread-requires-clause-unit g c =
     let m : Marked = c.loop-at.marks in
     let s = c.loop-at.invariant.growing in
     let lt : c.loop-at.at < length m.items = omega (arith, c.loop-at-test.true, c.count.ensures) in (
@@ -20,7 +21,7 @@ spread-requires-clause-unit c =
     )
 
 pub spread-requires-clause-label : goal.spread-requires-clause-label
-spread-requires-clause-label c =
+spread-requires-clause-label g c =
     let m : Marked = c.loop-at.marks in
     let s = c.loop-at.invariant.growing in
     let lt : c.loop-at.at < length m.items = omega (arith, c.loop-at-test.true, c.count.ensures) in
@@ -30,7 +31,7 @@ spread-requires-clause-label c =
     )
 
 pub returns-then-all_one-clause-leaves : goal.returns-then-all_one-clause-leaves
-returns-then-all_one-clause-leaves c connected =
+returns-then-all_one-clause-leaves g c connected =
     let s = c.loop-at.invariant.growing in
     let le : c.label-label.result ≤ c.args.last = subst (λ t. t ≤ c.args.last) (sym c.label-label.ensures) (s.small c.at-unit.result) in (
       λ _. all_leave c.args.g.now c.args.plan.now c.args.u c.units-units.ensures.sound c.requires.unit connected c.args.last c.label-label.result
@@ -40,17 +41,17 @@ returns-then-all_one-clause-leaves c connected =
     )
 
 pub loop-at-smaller-then-count-before : goal.loop-at-smaller-then-count-before
-loop-at-smaller-then-count-before c =
+loop-at-smaller-then-count-before g c =
     let s = c.loop-at.invariant.growing in
     omega (arith, c.loop-at-test.true, c.count.ensures, items_le c.loop-at.marks s.marked, s.units)
 
 pub loop-at-smaller : goal.loop-at-smaller
-loop-at-smaller c =
+loop-at-smaller g c =
     let s = c.loop-at.invariant.growing in
     omega (arith, c.loop-at-test.true, c.count.ensures, items_le c.loop-at.marks s.marked, s.units)
 
 pub loop-at-preserved-then-count-before : goal.loop-at-preserved-then-count-before
-loop-at-preserved-then-count-before c =
+loop-at-preserved-then-count-before g c =
     let s = c.loop-at.invariant.growing in
     let lt : c.loop-at.at < length c.loop-at.marks.items = omega (arith, c.loop-at-test.true, c.count.ensures) in
     let le : c.label-label.result ≤ c.args.last = subst (λ t. t ≤ c.args.last) (sym c.label-label.ensures) (s.small c.at-unit.result) in
@@ -66,7 +67,7 @@ loop-at-preserved-then-count-before c =
     }
 
 pub loop-at-preserved : goal.loop-at-preserved
-loop-at-preserved c =
+loop-at-preserved g c =
     let s = c.loop-at.invariant.growing in
     let lt : c.loop-at.at < length c.loop-at.marks.items = omega (arith, c.loop-at-test.true, c.count.ensures) in
     let le : c.label-label.result ≤ c.args.last = subst (λ t. t ≤ c.args.last) (sym c.label-label.ensures) (s.small c.at-unit.result) in
@@ -83,7 +84,7 @@ loop-at-preserved c =
     }
 
 pub returns-then-not-goes_on-clause-leaves : goal.returns-then-not-goes_on-clause-leaves
-returns-then-not-goes_on-clause-leaves c connected =
+returns-then-not-goes_on-clause-leaves g c connected =
     let s = c.loop-at.invariant.growing in
     let lt : c.loop-at.at < length c.loop-at.marks.items = omega (arith, c.loop-at-test.true, c.count.ensures) in
     let le : c.label-label.result ≤ c.args.last = subst (λ t. t ≤ c.args.last) (sym c.label-label.ensures) (s.small c.at-unit.result) in
@@ -105,7 +106,7 @@ returns-then-not-goes_on-clause-leaves c connected =
     )
 
 pub returns-clause-leaves : goal.returns-clause-leaves
-returns-clause-leaves c connected =
+returns-clause-leaves g c connected =
     let s = c.loop-at.invariant.growing in (
       λ h. absurd (false≢true h),
       λ may. absurd (grow_parted c.args.g.now (stays_behind c.args.plan.now c.args.u) c.args.last c.loop-at.marks c.loop-at.roots c.loop-at.ends c.loop-at.at s c.requires.last.1

@@ -5,10 +5,10 @@ use Rattle.contig.specs.Parts.{IsGrowing}
 use Rattle.contig.proofs.parts.meet.Given as goal
 
 abbrev pub invariant-loop-at : goal.invariant-loop-at
-invariant-loop-at l = record {
+invariant-loop-at g l = record {
   growing : IsGrowing l.g (stays_behind l.plan l.u) l.last l.marks l.roots l.ends l.at;
   complete : (v : ℕ) → IsIn l.g (is_mate l.g l.plan l.u) v → 0 < get_or l.marks.labels v 0;
 }
 
 abbrev pub decreases-loop-at : goal.decreases-loop-at
-decreases-loop-at l = l.g.units - l.at
+decreases-loop-at g l = l.g.units - l.at

@@ -5,8 +5,8 @@ use Rattle.std.proofs.lemmas.List.{take_more}
 use Rattle.audit_model.specs.Graph.{Graph, has, adjacent, IsIn}
 use Rattle.audit_model.specs.Local.{stays_behind}
 use Rattle.audit_model.specs.Plan.{in_district}
+use Rattle.model_laws.proofs.Lists.{at_has}
 use Rattle.dual_graph.specs.Marked.{Marked}
-use Rattle.dual_graph.proofs.Marking.{at_has}
 use Rattle.contig.specs.Parts.{IsSpread, Replaced}
 use Rattle.contig.proofs.Spreading.{spread_passed, spread_marked, spread_joined, labels_stay_small, above_zero}
 use Rattle.contig.proofs.parts.spread.Goals as goal

@@ -2,8 +2,8 @@ use Rattle.std.proofs.Common.{All, sym, subst, arith}
 use Rattle.std.proofs.lemmas.List.Elements.{All-push}
 use Rattle.desk_crew.specs.Crews.{IsWalker}
 use Rattle.walker.specs.Judges.{IsJudgeFor}
-use Rattle.desk_crew.proofs.Gathering.{popped_rest}
 use Rattle.desk_crew.proofs.crew.hire.Goals as goal
+use Rattle.model_laws.proofs.Lists.{popped_rest}
 
 pub loop-judge-preserved : goal.loop-judge-preserved
 loop-judge-preserved g c =

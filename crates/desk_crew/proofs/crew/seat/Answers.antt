@@ -4,8 +4,8 @@ use Rattle.tally_desk.specs.Founded.{parts_of}
 use Rattle.tally_desk.specs.Passes.{HasPostedAll, view_of}
 use Rattle.tally_desk.specs.Views.{PassView}
 use Rattle.desk_crew.specs.Crews.{IsReady, IsWalker}
-use Rattle.desk_crew.proofs.Gathering.{popped_last, popped_rest}
 use Rattle.desk_crew.proofs.crew.seat.Goals as goal
+use Rattle.model_laws.proofs.Lists.{popped_last, popped_rest}
 
 pub loop-walker-init : goal.loop-walker-init
 loop-walker-init g c =

@@ -1,15 +1,12 @@
-use Rattle.std.proofs.Common.{◌∙◌, ◌≡◌, ◌&&◌, ap, subst, sym, arith, Bool, true, false}
+use Rattle.std.proofs.Common.{◌∙◌, ◌≡◌, ap, subst, sym, arith, true}
 use Rattle.tally_desk.specs.declared.pass.DeskPass.{DeskPass}
 use Rattle.tally_desk.specs.Founded.{parts_of}
 use Rattle.tally_desk.specs.Passes.{Belongs, HasPostedAll, view_of}
 use Rattle.tally_desk.specs.Views.{PassView}
 use Rattle.desk_crew.specs.Crews.{IsDone}
-use Rattle.desk_crew.proofs.Gathering.{popped_last, popped_rest}
 use Rattle.desk_crew.proofs.walking.gather.Goals as goal
-
-both_ended : (a b : Bool) → a ≡ true → b ≡ true → (a && b) ≡ true
-both_ended true b e f = f
-both_ended false b e f = cc
+use Rattle.std.proofs.lemmas.Bool.{and_from}
+use Rattle.model_laws.proofs.Lists.{popped_last, popped_rest}
 
 pub loop-worker-init : goal.loop-worker-init
 loop-worker-init g c =
@@ -45,7 +42,7 @@ loop-worker-preserved g c =
     record {
       workers = popped_rest (IsDone c.args.desk.now.table.shared.table_id (parts_of g.C.Keeper.load_faults g.C.Keeper.save_faults g.C.Keeper.slots g.C.Keeper.tried c.args.desk.now.table.shared.key)) _ _ c.in-Some-pop.worker was.workers c.in-Some-pop.ensures.items;
       pass = c.join-pass.ensures.pass;
-      ended = ap (λ (v : PassView). v.own.ended) both ∙ both_ended _ _ was.ended ended;
+      ended = ap (λ (v : PassView). v.own.ended) both ∙ and_from _ _ was.ended ended;
       seats =
           let one : (view_of c.into_pass.result).own.weight ≡ 1 = subst (λ (p : DeskPass). (view_of p).own.weight ≡ 1) back done.weight in
           let none : (view_of c.into_pass.result).own.spare ≡ 0 = subst (λ (p : DeskPass). (view_of p).own.spare ≡ 0) back done.spare in

@@ -2,7 +2,8 @@ use Rattle.std.proofs.Common.{◌≡◌, ℕ, ◌^◌, ◌<◌, ◌≤◌, lengt
 use Rattle.std.proofs.lemmas.List.Elements.{All-get_or}
 use Rattle.audit_model.specs.Below.{map_below}
 use Rattle.audit_model.specs.Plan.{district_sum}
-use Rattle.district_sums.proofs.Summing.{part_small, all_added}
+use Rattle.model_laws.proofs.Columns.{part_small}
+use Rattle.district_sums.proofs.Summing.{all_added}
 use Rattle.district_sums.proofs.scratch.add_up.Goals as goal
 
 pub overflow_add-sums : goal.overflow_add-sums

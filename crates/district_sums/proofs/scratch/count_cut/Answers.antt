@@ -1,8 +1,8 @@
 use Rattle.std.proofs.Common.{◌≡◌, ℕ, ◌+◌, ◌==◌, ◌&&◌, Bool, not, get_or, ap, ◌∙◌, arith, add-one}
 use Rattle.audit_model.specs.Below.{count_below, sum_below}
 use Rattle.audit_model.specs.Graph.{adjacent}
+use Rattle.model_laws.proofs.Rows.{counted_edges_le}
 use Rattle.district_sums.proofs.scratch.count_cut.Goals as goal
-use Rattle.district_sums.proofs.Counting.{counted_edges_le}
 
 pub overflow_add-cut : goal.overflow_add-cut
 overflow_add-cut c =

@@ -2,8 +2,9 @@ use Rattle.std.proofs.Common.{◌≡◌, ℕ, ◌≤◌, ◌==◌, ◌&&◌, Boo
 use Rattle.std.specs.Prelude.{nat_lt, count_by}
 use Rattle.audit_model.specs.Below.{count_below}
 use Rattle.audit_model.specs.Graph.{Graph, IsGraph, adjacent}
+use Rattle.model_laws.proofs.Below.{count_below_le}
 use Rattle.district_sums.proofs.scratch.others_below.Goals as goal
-use Rattle.district_sums.proofs.Counting.{count_neighbours, count_below_le}
+use Rattle.district_sums.proofs.Counting.{count_neighbours}
 
 -- at the end of the row the count is that of the units below the bound
 row_counted : (g : Graph) (unit bound others i : ℕ) (test : ℕ → Bool) (row : List ℕ) → IsGraph g → row ≡ get_or g.neighbours unit [] → length row ≤ i

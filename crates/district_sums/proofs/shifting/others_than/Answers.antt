@@ -2,9 +2,9 @@ use Rattle.std.proofs.Common.{◌≡◌, ℕ, ◌≤◌, ◌==◌, ◌&&◌, Boo
 use Rattle.std.specs.Prelude.{count_by}
 use Rattle.audit_model.specs.Below.{count_below}
 use Rattle.audit_model.specs.Graph.{Graph, IsGraph, adjacent}
+use Rattle.model_laws.proofs.Below.{count_below_le}
+use Rattle.model_laws.proofs.Rows.{row_counted}
 use Rattle.district_sums.proofs.shifting.others_than.Goals as goal
-use Rattle.district_sums.proofs.Counting.{count_below_le}
-use Rattle.district_sums.proofs.Walking.{row_counted}
 
 -- at the end of the row
 all_counted : (g : Graph) (unit others i : ℕ) (test : ℕ → Bool) (row : List ℕ) → IsGraph g → row ≡ get_or g.neighbours unit [] → length row ≤ i

@@ -3,7 +3,8 @@ use Rattle.std.proofs.Math.ListN.{set}
 use Rattle.std.specs.Prelude.{count_by}
 use Rattle.std.proofs.lemmas.List.{take_more}
 use Rattle.audit_model.specs.Graph.{Graph}
-use Rattle.district_sums.proofs.Walking.{IsWalked, near, fresh, next_count, apart_some, apart_few, row_few, counted_more, walked_none, walked_more, walked_all}
+use Rattle.model_laws.proofs.Rows.{counted_more}
+use Rattle.district_sums.proofs.Walking.{IsWalked, near, fresh, next_count, apart_some, apart_few, row_few, walked_none, walked_more, walked_all}
 use Rattle.district_sums.proofs.shifting.recount.Goals as goal
 
 pub recounted-requires-clause-some : goal.recounted-requires-clause-some

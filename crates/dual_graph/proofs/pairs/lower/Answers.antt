@@ -1,7 +1,8 @@
 use Rattle.std.proofs.Common.{Ok, Err, arith}
 use Rattle.std.proofs.lemmas.List.Sorted.{searched}
-use Rattle.dual_graph.proofs.Coding.{rises, never_falls}
+use Rattle.dual_graph.proofs.Coding.{never_falls}
 use Rattle.dual_graph.proofs.pairs.lower.Goals as goal
+use Rattle.model_laws.proofs.Lists.{rises}
 
 pub returns-in-Ok : goal.returns-in-Ok
 returns-in-Ok c =

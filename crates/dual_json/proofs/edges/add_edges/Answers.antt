@@ -2,11 +2,11 @@ use Rattle.std.proofs.Common.{◌≡◌, ℕ, length, None, refl, sym, ap, ◌�
 use Rattle.std.specs.Option.{option_map, is_none}
 use Rattle.audit_model.specs.declared.fault.GraphFault.TheVariants.{UnknownNeighbour}
 use Rattle.audit_model.specs.First.{first_below}
+use Rattle.model_laws.proofs.First.{first_below_more, first_below_found}
 use Rattle.dual_json.specs.Edges.{is_unknown, AddsEdges}
 use Rattle.dual_json.specs.Places.{object_at}
 use Rattle.dual_json.specs.Shape.{views}
 use Rattle.dual_json.proofs.Edging.{adds_none, adds_more}
-use Rattle.dual_json.proofs.First.{first_below_found, first_below_more}
 use Rattle.dual_json.proofs.Listed.{object_is, length-views}
 use Rattle.dual_json.proofs.edges.add_edges.Goals as goal
 

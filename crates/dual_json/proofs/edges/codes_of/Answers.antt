@@ -3,10 +3,10 @@ use Rattle.std.specs.Prelude.{◌⊎◌}
 use Rattle.std.specs.Option.{option_map}
 use Rattle.audit_model.specs.declared.fault.GraphFault.TheVariants.{Memory, UnknownNeighbour}
 use Rattle.audit_model.specs.First.{first_some_below}
+use Rattle.model_laws.proofs.First.{first_some_below_more, first_some_below_found}
 use Rattle.dual_json.specs.Edges.{entries_at, first_in, first_entry_in, is_unknown, AreCodes}
 use Rattle.dual_json.specs.Shape.{views, lists_in}
 use Rattle.dual_json.proofs.Edging.{codes_none, codes_more}
-use Rattle.dual_json.proofs.First.{first_some_below_found, first_some_below_more}
 use Rattle.dual_json.proofs.Listed.{length-lists_in, length-views}
 use Rattle.dual_json.proofs.edges.codes_of.Goals as goal
 

@@ -3,15 +3,15 @@ use Rattle.std.specs.Prelude.{nat_lt, ◌↔◌}
 use Rattle.std.proofs.lemmas.Bool.{lt-ltb, le-ltb}
 use Rattle.audit_model.specs.declared.fault.GraphFault.TheVariants.{TooManyEdges, UnknownNeighbour}
 use Rattle.audit_model.specs.Graph.{adjacent}
+use Rattle.model_laws.proofs.Options.{none_or, or_of_none}
 use Rattle.graph_definitions.specs.Reading.{refused_if}
 use Rattle.dual_graph.specs.Pairs.{Joins}
 use Rattle.dual_json.specs.Edges.{AreEdges, edges_in, first_entry_in, is_unknown, pairs_in}
 use Rattle.dual_json.specs.Shape.{lists_in}
-use Rattle.dual_json.proofs.First.{or_none}
 use Rattle.dual_json.proofs.Joined.{codes_edges, edges_are, built_graph}
 use Rattle.dual_json.proofs.Listed.{length-lists_in}
 use Rattle.dual_json.proofs.Matched.{match_map}
-use Rattle.dual_json.proofs.Shapes.{or_both, not_refused, is_refused}
+use Rattle.dual_json.proofs.Shapes.{not_refused, is_refused}
 use Rattle.dual_json.proofs.edges.graph_of.Goals as goal
 
 few : (units ids : ℕ) → ids ≡ units → units ≤ 100000 → ids ≤ 100000
@@ -28,7 +28,7 @@ returns-then-edges-gt400000 c =
       c.len-edges.ensures,
       c.put_in_order.new.codes.ok.0,
     ) in
-    inr (or_none (first_entry_in (is_unknown c.args.index.now) UnknownNeighbour (lists_in c.args.adjacency.now)) _ c.in_ok-codes.ensures.0
+    inr (none_or (first_entry_in (is_unknown c.args.index.now) UnknownNeighbour (lists_in c.args.adjacency.now)) _ c.in_ok-codes.ensures.0
     ∙ ap (λ m. refused_if (nat_lt 400000 m) (TooManyEdges m)) edges ∙ is_refused (nat_lt 400000 c.len-edges.result) (TooManyEdges c.len-edges.result) (lt-ltb 400000 c.len-edges.result c.if-edges-gt400000.true))
 
 pub graph_from-requires-clause-codes : goal.graph_from-requires-clause-codes
@@ -51,7 +51,7 @@ returns c =
     ) in
     match_map c.graph_from.result _ _ _ _ c.graph_from.ensures
     (λ g h. (
-      or_both (first_entry_in (is_unknown c.args.index.now) UnknownNeighbour (lists_in c.args.adjacency.now)) _ c.in_ok-codes.ensures.0
+      or_of_none (first_entry_in (is_unknown c.args.index.now) UnknownNeighbour (lists_in c.args.adjacency.now)) _ c.in_ok-codes.ensures.0
           (not_refused (nat_lt 400000 (edges_in c.args.index.now (lists_in c.args.adjacency.now))) (TooManyEdges (edges_in c.args.index.now (lists_in c.args.adjacency.now)))
           (ap (nat_lt 400000) edges ∙ le-ltb 400000 c.len-edges.result c.if-edges-gt400000.false)),
       built_graph c.args.index.now (lists_in c.args.adjacency.now) (few c.args.units (length c.args.index.now) c.requires.ids c.requires.few)

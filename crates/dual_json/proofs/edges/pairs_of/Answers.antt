@@ -1,6 +1,6 @@
 use Rattle.std.proofs.Common.{◌≡◌, ◌<◌, length, get_or, refl, ap, ◌∙◌, arith}
 use Rattle.audit_model.specs.Below.{map_below}
-use Rattle.dual_graph.proofs.Marking.{at_has}
+use Rattle.model_laws.proofs.Lists.{at_has}
 use Rattle.dual_json.proofs.Joined.{pair_of, map_below-map}
 use Rattle.dual_json.proofs.Listed.{map_below_more}
 use Rattle.dual_json.proofs.edges.pairs_of.Goals as goal

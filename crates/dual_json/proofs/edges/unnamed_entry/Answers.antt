@@ -1,10 +1,10 @@
 use Rattle.std.proofs.Common.{◌≡◌, ℕ, length, None, refl, sym, ap, ◌∙◌, subst, arith}
 use Rattle.std.specs.Option.{is_none}
 use Rattle.audit_model.specs.First.{first_below}
+use Rattle.model_laws.proofs.First.{first_below_more, first_below_found}
 use Rattle.dual_json.specs.Edges.{is_unnamed}
 use Rattle.dual_json.specs.Places.{object_at}
 use Rattle.dual_json.specs.Shape.{views}
-use Rattle.dual_json.proofs.First.{first_below_found, first_below_more}
 use Rattle.dual_json.proofs.Listed.{object_is, unnamed_is, length-views}
 use Rattle.dual_json.proofs.edges.unnamed_entry.Goals as goal
 

@@ -3,10 +3,10 @@ use Rattle.std.specs.Option.{is_none, option_map}
 use Rattle.dual_json.specs.Names.{label_from}
 use Rattle.dual_json.specs.Places.{label_in, object_at}
 use Rattle.dual_json.specs.Shape.{views}
-use Rattle.dual_json.proofs.First.{first_below_found}
 use Rattle.dual_json.proofs.Listed.{object_is, length-views}
 use Rattle.dual_json.proofs.Named.{named_more, named_all}
 use Rattle.dual_json.proofs.names.names_at.Goals as goal
+use Rattle.model_laws.proofs.First.{first_below_found}
 
 pub loop-i-init : goal.loop-i-init
 loop-i-init c = record { none = refl; count = ap length c.new-names.ensures.items; each = λ k l. absurd (omega (arith, l)) }

@@ -2,15 +2,15 @@ use Rattle.std.proofs.Common.{◌≡◌, ◌≤◌, true, List, length, None, Er
 use Rattle.audit_model.specs.declared.fault.GraphFault.TheVariants.{BadNeighbour}
 use Rattle.audit_model.specs.declared.setting.Label.{Label}
 use Rattle.audit_model.specs.Graph.{Graph, count_edges}
+use Rattle.model_laws.proofs.Options.{none_or, or_of_none}
+use Rattle.model_laws.proofs.First.{or_some}
 use Rattle.graph_definitions.specs.Reading.{Document}
 use Rattle.dual_json.specs.Edges.{is_unnamed}
 use Rattle.dual_json.specs.Shape.{views, lists_in, document_of, frame_fault}
 use Rattle.dual_json.specs.Stages.{ids_fault, entry_fault}
 use Rattle.dual_json.proofs.Bridge.{entry_same, edges_same, graph_same}
-use Rattle.dual_json.proofs.First.{or_none, or_some}
 use Rattle.dual_json.proofs.Listed.{length-views, length-lists_in}
 use Rattle.dual_json.proofs.Matched.{match_map, err_at}
-use Rattle.dual_json.proofs.Shapes.{or_both}
 use Rattle.dual_json.proofs.read.graph_in.Goals as goal
 
 pub returns-in_err-check_entries : goal.returns-in_err-check_entries
@@ -26,8 +26,8 @@ returns-in_err-check_entries c =
     let long : length (views nodes) ≡ length (lists_in lists) = length-views nodes ∙ c.in_ok-check_frame.ensures.1 ∙ sym (length-lists_in lists) in
     let frame : frame_fault directed (length (views nodes)) (length (lists_in lists)) ≡ None =
     ap (λ m. frame_fault directed m (length (lists_in lists))) (length-views nodes) ∙ ap (frame_fault directed (length nodes)) (length-lists_in lists) ∙ c.in_ok-check_frame.ensures.0 in
-    err_at c.from_residual-in_err-check_entries.result f _ _ e (inr (or_none (frame_fault directed (length (views nodes)) (length (lists_in lists))) _ frame
-    ∙ or_none (ids_fault (views nodes)) _ c.in_ok-index.ensures.0
+    err_at c.from_residual-in_err-check_entries.result f _ _ e (inr (none_or (frame_fault directed (length (views nodes)) (length (lists_in lists))) _ frame
+    ∙ none_or (ids_fault (views nodes)) _ c.in_ok-index.ensures.0
     ∙ or_some (entry_fault d is_unnamed BadNeighbour) _ f (entry_same d ids are is_unnamed is_unnamed BadNeighbour long (λ x. refl) ∙ c.in_err-check_entries.ensures)))
 
 pub returns : goal.returns
@@ -45,8 +45,8 @@ returns c =
     match_map c.graph_of.result _ _ _ _ c.graph_of.ensures
     (λ g h.
     let few = h.3 in (
-      or_both (frame_fault directed (length (views nodes)) (length (lists_in lists))) _ frame
-          (or_both (ids_fault (views nodes)) _ c.in_ok-index.ensures.0 (or_both (entry_fault d is_unnamed BadNeighbour) _ entries (edges_same d ids are long ∙ h.0))),
+      or_of_none (frame_fault directed (length (views nodes)) (length (lists_in lists))) _ frame
+          (or_of_none (ids_fault (views nodes)) _ c.in_ok-index.ensures.0 (or_of_none (entry_fault d is_unnamed BadNeighbour) _ entries (edges_same d ids are long ∙ h.0))),
       graph_same d ids are ∙ sym h.1,
       c.in_ok-check_frame.ensures.2,
       h.2,
@@ -54,6 +54,6 @@ returns c =
     ))
     (λ f h. elim h [
       | inl e ↦ inl e
-      | inr e ↦ inr (or_none (frame_fault directed (length (views nodes)) (length (lists_in lists))) _ frame
-          ∙ or_none (ids_fault (views nodes)) _ c.in_ok-index.ensures.0 ∙ or_none (entry_fault d is_unnamed BadNeighbour) _ entries ∙ edges_same d ids are long ∙ e)
+      | inr e ↦ inr (none_or (frame_fault directed (length (views nodes)) (length (lists_in lists))) _ frame
+          ∙ none_or (ids_fault (views nodes)) _ c.in_ok-index.ensures.0 ∙ none_or (entry_fault d is_unnamed BadNeighbour) _ entries ∙ edges_same d ids are long ∙ e)
     ])

@@ -3,13 +3,12 @@ use Rattle.std.specs.Prelude.{codes}
 use Rattle.std.specs.Option.{option_map}
 use Rattle.audit_model.specs.declared.fault.GraphFault.TheVariants.{BadId}
 use Rattle.audit_model.specs.declared.setting.Label.{Label}
+use Rattle.model_laws.proofs.Options.{none_or, or_of_none}
 use Rattle.dual_json.specs.Places.{labels_from, first_unnamed, repeated, AreLabels}
 use Rattle.dual_json.specs.Shape.{views}
 use Rattle.dual_json.specs.Stages.{repeated_in}
 use Rattle.dual_json.proofs.Bridge.{repeated_same}
-use Rattle.dual_json.proofs.First.{or_none}
 use Rattle.dual_json.proofs.Matched.{match_map}
-use Rattle.dual_json.proofs.Shapes.{or_both}
 use Rattle.dual_json.proofs.read.ids_of.Goals as goal
 
 pub returns-in-Ok : goal.returns-in-Ok
@@ -19,11 +18,11 @@ returns-in-Ok c =
     let named = ap (option_map BadId) c.in-Ok.ensures.0 in
     match_map c.of.result _ _ _ _ c.of.ensures
     (λ index h. (
-      or_both (option_map BadId (first_unnamed (codes "id") nodes)) (repeated_in nodes) named (repeated_same nodes ids c.in-Ok.ensures.1 ∙ h.0),
+      or_of_none (option_map BadId (first_unnamed (codes "id") nodes)) (repeated_in nodes) named (repeated_same nodes ids c.in-Ok.ensures.1 ∙ h.0),
       subst (λ (ls : List Label). AreLabels (codes "id") nodes ls) (sym h.1) c.in-Ok.ensures.1,
       subst (λ (ls : List Label). repeated ls ≡ None) (sym h.1) h.0,
     ))
     (λ f h. elim h [
       | inl e ↦ inl e
-      | inr e ↦ inr (or_none (option_map BadId (first_unnamed (codes "id") nodes)) (repeated_in nodes) named ∙ repeated_same nodes ids c.in-Ok.ensures.1 ∙ e)
+      | inr e ↦ inr (none_or (option_map BadId (first_unnamed (codes "id") nodes)) (repeated_in nodes) named ∙ repeated_same nodes ids c.in-Ok.ensures.1 ∙ e)
     ])

@@ -3,9 +3,9 @@ use Rattle.std.specs.Option.{is_none}
 use Rattle.serde_json.specs.Find.{get as member}
 use Rattle.serde_json.specs.View.{view}
 use Rattle.audit_model.specs.First.{first_below}
+use Rattle.model_laws.proofs.First.{first_below_more, first_below_found}
 use Rattle.dual_json.specs.Places.{object_at}
 use Rattle.dual_json.specs.Shape.{views}
-use Rattle.dual_json.proofs.First.{first_below_found, first_below_more}
 use Rattle.dual_json.proofs.Listed.{object_is, length-views}
 use Rattle.dual_json.proofs.Regioned.{absent_is}
 use Rattle.dual_json.proofs.regions.first_missing.Goals as goal

@@ -2,8 +2,8 @@ use Rattle.std.proofs.Common.{ap, ◌∙◌, arith}
 use Rattle.std.specs.Prelude.{count_by}
 use Rattle.std.proofs.lemmas.List.{take_all}
 use Rattle.face_table.specs.Counts.{is_before}
-use Rattle.face_table.proofs.Counting.{row_counted}
 use Rattle.face_table.proofs.counts.mates_in.Goals as goal
+use Rattle.model_laws.proofs.Rows.{row_counted}
 
 pub returns : goal.returns
 returns c =

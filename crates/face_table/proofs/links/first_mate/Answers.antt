@@ -3,7 +3,7 @@ use Rattle.std.proofs.lemmas.Bool.{and_parts, eqb-true}
 use Rattle.std.specs.Prelude.{slice_index}
 use Rattle.audit_model.specs.Graph.{has, adjacent}
 use Rattle.audit_model.specs.Plan.{in_district}
-use Rattle.dual_graph.proofs.Marking.{has_at}
+use Rattle.model_laws.proofs.Lists.{has_at}
 use Rattle.face_table.proofs.links.first_mate.Goals as goal
 
 pub returns : goal.returns

@@ -2,21 +2,22 @@ use Rattle.std.proofs.Common.{◌∷◌, [], sym, subst}
 use Rattle.faces.specs.Faces.{IsRing}
 use Rattle.faces.specs.Rings.{ring_of}
 use Rattle.faces.specs.declared.face.Face.{Face}
-use Rattle.faces.proofs.Rings.{has_1, has_2, has_3, has_4}
+use Rattle.faces.proofs.Rings.{has_2, has_3, has_4}
 use Rattle.face_table.specs.Corners.{HasCorners, with_face}
 use Rattle.face_table.proofs.rows.add_face.Goals as goal
+use Rattle.model_laws.proofs.Lists.{first_has}
 
 pub add_corner-requires-clause-units : goal.add_corner-requires-clause-units
 add_corner-requires-clause-units c =
     let w = c.in-Triangle in
     let below = (subst (λ (f : Face). IsRing c.args.g.now (ring_of f)) w.is c.requires.ring).below in
-    (below w.a (has_1 w.a (w.b ∷ w.c ∷ [])), below w.c (has_3 w.a w.b w.c []))
+    (below w.a (first_has w.a (w.b ∷ w.c ∷ [])), below w.c (has_3 w.a w.b w.c []))
 
 pub add_corner-requires-in-Triangle-clause-units : goal.add_corner-requires-in-Triangle-clause-units
 add_corner-requires-in-Triangle-clause-units c =
     let w = c.in-Triangle in
     let below = (subst (λ (f : Face). IsRing c.args.g.now (ring_of f)) w.is c.requires.ring).below in
-    (below w.b (has_2 w.a w.b (w.c ∷ [])), below w.a (has_1 w.a (w.b ∷ w.c ∷ [])))
+    (below w.b (has_2 w.a w.b (w.c ∷ [])), below w.a (first_has w.a (w.b ∷ w.c ∷ [])))
 
 pub add_corner-requires-in-Triangle-2-clause-units : goal.add_corner-requires-in-Triangle-2-clause-units
 add_corner-requires-in-Triangle-2-clause-units c =
@@ -28,7 +29,7 @@ pub add_corner-requires-in-Square-clause-units : goal.add_corner-requires-in-Squ
 add_corner-requires-in-Square-clause-units c =
     let w = c.in-Square in
     let below = (subst (λ (f : Face). IsRing c.args.g.now (ring_of f)) w.is c.requires.ring).below in
-    (below w.a (has_1 w.a (w.b ∷ w.c ∷ w.d ∷ [])), below w.c (has_3 w.a w.b w.c (w.d ∷ [])))
+    (below w.a (first_has w.a (w.b ∷ w.c ∷ w.d ∷ [])), below w.c (has_3 w.a w.b w.c (w.d ∷ [])))
 
 pub add_corner-requires-in-Square-2-clause-units : goal.add_corner-requires-in-Square-2-clause-units
 add_corner-requires-in-Square-2-clause-units c =
@@ -40,7 +41,7 @@ pub add_corner-requires-in-Square-3-clause-units : goal.add_corner-requires-in-S
 add_corner-requires-in-Square-3-clause-units c =
     let w = c.in-Square in
     let below = (subst (λ (f : Face). IsRing c.args.g.now (ring_of f)) w.is c.requires.ring).below in
-    (below w.c (has_3 w.a w.b w.c (w.d ∷ [])), below w.a (has_1 w.a (w.b ∷ w.c ∷ w.d ∷ [])))
+    (below w.c (has_3 w.a w.b w.c (w.d ∷ [])), below w.a (first_has w.a (w.b ∷ w.c ∷ w.d ∷ [])))
 
 pub add_corner-requires-in-Square-4-clause-units : goal.add_corner-requires-in-Square-4-clause-units
 add_corner-requires-in-Square-4-clause-units c =

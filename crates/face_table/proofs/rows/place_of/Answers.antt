@@ -1,6 +1,6 @@
 use Rattle.std.proofs.Common.{◌≡◌, true, length, ap, sym, subst, List, ℕ, arith}
 use Rattle.audit_model.specs.Graph.{has}
-use Rattle.dual_graph.proofs.Marking.{has_at}
+use Rattle.model_laws.proofs.Lists.{has_at}
 use Rattle.face_table.proofs.Counting.{row_short}
 use Rattle.face_table.proofs.rows.place_of.Goals as goal
 

@@ -2,8 +2,8 @@ use Rattle.std.proofs.Common.{get_or, sym, ap, arith}
 use Rattle.std.specs.Prelude.{option_map}
 use Rattle.plan_core.specs.Outside.{is_outside, outside}
 use Rattle.plan_core.proofs.Bounded.{outside_passes}
-use Rattle.plan_core.proofs.Firsts.{first_below_here}
 use Rattle.plan_core.proofs.bounds.first_outside.Goals as goal
+use Rattle.model_laws.proofs.First.{first_below_here}
 
 pub returns-then-population-low : goal.returns-then-population-low
 returns-then-population-low c =

@@ -1,7 +1,7 @@
 use Rattle.std.proofs.Common.{get_or, sym, arith}
 use Rattle.std.proofs.lemmas.Bool.{eq-eqb}
 use Rattle.audit_model.specs.Plan.{in_district}
-use Rattle.plan_core.proofs.Firsts.{first_below_here}
+use Rattle.model_laws.proofs.First.{first_below_here}
 use Rattle.plan_core.proofs.search.first_unit.Goals as goal
 
 pub returns-then-plan-unit : goal.returns-then-plan-unit

@@ -2,7 +2,7 @@ use Rattle.std.proofs.Common.{◌≡◌, false, not, ◌&&◌, get_or, sym, arit
 use Rattle.std.proofs.lemmas.Bool.{and_from, eq-eqb, both_ways, false_from_ne_true, not_from_false}
 use Rattle.audit_model.specs.Graph.{has}
 use Rattle.audit_model.specs.Plan.{in_district}
-use Rattle.plan_core.proofs.Firsts.{first_below_here}
+use Rattle.model_laws.proofs.First.{first_below_here}
 use Rattle.plan_core.proofs.search.first_unmarked.Goals as goal
 
 pub returns-then-not-has : goal.returns-then-not-has

@@ -4,8 +4,8 @@ use Rattle.std.proofs.lemmas.List.{take_more}
 use Rattle.audit_model.specs.Graph.{Graph, has, IsIn}
 use Rattle.dual_graph.specs.Marked.{Marked, IsMarked}
 use Rattle.audit_model.specs.Plan.{in_district}
-use Rattle.plan_core.specs.Search.{AddsFrom}
-use Rattle.plan_core.proofs.Searching.{adds_passed, adds_pushed}
+use Rattle.model_laws.proofs.Searching.{adds_passed, adds_pushed}
+use Rattle.model_laws.specs.Search.{AddsFrom}
 use Rattle.plan_core.proofs.search.mark_neighbours.Goals as goal
 use Rattle.plan_core.proofs.search.mark_neighbours.Goals.{then-plan-neighbour, else-plan-neighbour}
 

@@ -1,7 +1,7 @@
 use Rattle.std.proofs.Common.{◌≡◌, take}
 use Rattle.dual_graph.specs.Marked.{IsMarked}
 use Rattle.audit_model.specs.Plan.{in_district}
-use Rattle.plan_core.specs.Search.{AddsFrom}
+use Rattle.model_laws.specs.Search.{AddsFrom}
 use Rattle.plan_core.proofs.search.mark_neighbours.Given as goal
 
 abbrev pub invariant-loop-other : goal.invariant-loop-other

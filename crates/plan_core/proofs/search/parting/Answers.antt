@@ -1,6 +1,6 @@
 use Rattle.std.proofs.Common.{sym, ◌∙◌}
 use Rattle.audit_model.specs.Plan.{in_district}
-use Rattle.plan_core.proofs.Firsts.{first_below_some}
+use Rattle.model_laws.proofs.First.{first_below_some}
 use Rattle.plan_core.proofs.Parted.{parting_of_none, parting_of_whole, parting_of_parted}
 use Rattle.plan_core.proofs.search.parting.Goals as goal
 

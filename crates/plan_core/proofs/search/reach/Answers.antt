@@ -1,10 +1,11 @@
 use Rattle.std.proofs.Common.{◌≡◌, ℕ, ◌<◌, ◌++◌, ◌∷◌, Bool, false, length, get_or, List, [], arith, sym, ap, subst, ◌∙◌}
 use Rattle.audit_model.specs.Graph.{Graph, has}
 use Rattle.dual_graph.specs.Marked.{Marked}
-use Rattle.dual_graph.proofs.Marking.{at_has, items_le}
+use Rattle.dual_graph.proofs.Marking.{items_le}
 use Rattle.audit_model.specs.Plan.{in_district}
-use Rattle.plan_core.specs.Search.{IsSearch}
-use Rattle.plan_core.proofs.Searching.{search_begins, search_goes_on, search_ends}
+use Rattle.model_laws.proofs.Lists.{at_has}
+use Rattle.model_laws.proofs.Searching.{search_begins, search_goes_on, search_ends}
+use Rattle.model_laws.specs.Search.{IsSearch}
 use Rattle.plan_core.proofs.search.reach.Goals as goal
 
 pub loop-next-init : goal.loop-next-init

@@ -1,7 +1,7 @@
 use Rattle.std.proofs.Common.{◌≡◌, ◌-◌}
 use Rattle.dual_graph.specs.Marked.{IsMarked}
 use Rattle.audit_model.specs.Plan.{in_district}
-use Rattle.plan_core.specs.Search.{IsSearch}
+use Rattle.model_laws.specs.Search.{IsSearch}
 use Rattle.plan_core.proofs.search.reach.Given as goal
 
 abbrev pub invariant-loop-next : goal.invariant-loop-next

@@ -1,12 +1,13 @@
 use Rattle.std.proofs.Common.{ℕ, ◌+◌, ◌*◌, ◌<◌, ◌&&◌, ◌==◌, get_or, refl, sym, ◌∙◌, arith}
-use Rattle.region_guard.proofs.Cells.{cell_inside, count_none}
-use Rattle.region_guard.proofs.Moves.{count_few, counted_on}
+use Rattle.region_guard.proofs.Cells.{cell_inside}
+use Rattle.region_guard.proofs.Moves.{counted_on}
 use Rattle.region_guard.proofs.counting.count_units.Goals as goal
+use Rattle.model_laws.proofs.Below.{count_below_le, count_below_zero}
 
 pub loop-unit-init : goal.loop-unit-init
 loop-unit-init c = λ q d lq ld.
     c.fill.ensures.clones (q * c.args.districts + d) 0 (omega (arith, cell_inside c.args.rows c.args.districts q d lq ld, c.requires.places)) refl
-    ∙ sym (count_none (λ u. (get_or c.args.regions.now u 0 == q) && (get_or c.args.plan.now u 0 == d)))
+    ∙ sym (count_below_zero (λ u. (get_or c.args.regions.now u 0 == q) && (get_or c.args.plan.now u 0 == d)))
 
 pub overflow_add-cells-in-loop-unit : goal.overflow_add-cells-in-loop-unit
 overflow_add-cells-in-loop-unit c =
@@ -16,7 +17,7 @@ overflow_add-cells-in-loop-unit c =
     let lq : q < c.args.rows = c.requires.regions unit (omega (arith, c.loop-unit-test.true, c.requires.lengths)) in
     let ld : d < c.args.districts = c.requires.districts unit (omega (arith, c.loop-unit-test.true)) in
     let is = c.loop-unit.invariant q d lq ld in
-    let few = count_few unit (λ u. (get_or c.args.regions.now u 0 == q) && (get_or c.args.plan.now u 0 == d)) in
+    let few = count_below_le unit (λ u. (get_or c.args.regions.now u 0 == q) && (get_or c.args.plan.now u 0 == d)) in
     omega (arith, is, few, c.loop-unit-test.true)
 
 pub loop-unit-preserved : goal.loop-unit-preserved

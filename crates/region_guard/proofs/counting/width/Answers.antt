@@ -2,17 +2,17 @@ use Rattle.std.proofs.Common.{ℕ, sym, arith}
 use Rattle.std.specs.Prelude.{nat_lt}
 use Rattle.std.proofs.lemmas.Bool.{cond-true, cond-false, lt-ltb, ltb-true, false_from_ne_true}
 use Rattle.region_guard.specs.Standing.{cell}
-use Rattle.region_guard.proofs.Cells.{count_none}
-use Rattle.region_guard.proofs.Moves.{count_few, next_counted}
+use Rattle.region_guard.proofs.Moves.{next_counted}
 use Rattle.region_guard.proofs.counting.width.Goals as goal
 use Rattle.region_guard.proofs.counting.width.Goals.{then-cells-region-gt0, else-cells-region-gt0}
+use Rattle.model_laws.proofs.Below.{count_below_le, count_below_zero}
 
 pub loop-district-init : goal.loop-district-init
-loop-district-init c = sym (count_none (λ d. nat_lt 0 (cell c.args.districts c.args.cells.now c.args.region d)))
+loop-district-init c = sym (count_below_zero (λ d. nat_lt 0 (cell c.args.districts c.args.cells.now c.args.region d)))
 
 pub overflow_add-width : goal.overflow_add-width
 overflow_add-width c =
-    let few = count_few c.loop-district.district (λ d. nat_lt 0 (cell c.args.districts c.args.cells.now c.args.region d)) in
+    let few = count_below_le c.loop-district.district (λ d. nat_lt 0 (cell c.args.districts c.args.cells.now c.args.region d)) in
     omega (arith, few, c.loop-district.invariant, c.loop-district-test.true, c.requires.few)
 
 pub loop-district-preserved : goal.loop-district-preserved

@@ -1,6 +1,6 @@
 use Rattle.audit_model.specs.Machine.{new_machine}
-use Rattle.model_laws.proofs.Running.{events_keep}
-use Rattle.run_core.proofs.Stepping.{opening_is_run, fresh_is_run, step_is_run}
+use Rattle.model_laws.proofs.Running.{events_keep, step_keeps}
+use Rattle.run_core.proofs.Stepping.{opening_is_run, fresh_is_run}
 use Rattle.run_core.proofs.laws.runs_stay_right.Goals as goal
 
 pub returns-clause-fresh : goal.returns-clause-fresh
@@ -10,7 +10,7 @@ pub returns-clause-resumed : goal.returns-clause-resumed
 returns-clause-resumed c m events opening = events_keep m events (opening_is_run m opening)
 
 pub returns-clause-step : goal.returns-clause-step
-returns-clause-step c = step_is_run
+returns-clause-step c = step_keeps
 
 pub returns-clause-events : goal.returns-clause-events
 returns-clause-events c = events_keep

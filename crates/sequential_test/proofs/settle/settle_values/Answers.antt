@@ -6,8 +6,8 @@ use Rattle.audit_model.specs.declared.outcome.Outcome.{Outcome}
 use Rattle.audit_model.specs.declared.outcome.Stop.{Stop}
 use Rattle.audit_model.specs.Stopping.{value_with_id}
 use Rattle.sequential_test.proofs.Settled.{IsGap, settled_from, stopped, ended, unsettled, tails_are, values_are, values_from, of_job}
-use Rattle.model_laws.proofs.Connected.{count_below_le}
 use Rattle.audit_model.specs.Trajectory.{in_tail}
+use Rattle.model_laws.proofs.Below.{count_below_le}
 use Rattle.sequential_test.proofs.settle.settle_values.Goals as goal
 
 pub returns-then-inside-h-clause-settled : goal.returns-then-inside-h-clause-settled

@@ -1,6 +1,6 @@
 use Rattle.std.proofs.Common.{◌≡◌, ◌+◌, ◌-◌, length}
 use Rattle.claim_counter.specs.Passes.{own, size_of}
-use Rattle.claim_crew.specs.Crews.{IsAtWork}
+use Rattle.claim_crew.specs.Workers.{IsAtWork}
 use Rattle.claim_crew.proofs.worker.Worker.run.Given as goal
 
 abbrev pub invariant-loop-place : goal.invariant-loop-place

@@ -1,12 +1,10 @@
-use Rattle.std.proofs.Common.{◌≡◌, ℕ, ◌+◌, ◌<◌, ◌≤◌, ◌==◌, ◌&&◌, not, List, length, get_or, sym, ap, ◌∙◌, arith}
+use Rattle.std.proofs.Common.{◌≡◌, ℕ, ◌<◌, List, length, get_or, sym, ap, ◌∙◌, arith}
 use Rattle.std.proofs.Math.ListN.{set}
-use Rattle.audit_model.specs.Below.{count_below}
-use Rattle.audit_model.specs.Graph.{adjacent}
 use Rattle.audit_model.specs.Plan.{cut_edges}
-use Rattle.dual_graph.proofs.Rows.{get_or-map_below}
+use Rattle.model_laws.proofs.Meeting.{cut_edges_few}
+use Rattle.model_laws.proofs.Below.{get_or-map_below}
 use Rattle.district_sums.specs.Following.{Following, apart_of}
 use Rattle.district_sums.proofs.Shifted.{places, own_apart, shifted_cut}
-use Rattle.district_sums.proofs.Standing.{cut_few}
 use Rattle.district_sums.proofs.Walking.{apart_few}
 use Rattle.district_sums.proofs.sums.Sums.cut_after.Goals as goal
 
@@ -24,7 +22,7 @@ overflow_add-result c =
     let cut : c.self.inside.view.cut ≡ cut_edges g plan = ap (λ (s : Following). s.view.cut) c.self.view_is ∙ c.requires.cut in
     let now : c.others_than.result ≡ apart_of g after c.args.u =
     c.others_than.ensures ∙ sym (own_apart plan c.args.u c.args.d inside g c.units-units.ensures.sound c.requires.unit) in
-    omega (arith, cut, now, cut_few g plan, c.edges-edges.ensures.few, apart_few g after c.args.u, c.units-units.ensures.few)
+    omega (arith, cut, now, cut_edges_few g plan, c.edges-edges.ensures.few, apart_few g after c.args.u, c.units-units.ensures.few)
 
 pub overflow_sub-result : goal.overflow_sub-result
 overflow_sub-result c =

@@ -1,11 +1,12 @@
 use Rattle.std.proofs.Common.{◌≡◌, ℕ, ◌+◌, ◌-◌, ◌<◌, List, length, get_or, ap, ◌∙◌, arith}
 use Rattle.std.proofs.Math.ListN.{set}
 use Rattle.audit_model.specs.Plan.{district_sum, cut_edges}
-use Rattle.dual_graph.proofs.Rows.{get_or-map_below}
+use Rattle.model_laws.proofs.Meeting.{cut_edges_few}
+use Rattle.model_laws.proofs.Below.{get_or-map_below}
 use Rattle.district_sums.specs.Following.{Following, apart_of}
 use Rattle.district_sums.proofs.Shifted.{places, shifted_cut}
 use Rattle.district_sums.proofs.Walking.{apart_few}
-use Rattle.district_sums.proofs.Standing.{apart_width, cut_is, cut_few, all_stand}
+use Rattle.district_sums.proofs.Standing.{apart_width, cut_is, all_stand}
 use Rattle.district_sums.proofs.sums.Sums.shift.Goals as goal
 
 pub bounds-as_slice-u : goal.bounds-as_slice-u
@@ -33,7 +34,7 @@ overflow_add-self c =
     c.shift_counts.ensures.cut ∙ ap (λ (s : Following). s.view.cut) c.self.view_is ∙ cut_is g c.args.counts.now plan c.args.self.now c.requires.stands in
     let now : get_or c.as_slice-2.result.now c.args.u 0 ≡ apart_of g after c.args.u =
     ap (λ (xs : List ℕ). get_or xs c.args.u 0) (c.as_slice-2.ensures ∙ c.shift_apart.ensures) ∙ get_or-map_below g.units (apart_of g after) c.args.u 0 c.requires.unit in
-    omega (arith, cut, now, cut_few g plan, c.edges-edges.ensures.few, apart_few g after c.args.u, c.units-units.ensures.few)
+    omega (arith, cut, now, cut_edges_few g plan, c.edges-edges.ensures.few, apart_few g after c.args.u, c.units-units.ensures.few)
 
 pub overflow_sub-self : goal.overflow_sub-self
 overflow_sub-self c =

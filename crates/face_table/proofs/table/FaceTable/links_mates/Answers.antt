@@ -1,16 +1,13 @@
 use Rattle.std.proofs.Common.{◌≡◌, List, ℕ, [], map, get_or, subst}
 use Rattle.std.proofs.lemmas.Bool.{both_ways}
-use Rattle.audit_model.specs.Graph.{Graph, IsGraph}
-use Rattle.audit_model.specs.Local.{IsSimple}
+use Rattle.audit_model.specs.Graph.{Graph}
+use Rattle.model_laws.proofs.Local.{simple}
 use Rattle.faces.specs.Faces.{AreFaces}
 use Rattle.faces.proofs.Around.{linked_may_leave}
 use Rattle.faces.proofs.Linking.{leaving_is_linked}
 use Rattle.face_table.specs.declared.corner.Corner.{Corner}
 use Rattle.face_table.specs.Corners.{units_of}
 use Rattle.face_table.proofs.table.FaceTable.links_mates.Goals as goal
-
-simple : (g : Graph) → IsGraph g → IsSimple g
-simple g sound = record { symmetric = sound.symmetric; loopless = sound.loopless }
 
 are_at : (g h : Graph) (faces : List (List ℕ)) → h ≡ g → AreFaces h faces → AreFaces g faces
 are_at g h faces made are = subst (λ (t : Graph). AreFaces t faces) made are

@@ -1,7 +1,7 @@
 use Rattle.std.proofs.Common.{◌≡◌, ℕ, ◌+◌, ◌*◌, ◌<◌, Bool, true, false, not, ◌==◌, List, length, get_or, set, refl, sym, ap, subst, ◌∙◌, arith, length-set}
 use Rattle.std.proofs.lemmas.List.Elements.{All-get_or}
 use Rattle.audit_model.specs.Graph.{has, adjacent}
-use Rattle.dual_graph.proofs.Marking.{at_has}
+use Rattle.model_laws.proofs.Lists.{at_has}
 use Rattle.flip_kernel.specs.Openings.{IsTable}
 use Rattle.flip_kernel.proofs.Beside.{not_open, open_to_neighbour}
 use Rattle.flip_kernel.proofs.Tables.{place_within, IsRenewing, renewing_none, renewing_more, renewing_all}

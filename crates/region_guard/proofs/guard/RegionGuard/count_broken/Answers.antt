@@ -1,16 +1,17 @@
 use Rattle.std.proofs.Common.{◌≡◌, ℕ, not, List, length, get_or, sym, ap, ◌∙◌, arith}
 use Rattle.std.specs.Prelude.{nat_le}
-use Rattle.region_guard.proofs.Cells.{one_if, count_none}
-use Rattle.region_guard.proofs.Moves.{count_few, next_counted}
+use Rattle.region_guard.proofs.Cells.{one_if}
+use Rattle.region_guard.proofs.Moves.{next_counted}
 use Rattle.region_guard.proofs.guard.RegionGuard.count_broken.Goals as goal
 use Rattle.region_guard.proofs.guard.RegionGuard.count_broken.Goals.{then-not-passes, else-not-passes}
+use Rattle.model_laws.proofs.Below.{count_below_le, count_below_zero}
 
 pub loop-region-init : goal.loop-region-init
-loop-region-init g c = sym (count_none (λ q. not (nat_le (get_or c.as_slice-widths.result.now q 0) c.args.self.now.rules.max_split)))
+loop-region-init g c = sym (count_below_zero (λ q. not (nat_le (get_or c.as_slice-widths.result.now q 0) c.args.self.now.rules.max_split)))
 
 pub overflow_add-broken : goal.overflow_add-broken
 overflow_add-broken g c =
-    let few = count_few c.loop-region.region (λ q. not (nat_le (get_or c.as_slice-widths.result.now q 0) c.args.self.now.rules.max_split)) in
+    let few = count_below_le c.loop-region.region (λ q. not (nat_le (get_or c.as_slice-widths.result.now q 0) c.args.self.now.rules.max_split)) in
     let long = ap (length {A = ℕ}) c.as_slice-widths.ensures in
     omega (arith, few, long, c.loop-region.invariant, c.loop-region-test.true, c.requires.few)
 

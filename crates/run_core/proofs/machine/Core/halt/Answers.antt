@@ -2,7 +2,7 @@ use Rattle.std.proofs.Common.{◌≡◌, ℕ, ◌-◌, ◌<◌, Bool, false, not
 use Rattle.std.specs.Prelude.{◌++◌, ◌||◌}
 use Rattle.audit_model.specs.Below.{filter_below}
 use Rattle.audit_model.specs.Graph.{has}
-use Rattle.run_core.proofs.Marking.{IsMarked, written}
+use Rattle.run_core.proofs.Marking.{AreMarked, written}
 use Rattle.run_core.proofs.Stepping.{newly_below, kept_halted}
 use Rattle.run_core.proofs.machine.Core.halt.Goals as goal
 
@@ -20,7 +20,7 @@ invariant_of-self c =
     let long : length c.mark.new.marks ≡ length i.marks.items = c.mark.ensures.width ∙ ap length c.deref_mut.ensures.value in
     let whole : marks ≡ c.mark.new.marks = written c.mark.new.marks i.marks.items i.marks.len long i.marks.ok.0 in
     let width : length marks ≡ length i.marks.items = ap length whole ∙ long in
-    let marked : IsMarked i.marks.items marks (take (i.saved - i.started) (drop i.started i.done.items)) =
+    let marked : AreMarked i.marks.items marks (take (i.saved - i.started) (drop i.started i.done.items)) =
     λ id l. ap (λ (ms : List Bool). get_or ms id false) whole
     ∙ c.mark.ensures.marked id (omega (arith, l, ap length c.deref_mut.ensures.value))
     ∙ ap (λ (ms : List Bool). get_or ms id false || has (take (i.saved - i.started) (drop i.started c.deref.result.now)) id) c.deref_mut.ensures.value
@@ -43,7 +43,7 @@ returns-clause-sound c =
     let long : length c.mark.new.marks ≡ length i.marks.items = c.mark.ensures.width ∙ ap length c.deref_mut.ensures.value in
     let whole : marks ≡ c.mark.new.marks = written c.mark.new.marks i.marks.items i.marks.len long i.marks.ok.0 in
     let width : length marks ≡ length i.marks.items = ap length whole ∙ long in
-    let marked : IsMarked i.marks.items marks (take (i.saved - i.started) (drop i.started i.done.items)) =
+    let marked : AreMarked i.marks.items marks (take (i.saved - i.started) (drop i.started i.done.items)) =
     λ id l. ap (λ (ms : List Bool). get_or ms id false) whole
     ∙ c.mark.ensures.marked id (omega (arith, l, ap length c.deref_mut.ensures.value))
     ∙ ap (λ (ms : List Bool). get_or ms id false || has (take (i.saved - i.started) (drop i.started c.deref.result.now)) id) c.deref_mut.ensures.value

@@ -1,5 +1,5 @@
 use Rattle.std.proofs.Common.{rules, arith, sym, ap, subst, ◌∙◌, ◌≡◌, ◌<◌, ◌≤◌, List, ℕ, length, get_or}
-use Rattle.claim_counter.specs.Records.{times, with_claim}
+use Rattle.claim_counter.specs.Records.{with_claim}
 use Rattle.tally_desk.specs.Desks.{claimed_ids, ended_view, with_own}
 use Rattle.tally_desk.specs.Founded.{parts_of}
 use Rattle.tally_desk.specs.Homes.{HomeAs}
@@ -7,6 +7,7 @@ use Rattle.tally_desk.specs.Views.{PassView, view_in}
 use Rattle.tally_desk.proofs.Seating.{drew_end, drew_few, drew_new, drew_place, only_view, still_empty}
 use Rattle.tally_desk.proofs.Steps.{claim}
 use Rattle.tally_desk.proofs.desk.Desk.claim.Goals as goal
+use Rattle.model_laws.specs.Times.{times}
 
 pub fetch_add-drawn-requires : goal.fetch_add-drawn-requires
 fetch_add-drawn-requires g c =

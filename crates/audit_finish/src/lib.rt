@@ -1,0 +1,4 @@
+//! The rest of a run, by what its setting asks for.
+#![tactic(auto)]
+
+pub mod run;

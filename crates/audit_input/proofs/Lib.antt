@@ -1,0 +1,4 @@
+mod Judging
+mod Making
+mod Preparing
+mod Streams

@@ -1,0 +1,55 @@
+-- Bytes read and written in turns.
+use Rattle.std.proofs.Common.{◌≡◌, ℕ, suc, true, ◌<◌, List, [], ◌++◌, length, Option, Some, None, refl, ap, sym, ◌∙◌, append_assoc, length-append, arith}
+use Rattle.std.proofs.lemmas.List.{append-nil}
+use Rattle.std.specs.Io.KnownBytes.{Consumes, IsAtEnd}
+use Rattle.audit_statement.specs.Accepted.{most_bytes}
+use Rattle.audit_statement.specs.Ends.{TakesTooMany}
+use Rattle.audit_input.specs.Steps.{ReadsTooMany}
+use Rattle.audit_statement.specs.World.{Stream, IfKnown}
+
+pub consumes_then : (a b c : Option (List ℕ)) (xs ys : List ℕ) → Consumes a b xs → Consumes b c ys → Consumes a c (xs ++ ys)
+consumes_then None b c xs ys p q = tt
+consumes_then (Some u) None c xs ys p q = absurd p
+consumes_then (Some u) (Some v) None xs ys p q = absurd q
+consumes_then (Some u) (Some v) (Some w) xs ys p q = p ∙ ap (λ r. xs ++ r) q ∙ sym (append_assoc xs ys w)
+
+-- at the end, what was consumed is all that was left
+pub consumed_all : (a c : Option (List ℕ)) (xs : List ℕ) → Consumes a c xs → IsAtEnd c → IfKnown a (λ left. left ≡ xs)
+consumed_all None c xs p e = tt
+consumed_all (Some u) None xs p e = absurd p
+consumed_all (Some u) (Some v) xs p e = p ∙ ap (λ r. xs ++ r) e ∙ append-nil xs
+
+-- what was left: the told bytes, or else what was consumed
+abbrev pub left_or : Option (List ℕ) → List ℕ → List ℕ
+left_or None xs = xs
+left_or (Some left) xs = left
+
+pub left_is : (a : Option (List ℕ)) (xs : List ℕ) → IfKnown a (λ left. left ≡ left_or a xs)
+left_is None xs = tt
+left_is (Some left) xs = refl
+
+pub left_many : (a c : Option (List ℕ)) (xs : List ℕ) (n : ℕ) → Consumes a c xs → n < length xs → n < length (left_or a xs)
+left_many None c xs n p h = h
+left_many (Some u) None xs n p h = absurd p
+left_many (Some u) (Some v) xs n p h = omega (arith, ap length p, length-append xs v)
+
+-- so many were taken
+pub left_taken : (a c : Option (List ℕ)) (xs : List ℕ) → Consumes a c xs → length xs ≡ suc most_bytes → TakesTooMany true a c
+left_taken None c xs p h = tt
+left_taken (Some u) None xs p h = absurd p
+left_taken (Some u) (Some v) xs p h = omega (arith, ap length p, length-append xs v)
+
+-- more than the limit was left, and one byte more than the limit was taken
+pub reads_too_many : (before after : Stream) (xs : List ℕ) → Consumes before.bytes after.bytes xs → length xs ≡ suc most_bytes
+    → after.faults ≡ before.faults → ReadsTooMany before after
+reads_too_many before after xs p h same = record {
+  bytes = left_or before.bytes xs;
+  given = left_is before.bytes xs;
+  many = left_many before.bytes after.bytes xs most_bytes p (omega arith);
+  taken = left_taken before.bytes after.bytes xs p h;
+  faults = same;
+}
+
+pub consumes_nothing : (a : Option (List ℕ)) → Consumes a a []
+consumes_nothing None = tt
+consumes_nothing (Some u) = refl

@@ -1,0 +1,5 @@
+//! From the words and the source to a job.
+#![tactic(auto)]
+
+pub mod prepare;
+pub mod reading;

@@ -1,0 +1,47 @@
+//! The source, read to its end.
+
+ghost use Rattle.audit_input.specs.Steps.{ReadsSource};
+ghost use Rattle.audit_statement.specs.World.{stream};
+
+use audit_io::source::Source;
+use audit_model::buffers::Bytes;
+use std::alloc::Global;
+
+/// The most bytes of a graph.
+pub const MOST_BYTES: usize = 67_108_864;
+
+// The most bytes of one read.
+const TURN: usize = 4096;
+
+/// Why the source was not read to its end.
+#[derive(Clone, Copy)]
+pub enum ReadEnd {
+    Failed,
+    TooMany,
+    Memory,
+}
+
+/// All bytes of the source, of which it takes at most one more than the limit.
+pub fn read_source<S: Source>(alloc: Global, source: &mut S) -> Result<Bytes, ReadEnd>
+    ensures { ReadsSource (stream S.left S.faults source.old) (stream S.left S.faults source.new) result }
+{
+    let mut bytes = Bytes::new(alloc);
+    let mut buffer = [0u8; TURN];
+    'turns: while bytes.len() <= MOST_BYTES {
+        let wanted = TURN.min(MOST_BYTES + 1 - bytes.len());
+        let room = &mut buffer[..wanted];
+        match source.read(room) {
+            Err(_) => return Err(ReadEnd::Failed),
+            Ok(count) => {
+                if count == 0 {
+                    return Ok(bytes);
+                }
+                match bytes.append(&room[..count]) {
+                    Ok(()) => {}
+                    Err(_) => return Err(ReadEnd::Memory),
+                }
+            }
+        }
+    }
+    Err(ReadEnd::TooMany)
+}

@@ -1,0 +1,96 @@
+-- From the reason of an ending to what the statuses say.
+use Rattle.std.proofs.Common.{◌≡◌, ◌⊎◌, inl, inr, ℕ, ◌&&◌, Bool, true, false, IsTrue, List, Option, Some, None, Ok, Err, refl, sym, subst, ap, ◌∙◌}
+use Rattle.audit_model.specs.declared.setting.Setting.{Setting}
+use Rattle.audit_model.specs.Job.{Job}
+use Rattle.note_definitions.specs.Note.{Ending, bad_words, too_many_bytes, bad_graph, bad_regions, bad_table, bad_plan, bad_plan_named, no_memory, read_fault, write_fault, load_fault, stopped, damaged, other_job, save_fault}
+use Rattle.word_definitions.specs.Words.{setting_of}
+use Rattle.audit_statement.specs.Accepted.{IsAccepted, IsRefused, judged, input_of}
+use Rattle.audit_statement.specs.Causes.{IsTold, MayEndWell, IsComplete, HasBudget}
+use Rattle.audit_statement.specs.Status.{status_of}
+use Rattle.audit_statement.specs.Ends.{Cause, EndsFor, told_opening, leaves_work, is_walking, IsStopped, IsSlotsFault}
+use Rattle.audit_statement.specs.World.{Stream, World}
+use Rattle.audit_steps.proofs.Telling.{known_at, same_setting}
+use Rattle.audit_steps.proofs.Starting.{opening_known, undefined_known}
+use Rattle.audit_io.specs.Slots.{Pair}
+
+-- a refusal of what is told is a refusal of the told bytes
+pub refused_at : (words : List (List ℕ)) (before : World) (setting : Setting) (bytes : List ℕ) (ending : Ending)
+    → IsTold words before setting bytes → IsRefused words before.source.bytes ending → judged setting bytes ≡ Err ending
+refused_at words before setting bytes ending told refused =
+    let same : refused.setting ≡ setting = same_setting words _ _ refused.words_are told.words_are in
+    let input : input_of refused.setting before.source.bytes ≡ Some bytes = subst (λ (s : Setting). input_of s before.source.bytes ≡ Some bytes) (sym same) told.input in
+    let read : bytes ≡ refused.bytes = known_at _ bytes (λ b. b ≡ refused.bytes) input refused.given in
+    let err : judged refused.setting bytes ≡ Err ending = subst (λ (b : List ℕ). judged refused.setting b ≡ Err ending) (sym read) refused.judged_so in
+    subst (λ (s : Setting). judged s bytes ≡ Err ending) same err
+
+-- the job of what is told is that of the told bytes
+pub accepted_at : (words : List (List ℕ)) (before : World) (setting : Setting) (bytes : List ℕ) (job : Job)
+    → IsTold words before setting bytes → IsAccepted words before.source.bytes job → judged setting bytes ≡ Ok job
+accepted_at words before setting bytes job told accepted =
+    let same : job.setting ≡ setting = same_setting words _ _ accepted.words_are told.words_are in
+    let input : input_of job.setting before.source.bytes ≡ Some bytes = subst (λ (s : Setting). input_of s before.source.bytes ≡ Some bytes) (sym same) told.input in
+    let read : bytes ≡ accepted.bytes = known_at _ bytes (λ b. b ≡ accepted.bytes) input accepted.given in
+    let ok : judged job.setting bytes ≡ Ok job = subst (λ (b : List ℕ). judged job.setting b ≡ Ok job) (sym read) accepted.judged_so in
+    subst (λ (s : Setting). judged s bytes ≡ Ok job) same ok
+
+-- what is told and accepted is not refused
+pub not_refused : (words : List (List ℕ)) (before : World) (job : Job) (bytes : List ℕ) (ending : Ending)
+    → IsTold words before job.setting bytes → judged job.setting bytes ≡ Ok job → IsRefused words before.source.bytes ending → ⊥
+not_refused words before job bytes ending told ok refused =
+    let err : judged job.setting bytes ≡ Err ending = refused_at words before job.setting bytes ending told refused in
+    cc
+
+-- what is told and accepted is the job of the call
+pub same_job : (words : List (List ℕ)) (before : World) (job other : Job) (bytes : List ℕ)
+    → IsTold words before job.setting bytes → judged job.setting bytes ≡ Ok job → IsAccepted words before.source.bytes other → other ≡ job
+same_job words before job other bytes told ok accepted =
+    let ok' : judged job.setting bytes ≡ Ok other = accepted_at words before job.setting bytes other told accepted in
+    cc
+
+pub both_left : (a b : Bool) → IsTrue (a && b) → a ≡ true
+both_left true b h = refl
+both_left false b h = cc
+
+-- no work is left of the told opening, so the call did not stop early
+pub not_stopped : (words : List (List ℕ)) (before after : World) (done all : ℕ) → MayEndWell words before after → IsStopped words before after done all → ⊥
+not_stopped words before after done all m s =
+    let same : s.job ≡ m.job = same_job words before m.job s.job m.bytes m.told m.accepted s.prepared.accepted in
+    let walking : is_walking m.job.setting.command ≡ true = ap (λ (j : Job). is_walking j.setting.command) (sym same) ∙ both_left _ _ s.saving in
+    let has : HasBudget true m.job before = subst (λ (b : Bool). HasBudget b m.job before) walking m.budget in
+    let told : told_opening s.job before.keeper.slots ≡ Some (Some has.0) = subst (λ (j : Job). told_opening j before.keeper.slots ≡ Some (Some has.0)) (sym same) has.1 in
+    let opened : Some has.0 ≡ Some s.stopped.outcomes = known_at _ (Some has.0) (λ o. o ≡ Some s.stopped.outcomes) told (opening_known s.job before.keeper.slots s.stopped.outcomes s.stopped.opened) in
+    let left : leaves_work s.job s.stopped.outcomes ≡ true = s.stopped.work_left in
+    let enough : leaves_work m.job has.0 ≡ false = has.2 in
+    cc
+
+pub not_undefined : (words : List (List ℕ)) (before after : World) (found : Job → Pair → Type 0) → MayEndWell words before after
+    → IsSlotsFault words before after found → ⊥
+not_undefined words before after found m s =
+    let same : s.job ≡ m.job = same_job words before m.job s.job m.bytes m.told m.accepted s.prepared.accepted in
+    let walking : is_walking m.job.setting.command ≡ true = ap (λ (j : Job). is_walking j.setting.command) (sym same) ∙ both_left _ _ s.resuming in
+    let has : HasBudget true m.job before = subst (λ (b : Bool). HasBudget b m.job before) walking m.budget in
+    let told : told_opening s.job before.keeper.slots ≡ Some (Some has.0) = subst (λ (j : Job). told_opening j before.keeper.slots ≡ Some (Some has.0)) (sym same) has.1 in
+    let none : Some has.0 ≡ None = known_at _ (Some has.0) (λ o. o ≡ None) told (undefined_known s.job before.keeper.slots (found s.job) s.seen) in
+    cc
+
+pub completes : (words : List (List ℕ)) (before after : World) (reason : Option Ending) → Cause words before after reason
+    → MayEndWell words before after → (status_of reason ≡ 0) ⊎ (status_of reason ≡ 3)
+completes words before after None c m = inl refl
+completes words before after (Some (bad_words f)) c m = let e : setting_of words ≡ Ok m.job.setting = m.told.words_are in let d : setting_of words ≡ Err f = c in cc
+completes words before after (Some too_many_bytes) c m = absurd (not_refused words before m.job m.bytes _ m.told m.accepted c.refused)
+completes words before after (Some (bad_graph f)) c m = absurd (not_refused words before m.job m.bytes _ m.told m.accepted c)
+completes words before after (Some (bad_regions column f)) c m = absurd (not_refused words before m.job m.bytes _ m.told m.accepted c)
+completes words before after (Some (bad_table f)) c m = absurd c
+completes words before after (Some (bad_plan_named name f)) c m = absurd c
+completes words before after (Some (bad_plan f)) c m = absurd (not_refused words before m.job m.bytes _ m.told m.accepted c)
+completes words before after (Some no_memory) c m = inr refl
+completes words before after (Some read_fault) c m = absurd (m.reads c.rose)
+completes words before after (Some write_fault) c m = absurd (m.writes c.rose)
+completes words before after (Some load_fault) c m = absurd (m.loads c.rose)
+completes words before after (Some (stopped done all)) c m = absurd (not_stopped words before after done all m c)
+completes words before after (Some (damaged zero one)) c m = absurd (not_undefined words before after _ m c)
+completes words before after (Some (other_job found wanted)) c m = absurd (not_undefined words before after _ m c)
+completes words before after (Some save_fault) c m = absurd (m.saves c.rose)
+
+pub is_complete : (words : List (List ℕ)) (before after : World) (n m : Stream) (status : ℕ) → EndsFor words before after n m status → IsComplete words before after status
+is_complete words before after n m status e = λ well. subst (λ (s : ℕ). (s ≡ 0) ⊎ (s ≡ 3)) (sym e.status_is) (completes words before after e.reason e.cause well)

@@ -1,0 +1,297 @@
+-- From honest slots to the report of one thread, and to honest slots again.
+use Rattle.std.proofs.Common.{◌≡◌, ◌⊎◌, inl, inr, ℕ, zero, suc, ◌+◌, ◌-◌, ◌*◌, ◌/◌, ◌%◌, ◌^◌, ◌<◌, ◌≤◌, ◌||◌, not, Bool, true, false, cond, List, [], ◌∷◌, length, map, min, get_or, Option, Some, None, refl, sym, ap, ◌∙◌, subst, All, div-add-mod', arith}
+use Rattle.std.specs.Prelude.{◌==◌, find, IsTrue, ⊤}
+use Rattle.std.proofs.lemmas.Bool.{cases_order, eqb-true, ne_eqb}
+use Rattle.std.proofs.lemmas.List.{append-nil, get_or-map, length-map}
+use Rattle.std.proofs.lemmas.List.Elements.{All-contains, All-map, All-nil}
+use Rattle.audit_io.specs.Faults.{Rose}
+use Rattle.audit_io.specs.Slots.{Pair, stored}
+use Rattle.audit_io.specs.Tries.{Try}
+use Rattle.audit_model.specs.declared.outcome.Outcome.{Outcome}
+use Rattle.audit_model.specs.Below.{filter_below}
+use Rattle.audit_model.specs.Graph.{has}
+use Rattle.audit_model.specs.Job.{Job}
+use Rattle.audit_model.specs.Run.{total, has_id, run_ids, kept_or, outcome_from, full, IsRight}
+use Rattle.audit_model.specs.Trajectory.{outcome}
+use Rattle.checkpoint_definitions.specs.Checkpoint.{job_digest}
+use Rattle.checkpoint_definitions.specs.Slots.{IsHonestSlot, opening, slot_of}
+use Rattle.ckpt_store.specs.declared.slots.Place.{Place}
+use Rattle.ckpt_store.specs.Histories.{IsRightSave}
+use Rattle.ckpt_store.specs.Laws.{HonestSlotsOpenRight, RightIsHonest}
+use Rattle.draw_definitions.specs.Draw.{draw}
+use Rattle.tally_desk.specs.InTurn.{saves_of}
+use Rattle.word_definitions.specs.Words.{setting_of}
+use Rattle.note_definitions.specs.Note.{Ending, write_fault, stopped, save_fault}
+use Rattle.audit_statement.specs.Causes.{IsTheJob}
+use Rattle.audit_statement.specs.Chain.{AreHonestOf, StaysHonest, TriedRightly, TriesOver}
+use Rattle.audit_statement.specs.Ends.{Cause, EndsFor, IfBothKnown, IsOpening, IsOpeningOrFound, IsPartly, IsPrepared, IsTryOf, LeavesUntouched, NoSaveFailed, SameUnless, SavesAll, SavesInTurn, SavesInTurnAt, SavesWhere, TriesOf, TriesTold, count_of_saves, full_of, last_place, marks_of, opening_by, passes, saves, told_opening}
+use Rattle.audit_statement.specs.Headline.{WritesWhole}
+use Rattle.audit_statement.specs.World.{IfKnown, Stream, World}
+use Rattle.audit_steps.proofs.Starting.{none_right, opening_known}
+use Rattle.audit_steps.proofs.Listing.{each_passes, each_rises}
+use Rattle.audit_steps.proofs.Running.{find_passes, kept_id, rising_apart}
+use Rattle.audit_laws.proofs.Statuses.{job_is}
+
+-- ---- all outcomes of a run are right where those of its opening are
+
+find_all : (P : Outcome → Type 0) (test : Outcome → Bool) (os : List Outcome) (o : Outcome) → All P os → find test os ≡ Some o → P o
+find_all P test [] o all e = cc
+find_all P test (x ∷ xs) o all e = by (test x) refl (find_all P test xs o (λ k d inside. all (suc k) d (omega arith)))
+  where
+    by : (b : Bool) → test x ≡ b → (find test xs ≡ Some o → P o) → P o
+    by true passes rec =
+        let here : Some x ≡ Some o = ap (λ b. cond b (Some x) (find test xs)) (sym passes) ∙ e in
+        let same : x ≡ o = cc in
+        subst P same (all 0 x (omega arith))
+    by false fails rec = rec (ap (λ b. cond b (Some x) (find test xs)) (sym fails) ∙ e)
+
+module _ (job : Job) (kept : List Outcome) (right : IsRight job (draw job.setting.key) kept) where
+  from_is : (id : ℕ) → outcome_from job (draw job.setting.key) kept id ≡ outcome job (draw job.setting.key) id
+  from_is id = by (find (λ o. o.id == id) kept) refl
+    where
+      by : (o : Option Outcome) → find (λ o. o.id == id) kept ≡ o → kept_or job (draw job.setting.key) id o ≡ outcome job (draw job.setting.key) id
+      by None e = refl
+      by (Some o) e =
+          find_all (λ (x : Outcome). x ≡ outcome job (draw job.setting.key) x.id) (λ o. o.id == id) kept o right.found e
+          ∙ ap (outcome job (draw job.setting.key)) (eqb-true o.id id (find_passes (λ o. o.id == id) kept o e))
+
+  mapped_right : (test : ℕ → Bool) → IsRight job (draw job.setting.key) (map (outcome_from job (draw job.setting.key) kept) (filter_below (total job) test))
+  mapped_right test = record {
+    apart = λ i j d before inside same.
+        let ids = filter_below (total job) test in
+        let within : j < length ids = omega (arith, inside, length-map ids (outcome_from job (draw job.setting.key) kept)) in
+        let less : get_or ids i 0 < get_or ids j 0 = each_rises (total job) test i j 0 before within in
+        absurd (omega (arith, less, at i d (omega arith), at j d within, same));
+    below = All-map (λ (o : Outcome). o.id < total job) (outcome_from job (draw job.setting.key) kept) (filter_below (total job) test)
+        (λ k d inside. subst (λ n. n < total job) (sym (kept_id job kept (get_or (filter_below (total job) test) k d))) (each_passes (total job) test k d inside).0);
+    found = All-map (λ (o : Outcome). o ≡ outcome job (draw job.setting.key) o.id) (outcome_from job (draw job.setting.key) kept) (filter_below (total job) test)
+        (λ k d inside.
+        let id = get_or (filter_below (total job) test) k d in
+        from_is id ∙ ap (outcome job (draw job.setting.key)) (sym (kept_id job kept id)));
+  }
+    where
+      at : (k : ℕ) (d : Outcome) → k < length (filter_below (total job) test)
+          → (get_or (map (outcome_from job (draw job.setting.key) kept) (filter_below (total job) test)) k d).id ≡ get_or (filter_below (total job) test) k 0
+      at k d l =
+          ap (λ (o : Outcome). o.id) (get_or-map (outcome_from job (draw job.setting.key) kept) (filter_below (total job) test) k 0 d l)
+          ∙ kept_id job kept (get_or (filter_below (total job) test) k 0)
+
+  full_right : IsRight job (draw job.setting.key) (full_of job kept)
+  unfolding full
+  full_right = mapped_right (λ id. has_id kept id || has (run_ids job kept job.setting.budget) id)
+
+-- ---- with what a run starts
+
+module _ (law : HonestSlotsOpenRight) (job : Job) where
+  told_right : (p : Pair) (outcomes : List Outcome) → AreHonestOf job p → opening true job.setting (slot_of job (job_digest job) p.zero_slot) (slot_of job (job_digest job) p.one_slot) ≡ Some outcomes
+      → IsRight job (draw job.setting.key) outcomes
+  told_right p outcomes honest e =
+      law job (draw job.setting.key) (slot_of job (job_digest job) p.zero_slot) (slot_of job (job_digest job) p.one_slot) outcomes honest.zero_slot honest.one_slot e
+
+  opening_right : (p : Pair) (outcomes : List Outcome) → IsOpening job (Some p) outcomes → AreHonestOf job p → IsRight job (draw job.setting.key) outcomes
+  opening_right p outcomes opened honest = by job.setting.resume (opening_known job (Some p) outcomes opened)
+    where
+      by : (b : Bool) → IfKnown (opening_by b job (Some p)) (λ o. o ≡ Some outcomes) → IsRight job (draw job.setting.key) outcomes
+      by true e = told_right p outcomes honest e
+      by false e = let none : [] ≡ outcomes = cc in subst (λ os. IsRight job (draw job.setting.key) os) none (none_right job (draw job.setting.key))
+
+  start_right : (slots : Option Pair) (outcomes : List Outcome) → told_opening job slots ≡ Some (Some outcomes) → (IsTrue job.setting.resume → IfKnown slots (AreHonestOf job))
+      → IsRight job (draw job.setting.key) outcomes
+  start_right slots outcomes opened honest = by job.setting.resume slots opened honest
+    where
+      by : (b : Bool) (s : Option Pair) → opening_by b job s ≡ Some (Some outcomes) → (IsTrue b → IfKnown s (AreHonestOf job)) → IsRight job (draw job.setting.key) outcomes
+      by false s e h = let none : [] ≡ outcomes = cc in subst (λ os. IsRight job (draw job.setting.key) os) none (none_right job (draw job.setting.key))
+      by true None e h = cc
+      by true (Some p) e h =
+          let same : opening true job.setting (slot_of job (job_digest job) p.zero_slot) (slot_of job (job_digest job) p.one_slot) ≡ Some outcomes = cc in
+          told_right p outcomes (h refl) same
+
+-- ---- what a run leaves
+
+pub rises_or_not : (before now : ℕ) → Rose before now ⊎ (Rose before now → ⊥)
+rises_or_not before now = by (cases_order (min (before + 1) (2 ^ 64 - 1)) now)
+  where
+    by : (min (before + 1) (2 ^ 64 - 1) ≡ now) ⊎ ((min (before + 1) (2 ^ 64 - 1) < now) ⊎ (now < min (before + 1) (2 ^ 64 - 1))) → Rose before now ⊎ (Rose before now → ⊥)
+    by (inl e) = inl (omega arith)
+    by (inr (inl l)) = inl (omega arith)
+    by (inr (inr l)) = inr (λ r. absurd (omega arith))
+
+both_known : {A : Type 0} (a b : Option A) (p q : A) (P : A → A → Type 0) → a ≡ Some p → b ≡ Some q → IfBothKnown a b P → P p q
+both_known a b p q P e f h = subst (λ x. IfBothKnown x (Some q) P) e (subst (λ y. IfBothKnown a y P) f h)
+
+-- there is at least one save
+either_way : (n : ℕ) → ((n == 0) || not (n == 0)) ≡ true
+either_way zero = refl
+either_way (suc n) = ap (λ (b : Bool). b || not b) (ne_eqb (suc n) 0 (λ e. absurd (omega (arith, e))))
+
+some_save : (posts every : ℕ) → 1 ≤ saves_of posts every
+some_save posts every = by (posts / every) refl
+  where
+    by : (k : ℕ) → posts / every ≡ k → 1 ≤ saves_of posts every
+    by zero none =
+        let groups = div-add-mod' posts every in
+        let no_groups : 0 * every ≡ 0 = omega arith in
+        let none_whole : posts / every * every ≡ 0 = ap (λ (k : ℕ). k * every) none ∙ no_groups in
+        let rest : posts % every ≡ posts = omega (arith, groups, none_whole) in
+        let one : cond {A = ℕ} ((posts == 0) || not (posts % every == 0)) 1 0 ≡ 1 =
+        ap (λ (k : ℕ). cond {A = ℕ} ((posts == 0) || not (k == 0)) 1 0) rest ∙ ap (λ (b : Bool). cond {A = ℕ} b 1 0) (either_way posts) in
+        omega (arith, one)
+    by (suc k) some_groups = omega (arith, some_groups)
+
+module _ (honestly : RightIsHonest) (job : Job) (p q : Pair) (honest : AreHonestOf job p) where
+  abbrev IsHonestHere : Option (List ℕ) → Type 0
+  IsHonestHere s = IsHonestSlot job (draw job.setting.key) (slot_of job (job_digest job) s)
+
+  -- both slots, each named
+  both_honest : (n : ℕ) → IsHonestHere (stored q n) → IsHonestHere (stored q (1 - n)) → AreHonestOf job q
+  both_honest zero here beside = record { zero_slot = here; one_slot = beside }
+  both_honest (suc n) here beside = let other : 1 - suc n ≡ 0 = omega arith in record { zero_slot = subst (λ (k : ℕ). IsHonestHere (stored q k)) other beside; one_slot = here }
+
+  was_honest : (n : ℕ) → IsHonestHere (stored p n)
+  was_honest zero = honest.zero_slot
+  was_honest (suc n) = honest.one_slot
+
+  -- what holds of the opening's outcomes and of what is found holds of a part
+  part_all : (opening : List Outcome) (P : Outcome → Type 0) → All P opening
+      → ((o : Outcome) → o.id < total job → o ≡ outcome job (draw job.setting.key) o.id → P o) → (o : Outcome) → IsOpeningOrFound job opening o → P o
+  part_all opening P all found o (inl has) = All-contains P opening o all has
+  part_all opening P all found o (inr is) = found o is.1 is.3
+
+  part_right : (opening : List Outcome) (count generation : ℕ) (s : Option (List ℕ)) → IsRight job (draw job.setting.key) opening → IsPartly job opening count generation s → IsHonestHere s
+  part_right opening count generation s right part = subst (IsHonestSlot job (draw job.setting.key)) (sym part.slot_is) (honestly job (draw job.setting.key) part.saved (record {
+    apart = rising_apart part.saved part.sound.rising;
+    below = λ k d inside. part_all opening (λ (o : Outcome). o.id < total job) right.below (λ o less is. less) _ (part.holds.each k d inside);
+    found = λ k d inside. part_all opening (λ (o : Outcome). o ≡ outcome job (draw job.setting.key) o.id) right.found (λ o less is. is) _ (part.holds.each k d inside);
+  }))
+
+  beside_honest : (opening : List Outcome) (at : Place) (count : ℕ) → 1 ≤ count → IsRight job (draw job.setting.key) opening → SavesInTurnAt job opening p q at count
+      → IsHonestHere (stored q (1 - at.slot))
+  beside_honest opening at zero least right s = absurd (omega arith)
+  beside_honest opening at (suc zero) least right s = subst IsHonestHere (sym (s.only refl)) (was_honest (1 - at.slot))
+  beside_honest opening at (suc (suc n)) least right s = part_right opening _ _ (stored q (1 - at.slot)) right (s.before_last (omega arith))
+
+  pub turns_stay : (opening : List Outcome) → IsRight job (draw job.setting.key) opening → SavesInTurn job opening p q → AreHonestOf job q
+  turns_stay opening right s =
+      both_honest (last_place job opening p).slot (subst (IsHonestSlot job (draw job.setting.key)) (sym s.last_is) (honestly job (draw job.setting.key) (full_of job opening) (full_right job opening right)))
+      (beside_honest opening (last_place job opening p) (count_of_saves job opening) (some_save (length (run_ids job opening job.setting.budget)) job.setting.save_every) right s)
+
+module _ (law : HonestSlotsOpenRight) (honestly : RightIsHonest) (words : List (List ℕ)) (before after : World) (p q : Pair) (was : before.keeper.slots ≡ Some p) (is : after.keeper.slots ≡ Some q) where
+  -- what is to be shown of a job
+  abbrev Stays : Job → Type 0
+  Stays job = AreHonestOf job p → NoSaveFailed before after → AreHonestOf job q
+
+  unchanged : (job : Job) → after.keeper.slots ≡ before.keeper.slots → Stays job
+  unchanged job same honest calm =
+      let e : Some p ≡ Some q = sym was ∙ sym same ∙ is in
+      let eq : p ≡ q = cc in
+      subst (AreHonestOf job) eq honest
+
+  opening_of_told : (job : Job) (outcomes : List Outcome) → IsOpening job before.keeper.slots outcomes → AreHonestOf job p → IsRight job (draw job.setting.key) outcomes
+  opening_of_told job outcomes opened honest = opening_right law job p outcomes (subst (λ (s : Option Pair). IsOpening job s outcomes) was opened) honest
+
+  all_stays : (made : Type 0) (job : Job) → (NoSaveFailed before after → made) → SavesAll made job before after → Stays job
+  all_stays made job m s honest calm =
+      turns_stay honestly job p q honest s.outcomes (opening_of_told job s.outcomes s.opened honest) (both_known _ _ p q (SavesInTurn job s.outcomes) was is (s.in_turn (m calm)))
+
+  where_stays : (b : Bool) (made : Type 0) (job : Job) → (NoSaveFailed before after → made) → SavesWhere b made job before after → Stays job
+  where_stays false made job m s = unchanged job s
+  where_stays true made job m s = all_stays made job m s
+
+  pub stays_at : (job : Job) → IsTheJob words before job → (r : Option Ending) → Cause words before after r → LeavesUntouched words before after (marks_of r) → Stays job
+  stays_at job t None c u = subst Stays (job_is words before after job c.job t c.prepared) (where_stays (saves c.job.setting) ⊤ c.job (λ _. tt) c.saved)
+  stays_at job t (Some write_fault) c u =
+      subst Stays (job_is words before after job c.job t c.prepared) (where_stays (saves c.job.setting) (NoSaveFailed before after) c.job (λ calm. calm) c.saved)
+  stays_at job t (Some (stopped done all)) c u = subst Stays (job_is words before after job c.job t c.prepared) (all_stays ⊤ c.job (λ _. tt) c.saved)
+  stays_at job t (Some save_fault) c u = λ honest calm. absurd (calm c.rose)
+  stays_at job t r c u = unchanged job u.slots
+
+pub stays_honest : HonestSlotsOpenRight → RightIsHonest → (words : List (List ℕ)) (before after : World) (n m : Stream) (status : ℕ) → EndsFor words before after n m status
+    → WritesWhole words before after status → StaysHonest words before after status
+stays_honest law honestly words before after n m status e w = record {
+  opens_right = λ job outcomes s honest. start_right law job before.keeper.slots outcomes s.opened honest;
+  one_thread = λ job outcomes s honest z. w.one_thread job outcomes s (start_right law job before.keeper.slots outcomes s.opened honest) z;
+  stays = λ job p q t was is honest calm. stays_at law honestly words before after p q was is job t e.reason e.cause e.untouched honest calm;
+}
+
+-- ---- what it tried
+
+module _ (law : HonestSlotsOpenRight) (words : List (List ℕ)) (before after : World) (p : Pair) (was : before.keeper.slots ≡ Some p) where
+  abbrev Tried : Job → Type 0
+  Tried job = IfBothKnown before.keeper.tried after.keeper.tried (TriesOver job before after p)
+
+  -- nothing was tried
+  tried_none : (job : Job) → after.keeper.tried ≡ before.keeper.tried → after.keeper.save_faults ≡ before.keeper.save_faults → Tried job
+  tried_none job same calm = subst (λ (x : Option (List Try)). IfBothKnown before.keeper.tried x (TriesOver job before after p)) (sym same) (by before.keeper.tried)
+    where
+      by : (a : Option (List Try)) → IfBothKnown a a (TriesOver job before after p)
+      by None = tt
+      by (Some told) = record {
+        tries = [];
+        appended = sym (append-nil told);
+        in_turn = tt;
+        each = λ outcomes opened. All-nil (IsTryOf job outcomes);
+        growing = λ i j d less inside. absurd (omega arith);
+        covered = omega (arith, calm);
+        right = λ honest. All-nil (λ (t : Try). IsRightSave job (draw job.setting.key) (job_digest job) t.bytes);
+      }
+
+  opening_told : (job : Job) (outcomes : List Outcome) → IsOpening job before.keeper.slots outcomes → told_opening job before.keeper.slots ≡ Some (Some outcomes)
+  opening_told job outcomes opened = by job.setting.resume before.keeper.slots was (opening_known job before.keeper.slots outcomes opened)
+    where
+      by : (b : Bool) (s : Option Pair) → s ≡ Some p → IfKnown (opening_by b job s) (λ o. o ≡ Some outcomes) → opening_by b job s ≡ Some (Some outcomes)
+      by false s e h = ap (λ (o : Option (List Outcome)). Some o) h
+      by true None e h = cc
+      by true (Some r) e h = ap (λ (o : Option (List Outcome)). Some o) h
+
+  over_of : (job : Job) (outcomes : List Outcome) → IsOpening job before.keeper.slots outcomes → (told now : List Try) → TriesOf job outcomes p before.keeper.save_faults after.keeper.save_faults told now → TriesOver job before after p told now
+  over_of job outcomes opened told now t = record {
+    tries = t.tries;
+    appended = t.appended;
+    in_turn = t.in_turn;
+    each = λ others others_told.
+        let same : Some (Some outcomes) ≡ Some (Some others) = sym (opening_told job outcomes opened) ∙ others_told in
+        let is : outcomes ≡ others = cc in
+        subst (λ (os : List Outcome). All (IsTryOf job os) t.tries) is t.each;
+    growing = t.growing;
+    covered = t.covered;
+    right = λ honest. t.right (start_right law job before.keeper.slots outcomes (opening_told job outcomes opened) honest);
+  }
+
+  told_map : (a b : Option (List Try)) (P Q : List Try → List Try → Type 0) → ((x y : List Try) → P x y → Q x y) → IfBothKnown a b P → IfBothKnown a b Q
+  told_map None b P Q f h = tt
+  told_map (Some x) None P Q f h = h
+  told_map (Some x) (Some y) P Q f h = f x y h
+
+  tried_all_of : (job : Job) (outcomes : List Outcome) → IsOpening job before.keeper.slots outcomes → TriesTold job outcomes before.keeper after.keeper → Tried job
+  tried_all_of job outcomes opened t =
+      told_map before.keeper.tried after.keeper.tried (TriesOf job outcomes p before.keeper.save_faults after.keeper.save_faults) (TriesOver job before after p) (over_of job outcomes opened)
+      (subst (λ (s : Option Pair). IfKnown s (λ x. IfBothKnown before.keeper.tried after.keeper.tried (TriesOf job outcomes x before.keeper.save_faults after.keeper.save_faults))) was t)
+
+  tried_where : (b : Bool) (made : Type 0) (job : Job) → (b ≡ false → (after.keeper.tried ≡ before.keeper.tried) × (after.keeper.save_faults ≡ before.keeper.save_faults))
+      → SavesWhere b made job before after → Tried job
+  tried_where false made job none s = tried_none job (none refl).0 (none refl).1
+  tried_where true made job none s = tried_all_of job s.outcomes s.opened s.tried
+
+  untried_where : {A : Type 0} (job : Job) (x y : A) → IsPrepared words before.source after.source job → SameUnless (passes saves (setting_of words)) x y → saves job.setting ≡ false → y ≡ x
+  untried_where job x y prepared same off = by (passes saves (setting_of words)) (ap (passes saves) prepared.accepted.words_are ∙ off) same
+    where
+      by : (b : Bool) → b ≡ false → SameUnless b x y → y ≡ x
+      by true e s = cc
+      by false e s = s
+
+  untried_both : (job : Job) → IsPrepared words before.source after.source job → SameUnless (passes saves (setting_of words)) before.keeper.tried after.keeper.tried
+      → SameUnless (passes saves (setting_of words)) before.keeper.save_faults after.keeper.save_faults → saves job.setting ≡ false
+      → (after.keeper.tried ≡ before.keeper.tried) × (after.keeper.save_faults ≡ before.keeper.save_faults)
+  untried_both job prepared same calm off = (untried_where job before.keeper.tried after.keeper.tried prepared same off, untried_where job before.keeper.save_faults after.keeper.save_faults prepared calm off)
+
+  pub tried_at : (job : Job) → IsTheJob words before job → (r : Option Ending) → Cause words before after r → LeavesUntouched words before after (marks_of r) → Tried job
+  tried_at job t None c u =
+      subst Tried (job_is words before after job c.job t c.prepared) (tried_where (saves c.job.setting) ⊤ c.job (λ off. (untried_where c.job before.keeper.tried after.keeper.tried c.prepared u.tried off, u.save_faults)) c.saved)
+  tried_at job t (Some write_fault) c u =
+      subst Tried (job_is words before after job c.job t c.prepared) (tried_where (saves c.job.setting) (NoSaveFailed before after) c.job (untried_both c.job c.prepared u.tried u.save_faults) c.saved)
+  tried_at job t (Some (stopped done all)) c u = subst Tried (job_is words before after job c.job t c.prepared) (tried_all_of c.job c.saved.outcomes c.saved.opened c.saved.tried)
+  tried_at job t (Some save_fault) c u = subst Tried (job_is words before after job c.job t c.prepared) (tried_all_of c.job c.outcomes c.opened c.tried)
+  tried_at job t r c u = tried_none job u.tried u.save_faults
+
+pub tried_rightly : HonestSlotsOpenRight → (words : List (List ℕ)) (before after : World) (n m : Stream) (status : ℕ) → EndsFor words before after n m status → TriedRightly words before after
+tried_rightly law words before after n m status e job p t was = tried_at law words before after p was job t e.reason e.cause e.untouched

@@ -1,0 +1,9 @@
+mod Alone
+mod Causing
+mod Chained
+mod Following
+mod OneThread
+mod Promised
+mod Reruns
+mod Statuses
+mod Visited

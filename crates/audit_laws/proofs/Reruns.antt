@@ -1,0 +1,399 @@
+-- Workers, budget, saving and resuming change nothing of what a job finds; chains of its runs.
+use Rattle.std.proofs.Common.{◌≡◌, ℕ, zero, suc, ◌+◌, ◌-◌, ◌*◌, ◌==◌, ◌⊎◌, inl, inr, ◌&&◌, ◌||◌, not, Bool, true, false, List, [], ◌∷◌, ◌++◌, length, map, drop, take, replicate, get_or, Option, Some, None, refl, sym, ap, ◌∙◌, subst}
+use Rattle.std.specs.Prelude.{bytes_eq, codes, int_le, nat_le, nat_lt, pos, slice_range, flat_map}
+use Rattle.std.specs.Int.{to_be_bytes, w32}
+use Rattle.std.specs.List.{list_all}
+use Rattle.sha2.specs.Sha256.{sha256}
+use Rattle.audit_model.specs.Graph.{count_edges}
+use Rattle.std.specs.Ordering.{int_eq}
+use Rattle.std.specs.Io.KnownBytes.{Appends}
+use Rattle.std.proofs.Math.Path.{fun_ext}
+use Rattle.audit_io.specs.Faults.{Rose}
+use Rattle.audit_io.specs.Slots.{Pair, Stored}
+use Rattle.audit_io.specs.Tries.{Try}
+use Rattle.audit_model.specs.declared.outcome.Outcome.{Outcome}
+use Rattle.audit_model.specs.declared.setting.Command.{Command}
+use Rattle.audit_model.specs.declared.outcome.Serial.{Serial}
+use Rattle.audit_model.specs.declared.setting.Ask.{Ask}
+use Rattle.audit_model.specs.declared.fault.CkptFault.{CkptFault}
+use Rattle.audit_model.specs.Below.{all_below, count_below, map_below}
+use Rattle.audit_model.specs.First.{first_below}
+use Rattle.audit_model.specs.Job.{Job}
+use Rattle.audit_model.specs.Plan.{is_legal}
+use Rattle.audit_model.specs.Run.{IsHonest, bins_fit, fits, steps_of, total}
+use Rattle.audit_model.specs.Serially.{place_and_ranks, serial_by, serial_of, serial_place, serial_rank}
+use Rattle.audit_model.specs.Step.{next}
+use Rattle.audit_model.specs.Stopping.{stops_by, stops_of}
+use Rattle.audit_model.specs.Trajectory.{Draws, bare, bin_of, four_values, in_tail, no_bins, outcome, outcome_by, outcome_with, plan_seats, plan_value, sequence, value_at, visit, whole}
+use Rattle.checkpoint_definitions.specs.Checkpoint.{checkpoint_fault, digest_name, edge_bytes, has_rules, job_digest, rule_bytes, score_code, stated_count, tail_code, unit_bytes}
+use Rattle.checkpoint_definitions.specs.Slots.{IsHonestSlot, Slot, absent, broken, checkpoint_limit, other, ours, outcome_in, slot_of, slot_of_bytes, slot_of_checkpoint, slot_of_digest, slot_of_ours}
+use Rattle.ckpt_store.specs.Histories.{AreCarriedOut, SavesKeepTheNewest, SavesLeaveHonestSlots, stopped_in}
+use Rattle.ckpt_store.specs.Laws.{IsNotOurs}
+use Rattle.draw_definitions.specs.Draw.{draw}
+use Rattle.hex.specs.Hex.{encode_lower}
+use Rattle.text_definitions.specs.Report.{ends_lines, graph_line, line, population_line, report, rule_lines, serial_lines, setting_line, shift_line, stop_line, test_lines, thread_report, title_line, walk_lines}
+use Rattle.audit_statement.specs.Chain.{AreHonestOf, ResumesHonestly, TriesOver}
+use Rattle.audit_statement.specs.Ends.{IfBothKnown, WritesReport, opening_by, place_of}
+use Rattle.audit_statement.specs.Headline.{StartsWith, WritesOneThreads}
+use Rattle.audit_statement.specs.Rerun.{AreAlike, ChainsWriteOneReport, Event, HasWritten, IsEvent, IsLink, IsRunOver, Link, RerunsAreAlike, StopsKeepTheNewest, WroteOneThreads, asking, job_in, ran, rerun, slots_after, stopped}
+use Rattle.audit_statement.specs.World.{IfKnown}
+use Rattle.audit_steps.proofs.Starting.{opening_known}
+use Rattle.audit_laws.proofs.Chained.{rises_or_not}
+use Rattle.audit_laws.proofs.Statuses.{job_is, report_of}
+
+-- ---- outcomes, by whatever visits a plan
+
+abbrev Visits : Type 0
+Visits = (ℕ → ℕ) → List ℕ → ℕ → List ℕ
+
+abbrev moves_by : Visits → (ℕ → ℕ) → List ℕ → ℕ → ℕ
+moves_by v draws plan steps = count_below steps (λ i. not (bytes_eq (v draws plan i) (v draws plan (suc i))))
+
+abbrev tail_by : Visits → Job → (ℕ → ℕ) → ℕ → Ask → ℕ
+tail_by v job draws steps ask =
+    count_below (steps + 1)
+    (λ i. in_tail ask.tail (plan_value job (v draws job.start i) ask.score) (plan_value job job.start ask.score))
+
+abbrev bin_by : Visits → Job → (ℕ → ℕ) → ℕ → ℕ
+bin_by v job draws bin =
+    count_below (job.setting.steps + 1) (λ i. bin_of (plan_seats job (v draws job.start i)) (plan_seats job job.start) == bin)
+
+abbrev walk_with : Visits → Job → Draws → ℕ → Outcome
+walk_with v job draws id = record {
+  id = id;
+  moved = moves_by v (draws (2 * id)) job.start job.setting.steps;
+  values = four_values (map (λ ask. pos (tail_by v job (draws (2 * id)) job.setting.steps ask)) job.setting.asks);
+  bins = map_below 9 (bin_by v job (draws (2 * id)));
+}
+
+abbrev walk_by : Visits → Job → Draws → ℕ → Outcome
+walk_by v job draws id = record {
+  id = id;
+  moved = moves_by v (draws (2 * id)) job.start job.setting.steps;
+  values = four_values (map (λ ask. pos (tail_by v job (draws (2 * id)) job.setting.steps ask)) job.setting.asks);
+  bins = no_bins;
+}
+
+abbrev hub_by : Visits → Job → Draws → List ℕ
+hub_by v job draws = v (draws 1) job.start job.setting.hub_steps
+
+abbrev later_by : Visits → Job → (ℕ → ℕ) → ℕ → Ask → ℕ
+later_by v job draws steps ask =
+    count_below steps (λ i. in_tail ask.tail (plan_value job (v draws job.start (suc i)) ask.score) (plan_value job job.start ask.score))
+
+abbrev rank_by : Visits → Job → Draws → ℕ → Ask → ℕ
+rank_by v job draws place ask = tail_by v job (draws 8589934593) place ask + later_by v job (draws 8589934594) (job.setting.steps - place) ask
+
+abbrev serial_with : Visits → Job → Draws → ℕ → (Ask → ℕ) → Serial
+serial_with v job draws place ranks = record {
+  place = place;
+  moved = moves_by v (draws 8589934593) job.start place + moves_by v (draws 8589934594) job.start (job.setting.steps - place);
+  ranks = take 4 (map ranks job.setting.asks ++ replicate 4 0);
+}
+
+abbrev end_by : Visits → Job → Draws → ℕ → Outcome
+end_by v job draws id = record {
+  id = id;
+  moved = moves_by v (draws (2 * (id - job.setting.walks) + 3)) (hub_by v job draws) job.setting.hub_steps;
+  values = four_values (map (λ ask. plan_value job (v (draws (2 * (id - job.setting.walks) + 3)) (hub_by v job draws) job.setting.hub_steps) ask.score) job.setting.asks);
+  bins = no_bins;
+}
+
+-- ---- the same for the tests and the lines that are made by cases
+
+abbrev fits_by : ℕ → Bool → Job → Outcome → Bool
+fits_by steps binned job o =
+    nat_lt o.id (total job)
+    && nat_le o.moved steps
+    && list_all (λ v. int_eq v (pos 0)) (drop (length job.setting.asks) o.values)
+    && (not (nat_lt o.id job.setting.walks)
+    || all_below (length job.setting.asks) (λ k. int_le (pos 1) (value_at o k) && int_le (value_at o k) (pos (job.setting.steps + 1))))
+    && binned
+
+module _ (job : Job) (command : Command) (workers budget save_every : ℕ) (resume shift serial : Bool) where
+  abbrev again : Job
+  again = rerun job command workers budget save_every resume shift serial
+
+  next_same : (plan : List ℕ) (d : ℕ) → next again plan d ≡ next job plan d
+  unfolding next is_legal
+  next_same plan d = refl
+
+  visit_at : (draws : ℕ → ℕ) (plan : List ℕ) (i : ℕ) → visit again draws plan i ≡ visit job draws plan i
+  unfolding visit
+  visit_at draws plan zero = refl
+  visit_at draws plan (suc i) = ap (λ q. next again q (draws i)) (visit_at draws plan i) ∙ next_same (visit job draws plan i) (draws i)
+
+  visit_same : visit again ≡ visit job
+  visit_same = fun_ext (λ draws. fun_ext (λ plan. fun_ext (λ i. visit_at draws plan i)))
+
+  by_same : (b bins : Bool) (draws : Draws) (id : ℕ) → outcome_by b bins again draws id ≡ outcome_by b bins job draws id
+  by_same true true draws id = ap (λ (v : Visits). walk_with v job draws id) visit_same
+  by_same true false draws id = ap (λ (v : Visits). walk_by v job draws id) visit_same
+  by_same false bins draws id = ap (λ (v : Visits). end_by v job draws id) visit_same
+
+  outcome_same : shift ≡ job.setting.shift → (draws : Draws) (id : ℕ) → outcome again draws id ≡ outcome job draws id
+  outcome_same same draws id = by_same (nat_lt id job.setting.walks) shift draws id ∙ ap (λ (b : Bool). outcome_with b job draws id) same
+
+  whole_same : (draws : Draws) (id : ℕ) → whole again draws id ≡ whole job draws id
+  whole_same draws id = by_same (nat_lt id job.setting.walks) true draws id
+
+  sequence_same : shift ≡ job.setting.shift → (draws : Draws) → sequence again draws ≡ sequence job draws
+  unfolding sequence
+  sequence_same same draws = ap (λ (f : ℕ → Outcome). map_below (job.setting.walks + job.setting.ends) f) (fun_ext (λ id. outcome_same same draws id))
+
+  rules_same : (b : Bool) → rule_bytes b again ≡ rule_bytes b job
+  rules_same true = refl
+  rules_same false = refl
+
+  digest_same : job_digest again ≡ job_digest job
+  unfolding job_digest
+  digest_same =
+      ap (λ (rules : List ℕ). sha256 (digest_name (has_rules job)
+      ++ to_be_bytes w32 job.graph.units ++ to_be_bytes w32 (count_edges job.graph (λ u v. true)) ++ to_be_bytes w32 job.districts
+      ++ edge_bytes job.graph
+      ++ flat_map (unit_bytes job) (map_below job.graph.units (λ u. u))
+      ++ to_be_bytes w32 job.setting.slack ++ job.setting.key
+      ++ to_be_bytes w32 job.setting.walks ++ to_be_bytes w32 job.setting.steps
+      ++ to_be_bytes w32 job.setting.ends ++ to_be_bytes w32 job.setting.hub_steps
+      ++ to_be_bytes w32 (length job.setting.asks)
+      ++ flat_map (λ ask. to_be_bytes w32 (score_code ask.score) ++ to_be_bytes w32 (tail_code ask.tail)) job.setting.asks
+      ++ rules)) (rules_same (has_rules job))
+
+  ends_same : (ends : ℕ) (outcomes : List Outcome) → ends_lines ends again outcomes ≡ ends_lines ends job outcomes
+  ends_same zero outcomes = refl
+  ends_same (suc ends) outcomes = refl
+
+  tests_same : (enough : ℕ) (outcomes : List Outcome) (stops : List (List ℕ)) → test_lines enough again outcomes stops ≡ test_lines enough job outcomes stops
+  tests_same zero outcomes stops = ends_same job.setting.ends outcomes
+  tests_same (suc h) outcomes stops = refl
+
+  serial_same : (serial : Option (ℕ × List ℕ)) → serial_lines again serial ≡ serial_lines job serial
+  serial_same None = refl
+  serial_same (Some found) = refl
+
+  report_same : shift ≡ job.setting.shift → (outcomes : List Outcome) (stops : List (List ℕ)) (serial : Option (ℕ × List ℕ))
+      → report again outcomes stops serial ≡ report job outcomes stops serial
+  unfolding report
+  report_same same outcomes stops serial =
+      ap (λ (tests : List ℕ). with_lines shift tests (serial_lines again serial)) (tests_same job.setting.stop outcomes stops)
+      ∙ ap (λ (rest : List ℕ). with_lines shift (test_lines job.setting.stop job outcomes stops) rest) (serial_same serial)
+      ∙ ap (λ (b : Bool). with_lines b (test_lines job.setting.stop job outcomes stops) (serial_lines job serial)) same
+    where
+      with_lines : Bool → List ℕ → List ℕ → List ℕ
+      with_lines binned tests rest =
+          title_line binned
+          ++ line (codes "key" ∷ encode_lower job.setting.key ∷ [])
+          ++ graph_line job
+          ++ population_line job
+          ++ rule_lines job
+          ++ setting_line job
+          ++ stop_line job.setting.stop
+          ++ walk_lines job outcomes
+          ++ shift_line binned outcomes
+          ++ tests
+          ++ rest
+          ++ line (codes "end" ∷ [])
+
+  rank_same : (draws : Draws) (place : ℕ) (ask : Ask) → serial_rank again draws place ask ≡ serial_rank job draws place ask
+  rank_same draws place ask = ap (λ (v : Visits). rank_by v job draws place ask) visit_same
+
+  serially_same : (draws : Draws) → serial_of again draws ≡ serial_of job draws
+  unfolding serial_of
+  serially_same draws =
+      let place = serial_place (draws 8589934592 0) (job.setting.steps + 1) in
+      ap (λ (v : Visits). serial_with v job draws place (serial_rank again draws place)) visit_same
+      ∙ ap (λ (ranks : Ask → ℕ). serial_with (visit job) job draws place ranks) (fun_ext (rank_same draws place))
+
+  told_same : (b : Bool) (draws : Draws) → serial_by b again draws ≡ serial_by b job draws
+  told_same true draws = ap (λ (s : Serial). Some (place_and_ranks s)) (serially_same draws)
+  told_same false draws = refl
+
+  stops_by_same : (enough : ℕ) (outcomes : List Outcome) → stops_by enough again outcomes ≡ stops_by enough job outcomes
+  stops_by_same zero outcomes = refl
+  stops_by_same (suc h) outcomes = refl
+
+  stops_same : (outcomes : List Outcome) → stops_of again outcomes ≡ stops_of job outcomes
+  stops_same outcomes = stops_by_same job.setting.stop outcomes
+
+  -- the whole report: with the lines of the serial test exactly where this run asks for it
+  thread_report_is : shift ≡ job.setting.shift → (draws : Draws)
+      → thread_report again draws ≡ report job (sequence job draws) (stops_of job (sequence job draws)) (serial_by serial job draws)
+  unfolding thread_report
+  thread_report_is same draws =
+      ap (λ (stops : List (List ℕ)). report again (sequence again draws) stops (serial_by serial again draws)) (stops_same (sequence again draws))
+      ∙ report_same same (sequence again draws) (stops_of job (sequence again draws)) (serial_by serial again draws)
+      ∙ ap (λ (os : List Outcome). report job os (stops_of job os) (serial_by serial again draws)) (sequence_same same draws)
+      ∙ ap (λ (found : Option (ℕ × List ℕ)). report job (sequence job draws) (stops_of job (sequence job draws)) found) (told_same serial draws)
+
+  steps_same : (b : Bool) → steps_of b again ≡ steps_of b job
+  steps_same true = refl
+  steps_same false = refl
+
+  bins_same : (b : Bool) (o : Outcome) → bins_fit b again o ≡ bins_fit b job o
+  bins_same true o = refl
+  bins_same false o = refl
+
+  fits_same : (o : Outcome) → fits again o ≡ fits job o
+  fits_same o =
+      ap (λ (n : ℕ). fits_by n (bins_fit (nat_lt o.id job.setting.walks) again o) job o) (steps_same (nat_lt o.id job.setting.walks))
+      ∙ ap (λ (b : Bool). fits_by (steps_of (nat_lt o.id job.setting.walks) job) b job o) (bins_same (nat_lt o.id job.setting.walks) o)
+
+  of_digest_same : (bytes : List ℕ) (b : Bool) → slot_of_digest again bytes b ≡ slot_of_digest job bytes b
+  of_digest_same bytes false = refl
+  of_digest_same bytes true =
+      ap (λ (unfit : ℕ → Bool). slot_of_ours bytes (first_below (stated_count bytes) unfit)) (fun_ext (λ k. ap not (fits_same (outcome_in bytes k))))
+
+  of_checkpoint_same : (digest bytes : List ℕ) (f : Option CkptFault) → slot_of_checkpoint again digest bytes f ≡ slot_of_checkpoint job digest bytes f
+  of_checkpoint_same digest bytes (Some f) = refl
+  of_checkpoint_same digest bytes None = of_digest_same bytes (bytes_eq (slice_range bytes 12 44) digest)
+
+  of_bytes_same : (digest bytes : List ℕ) (b : Bool) → slot_of_bytes again digest bytes b ≡ slot_of_bytes job digest bytes b
+  of_bytes_same digest bytes true = refl
+  of_bytes_same digest bytes false = of_checkpoint_same digest bytes (checkpoint_fault bytes)
+
+  stored_same : (digest : List ℕ) (s : Stored) → slot_of again digest s ≡ slot_of job digest s
+  stored_same digest None = refl
+  stored_same digest (Some bytes) = of_bytes_same digest bytes (nat_lt checkpoint_limit (length bytes))
+
+  slot_same : (s : Stored) → slot_of again (job_digest again) s ≡ slot_of job (job_digest job) s
+  slot_same s = ap (λ d. slot_of again d s) digest_same ∙ stored_same (job_digest job) s
+
+  found_same : (draws : Draws) (o : Outcome) → (o ≡ whole job draws o.id) ⊎ (o ≡ bare (whole job draws o.id))
+      → (o ≡ whole again draws o.id) ⊎ (o ≡ bare (whole again draws o.id))
+  found_same draws o (inl e) = inl (e ∙ sym (whole_same draws o.id))
+  found_same draws o (inr e) = inr (e ∙ ap bare (sym (whole_same draws o.id)))
+
+  runs_honest : (draws : Draws) (outcomes : List Outcome) → IsHonest job draws outcomes → IsHonest again draws outcomes
+  runs_honest draws outcomes honest = record {
+    apart = honest.apart;
+    below = honest.below;
+    found = λ k d inside. found_same draws (get_or outcomes k d) (honest.found k d inside);
+  }
+
+  honest_slot : (draws : Draws) (s : Slot) → IsHonestSlot job draws s → IsHonestSlot again draws s
+  honest_slot draws absent h = tt
+  honest_slot draws (broken f) h = tt
+  honest_slot draws (other digest generation) h = tt
+  honest_slot draws (ours generation outcomes) h = runs_honest draws outcomes h
+
+  honest_same : (p : Pair) → AreHonestOf job p → AreHonestOf again p
+  honest_same p h = record {
+    zero_slot = subst (IsHonestSlot again (draw job.setting.key)) (sym (slot_same p.zero_slot)) (honest_slot (draw job.setting.key) _ h.zero_slot);
+    one_slot = subst (IsHonestSlot again (draw job.setting.key)) (sym (slot_same p.one_slot)) (honest_slot (draw job.setting.key) _ h.one_slot);
+  }
+
+pub reruns_are_alike : RerunsAreAlike
+reruns_are_alike job command workers budget save_every resume shift serial = record {
+  same_digest = digest_same job command workers budget save_every resume shift serial;
+  same_whole = whole_same job command workers budget save_every resume shift serial;
+  same_fits = fits_same job command workers budget save_every resume shift serial;
+  same_serial = serially_same job command workers budget save_every resume shift serial;
+  same_honest = honest_same job command workers budget save_every resume shift serial;
+  same_outcome = outcome_same job command workers budget save_every resume shift serial;
+  same_sequence = sequence_same job command workers budget save_every resume shift serial;
+  same_stops = stops_same job command workers budget save_every resume shift serial;
+  same_report = report_same job command workers budget save_every resume shift serial;
+}
+
+-- workers, budget, saving and resuming change nothing of the report
+thread_report_same : (job : Job) (command : Command) (workers budget save_every : ℕ) (resume shift serial : Bool) → shift ≡ job.setting.shift → (draws : Draws)
+    → thread_report (rerun job command workers budget save_every resume shift serial) draws ≡ thread_report (asking job shift serial) draws
+thread_report_same job command workers budget save_every resume shift serial same draws =
+    thread_report_is job command workers budget save_every resume shift serial same draws
+    ∙ sym (thread_report_is job job.setting.command job.setting.workers job.setting.budget job.setting.save_every job.setting.resume shift serial same draws)
+
+-- ---- a stop
+
+pub stops_keep_the_newest : SavesKeepTheNewest → StopsKeepTheNewest
+stops_keep_the_newest law job before after p told now t n q out =
+    law job (job_digest job) p q (place_of job p).0 (place_of job p).1 t.tries n refl t.in_turn out
+
+-- ---- chains
+
+-- the job is a rerun of its rerun
+back_again : (job : Job) (l : Link) → AreAlike (job_in job l) job
+back_again job l = reruns_are_alike (job_in job l) job.setting.command job.setting.workers job.setting.budget job.setting.save_every job.setting.resume job.setting.shift job.setting.serial
+
+-- where the slots are told, so is the opening
+told_by : (resume : Bool) (job : Job) (slots : Option Pair) (p : Pair) (outcomes : List Outcome) → slots ≡ Some p
+    → IfKnown (opening_by resume job slots) (λ o. o ≡ Some outcomes) → opening_by resume job slots ≡ Some (Some outcomes)
+told_by false job slots p outcomes e h = ap Some h
+told_by true job None p outcomes e h = cc
+told_by true job (Some q) p outcomes e h = ap Some h
+
+-- all that was tried, as it ended
+stopped_after : (tries : List Try) → stopped_in (length tries) tries ≡ tries
+stopped_after [] = refl
+stopped_after (t ∷ tries) = ap (λ (ts : List Try). t ∷ ts) (stopped_after tries)
+
+module _ (law : SavesLeaveHonestSlots) (job : Job) (p : Pair) (l : Link) (honest : AreHonestOf job p) where
+  honest_here : AreHonestOf (job_in job l) p
+  honest_here = honest_same job job.setting.command l.workers l.budget l.save_every l.resume l.shift l.serial p honest
+
+  resumes : (o : IsRunOver job p l) → ResumesHonestly (job_in job l) l.before
+  resumes o = λ _. subst (λ (s : Option Pair). IfKnown s (AreHonestOf (job_in job l))) (sym o.found) honest_here
+
+  tries_of : (o : IsRunOver job p l) → TriesOver (job_in job l) l.before l.after p o.told o.now
+  tries_of o = both_told l.before.keeper.tried l.after.keeper.tried o.told o.now (TriesOver (job_in job l) l.before l.after p) o.told_is o.now_is (o.tried (job_in job l) p o.the_job o.found)
+    where
+      both_told : (a b : Option (List Try)) (x y : List Try) (P : List Try → List Try → Type 0) → a ≡ Some x → b ≡ Some y → IfBothKnown a b P → P x y
+      both_told a b x y P e f h = subst (λ (s : Option (List Try)). IfBothKnown s (Some y) P) e (subst (λ (s : Option (List Try)). IfBothKnown a s P) f h)
+
+  stays_where : (o : IsRunOver job p l) (n : ℕ) (q : Pair)
+      → AreCarriedOut IsNotOurs (job_in job l) (job_digest (job_in job l)) p (stopped_in n (tries_of o).tries) q → AreHonestOf job q
+  stays_where o n q out =
+      (back_again job l).same_honest q
+      (law (job_in job l) (draw (job_in job l).setting.key) (job_digest (job_in job l)) p q (tries_of o).tries n ((tries_of o).right (resumes o)) out honest_here)
+
+  link_stays : IsLink job p l → AreHonestOf job l.slots
+  link_stays link = by (rises_or_not l.before.keeper.save_faults l.after.keeper.save_faults)
+    where
+      by : Rose l.before.keeper.save_faults l.after.keeper.save_faults ⊎ (Rose l.before.keeper.save_faults l.after.keeper.save_faults → ⊥) → AreHonestOf job l.slots
+      by (inl rose) =
+          let t = tries_of link.over in
+          stays_where link.over (length t.tries) l.slots
+          (subst (λ (ts : List Try). AreCarriedOut IsNotOurs (job_in job l) (job_digest (job_in job l)) p ts l.slots) (sym (stopped_after t.tries)) (link.carried rose t))
+      by (inr calm) =
+          (back_again job l).same_honest l.slots (link.promised.chain.stays (job_in job l) p l.slots link.over.the_job link.over.found link.left honest_here calm)
+
+  -- with status 0 it was told with what the run started
+  link_started : IsLink job p l → l.status ≡ 0 → (outcomes : List Outcome) × StartsWith l.words l.before (job_in job l) outcomes
+  link_started link z =
+      let d = link.promised.causes.zero_only z in
+      let same : d.job ≡ job_in job l = job_is l.words l.before l.after (job_in job l) d.job link.over.the_job d.prepared in
+      let r : WritesReport true (job_in job l) l.before l.after = report_of l.words l.before l.after true (job_in job l) d.job link.walking same d.written in (
+        r.outcomes,
+        record {
+          the_job = link.over.the_job;
+          walking = link.walking;
+          opened = told_by l.resume (job_in job l) l.before.keeper.slots p r.outcomes link.over.found (opening_known (job_in job l) l.before.keeper.slots r.outcomes r.opened);
+        },
+      )
+
+  asked_alike : IsLink job p l → WritesOneThreads (job_in job l) l.before l.after → WroteOneThreads job l
+  asked_alike link wrote =
+      subst (λ (text : List ℕ). Appends l.before.out.bytes l.after.out.bytes text)
+      (thread_report_same (asking job l.shift l.serial) job.setting.command l.workers l.budget l.save_every l.resume l.shift l.serial refl (draw job.setting.key))
+      wrote
+
+  link_wrote : IsLink job p l → HasWritten job (ran l)
+  link_wrote link = record {
+    done = λ z. let s = link_started link z in asked_alike link (link.promised.chain.one_thread (job_in job l) s.0 s.1 (resumes link.over) z);
+    save_failed = λ outcomes s none z.
+        asked_alike link (link.promised.written.save_failed (job_in job l) outcomes s (link.promised.chain.opens_right (job_in job l) outcomes s (resumes link.over)) z none);
+  }
+
+event_stays : SavesLeaveHonestSlots → (job : Job) (p : Pair) (e : Event) → AreHonestOf job p → IsEvent job p e → AreHonestOf job (slots_after e)
+event_stays law job p (ran l) honest is = link_stays law job p l honest is
+event_stays law job p (stopped l n q) honest is = stays_where law job p l honest is.over n q (is.carried (tries_of law job p l honest is.over))
+
+event_wrote : SavesLeaveHonestSlots → (job : Job) (p : Pair) (e : Event) → AreHonestOf job p → IsEvent job p e → HasWritten job e
+event_wrote law job p (ran l) honest is = link_wrote law job p l honest is
+event_wrote law job p (stopped l n q) honest is = tt
+
+pub chains_write_one_report : SavesLeaveHonestSlots → ChainsWriteOneReport
+chains_write_one_report law job p [] honest chain = tt
+chains_write_one_report law job p (e ∷ events) honest chain = (
+  event_wrote law job p e honest chain.0,
+  chains_write_one_report law job (slots_after e) events (event_stays law job p e honest chain.0) chain.1,
+)

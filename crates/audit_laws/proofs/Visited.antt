@@ -1,0 +1,172 @@
+-- The start plan of an accepted job is legal, and so is each plan that is visited.
+use Rattle.std.proofs.Common.{◌≡◌, ℕ, zero, suc, ◌<◌, ◌≤◌, ◌&&◌, Bool, true, false, List, length, Option, Some, None, Result, Ok, Err, Ordering, Less, Equal, Greater, refl, sym, ap, ◌∙◌, subst, inl, inr, cond, arith}
+use Rattle.std.specs.Prelude.{nat_lt, slice_index}
+use Rattle.std.specs.Cmp.{signed_Decides}
+use Rattle.std.specs.Ordering.{is_eq, is_lt, int_cmp, nat_cmp}
+use Rattle.std.specs.Cmp.Lexicographic.{slice_cmp}
+use Rattle.std.specs.Str.{is_utf8}
+use Rattle.std.proofs.lemmas.Bool.{and_parts, cases_Bool, both_ways, false≢true, not_from_false, or_cases}
+use Rattle.std.proofs.lemmas.Map.Text.{is_eq-slice_cmp}
+use Rattle.std.proofs.lemmas.Slice.Eq.{bytes_eq-Decides}
+use Rattle.serde_json.specs.Data.{Data}
+use Rattle.serde_json.specs.Read.{read}
+use Rattle.audit_model.specs.declared.fault.GraphFault.{GraphFault}
+use Rattle.audit_model.specs.declared.fault.Part.{Part}
+use Rattle.audit_model.specs.declared.fault.PlanFault.{PlanFault}
+use Rattle.audit_model.specs.declared.fault.RegionFault.{RegionFault}
+use Rattle.audit_model.specs.declared.setting.Columns.{Columns}
+use Rattle.audit_model.specs.declared.setting.Label.{Label}
+use Rattle.audit_model.specs.declared.setting.Label.TheVariants.{Whole, Word}
+use Rattle.audit_model.specs.declared.setting.Setting.{Setting}
+use Rattle.audit_model.specs.Below.{any_below, map_below}
+use Rattle.audit_model.specs.Job.{Job}
+use Rattle.audit_model.specs.JobOf.{job_from, job_of, job_or, plan_fault}
+use Rattle.audit_model.specs.Label.{same_label, label_before}
+use Rattle.audit_model.specs.Parsed.{Parsed}
+use Rattle.audit_model.specs.Plan.{IsLegal}
+use Rattle.audit_model.specs.Trajectory.{hub}
+use Rattle.model_laws.proofs.Accepted.{accepted_is_legal}
+use Rattle.model_laws.proofs.Connected.{grows}
+use Rattle.model_laws.proofs.Mirror.{visit_stays_legal}
+use Rattle.model_laws.proofs.Below.{length-map_below, get_or-map_below}
+use Rattle.draw_definitions.specs.Draw.{draw}
+use Rattle.graph_definitions.specs.Reading.{Document, node_count, label_at, label_count, is_new_label, district_at, parsed, document, refusal, bad_part, accepted_or, of_root, of_json, reading}
+use Rattle.audit_statement.specs.Accepted.{IsAccepted, from_job, from_regions, from_parsed, from_bytes, judged, most_bytes, regions_by}
+use Rattle.audit_statement.specs.Visits.{VisitsLegal}
+
+-- ---- labels
+
+same_is : (a b : Label) → same_label a b ≡ true → a ≡ b
+same_is (Whole a) (Whole b) e = ap Whole ((signed_Decides a b).0 e)
+same_is (Whole a) (Word t) e = absurd (false≢true e)
+same_is (Word s) (Whole b) e = absurd (false≢true e)
+same_is (Word s) (Word t) e = ap Word ((bytes_eq-Decides s t).0 (sym (is_eq-slice_cmp s t) ∙ e))
+
+same_itself : (a : Label) → same_label a a ≡ true
+same_itself (Whole a) = (signed_Decides a a).1 refl
+same_itself (Word s) = is_eq-slice_cmp s s ∙ (bytes_eq-Decides s s).1 refl
+
+eq_is_not_lt : (o : Ordering) → is_eq o ≡ true → is_lt o ≡ false
+eq_is_not_lt Less e = cc
+eq_is_not_lt Equal e = refl
+eq_is_not_lt Greater e = cc
+
+-- no label is before itself
+not_before_itself : (a : Label) → label_before a a ≡ false
+not_before_itself (Whole a) = eq_is_not_lt (int_cmp a a) (same_itself (Whole a))
+not_before_itself (Word s) = eq_is_not_lt (slice_cmp nat_cmp s s) (same_itself (Word s))
+
+any_below_some : (n : ℕ) (test : ℕ → Bool) → any_below n test ≡ true → (k : ℕ) × (k < n) × (test k ≡ true)
+any_below_some zero test h = absurd (false≢true h)
+any_below_some (suc n) test h = elim (or_cases (any_below n test) (test n) h) [
+  | inl e ↦ let found = any_below_some n test e in (found.0, omega (arith, found.1), found.2)
+  | inr e ↦ (n, omega arith, e)
+]
+
+-- ---- the districts of the start plan
+
+below_length : (x n : ℕ) (f : ℕ → Label) → x < n → x < length (map_below n f)
+below_length x n f l = omega (arith, l, length-map_below n f)
+
+module _ (d : Document) (columns : Columns) where
+  -- the first node with a node's label
+  first_with : (most i : ℕ) → i < most → (j : ℕ) × (j ≤ i) × (is_new_label d columns j ≡ true) × (label_at d columns j ≡ label_at d columns i)
+  first_with zero i l = absurd (omega arith)
+  first_with (suc most) i l = elim (cases_Bool (any_below i (λ j. same_label (label_at d columns j) (label_at d columns i)))) [
+    | inl some ↦
+        let before = any_below_some i (λ j. same_label (label_at d columns j) (label_at d columns i)) some in
+        let first = first_with most before.0 (omega (arith, before.1)) in
+        (first.0, omega (arith, first.1, before.1), first.2, first.3 ∙ same_is _ _ before.2)
+    | inr none ↦ (i, omega arith, not_from_false _ none, refl)
+  ]
+
+  -- each node's district is one of those that are counted
+  district_in_range : (i : ℕ) → i < node_count d → district_at d columns i < label_count d columns
+  district_in_range i l =
+      let first = first_with (suc i) i (omega arith) in
+      let before : Bool = label_before (label_at d columns first.0) (label_at d columns i) in
+      let out : before ≡ false = ap (λ (a : Label). label_before a (label_at d columns i)) first.3 ∙ not_before_itself (label_at d columns i) in
+      elim (grows (node_count d) (λ j. is_new_label d columns j && label_before (label_at d columns j) (label_at d columns i)) (is_new_label d columns)
+      (λ v below h. (and_parts _ _ h).0)) [
+        | inl fewer ↦ fewer
+        | inr all ↦ absurd (both_ways before out (and_parts (is_new_label d columns first.0) before (all.1 first.0 (omega (arith, first.1)) first.2)).1)
+      ]
+
+  start_is_complete : length (parsed d columns).start ≡ (parsed d columns).graph.units
+  start_is_complete = length-map_below (node_count d) (district_at d columns)
+
+  start_in_range : (u : ℕ) → u < (parsed d columns).graph.units → slice_index (parsed d columns).start u < length (parsed d columns).labels
+  start_in_range u l =
+      let place : slice_index (parsed d columns).start u ≡ district_at d columns u = get_or-map_below (node_count d) (district_at d columns) u 0 l in
+      below_length (slice_index (parsed d columns).start u) (label_count d columns) _ (subst (λ (x : ℕ). x < label_count d columns) (sym place) (district_in_range u l))
+
+  -- the start plan of what is read is legal, where it has no fault
+  read_start_is_legal : (setting : Setting) (regions : List ℕ) → plan_fault (job_from (parsed d columns) setting regions) ≡ None → IsLegal (job_from (parsed d columns) setting regions) (parsed d columns).start
+  read_start_is_legal setting regions none = (accepted_is_legal (job_from (parsed d columns) setting regions) start_is_complete start_in_range none).1
+
+-- what is read is a document's
+pub record IsReadOf (p : Parsed) (columns : Columns) : Type 0 where
+  pub of : Document
+  pub same : parsed of columns ≡ p
+
+accepted_is : (p q : Parsed) (fault : Option GraphFault) → accepted_or p fault ≡ Ok q → p ≡ q
+accepted_is p q None e = cc
+accepted_is p q (Some f) e = cc
+
+of_root_is : (columns : Columns) (root : Data) (part : Option Part) (p : Parsed) → of_root columns root part ≡ Ok p → IsReadOf p columns
+of_root_is columns root None p e = record { of = document root; same = accepted_is _ p (refusal (document root) columns) e }
+of_root_is columns root (Some f) p e = cc
+
+of_json_is : (columns : Columns) (root : Option Data) (p : Parsed) → of_json columns root ≡ Ok p → IsReadOf p columns
+of_json_is columns None p e = cc
+of_json_is columns (Some root) p e = of_root_is columns root (bad_part root) p e
+
+read_is : (bytes : List ℕ) (columns : Columns) (p : Parsed) → reading bytes columns ≡ Ok p → IsReadOf p columns
+unfolding reading
+read_is bytes columns p e = of_json_is columns (cond (is_utf8 bytes) (read bytes) None) p e
+
+-- ---- the job
+
+made_is : (made job : Job) (fault : Option PlanFault) → job_or made fault ≡ Ok job → (fault ≡ None) × (made ≡ job)
+made_is made job None e = (refl, cc)
+made_is made job (Some f) e = cc
+
+job_is_legal : (p : Parsed) (setting : Setting) (regions : List ℕ) (job : Job) → IsReadOf p setting.columns → job_of p setting regions ≡ Ok job → IsLegal job job.start
+unfolding job_of
+job_is_legal p setting regions job r e =
+    let made = made_is (job_from p setting regions) job (plan_fault (job_from p setting regions)) e in
+    let none = subst (λ (q : Parsed). plan_fault (job_from q setting regions) ≡ None) (sym r.same) made.0 in
+    subst (λ (j : Job). IsLegal j j.start) made.1
+    (subst (λ (q : Parsed). IsLegal (job_from q setting regions) q.start) r.same (read_start_is_legal r.of setting.columns setting regions none))
+
+from_job_is : (r : Result Job PlanFault) (job : Job) → from_job r ≡ Ok job → r ≡ Ok job
+from_job_is (Ok made) job e = cc
+from_job_is (Err f) job e = cc
+
+from_regions_is : (setting : Setting) (p : Parsed) (r : Result (List ℕ) RegionFault) (job : Job) → IsReadOf p setting.columns → from_regions setting p r ≡ Ok job → IsLegal job job.start
+from_regions_is setting p (Ok regions) job read e = job_is_legal p setting regions job read (from_job_is (job_of p setting regions) job e)
+from_regions_is setting p (Err f) job read e = cc
+
+from_parsed_is : (setting : Setting) (bytes : List ℕ) (r : Result Parsed GraphFault) (job : Job) → reading bytes setting.columns ≡ r → from_parsed setting bytes r ≡ Ok job
+    → IsLegal job job.start
+from_parsed_is setting bytes (Ok p) job is e = from_regions_is setting p (regions_by setting.region bytes) job (read_is bytes setting.columns p is) e
+from_parsed_is setting bytes (Err f) job is e = cc
+
+from_bytes_is : (setting : Setting) (bytes : List ℕ) (many : Bool) (job : Job) → from_bytes setting bytes many ≡ Ok job → IsLegal job job.start
+from_bytes_is setting bytes true job e = cc
+from_bytes_is setting bytes false job e = from_parsed_is setting bytes (reading bytes setting.columns) job refl e
+
+accepted_start_is_legal : (setting : Setting) (bytes : List ℕ) (job : Job) → judged setting bytes ≡ Ok job → IsLegal job job.start
+unfolding judged
+accepted_start_is_legal setting bytes job e = from_bytes_is setting bytes (nat_lt most_bytes (length bytes)) job e
+
+-- each plan that an accepted job's trajectories visit is legal
+pub visits_legal : (words : List (List ℕ)) (left : Option (List ℕ)) → VisitsLegal words left
+visits_legal words left = record {
+  from_start = λ job a stream step. visit_stays_legal job (draw job.setting.key stream) job.start step (start job a);
+  from_hub = λ job a stream step. visit_stays_legal job (draw job.setting.key stream) (hub job (draw job.setting.key)) step
+      (visit_stays_legal job (draw job.setting.key 1) job.start job.setting.hub_steps (start job a));
+}
+  where
+    start : (job : Job) → IsAccepted words left job → IsLegal job job.start
+    start job a = accepted_start_is_legal job.setting a.bytes job a.judged_so

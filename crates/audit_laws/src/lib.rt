@@ -1,0 +1,4 @@
+//! What follows from how calls ended: laws of the definitions of the top call's contract.
+#![tactic(auto)]
+
+pub mod laws;

@@ -1,0 +1,4 @@
+//! With what a run starts, by what its slots hold.
+#![tactic(auto)]
+
+pub mod opening;

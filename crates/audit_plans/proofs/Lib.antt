@@ -1,0 +1,8 @@
+mod Following
+mod Likeness
+mod Pairing
+mod Preparing
+mod Reported
+mod Turning
+mod Visiting
+mod Words

@@ -1,0 +1,43 @@
+-- Plans of one graph and one setting are alike in all that their judges are made of.
+use Rattle.std.proofs.Common.{◌≡◌, ◌∙◌, ℕ, ◌<◌, List, [], ◌∷◌, length, map, zero, sym, subst, ap, arith, refl, suc}
+use Rattle.std.specs.List.{All, slice_index_or}
+use Rattle.audit_model.specs.declared.rules.Rules.{Rules}
+use Rattle.audit_model.specs.JobOf.{IsJob}
+use Rattle.plan_jobs.specs.declared.named.Named.{Named}
+use Rattle.plan_jobs.specs.Named.{IsOneOf}
+use Rattle.audit_plans.specs.Alike.{AreAlike}
+
+-- a job with the setting and the regions of another
+pub record IsLike (first n : Named) : Type 0 where
+  pub sound : IsJob n.job
+  pub set : n.job.setting ≡ first.job.setting
+  pub regioned : n.job.regions ≡ first.job.regions
+
+-- what holds of each holds of the first
+pub of_first : (P : Named → Type 0) (named : List Named) (first : Named) → first ≡ slice_index_or named 0 first → 0 < length named → All P named → P first
+of_first P named first is some all = subst P (sym is) (all 0 first some)
+
+-- each is like the first
+pub all_like : (named : List Named) (first : Named) → first ≡ slice_index_or named 0 first → AreAlike named → All (IsLike first) named
+all_like named first is alike = λ k d inside.
+    let here = alike.shared.each k d inside in
+    let there = of_first (IsOneOf alike.setting alike.shared.regions) named first is alike.shared.some alike.shared.each in
+    record { sound = here.sound; set = here.set ∙ sym there.set; regioned = here.regioned ∙ sym there.regioned }
+
+pub none_long : {A : Type 0} (xs : List A) → length xs ≡ 0 → xs ≡ []
+none_long [] e = refl
+none_long (x ∷ xs) e = absurd (omega (arith, e))
+
+pub same_rules : (a b c d : ℕ) (regions : List ℕ) → a ≡ b → c ≡ d → regions ≡ [] → (let one : Rules = record { max_cut = a; regions = []; max_split = c } in one) ≡ record { max_cut = b; regions = regions; max_split = d }
+same_rules a b c d regions e f g =
+    ap (λ m. (let r : Rules = record { max_cut = m; regions = []; max_split = c } in r)) e
+    ∙ ap (λ m. (let r : Rules = record { max_cut = b; regions = []; max_split = m } in r)) f
+    ∙ ap (λ xs. (let r : Rules = record { max_cut = b; regions = xs; max_split = d } in r)) (sym g)
+
+pub all_unmapped : {A B : Type 0} (f : A → B) (P : B → Type 0) (ys : List A) → All P (map f ys) → All (λ y. P (f y)) ys
+all_unmapped f P [] h = λ k d inside. absurd (omega (arith, inside))
+all_unmapped f P (y ∷ ys) h = by (all_unmapped f P ys (λ j e l. h (suc j) e (omega (arith, l))))
+  where
+    by : All (λ z. P (f z)) ys → (k : ℕ) (d : _) → k < length (y ∷ ys) → P (f (slice_index_or (y ∷ ys) k d))
+    by rest zero d inside = h 0 (f y) (omega arith)
+    by rest (suc k) d inside = rest k d (omega (arith, inside))

@@ -1,0 +1,18 @@
+use Rattle.std.proofs.Common.{◌∙◌, ℕ, List, arith, ap, sym, length}
+use Rattle.audit_model.specs.declared.rules.Rules.{Rules}
+use Rattle.audit_model.specs.Job.{Job}
+use Rattle.audit_plans.proofs.Likeness.{all_like, none_long}
+use Rattle.audit_plans.proofs.finish.report_all.Goals as goal
+
+pub first_of-requires : goal.first_of-requires
+first_of-requires g c = omega (arith, ap length c.as_slice.ensures.value, c.requires.alike.shared.some)
+
+pub report_cut-requires-clause-no_regions : goal.report_cut-requires-clause-no_regions
+report_cut-requires-clause-no_regions g c κs within = λ k d inside.
+    let regions = ap (λ (r : Rules). r.regions) c.rules.ensures ∙ ap (λ (j : Job). j.regions) c.first_of.ensures.2 in
+    ((all_like c.args.plans.items c.first_of.ensures.0 (rw c.as_slice.ensures.value at c.first_of.ensures.1) c.requires.alike) k d inside).regioned ∙ none_long c.first_of.ensures.0.job.regions (sym (ap length regions) ∙ sym c.len.ensures ∙ c.if-len-eq0.true)
+
+pub report_split-requires-clause-some_regions : goal.report_split-requires-clause-some_regions
+report_split-requires-clause-some_regions g c κs within = λ k d inside none.
+    let regions = ap (λ (r : Rules). r.regions) c.rules.ensures ∙ ap (λ (j : Job). j.regions) c.first_of.ensures.2 in
+    c.if-len-eq0.false (c.len.ensures ∙ ap length (regions ∙ sym ((all_like c.args.plans.items c.first_of.ensures.0 (rw c.as_slice.ensures.value at c.first_of.ensures.1) c.requires.alike) k d inside).regioned ∙ none))

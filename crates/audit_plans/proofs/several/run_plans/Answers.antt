@@ -1,0 +1,18 @@
+use Rattle.audit_statement.specs.World.{stream}
+use Rattle.audit_plans.proofs.Preparing.{reported_run}
+use Rattle.audit_plans.proofs.Words.{run_alone, same_key}
+use Rattle.audit_plans.proofs.several.run_plans.Goals as goal
+
+pub report_all-requires-clause-plans : goal.report_all-requires-clause-plans
+report_all-requires-clause-plans g c κs within = run_alone c.accepted_jobs_are_runs.ensures _ _ _ c.in-Ok.plans.items c.requires c.in-Ok.ensures
+
+pub report_all-requires-clause-alike : goal.report_all-requires-clause-alike
+report_all-requires-clause-alike g c κs within = record { setting = c.in-Ok.ensures.setting; shared = c.in-Ok.ensures.shared }
+
+pub returns-in-Ok : goal.returns-in-Ok
+returns-in-Ok g c = λ keeper.
+    reported_run _ _ _ c.in-Ok.plans.items c.in-Ok.ensures _ _ keeper c.report_all.result
+    (c.report_all.ensures c.in-Ok.ensures.setting.key (same_key _ _ _ c.in-Ok.plans.items c.in-Ok.ensures))
+
+pub returns-in-Err : goal.returns-in-Err
+returns-in-Err g c = λ keeper. c.in-Err.ensures (stream g.K.Sink.taken g.K.Sink.faults c.args.out.now) keeper

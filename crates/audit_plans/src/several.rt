@@ -1,0 +1,63 @@
+//! The call on several plans of one graph.
+
+ghost use Rattle.std.specs.Prelude.{◌≡◌, true};
+ghost use Rattle.audit_plans.specs.Stages.{PlansRunTo};
+ghost use Rattle.audit_statement.specs.Several.{KeepsPlansPromise, names_plans};
+ghost use Rattle.audit_statement.specs.World.{Kept, stream, world};
+ghost use Rattle.audit_words.specs.Spoken.{spoken};
+
+use crate::finish::report_all;
+use crate::prepare::prepare_plans;
+use audit_io::gate::Gate;
+use audit_io::sink::Sink;
+use audit_io::source::Source;
+use audit_notes::ended::Ended;
+use audit_notes::note::tell;
+use audit_steps::laws::accepted_jobs_are_runs;
+use std::alloc::Global;
+use std::thread::Threads;
+
+// Does what such words ask for, but for the note.
+fn run_plans<R: Threads + Sync, S: Source, K: Sink, G: Gate + Sync>(
+    rt: &R,
+    alloc: Global,
+    words: &[String],
+    graph: &mut S,
+    out: &mut K,
+    gate: &G,
+) -> Ended
+    requires { names_plans (spoken words.now) ≡ true }
+    ensures { (keeper : Kept) → PlansRunTo (spoken words.now)
+        (world (stream S.left S.faults graph.old) (stream K.taken K.faults out.old) keeper)
+        (world (stream S.left S.faults graph.new) (stream K.taken K.faults out.new) keeper) result }
+{
+    accepted_jobs_are_runs();
+    match prepare_plans(alloc, words, graph) {
+        Ok(plans) => report_all(rt, alloc, plans, out, gate),
+        Err(why) => why,
+    }
+}
+
+/// Does what words ask for that are those of the command on several plans, and answers the status. No slot is looked at.
+///
+/// The source is read to its end, or to one byte more than 67,108,864: the graph up to its first line feed, and behind it the table. The name and the
+/// report of each plan go to `out`, and the reason of each status but 0 to `note`: 1 for refused words, 2 for a refused graph, table or plan, 3 for want
+/// of memory, 4 for a failed read, 5 for a failed write.
+pub fn audit_plans<R: Threads + Sync, S: Source, K: Sink, N: Sink, G: Gate + Sync>(
+    rt: &R,
+    alloc: Global,
+    words: &[String],
+    graph: &mut S,
+    out: &mut K,
+    note: &mut N,
+    gate: &G,
+) -> u8
+    requires { names_plans (spoken words.now) ≡ true }
+    ensures { (keeper : Kept) → KeepsPlansPromise (spoken words.now)
+        (world (stream S.left S.faults graph.old) (stream K.taken K.faults out.old) keeper)
+        (world (stream S.left S.faults graph.new) (stream K.taken K.faults out.new) keeper)
+        (stream N.taken N.faults note.old) (stream N.taken N.faults note.new) result }
+{
+    let why = run_plans(rt, alloc, words, graph, out, gate);
+    tell(&why, note)
+}

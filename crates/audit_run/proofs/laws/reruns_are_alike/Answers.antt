@@ -1,5 +1,0 @@
-use Rattle.audit_run.proofs.Reruns.{reruns_are_alike}
-use Rattle.audit_run.proofs.laws.reruns_are_alike.Goals as goal
-
-pub returns : goal.returns
-returns c = reruns_are_alike

@@ -1,5 +1,0 @@
-use Rattle.audit_run.proofs.Reruns.{stops_keep_the_newest}
-use Rattle.audit_run.proofs.laws.stops_keep_the_newest.Goals as goal
-
-pub returns : goal.returns
-returns c = stops_keep_the_newest c.saves_keep_the_newest.ensures

@@ -1,0 +1,256 @@
+-- What a run leaves that saved while it walked, in the words of the call's contract.
+use Rattle.std.proofs.Common.{◌≡◌, ◌⊎◌, inl, inr, ℕ, zero, suc, ◌+◌, ◌-◌, ◌*◌, ◌%◌, ◌^◌, ◌<◌, ◌≤◌, ◌==◌, min, cond, List, [], ◌∷◌, ◌++◌, length, map, Option, Some, None, Result, Ok, Err, refl, sym, subst, ap, ◌∙◌, append_assoc, All, AllPairs, Contains, IsPermutation, arith}
+use Rattle.std.specs.Prelude.{IsFalse, IsTrue, OnOk}
+use Rattle.std.specs.List.{list_all}
+use Rattle.std.proofs.lemmas.List.{append-nil, length-map}
+use Rattle.std.proofs.lemmas.List.Elements.{Contains-append_right, Contains-get_or}
+use Rattle.std.proofs.lemmas.List.Sorted.{IsPermutation-append_right, IsPermutation-map, IsPermutation-sym, IsPermutation-trans, length_permutation, sum_by-IsPermutation}
+use Rattle.audit_io.specs.declared.source.Failed.{Failed}
+use Rattle.audit_io.specs.Slots.{Pair, Stored, stored}
+use Rattle.audit_io.specs.Tries.{Try, tried_all}
+use Rattle.audit_model.specs.declared.outcome.Outcome.{Outcome}
+use Rattle.audit_model.specs.Job.{Job}
+use Rattle.audit_model.specs.Run.{fits, has_id, run_ids, total}
+use Rattle.audit_model.specs.Trajectory.{outcome}
+use Rattle.model_laws.specs.Times.{times}
+use Rattle.model_laws.proofs.Times.{cut_at}
+use Rattle.checkpoint_definitions.specs.Checkpoint.{IsCheckpoint, checkpoint, job_digest}
+use Rattle.checkpoint_definitions.specs.Slots.{ours, slot_of}
+use Rattle.ckpt_store.specs.declared.slots.Place.{Place}
+use Rattle.ckpt_store.specs.Fitting.{AreFit}
+use Rattle.ckpt_store.specs.Histories.{AreInTurn}
+use Rattle.ckpt_store.specs.Laws.{CheckpointsAreOurs}
+use Rattle.desk_crew.specs.Holding as crew
+use Rattle.desk_crew.specs.Ran.{HasRun, IsLater, IsRunTry, KeepsSome, failed_of}
+use Rattle.draw_definitions.specs.Draw.{draw}
+use Rattle.outcome_book.specs.Booked.{by_id}
+use Rattle.tally_desk.specs.declared.entry.Entry.{Entry}
+use Rattle.tally_desk.specs.Entries.{id_of, ids_of}
+use Rattle.tally_desk.specs.Homes.{IfToldThen, IsSaveOf, booked, moved}
+use Rattle.tally_desk.specs.InTurn.{IsPartSave, saves_of}
+use Rattle.tally_desk.specs.InTurn as desk
+use Rattle.tally_desk.specs.Parts.{IsPlan, Parts, found}
+use Rattle.tally_desk.proofs.Booking.{booked_fit, by_id_fit}
+use Rattle.tally_desk.proofs.Todo.{todo_lacked, todo_within}
+use Rattle.audit_statement.specs.Ends.{HoldsPart, IfBothKnown, IsNewest, IsOpeningOrFound, IsPartly, IsTryOf, KeepsASlot, SavesInTurn, SavesInTurnAt, TriesOf, TriesTold, count_of_saves, full_of, last_place, place_of}
+use Rattle.audit_steps.specs.Runs.{AreAll, IsRun}
+use Rattle.audit_unsaved.specs.Ending.{SavesLast}
+use Rattle.audit_statement.specs.World.{IfKnown}
+use Rattle.claim_crew.proofs.Completing.{AreMapped, by_id-full}
+use Rattle.claim_crew.specs.Walks as walks
+use Rattle.audit_steps.proofs.Running.{are_all, rising_apart}
+use Rattle.audit_saving.proofs.Saved.{newest_below, place_is_beside}
+
+-- what holds of both where the first is told
+known_map : (a b : Option Pair) (R : Pair → Type 0) (P Q : Pair → Pair → Type 0) → IfKnown a R → ((p q : Pair) → R p → P p q → Q p q) → IfToldThen a b P → IfBothKnown a b Q
+known_map None b R P Q r f h = tt
+known_map (Some p) None R P Q r f h = h
+known_map (Some p) (Some q) R P Q r f h = f p q r h
+
+on_ok : {A B : Type 0} (result : Result (Unit {0}) Failed) → (A → B) → OnOk result A → OnOk result B
+on_ok (Ok done) f a = f a
+on_ok (Err failed) f a = tt
+
+-- more tries are appended
+tried_some : (told : List Try) (tries : List Try) → tried_all (Some told) tries ≡ Some (told ++ tries)
+tried_some told [] = ap (λ (ts : List Try). Some ts) (sym (append-nil told))
+tried_some told (t ∷ tries) = tried_some (told ++ t ∷ []) tries ∙ ap (λ (ts : List Try). Some ts) (append_assoc told (t ∷ []) tries)
+
+contains_at : (x : ℕ) (xs : List ℕ) → 0 < times x xs → Contains xs x
+contains_at x xs some_here =
+    let cut = cut_at x xs some_here in
+    subst (λ (ys : List ℕ). Contains ys x) (sym cut.2) (Contains-append_right cut.0 (x ∷ cut.1) x (Contains-get_or (x ∷ cut.1) 0 x (omega arith)))
+
+module _ (parts : Parts) (plan : IsPlan parts) (todo_is : parts.todo ≡ run_ids parts.job parts.opening parts.job.setting.budget) (every_is : parts.save_every ≡ parts.job.setting.save_every)
+    (ours_law : CheckpointsAreOurs) (hold : crew.SavesHoldParts) where
+  abbrev job : Job
+  job = parts.job
+
+  abbrev opening : List Outcome
+  opening = parts.opening
+
+  abbrev saved_of : List Entry → List Outcome
+  saved_of part = by_id (total job) (booked parts part)
+
+  is_found : (o : Outcome) → o ≡ found job o.id → o ≡ outcome job (draw job.setting.key) o.id
+  unfolding found
+  is_found o is = is
+
+  -- ---- what a save holds
+
+  of_desk : (o : Outcome) → Contains opening o ⊎ ((0 < times o.id parts.todo) × (o ≡ found job o.id)) → IsOpeningOrFound job opening o
+  of_desk o (inl has) = inl has
+  of_desk o (inr (to_do, is)) = inr (
+    todo_lacked parts plan o.id to_do,
+    todo_within parts plan o.id to_do,
+    subst (λ (ids : List ℕ). Contains ids o.id) todo_is (contains_at o.id parts.todo to_do),
+    is_found o is,
+  )
+
+  holds_part : (count : ℕ) (saved : List Outcome) → crew.HoldsPart parts count saved → HoldsPart job opening count saved
+  holds_part count saved h = record { each = λ k d inside. of_desk _ (h.each k d inside); opening_kept = h.opening_kept; counted = h.counted }
+
+  part_fits : (part : List Entry) → ((id : ℕ) → times id (ids_of part) ≤ times id parts.todo) → IsTrue (list_all (fits job) (saved_of part))
+  part_fits part of_todo = by_id_fit (fits job) (total job) (booked parts part) (booked_fit parts plan part of_todo)
+
+  read_as : (generation : ℕ) (part : List Entry) (slot : Stored) → ((id : ℕ) → times id (ids_of part) ≤ times id parts.todo) → IsSaveOf parts generation part slot
+      → slot_of job (job_digest job) slot ≡ ours generation (saved_of part)
+  read_as generation part slot of_todo s =
+      ap (slot_of job (job_digest job)) s.bytes
+      ∙ ours_law job (checkpoint 2 (job_digest job) generation (saved_of part)) 2 (job_digest job) generation (saved_of part) s.sound (part_fits part of_todo)
+
+  partly : (generation count : ℕ) (slot : Stored) → IsPartSave parts generation count slot → IsPartly job opening count generation slot
+  partly generation count slot s = record {
+    saved = saved_of s.part;
+    bytes_are = s.saved.bytes;
+    sound = s.saved.sound;
+    slot_is = read_as generation s.part slot s.of_todo s.saved;
+    holds = holds_part count (saved_of s.part) (subst (λ (n : ℕ). crew.HoldsPart parts n (saved_of s.part)) s.counted (hold parts s.part plan s.of_todo));
+  }
+
+  -- ---- a slot is kept
+
+  abbrev IsAt : Pair → Type 0
+  IsAt p = (parts.place.slot, parts.place.generation) ≡ place_of job p
+
+  back : (n : ℕ) → (n ≡ 0) ⊎ (n ≡ 1) → 1 - (1 - n) ≡ n
+  back n (inl e) = omega (arith, e)
+  back n (inr e) = omega (arith, e)
+
+  keeps_a_slot : (p q : Pair) → IsAt p → KeepsSome parts p q → KeepsASlot job opening p q
+  keeps_a_slot p q at (inl same) n e =
+      let first = slot_of job (job_digest job) p.zero_slot in
+      let second = slot_of job (job_digest job) p.one_slot in
+      let beside : parts.place.slot ≡ 1 - n = ap (λ (x : ℕ × ℕ). x.0) at ∙ place_is_beside first second n e in
+      let here : 1 - parts.place.slot ≡ n = ap (λ (k : ℕ). 1 - k) beside ∙ back n (newest_below first second n e) in
+      (n, inl (subst (λ (k : ℕ). stored q k ≡ stored p k) here same))
+  keeps_a_slot p q at (inr (m, (generation, (count, s)))) n e = (m, inr (count, (generation, partly generation count (stored q m) s)))
+
+  -- ---- saves in turn
+
+  module _ (posted : List Entry) (all : IsPermutation (ids_of posted) parts.todo) (whole : saved_of posted ≡ full_of job opening) where
+    of_todo : (id : ℕ) → times id (ids_of posted) ≤ times id parts.todo
+    of_todo id = let same = sum_by-IsPermutation (λ (y : ℕ). cond (y == id) 1 0) (ids_of posted) parts.todo all in omega (arith, same)
+
+    count_is : length posted ≡ length (run_ids job opening job.setting.budget)
+    count_is = sym (length-map posted id_of) ∙ sym (length_permutation (ids_of posted) parts.todo all) ∙ ap length todo_is
+
+    in_turn_at : (p q : Pair) (at : Place) (count : ℕ) → desk.SavesInTurnAt parts p q posted at count → SavesInTurnAt job opening p q at count
+    in_turn_at p q at count s = record {
+      last = s.last.bytes ∙ ap (λ (os : List Outcome). Some (checkpoint 2 (job_digest job) at.generation os)) whole;
+      last_is = read_as at.generation posted (stored q at.slot) of_todo s.last ∙ ap (ours at.generation) whole;
+      newest_is = s.newest;
+      only = s.only;
+      before_last = λ more.
+          subst (λ (v : ℕ). IsPartly job opening ((count - 1) * v) ((at.generation + 2) % 3) (stored q (1 - at.slot))) every_is
+          (partly ((at.generation + 2) % 3) ((count - 1) * parts.save_every) (stored q (1 - at.slot)) (s.before_last more));
+    }
+
+    saves_are : saves_of (length posted) parts.save_every ≡ count_of_saves job opening
+    saves_are i = saves_of (count_is i) (every_is i)
+
+    place_is : (p : Pair) → IsAt p → desk.last_place parts posted ≡ last_place job opening p
+    place_is p at i = moved (saves_are i - 1) (record { slot = (at i).0; generation = (at i).1 })
+
+    in_turn : (p q : Pair) → IsAt p → desk.SavesInTurn parts p q posted → SavesInTurn job opening p q
+    in_turn p q at s =
+        subst (λ (x : Place × ℕ). SavesInTurnAt job opening p q x.0 x.1) (λ i. (place_is p at i, saves_are i))
+        (in_turn_at p q (desk.last_place parts posted) (saves_of (length posted) parts.save_every) s)
+
+  generation_below : (n : ℕ) (at : Place) → at.generation < 3 → (moved n at).generation < 3
+  generation_below zero at below = below
+  generation_below (suc n) at below = omega arith
+
+  newest_in : (p q : Pair) → IsAt p → SavesInTurn job opening p q → IsNewest job (full_of job opening) q
+  newest_in p q at s =
+      let first : (place_of job p).1 < 3 = subst (λ (x : ℕ × ℕ). x.1 < 3) at plan.generation in
+      let last = last_place job opening p in
+      (last.slot, s.newest_is, (last.generation, generation_below (count_of_saves job opening - 1) (record { slot = (place_of job p).0; generation = (place_of job p).1 }) first, s.last))
+
+  -- ---- what was tried
+
+  of_try : (t : Try) → IsRunTry parts t → IsTryOf job opening t
+  of_try t s = record {
+    generation = s.generation;
+    count = length s.part;
+    saved = saved_of s.part;
+    sound = subst (λ (bytes : List ℕ). IsCheckpoint bytes 2 (job_digest job) s.generation (saved_of s.part)) (sym s.bytes_are) s.sound;
+    holds = holds_part (length s.part) (saved_of s.part) (hold parts s.part plan s.of_todo);
+  }
+
+  module _ (right : crew.RunTriesAreRight) (tries : List Try) (turn : AreInTurn job (job_digest job) parts.place.slot parts.place.generation tries) (each : All (IsRunTry parts) tries) (pairs : AllPairs IsLater tries)
+      (faults_now : ℕ) (covered : min (parts.save_faults + failed_of tries) (2 ^ 64 - 1) ≤ faults_now) where
+    tries_of : (p : Pair) → IsAt p → (told now : List Try) → now ≡ told ++ tries → TriesOf job opening p parts.save_faults faults_now told now
+    tries_of p at told now is = record {
+      tries = tries;
+      appended = is;
+      in_turn = subst (λ (x : ℕ × ℕ). AreInTurn job (job_digest job) x.0 x.1 tries) at turn;
+      each = λ k d inside. of_try _ (each k d inside);
+      growing = pairs;
+      covered = covered;
+      right = λ opening_right k d inside. right parts _ plan opening_right (each k d inside);
+    }
+
+    tries_by : (p : Pair) → IsAt p → (a b : Option (List Try)) → b ≡ tried_all a tries → IfBothKnown a b (TriesOf job opening p parts.save_faults faults_now)
+    tries_by p at None b is = tt
+    tries_by p at (Some told) None is = none_not (sym (tried_some told tries) ∙ sym is)
+      where
+        none_not : ◌≡◌ {A = Option (List Try)} (Some (told ++ tries)) None → ⊥
+        none_not h = cc
+    tries_by p at (Some told) (Some now) is = tries_of p at told now (same_list (is ∙ tried_some told tries))
+      where
+        same_list : ◌≡◌ {A = Option (List Try)} (Some now) (Some (told ++ tries)) → now ≡ told ++ tries
+        same_list h = cc
+
+    tries_told : (slots slots_now : Option Pair) (a b : Option (List Try)) (loads loads_now : ℕ) → IfKnown slots IsAt → b ≡ tried_all a tries
+        → TriesTold job opening (record { slots = slots; tried = a; load_faults = loads; save_faults = parts.save_faults })
+        (record { slots = slots_now; tried = b; load_faults = loads_now; save_faults = faults_now })
+    tries_told None slots_now a b loads loads_now at is = tt
+    tries_told (Some p) slots_now a b loads loads_now at is = tries_by p at a b is
+
+-- ---- all of it
+
+module _ (parts : Parts) (loads_now saves_now : ℕ) (slots_now : Option Pair) (tried_now : Option (List Try)) (sorted : List Outcome) (result : Result (Unit {0}) Failed)
+    (h : HasRun parts loads_now saves_now slots_now tried_now sorted result) (todo_is : parts.todo ≡ run_ids parts.job parts.opening parts.job.setting.budget) where
+  abbrev the_job : Job
+  the_job = parts.job
+
+  moved_all : IsPermutation (booked parts h.posted) (parts.opening ++ map (found parts.job) parts.todo)
+  moved_all =
+      IsPermutation-append_right parts.opening (map (found parts.job) (ids_of h.posted)) (map (found parts.job) parts.todo)
+      (IsPermutation-map (found parts.job) (ids_of h.posted) parts.todo h.all)
+
+  pub all_outcomes : AreMapped → IsRun parts.job → AreFit parts.job parts.opening → All (λ id. id < total parts.job) parts.todo → All (λ id. IsFalse (has_id parts.opening id)) parts.todo
+      → AreAll parts.job parts.opening sorted
+  unfolding walks.found found
+  all_outcomes mapped run fit within absent =
+      are_all parts.job run parts.opening parts.opening parts.todo sorted refl fit todo_is within
+      (λ budget ids.
+      h.sorted_is
+      ∙ by_id-full mapped parts.job parts.opening (booked parts h.posted) parts.todo budget (rising_apart parts.opening fit.rising) absent ids moved_all)
+      (IsPermutation-trans sorted (booked parts h.posted) _ (IsPermutation-sym (booked parts h.posted) sorted h.sorted_all) moved_all) h.rising
+
+  pub saves_last : CheckpointsAreOurs → crew.SavesHoldParts → crew.RunTriesAreRight → parts.save_every ≡ parts.job.setting.save_every
+      → IfKnown parts.slots (λ p. (parts.place.slot, parts.place.generation) ≡ place_of parts.job p) → sorted ≡ full_of parts.job parts.opening
+      → SavesLast parts.job parts.opening (record { slots = parts.slots; tried = parts.tried; load_faults = parts.load_faults; save_faults = parts.save_faults })
+      (record { slots = slots_now; tried = tried_now; load_faults = loads_now; save_faults = saves_now }) result
+  saves_last ours_law hold right every_is placed whole =
+      let turns = on_ok result
+      (known_map parts.slots slots_now (IsAt parts h.plan todo_is every_is ours_law hold) (λ p q. desk.SavesInTurn parts p q h.posted) (SavesInTurn parts.job parts.opening) placed
+      (in_turn parts h.plan todo_is every_is ours_law hold h.posted h.all (sym h.sorted_is ∙ whole))) h.in_turn in
+      record {
+        kept = known_map parts.slots slots_now (IsAt parts h.plan todo_is every_is ours_law hold) (KeepsSome parts) (KeepsASlot parts.job parts.opening) placed
+            (keeps_a_slot parts h.plan todo_is every_is ours_law hold) h.keeps;
+        in_turn = turns;
+        newest_is = on_ok result (newest_known parts.slots slots_now placed) turns;
+        cause = h.cause;
+        loads = h.loads;
+        tried = tries_told parts h.plan todo_is every_is ours_law hold right h.tries h.are_tries.in_turn h.are_tries.each h.are_tries.growing saves_now h.covered
+            parts.slots slots_now parts.tried tried_now parts.load_faults loads_now placed h.tried;
+      }
+    where
+      newest_known : (a b : Option Pair) → IfKnown a (λ p. (parts.place.slot, parts.place.generation) ≡ place_of parts.job p) → IfBothKnown a b (SavesInTurn parts.job parts.opening)
+          → IfBothKnown a b (λ p q. IsNewest parts.job (full_of parts.job parts.opening) q)
+      newest_known None b at s = tt
+      newest_known (Some p) None at s = s
+      newest_known (Some p) (Some q) at s = newest_in parts h.plan todo_is every_is ours_law hold p q at s

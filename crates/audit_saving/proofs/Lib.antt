@@ -1,0 +1,3 @@
+mod Desked
+mod Placing
+mod Saved

@@ -1,0 +1,4 @@
+//! The runs that save.
+#![tactic(auto)]
+
+pub mod saving;

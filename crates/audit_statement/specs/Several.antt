@@ -1,0 +1,199 @@
+-- Several plans of one graph: as which jobs the input is accepted, how a call on it ends, and what follows from that by statuses and by what is told.
+use Rattle.std.specs.Prelude.{◌≡◌, ◌≢◌, ◌⊎◌, ℕ, ◌<◌, ◌≤◌, Bool, true, false, nat_lt, List, [], ◌∷◌, length, codes, bytes_eq, ⊤, Option, Some, None, Result, Ok, Err, IsErr}
+use Rattle.std.specs.List.{All}
+use Rattle.std.specs.Io.KnownBytes.{Appends, IsAtEnd}
+use Rattle.audit_io.specs.Faults.{Rose}
+use Rattle.audit_model.specs.declared.setting.Setting.{Setting}
+use Rattle.audit_model.specs.Job.{Job}
+use Rattle.audit_model.specs.Plan.{IsLegal}
+use Rattle.audit_model.specs.Trajectory.{hub, visit}
+use Rattle.draw_definitions.specs.Draw.{draw}
+use Rattle.note_definitions.specs.Note.{Ending, bad_words, too_many_bytes, bad_graph, bad_regions, bad_table, bad_plan, bad_plan_named, no_memory, read_fault, write_fault, load_fault, stopped, damaged, other_job, save_fault}
+use Rattle.plan_jobs.specs.declared.fault.PlansFault.{PlansFault}
+use Rattle.plan_jobs.specs.declared.fault.PlansFault.TheVariants as fault
+use Rattle.plan_jobs.specs.Reading.{Jobs, jobs_reading}
+use Rattle.text_definitions.specs.Report.{plans_text}
+use Rattle.word_definitions.specs.Words.{setting_of}
+use Rattle.audit_statement.specs.Accepted.{columns_of, most_bytes}
+use Rattle.audit_statement.specs.Ends.{AppendsPart, SameUnless, TakesTooMany, TellsWhy}
+use Rattle.audit_statement.specs.Status.{status_of}
+use Rattle.audit_statement.specs.World.{Stream, World, IfKnown}
+
+-- whether the words are those of the command on several plans
+abbrev pub names_plans : List (List ℕ) → Bool
+names_plans [] = false
+names_plans (word ∷ rest) = bytes_eq word (codes "plans")
+
+-- ---- what is accepted
+
+-- a refusal in the words of the note; want of memory is none
+abbrev pub ending_for : Setting → PlansFault → Ending
+ending_for setting (fault.Graph f) = bad_graph f
+ending_for setting (fault.Regions f) = bad_regions setting.region f
+ending_for setting (fault.Table f) = bad_table f
+ending_for setting (fault.Own f) = bad_plan f
+ending_for setting (fault.Other name f) = bad_plan_named name f
+ending_for setting fault.Memory = no_memory
+
+abbrev pub from_jobs : Setting → Result Jobs PlansFault → Result Jobs Ending
+from_jobs setting (Ok jobs) = Ok jobs
+from_jobs setting (Err f) = Err (ending_for setting f)
+
+abbrev pub from_size : Setting → List ℕ → Bool → Result Jobs Ending
+from_size setting bytes true = Err too_many_bytes
+from_size setting bytes false = from_jobs setting (jobs_reading setting bytes)
+
+-- the jobs of these bytes, or the first reason to refuse them
+unfoldable pub plans_judged : Setting → List ℕ → Result Jobs Ending
+plans_judged setting bytes = from_size setting bytes (nat_lt most_bytes (length bytes))
+
+-- the words are accepted as this setting; where the source tells its bytes, they are these
+pub record HasPlansInput (words : List (List ℕ)) (left : Option (List ℕ)) (setting : Setting) (bytes : List ℕ) : Type 0 where
+  pub words_are : setting_of words ≡ Ok setting
+  pub given : IfKnown left (λ input. input ≡ bytes)
+
+-- all was accepted as these jobs, and the source was read to its end
+pub record ArePrepared (words : List (List ℕ)) (before after : Stream) (setting : Setting) (jobs : Jobs) : Type 0 where
+  pub bytes : List ℕ
+  pub input : HasPlansInput words before.bytes setting bytes
+  pub judged_so : plans_judged setting bytes ≡ Ok jobs
+  pub at_end : IsAtEnd after.bytes
+  pub faults : after.faults ≡ before.faults
+
+-- the words were accepted, and something of the input was refused for this reason
+pub record ArePlansRefused (words : List (List ℕ)) (left : Option (List ℕ)) (ending : Ending) : Type 0 where
+  pub setting : Setting
+  pub bytes : List ℕ
+  pub input : HasPlansInput words left setting bytes
+  pub judged_so : plans_judged setting bytes ≡ Err ending
+
+-- every plan that a trajectory of the job visits, from the start plan or from the hub, on any stream and after any number of steps, is legal
+pub record VisitsLegally (job : Job) : Type 0 where
+  pub from_start : (stream step : ℕ) → IsLegal job (visit job (draw job.setting.key stream) job.start step)
+  pub from_hub : (stream step : ℕ) → IsLegal job (visit job (draw job.setting.key stream) (hub job (draw job.setting.key)) step)
+
+-- so it is with each of the jobs
+abbrev pub VisitLegally : Jobs → Type 0
+VisitLegally jobs = All (λ plan. VisitsLegally plan.1) jobs
+
+-- ---- how the call ends
+
+-- the report of each job that it would get alone was written, one after the other
+pub record ArePlansDone (words : List (List ℕ)) (before after : World) : Type 0 where
+  pub setting : Setting
+  pub jobs : Jobs
+  pub prepared : ArePrepared words before.source after.source setting jobs
+  pub written : Appends before.out.bytes after.out.bytes (plans_text (draw setting.key) jobs)
+  pub legal : VisitLegally jobs
+
+-- a part of the same text was written, and a write failed
+pub record ArePlansCutOff (words : List (List ℕ)) (before after : World) : Type 0 where
+  pub setting : Setting
+  pub jobs : Jobs
+  pub prepared : ArePrepared words before.source after.source setting jobs
+  pub written : AppendsPart before.out.bytes after.out.bytes (plans_text (draw setting.key) jobs)
+  pub legal : VisitLegally jobs
+  pub rose : Rose before.out.faults after.out.faults
+
+-- the bytes are more than the limit, and the source was read no further than that
+pub record AreTooManyBytes (words : List (List ℕ)) (before after : World) : Type 0 where
+  pub refused : ArePlansRefused words before.source.bytes too_many_bytes
+  pub taken : TakesTooMany true before.source.bytes after.source.bytes
+
+-- the words are accepted, and a read failed
+pub record IsPlansReadFault (words : List (List ℕ)) (before after : World) : Type 0 where
+  pub setting : Setting
+  pub words_are : setting_of words ≡ Ok setting
+  pub rose : Rose before.source.faults after.source.faults
+
+-- why the call ended
+abbrev pub PlansCause : List (List ℕ) → World → World → Option Ending → Type 0
+PlansCause words before after None = ArePlansDone words before after
+PlansCause words before after (Some (bad_words f)) = setting_of words ≡ Err f
+PlansCause words before after (Some too_many_bytes) = AreTooManyBytes words before after
+PlansCause words before after (Some (bad_graph f)) = ArePlansRefused words before.source.bytes (bad_graph f)
+PlansCause words before after (Some (bad_regions column f)) = ArePlansRefused words before.source.bytes (bad_regions column f)
+PlansCause words before after (Some (bad_table f)) = ArePlansRefused words before.source.bytes (bad_table f)
+PlansCause words before after (Some (bad_plan f)) = ArePlansRefused words before.source.bytes (bad_plan f)
+PlansCause words before after (Some (bad_plan_named name f)) = ArePlansRefused words before.source.bytes (bad_plan_named name f)
+PlansCause words before after (Some no_memory) = ⊤
+PlansCause words before after (Some read_fault) = IsPlansReadFault words before after
+PlansCause words before after (Some write_fault) = ArePlansCutOff words before after
+PlansCause words before after (Some load_fault) = ⊥
+PlansCause words before after (Some (stopped done all)) = ⊥
+PlansCause words before after (Some (damaged first second)) = ⊥
+PlansCause words before after (Some (other_job found wanted)) = ⊥
+PlansCause words before after (Some save_fault) = ⊥
+
+-- which endings may have read, seen a read fail, written, and seen a write fail
+pub record PlansMarks : Type 0 where
+  pub read : Bool
+  pub read_failed : Bool
+  pub wrote : Bool
+  pub write_failed : Bool
+
+abbrev pub plans_marks : Option Ending → PlansMarks
+plans_marks None = record { read = true; read_failed = false; wrote = true; write_failed = false }
+plans_marks (Some (bad_words f)) = record { read = false; read_failed = false; wrote = false; write_failed = false }
+plans_marks (Some read_fault) = record { read = true; read_failed = true; wrote = false; write_failed = false }
+plans_marks (Some write_fault) = record { read = true; read_failed = false; wrote = true; write_failed = true }
+plans_marks (Some _) = record { read = true; read_failed = false; wrote = false; write_failed = false }
+
+-- all else is as before; no slot is looked at or changed
+pub record PlansLeave (before after : World) (marks : PlansMarks) : Type 0 where
+  pub source : SameUnless marks.read before.source after.source
+  pub read_faults : SameUnless marks.read_failed before.source.faults after.source.faults
+  pub out : SameUnless marks.wrote before.out.bytes after.out.bytes
+  pub write_faults : SameUnless marks.write_failed before.out.faults after.out.faults
+  pub keeper : after.keeper ≡ before.keeper
+
+-- there is a reason: the status says it, it has its cause, it leaves untouched what it is to, and the note tells it
+pub record PlansEnd (words : List (List ℕ)) (before after : World) (note_before note_after : Stream) (status : ℕ) : Type 0 where
+  pub reason : Option Ending
+  pub status_is : status ≡ status_of reason
+  pub cause : PlansCause words before after reason
+  pub untouched : PlansLeave before after (plans_marks reason)
+  pub told : TellsWhy (columns_of words) note_before note_after reason
+
+-- ---- what follows
+
+-- the words are accepted, and the bytes are told
+pub record AreToldPlans (words : List (List ℕ)) (before : World) (setting : Setting) (bytes : List ℕ) : Type 0 where
+  pub words_are : setting_of words ≡ Ok setting
+  pub input : before.source.bytes ≡ Some bytes
+
+-- and all is accepted as these jobs
+pub record AreTheJobs (words : List (List ℕ)) (before : World) (setting : Setting) (jobs : Jobs) : Type 0 where
+  pub bytes : List ℕ
+  pub told : AreToldPlans words before setting bytes
+  pub accepted : plans_judged setting bytes ≡ Ok jobs
+
+-- With status 0 exactly the reports that the plans would get alone were written, one after the other, and with status 5 a part of them; with both every
+-- plan was legal that a trajectory visited. Only the statuses 0 to 5 come, each refusal where it is to, unless there was no memory; no failed call is passed over; and where nothing stands in the way, all
+-- is done, or there was no memory.
+pub record PlansCauses (words : List (List ℕ)) (before after : World) (status : ℕ) : Type 0 where
+  pub written : (setting : Setting) (jobs : Jobs) → AreTheJobs words before setting jobs → status ≡ 0
+      → Appends before.out.bytes after.out.bytes (plans_text (draw setting.key) jobs)
+  pub cut_off : (setting : Setting) (jobs : Jobs) → AreTheJobs words before setting jobs → status ≡ 5
+      → AppendsPart before.out.bytes after.out.bytes (plans_text (draw setting.key) jobs)
+  pub legal : (setting : Setting) (jobs : Jobs) → AreTheJobs words before setting jobs → (status ≡ 0) ⊎ (status ≡ 5) → VisitLegally jobs
+  pub unwritten : status ≢ 0 → status ≢ 5 → after.out.bytes ≡ before.out.bytes
+  pub read_to_end : status ≡ 0 → IsAtEnd after.source.bytes
+  pub few : status ≤ 5
+  pub one_only : status ≡ 1 → IsErr (setting_of words)
+  pub one : IsErr (setting_of words) → (status ≡ 1) ⊎ (status ≡ 3)
+  pub two_only : (setting : Setting) (bytes : List ℕ) → AreToldPlans words before setting bytes → status ≡ 2 → IsErr (plans_judged setting bytes)
+  pub two : (setting : Setting) (bytes : List ℕ) → AreToldPlans words before setting bytes → IsErr (plans_judged setting bytes)
+      → (status ≡ 2) ⊎ (status ≡ 3) ⊎ (status ≡ 4)
+  pub four_only : status ≡ 4 → Rose before.source.faults after.source.faults
+  pub four : before.source.faults < after.source.faults → status ≡ 4
+  pub five_only : status ≡ 5 → Rose before.out.faults after.out.faults
+  pub five : before.out.faults < after.out.faults → status ≡ 5
+  pub complete : (setting : Setting) (jobs : Jobs) → AreTheJobs words before setting jobs → (Rose before.source.faults after.source.faults → ⊥)
+      → (Rose before.out.faults after.out.faults → ⊥) → (status ≡ 0) ⊎ (status ≡ 3)
+  pub kept : after.keeper ≡ before.keeper
+
+-- all that a call on several plans promises
+pub record KeepsPlansPromise (words : List (List ℕ)) (before after : World) (note_before note_after : Stream) (status : ℕ) : Type 0 where
+  pub causes : PlansCauses words before after status
+  pub ends : PlansEnd words before after note_before note_after status

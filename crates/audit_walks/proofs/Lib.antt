@@ -1,0 +1,4 @@
+pub mod Early
+pub mod Plain
+pub mod Splitting
+mod Testing

@@ -1,0 +1,26 @@
+-- The serial test of a run.
+use Rattle.std.proofs.Common.{◌≡◌, ℕ, ◌≤◌, Bool, true, false, List, Some, refl, sym, subst}
+use Rattle.audit_model.specs.declared.rules.Rules.{Rules}
+use Rattle.audit_model.specs.declared.outcome.Serial.{Serial}
+use Rattle.audit_model.specs.Job.{Job}
+use Rattle.audit_model.specs.Serially.{place_and_ranks}
+use Rattle.report.specs.Outcomes.{IsSerialBy, IsSerialOf}
+use Rattle.serial_test.specs.Ranks.{HasRanks}
+use Rattle.walker.specs.declared.walker.Walker.{Walker}
+use Rattle.audit_walks.specs.Serially.{IsMadeFor, IsTester, IsTesterBy}
+
+module _ {J : Type 0} (keeps : J → Type 0) (stands : J → List ℕ → Type 0) (takes : J → ℕ → ℕ → Bool) (by : J → Rules) (job : Job) (w : Walker J) where
+  asked_by : (b : Bool) → IsTesterBy b keeps stands takes by job (Some w) → (b ≡ true) × IsMadeFor keeps stands takes by job w
+  asked_by true t = (refl, t)
+  asked_by false t = absurd t
+
+  -- where there is a walker for it, the test is asked for
+  pub asked : IsTester keeps stands takes by job (Some w) → (job.setting.serial ≡ true) × IsMadeFor keeps stands takes by job w
+  asked t = asked_by job.setting.serial t
+
+-- what the test finds is a place and ranks of the job
+pub fits_some : (job : Job) (found : Serial) → job.setting.serial ≡ true → found.place ≤ job.setting.steps → HasRanks job found.ranks
+    → IsSerialOf job (Some (place_and_ranks found))
+fits_some job found e place ranks =
+    subst (λ (b : Bool). IsSerialBy b job (Some (place_and_ranks found))) (sym e)
+    (place, λ k l. record { some = (ranks k l).0; few = (ranks k l).1 })

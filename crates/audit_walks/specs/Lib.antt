@@ -1,0 +1,4 @@
+pub mod Guards
+pub mod Ready
+pub mod Serially
+pub mod Stopped

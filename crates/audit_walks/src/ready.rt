@@ -1,0 +1,60 @@
+//! What a run holds before it walks.
+
+ghost use Rattle.std.specs.Prelude.{◌≡◌, ◌<◌, IfOk};
+ghost use Rattle.audit_model.specs.Run.{total};
+ghost use Rattle.ckpt_store.specs.Fitting.{AreFit};
+ghost use Rattle.audit_steps.specs.Runs.{IsRun};
+ghost use Rattle.audit_walks.specs.Ready.{IsReadyFor};
+
+use crate::todo::todo_of;
+use audit_model::buffers::{Bytes, OutcomeList};
+use audit_model::lists::UnitList;
+use audit_model::memory::Memory;
+use audit_model::outcome::Outcome;
+use outcome_book::book::Book;
+use outcome_book::laws::outcomes_have_few_visits;
+use plan_core::job::Job;
+use std::alloc::Global;
+
+/// What each run holds before it walks: a book of the outcomes with which it starts, the ids to walk, and room for the outcomes by rising id
+/// and for the report on them.
+#[derive(Drop)]
+pub struct Ready {
+    pub book: Book,
+    pub todo: UnitList,
+    pub sorted: OutcomeList,
+    pub text: Bytes,
+}
+
+// The book of a run that starts with these outcomes.
+fn book_of(alloc: Global, job: &Job, outcomes: &[Outcome]) -> Result<Book, Memory>
+    requires run { IsRun job.now }
+    requires fit { AreFit job.now outcomes.now }
+    ensures total { IfOk result (λ b. b.total ≡ total job.now) }
+    ensures outcomes { IfOk result (λ b. b.outcomes ≡ outcomes.now) }
+{
+    // A law, called for what its contract says: the bins of what fits a job add up to few enough for a book.
+    outcomes_have_few_visits();
+    let mut book = Book::with_room(alloc, job.total())?;
+    book.merge(outcomes);
+    Ok(book)
+}
+
+/// What a run holds that starts with these outcomes. The only error is want of memory.
+pub fn make_ready(alloc: Global, job: &Job, outcomes: &[Outcome]) -> Result<Ready, Memory>
+    requires run { IsRun job.now }
+    requires fit { AreFit job.now outcomes.now }
+    ensures { IfOk result (IsReadyFor job.now outcomes.now) }
+{
+    let book = book_of(alloc, job, outcomes)?;
+    let todo = todo_of(alloc, job, &book, job.setting().budget)?;
+    let sorted = OutcomeList::with_room(alloc, job.total() as usize)?;
+    let mut text = Bytes::new(alloc);
+    report::reserve(alloc, job, &mut text)?;
+    Ok(Ready {
+        book,
+        todo,
+        sorted,
+        text,
+    })
+}

@@ -1,0 +1,49 @@
+//! The serial test of a run.
+
+ghost use Rattle.std.specs.Prelude.{◌≡◌, IfOk};
+ghost use Rattle.audit_model.specs.Serially.{serial_told};
+ghost use Rattle.draw_definitions.specs.Draw.{draw};
+ghost use Rattle.report.specs.Outcomes.{IsSerialOf};
+ghost use Rattle.walker.specs.Judges.{IsJudgeFor};
+ghost use Rattle.audit_steps.specs.Runs.{IsRun};
+ghost use Rattle.audit_walks.specs.Serially.{IsTester};
+
+use audit_model::memory::Memory;
+use flip_guard::judge::Judge;
+use plan_core::job::Job;
+use serial_test::run::serial;
+use std::alloc::Global;
+use walker::walker::Walker;
+
+/// All that the serial test takes, where it is asked for. The only error is want of memory.
+pub fn make_tester<J: Judge>(
+    alloc: Global,
+    job: &Job,
+    judge: J,
+) -> Result<Option<Walker<J>>, Memory>
+    requires { IsJudgeFor job.now J.keeps J.takes J.rules judge }
+    ensures { IfOk result (IsTester J.keeps J.stands J.takes J.rules job.now) }
+{
+    if !job.setting().serial {
+        return Ok(None);
+    }
+    let tester = Walker::new(alloc, job, judge)?;
+    Ok(Some(tester))
+}
+
+/// The place and the ranks that the serial test finds, where it is asked for. It takes no memory.
+pub fn test_serially<J: Judge>(job: &Job, tester: Option<Walker<J>>) -> Option<(u32, [u64; 4])>
+    requires run { IsRun job.now }
+    requires tester { IsTester J.keeps J.stands J.takes J.rules job.now tester }
+    ensures found { result ≡ serial_told job.now (draw job.now.setting.key) }
+    ensures within { IsSerialOf job.now result }
+{
+    match tester {
+        None => None,
+        Some(mut walker) => {
+            let found = serial(&mut walker, job);
+            let ranks = found.ranks;
+            Some((found.place, ranks))
+        }
+    }
+}

@@ -1,0 +1,82 @@
+-- Names that the command on several plans does not take have their defaults.
+use Rattle.std.proofs.Common.{◌≡◌, ◌∙◌, ℕ, zero, suc, ◌+◌, ◌<◌, arith, Bool, true, false, not, cond, List, [], ◌∷◌, length, find, ap, refl, subst, sym, Option, Some, None, inl, inr}
+use Rattle.std.proofs.lemmas.Bool.{and_parts, cases_eq}
+use Rattle.std.proofs.lemmas.Slice.Eq.{bytes_eq-Decides}
+use Rattle.std.specs.Prelude.{◌&&◌, ◌||◌, nat_le, is_none, unwrap_or, bytes_eq, codes, option_and_then}
+use Rattle.std.specs.Fmt.{digits}
+use Rattle.std.specs.List.{slice_index_or}
+use Rattle.std.specs.Option.{option_or}
+use Rattle.audit_model.specs.declared.fault.Name.{Name}
+use Rattle.audit_model.specs.declared.fault.Name.TheVariants.{Budget, Ends, Save, Resume, Walks}
+use Rattle.audit_model.specs.declared.fault.WordFault.{WordFault}
+use Rattle.audit_model.specs.declared.setting.Command.TheVariants.{Check, Plans}
+use Rattle.audit_model.specs.First.{first_some_below}
+use Rattle.audit_model.specs.Names.{name_text}
+use Rattle.word_definitions.specs.Words.{Pair, default_of, given, has_walks, is_good, is_number, known_fault, name_of, number_at, number_of, pair_at, pair_fault, text_of}
+use Rattle.audit_words.specs.Judged.{fault_of_pairs}
+
+-- none is found, so there is none
+or_none : {A : Type 0} (a b : Option A) → option_or a b ≡ None → (a ≡ None) × (b ≡ None)
+or_none None b h = (refl, h)
+or_none (Some x) b h = cc
+
+all_none : {A : Type 0} (n : ℕ) (f : ℕ → Option A) → first_some_below n f ≡ None → (k : ℕ) → k < n → f k ≡ None
+all_none zero f h k l = absurd (omega (arith, l))
+all_none (suc n) f h k l = let both = or_none (first_some_below n f) (f n) h in elim (cases_eq k n) [
+  | inl e ↦ subst (λ m. f m ≡ None) (sym e) both.1
+  | inr e ↦ all_none n f both.0 k (omega (arith, l, e))
+]
+
+no_such : (text : List ℕ) (words : List Pair) → ((k : ℕ) → k < length words → bytes_eq (slice_index_or words k ([], None)).0 text ≡ false)
+    → find (λ (pair : Pair). bytes_eq pair.0 text) words ≡ None
+no_such text [] h = refl
+no_such text (p ∷ ps) h =
+    ap (λ b. cond b (Some p) (find (λ (pair : Pair). bytes_eq pair.0 text) ps)) (h 0 (omega arith)) ∙ no_such text ps (λ k l. h (suc k) (omega (arith, l)))
+
+module _ (words : List Pair) (faultless : fault_of_pairs Plans words ≡ None) where
+  -- a word that spells no name stands in no pair
+  not_there : (text : List ℕ) → name_of Plans words text ≡ None → (k : ℕ) → k < length words → bytes_eq (pair_at Plans words k).0 text ≡ false
+  not_there text unnamed k l = by (bytes_eq (pair_at Plans words k).0 text) refl
+    where
+      by : (b : Bool) → bytes_eq (pair_at Plans words k).0 text ≡ b → bytes_eq (pair_at Plans words k).0 text ≡ false
+      by false e = e
+      by true e =
+          let same : (pair_at Plans words k).0 ≡ text = (bytes_eq-Decides (pair_at Plans words k).0 text).0 e in
+          let fault : pair_fault Plans words k ≡ known_fault Plans words k None =
+          ap (λ t. known_fault Plans words k (name_of Plans words t)) same ∙ ap (known_fault Plans words k) unnamed in
+          let none = all_none (length words) (pair_fault Plans words) faultless k l in
+          let impossible : None ≡ known_fault Plans words k None = sym none ∙ fault in cc
+
+  defaulted : (name : Name) → name_of Plans words (name_text name) ≡ None → text_of Check words name ≡ unwrap_or (default_of name) []
+  defaulted name unnamed =
+      ap (λ (found : Option Pair). unwrap_or (option_or (option_and_then (λ pair. pair.1) found) (default_of name)) [])
+      (no_such (name_text name) words (not_there (name_text name) unnamed))
+
+  pub save_is : text_of Check words Save ≡ codes "0"
+  save_is = defaulted Save refl
+
+  pub resume_is : text_of Check words Resume ≡ codes "no"
+  resume_is = defaulted Resume refl
+
+  pub budget_is : text_of Check words Budget ≡ codes "100000"
+  budget_is = defaulted Budget refl
+
+  pub good_save : is_good Check words Save ≡ true
+  unfolding digits
+  good_save = ap (is_number 0 100000) save_is
+
+  pub good_resume : is_good Check words Resume ≡ true
+  good_resume = ap (λ t. bytes_eq t (codes "yes") || bytes_eq t (codes "no")) resume_is
+
+  pub good_budget : is_good Check words Ends ≡ true → is_good Check words Budget ≡ true
+  unfolding digits
+  good_budget ends =
+      let walks = and_parts (is_number 0 100000 (text_of Check words Ends)) (has_walks Check words) ends in
+      let few = and_parts (nat_le 1 (number_at Check words Walks + number_at Check words Ends)) (nat_le (number_at Check words Walks + number_at Check words Ends) 100000) walks.1 in
+      enough (number_at Check words Walks + number_at Check words Ends) few.1
+    where
+      enough : (n : ℕ) → nat_le n 100000 ≡ true
+          → (is_number 0 100000 (text_of Check words Budget) && (not (is_number 0 0 (text_of Check words Save)) || nat_le n (unwrap_or (number_of (text_of Check words Budget)) 0))) ≡ true
+      enough n few =
+          subst (λ (budget : List ℕ). (is_number 0 100000 budget && (not (is_number 0 0 (text_of Check words Save)) || nat_le n (unwrap_or (number_of budget) 0))) ≡ true) (sym budget_is)
+          (subst (λ (save : List ℕ). (is_number 0 100000 (codes "100000") && (not (is_number 0 0 save) || nat_le n (unwrap_or (number_of (codes "100000")) 0))) ≡ true) (sym save_is) few)

@@ -1,0 +1,46 @@
+-- What was seen of the slots of a keeper, whatever it tells.
+use Rattle.std.proofs.Common.{◌≡◌, ℕ, ◌+◌, ◌<◌, List, length, Option, Some, None, sym, ap, ◌∙◌, subst, arith}
+use Rattle.std.specs.Prelude.{Err, IfOk, replicate}
+use Rattle.std.proofs.lemmas.Bool.{lt-ltb}
+use Rattle.std.proofs.lemmas.List.{length-replicate}
+use Rattle.audit_io.specs.Slots.{IfTold, Loads, LoadsWithin, Pair, stored}
+use Rattle.audit_io.specs.declared.keeper.LoadError.{LoadError}
+use Rattle.audit_io.specs.declared.keeper.LoadError.TheVariants as load
+use Rattle.audit_model.specs.declared.fault.CkptFault.TheVariants.{TooLong}
+use Rattle.audit_model.specs.Job.{Job}
+use Rattle.checkpoint_definitions.specs.Slots.{broken, checkpoint_limit, slot_of, slot_of_bytes}
+use Rattle.ckpt_store.specs.Looked.{SawSlot, SawSlots, unloaded}
+use Rattle.ckpt_store.specs.declared.slots.Slot.{Slot}
+
+-- there are bytes beyond each limit
+longer : (n : ℕ) → (bytes : List ℕ) × (n < length bytes)
+longer n = (replicate (n + 1) 0, omega (arith, length-replicate {A = ℕ} (n + 1) 0))
+
+-- bytes beyond the limit are broken for that
+too_long : (job : Job) (digest bytes : List ℕ) (n : ℕ) → n ≡ checkpoint_limit → n < length bytes → broken (TooLong n) ≡ slot_of job digest (Some bytes)
+too_long job digest bytes n is long =
+    ap (λ m. broken (TooLong m)) is ∙ sym (ap (slot_of_bytes job digest bytes) (lt-ltb checkpoint_limit (length bytes) (omega (arith, is, long))))
+
+-- a slot that was not loaded for its length is seen as broken for that
+pub unloaded_seen : (job : Job) (digest : List ℕ) (told : Option Pair) (number : ℕ) (room : List ℕ) (e : LoadError)
+    → IfTold told (λ p. Loads (stored p number) checkpoint_limit room (Err e)) → LoadsWithin checkpoint_limit room (Err e)
+    → IfOk (unloaded e) (SawSlot job digest told number)
+unloaded_seen job digest told number room load.Failed h within = tt
+unloaded_seen job digest told number room load.Memory h within = tt
+unloaded_seen job digest None number room (load.Long n) h within =
+    let some_bytes = longer n in record { bytes = Some some_bytes.0; same = tt; is = too_long job digest some_bytes.0 n within.0 some_bytes.1 }
+unloaded_seen job digest (Some p) number room (load.Long n) h within =
+    record { bytes = Some h.0; same = sym h.1; is = too_long job digest h.0 n within.0 (omega (arith, h.2, within.0)) }
+
+-- both slots, one after the other
+pub both_seen : (job : Job) (digest : List ℕ) (told later : Option Pair) (zero one : Slot) → later ≡ told
+    → SawSlot job digest told 0 zero → SawSlot job digest later 1 one → SawSlots job digest told (record { zero = zero; one = one })
+both_seen job digest told later zero one is first second = by told first (subst (λ t. SawSlot job digest t 1 one) is second)
+  where
+    by : (told : Option Pair) → SawSlot job digest told 0 zero → SawSlot job digest told 1 one → SawSlots job digest told (record { zero = zero; one = one })
+    by None a b = record { pair = record { zero_slot = a.bytes; one_slot = b.bytes }; same = tt; are = record { zero = a.is; one = b.is } }
+    by (Some p) a b = record {
+      pair = record { zero_slot = a.bytes; one_slot = b.bytes };
+      same = ap (λ t. record { zero_slot = t; one_slot = b.bytes }) a.same ∙ ap (λ t. record { zero_slot = p.zero_slot; one_slot = t }) b.same;
+      are = record { zero = a.is; one = b.is };
+    }

@@ -1,0 +1,56 @@
+//! What is shown of a job, or why there is none.
+
+use crate::flips::show_flips;
+use audit_model::fault::PlanFault;
+use dual_graph::marks::Marks;
+use plan_core::job::Job;
+use std::io;
+
+/// What is shown of a job.
+#[derive(Clone, Copy)]
+pub enum Shown {
+    /// Whether its start plan is legal.
+    Legal,
+    /// Flips.
+    Flips,
+}
+
+fn show_legal<R: Print + AllocGlobal>(rt: &R, job: &Job) -> io::Result<()> {
+    match Marks::new(rt.alloc(), job.units()) {
+        Ok(mut marks) => {
+            let legal = job.legal(job.start().as_slice(), &mut marks);
+            println!(rt; "legal {legal}")
+        }
+        Err(_) => println!(rt; "memory"),
+    }
+}
+
+fn show_fault<R: Print>(rt: &R, fault: &PlanFault) -> io::Result<()> {
+    match fault {
+        PlanFault::TooManySplit {
+            region,
+            districts,
+            most,
+        } => println!(rt; "region {region} in {districts} districts, not {most}"),
+        _ => println!(rt; "no job"),
+    }
+}
+
+fn show_made<R: Print + AllocGlobal>(rt: &R, job: &Job, shown: Shown) -> io::Result<()> {
+    match shown {
+        Shown::Legal => show_legal(rt, job),
+        Shown::Flips => show_flips(rt, job),
+    }
+}
+
+/// Shows a job, or why there is none.
+pub fn show_job<R: Print + AllocGlobal>(
+    rt: &R,
+    job: Result<Job, PlanFault>,
+    shown: Shown,
+) -> io::Result<()> {
+    match job {
+        Ok(job) => show_made(rt, &job, shown),
+        Err(fault) => show_fault(rt, &fault),
+    }
+}

@@ -1,0 +1,35 @@
+-- Options that are none, and the first of two.
+use Rattle.std.proofs.Common.{◌≡◌, Some, None, Option, refl, Bool, true, false, cond, ℕ}
+use Rattle.std.specs.Option.{option_or}
+use Rattle.std.specs.Prelude.{option_map}
+
+pub some_is_not_none : {A : Type 0} (x : A) → Some x ≡ None → ⊥
+some_is_not_none x h = cc
+
+pub none_or : {A : Type 0} (o p : Option A) → o ≡ None → option_or o p ≡ p
+none_or None p h = refl
+none_or (Some x) p h = cc
+
+pub option_or_none : {A : Type 0} (a b : Option A) → option_or a b ≡ None → (a ≡ None) × (b ≡ None)
+option_or_none None b h = (refl, h)
+option_or_none (Some x) b h = absurd (some_is_not_none x h)
+
+pub cond_some_none : {A : Type 0} (b : Bool) (x : A) → cond b (Some x) None ≡ None → b ≡ false
+cond_some_none true x h = absurd (some_is_not_none x h)
+cond_some_none false x h = refl
+
+pub cond_none : {A : Type 0} (b : Bool) (x : A) → b ≡ false → cond b (Some x) None ≡ None
+cond_none true x h = cc
+cond_none false x h = refl
+
+pub option_map_none : {A B : Type 0} (f : A → B) (o : Option A) → option_map f o ≡ None → o ≡ None
+option_map_none f None h = refl
+option_map_none f (Some x) h = absurd (some_is_not_none (f x) h)
+
+pub or_of_none : {A : Type 0} (a b : Option A) → a ≡ None → b ≡ None → option_or a b ≡ None
+or_of_none None b h k = k
+or_of_none (Some x) b h k = absurd (some_is_not_none x h)
+
+pub or_nothing : (x : Option ℕ) → option_or x None ≡ x
+or_nothing None = refl
+or_nothing (Some a) = refl
