@@ -41,7 +41,7 @@ def once(program, words, data):
         _, status, usage = os.wait4(child.pid, 0)
         child.returncode = os.waitstatus_to_exitcode(status)
         if child.returncode != 0:
-            sys.exit(f"cost_table: {' '.join(words)} ended with {child.returncode}")
+            sys.exit(f"{program} {' '.join(words)} ended with {child.returncode}")
         written.seek(0)
         return usage.ru_utime + usage.ru_stime, usage.ru_maxrss / 1024, written.read().decode()
 

@@ -9,11 +9,10 @@ on all plans, of a call on the own plan alone, and of one call for each plan, an
 of the call alone: the graph, a line feed and the table. Ends with 1 where they are not the same. Nothing is needed but Python.
 """
 import json
-import os
 import random
-import subprocess
 import sys
-import tempfile
+
+from cost_table import once
 
 ROWS, COLUMNS, DISTRICTS, PLANS = 90, 100, 10, 16
 WORDS = "--pop pop --first a --second b --district d --slack 1000 --ask seats:low,cut-edges:low --key".split() + ["0" * 64]
@@ -52,22 +51,8 @@ def table_of(plans):
     return "\n".join(",".join(line) for line in lines) + "\n"
 
 
-def once(program, words, data):
-    """Seconds of the processor, megabytes, and what was written."""
-    with tempfile.TemporaryFile() as source, tempfile.TemporaryFile() as written:
-        source.write(data.encode())
-        source.seek(0)
-        child = subprocess.Popen([program, *words], stdin=source, stdout=written)
-        _, status, usage = os.wait4(child.pid, 0)
-        child.returncode = os.waitstatus_to_exitcode(status)
-        if child.returncode != 0:
-            sys.exit(f"plans_cost: {' '.join(words)} ended with {child.returncode}")
-        written.seek(0)
-        return usage.ru_utime + usage.ru_stime, usage.ru_maxrss / 1024, written.read().decode()
-
-
 def best(program, words, data, rounds):
-    runs = [once(program, words, data) for _ in range(rounds)]
+    runs = [once(program, words, data.encode()) for _ in range(rounds)]
     return min(run[0] for run in runs), max(run[1] for run in runs), runs[0][2]
 
 
@@ -78,7 +63,7 @@ def main(program, steps="1000000", rounds="3"):
         print(graph, table, sep="\n", end="")
         return
     words = [*WORDS, "--steps", steps]
-    least = once("/bin/true", [], "")[1]
+    least = once("/bin/true", [], b"")[1]
     whole = best(program, ["plans", *words], graph + "\n" + table, int(rounds))
     alone = [best(program, ["run", *words], graph_of(plan), int(rounds)) for plan in plans]
     same = whole[2] == "".join(f"plan {'d' if at == 0 else f'plan{at}'}\n{run[2]}" for at, run in enumerate(alone))
