@@ -197,8 +197,8 @@ def shown(number, data):
 
 
 def told(ids):
-    """What is printed of the ids that a run began: how many, and those below 64."""
-    return " ".join([f"told {len(ids)}:", *(str(one) for one in ids if one < 64)])
+    """What is printed of the ids that a call began: how many, and which of them are below 64, each once."""
+    return " ".join([f"told {len(ids)}:", *(str(one) for one in sorted(set(ids)) if one < 64)])
 
 
 def slot_of(folder, said, before):

@@ -4,11 +4,13 @@ its files `faults` and `sure`.
 Usage: python3 fault_cases.py FOLDER
 FOLDER has both files and those that they name, as crates/audit_cases/data. Runs, checkpoints and trajectories are those of
 checkpoint_cases.py, over a source that gives at most so many bytes a call, its end being a call of its own, and an output that takes as many;
-of an outside that cannot fail only the status, the ids and the note are shown.
+of an outside that cannot fail only the status, the ids and the note are shown. Reports of several plans are those of model.py: a plan is walked,
+and then its title is written in three pieces and its report in one.
 """
 import pathlib
 import sys
 
+import model
 from checkpoint_cases import End, Keeper, audit, shown, slot_of, told
 
 ROOM = 4000
@@ -24,6 +26,20 @@ def lined(parts):
     return "".join(part.removesuffix("\n") + "\n" for part in parts if part)
 
 
+def audit_plans(words, text, failing_write, most):
+    """How a call on several plans ends, where the write with this number fails, if one does."""
+    setting = model.Setting(words)
+    told_ids, out, writes = [], "", 0
+    for name, job in model.jobs_of(setting, text.encode()):
+        told_ids += range(setting.total)
+        for piece in ("plan ", name, "\n", model.report(job, model.asked(job, job.digest()))):
+            if writes < failing_write <= writes + calls_for(len(piece), most):
+                return End(5, told_ids, out + piece[:most * (failing_write - 1 - writes)], "write fault")
+            writes += calls_for(len(piece), most)
+            out += piece
+    return End(0, told_ids, out, "")
+
+
 def run_once(folder, calls, number, most, said, text, words):
     """What one run prints, and its status."""
     slots = [slot_of(folder, one, None) for one in said]
@@ -32,8 +48,9 @@ def run_once(folder, calls, number, most, said, text, words):
         keeper = Keeper(slots, 0, "0")
     else:
         keeper = Keeper(slots, number if calls == "loads" else 0, str(number if calls == "saves" else 0))
-        end = audit(words, text, keeper, ROOM)
-        if calls == "writes" and number <= calls_for(len(end.out), most):
+        is_several = words[0] == "plans"
+        end = audit_plans(words, text, number if calls == "writes" else 0, most) if is_several else audit(words, text, keeper, ROOM)
+        if calls == "writes" and not is_several and number <= calls_for(len(end.out), most):
             end = End(5, end.told, end.out[:most * (number - 1)], "write fault")
     lines = [f"run {number}", f"status {end.status}", told(end.told), end.out + end.note]
     return lined([*lines, *(shown(place, data) for place, data in enumerate(keeper.slots))]), end.status
@@ -41,7 +58,8 @@ def run_once(folder, calls, number, most, said, text, words):
 
 def run_surely(folder, zero, one, file, *words):
     """What a run prints where nothing can fail."""
-    end = audit(words, (folder / file).read_text(), Keeper([slot_of(folder, said, None) for said in (zero, one)], 0, "0"), ROOM)
+    keeper, text = Keeper([slot_of(folder, said, None) for said in (zero, one)], 0, "0"), (folder / file).read_text()
+    end = audit_plans(words, text, 0, ROOM) if words[0] == "plans" else audit(words, text, keeper, ROOM)
     return lined([f"status {end.status}", told(end.told), end.note])
 
 

@@ -6,8 +6,9 @@ use audit_io::stop_keeper::StopKeeper;
 use audit_io::sure_keeper::SureKeeper;
 use audit_run::audit::audit;
 use audit_run::sure::audit_surely;
+use case_lines::lines::{Kind, run_file};
 use case_lines::runs::{Case, SureCase};
-use case_lines::{faults, graphs, keeping, plain, sure};
+use case_lines::sure;
 use std::sync::Wait;
 use std::test::Fail;
 use std::thread::Threads;
@@ -49,9 +50,9 @@ fn run_surely<R: Threads + Wait + Sync + AllocGlobal>(
 fn main(rt: HostRuntime) -> Result<(), Fail> {
     let whole = |case: &mut Case, keeper: StopKeeper| run(&rt, case, keeper);
     let surely = |case: &mut SureCase, keeper: SureKeeper| run_surely(&rt, case, keeper);
-    plain::run_file(&rt, &whole, "cases")?;
-    keeping::run_file(&rt, &whole, "slots")?;
-    graphs::check_file(&rt, &whole, "graphs")?;
-    faults::run_file(&rt, &whole, "faults")?;
+    run_file(&rt, &whole, Kind::Plain, "cases")?;
+    run_file(&rt, &whole, Kind::Keeping, "slots")?;
+    run_file(&rt, &whole, Kind::Graphs, "graphs")?;
+    run_file(&rt, &whole, Kind::Faults, "faults")?;
     sure::run_file(&rt, &surely, "sure")
 }

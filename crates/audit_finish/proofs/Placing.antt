@@ -6,7 +6,7 @@ use Rattle.audit_notes.specs.declared.ended.Ended.{Ended}
 use Rattle.audit_opening.specs.declared.opening.Target.{Target}
 use Rattle.audit_opening.specs.Opening.{IsPlaced, IsTarget}
 use Rattle.audit_steps.specs.Calls.{Finishes}
-use Rattle.audit_statement.specs.World.{Kept, Stream}
+use Rattle.audit_io.specs.State.{Kept, Stream}
 
 -- where there is no place, the run saves nothing
 pub no_target_told : (b : Bool) (job : Job) (slots : Option Pair) (o : Option Target) → o ≡ None → IsTarget b job slots o → b ≡ false

@@ -2,12 +2,11 @@
 
 ghost use Rattle.std.specs.Prelude.{◌≡◌, ◌≢◌, ◌+◌, ◌<◌, [], vec_len};
 ghost use Rattle.walker.specs.Judges.{AreJudges};
-ghost use Rattle.audit_statement.specs.Ends.{saves};
-ghost use Rattle.audit_steps.specs.Runs.{IsRun};
+ghost use Rattle.audit_statement.specs.Endings.{saves};
+ghost use Rattle.audit_steps.specs.Runs.{IsRunJob};
 ghost use Rattle.audit_opening.specs.Opening.{IsOpened};
 ghost use Rattle.audit_walks.specs.Serially.{IsTester};
 ghost use Rattle.audit_steps.specs.Calls.{Finishes};
-ghost use Rattle.audit_statement.specs.World.{stream, kept};
 
 use audit_io::gate::Gate;
 use audit_io::keeper::Keeper;
@@ -46,13 +45,13 @@ fn finish_tested<
     keeper: C,
     gate: &G,
 ) -> (Ended, C)
-    requires run { IsRun job.now }
-    requires opened { IsOpened job.now (C.slots keeper) opening }
+    requires run { IsRunJob job.now }
+    requires opened { IsOpened job.now (C.state keeper).slots opening }
     requires judges { AreJudges job.now J.keeps J.takes J.rules judges.items }
     requires workers { vec_len judges ≡ job.now.setting.workers }
     requires tester { IsTester J.keeps J.stands J.takes J.rules job.now tester }
-    ensures { Finishes job.now (stream K.taken K.faults out.old) (stream K.taken K.faults out.new)
-        (kept C.slots C.tried C.load_faults C.save_faults keeper) (kept C.slots C.tried C.load_faults C.save_faults result.1) result.0 }
+    ensures { Finishes job.now (K.state out.old) (K.state out.new)
+        (C.state keeper) (C.state result.1) result.0 }
 {
     if job.setting().stop > 0 {
         let why = finish_early(rt, alloc, job, judges, tester, out, gate);
@@ -95,12 +94,12 @@ fn finish_judged<
     keeper: C,
     gate: &G,
 ) -> (Ended, C)
-    requires run { IsRun job.now }
-    requires opened { IsOpened job.now (C.slots keeper) opening }
+    requires run { IsRunJob job.now }
+    requires opened { IsOpened job.now (C.state keeper).slots opening }
     requires judges { AreJudges job.now J.keeps J.takes J.rules judges.items }
     requires workers { vec_len judges ≡ job.now.setting.workers + 1 }
-    ensures { Finishes job.now (stream K.taken K.faults out.old) (stream K.taken K.faults out.new)
-        (kept C.slots C.tried C.load_faults C.save_faults keeper) (kept C.slots C.tried C.load_faults C.save_faults result.1) result.0 }
+    ensures { Finishes job.now (K.state out.old) (K.state out.new)
+        (C.state keeper) (C.state result.1) result.0 }
 {
     let Some(judge) = judges.pop() else {
         unreachable!()
@@ -121,11 +120,11 @@ fn finish_cut<R: Threads + Wait + Sync, K: Sink, C: Keeper + Send, G: Gate + Syn
     keeper: C,
     gate: &G,
 ) -> (Ended, C)
-    requires run { IsRun job.now }
-    requires opened { IsOpened job.now (C.slots keeper) opening }
+    requires run { IsRunJob job.now }
+    requires opened { IsOpened job.now (C.state keeper).slots opening }
     requires no_regions { job.now.regions ≡ [] }
-    ensures { Finishes job.now (stream K.taken K.faults out.old) (stream K.taken K.faults out.new)
-        (kept C.slots C.tried C.load_faults C.save_faults keeper) (kept C.slots C.tried C.load_faults C.save_faults result.1) result.0 }
+    ensures { Finishes job.now (K.state out.old) (K.state out.new)
+        (C.state keeper) (C.state result.1) result.0 }
 {
     let max_cut = job.rules().max_cut;
     let max_split = job.rules().max_split;
@@ -152,11 +151,11 @@ fn finish_split<R: Threads + Wait + Sync, K: Sink, C: Keeper + Send, G: Gate + S
     keeper: C,
     gate: &G,
 ) -> (Ended, C)
-    requires run { IsRun job.now }
-    requires opened { IsOpened job.now (C.slots keeper) opening }
+    requires run { IsRunJob job.now }
+    requires opened { IsOpened job.now (C.state keeper).slots opening }
     requires some_regions { job.now.regions ≢ [] }
-    ensures { Finishes job.now (stream K.taken K.faults out.old) (stream K.taken K.faults out.new)
-        (kept C.slots C.tried C.load_faults C.save_faults keeper) (kept C.slots C.tried C.load_faults C.save_faults result.1) result.0 }
+    ensures { Finishes job.now (K.state out.old) (K.state out.new)
+        (C.state keeper) (C.state result.1) result.0 }
 {
     let cut_limit = job.rules().max_cut;
     let split_limit = job.rules().max_split;
@@ -184,9 +183,9 @@ pub fn finish_run<R: Threads + Wait + Sync, K: Sink, C: Keeper + Send, G: Gate +
     mut keeper: C,
     gate: &G,
 ) -> (Ended, C)
-    requires { IsRun job.now }
-    ensures { Finishes job.now (stream K.taken K.faults out.old) (stream K.taken K.faults out.new)
-        (kept C.slots C.tried C.load_faults C.save_faults keeper) (kept C.slots C.tried C.load_faults C.save_faults result.1) result.0 }
+    requires { IsRunJob job.now }
+    ensures { Finishes job.now (K.state out.old) (K.state out.new)
+        (C.state keeper) (C.state result.1) result.0 }
 {
     let opening = match open(alloc, job, &mut keeper) {
         Ok(opening) => opening,

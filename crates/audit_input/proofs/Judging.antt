@@ -1,5 +1,5 @@
 -- What is judged of bytes, refusal by refusal.
-use Rattle.std.proofs.Common.{◌≡◌, ◌⊎◌, inl, inr, ℕ, ◌<◌, ◌≤◌, List, [], length, Option, Some, None, Ok, Err, refl, sym, ap, arith}
+use Rattle.std.proofs.Common.{◌≡◌, ◌⊎◌, inl, inr, ℕ, ◌<◌, ◌≤◌, List, [], length, Ok, Err, refl, arith}
 use Rattle.audit_model.specs.declared.fault.GraphFault.TheVariants as graph
 use Rattle.audit_model.specs.declared.fault.PlanFault.TheVariants as plan
 use Rattle.audit_model.specs.declared.fault.RegionFault.TheVariants as region
@@ -11,9 +11,10 @@ use Rattle.audit_model.specs.declared.fault.PlanFault.{PlanFault}
 use Rattle.audit_model.specs.declared.fault.RegionFault.{RegionFault}
 use Rattle.audit_model.specs.declared.setting.Setting.{Setting}
 use Rattle.audit_model.specs.Job.{Job}
-use Rattle.audit_model.specs.JobOf.{IsJob, job_from, job_of, job_or}
+use Rattle.audit_model.specs.JobOf.{IsJob, job_from, job_of}
 use Rattle.audit_model.specs.Limits.{AreRegions, AreWithin, IsSetting, IsWithinLimits}
 use Rattle.audit_model.specs.Parsed.{Parsed}
+use Rattle.model_laws.proofs.Jobs.{setting_of_job}
 use Rattle.note_definitions.specs.Note.{too_many_bytes, bad_graph, bad_regions, bad_plan}
 use Rattle.graph_definitions.specs.Reading.{reading}
 use Rattle.audit_statement.specs.Accepted.{judged, most_bytes, regions_by}
@@ -41,15 +42,6 @@ pub judged_job : (setting : Setting) (bytes : List ℕ) (p : Parsed) (regions : 
     → reading bytes setting.columns ≡ Ok p → regions_by setting.region bytes ≡ Ok regions → job_of p setting regions ≡ Ok job → judged setting bytes ≡ Ok job
 unfolding judged
 judged_job setting bytes p regions job few r q j = rw (le-ltb most_bytes (length bytes) few, r, q, j)
-
--- a job keeps its setting
-pub setting_of_job : (p : Parsed) (setting : Setting) (regions : List ℕ) (job : Job) → job_of p setting regions ≡ Ok job → job.setting ≡ setting
-unfolding job_of
-setting_of_job p setting regions job e = from_or _ _ _ e
-  where
-    from_or : (made : Job) (fault : Option PlanFault) (job : Job) → job_or made fault ≡ Ok job → job.setting ≡ made.setting
-    from_or made None job e = sym (ap (λ (j : Job). j.setting) (let same : made ≡ job = cc in same))
-    from_or made (Some f) job e = cc
 
 pub judged_plan_end : (setting : Setting) (bytes : List ℕ) (p : Parsed) (regions : List ℕ) (f : PlanFault) → length bytes ≤ most_bytes
     → reading bytes setting.columns ≡ Ok p → regions_by setting.region bytes ≡ Ok regions → (f ≡ plan.Memory) ⊎ (job_of p setting regions ≡ Err f) → JudgedSo setting bytes (plan_ended f)

@@ -7,10 +7,12 @@ use Rattle.audit_model.specs.declared.setting.Setting.{Setting}
 use Rattle.word_definitions.specs.Words.{setting_of}
 use Rattle.audit_notes.specs.declared.ended.Ended.TheVariants as ended
 use Rattle.audit_statement.specs.Accepted.{input_by}
-use Rattle.audit_statement.specs.Ends.{LeavesUntouched, SameUnless, TakesTooMany, no_marks, passes, is_reading}
+use Rattle.audit_statement.specs.Endings.{LeavesUntouched, SameUnless, TakesTooMany, no_marks, passes, is_reading}
 use Rattle.audit_input.specs.Steps.{ReadsTooMany}
 use Rattle.audit_steps.specs.Calls.{RunsTo}
-use Rattle.audit_statement.specs.World.{Stream, Kept, IfKnown, world}
+use Rattle.audit_io.specs.State.{Kept, Stream}
+use Rattle.audit_io.specs.Told.{IfTold}
+use Rattle.audit_statement.specs.World.{world}
 use Rattle.audit_input.proofs.Judging.{judged_many}
 
 -- the source may have been read, as the words ask
@@ -25,7 +27,7 @@ may_read command before after reads = subst (λ (b : Bool). SameUnless b before 
 
 -- a command that reads has the bytes of the source
 pub reads_source : (command : Command) (setting : Setting) (left : Option (List ℕ)) (bytes : List ℕ) → is_reading command ≡ true
-    → IfKnown left (λ input. input ≡ bytes) → IfKnown (input_by command setting left) (λ input. input ≡ bytes)
+    → IfTold left (λ input. input ≡ bytes) → IfTold (input_by command setting left) (λ input. input ≡ bytes)
 reads_source Check setting left bytes reads given = given
 reads_source Run setting left bytes reads given = given
 reads_source Make setting left bytes reads given = cc

@@ -1,20 +1,15 @@
 -- Bytes read and written in turns.
-use Rattle.std.proofs.Common.{◌≡◌, ℕ, suc, true, ◌<◌, List, [], ◌++◌, length, Option, Some, None, refl, ap, sym, ◌∙◌, append_assoc, length-append, arith}
+use Rattle.std.proofs.Common.{◌≡◌, ℕ, suc, true, ◌<◌, List, ◌++◌, length, Option, Some, None, refl, ap, ◌∙◌, length-append, arith}
 use Rattle.std.proofs.lemmas.List.{append-nil}
 use Rattle.std.specs.Io.KnownBytes.{Consumes, IsAtEnd}
 use Rattle.audit_statement.specs.Accepted.{most_bytes}
-use Rattle.audit_statement.specs.Ends.{TakesTooMany}
+use Rattle.audit_statement.specs.Endings.{TakesTooMany}
 use Rattle.audit_input.specs.Steps.{ReadsTooMany}
-use Rattle.audit_statement.specs.World.{Stream, IfKnown}
-
-pub consumes_then : (a b c : Option (List ℕ)) (xs ys : List ℕ) → Consumes a b xs → Consumes b c ys → Consumes a c (xs ++ ys)
-consumes_then None b c xs ys p q = tt
-consumes_then (Some u) None c xs ys p q = absurd p
-consumes_then (Some u) (Some v) None xs ys p q = absurd q
-consumes_then (Some u) (Some v) (Some w) xs ys p q = p ∙ ap (λ r. xs ++ r) q ∙ sym (append_assoc xs ys w)
+use Rattle.audit_io.specs.State.{Stream}
+use Rattle.audit_io.specs.Told.{IfTold}
 
 -- at the end, what was consumed is all that was left
-pub consumed_all : (a c : Option (List ℕ)) (xs : List ℕ) → Consumes a c xs → IsAtEnd c → IfKnown a (λ left. left ≡ xs)
+pub consumed_all : (a c : Option (List ℕ)) (xs : List ℕ) → Consumes a c xs → IsAtEnd c → IfTold a (λ left. left ≡ xs)
 consumed_all None c xs p e = tt
 consumed_all (Some u) None xs p e = absurd p
 consumed_all (Some u) (Some v) xs p e = p ∙ ap (λ r. xs ++ r) e ∙ append-nil xs
@@ -24,7 +19,7 @@ abbrev pub left_or : Option (List ℕ) → List ℕ → List ℕ
 left_or None xs = xs
 left_or (Some left) xs = left
 
-pub left_is : (a : Option (List ℕ)) (xs : List ℕ) → IfKnown a (λ left. left ≡ left_or a xs)
+pub left_is : (a : Option (List ℕ)) (xs : List ℕ) → IfTold a (λ left. left ≡ left_or a xs)
 left_is None xs = tt
 left_is (Some left) xs = refl
 
@@ -49,7 +44,3 @@ reads_too_many before after xs p h same = record {
   taken = left_taken before.bytes after.bytes xs p h;
   faults = same;
 }
-
-pub consumes_nothing : (a : Option (List ℕ)) → Consumes a a []
-consumes_nothing None = tt
-consumes_nothing (Some u) = refl

@@ -14,13 +14,15 @@ use Rattle.note_definitions.specs.Note.{bad_graph, bad_regions, bad_plan}
 use Rattle.word_definitions.specs.Words.{setting_of}
 use Rattle.audit_model.specs.declared.setting.Setting.{Setting}
 use Rattle.audit_statement.specs.Accepted.{most_bytes, input_of, judged}
-use Rattle.audit_statement.specs.Ends.{IsPrepared, IsReadBy, TakesTooMany, is_reading}
+use Rattle.audit_statement.specs.Endings.{IsPrepared, IsReadBy, TakesTooMany, is_reading}
 use Rattle.audit_steps.specs.Calls.{RunsTo}
-use Rattle.audit_statement.specs.World.{Stream, Kept, world, IfKnown}
+use Rattle.audit_io.specs.State.{Kept, Stream}
+use Rattle.audit_io.specs.Told.{IfTold}
+use Rattle.audit_statement.specs.World.{world}
 
 -- all that was left, and nothing is left now
 pub record ReadsAll (before after : Stream) (bytes : List ℕ) : Type 0 where
-  pub given : IfKnown before.bytes (λ left. left ≡ bytes)
+  pub given : IfTold before.bytes (λ left. left ≡ bytes)
   pub at_end : IsAtEnd after.bytes
   pub few : length bytes ≤ most_bytes
   pub faults : after.faults ≡ before.faults
@@ -28,7 +30,7 @@ pub record ReadsAll (before after : Stream) (bytes : List ℕ) : Type 0 where
 -- there was more than the limit, of which one byte more than the limit was taken
 pub record ReadsTooMany (before after : Stream) : Type 0 where
   pub bytes : List ℕ
-  pub given : IfKnown before.bytes (λ left. left ≡ bytes)
+  pub given : IfTold before.bytes (λ left. left ≡ bytes)
   pub many : most_bytes < length bytes
   pub taken : TakesTooMany true before.bytes after.bytes
   pub faults : after.faults ≡ before.faults
@@ -46,7 +48,7 @@ Prepares words before after (Err why) = (out : Stream) (keeper : Kept) → RunsT
 
 -- the bytes of the graph were read or made
 pub record HasInput (setting : Setting) (before after : Stream) (bytes : List ℕ) : Type 0 where
-  pub given : IfKnown (input_of setting before.bytes) (λ input. input ≡ bytes)
+  pub given : IfTold (input_of setting before.bytes) (λ input. input ≡ bytes)
   pub read : IsReadBy (is_reading setting.command) before after
 
 -- why there is no job of these bytes

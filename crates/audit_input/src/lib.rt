@@ -3,3 +3,6 @@
 
 pub mod prepare;
 pub mod reading;
+
+pub use prepare::word_end;
+pub use reading::{ReadEnd, read_source};

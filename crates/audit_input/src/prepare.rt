@@ -11,9 +11,9 @@ ghost use Rattle.graph_definitions.specs.Reading.{reading};
 ghost use Rattle.audit_model.specs.declared.setting.Command.TheVariants as command;
 ghost use Rattle.audit_statement.specs.Accepted.{most_bytes, regions_by};
 ghost use Rattle.audit_notes.specs.Ended.{word_ended, graph_ended, region_ended, plan_ended};
-ghost use Rattle.audit_statement.specs.Ends.{is_reading};
+ghost use Rattle.audit_statement.specs.Endings.{is_reading};
 ghost use Rattle.audit_input.specs.Steps.{IsMaking, Prepares, PreparesFor, Judges};
-ghost use Rattle.audit_statement.specs.World.{Stream, stream};
+ghost use Rattle.audit_io.specs.State.{Stream};
 ghost use Rattle.audit_words.specs.Spoken.{spoken};
 ghost use Rattle.draw_definitions.specs.Grid.{grid};
 
@@ -150,7 +150,7 @@ fn prepare_grid(alloc: Global, setting: Setting) -> Result<Job, Ended>
 fn prepare_read<S: Source>(alloc: Global, setting: Setting, source: &mut S) -> Result<Job, Ended>
     requires reads { IsTrue (is_reading setting.command) }
     requires within { IsSetting setting }
-    ensures { PreparesFor setting (stream S.left S.faults source.old) (stream S.left S.faults source.new) result }
+    ensures { PreparesFor setting (S.state source.old) (S.state source.new) result }
 {
     match read_source(alloc, source) {
         Ok(bytes) => judge(alloc, setting, bytes.as_slice()),
@@ -164,7 +164,7 @@ fn prepare_read<S: Source>(alloc: Global, setting: Setting, source: &mut S) -> R
 fn prepare_for<S: Source>(alloc: Global, setting: Setting, source: &mut S) -> Result<Job, Ended>
     requires within { IsSetting setting }
     requires made { setting.command ≡ command.Make → IsMaking setting }
-    ensures { PreparesFor setting (stream S.left S.faults source.old) (stream S.left S.faults source.new) result }
+    ensures { PreparesFor setting (S.state source.old) (S.state source.new) result }
 {
     match setting.command {
         Command::Check | Command::Run | Command::Plans => prepare_read(alloc, setting, source),
@@ -174,7 +174,7 @@ fn prepare_for<S: Source>(alloc: Global, setting: Setting, source: &mut S) -> Re
 
 /// The job that the words and the source give, or why there is none. The graph of `make` is a grid, and the source is left alone.
 pub fn prepare<S: Source>(alloc: Global, words: &[String], source: &mut S) -> Result<Job, Ended>
-    ensures { Prepares (spoken words.now) (stream S.left S.faults source.old) (stream S.left S.faults source.new) result }
+    ensures { Prepares (spoken words.now) (S.state source.old) (S.state source.new) result }
 {
     match read(alloc, words) {
         Ok(setting) => prepare_for(alloc, setting, source),

@@ -1,10 +1,12 @@
 //! The source, read to its end.
 
+ghost use Rattle.std.specs.Prelude.{◌≡◌};
+ghost use Rattle.audit_input.specs.declared.reading.ReadEnd.TheVariants as ends;
 ghost use Rattle.audit_input.specs.Steps.{ReadsSource};
-ghost use Rattle.audit_statement.specs.World.{stream};
 
 use audit_io::source::Source;
 use audit_model::buffers::Bytes;
+use audit_model::memory::Memory;
 use std::alloc::Global;
 
 /// The most bytes of a graph.
@@ -21,9 +23,17 @@ pub enum ReadEnd {
     Memory,
 }
 
+impl From<Memory> for ReadEnd {
+    ghost from_gives = { λ _ e. e ≡ ends.Memory };
+
+    fn from(_: Memory) -> ReadEnd {
+        ReadEnd::Memory
+    }
+}
+
 /// All bytes of the source, of which it takes at most one more than the limit.
 pub fn read_source<S: Source>(alloc: Global, source: &mut S) -> Result<Bytes, ReadEnd>
-    ensures { ReadsSource (stream S.left S.faults source.old) (stream S.left S.faults source.new) result }
+    ensures { ReadsSource (S.state source.old) (S.state source.new) result }
 {
     let mut bytes = Bytes::new(alloc);
     let mut buffer = [0u8; TURN];
@@ -36,10 +46,7 @@ pub fn read_source<S: Source>(alloc: Global, source: &mut S) -> Result<Bytes, Re
                 if count == 0 {
                     return Ok(bytes);
                 }
-                match bytes.append(&room[..count]) {
-                    Ok(()) => {}
-                    Err(_) => return Err(ReadEnd::Memory),
-                }
+                bytes.append(&room[..count])?;
             }
         }
     }

@@ -1,5 +1,6 @@
 -- What a keeper's two slots hold, where it tells, and what a load and a save do.
 use Rattle.std.specs.Prelude.{◌≡◌, ℕ, zero, suc, ◌<◌, ◌≤◌, Bool, true, false, List, [], length, ⊤, Option, Some, None, Result, Ok, Err}
+use Rattle.audit_io.specs.Told.{IfTold, IfBothTold}
 use Rattle.audit_io.specs.declared.keeper.LoadError.{LoadError}
 use Rattle.audit_io.specs.declared.keeper.LoadError.TheVariants as load
 
@@ -22,11 +23,6 @@ abbrev pub other_stored : Pair → ℕ → Stored
 other_stored p zero = p.one_slot
 other_stored p (suc n) = p.zero_slot
 
--- what is known of a slot, where the keeper tells
-abbrev pub IfTold : Option Pair → (Pair → Type 0) → Type 0
-IfTold None P = ⊤
-IfTold (Some p) P = P p
-
 -- what a load's answer says of the slot and of the room
 abbrev pub Loads : Stored → ℕ → List ℕ → Result Bool LoadError → Type 0
 Loads slot limit room (Ok true) = slot ≡ Some room
@@ -45,14 +41,11 @@ LoadsWithin limit room (Err load.Memory) = room ≡ []
 
 -- whatever a save answers, the other slot is as it was
 abbrev pub KeepsOther : Option Pair → Option Pair → ℕ → Type 0
-KeepsOther None new slot = ⊤
-KeepsOther (Some p) None slot = ⊥
-KeepsOther (Some p) (Some q) slot = other_stored q slot ≡ other_stored p slot
+KeepsOther old new slot = IfBothTold old new (λ p q. other_stored q slot ≡ other_stored p slot)
 
 -- the slot holds exactly these bytes
 abbrev pub HoldsBytes : Option Pair → ℕ → List ℕ → Type 0
-HoldsBytes None slot bytes = ⊤
-HoldsBytes (Some q) slot bytes = stored q slot ≡ Some bytes
+HoldsBytes slots slot bytes = IfTold slots (λ q. stored q slot ≡ Some bytes)
 
 -- the bytes, where the slot is there
 abbrev pub stored_if : Bool → List ℕ → Stored

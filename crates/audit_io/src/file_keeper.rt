@@ -34,10 +34,10 @@ pub struct FileKeeper<R: Files + Drop> {
 impl<R: Files + Drop> FileKeeper<R> {
     /// A keeper over the files that this part of the runtime opens, of which no call has failed. It tells nothing.
     pub fn new(files: R) -> FileKeeper<R>
-        ensures slots { ⟦<FileKeeper<R> as Keeper>⟧.slots result ≡ None }
-        ensures tried { ⟦<FileKeeper<R> as Keeper>⟧.tried result ≡ None }
-        ensures load_faults { ⟦<FileKeeper<R> as Keeper>⟧.load_faults result ≡ 0 }
-        ensures save_faults { ⟦<FileKeeper<R> as Keeper>⟧.save_faults result ≡ 0 }
+        ensures slots { (⟦<FileKeeper<R> as Keeper>⟧.state result).slots ≡ None }
+        ensures tried { (⟦<FileKeeper<R> as Keeper>⟧.state result).tried ≡ None }
+        ensures load_faults { (⟦<FileKeeper<R> as Keeper>⟧.state result).load_faults ≡ 0 }
+        ensures save_faults { (⟦<FileKeeper<R> as Keeper>⟧.state result).save_faults ≡ 0 }
     {
         FileKeeper {
             files,
@@ -49,13 +49,7 @@ impl<R: Files + Drop> FileKeeper<R> {
 }
 
 impl<R: Files + Drop> Keeper for FileKeeper<R> {
-    ghost slots = { λ _. None };
-
-    ghost tried = { λ _. None };
-
-    ghost load_faults = { λ k. k.load_faults };
-
-    ghost save_faults = { λ k. k.save_faults };
+    ghost state = { λ k. record { slots = None; tried = None; load_faults = k.load_faults; save_faults = k.save_faults } };
 
     /// A slot is absent exactly where opening its file answers that there is none; a file that was read is there, whatever its length. Want of
     /// memory, the system's too, is `Memory`.

@@ -17,3 +17,16 @@ pub mod stop_keeper;
 pub mod sure;
 pub mod sure_keeper;
 mod tries;
+
+pub use file_keeper::FileKeeper;
+pub use gate::{FreeGate, Gate};
+pub use keeper::{Keeper, LoadError};
+pub use mem_keeper::MemKeeper;
+pub use mem_sink::MemSink;
+pub use mem_source::MemSource;
+pub use sink::Sink;
+pub use source::{Failed, Source};
+pub use std_adapters::{ReadSource, WriteSink};
+pub use stop_keeper::StopKeeper;
+pub use sure::{SureSink, SureSource};
+pub use sure_keeper::SureKeeper;

@@ -5,6 +5,7 @@ ghost use Rattle.audit_io.specs.Faults.{HasCause, HasLoadCause};
 ghost use Rattle.audit_io.specs.Slots.{Loads, LoadsWithin, KeepsOther, HoldsBytes, stored};
 ghost use Rattle.audit_io.specs.Stops.{with_part, with_try};
 ghost use Rattle.audit_io.specs.Tries.{try_of};
+ghost use Rattle.audit_model.specs.Limits.{most_saved_bytes};
 
 use crate::keeper::{Keeper, LoadError};
 use crate::mem_slot::MemSlot;
@@ -101,7 +102,7 @@ impl MemKeeper {
     // Leaves the first bytes of a save, or all where there are fewer, and counts nothing.
     pub(crate) fn leave_part(&mut self, slot: u8, bytes: &[u8], kept: u32)
         requires slot { slot < 2 }
-        requires few { length bytes.now ≤ 8000084 }
+        requires few { length bytes.now ≤ most_saved_bytes }
         ensures { self.new ≡ with_part self.old slot bytes.now kept }
     {
         self.tried = self.tried.and(&Save {
@@ -129,13 +130,7 @@ impl MemKeeper {
 }
 
 impl Keeper for MemKeeper {
-    ghost slots = { λ k. Some k.slots };
-
-    ghost tried = { λ k. Some k.tried };
-
-    ghost load_faults = { λ k. k.load_faults };
-
-    ghost save_faults = { λ k. k.save_faults };
+    ghost state = { λ k. record { slots = Some k.slots; tried = Some k.tried; load_faults = k.load_faults; save_faults = k.save_faults } };
 
     fn load(&mut self, slot: u8, limit: u64, room: &mut Bytes) -> Result<bool, LoadError>
         requires { slot < 2 }
@@ -160,7 +155,7 @@ impl Keeper for MemKeeper {
 
     fn save(&mut self, slot: u8, bytes: &[u8]) -> Result<(), Failed>
         requires slot { slot < 2 }
-        requires few { length bytes.now ≤ 8000084 }
+        requires few { length bytes.now ≤ most_saved_bytes }
         ensures saved { OnOk result (HoldsBytes (Some self.new.slots) slot bytes.now) }
         ensures other { KeepsOther (Some self.old.slots) (Some self.new.slots) slot }
         ensures cause { HasCause self.old.save_faults self.new.save_faults result }

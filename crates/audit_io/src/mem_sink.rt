@@ -59,9 +59,7 @@ impl MemSink {
 }
 
 impl Sink for MemSink {
-    ghost taken = { λ s. Some s.bytes };
-
-    ghost faults = { λ s. s.faults };
+    ghost state = { λ s. record { bytes = Some s.bytes; faults = s.faults } };
 
     fn write(&mut self, bytes: &[u8]) -> Result<usize, Failed>
         requires some { 0 < length bytes.now }

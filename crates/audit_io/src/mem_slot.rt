@@ -2,6 +2,7 @@
 
 ghost use Rattle.std.specs.Prelude.{◌≡◌, ◌≤◌, length, IfOk, Some, option_map};
 ghost use Rattle.audit_io.specs.Slots.{Loads, LoadsWithin, IsFaultless};
+ghost use Rattle.audit_model.specs.Limits.{most_saved_bytes};
 
 use crate::keeper::LoadError;
 use audit_model::buffers::Bytes;
@@ -22,12 +23,13 @@ pub struct MemSlot {
 impl Model for MemSlot {
     ghost use Rattle.std.specs.Prelude.{◌+◌, ◌≤◌, length};
     ghost use Rattle.audit_io.specs.Slots.{Stored, stored_if};
+    ghost use Rattle.audit_model.specs.Limits.{most_saved_bytes};
 
     ghost Value = { Stored };
 
     ghost view = { λ s. stored_if s.there s.bytes.items };
 
-    ghost invariant = { λ s. 8000084 ≤ length s.bytes.items + s.bytes.spare };
+    ghost invariant = { λ s. most_saved_bytes ≤ length s.bytes.items + s.bytes.spare };
 }
 
 impl MemSlot {
@@ -81,7 +83,7 @@ impl MemSlot {
 
     /// Makes the slot hold these bytes.
     pub fn save(&mut self, bytes: &[u8])
-        requires { length bytes.now ≤ 8000084 }
+        requires { length bytes.now ≤ most_saved_bytes }
         ensures { self.new ≡ Some bytes.now }
     {
         self.there = true;

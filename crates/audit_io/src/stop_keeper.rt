@@ -5,6 +5,7 @@ ghost use Rattle.audit_io.specs.Faults.{HasCause, HasLoadCause};
 ghost use Rattle.audit_io.specs.Slots.{HoldsBytes, KeepsOther};
 ghost use Rattle.audit_io.specs.Stops.{HasPassed, after_refused};
 ghost use Rattle.audit_io.specs.Tries.{try_of};
+ghost use Rattle.audit_model.specs.Limits.{most_saved_bytes};
 
 use crate::keeper::{Keeper, LoadError};
 use crate::mem_keeper::MemKeeper;
@@ -55,13 +56,7 @@ impl StopKeeper {
 }
 
 impl Keeper for StopKeeper {
-    ghost slots = { λ k. Some k.inner.slots };
-
-    ghost tried = { λ k. Some k.inner.tried };
-
-    ghost load_faults = { λ k. k.inner.load_faults };
-
-    ghost save_faults = { λ k. min (k.inner.save_faults + k.faults) (2 ^ 64 - 1) };
+    ghost state = { λ k. record { slots = Some k.inner.slots; tried = Some k.inner.tried; load_faults = k.inner.load_faults; save_faults = min (k.inner.save_faults + k.faults) (2 ^ 64 - 1) } };
 
     fn load(&mut self, slot: u8, limit: u64, room: &mut Bytes) -> Result<bool, LoadError> {
         self.inner.load(slot, limit, room)
@@ -69,7 +64,7 @@ impl Keeper for StopKeeper {
 
     fn save(&mut self, slot: u8, bytes: &[u8]) -> Result<(), Failed>
         requires slot { slot < 2 }
-        requires few { length bytes.now ≤ 8000084 }
+        requires few { length bytes.now ≤ most_saved_bytes }
         ensures saved { OnOk result (HoldsBytes (Some self.new.inner.slots) slot bytes.now) }
         ensures other { KeepsOther (Some self.old.inner.slots) (Some self.new.inner.slots) slot }
         ensures cause { HasCause (min (self.old.inner.save_faults + self.old.faults) (2 ^ 64 - 1)) (min (self.new.inner.save_faults + self.new.faults) (2 ^ 64 - 1)) result }

@@ -1,13 +1,15 @@
 -- What a call leaves as it was, from the reason of its ending.
-use Rattle.std.proofs.Common.{◌≡◌, ◌≢◌, ℕ, ◌&&◌, Bool, true, false, List, Option, Some, None, Result, Ok, Err, IsErr, IsFalse, refl, sym, subst}
+use Rattle.std.proofs.Common.{◌≡◌, ◌≢◌, ℕ, Bool, true, false, List, Option, Some, None, Result, Ok, Err, IsErr, IsFalse, refl, sym, subst}
+use Rattle.std.proofs.lemmas.Bool.{and_right}
 use Rattle.audit_model.specs.declared.fault.WordFault.{WordFault}
 use Rattle.audit_model.specs.declared.setting.Setting.{Setting}
 use Rattle.note_definitions.specs.Note.{Ending, write_fault, load_fault, stopped, save_fault}
 use Rattle.word_definitions.specs.Words.{setting_of}
 use Rattle.audit_statement.specs.Status.{status_of}
-use Rattle.audit_statement.specs.Ends.{Cause, EndsFor, IsLoadFault, LeavesUntouched, SameUnless, marks_of, passes, is_reading, saves, loads}
+use Rattle.audit_statement.specs.Endings.{Cause, EndsFor, IsLoadFault, LeavesUntouched, SameUnless, marks_of, passes, is_reading, saves, loads}
 use Rattle.audit_statement.specs.Left.{LeavesAlone}
-use Rattle.audit_statement.specs.World.{Stream, World}
+use Rattle.audit_io.specs.State.{Stream}
+use Rattle.audit_statement.specs.World.{World}
 use Rattle.audit_steps.proofs.Telling.{same_setting}
 
 same_at : {A : Type 0} (b : Bool) (x y : A) → b ≡ false → SameUnless b x y → y ≡ x
@@ -21,10 +23,6 @@ passes_none test (Err f) h = refl
 
 passes_not : (test : Setting → Bool) (words : List (List ℕ)) (s : Setting) → setting_of words ≡ Ok s → IsFalse (test s) → passes test (setting_of words) ≡ false
 passes_not test words s e off = subst (λ (r : Result Setting WordFault). passes test r ≡ false) (sym e) off
-
-and_none : (a b : Bool) → b ≡ false → (a && b) ≡ false
-and_none true b e = e
-and_none false b e = refl
 
 module _ (words : List (List ℕ)) (before after : World) where
   unwritten : (r : Option Ending) → LeavesUntouched words before after (marks_of r) → status_of r ≢ 0 → status_of r ≢ 5 → status_of r ≢ 9 → after.out.bytes ≡ before.out.bytes
@@ -70,9 +68,9 @@ module _ (words : List (List ℕ)) (before after : World) where
     refused_words = λ h. same_at _ before.source after.source (passes_none _ (setting_of words) h) u.source;
     not_reading = λ s e off. same_at _ before.source after.source (passes_not (λ s. is_reading s.command) words s e off) u.source;
     not_saving = λ s e off. (
-      same_at _ before.keeper.slots after.keeper.slots (and_none _ _ (passes_not saves words s e off)) u.slots,
-      same_at _ before.keeper.save_faults after.keeper.save_faults (and_none _ _ (passes_not saves words s e off)) u.save_faults,
-      same_at _ before.keeper.tried after.keeper.tried (and_none _ _ (passes_not saves words s e off)) u.tried,
+      same_at _ before.keeper.slots after.keeper.slots (and_right _ _ (passes_not saves words s e off)) u.slots,
+      same_at _ before.keeper.save_faults after.keeper.save_faults (and_right _ _ (passes_not saves words s e off)) u.save_faults,
+      same_at _ before.keeper.tried after.keeper.tried (and_right _ _ (passes_not saves words s e off)) u.tried,
     );
     not_loading = unloaded r c u;
   }

@@ -7,8 +7,9 @@ use Rattle.word_definitions.specs.Words.{setting_of}
 use Rattle.audit_statement.specs.Accepted.{IsAccepted, IsRefused, judged, input_of}
 use Rattle.audit_statement.specs.Causes.{IsTold, MayEndWell, IsComplete, HasBudget}
 use Rattle.audit_statement.specs.Status.{status_of}
-use Rattle.audit_statement.specs.Ends.{Cause, EndsFor, told_opening, leaves_work, is_walking, IsStopped, IsSlotsFault}
-use Rattle.audit_statement.specs.World.{Stream, World}
+use Rattle.audit_statement.specs.Endings.{Cause, EndsFor, TellsOpening, leaves_work, is_walking, IsStopped, IsSlotsFault}
+use Rattle.audit_io.specs.State.{Stream}
+use Rattle.audit_statement.specs.World.{World}
 use Rattle.audit_steps.proofs.Telling.{known_at, same_setting}
 use Rattle.audit_steps.proofs.Starting.{opening_known, undefined_known}
 use Rattle.audit_io.specs.Slots.{Pair}
@@ -57,8 +58,8 @@ not_stopped words before after done all m s =
     let same : s.job ≡ m.job = same_job words before m.job s.job m.bytes m.told m.accepted s.prepared.accepted in
     let walking : is_walking m.job.setting.command ≡ true = ap (λ (j : Job). is_walking j.setting.command) (sym same) ∙ both_left _ _ s.saving in
     let has : HasBudget true m.job before = subst (λ (b : Bool). HasBudget b m.job before) walking m.budget in
-    let told : told_opening s.job before.keeper.slots ≡ Some (Some has.0) = subst (λ (j : Job). told_opening j before.keeper.slots ≡ Some (Some has.0)) (sym same) has.1 in
-    let opened : Some has.0 ≡ Some s.stopped.outcomes = known_at _ (Some has.0) (λ o. o ≡ Some s.stopped.outcomes) told (opening_known s.job before.keeper.slots s.stopped.outcomes s.stopped.opened) in
+    let told : TellsOpening s.job before.keeper.slots (Some has.0) = subst (λ (j : Job). TellsOpening j before.keeper.slots (Some has.0)) (sym same) has.1 in
+    let opened : Some has.0 ≡ Some s.stopped.outcomes = opening_known s.job before.keeper.slots (Some has.0) s.stopped.outcomes told s.stopped.opened in
     let left : leaves_work s.job s.stopped.outcomes ≡ true = s.stopped.work_left in
     let enough : leaves_work m.job has.0 ≡ false = has.2 in
     cc
@@ -69,8 +70,8 @@ not_undefined words before after found m s =
     let same : s.job ≡ m.job = same_job words before m.job s.job m.bytes m.told m.accepted s.prepared.accepted in
     let walking : is_walking m.job.setting.command ≡ true = ap (λ (j : Job). is_walking j.setting.command) (sym same) ∙ both_left _ _ s.resuming in
     let has : HasBudget true m.job before = subst (λ (b : Bool). HasBudget b m.job before) walking m.budget in
-    let told : told_opening s.job before.keeper.slots ≡ Some (Some has.0) = subst (λ (j : Job). told_opening j before.keeper.slots ≡ Some (Some has.0)) (sym same) has.1 in
-    let none : Some has.0 ≡ None = known_at _ (Some has.0) (λ o. o ≡ None) told (undefined_known s.job before.keeper.slots (found s.job) s.seen) in
+    let told : TellsOpening s.job before.keeper.slots (Some has.0) = subst (λ (j : Job). TellsOpening j before.keeper.slots (Some has.0)) (sym same) has.1 in
+    let none : Some has.0 ≡ None = undefined_known s.job before.keeper.slots (Some has.0) (found s.job) told s.seen in
     cc
 
 pub completes : (words : List (List ℕ)) (before after : World) (reason : Option Ending) → Cause words before after reason

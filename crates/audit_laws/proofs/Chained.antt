@@ -13,6 +13,8 @@ use Rattle.audit_model.specs.Graph.{has}
 use Rattle.audit_model.specs.Job.{Job}
 use Rattle.audit_model.specs.Run.{total, has_id, run_ids, kept_or, outcome_from, full, IsRight}
 use Rattle.audit_model.specs.Trajectory.{outcome}
+use Rattle.model_laws.proofs.Filtered.{each_passes, each_rises}
+use Rattle.model_laws.proofs.Lists.{find_passes}
 use Rattle.checkpoint_definitions.specs.Checkpoint.{job_digest}
 use Rattle.checkpoint_definitions.specs.Slots.{IsHonestSlot, opening, slot_of}
 use Rattle.ckpt_store.specs.declared.slots.Place.{Place}
@@ -24,12 +26,13 @@ use Rattle.word_definitions.specs.Words.{setting_of}
 use Rattle.note_definitions.specs.Note.{Ending, write_fault, stopped, save_fault}
 use Rattle.audit_statement.specs.Causes.{IsTheJob}
 use Rattle.audit_statement.specs.Chain.{AreHonestOf, StaysHonest, TriedRightly, TriesOver}
-use Rattle.audit_statement.specs.Ends.{Cause, EndsFor, IfBothKnown, IsOpening, IsOpeningOrFound, IsPartly, IsPrepared, IsTryOf, LeavesUntouched, NoSaveFailed, SameUnless, SavesAll, SavesInTurn, SavesInTurnAt, SavesWhere, TriesOf, TriesTold, count_of_saves, full_of, last_place, marks_of, opening_by, passes, saves, told_opening}
+use Rattle.audit_io.specs.State.{Stream}
+use Rattle.audit_io.specs.Told.{IfBothTold, IfTold}
+use Rattle.audit_statement.specs.Endings.{Cause, EndsFor, IsOpening, IsOpeningOrFound, IsPartly, IsPrepared, IsTryOf, LeavesUntouched, NoSaveFailed, SameUnless, SavesAll, SavesInTurn, SavesInTurnAt, SavesWhere, TriesOf, TriesTold, count_of_saves, full_of, last_place, marks_of, StartsFrom, TellsOpening, passes, saves}
 use Rattle.audit_statement.specs.Headline.{WritesWhole}
-use Rattle.audit_statement.specs.World.{IfKnown, Stream, World}
-use Rattle.audit_steps.proofs.Starting.{none_right, opening_known}
-use Rattle.audit_steps.proofs.Listing.{each_passes, each_rises}
-use Rattle.audit_steps.proofs.Running.{find_passes, kept_id, rising_apart}
+use Rattle.audit_statement.specs.World.{World}
+use Rattle.audit_steps.proofs.Starting.{none_right, opening_known, opening_told}
+use Rattle.audit_steps.proofs.Running.{kept_id, rising_apart}
 use Rattle.audit_laws.proofs.Statuses.{job_is}
 
 -- ---- all outcomes of a run are right where those of its opening are
@@ -88,23 +91,17 @@ module _ (law : HonestSlotsOpenRight) (job : Job) where
   told_right p outcomes honest e =
       law job (draw job.setting.key) (slot_of job (job_digest job) p.zero_slot) (slot_of job (job_digest job) p.one_slot) outcomes honest.zero_slot honest.one_slot e
 
-  opening_right : (p : Pair) (outcomes : List Outcome) → IsOpening job (Some p) outcomes → AreHonestOf job p → IsRight job (draw job.setting.key) outcomes
-  opening_right p outcomes opened honest = by job.setting.resume (opening_known job (Some p) outcomes opened)
-    where
-      by : (b : Bool) → IfKnown (opening_by b job (Some p)) (λ o. o ≡ Some outcomes) → IsRight job (draw job.setting.key) outcomes
-      by true e = told_right p outcomes honest e
-      by false e = let none : [] ≡ outcomes = cc in subst (λ os. IsRight job (draw job.setting.key) os) none (none_right job (draw job.setting.key))
-
-  start_right : (slots : Option Pair) (outcomes : List Outcome) → told_opening job slots ≡ Some (Some outcomes) → (IsTrue job.setting.resume → IfKnown slots (AreHonestOf job))
+  start_right : (slots : Option Pair) (outcomes : List Outcome) → TellsOpening job slots (Some outcomes) → (IsTrue job.setting.resume → IfTold slots (AreHonestOf job))
       → IsRight job (draw job.setting.key) outcomes
   start_right slots outcomes opened honest = by job.setting.resume slots opened honest
     where
-      by : (b : Bool) (s : Option Pair) → opening_by b job s ≡ Some (Some outcomes) → (IsTrue b → IfKnown s (AreHonestOf job)) → IsRight job (draw job.setting.key) outcomes
+      by : (b : Bool) (s : Option Pair) → StartsFrom b job s (Some outcomes) → (IsTrue b → IfTold s (AreHonestOf job)) → IsRight job (draw job.setting.key) outcomes
       by false s e h = let none : [] ≡ outcomes = cc in subst (λ os. IsRight job (draw job.setting.key) os) none (none_right job (draw job.setting.key))
-      by true None e h = cc
-      by true (Some p) e h =
-          let same : opening true job.setting (slot_of job (job_digest job) p.zero_slot) (slot_of job (job_digest job) p.one_slot) ≡ Some outcomes = cc in
-          told_right p outcomes (h refl) same
+      by true None e h = absurd e
+      by true (Some p) e h = told_right p outcomes (h refl) e
+
+  opening_right : (p : Pair) (outcomes : List Outcome) → IsOpening job (Some p) outcomes → AreHonestOf job p → IsRight job (draw job.setting.key) outcomes
+  opening_right p outcomes opened honest = start_right (Some p) outcomes (opening_told job (Some p) p outcomes refl opened) (λ _. honest)
 
 -- ---- what a run leaves
 
@@ -116,8 +113,8 @@ rises_or_not before now = by (cases_order (min (before + 1) (2 ^ 64 - 1)) now)
     by (inr (inl l)) = inl (omega arith)
     by (inr (inr l)) = inr (λ r. absurd (omega arith))
 
-both_known : {A : Type 0} (a b : Option A) (p q : A) (P : A → A → Type 0) → a ≡ Some p → b ≡ Some q → IfBothKnown a b P → P p q
-both_known a b p q P e f h = subst (λ x. IfBothKnown x (Some q) P) e (subst (λ y. IfBothKnown a y P) f h)
+both_known : {A : Type 0} (a b : Option A) (p q : A) (P : A → A → Type 0) → a ≡ Some p → b ≡ Some q → IfBothTold a b P → P p q
+both_known a b p q P e f h = subst (λ x. IfBothTold x (Some q) P) e (subst (λ y. IfBothTold a y P) f h)
 
 -- there is at least one save
 either_way : (n : ℕ) → ((n == 0) || not (n == 0)) ≡ true
@@ -217,13 +214,13 @@ stays_honest law honestly words before after n m status e w = record {
 
 module _ (law : HonestSlotsOpenRight) (words : List (List ℕ)) (before after : World) (p : Pair) (was : before.keeper.slots ≡ Some p) where
   abbrev Tried : Job → Type 0
-  Tried job = IfBothKnown before.keeper.tried after.keeper.tried (TriesOver job before after p)
+  Tried job = IfBothTold before.keeper.tried after.keeper.tried (TriesOver job before after p)
 
   -- nothing was tried
   tried_none : (job : Job) → after.keeper.tried ≡ before.keeper.tried → after.keeper.save_faults ≡ before.keeper.save_faults → Tried job
-  tried_none job same calm = subst (λ (x : Option (List Try)). IfBothKnown before.keeper.tried x (TriesOver job before after p)) (sym same) (by before.keeper.tried)
+  tried_none job same calm = subst (λ (x : Option (List Try)). IfBothTold before.keeper.tried x (TriesOver job before after p)) (sym same) (by before.keeper.tried)
     where
-      by : (a : Option (List Try)) → IfBothKnown a a (TriesOver job before after p)
+      by : (a : Option (List Try)) → IfBothTold a a (TriesOver job before after p)
       by None = tt
       by (Some told) = record {
         tries = [];
@@ -235,29 +232,21 @@ module _ (law : HonestSlotsOpenRight) (words : List (List ℕ)) (before after : 
         right = λ honest. All-nil (λ (t : Try). IsRightSave job (draw job.setting.key) (job_digest job) t.bytes);
       }
 
-  opening_told : (job : Job) (outcomes : List Outcome) → IsOpening job before.keeper.slots outcomes → told_opening job before.keeper.slots ≡ Some (Some outcomes)
-  opening_told job outcomes opened = by job.setting.resume before.keeper.slots was (opening_known job before.keeper.slots outcomes opened)
-    where
-      by : (b : Bool) (s : Option Pair) → s ≡ Some p → IfKnown (opening_by b job s) (λ o. o ≡ Some outcomes) → opening_by b job s ≡ Some (Some outcomes)
-      by false s e h = ap (λ (o : Option (List Outcome)). Some o) h
-      by true None e h = cc
-      by true (Some r) e h = ap (λ (o : Option (List Outcome)). Some o) h
-
   over_of : (job : Job) (outcomes : List Outcome) → IsOpening job before.keeper.slots outcomes → (told now : List Try) → TriesOf job outcomes p before.keeper.save_faults after.keeper.save_faults told now → TriesOver job before after p told now
   over_of job outcomes opened told now t = record {
     tries = t.tries;
     appended = t.appended;
     in_turn = t.in_turn;
     each = λ others others_told.
-        let same : Some (Some outcomes) ≡ Some (Some others) = sym (opening_told job outcomes opened) ∙ others_told in
+        let same : Some others ≡ Some outcomes = opening_known job before.keeper.slots (Some others) outcomes others_told opened in
         let is : outcomes ≡ others = cc in
         subst (λ (os : List Outcome). All (IsTryOf job os) t.tries) is t.each;
     growing = t.growing;
     covered = t.covered;
-    right = λ honest. t.right (start_right law job before.keeper.slots outcomes (opening_told job outcomes opened) honest);
+    right = λ honest. t.right (start_right law job before.keeper.slots outcomes (opening_told job before.keeper.slots p outcomes was opened) honest);
   }
 
-  told_map : (a b : Option (List Try)) (P Q : List Try → List Try → Type 0) → ((x y : List Try) → P x y → Q x y) → IfBothKnown a b P → IfBothKnown a b Q
+  told_map : (a b : Option (List Try)) (P Q : List Try → List Try → Type 0) → ((x y : List Try) → P x y → Q x y) → IfBothTold a b P → IfBothTold a b Q
   told_map None b P Q f h = tt
   told_map (Some x) None P Q f h = h
   told_map (Some x) (Some y) P Q f h = f x y h
@@ -265,7 +254,7 @@ module _ (law : HonestSlotsOpenRight) (words : List (List ℕ)) (before after : 
   tried_all_of : (job : Job) (outcomes : List Outcome) → IsOpening job before.keeper.slots outcomes → TriesTold job outcomes before.keeper after.keeper → Tried job
   tried_all_of job outcomes opened t =
       told_map before.keeper.tried after.keeper.tried (TriesOf job outcomes p before.keeper.save_faults after.keeper.save_faults) (TriesOver job before after p) (over_of job outcomes opened)
-      (subst (λ (s : Option Pair). IfKnown s (λ x. IfBothKnown before.keeper.tried after.keeper.tried (TriesOf job outcomes x before.keeper.save_faults after.keeper.save_faults))) was t)
+      (subst (λ (s : Option Pair). IfTold s (λ x. IfBothTold before.keeper.tried after.keeper.tried (TriesOf job outcomes x before.keeper.save_faults after.keeper.save_faults))) was t)
 
   tried_where : (b : Bool) (made : Type 0) (job : Job) → (b ≡ false → (after.keeper.tried ≡ before.keeper.tried) × (after.keeper.save_faults ≡ before.keeper.save_faults))
       → SavesWhere b made job before after → Tried job

@@ -2,10 +2,11 @@
 use Rattle.std.proofs.Common.{ℕ, List}
 use Rattle.audit_statement.specs.Causes.{HasCauses, IsComplete}
 use Rattle.audit_statement.specs.Early.{EndsEarly}
-use Rattle.audit_statement.specs.Ends.{EndsFor}
+use Rattle.audit_statement.specs.Endings.{EndsFor}
 use Rattle.audit_statement.specs.Headline.{WritesWhole}
 use Rattle.audit_statement.specs.Left.{LeavesAlone}
-use Rattle.audit_statement.specs.World.{Stream, World}
+use Rattle.audit_io.specs.State.{Stream}
+use Rattle.audit_statement.specs.World.{World}
 use Rattle.audit_laws.proofs.Alone.{leaves_alone}
 use Rattle.audit_laws.proofs.Causing.{is_complete}
 use Rattle.audit_laws.proofs.OneThread.{writes_whole}

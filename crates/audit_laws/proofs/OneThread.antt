@@ -13,9 +13,10 @@ use Rattle.note_definitions.specs.Note.{Ending, save_fault}
 use Rattle.text_definitions.specs.Report.{full_report, thread_report, check_text}
 use Rattle.audit_statement.specs.Causes.{IsTheJob}
 use Rattle.audit_statement.specs.Status.{status_of}
-use Rattle.audit_statement.specs.Ends.{Cause, EndsFor, WritesReport, WritesText, WritesOrStops, leaves_work, full_of}
+use Rattle.audit_statement.specs.Endings.{Cause, EndsFor, WritesReport, WritesText, WritesOrStops, leaves_work, full_of}
 use Rattle.audit_statement.specs.Headline.{WritesOneThreads, StartsWith, WritesWhole}
-use Rattle.audit_statement.specs.World.{Stream, World}
+use Rattle.audit_io.specs.State.{Stream}
+use Rattle.audit_statement.specs.World.{World}
 use Rattle.audit_steps.proofs.Starting.{every_id}
 use Rattle.audit_laws.proofs.Statuses.{zero_only, job_is, report_of, opening_is, opening_at}
 

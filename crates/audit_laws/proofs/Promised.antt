@@ -1,5 +1,6 @@
 -- What the words promise that ask for tests that stop early.
 use Rattle.std.proofs.Common.{◌≡◌, ℕ, ◌<◌, ◌&&◌, Bool, true, false, List, [], Option, Some, Ok, refl, sym, subst, ap, arith}
+use Rattle.std.proofs.lemmas.Bool.{and_right, both_ways}
 use Rattle.audit_model.specs.declared.setting.Setting.{Setting}
 use Rattle.audit_model.specs.Job.{Job}
 use Rattle.draw_definitions.specs.Draw.{draw}
@@ -8,46 +9,39 @@ use Rattle.word_definitions.specs.Words.{setting_of}
 use Rattle.audit_statement.specs.Causes.{IsTheJob}
 use Rattle.audit_statement.specs.Early.{EndsEarly}
 use Rattle.audit_statement.specs.Status.{status_of}
-use Rattle.audit_statement.specs.Ends.{Cause, EndsFor, is_walking, loads, opening_by, saves}
+use Rattle.audit_statement.specs.Endings.{Cause, EndsFor, is_walking, loads, StartsFrom, saves}
 use Rattle.audit_statement.specs.Headline.{StartsWith, WritesWhole}
 use Rattle.audit_statement.specs.Left.{LeavesAlone}
 use Rattle.audit_steps.specs.Runs.{StopsAlone}
-use Rattle.audit_statement.specs.World.{Stream, World}
+use Rattle.audit_io.specs.State.{Stream}
+use Rattle.audit_statement.specs.World.{World}
 use Rattle.audit_steps.proofs.Telling.{same_setting}
 use Rattle.audit_steps.proofs.Starting.{none_right, same_kept}
 use Rattle.audit_steps.proofs.Words.{accepted_words_stop_alone}
 
-never_true : (b : Bool) → b ≡ false → b ≡ true → ⊥
-never_true true e f = cc
-never_true false e f = cc
-
-and_not : (a b : Bool) → b ≡ false → (a && b) ≡ false
-and_not true b e = e
-and_not false b e = refl
-
 module _ (setting : Setting) (alone : StopsAlone setting) where
   saves_nothing : saves setting ≡ false
-  saves_nothing = rw alone.no_saves (and_not (is_walking setting.command) false refl)
+  saves_nothing = rw alone.no_saves (and_right (is_walking setting.command) false refl)
 
   loads_nothing : loads setting ≡ false
-  loads_nothing = rw (alone.no_saves, alone.fresh) (and_not (is_walking setting.command) false refl)
+  loads_nothing = rw (alone.no_saves, alone.fresh) (and_right (is_walking setting.command) false refl)
 
   resumes_nothing : (is_walking setting.command && setting.resume) ≡ false
-  resumes_nothing = rw alone.fresh (and_not (is_walking setting.command) false refl)
+  resumes_nothing = rw alone.fresh (and_right (is_walking setting.command) false refl)
 
 -- it starts with nothing
 starts_empty : (words : List (List ℕ)) (before : World) (job : Job) → IsTheJob words before job → StopsAlone job.setting → StartsWith words before job []
 starts_empty words before job t alone = record {
   the_job = t;
   walking = alone.walking;
-  opened = ap (λ (b : Bool). opening_by b job before.keeper.slots) alone.fresh;
+  opened = subst (λ (b : Bool). StartsFrom b job before.keeper.slots (Some [])) (sym alone.fresh) refl;
 }
 
 module _ (words : List (List ℕ)) (before after : World) (setting : Setting) (e : setting_of words ≡ Ok setting) (alone : StopsAlone setting) where
   here : (other : Setting) (test : Setting → Bool) → setting_of words ≡ Ok other → test setting ≡ false → test other ≡ true → ⊥
   here other test is off on =
       let same : other ≡ setting = same_setting words other setting is e in
-      never_true (test setting) off (subst (λ (s : Setting). test s ≡ true) same on)
+      both_ways (test setting) off (subst (λ (s : Setting). test s ≡ true) same on)
 
   below_six : (r : Option Ending) → Cause words before after r → status_of r < 6
   below_six (Some load_fault) c = absurd (here c.job.setting loads c.prepared.accepted.words_are (loads_nothing setting alone) c.loading)

@@ -33,11 +33,11 @@ use Rattle.draw_definitions.specs.Draw.{draw}
 use Rattle.hex.specs.Hex.{encode_lower}
 use Rattle.text_definitions.specs.Report.{ends_lines, graph_line, line, population_line, report, rule_lines, serial_lines, setting_line, shift_line, stop_line, test_lines, thread_report, title_line, walk_lines}
 use Rattle.audit_statement.specs.Chain.{AreHonestOf, ResumesHonestly, TriesOver}
-use Rattle.audit_statement.specs.Ends.{IfBothKnown, WritesReport, opening_by, place_of}
+use Rattle.audit_io.specs.Told.{IfBothTold, IfTold}
+use Rattle.audit_statement.specs.Endings.{WritesReport, place_of}
 use Rattle.audit_statement.specs.Headline.{StartsWith, WritesOneThreads}
 use Rattle.audit_statement.specs.Rerun.{AreAlike, ChainsWriteOneReport, Event, HasWritten, IsEvent, IsLink, IsRunOver, Link, RerunsAreAlike, StopsKeepTheNewest, WroteOneThreads, asking, job_in, ran, rerun, slots_after, stopped}
-use Rattle.audit_statement.specs.World.{IfKnown}
-use Rattle.audit_steps.proofs.Starting.{opening_known}
+use Rattle.audit_steps.proofs.Starting.{opening_told}
 use Rattle.audit_laws.proofs.Chained.{rises_or_not}
 use Rattle.audit_laws.proofs.Statuses.{job_is, report_of}
 
@@ -314,13 +314,6 @@ stops_keep_the_newest law job before after p told now t n q out =
 back_again : (job : Job) (l : Link) → AreAlike (job_in job l) job
 back_again job l = reruns_are_alike (job_in job l) job.setting.command job.setting.workers job.setting.budget job.setting.save_every job.setting.resume job.setting.shift job.setting.serial
 
--- where the slots are told, so is the opening
-told_by : (resume : Bool) (job : Job) (slots : Option Pair) (p : Pair) (outcomes : List Outcome) → slots ≡ Some p
-    → IfKnown (opening_by resume job slots) (λ o. o ≡ Some outcomes) → opening_by resume job slots ≡ Some (Some outcomes)
-told_by false job slots p outcomes e h = ap Some h
-told_by true job None p outcomes e h = cc
-told_by true job (Some q) p outcomes e h = ap Some h
-
 -- all that was tried, as it ended
 stopped_after : (tries : List Try) → stopped_in (length tries) tries ≡ tries
 stopped_after [] = refl
@@ -331,13 +324,13 @@ module _ (law : SavesLeaveHonestSlots) (job : Job) (p : Pair) (l : Link) (honest
   honest_here = honest_same job job.setting.command l.workers l.budget l.save_every l.resume l.shift l.serial p honest
 
   resumes : (o : IsRunOver job p l) → ResumesHonestly (job_in job l) l.before
-  resumes o = λ _. subst (λ (s : Option Pair). IfKnown s (AreHonestOf (job_in job l))) (sym o.found) honest_here
+  resumes o = λ _. subst (λ (s : Option Pair). IfTold s (AreHonestOf (job_in job l))) (sym o.found) honest_here
 
   tries_of : (o : IsRunOver job p l) → TriesOver (job_in job l) l.before l.after p o.told o.now
   tries_of o = both_told l.before.keeper.tried l.after.keeper.tried o.told o.now (TriesOver (job_in job l) l.before l.after p) o.told_is o.now_is (o.tried (job_in job l) p o.the_job o.found)
     where
-      both_told : (a b : Option (List Try)) (x y : List Try) (P : List Try → List Try → Type 0) → a ≡ Some x → b ≡ Some y → IfBothKnown a b P → P x y
-      both_told a b x y P e f h = subst (λ (s : Option (List Try)). IfBothKnown s (Some y) P) e (subst (λ (s : Option (List Try)). IfBothKnown a s P) f h)
+      both_told : (a b : Option (List Try)) (x y : List Try) (P : List Try → List Try → Type 0) → a ≡ Some x → b ≡ Some y → IfBothTold a b P → P x y
+      both_told a b x y P e f h = subst (λ (s : Option (List Try)). IfBothTold s (Some y) P) e (subst (λ (s : Option (List Try)). IfBothTold a s P) f h)
 
   stays_where : (o : IsRunOver job p l) (n : ℕ) (q : Pair)
       → AreCarriedOut IsNotOurs (job_in job l) (job_digest (job_in job l)) p (stopped_in n (tries_of o).tries) q → AreHonestOf job q
@@ -366,7 +359,7 @@ module _ (law : SavesLeaveHonestSlots) (job : Job) (p : Pair) (l : Link) (honest
         record {
           the_job = link.over.the_job;
           walking = link.walking;
-          opened = told_by l.resume (job_in job l) l.before.keeper.slots p r.outcomes link.over.found (opening_known (job_in job l) l.before.keeper.slots r.outcomes r.opened);
+          opened = opening_told (job_in job l) l.before.keeper.slots p r.outcomes link.over.found r.opened;
         },
       )
 

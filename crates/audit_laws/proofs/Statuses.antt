@@ -1,5 +1,5 @@
 -- What each status says, from the reason of an ending.
-use Rattle.std.proofs.Common.{◌≡◌, ◌⊎◌, inl, inr, ◌≢◌, ℕ, ◌<◌, Bool, true, false, IsTrue, List, Option, Some, None, Result, Ok, Err, IsErr, refl, sym, subst, arith}
+use Rattle.std.proofs.Common.{◌≡◌, ◌⊎◌, inl, inr, ◌≢◌, ℕ, ◌<◌, Bool, true, false, IsTrue, List, Option, Some, None, Err, IsErr, refl, sym, subst, arith}
 use Rattle.std.specs.Prelude.{⊤}
 use Rattle.audit_model.specs.declared.fault.WordFault.{WordFault}
 use Rattle.audit_model.specs.declared.setting.Setting.{Setting}
@@ -8,24 +8,17 @@ use Rattle.audit_model.specs.declared.setting.Command.{Command}
 use Rattle.audit_model.specs.declared.setting.Command.TheVariants.{Check, Run, Make, Plans}
 use Rattle.audit_io.specs.Slots.{Pair}
 use Rattle.audit_model.specs.Job.{Job}
+use Rattle.model_laws.proofs.Results.{err_is_err, ok_is_no_err}
 use Rattle.note_definitions.specs.Note.{Ending, bad_words, too_many_bytes, bad_graph, bad_regions, bad_table, bad_plan, bad_plan_named, no_memory, read_fault, write_fault, load_fault, stopped, damaged, other_job, save_fault}
 use Rattle.word_definitions.specs.Words.{setting_of}
 use Rattle.audit_statement.specs.Accepted.{IsAccepted, IsRefused, judged}
 use Rattle.audit_statement.specs.Causes.{IsTold, IsTheJob, LeavesWork, LacksOpening, HasCauses}
 use Rattle.audit_statement.specs.Status.{status_of}
-use Rattle.audit_statement.specs.Ends.{Cause, EndsFor, LeavesUntouched, marks_of, IsDone, IsReadFault, IsWriteFault, IsLoadFault, IsSaveFault, IsStopped, IsPrepared, IsOpening, IsSlotsFault, WritesReport, WritesText, WritesOrStops, told_opening, leaves_work, is_walking}
-use Rattle.audit_statement.specs.World.{IfKnown, Stream, World}
+use Rattle.audit_statement.specs.Endings.{Cause, EndsFor, LeavesUntouched, marks_of, IsDone, IsReadFault, IsWriteFault, IsLoadFault, IsSaveFault, IsStopped, IsPrepared, IsOpening, IsSlotsFault, WritesReport, WritesText, WritesOrStops, TellsOpening, leaves_work, is_walking}
+use Rattle.audit_io.specs.State.{Stream}
+use Rattle.audit_statement.specs.World.{World}
 use Rattle.audit_laws.proofs.Causing.{same_job, not_refused, refused_at, accepted_at}
-use Rattle.audit_steps.proofs.Telling.{known_at}
 use Rattle.audit_steps.proofs.Starting.{opening_known, undefined_known}
-
-pub err_is_err : {A B : Type 0} (r : Result A B) (f : B) → r ≡ Err f → IsErr r
-err_is_err (Ok x) f e = cc
-err_is_err (Err g) f e = refl
-
-pub ok_is_no_err : {A B : Type 0} (r : Result A B) (x : A) → r ≡ Ok x → IsErr r → ⊥
-ok_is_no_err (Ok y) x e h = cc
-ok_is_no_err (Err g) x e h = cc
 
 pub refused_is_err : (words : List (List ℕ)) (before : World) (setting : Setting) (bytes : List ℕ) (ending : Ending)
     → IsTold words before setting bytes → IsRefused words before.source.bytes ending → IsErr (judged setting bytes)
@@ -170,9 +163,9 @@ module _ (words : List (List ℕ)) (before after : World) where
   report_of whole job other w same t =
       text_report job.setting.command whole job w (subst (λ (j : Job). WritesText j.setting.command whole j before after) same t)
 
-  pub opening_is : (job : Job) (told : Option (List Outcome)) (outcomes : List Outcome) → told_opening job before.keeper.slots ≡ Some told
+  pub opening_is : (job : Job) (told : Option (List Outcome)) (outcomes : List Outcome) → TellsOpening job before.keeper.slots told
       → IsOpening job before.keeper.slots outcomes → told ≡ Some outcomes
-  opening_is job told outcomes e o = known_at _ told (λ x. x ≡ Some outcomes) e (opening_known job before.keeper.slots outcomes o)
+  opening_is job told outcomes e o = opening_known job before.keeper.slots told outcomes e o
 
   pub report_leaves_none : (whole : Bool) (l : LeavesWork words before) → WritesReport whole l.job before after → ⊥
   report_leaves_none whole l r =
@@ -185,10 +178,10 @@ module _ (words : List (List ℕ)) (before after : World) where
   undefined_not l outcomes o = let e : None ≡ Some outcomes = opening_is l.job None outcomes l.undefined o in cc
 
   pub slots_fault_opens : (job : Job) (outcomes : List Outcome) (found : Job → Pair → Type 0) (s : IsSlotsFault words before after found) → s.job ≡ job
-      → told_opening job before.keeper.slots ≡ Some (Some outcomes) → ⊥
+      → TellsOpening job before.keeper.slots (Some outcomes) → ⊥
   slots_fault_opens job outcomes found s same e =
-      let told : told_opening s.job before.keeper.slots ≡ Some (Some outcomes) = subst (λ (j : Job). told_opening j before.keeper.slots ≡ Some (Some outcomes)) (sym same) e in
-      let none : Some outcomes ≡ None = known_at _ (Some outcomes) (λ o. o ≡ None) told (undefined_known s.job before.keeper.slots (found s.job) s.seen) in
+      let told : TellsOpening s.job before.keeper.slots (Some outcomes) = subst (λ (j : Job). TellsOpening j before.keeper.slots (Some outcomes)) (sym same) e in
+      let none : Some outcomes ≡ None = undefined_known s.job before.keeper.slots (Some outcomes) (found s.job) told s.seen in
       cc
 
   pub seven : (r : Option Ending) → Cause words before after r → LeavesWork words before → status_of r ≢ 3 → status_of r ≢ 4 → status_of r ≢ 6 → status_of r ≢ 9 → status_of r ≡ 7

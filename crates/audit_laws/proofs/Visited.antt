@@ -1,13 +1,10 @@
 -- The start plan of an accepted job is legal, and so is each plan that is visited.
 use Rattle.std.proofs.Common.{◌≡◌, ℕ, zero, suc, ◌<◌, ◌≤◌, ◌&&◌, Bool, true, false, List, length, Option, Some, None, Result, Ok, Err, Ordering, Less, Equal, Greater, refl, sym, ap, ◌∙◌, subst, inl, inr, cond, arith}
 use Rattle.std.specs.Prelude.{nat_lt, slice_index}
-use Rattle.std.specs.Cmp.{signed_Decides}
 use Rattle.std.specs.Ordering.{is_eq, is_lt, int_cmp, nat_cmp}
 use Rattle.std.specs.Cmp.Lexicographic.{slice_cmp}
 use Rattle.std.specs.Str.{is_utf8}
-use Rattle.std.proofs.lemmas.Bool.{and_parts, cases_Bool, both_ways, false≢true, not_from_false, or_cases}
-use Rattle.std.proofs.lemmas.Map.Text.{is_eq-slice_cmp}
-use Rattle.std.proofs.lemmas.Slice.Eq.{bytes_eq-Decides}
+use Rattle.std.proofs.lemmas.Bool.{and_parts, cases_Bool, both_ways, not_from_false}
 use Rattle.serde_json.specs.Data.{Data}
 use Rattle.serde_json.specs.Read.{read}
 use Rattle.audit_model.specs.declared.fault.GraphFault.{GraphFault}
@@ -28,23 +25,14 @@ use Rattle.audit_model.specs.Trajectory.{hub}
 use Rattle.model_laws.proofs.Accepted.{accepted_is_legal}
 use Rattle.model_laws.proofs.Connected.{grows}
 use Rattle.model_laws.proofs.Mirror.{visit_stays_legal}
-use Rattle.model_laws.proofs.Below.{length-map_below, get_or-map_below}
+use Rattle.model_laws.proofs.Below.{length-map_below, get_or-map_below, any_below_some}
+use Rattle.model_laws.proofs.Labels.{same_equal, same_itself}
 use Rattle.draw_definitions.specs.Draw.{draw}
 use Rattle.graph_definitions.specs.Reading.{Document, node_count, label_at, label_count, is_new_label, district_at, parsed, document, refusal, bad_part, accepted_or, of_root, of_json, reading}
 use Rattle.audit_statement.specs.Accepted.{IsAccepted, from_job, from_regions, from_parsed, from_bytes, judged, most_bytes, regions_by}
 use Rattle.audit_statement.specs.Visits.{VisitsLegal}
 
 -- ---- labels
-
-same_is : (a b : Label) → same_label a b ≡ true → a ≡ b
-same_is (Whole a) (Whole b) e = ap Whole ((signed_Decides a b).0 e)
-same_is (Whole a) (Word t) e = absurd (false≢true e)
-same_is (Word s) (Whole b) e = absurd (false≢true e)
-same_is (Word s) (Word t) e = ap Word ((bytes_eq-Decides s t).0 (sym (is_eq-slice_cmp s t) ∙ e))
-
-same_itself : (a : Label) → same_label a a ≡ true
-same_itself (Whole a) = (signed_Decides a a).1 refl
-same_itself (Word s) = is_eq-slice_cmp s s ∙ (bytes_eq-Decides s s).1 refl
 
 eq_is_not_lt : (o : Ordering) → is_eq o ≡ true → is_lt o ≡ false
 eq_is_not_lt Less e = cc
@@ -55,13 +43,6 @@ eq_is_not_lt Greater e = cc
 not_before_itself : (a : Label) → label_before a a ≡ false
 not_before_itself (Whole a) = eq_is_not_lt (int_cmp a a) (same_itself (Whole a))
 not_before_itself (Word s) = eq_is_not_lt (slice_cmp nat_cmp s s) (same_itself (Word s))
-
-any_below_some : (n : ℕ) (test : ℕ → Bool) → any_below n test ≡ true → (k : ℕ) × (k < n) × (test k ≡ true)
-any_below_some zero test h = absurd (false≢true h)
-any_below_some (suc n) test h = elim (or_cases (any_below n test) (test n) h) [
-  | inl e ↦ let found = any_below_some n test e in (found.0, omega (arith, found.1), found.2)
-  | inr e ↦ (n, omega arith, e)
-]
 
 -- ---- the districts of the start plan
 
@@ -76,7 +57,7 @@ module _ (d : Document) (columns : Columns) where
     | inl some ↦
         let before = any_below_some i (λ j. same_label (label_at d columns j) (label_at d columns i)) some in
         let first = first_with most before.0 (omega (arith, before.1)) in
-        (first.0, omega (arith, first.1, before.1), first.2, first.3 ∙ same_is _ _ before.2)
+        (first.0, omega (arith, first.1, before.1), first.2, first.3 ∙ same_equal _ _ before.2)
     | inr none ↦ (i, omega arith, not_from_false _ none, refl)
   ]
 

@@ -1,8 +1,9 @@
 -- What follows from how a call ended.
 use Rattle.std.specs.Prelude.{ℕ, List}
-use Rattle.audit_statement.specs.Ends.{EndsFor}
+use Rattle.audit_statement.specs.Endings.{EndsFor}
 use Rattle.audit_statement.specs.Promise.{KeepsItsPromise}
-use Rattle.audit_statement.specs.World.{Stream, World}
+use Rattle.audit_io.specs.State.{Stream}
+use Rattle.audit_statement.specs.World.{World}
 
 -- a call that ended as it is to has kept all that the top call promises
 abbrev pub EndedCallsKeepTheirPromise : Type 0

@@ -36,6 +36,10 @@ most_steps = 10 ^ 9
 abbrev pub most_workers : ℕ
 most_workers = 32
 
+-- the most bytes of a saved checkpoint: 84 beside its outcomes, and 80 for each of the most trajectories
+abbrev pub most_saved_bytes : ℕ
+most_saved_bytes = 8000084
+
 -- one number for each unit, each at most 10 ^ 9
 pub record IsColumn (units : ℕ) (numbers : List ℕ) : Type 0 where
   pub width : length numbers ≡ units

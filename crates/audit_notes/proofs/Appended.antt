@@ -1,9 +1,11 @@
 -- Bytes written in turns.
-use Rattle.std.proofs.Common.{ℕ, ◌+◌, ◌≤◌, List, [], ◌++◌, length, take, drop, Option, Some, None, ap, sym, subst, ◌-◌, ◌∙◌, append_assoc, length-append, arith}
-use Rattle.std.proofs.lemmas.List.{append-nil, take-take, take-append-le}
+use Rattle.std.proofs.Common.{ℕ, ◌+◌, ◌≤◌, List, ◌++◌, length, take, drop, Option, Some, None, ap, sym, subst, ◌-◌, ◌∙◌, append_assoc, length-append, arith}
+use Rattle.std.proofs.lemmas.List.{take-take, take-append-le}
 use Rattle.std.proofs.Math.Seq.{take-add, take-append-add}
-use Rattle.std.specs.Io.KnownBytes.{Appends, Keeps}
-use Rattle.audit_statement.specs.Ends.{AppendsPart}
+use Rattle.std.specs.Io.KnownBytes.{Appends}
+use Rattle.std.proofs.KnownBytes.{Appends-trans}
+pub use Rattle.std.proofs.KnownBytes.{Appends-trans as appends_more, Appends-nil as appends_nothing}
+use Rattle.audit_statement.specs.Endings.{AppendsPart}
 
 pub appends_then : (a b c : Option (List ℕ)) (text : List ℕ) (at n : ℕ) → Appends a b (take at text) → Appends b c (take n (drop at text)) → Appends a c (take (at + n) text)
 appends_then None b c text at n p q = tt
@@ -12,27 +14,11 @@ appends_then (Some u) (Some v) None text at n p q = absurd q
 appends_then (Some u) (Some v) (Some w) text at n p q =
     rw take-add (q ∙ ap (λ r. r ++ take n (drop at text)) p ∙ append_assoc u (take at text) (take n (drop at text)))
 
-pub appends_kept : (a b c : Option (List ℕ)) (xs : List ℕ) → Appends a b xs → Keeps b c → Appends a c xs
-appends_kept None b c xs p q = tt
-appends_kept (Some u) None c xs p q = absurd p
-appends_kept (Some u) (Some v) None xs p q = absurd q
-appends_kept (Some u) (Some v) (Some w) xs p q = q ∙ p
-
-pub appends_nothing : (a : Option (List ℕ)) → Appends a a []
-appends_nothing None = tt
-appends_nothing (Some u) = sym (append-nil u)
-
 -- a write of the rest of a text goes on from its front
 pub appends_rest : (a b c : Option (List ℕ)) (text : List ℕ) (at n : ℕ) → Appends a b (take at text) → n ≤ length text - at
     → Appends b c (take n (take (length text - at) (drop at text))) → Appends a c (take (at + n) text)
 appends_rest a b c text at n p few q =
     appends_then a b c text at n p (subst (λ (xs : List ℕ). Appends b c xs) (take-take n (length text - at) (drop at text) few) q)
-
-pub appends_more : (a b c : Option (List ℕ)) (xs ys : List ℕ) → Appends a b xs → Appends b c ys → Appends a c (xs ++ ys)
-appends_more None b c xs ys p q = tt
-appends_more (Some u) None c xs ys p q = absurd p
-appends_more (Some u) (Some v) None xs ys p q = absurd q
-appends_more (Some u) (Some v) (Some w) xs ys p q = q ∙ ap (λ r. r ++ ys) p ∙ append_assoc u xs ys
 
 -- a part of a text is a part of a longer one
 pub part_of_more : (a b : Option (List ℕ)) (xs ys : List ℕ) → AppendsPart a b xs → AppendsPart a b (xs ++ ys)
@@ -44,5 +30,5 @@ pub part_after : (a b c : Option (List ℕ)) (xs ys : List ℕ) → Appends a b 
 part_after a b c xs ys p (n, few, q) = (
   length xs + n,
   omega (arith, length-append xs ys, few),
-  subst (λ (zs : List ℕ). Appends a c zs) (sym (take-append-add xs ys n)) (appends_more a b c xs (take n ys) p q),
+  subst (λ (zs : List ℕ). Appends a c zs) (sym (take-append-add xs ys n)) (Appends-trans a b c xs (take n ys) p q),
 )

@@ -1,13 +1,14 @@
 -- Lines that are written piece by piece.
 use Rattle.std.proofs.Common.{◌≡◌, ◌∙◌, inl, inr, ℕ, zero, suc, ◌+◌, ◌<◌, ◌≤◌, Bool, true, false, List, [], ◌∷◌, ◌++◌, length, drop, drop-cons, get_or, add-one, map, append_assoc, refl, subst, arith}
+use Rattle.std.proofs.KnownBytes.{Appends-nil}
 use Rattle.audit_io.specs.Faults.{Rose}
-use Rattle.audit_statement.specs.Ends.{AddsLine, AppendsPart}
+use Rattle.audit_statement.specs.Endings.{AddsLine, AppendsPart}
 use Rattle.audit_notes.specs.declared.piece.Piece.{Piece}
 use Rattle.audit_notes.specs.Pieces.{piece_text}
 use Rattle.audit_notes.specs.Said.{IsSaid}
 use Rattle.note_definitions.specs.Note.{joined}
-use Rattle.audit_statement.specs.World.{Stream}
-use Rattle.audit_notes.proofs.Appended.{appends_nothing, part_after}
+use Rattle.audit_io.specs.State.{Stream}
+use Rattle.audit_notes.proofs.Appended.{part_after}
 
 pub adds_line : {n m : Stream} {said line : List ℕ} → AddsLine n m said → said ≡ line → AddsLine n m line
 adds_line {n = n} {m = m} a e = subst (λ (text : List ℕ). AddsLine n m text) e a
@@ -17,7 +18,7 @@ said_adds n m text true s = record { added = inl s }
 said_adds n m text false s = record { added = inr s }
 
 pub said_nothing : (n : Stream) → IsSaid n n [] true
-said_nothing n = (appends_nothing n.bytes, refl)
+said_nothing n = (Appends-nil n.bytes, refl)
 
 -- a piece that was taken in part ends the line
 pub fails_after : (start old new : Stream) (said piece : List ℕ) (going : Bool) → going ≡ true

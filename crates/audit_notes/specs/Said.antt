@@ -3,8 +3,8 @@ use Rattle.std.specs.Prelude.{◌≡◌, ℕ, Bool, true, false, List, Result, O
 use Rattle.std.specs.Io.KnownBytes.{Appends}
 use Rattle.audit_io.specs.declared.source.Failed.{Failed}
 use Rattle.audit_io.specs.Faults.{Rose}
-use Rattle.audit_statement.specs.Ends.{AppendsPart}
-use Rattle.audit_statement.specs.World.{Stream}
+use Rattle.audit_statement.specs.Endings.{AppendsPart}
+use Rattle.audit_io.specs.State.{Stream}
 
 -- the text was taken whole, or in part where the sink failed
 abbrev pub IsSaid : Stream → Stream → List ℕ → Bool → Type 0

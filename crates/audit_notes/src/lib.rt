@@ -5,3 +5,7 @@ pub mod ended;
 pub mod note;
 pub mod piece;
 pub mod writing;
+
+pub use ended::Ended;
+pub use note::tell;
+pub use writing::write_all;

@@ -6,9 +6,9 @@ ghost use Rattle.hex.specs.Hex.{encode_lower};
 ghost use Rattle.audit_notes.specs.Ended.{ending_of, columns_kept};
 ghost use Rattle.audit_notes.specs.Pieces.{piece_text};
 ghost use Rattle.audit_notes.specs.Said.{IsSaid};
-ghost use Rattle.audit_statement.specs.Ends.{AddsLine, TellsWhy};
+ghost use Rattle.audit_statement.specs.Endings.{AddsLine, TellsWhy};
 ghost use Rattle.audit_statement.specs.Status.{status_of};
-ghost use Rattle.audit_statement.specs.World.{Stream, stream};
+ghost use Rattle.audit_io.specs.State.{Stream};
 ghost use Rattle.note_definitions.specs.Note as terms;
 
 use crate::ended::Ended;
@@ -28,7 +28,7 @@ use itoa::Buffer;
 /// Writes why the call ended, and answers its status.
 pub fn tell<N: Sink>(why: &Ended, note: &mut N) -> u8
     ensures status { result ≡ status_of (ending_of why.now) }
-    ensures told { TellsWhy (columns_kept why.now) (stream N.taken N.faults note.old) (stream N.taken N.faults note.new) (ending_of why.now) }
+    ensures told { TellsWhy (columns_kept why.now) (N.state note.old) (N.state note.new) (ending_of why.now) }
 {
     tell_line(why, note);
     status(why)
@@ -36,7 +36,7 @@ pub fn tell<N: Sink>(why: &Ended, note: &mut N) -> u8
 
 // Writes the line that begins with this text and goes on with the pieces.
 fn say<N: Sink>(note: &mut N, first: &str, pieces: &[Piece])
-    ensures { AddsLine (stream N.taken N.faults note.old) (stream N.taken N.faults note.new) (terms.joined (first.now ∷ map piece_text pieces.now)) }
+    ensures { AddsLine (N.state note.old) (N.state note.new) (terms.joined (first.now ∷ map piece_text pieces.now)) }
 {
     let mut going = add(note, true, first.as_bytes());
     for piece in pieces {
@@ -48,8 +48,8 @@ fn say<N: Sink>(note: &mut N, first: &str, pieces: &[Piece])
 
 // Goes on with a line by this piece, where none before failed.
 fn add_piece<N: Sink>(note: &mut N, going: bool, piece: &Piece) -> bool
-    ensures { (start : Stream) (said : List ℕ) → IsSaid start (stream N.taken N.faults note.old) said going
-        → IsSaid start (stream N.taken N.faults note.new) (said ++ piece_text piece.now) result }
+    ensures { (start : Stream) (said : List ℕ) → IsSaid start (N.state note.old) said going
+        → IsSaid start (N.state note.new) (said ++ piece_text piece.now) result }
 {
     match piece {
         Text(text) => add(note, going, text.as_bytes()),
@@ -63,8 +63,8 @@ fn add_piece<N: Sink>(note: &mut N, going: bool, piece: &Piece) -> bool
 
 // Goes on with a line by these bytes, where no piece before failed.
 fn add<N: Sink>(note: &mut N, going: bool, piece: &[u8]) -> bool
-    ensures { (start : Stream) (said : List ℕ) → IsSaid start (stream N.taken N.faults note.old) said going
-        → IsSaid start (stream N.taken N.faults note.new) (said ++ piece.now) result }
+    ensures { (start : Stream) (said : List ℕ) → IsSaid start (N.state note.old) said going
+        → IsSaid start (N.state note.new) (said ++ piece.now) result }
 {
     if !going {
         return false;
@@ -86,7 +86,7 @@ fn digits_of(digest: &[u8; 32]) -> [u8; 64]
 }
 
 fn tell_line<N: Sink>(why: &Ended, note: &mut N)
-    ensures { TellsWhy (columns_kept why.now) (stream N.taken N.faults note.old) (stream N.taken N.faults note.new) (ending_of why.now) }
+    ensures { TellsWhy (columns_kept why.now) (N.state note.old) (N.state note.new) (ending_of why.now) }
 {
     match why {
         Ended::Done => {}
@@ -109,7 +109,7 @@ fn tell_line<N: Sink>(why: &Ended, note: &mut N)
 }
 
 fn tell_words<N: Sink>(fault: &WordFault, note: &mut N)
-    ensures { AddsLine (stream N.taken N.faults note.old) (stream N.taken N.faults note.new) (terms.joined (codes "words: " ∷ terms.word_note fault.now)) }
+    ensures { AddsLine (N.state note.old) (N.state note.new) (terms.joined (codes "words: " ∷ terms.word_note fault.now)) }
 {
     match fault {
         WordFault::NoCommand => say(note, "words: ", &[Text("no command")]),
@@ -148,7 +148,7 @@ fn tell_words<N: Sink>(fault: &WordFault, note: &mut N)
 }
 
 fn tell_graph<N: Sink>(fault: &GraphFault, columns: &Columns, note: &mut N)
-    ensures { AddsLine (stream N.taken N.faults note.old) (stream N.taken N.faults note.new) (terms.joined (codes "graph: " ∷ terms.graph_note columns.now fault.now)) }
+    ensures { AddsLine (N.state note.old) (N.state note.new) (terms.joined (codes "graph: " ∷ terms.graph_note columns.now fault.now)) }
 {
     match fault {
         GraphFault::NotJson => say(note, "graph: ", &[Text("not JSON")]),
@@ -259,7 +259,7 @@ fn tell_graph<N: Sink>(fault: &GraphFault, columns: &Columns, note: &mut N)
 }
 
 fn tell_regions<N: Sink>(fault: &RegionFault, column: &text::Text, note: &mut N)
-    ensures { AddsLine (stream N.taken N.faults note.old) (stream N.taken N.faults note.new) (terms.joined (codes "graph: " ∷ terms.region_note column.now fault.now)) }
+    ensures { AddsLine (N.state note.old) (N.state note.new) (terms.joined (codes "graph: " ∷ terms.region_note column.now fault.now)) }
 {
     match fault {
         RegionFault::Missing(node) => say(
@@ -292,7 +292,7 @@ fn tell_regions<N: Sink>(fault: &RegionFault, column: &text::Text, note: &mut N)
 }
 
 fn tell_plan<N: Sink>(fault: &PlanFault, note: &mut N)
-    ensures { AddsLine (stream N.taken N.faults note.old) (stream N.taken N.faults note.new) (terms.joined (codes "plan: " ∷ terms.plan_note fault.now)) }
+    ensures { AddsLine (N.state note.old) (N.state note.new) (terms.joined (codes "plan: " ∷ terms.plan_note fault.now)) }
 {
     match fault {
         PlanFault::NoVotes => say(note, "plan: ", &[Text("no votes")]),
@@ -361,7 +361,7 @@ fn tell_plan<N: Sink>(fault: &PlanFault, note: &mut N)
 }
 
 fn tell_table<N: Sink>(fault: &TableFault, note: &mut N)
-    ensures { AddsLine (stream N.taken N.faults note.old) (stream N.taken N.faults note.new) (terms.joined (codes "table: " ∷ terms.table_note fault.now)) }
+    ensures { AddsLine (N.state note.old) (N.state note.new) (terms.joined (codes "table: " ∷ terms.table_note fault.now)) }
 {
     match fault {
         TableFault::Unreadable(record) => say(
@@ -426,7 +426,7 @@ fn tell_table<N: Sink>(fault: &TableFault, note: &mut N)
 }
 
 fn tell_named<N: Sink>(name: &text::Text, fault: &PlanFault, note: &mut N)
-    ensures { AddsLine (stream N.taken N.faults note.old) (stream N.taken N.faults note.new) (terms.joined (codes "plan " ∷ name.now ∷ codes ": " ∷ terms.plan_note fault.now)) }
+    ensures { AddsLine (N.state note.old) (N.state note.new) (terms.joined (codes "plan " ∷ name.now ∷ codes ": " ∷ terms.plan_note fault.now)) }
 {
     let name = name.as_str();
     match fault {
@@ -504,7 +504,7 @@ fn tell_named<N: Sink>(name: &text::Text, fault: &PlanFault, note: &mut N)
 }
 
 fn tell_stopped<N: Sink>(note: &mut N, done: u32, total: u32)
-    ensures { AddsLine (stream N.taken N.faults note.old) (stream N.taken N.faults note.new) (terms.joined (codes "stopped: " ∷ decimal done ∷ codes " of " ∷ decimal total ∷ codes " done" ∷ [])) }
+    ensures { AddsLine (N.state note.old) (N.state note.new) (terms.joined (codes "stopped: " ∷ decimal done ∷ codes " of " ∷ decimal total ∷ codes " done" ∷ [])) }
 {
     say(
         note,
@@ -519,7 +519,7 @@ fn tell_stopped<N: Sink>(note: &mut N, done: u32, total: u32)
 }
 
 fn tell_damaged<N: Sink>(note: &mut N, slots: &Slots)
-    ensures { AddsLine (stream N.taken N.faults note.old) (stream N.taken N.faults note.new) (terms.joined (codes "checkpoint: slot 0 " ∷ terms.slot_name (slot_view slots.now.zero) ∷ codes ", slot 1 " ∷ terms.slot_name (slot_view slots.now.one) ∷ [])) }
+    ensures { AddsLine (N.state note.old) (N.state note.new) (terms.joined (codes "checkpoint: slot 0 " ∷ terms.slot_name (slot_view slots.now.zero) ∷ codes ", slot 1 " ∷ terms.slot_name (slot_view slots.now.one) ∷ [])) }
 {
     say(
         note,
@@ -533,7 +533,7 @@ fn tell_damaged<N: Sink>(note: &mut N, slots: &Slots)
 }
 
 fn tell_other<'x, N: Sink>(note: &mut N, found: &'x [u8; 32], wanted: &'x [u8; 32])
-    ensures { AddsLine (stream N.taken N.faults note.old) (stream N.taken N.faults note.new) (terms.joined (codes "checkpoint: other job " ∷ encode_lower found.now ∷ codes ", this job " ∷ encode_lower wanted.now ∷ [])) }
+    ensures { AddsLine (N.state note.old) (N.state note.new) (terms.joined (codes "checkpoint: other job " ∷ encode_lower found.now ∷ codes ", this job " ∷ encode_lower wanted.now ∷ [])) }
 {
     say(
         note,

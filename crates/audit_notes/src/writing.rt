@@ -1,14 +1,13 @@
 //! A text, written whole.
 
 ghost use Rattle.audit_notes.specs.Said.{WritesAllOf};
-ghost use Rattle.audit_statement.specs.World.{stream};
 
 use audit_io::sink::Sink;
 use audit_io::source::Failed;
 
 /// Writes all of the text, or as much as the sink takes before it fails.
 pub fn write_all<K: Sink>(out: &mut K, text: &[u8]) -> Result<(), Failed>
-    ensures { WritesAllOf (stream K.taken K.faults out.old) (stream K.taken K.faults out.new) text.now result }
+    ensures { WritesAllOf (K.state out.old) (K.state out.new) text.now result }
 {
     let mut at = 0;
     'turns: while at < text.len() {

@@ -8,10 +8,10 @@ use Rattle.ckpt_store.specs.Looked.{AreSlots, SawSlots}
 use Rattle.ckpt_store.specs.View.{newest_seen, opening_seen, slot_view}
 use Rattle.audit_notes.specs.declared.ended.Ended.{Ended}
 use Rattle.audit_notes.specs.declared.ended.Ended.TheVariants as ended
-use Rattle.audit_statement.specs.Ends.{AreDamaged, IsOtherJob, is_walking, opening_from}
+use Rattle.audit_statement.specs.Endings.{AreDamaged, IsOtherJob, is_walking, opening_from}
 use Rattle.audit_opening.specs.Opening.{IsOtherSeen, RefusesSlots}
 use Rattle.audit_steps.specs.Calls.{Finishes}
-use Rattle.audit_statement.specs.World.{Kept, Stream}
+use Rattle.audit_io.specs.State.{Kept, Stream}
 use Rattle.audit_opening.proofs.Started.{newest_told, one_told, opening_told, saw_pair, slot_told, zero_told}
 use Rattle.audit_steps.proofs.Leaving.{left}
 

@@ -5,14 +5,16 @@ use Rattle.std.specs.List.{All}
 use Rattle.std.proofs.lemmas.List.{length-map}
 use Rattle.std.proofs.lemmas.List.Elements.{All-cons, All-filter, All-head, All-map, All-tail}
 use Rattle.std.proofs.lemmas.List.Sums.{count_by-le-length, length-filter}
-use Rattle.audit_io.specs.Slots.{IfTold, Pair}
+use Rattle.audit_io.specs.State.{Kept}
+use Rattle.audit_io.specs.Told.{IfTold}
+use Rattle.audit_io.specs.Slots.{Pair}
 use Rattle.audit_model.specs.declared.outcome.Outcome.{Outcome}
 use Rattle.audit_model.specs.Job.{Job}
 use Rattle.audit_model.specs.Run.{fits, is_bare, taken_up}
 use Rattle.audit_model.specs.Trajectory.{bare}
 use Rattle.model_laws.proofs.Bins.{bare_fits}
 use Rattle.checkpoint_definitions.specs.Checkpoint.{AreRising, job_digest}
-use Rattle.checkpoint_definitions.specs.Slots.{Slot, newest, opening, other, place, slot_at, slot_of}
+use Rattle.checkpoint_definitions.specs.Slots.{Slot, newest, opening, other, save_place, slot_at, slot_of}
 use Rattle.ckpt_store.specs.declared.slots.Slot.{Slot as Looked}
 use Rattle.ckpt_store.specs.declared.slots.Slot.TheVariants as looked
 use Rattle.ckpt_store.specs.declared.slots.Slots.{Slots}
@@ -26,10 +28,9 @@ use Rattle.audit_notes.specs.declared.ended.Ended.{Ended}
 use Rattle.audit_notes.specs.declared.ended.Ended.TheVariants as ended
 use Rattle.audit_opening.specs.declared.opening.Opening.{Opening}
 use Rattle.audit_opening.specs.declared.opening.Target.{Target}
-use Rattle.audit_statement.specs.Ends.{IsOpening, Saw, opening_from, place_of, saves}
+use Rattle.audit_statement.specs.Endings.{IsOpening, Saw, opening_from, place_of, saves}
 use Rattle.audit_opening.specs.Opening.{IsOtherSeen, IsPlaced, IsTarget, Opens, OpensWith, RefusesSlots, refused_by}
-use Rattle.audit_steps.specs.Runs.{IsRun}
-use Rattle.audit_statement.specs.World.{IfKnown, Kept}
+use Rattle.audit_steps.specs.Runs.{IsRunJob}
 use Rattle.audit_steps.proofs.Starting.{saves_not, saves_some}
 use Rattle.audit_steps.proofs.Running.{fit_list, rising_above, rising_once, rising_rest}
 
@@ -46,7 +47,7 @@ module _ (job : Job) (digest : List ℕ) (p : Pair) (slots : Slots) (is : digest
   both_told f = ap (λ s. f s (slot_view slots.one)) zero_told ∙ ap (λ s. f (slot_of job (job_digest job) p.zero_slot) s) one_told
 
   pub place_told : place_seen slots ≡ place_of job p
-  place_told = both_told place
+  place_told = both_told save_place
 
   pub opening_told : opening_seen job.setting slots ≡ opening true job.setting (slot_of job (job_digest job) p.zero_slot) (slot_of job (job_digest job) p.one_slot)
   opening_told = both_told (opening true job.setting)
@@ -59,11 +60,7 @@ module _ (job : Job) (digest : List ℕ) (p : Pair) (slots : Slots) (is : digest
 
 -- what holds of the pair that was seen, of the slots that the keeper tells or of two that were there
 pub saw_pair : (job : Job) (digest : List ℕ) (told : Option Pair) (slots : Slots) (P : Pair → Type 0) (saw : SawSlots job digest told slots) → P saw.pair → Saw told P
-saw_pair job digest told slots P saw holds = record { pair = saw.pair; same = known told (λ p. saw.pair ≡ p) saw.same; holds = holds }
-  where
-    known : (told : Option Pair) (Q : Pair → Type 0) → IfTold told Q → IfKnown told Q
-    known None Q h = tt
-    known (Some p) Q h = h
+saw_pair job digest told slots P saw holds = record { pair = saw.pair; same = saw.same; holds = holds }
 
 -- the slots that were seen are those that are told
 pub saw_told : (job : Job) (digest : List ℕ) (told : Option Pair) (slots : Slots) → SawSlots job digest told slots → IfTold told (λ p. AreSlots job digest p slots)
@@ -75,11 +72,11 @@ saw_told job digest (Some p) slots saw = subst (λ q. AreSlots job digest q slot
 pub no_target : (job : Job) (slots : Option Pair) → job.setting.save_every ≡ 0 → IsTarget (saves job.setting) job slots None
 no_target job slots none = subst (λ b. IsTarget b job slots None) (sym (saves_not job none)) tt
 
-pub some_target : (job : Job) (slots : Option Pair) (t : Target) → IsRun job → (job.setting.save_every ≡ 0 → ⊥) → IsPlaced job slots t → IsTarget (saves job.setting) job slots (Some t)
+pub some_target : (job : Job) (slots : Option Pair) (t : Target) → IsRunJob job → (job.setting.save_every ≡ 0 → ⊥) → IsPlaced job slots t → IsTarget (saves job.setting) job slots (Some t)
 some_target job slots t run some placed = subst (λ b. IsTarget b job slots (Some t)) (sym (saves_some job run some)) placed
 
 place_by : (job : Job) (told : Option Pair) (slots : Slots) (t : Target) → t.digest ≡ job_digest job → (t.place.slot, t.place.generation) ≡ place_seen slots
-    → IfTold told (λ p. AreSlots job t.digest p slots) → IfKnown told (λ p. (t.place.slot, t.place.generation) ≡ place_of job p)
+    → IfTold told (λ p. AreSlots job t.digest p slots) → IfTold told (λ p. (t.place.slot, t.place.generation) ≡ place_of job p)
 place_by job None slots t is at seen = tt
 place_by job (Some p) slots t is at seen = at ∙ place_told job t.digest p slots is seen
 

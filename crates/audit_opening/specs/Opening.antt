@@ -13,16 +13,17 @@ use Rattle.audit_notes.specs.declared.ended.Ended.{Ended}
 use Rattle.audit_notes.specs.declared.ended.Ended.TheVariants as ended
 use Rattle.audit_opening.specs.declared.opening.Opening.{Opening}
 use Rattle.audit_opening.specs.declared.opening.Target.{Target}
-use Rattle.audit_statement.specs.Ends.{IsOpening, place_of, saves}
+use Rattle.audit_statement.specs.Endings.{IsOpening, place_of, saves}
 use Rattle.audit_steps.specs.Calls.{Finishes}
-use Rattle.audit_statement.specs.World.{Stream, Kept, IfKnown}
+use Rattle.audit_io.specs.State.{Kept, Stream}
+use Rattle.audit_io.specs.Told.{IfTold}
 
 -- the place where the job saves, by what the keeper tells
 pub record IsPlaced (job : Job) (slots : Option Pair) (t : Target) : Type 0 where
   pub digest_is : t.digest ≡ job_digest job
   pub slot_below : t.place.slot < 2
   pub generation_below : t.place.generation < 3
-  pub told : IfKnown slots (λ p. (t.place.slot, t.place.generation) ≡ place_of job p)
+  pub told : IfTold slots (λ p. (t.place.slot, t.place.generation) ≡ place_of job p)
 
 -- there is a place exactly where the run saves
 abbrev pub IsTarget : Bool → Job → Option Pair → Option Target → Type 0

@@ -2,3 +2,5 @@
 #![tactic(auto)]
 
 pub mod opening;
+
+pub use opening::{Opening, Target, open};

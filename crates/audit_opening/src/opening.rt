@@ -1,7 +1,9 @@
 //! With what a run starts.
 
 ghost use Rattle.std.specs.Prelude.{◌≡◌, ◌∷◌, [], ◌++◌, map, true, IfErr, IfOk, IsTrue, MatchResult, None, OnOk, Option, Some};
-ghost use Rattle.audit_io.specs.Slots.{IfTold, Pair};
+ghost use Rattle.audit_io.specs.State.{Kept};
+ghost use Rattle.audit_io.specs.Told.{IfTold};
+ghost use Rattle.audit_io.specs.Slots.{Pair};
 ghost use Rattle.audit_model.specs.Job as model;
 ghost use Rattle.audit_model.specs.Run.{is_bare, taken_up};
 ghost use Rattle.audit_model.specs.Trajectory.{bare};
@@ -9,10 +11,9 @@ ghost use Rattle.checkpoint_definitions.specs.Checkpoint as definition;
 ghost use Rattle.ckpt_store.specs.Fitting.{AreFit, HasFitOutcomes};
 ghost use Rattle.ckpt_store.specs.Looked.{AreSlots, SawSlots};
 ghost use Rattle.ckpt_store.specs.View.{held_seen};
-ghost use Rattle.audit_statement.specs.Ends.{loads, saves};
-ghost use Rattle.audit_steps.specs.Runs.{IsRun};
+ghost use Rattle.audit_statement.specs.Endings.{loads, saves};
+ghost use Rattle.audit_steps.specs.Runs.{IsRunJob};
 ghost use Rattle.audit_opening.specs.Opening.{IsTarget, Opens, RefusesSlots, refused_by};
-ghost use Rattle.audit_statement.specs.World.{Kept, kept};
 
 use audit_io::keeper::Keeper;
 use audit_model::buffers::{Bytes, OutcomeList};
@@ -41,7 +42,7 @@ pub struct Opening {
 
 // Where the run saves, by what the slots are.
 fn target_of(job: &Job, slots: &Slots, digest: [u8; 32]) -> Option<Target>
-    requires run { IsRun job.now }
+    requires run { IsRunJob job.now }
     requires digest { digest ≡ definition.job_digest job.now }
     ensures { (told : Option Pair) → IfTold told (λ p. AreSlots job.now digest p slots.now) → IsTarget (saves job.now.setting) job.now told result }
 {
@@ -134,7 +135,7 @@ fn refusal(fault: StoreFault) -> Ended
 
 // With what a run starts that has looked at the slots.
 fn open_found(alloc: Global, job: &Job, slots: Slots, digest: [u8; 32]) -> Result<Opening, Ended>
-    requires run { IsRun job.now }
+    requires run { IsRunJob job.now }
     requires digest { digest ≡ definition.job_digest job.now }
     requires fit { HasFitOutcomes job.now slots.zero × HasFitOutcomes job.now slots.one }
     ensures { (k : Kept) → SawSlots job.now digest k.slots slots → Opens job.now k k result }
@@ -157,9 +158,9 @@ fn open_found(alloc: Global, job: &Job, slots: Slots, digest: [u8; 32]) -> Resul
 
 // Looks at the slots. None is changed.
 fn look_and_open<C: Keeper>(alloc: Global, job: &Job, keeper: &mut C) -> Result<Opening, Ended>
-    requires run { IsRun job.now }
+    requires run { IsRunJob job.now }
     requires loading { IsTrue (loads job.now.setting) }
-    ensures { Opens job.now (kept C.slots C.tried C.load_faults C.save_faults keeper.old) (kept C.slots C.tried C.load_faults C.save_faults keeper.new) result }
+    ensures { Opens job.now (C.state keeper.old) (C.state keeper.new) result }
 {
     let digest = job_digest(job);
     let mut room = Bytes::new(alloc);
@@ -173,8 +174,8 @@ fn look_and_open<C: Keeper>(alloc: Global, job: &Job, keeper: &mut C) -> Result<
 /// With what the run starts: nothing, unless it resumes; else the outcomes of the newest slot that it goes on from. The slots are looked at only where the run
 /// saves or resumes, and none is changed.
 pub fn open<C: Keeper>(alloc: Global, job: &Job, keeper: &mut C) -> Result<Opening, Ended>
-    requires { IsRun job.now }
-    ensures { Opens job.now (kept C.slots C.tried C.load_faults C.save_faults keeper.old) (kept C.slots C.tried C.load_faults C.save_faults keeper.new) result }
+    requires { IsRunJob job.now }
+    ensures { Opens job.now (C.state keeper.old) (C.state keeper.new) result }
 {
     let setting = job.setting();
     if setting.resume || setting.save_every != 0 {

@@ -1,8 +1,7 @@
 -- From the reason why a call on several plans ended to what follows by statuses.
-use Rattle.std.proofs.Common.{◌≡◌, ◌≢◌, ◌∙◌, ℕ, ◌<◌, ◌≤◌, List, Option, Some, None, Result, Ok, Err, refl, sym, subst, ap, inl, inr, arith, true, false}
-use Rattle.std.specs.Prelude.{◌⊎◌, IsErr}
+use Rattle.std.proofs.Common.{◌≡◌, ◌∙◌, ℕ, ◌<◌, List, Option, Some, None, Result, Ok, Err, refl, sym, subst, ap, inl, inr, arith, true, false}
+use Rattle.std.specs.Prelude.{IsErr}
 use Rattle.std.specs.Io.KnownBytes.{Appends}
-use Rattle.audit_io.specs.Faults.{Rose}
 use Rattle.audit_model.specs.declared.fault.WordFault.{WordFault}
 use Rattle.audit_model.specs.declared.setting.Setting.{Setting}
 use Rattle.note_definitions.specs.Note.{Ending, bad_words, too_many_bytes, bad_graph, bad_regions, bad_table, bad_plan, bad_plan_named, no_memory, read_fault, write_fault, load_fault, stopped, damaged, other_job, save_fault}
@@ -10,10 +9,12 @@ use Rattle.draw_definitions.specs.Draw.{draw}
 use Rattle.plan_jobs.specs.Reading.{Jobs}
 use Rattle.text_definitions.specs.Report.{plans_text}
 use Rattle.word_definitions.specs.Words.{setting_of}
-use Rattle.audit_statement.specs.Ends.{AppendsPart}
+use Rattle.audit_statement.specs.Endings.{AppendsPart}
 use Rattle.audit_statement.specs.Several.{ArePlansCutOff, ArePlansDone, ArePlansRefused, AreTheJobs, AreToldPlans, IsPlansReadFault, KeepsPlansPromise, PlansCause, PlansCauses, PlansEnd, PlansLeave, VisitLegally, plans_judged, plans_marks}
 use Rattle.audit_statement.specs.Status.{status_of}
-use Rattle.audit_statement.specs.World.{IfKnown, Stream, World}
+use Rattle.audit_io.specs.State.{Stream}
+use Rattle.audit_io.specs.Told.{IfTold}
+use Rattle.audit_statement.specs.World.{World}
 use Rattle.audit_steps.proofs.Telling.{known_at, same_setting}
 
 is_no_error : {A E : Type 0} (r : Result A E) (x : A) → r ≡ Ok x → IsErr r → ⊥
@@ -27,7 +28,7 @@ is_error (Err y) x e = refl
 module _ (words : List (List ℕ)) (before after : World) where
   -- what is told is what was read
   told_judged : (setting : Setting) (bytes : List ℕ) → AreToldPlans words before setting bytes → (other : Setting) (read : List ℕ) → setting_of words ≡ Ok other
-      → IfKnown before.source.bytes (λ input. input ≡ read) → plans_judged setting bytes ≡ plans_judged other read
+      → IfTold before.source.bytes (λ input. input ≡ read) → plans_judged setting bytes ≡ plans_judged other read
   told_judged setting bytes told other read accepted given =
       let same : setting ≡ other = same_setting words setting other told.words_are accepted in
       let is : bytes ≡ read = known_at before.source.bytes bytes (λ b. b ≡ read) told.input given in
@@ -129,7 +130,7 @@ module _ (words : List (List ℕ)) (before after : World) where
   }
 
   -- the told jobs are those that were accepted
-  same_jobs : (s : Setting) (jobs : Jobs) (read : List ℕ) → setting_of words ≡ Ok s → IfKnown before.source.bytes (λ input. input ≡ read) → plans_judged s read ≡ Ok jobs
+  same_jobs : (s : Setting) (jobs : Jobs) (read : List ℕ) → setting_of words ≡ Ok s → IfTold before.source.bytes (λ input. input ≡ read) → plans_judged s read ≡ Ok jobs
       → (setting : Setting) (others : Jobs) → AreTheJobs words before setting others → (s ≡ setting) × (jobs ≡ others)
   same_jobs s jobs read accepted given judged setting others are =
       let same : s ≡ setting = same_setting words s setting accepted are.told.words_are in

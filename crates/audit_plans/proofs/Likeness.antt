@@ -1,5 +1,5 @@
 -- Plans of one graph and one setting are alike in all that their judges are made of.
-use Rattle.std.proofs.Common.{◌≡◌, ◌∙◌, ℕ, ◌<◌, List, [], ◌∷◌, length, map, zero, sym, subst, ap, arith, refl, suc}
+use Rattle.std.proofs.Common.{◌≡◌, ◌∙◌, ℕ, ◌<◌, List, [], length, sym, subst, ap}
 use Rattle.std.specs.List.{All, slice_index_or}
 use Rattle.audit_model.specs.declared.rules.Rules.{Rules}
 use Rattle.audit_model.specs.JobOf.{IsJob}
@@ -24,20 +24,8 @@ all_like named first is alike = λ k d inside.
     let there = of_first (IsOneOf alike.setting alike.shared.regions) named first is alike.shared.some alike.shared.each in
     record { sound = here.sound; set = here.set ∙ sym there.set; regioned = here.regioned ∙ sym there.regioned }
 
-pub none_long : {A : Type 0} (xs : List A) → length xs ≡ 0 → xs ≡ []
-none_long [] e = refl
-none_long (x ∷ xs) e = absurd (omega (arith, e))
-
 pub same_rules : (a b c d : ℕ) (regions : List ℕ) → a ≡ b → c ≡ d → regions ≡ [] → (let one : Rules = record { max_cut = a; regions = []; max_split = c } in one) ≡ record { max_cut = b; regions = regions; max_split = d }
 same_rules a b c d regions e f g =
     ap (λ m. (let r : Rules = record { max_cut = m; regions = []; max_split = c } in r)) e
     ∙ ap (λ m. (let r : Rules = record { max_cut = b; regions = []; max_split = m } in r)) f
     ∙ ap (λ xs. (let r : Rules = record { max_cut = b; regions = xs; max_split = d } in r)) (sym g)
-
-pub all_unmapped : {A B : Type 0} (f : A → B) (P : B → Type 0) (ys : List A) → All P (map f ys) → All (λ y. P (f y)) ys
-all_unmapped f P [] h = λ k d inside. absurd (omega (arith, inside))
-all_unmapped f P (y ∷ ys) h = by (all_unmapped f P ys (λ j e l. h (suc j) e (omega (arith, l))))
-  where
-    by : All (λ z. P (f z)) ys → (k : ℕ) (d : _) → k < length (y ∷ ys) → P (f (slice_index_or (y ∷ ys) k d))
-    by rest zero d inside = h 0 (f y) (omega arith)
-    by rest (suc k) d inside = rest k d (omega (arith, inside))

@@ -1,7 +1,7 @@
 -- Lists of which each element of one goes with one of the other.
-use Rattle.std.proofs.Common.{◌≡◌, ℕ, zero, suc, ◌<◌, ◌++◌, List, [], ◌∷◌, length, arith}
+use Rattle.std.proofs.Common.{◌≡◌, ℕ, suc, ◌<◌, ◌++◌, List, [], ◌∷◌, length, arith}
 use Rattle.std.specs.List.{All, slice_index_or}
-use Rattle.audit_plans.specs.Paired.{ArePaired}
+use Rattle.plan_walks.specs.Paired.{ArePaired}
 
 pub paired_push : {A B : Type 0} → (P : A → B → Type 0) (xs : List A) (ys : List B) (x : A) (y : B) → ArePaired P xs ys → P x y → ArePaired P (xs ++ x ∷ []) (ys ++ y ∷ [])
 paired_push P [] [] x y are is = (is, tt)

@@ -21,13 +21,15 @@ use Rattle.audit_notes.specs.Ended.{columns_kept, ending_of, word_ended}
 use Rattle.audit_input.specs.declared.reading.ReadEnd.{ReadEnd}
 use Rattle.audit_input.specs.declared.reading.ReadEnd.TheVariants as read
 use Rattle.audit_input.specs.Steps.{ReadsSource}
-use Rattle.audit_statement.specs.Accepted.{columns_in, columns_of, most_bytes}
-use Rattle.audit_statement.specs.Ends.{AddsLine, TellsWhy}
-use Rattle.audit_statement.specs.Several.{ArePlansRefused, PlansEnd, PlansLeave, PlansMarks, from_jobs, plans_judged, plans_marks}
+use Rattle.audit_statement.specs.Accepted.{columns_in, most_bytes}
+use Rattle.audit_statement.specs.Endings.{AddsLine, TellsWhy}
+use Rattle.audit_statement.specs.Several.{ArePlansRefused, PlansEnd, PlansLeave, from_jobs, plans_judged}
 use Rattle.audit_statement.specs.Status.{line_of, status_of}
-use Rattle.audit_statement.specs.World.{IfKnown, Kept, Stream, World, world}
+use Rattle.audit_io.specs.State.{Kept, Stream}
+use Rattle.audit_io.specs.Told.{IfTold}
+use Rattle.audit_statement.specs.World.{World, world}
 use Rattle.audit_plans.specs.Stages.{AreReadyFor, ArePlansReady, IsRefusedSo, PlansRefused, PlansRunTo, plans_ended, read_ended}
-use Rattle.audit_plans.specs.Walks.{ReportsPlans}
+use Rattle.plan_walks.specs.Walks.{ReportsPlans}
 use Rattle.audit_plans.proofs.Visiting.{visit_legally}
 
 -- ---- what is judged of bytes
@@ -40,7 +42,7 @@ judged_many : (setting : Setting) (bytes : List ℕ) → most_bytes < length byt
 unfolding plans_judged
 judged_many setting bytes many = rw (lt-ltb most_bytes (length bytes) many) refl
 
-module _ (setting : Setting) (before after : Stream) (bytes : List ℕ) (given : IfKnown before.bytes (λ left. left ≡ bytes)) (few : length bytes ≤ most_bytes) (faults : after.faults ≡ before.faults) where
+module _ (setting : Setting) (before after : Stream) (bytes : List ℕ) (given : IfTold before.bytes (λ left. left ≡ bytes)) (few : length bytes ≤ most_bytes) (faults : after.faults ≡ before.faults) where
   pub jobs_ready : (named : List Named) → IsAtEnd after.bytes → AreShared setting named → jobs_reading setting bytes ≡ Ok (jobs_of named) → AreReadyFor setting before after named
   jobs_ready named ended shared e = record {
     bytes = bytes;

@@ -1,24 +1,22 @@
 -- What accepted words say of the setting of several plans, and so of their jobs.
-use Rattle.std.proofs.Common.{◌≡◌, ◌∙◌, ℕ, ◌<◌, Bool, true, false, List, [], ◌∷◌, length, Option, Some, None, Result, Ok, refl, sym, subst, ap}
+use Rattle.std.proofs.Common.{◌≡◌, ◌∙◌, ℕ, true, false, List, [], ◌∷◌, Option, Some, None, Ok, refl, sym, subst, ap}
 use Rattle.std.proofs.lemmas.Slice.Eq.{bytes_eq-Decides}
 use Rattle.std.specs.Prelude.{bytes_eq, codes, unwrap_or}
 use Rattle.std.specs.Fmt.{digits}
 use Rattle.std.specs.List.{All}
 use Rattle.std.specs.Option.{option_or}
-use Rattle.audit_model.specs.declared.fault.Name.TheVariants.{Save, Resume}
 use Rattle.audit_model.specs.declared.fault.WordFault.{WordFault}
 use Rattle.audit_model.specs.declared.setting.Command.TheVariants.{Plans}
 use Rattle.audit_model.specs.declared.setting.Setting.{Setting}
 use Rattle.plan_jobs.specs.declared.named.Named.{Named}
-use Rattle.plan_jobs.specs.Named.{IsOneOf}
-use Rattle.word_definitions.specs.Words.{Pair, command_of, fault_of, is_yes, number_at, number_of, of_command, pairs, setting_for, setting_of, setting_or}
-use Rattle.audit_statement.specs.Ends.{is_walking}
+use Rattle.word_definitions.specs.Words.{NameAndValue, command_of, fault_of, number_of, of_command, pairs, setting_for, setting_of, setting_or}
+use Rattle.audit_statement.specs.Endings.{is_walking}
 use Rattle.audit_statement.specs.Several.{names_plans}
-use Rattle.audit_statement.specs.World.{Stream}
+use Rattle.audit_io.specs.State.{Stream}
 use Rattle.audit_words.proofs.Unnamed.{resume_is, save_is}
 use Rattle.audit_steps.specs.Runs.{AcceptedJobsAreRuns}
 use Rattle.audit_plans.specs.Stages.{ArePlansReady}
-use Rattle.audit_plans.specs.Walks.{RunsAlone}
+use Rattle.plan_walks.specs.Walks.{RunsAlone}
 
 -- it is of the command on several plans, nothing is saved, and nothing resumed
 pub record IsPlansSetting (setting : Setting) : Type 0 where
@@ -30,7 +28,7 @@ first_none : {A : Type 0} (a b : Option A) → option_or a b ≡ None → a ≡ 
 first_none None b h = refl
 first_none (Some x) b h = cc
 
-with_fault : (words : List Pair) (fault : Option WordFault) (setting : Setting) → fault_of Plans words ≡ fault → setting_or Plans words fault ≡ Ok setting → IsPlansSetting setting
+with_fault : (words : List NameAndValue) (fault : Option WordFault) (setting : Setting) → fault_of Plans words ≡ fault → setting_or Plans words fault ≡ Ok setting → IsPlansSetting setting
 unfolding digits
 with_fault words None setting faultless e =
     let same : setting_for Plans words ≡ setting = cc in

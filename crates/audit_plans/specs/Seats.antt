@@ -7,7 +7,7 @@ use Rattle.flip_guard.specs.declared.guard.Guard.{Guard}
 use Rattle.plan_jobs.specs.declared.named.Named.{Named}
 use Rattle.region_guard.specs.declared.guard.RegionGuard.{RegionGuard}
 use Rattle.region_guard.specs.Guards.{AreRegionGuards}
-use Rattle.audit_plans.specs.Paired.{ArePaired}
+use Rattle.plan_walks.specs.Paired.{ArePaired}
 use Rattle.audit_walks.specs.Guards.{AreGuards}
 
 -- so many judges by one test

@@ -1,8 +1,7 @@
 -- What the steps of a call on several plans say to each other.
-use Rattle.std.specs.Prelude.{◌≡◌, ℕ, ◌<◌, List, length, true, Ok, Err}
+use Rattle.std.specs.Prelude.{◌≡◌, ℕ, List, Ok, Err}
 use Rattle.std.specs.Io.KnownBytes.{IsAtEnd}
 use Rattle.audit_io.specs.Faults.{Rose}
-use Rattle.audit_model.specs.declared.setting.Columns.{Columns}
 use Rattle.audit_model.specs.declared.setting.Setting.{Setting}
 use Rattle.note_definitions.specs.Note.{Ending, bad_graph, bad_regions, bad_table, bad_plan, bad_plan_named}
 use Rattle.plan_jobs.specs.declared.fault.PlansFault.{PlansFault}
@@ -19,7 +18,9 @@ use Rattle.audit_input.specs.Steps.{ReadsTooMany}
 use Rattle.audit_statement.specs.Accepted.{columns_of}
 use Rattle.audit_statement.specs.Several.{ArePrepared, PlansCause, PlansLeave, plans_judged, plans_marks}
 use Rattle.audit_statement.specs.Status.{line_of}
-use Rattle.audit_statement.specs.World.{IfKnown, Stream, World}
+use Rattle.audit_io.specs.State.{Stream}
+use Rattle.audit_io.specs.Told.{IfTold}
+use Rattle.audit_statement.specs.World.{World}
 
 -- how a refusal ends a call with this setting
 abbrev pub plans_ended : Setting → PlansFault → Ended
@@ -39,7 +40,7 @@ read_ended read.Memory = ended.NoMemory
 -- all was read and accepted as the jobs of these plans
 pub record AreReadyFor (setting : Setting) (before after : Stream) (named : List Named) : Type 0 where
   pub bytes : List ℕ
-  pub given : IfKnown before.bytes (λ left. left ≡ bytes)
+  pub given : IfTold before.bytes (λ left. left ≡ bytes)
   pub judged_so : plans_judged setting bytes ≡ Ok (jobs_of named)
   pub shared : AreShared setting named
   pub at_end : IsAtEnd after.bytes
@@ -48,7 +49,7 @@ pub record AreReadyFor (setting : Setting) (before after : Stream) (named : List
 -- all was read and is refused for this reason
 pub record IsRefusedSo (setting : Setting) (before after : Stream) (ending : Ending) : Type 0 where
   pub bytes : List ℕ
-  pub given : IfKnown before.bytes (λ left. left ≡ bytes)
+  pub given : IfTold before.bytes (λ left. left ≡ bytes)
   pub judged_so : plans_judged setting bytes ≡ Err ending
   pub faults : after.faults ≡ before.faults
 

@@ -4,17 +4,16 @@ ghost use Rattle.std.specs.Prelude.{◌≡◌, ◌<◌, ◌≢◌, ℕ, [], List
 ghost use Rattle.plan_jobs.specs.declared.named.Named.{Named as NamedOf};
 ghost use Rattle.plan_jobs.specs.Named.{jobs_of};
 ghost use Rattle.audit_plans.specs.Alike.{AreAlike};
-ghost use Rattle.audit_plans.specs.Walks.{ReportsPlans, RunsAlone};
-ghost use Rattle.audit_statement.specs.World.{stream};
+ghost use Rattle.plan_walks.specs.Walks.{ReportsPlans, RunsAlone};
 
 use crate::seats::{cut_seats, split_seats};
-use crate::walks::report_plans;
 use audit_io::gate::Gate;
 use audit_io::sink::Sink;
 use audit_model::outcome::SumsView;
 use audit_notes::ended::Ended;
 use plan_core::job::Job;
 use plan_jobs::named::Named;
+use plan_walks::walks::report_plans;
 use std::alloc::Global;
 use std::thread::Threads;
 
@@ -37,7 +36,7 @@ fn report_cut<R: Threads + Sync, K: Sink, G: Gate + Sync>(
     requires plans { All (λ n. RunsAlone n.job) plans.items }
     requires alike { AreAlike plans.items }
     requires no_regions { All (λ n. n.job.regions ≡ []) plans.items }
-    ensures { (key : List ℕ) → All (λ n. n.job.setting.key ≡ key) plans.items → ReportsPlans key (jobs_of plans.items) (stream K.taken K.faults out.old) (stream K.taken K.faults out.new) result }
+    ensures { (key : List ℕ) → All (λ n. n.job.setting.key ≡ key) plans.items → ReportsPlans key (jobs_of plans.items) (K.state out.old) (K.state out.new) result }
 {
     let first = first_of(plans.as_slice());
     let max_cut = first.rules().max_cut;
@@ -67,7 +66,7 @@ fn report_split<R: Threads + Sync, K: Sink, G: Gate + Sync>(
     requires plans { All (λ n. RunsAlone n.job) plans.items }
     requires alike { AreAlike plans.items }
     requires some_regions { All (λ n. n.job.regions ≢ []) plans.items }
-    ensures { (key : List ℕ) → All (λ n. n.job.setting.key ≡ key) plans.items → ReportsPlans key (jobs_of plans.items) (stream K.taken K.faults out.old) (stream K.taken K.faults out.new) result }
+    ensures { (key : List ℕ) → All (λ n. n.job.setting.key ≡ key) plans.items → ReportsPlans key (jobs_of plans.items) (K.state out.old) (K.state out.new) result }
 {
     let first = first_of(plans.as_slice());
     let cut_limit = first.rules().max_cut;
@@ -97,7 +96,7 @@ pub fn report_all<R: Threads + Sync, K: Sink, G: Gate + Sync>(
 ) -> Ended
     requires plans { All (λ n. RunsAlone n.job) plans.items }
     requires alike { AreAlike plans.items }
-    ensures { (key : List ℕ) → All (λ n. n.job.setting.key ≡ key) plans.items → ReportsPlans key (jobs_of plans.items) (stream K.taken K.faults out.old) (stream K.taken K.faults out.new) result }
+    ensures { (key : List ℕ) → All (λ n. n.job.setting.key ≡ key) plans.items → ReportsPlans key (jobs_of plans.items) (K.state out.old) (K.state out.new) result }
 {
     if first_of(plans.as_slice()).rules().regions.len() == 0 {
         report_cut(rt, alloc, plans, out, gate)

@@ -5,4 +5,5 @@ pub mod finish;
 pub mod prepare;
 pub mod seats;
 pub mod several;
-pub mod walks;
+
+pub use several::audit_plans;

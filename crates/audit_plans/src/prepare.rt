@@ -5,7 +5,9 @@ ghost use Rattle.std.specs.Io.KnownBytes.{IsAtEnd};
 ghost use Rattle.audit_model.specs.Limits.{IsSetting};
 ghost use Rattle.audit_plans.specs.Stages.{AreReadyFor, ArePlansReady, PlansRefused, PlansRunTo, plans_ended, read_ended};
 ghost use Rattle.audit_statement.specs.Accepted.{most_bytes};
-ghost use Rattle.audit_statement.specs.World.{IfKnown, Kept, Stream, stream, world};
+ghost use Rattle.audit_io.specs.State.{Kept, Stream};
+ghost use Rattle.audit_io.specs.Told.{IfTold};
+ghost use Rattle.audit_statement.specs.World.{world};
 ghost use Rattle.audit_words.specs.Spoken.{spoken};
 
 use audit_input::prepare::word_end;
@@ -47,7 +49,7 @@ fn read_end(end: ReadEnd) -> Ended
 fn judge_plans(alloc: Global, setting: Setting, bytes: &[u8]) -> Result<Vec<Named>, Ended>
     requires few { length bytes.now ≤ most_bytes }
     requires within { IsSetting setting }
-    ensures { (before after : Stream) → IfKnown before.bytes (λ left. left ≡ bytes.now) → after.faults ≡ before.faults
+    ensures { (before after : Stream) → IfTold before.bytes (λ left. left ≡ bytes.now) → after.faults ≡ before.faults
         → MatchResult result (λ plans. IsAtEnd after.bytes → AreReadyFor setting before after plans.items) (λ why. PlansRefused setting before after why) }
 {
     match read_jobs(alloc, &setting, bytes) {
@@ -63,8 +65,8 @@ fn prepare_jobs<S: Source>(
     source: &mut S,
 ) -> Result<Vec<Named>, Ended>
     requires { IsSetting setting }
-    ensures { MatchResult result (λ plans. AreReadyFor setting (stream S.left S.faults source.old) (stream S.left S.faults source.new) plans.items)
-        (λ why. PlansRefused setting (stream S.left S.faults source.old) (stream S.left S.faults source.new) why) }
+    ensures { MatchResult result (λ plans. AreReadyFor setting (S.state source.old) (S.state source.new) plans.items)
+        (λ why. PlansRefused setting (S.state source.old) (S.state source.new) why) }
 {
     match read_source(alloc, source) {
         Ok(bytes) => judge_plans(alloc, setting, bytes.as_slice()),
@@ -78,8 +80,8 @@ pub fn prepare_plans<S: Source>(
     words: &[String],
     source: &mut S,
 ) -> Result<Vec<Named>, Ended>
-    ensures { MatchResult result (λ plans. ArePlansReady (spoken words.now) (stream S.left S.faults source.old) (stream S.left S.faults source.new) plans.items)
-        (λ why. (out : Stream) (keeper : Kept) → PlansRunTo (spoken words.now) (world (stream S.left S.faults source.old) out keeper) (world (stream S.left S.faults source.new) out keeper) why) }
+    ensures { MatchResult result (λ plans. ArePlansReady (spoken words.now) (S.state source.old) (S.state source.new) plans.items)
+        (λ why. (out : Stream) (keeper : Kept) → PlansRunTo (spoken words.now) (world (S.state source.old) out keeper) (world (S.state source.new) out keeper) why) }
 {
     match read(alloc, words) {
         Ok(setting) => prepare_jobs(alloc, setting, source),

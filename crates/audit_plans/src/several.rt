@@ -3,7 +3,8 @@
 ghost use Rattle.std.specs.Prelude.{◌≡◌, true};
 ghost use Rattle.audit_plans.specs.Stages.{PlansRunTo};
 ghost use Rattle.audit_statement.specs.Several.{KeepsPlansPromise, names_plans};
-ghost use Rattle.audit_statement.specs.World.{Kept, stream, world};
+ghost use Rattle.audit_io.specs.State.{Kept};
+ghost use Rattle.audit_statement.specs.World.{world};
 ghost use Rattle.audit_words.specs.Spoken.{spoken};
 
 use crate::finish::report_all;
@@ -28,8 +29,8 @@ fn run_plans<R: Threads + Sync, S: Source, K: Sink, G: Gate + Sync>(
 ) -> Ended
     requires { names_plans (spoken words.now) ≡ true }
     ensures { (keeper : Kept) → PlansRunTo (spoken words.now)
-        (world (stream S.left S.faults graph.old) (stream K.taken K.faults out.old) keeper)
-        (world (stream S.left S.faults graph.new) (stream K.taken K.faults out.new) keeper) result }
+        (world (S.state graph.old) (K.state out.old) keeper)
+        (world (S.state graph.new) (K.state out.new) keeper) result }
 {
     accepted_jobs_are_runs();
     match prepare_plans(alloc, words, graph) {
@@ -54,9 +55,9 @@ pub fn audit_plans<R: Threads + Sync, S: Source, K: Sink, N: Sink, G: Gate + Syn
 ) -> u8
     requires { names_plans (spoken words.now) ≡ true }
     ensures { (keeper : Kept) → KeepsPlansPromise (spoken words.now)
-        (world (stream S.left S.faults graph.old) (stream K.taken K.faults out.old) keeper)
-        (world (stream S.left S.faults graph.new) (stream K.taken K.faults out.new) keeper)
-        (stream N.taken N.faults note.old) (stream N.taken N.faults note.new) result }
+        (world (S.state graph.old) (K.state out.old) keeper)
+        (world (S.state graph.new) (K.state out.new) keeper)
+        (N.state note.old) (N.state note.new) result }
 {
     let why = run_plans(rt, alloc, words, graph, out, gate);
     tell(&why, note)

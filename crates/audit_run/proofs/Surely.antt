@@ -4,7 +4,7 @@ use Rattle.audit_io.specs.Faults.{Rose}
 use Rattle.audit_io.specs.Mem.{SureSlots}
 use Rattle.audit_statement.specs.Sure.{EachEndsSurely, sure_world}
 use Rattle.audit_statement.specs.Whole.{KeepsEachPromise}
-use Rattle.audit_statement.specs.World.{Stream}
+use Rattle.audit_io.specs.State.{Stream}
 
 -- a count of 0 did not rise
 never : Rose 0 0 → ⊥

@@ -3,7 +3,7 @@
 ghost use Rattle.std.specs.Prelude.{◌≡◌};
 ghost use Rattle.audit_statement.specs.Several.{names_plans as are_of_plans};
 ghost use Rattle.audit_statement.specs.Whole.{KeepsEachPromise};
-ghost use Rattle.audit_statement.specs.World.{stream, kept, world};
+ghost use Rattle.audit_statement.specs.World.{world};
 ghost use Rattle.audit_words.specs.Spoken.{spoken};
 
 use audit_io::gate::Gate;
@@ -49,9 +49,9 @@ pub fn audit<
     keeper: C,
     gate: &G,
 ) -> (u8, C)
-    ensures { let before = world (stream S.left S.faults graph.old) (stream K.taken K.faults out.old) (kept C.slots C.tried C.load_faults C.save_faults keeper) in
-        let after = world (stream S.left S.faults graph.new) (stream K.taken K.faults out.new) (kept C.slots C.tried C.load_faults C.save_faults result.1) in
-        KeepsEachPromise (spoken words.now) before after (stream N.taken N.faults note.old) (stream N.taken N.faults note.new) result.0 }
+    ensures { let before = world (S.state graph.old) (K.state out.old) (C.state keeper) in
+        let after = world (S.state graph.new) (K.state out.new) (C.state result.1) in
+        KeepsEachPromise (spoken words.now) before after (N.state note.old) (N.state note.new) result.0 }
 {
     if names_plans(words) {
         let status = audit_plans(rt, alloc, words, graph, out, note, gate);

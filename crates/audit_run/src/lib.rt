@@ -3,3 +3,5 @@
 
 pub mod audit;
 pub mod sure;
+
+pub use sure::audit_surely;

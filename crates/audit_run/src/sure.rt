@@ -2,7 +2,6 @@
 
 ghost use Rattle.audit_statement.specs.Sure.{EachEndsSurely, sure_world};
 ghost use Rattle.audit_statement.specs.Whole.{KeepsEachPromise};
-ghost use Rattle.audit_statement.specs.World.{stream};
 ghost use Rattle.audit_words.specs.Spoken.{spoken};
 
 use crate::audit::audit;
@@ -30,7 +29,7 @@ pub fn audit_surely<R: Threads + Wait + Sync, N: Sink, G: Gate + Sync>(
 ) -> (u8, SureKeeper)
     ensures complete { EachEndsSurely (spoken words.now) (sure_world graph.old keeper) result.0 }
     ensures kept { KeepsEachPromise (spoken words.now) (sure_world graph.old keeper) (sure_world graph.new result.1)
-        (stream N.taken N.faults note.old) (stream N.taken N.faults note.new) result.0 }
+        (N.state note.old) (N.state note.new) result.0 }
 {
     audit(rt, alloc, words, graph, out, note, keeper, gate)
 }

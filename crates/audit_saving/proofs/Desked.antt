@@ -1,5 +1,5 @@
 -- What a run leaves that saved while it walked, in the words of the call's contract.
-use Rattle.std.proofs.Common.{◌≡◌, ◌⊎◌, inl, inr, ℕ, zero, suc, ◌+◌, ◌-◌, ◌*◌, ◌%◌, ◌^◌, ◌<◌, ◌≤◌, ◌==◌, min, cond, List, [], ◌∷◌, ◌++◌, length, map, Option, Some, None, Result, Ok, Err, refl, sym, subst, ap, ◌∙◌, append_assoc, All, AllPairs, Contains, IsPermutation, arith}
+use Rattle.std.proofs.Common.{◌≡◌, ◌⊎◌, inl, inr, ℕ, ◌+◌, ◌-◌, ◌*◌, ◌%◌, ◌^◌, ◌<◌, ◌≤◌, ◌==◌, min, cond, List, [], ◌∷◌, ◌++◌, length, map, Option, Some, None, Result, Ok, Err, refl, sym, subst, ap, ◌∙◌, append_assoc, All, AllPairs, Contains, IsPermutation, arith}
 use Rattle.std.specs.Prelude.{IsFalse, IsTrue, OnOk}
 use Rattle.std.specs.List.{list_all}
 use Rattle.std.proofs.lemmas.List.{append-nil, length-map}
@@ -7,6 +7,7 @@ use Rattle.std.proofs.lemmas.List.Elements.{Contains-append_right, Contains-get_
 use Rattle.std.proofs.lemmas.List.Sorted.{IsPermutation-append_right, IsPermutation-map, IsPermutation-sym, IsPermutation-trans, length_permutation, sum_by-IsPermutation}
 use Rattle.audit_io.specs.declared.source.Failed.{Failed}
 use Rattle.audit_io.specs.Slots.{Pair, Stored, stored}
+use Rattle.audit_io.specs.State.{Kept}
 use Rattle.audit_io.specs.Tries.{Try, tried_all}
 use Rattle.audit_model.specs.declared.outcome.Outcome.{Outcome}
 use Rattle.audit_model.specs.Job.{Job}
@@ -26,23 +27,24 @@ use Rattle.draw_definitions.specs.Draw.{draw}
 use Rattle.outcome_book.specs.Booked.{by_id}
 use Rattle.tally_desk.specs.declared.entry.Entry.{Entry}
 use Rattle.tally_desk.specs.Entries.{id_of, ids_of}
-use Rattle.tally_desk.specs.Homes.{IfToldThen, IsSaveOf, booked, moved}
+use Rattle.audit_io.specs.Told.{IfBothTold, IfTold}
+use Rattle.tally_desk.specs.Homes.{IsSaveOf, booked, moved}
 use Rattle.tally_desk.specs.InTurn.{IsPartSave, saves_of}
 use Rattle.tally_desk.specs.InTurn as desk
 use Rattle.tally_desk.specs.Parts.{IsPlan, Parts, found}
 use Rattle.tally_desk.proofs.Booking.{booked_fit, by_id_fit}
 use Rattle.tally_desk.proofs.Todo.{todo_lacked, todo_within}
-use Rattle.audit_statement.specs.Ends.{HoldsPart, IfBothKnown, IsNewest, IsOpeningOrFound, IsPartly, IsTryOf, KeepsASlot, SavesInTurn, SavesInTurnAt, TriesOf, TriesTold, count_of_saves, full_of, last_place, place_of}
-use Rattle.audit_steps.specs.Runs.{AreAll, IsRun}
+use Rattle.tally_desk.proofs.Slotting.{moved_generation}
+use Rattle.audit_statement.specs.Endings.{HoldsPart, IsNewest, IsOpeningOrFound, IsPartly, IsTryOf, KeepsASlot, SavesInTurn, SavesInTurnAt, TriesOf, TriesTold, count_of_saves, full_of, last_place, place_of}
+use Rattle.audit_steps.specs.Runs.{AreAll, IsRunJob}
 use Rattle.audit_unsaved.specs.Ending.{SavesLast}
-use Rattle.audit_statement.specs.World.{IfKnown}
 use Rattle.claim_crew.proofs.Completing.{AreMapped, by_id-full}
 use Rattle.claim_crew.specs.Walks as walks
 use Rattle.audit_steps.proofs.Running.{are_all, rising_apart}
 use Rattle.audit_saving.proofs.Saved.{newest_below, place_is_beside}
 
 -- what holds of both where the first is told
-known_map : (a b : Option Pair) (R : Pair → Type 0) (P Q : Pair → Pair → Type 0) → IfKnown a R → ((p q : Pair) → R p → P p q → Q p q) → IfToldThen a b P → IfBothKnown a b Q
+known_map : (a b : Option Pair) (R : Pair → Type 0) (P Q : Pair → Pair → Type 0) → IfTold a R → ((p q : Pair) → R p → P p q → Q p q) → IfBothTold a b P → IfBothTold a b Q
 known_map None b R P Q r f h = tt
 known_map (Some p) None R P Q r f h = h
 known_map (Some p) (Some q) R P Q r f h = f p q r h
@@ -157,15 +159,11 @@ module _ (parts : Parts) (plan : IsPlan parts) (todo_is : parts.todo ≡ run_ids
         subst (λ (x : Place × ℕ). SavesInTurnAt job opening p q x.0 x.1) (λ i. (place_is p at i, saves_are i))
         (in_turn_at p q (desk.last_place parts posted) (saves_of (length posted) parts.save_every) s)
 
-  generation_below : (n : ℕ) (at : Place) → at.generation < 3 → (moved n at).generation < 3
-  generation_below zero at below = below
-  generation_below (suc n) at below = omega arith
-
   newest_in : (p q : Pair) → IsAt p → SavesInTurn job opening p q → IsNewest job (full_of job opening) q
   newest_in p q at s =
       let first : (place_of job p).1 < 3 = subst (λ (x : ℕ × ℕ). x.1 < 3) at plan.generation in
       let last = last_place job opening p in
-      (last.slot, s.newest_is, (last.generation, generation_below (count_of_saves job opening - 1) (record { slot = (place_of job p).0; generation = (place_of job p).1 }) first, s.last))
+      (last.slot, s.newest_is, (last.generation, moved_generation (count_of_saves job opening - 1) (record { slot = (place_of job p).0; generation = (place_of job p).1 }) first, s.last))
 
   -- ---- what was tried
 
@@ -179,8 +177,8 @@ module _ (parts : Parts) (plan : IsPlan parts) (todo_is : parts.todo ≡ run_ids
   }
 
   module _ (right : crew.RunTriesAreRight) (tries : List Try) (turn : AreInTurn job (job_digest job) parts.place.slot parts.place.generation tries) (each : All (IsRunTry parts) tries) (pairs : AllPairs IsLater tries)
-      (faults_now : ℕ) (covered : min (parts.save_faults + failed_of tries) (2 ^ 64 - 1) ≤ faults_now) where
-    tries_of : (p : Pair) → IsAt p → (told now : List Try) → now ≡ told ++ tries → TriesOf job opening p parts.save_faults faults_now told now
+      (faults_now : ℕ) (covered : min (parts.keeper.save_faults + failed_of tries) (2 ^ 64 - 1) ≤ faults_now) where
+    tries_of : (p : Pair) → IsAt p → (told now : List Try) → now ≡ told ++ tries → TriesOf job opening p parts.keeper.save_faults faults_now told now
     tries_of p at told now is = record {
       tries = tries;
       appended = is;
@@ -191,7 +189,7 @@ module _ (parts : Parts) (plan : IsPlan parts) (todo_is : parts.todo ≡ run_ids
       right = λ opening_right k d inside. right parts _ plan opening_right (each k d inside);
     }
 
-    tries_by : (p : Pair) → IsAt p → (a b : Option (List Try)) → b ≡ tried_all a tries → IfBothKnown a b (TriesOf job opening p parts.save_faults faults_now)
+    tries_by : (p : Pair) → IsAt p → (a b : Option (List Try)) → b ≡ tried_all a tries → IfBothTold a b (TriesOf job opening p parts.keeper.save_faults faults_now)
     tries_by p at None b is = tt
     tries_by p at (Some told) None is = none_not (sym (tried_some told tries) ∙ sym is)
       where
@@ -202,16 +200,16 @@ module _ (parts : Parts) (plan : IsPlan parts) (todo_is : parts.todo ≡ run_ids
         same_list : ◌≡◌ {A = Option (List Try)} (Some now) (Some (told ++ tries)) → now ≡ told ++ tries
         same_list h = cc
 
-    tries_told : (slots slots_now : Option Pair) (a b : Option (List Try)) (loads loads_now : ℕ) → IfKnown slots IsAt → b ≡ tried_all a tries
-        → TriesTold job opening (record { slots = slots; tried = a; load_faults = loads; save_faults = parts.save_faults })
+    tries_told : (slots slots_now : Option Pair) (a b : Option (List Try)) (loads loads_now : ℕ) → IfTold slots IsAt → b ≡ tried_all a tries
+        → TriesTold job opening (record { slots = slots; tried = a; load_faults = loads; save_faults = parts.keeper.save_faults })
         (record { slots = slots_now; tried = b; load_faults = loads_now; save_faults = faults_now })
     tries_told None slots_now a b loads loads_now at is = tt
     tries_told (Some p) slots_now a b loads loads_now at is = tries_by p at a b is
 
 -- ---- all of it
 
-module _ (parts : Parts) (loads_now saves_now : ℕ) (slots_now : Option Pair) (tried_now : Option (List Try)) (sorted : List Outcome) (result : Result (Unit {0}) Failed)
-    (h : HasRun parts loads_now saves_now slots_now tried_now sorted result) (todo_is : parts.todo ≡ run_ids parts.job parts.opening parts.job.setting.budget) where
+module _ (parts : Parts) (keeper_now : Kept) (sorted : List Outcome) (result : Result (Unit {0}) Failed)
+    (h : HasRun parts keeper_now sorted result) (todo_is : parts.todo ≡ run_ids parts.job parts.opening parts.job.setting.budget) where
   abbrev the_job : Job
   the_job = parts.job
 
@@ -220,7 +218,7 @@ module _ (parts : Parts) (loads_now saves_now : ℕ) (slots_now : Option Pair) (
       IsPermutation-append_right parts.opening (map (found parts.job) (ids_of h.posted)) (map (found parts.job) parts.todo)
       (IsPermutation-map (found parts.job) (ids_of h.posted) parts.todo h.all)
 
-  pub all_outcomes : AreMapped → IsRun parts.job → AreFit parts.job parts.opening → All (λ id. id < total parts.job) parts.todo → All (λ id. IsFalse (has_id parts.opening id)) parts.todo
+  pub all_outcomes : AreMapped → IsRunJob parts.job → AreFit parts.job parts.opening → All (λ id. id < total parts.job) parts.todo → All (λ id. IsFalse (has_id parts.opening id)) parts.todo
       → AreAll parts.job parts.opening sorted
   unfolding walks.found found
   all_outcomes mapped run fit within absent =
@@ -231,26 +229,25 @@ module _ (parts : Parts) (loads_now saves_now : ℕ) (slots_now : Option Pair) (
       (IsPermutation-trans sorted (booked parts h.posted) _ (IsPermutation-sym (booked parts h.posted) sorted h.sorted_all) moved_all) h.rising
 
   pub saves_last : CheckpointsAreOurs → crew.SavesHoldParts → crew.RunTriesAreRight → parts.save_every ≡ parts.job.setting.save_every
-      → IfKnown parts.slots (λ p. (parts.place.slot, parts.place.generation) ≡ place_of parts.job p) → sorted ≡ full_of parts.job parts.opening
-      → SavesLast parts.job parts.opening (record { slots = parts.slots; tried = parts.tried; load_faults = parts.load_faults; save_faults = parts.save_faults })
-      (record { slots = slots_now; tried = tried_now; load_faults = loads_now; save_faults = saves_now }) result
+      → IfTold parts.keeper.slots (λ p. (parts.place.slot, parts.place.generation) ≡ place_of parts.job p) → sorted ≡ full_of parts.job parts.opening
+      → SavesLast parts.job parts.opening parts.keeper keeper_now result
   saves_last ours_law hold right every_is placed whole =
       let turns = on_ok result
-      (known_map parts.slots slots_now (IsAt parts h.plan todo_is every_is ours_law hold) (λ p q. desk.SavesInTurn parts p q h.posted) (SavesInTurn parts.job parts.opening) placed
+      (known_map parts.keeper.slots keeper_now.slots (IsAt parts h.plan todo_is every_is ours_law hold) (λ p q. desk.SavesInTurn parts p q h.posted) (SavesInTurn parts.job parts.opening) placed
       (in_turn parts h.plan todo_is every_is ours_law hold h.posted h.all (sym h.sorted_is ∙ whole))) h.in_turn in
       record {
-        kept = known_map parts.slots slots_now (IsAt parts h.plan todo_is every_is ours_law hold) (KeepsSome parts) (KeepsASlot parts.job parts.opening) placed
+        kept = known_map parts.keeper.slots keeper_now.slots (IsAt parts h.plan todo_is every_is ours_law hold) (KeepsSome parts) (KeepsASlot parts.job parts.opening) placed
             (keeps_a_slot parts h.plan todo_is every_is ours_law hold) h.keeps;
         in_turn = turns;
-        newest_is = on_ok result (newest_known parts.slots slots_now placed) turns;
+        newest_is = on_ok result (newest_known parts.keeper.slots keeper_now.slots placed) turns;
         cause = h.cause;
         loads = h.loads;
-        tried = tries_told parts h.plan todo_is every_is ours_law hold right h.tries h.are_tries.in_turn h.are_tries.each h.are_tries.growing saves_now h.covered
-            parts.slots slots_now parts.tried tried_now parts.load_faults loads_now placed h.tried;
+        tried = tries_told parts h.plan todo_is every_is ours_law hold right h.tries h.are_tries.in_turn h.are_tries.each h.are_tries.growing keeper_now.save_faults h.covered
+            parts.keeper.slots keeper_now.slots parts.keeper.tried keeper_now.tried parts.keeper.load_faults keeper_now.load_faults placed h.tried;
       }
     where
-      newest_known : (a b : Option Pair) → IfKnown a (λ p. (parts.place.slot, parts.place.generation) ≡ place_of parts.job p) → IfBothKnown a b (SavesInTurn parts.job parts.opening)
-          → IfBothKnown a b (λ p q. IsNewest parts.job (full_of parts.job parts.opening) q)
+      newest_known : (a b : Option Pair) → IfTold a (λ p. (parts.place.slot, parts.place.generation) ≡ place_of parts.job p) → IfBothTold a b (SavesInTurn parts.job parts.opening)
+          → IfBothTold a b (λ p q. IsNewest parts.job (full_of parts.job parts.opening) q)
       newest_known None b at s = tt
       newest_known (Some p) None at s = s
       newest_known (Some p) (Some q) at s = newest_in parts h.plan todo_is every_is ours_law hold p q at s

@@ -1,11 +1,11 @@
 -- Where a run saves.
 use Rattle.std.proofs.Common.{◌≡◌, ℕ, zero, suc, ◌≤◌, Bool, true, false, Option, Some, None, refl, sym, arith}
-use Rattle.audit_io.specs.Slots.{IfTold, Pair}
+use Rattle.audit_io.specs.Told.{IfTold}
+use Rattle.audit_io.specs.Slots.{Pair}
 use Rattle.audit_model.specs.Job.{Job}
 use Rattle.audit_opening.specs.declared.opening.Target.{Target}
-use Rattle.audit_statement.specs.Ends.{place_of, saves}
+use Rattle.audit_statement.specs.Endings.{place_of, saves}
 use Rattle.audit_opening.specs.Opening.{IsPlaced}
-use Rattle.audit_statement.specs.World.{IfKnown}
 use Rattle.audit_steps.proofs.Starting.{saves_not}
 
 -- a run that saves has a number after which it does
@@ -25,5 +25,5 @@ pub place_told_for : (job : Job) (slots : Option Pair) (t : Target) → IsPlaced
 place_told_for job None t placed = tt
 place_told_for job (Some p) t placed = sym placed.told
 
-pub placed_known : (job : Job) (slots : Option Pair) (t : Target) → IsPlaced job slots t → IfKnown slots (λ p. (t.place.slot, t.place.generation) ≡ place_of job p)
+pub placed_known : (job : Job) (slots : Option Pair) (t : Target) → IsPlaced job slots t → IfTold slots (λ p. (t.place.slot, t.place.generation) ≡ place_of job p)
 placed_known job slots t placed = placed.told

@@ -1,7 +1,7 @@
 -- The newest slot, and the place beside it.
 use Rattle.std.proofs.Common.{◌≡◌, ◌⊎◌, inl, inr, ℕ, ◌+◌, ◌-◌, Bool, true, false, cond, Option, Some, None, sym, ap}
 use Rattle.std.specs.Prelude.{◌==◌, ◌%◌}
-use Rattle.checkpoint_definitions.specs.Slots.{Slot, generation_of, newest, newest_of, place, place_beside}
+use Rattle.checkpoint_definitions.specs.Slots.{Slot, generation_of, newest, newest_of, save_place, place_beside}
 
 -- the newest slot is slot 0 or slot 1
 pub newest_below : (first second : Slot) (n : ℕ) → newest first second ≡ Some n → (n ≡ 0) ⊎ (n ≡ 1)
@@ -21,5 +21,5 @@ newest_below first second n e = by (generation_of first) (generation_of second) 
     by (Some a) (Some b) h = by_flag (b == (a + 1) % 3) h
 
 -- the place is beside the newest slot
-pub place_is_beside : (first second : Slot) (n : ℕ) → newest first second ≡ Some n → (place first second).0 ≡ 1 - n
+pub place_is_beside : (first second : Slot) (n : ℕ) → newest first second ≡ Some n → (save_place first second).0 ≡ 1 - n
 place_is_beside first second n e = ap (λ o. (place_beside first second o).0) e

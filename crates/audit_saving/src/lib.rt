@@ -2,3 +2,5 @@
 #![tactic(auto)]
 
 pub mod saving;
+
+pub use saving::finish_saved;

@@ -4,14 +4,13 @@ ghost use Rattle.std.specs.Prelude.{◌≡◌, ◌+◌, ◌<◌, IfOk, true, vec
 ghost use Rattle.walker.specs.Judges.{AreJudges};
 ghost use Rattle.audit_model.specs.Run.{total};
 ghost use Rattle.ckpt_store.specs.Fitting.{AreFit};
-ghost use Rattle.audit_statement.specs.Ends.{IsOpening, saves};
-ghost use Rattle.audit_steps.specs.Runs.{IsRun};
+ghost use Rattle.audit_statement.specs.Endings.{IsOpening, saves};
+ghost use Rattle.audit_steps.specs.Runs.{IsRunJob};
 ghost use Rattle.audit_walks.specs.Ready.{IsReadyFor};
 ghost use Rattle.audit_opening.specs.Opening.{IsPlaced};
 ghost use Rattle.audit_saving.specs.Saving.{IsSavingFor};
 ghost use Rattle.audit_walks.specs.Serially.{IsTester};
 ghost use Rattle.audit_steps.specs.Calls.{Finishes};
-ghost use Rattle.audit_statement.specs.World.{stream, kept};
 
 use audit_io::gate::Gate;
 use audit_io::keeper::Keeper;
@@ -44,7 +43,7 @@ struct Saving<J> {
 
 // Takes it.
 fn make_saving<J: Judge>(alloc: Global, job: &Job, judges: Vec<J>) -> Result<Saving<J>, Memory>
-    requires run { IsRun job.now }
+    requires run { IsRunJob job.now }
     requires judges { AreJudges job.now J.keeps J.takes J.rules judges.items }
     requires workers { vec_len judges ≡ job.now.setting.workers }
     ensures { IfOk result (IsSavingFor J.keeps J.stands J.takes J.rules job.now) }
@@ -75,17 +74,17 @@ fn save_and_end<
     keeper: C,
     gate: &G,
 ) -> (Ended, C)
-    requires run { IsRun job.now }
+    requires run { IsRunJob job.now }
     requires plain { job.now.setting.stop ≡ 0 }
     requires saved { saves job.now.setting ≡ true }
-    requires placed { IsPlaced job.now (C.slots keeper) target }
-    requires opened { IsOpening job.now (C.slots keeper) opening.now.outcomes.items }
+    requires placed { IsPlaced job.now (C.state keeper).slots target }
+    requires opened { IsOpening job.now (C.state keeper).slots opening.now.outcomes.items }
     requires fit { AreFit job.now opening.now.outcomes.items }
     requires ready { IsReadyFor job.now opening.now.outcomes.items ready }
     requires saving { IsSavingFor J.keeps J.stands J.takes J.rules job.now saving }
     requires tester { IsTester J.keeps J.stands J.takes J.rules job.now tester }
-    ensures { Finishes job.now (stream K.taken K.faults out.old) (stream K.taken K.faults out.new)
-        (kept C.slots C.tried C.load_faults C.save_faults keeper) (kept C.slots C.tried C.load_faults C.save_faults result.1) result.0 }
+    ensures { Finishes job.now (K.state out.old) (K.state out.new)
+        (C.state keeper) (C.state result.1) result.0 }
 {
     // Laws, called for what their contracts say: what was tried to be saved is right and is the job's, and the outcomes by id are all.
     run_tries_are_right();
@@ -147,17 +146,17 @@ pub fn finish_saved<
     keeper: C,
     gate: &G,
 ) -> (Ended, C)
-    requires run { IsRun job.now }
+    requires run { IsRunJob job.now }
     requires plain { job.now.setting.stop ≡ 0 }
     requires judges { AreJudges job.now J.keeps J.takes J.rules judges.items }
     requires workers { vec_len judges ≡ job.now.setting.workers }
     requires saved { saves job.now.setting ≡ true }
-    requires placed { IsPlaced job.now (C.slots keeper) target }
-    requires opened { IsOpening job.now (C.slots keeper) opening.now.outcomes.items }
+    requires placed { IsPlaced job.now (C.state keeper).slots target }
+    requires opened { IsOpening job.now (C.state keeper).slots opening.now.outcomes.items }
     requires fit { AreFit job.now opening.now.outcomes.items }
     requires tester { IsTester J.keeps J.stands J.takes J.rules job.now tester }
-    ensures { Finishes job.now (stream K.taken K.faults out.old) (stream K.taken K.faults out.new)
-        (kept C.slots C.tried C.load_faults C.save_faults keeper) (kept C.slots C.tried C.load_faults C.save_faults result.1) result.0 }
+    ensures { Finishes job.now (K.state out.old) (K.state out.new)
+        (C.state keeper) (C.state result.1) result.0 }
 {
     let ready = match make_ready(alloc, job, opening.outcomes.as_slice()) {
         Ok(ready) => ready,

@@ -5,9 +5,10 @@ use Rattle.note_definitions.specs.Note.{Ending}
 use Rattle.audit_notes.specs.declared.ended.Ended.{Ended}
 use Rattle.audit_notes.specs.Ended.{ending_of, columns_kept}
 use Rattle.audit_statement.specs.Status.{status_of, line_of}
-use Rattle.audit_statement.specs.Ends.{EndsFor, TellsWhy, AddsLine}
+use Rattle.audit_statement.specs.Endings.{EndsFor, TellsWhy, AddsLine}
 use Rattle.audit_steps.specs.Calls.{RunsTo}
-use Rattle.audit_statement.specs.World.{Stream, World}
+use Rattle.audit_io.specs.State.{Stream}
+use Rattle.audit_statement.specs.World.{World}
 
 -- a line told with the columns that the body kept is the line of the words' columns
 tells_same : (a b : Columns) (n m : Stream) (reason : Option Ending) → line_of a reason ≡ line_of b reason → TellsWhy b n m reason → TellsWhy a n m reason

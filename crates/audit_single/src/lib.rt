@@ -2,3 +2,5 @@
 #![tactic(auto)]
 
 pub mod single;
+
+pub use single::audit_single;

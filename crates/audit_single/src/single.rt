@@ -2,11 +2,12 @@
 
 ghost use Rattle.std.specs.Prelude.{◌≡◌, IsTrue};
 ghost use Rattle.audit_model.specs.declared.setting.Command.TheVariants.{Check};
-ghost use Rattle.audit_statement.specs.Ends.{is_walking};
+ghost use Rattle.audit_statement.specs.Endings.{is_walking};
 ghost use Rattle.audit_statement.specs.Promise.{KeepsItsPromise};
 ghost use Rattle.audit_steps.specs.Calls.{Finishes};
-ghost use Rattle.audit_steps.specs.Runs.{IsRun};
-ghost use Rattle.audit_statement.specs.World.{Kept, stream, kept, world};
+ghost use Rattle.audit_steps.specs.Runs.{IsRunJob};
+ghost use Rattle.audit_io.specs.State.{Kept};
+ghost use Rattle.audit_statement.specs.World.{world};
 ghost use Rattle.audit_words.specs.Spoken.{spoken};
 
 use audit_finish::run::finish_run;
@@ -31,7 +32,7 @@ use std::thread::Threads;
 // Writes the text of a check.
 fn finish_check<K: Sink>(alloc: Global, job: &Job, out: &mut K) -> Ended
     requires { job.now.setting.command ≡ Check }
-    ensures { (keeper : Kept) → Finishes job.now (stream K.taken K.faults out.old) (stream K.taken K.faults out.new) keeper keeper result }
+    ensures { (keeper : Kept) → Finishes job.now (K.state out.old) (K.state out.new) keeper keeper result }
 {
     let mut text = Bytes::new(alloc);
     match check_text(alloc, job, &mut text) {
@@ -52,9 +53,9 @@ fn finish<R: Threads + Wait + Sync, K: Sink, C: Keeper + Send, G: Gate + Sync>(
     keeper: C,
     gate: &G,
 ) -> (Ended, C)
-    requires run { IsTrue (is_walking job.now.setting.command) → IsRun job.now }
-    ensures { Finishes job.now (stream K.taken K.faults out.old) (stream K.taken K.faults out.new)
-        (kept C.slots C.tried C.load_faults C.save_faults keeper) (kept C.slots C.tried C.load_faults C.save_faults result.1) result.0 }
+    requires run { IsTrue (is_walking job.now.setting.command) → IsRunJob job.now }
+    ensures { Finishes job.now (K.state out.old) (K.state out.new)
+        (C.state keeper) (C.state result.1) result.0 }
 {
     match job.setting().command {
         Command::Check => (finish_check(alloc, job, out), keeper),
@@ -86,9 +87,9 @@ pub fn audit_single<
     keeper: C,
     gate: &G,
 ) -> (u8, C)
-    ensures { let before = world (stream S.left S.faults graph.old) (stream K.taken K.faults out.old) (kept C.slots C.tried C.load_faults C.save_faults keeper) in
-        let after = world (stream S.left S.faults graph.new) (stream K.taken K.faults out.new) (kept C.slots C.tried C.load_faults C.save_faults result.1) in
-        KeepsItsPromise (spoken words.now) before after (stream N.taken N.faults note.old) (stream N.taken N.faults note.new) result.0 }
+    ensures { let before = world (S.state graph.old) (K.state out.old) (C.state keeper) in
+        let after = world (S.state graph.new) (K.state out.new) (C.state result.1) in
+        KeepsItsPromise (spoken words.now) before after (N.state note.old) (N.state note.new) result.0 }
 {
     // Laws, called for what their contracts say: an accepted job is within its limits, and a call that ends for a reason keeps its promise.
     accepted_jobs_are_runs();

@@ -7,23 +7,30 @@ use audit_model::buffers::Bytes;
 use audit_notes::ended::Ended;
 use std::alloc::Global;
 use std::io::{ErrorKind, Read};
-use std::rt::Files;
 use std::{fs, io};
 
-// Why a file was not opened.
-fn refusal(error: &io::Error) -> Ended {
+// What there is where a file was not opened: none where there is no such file.
+fn unopened(error: &io::Error) -> Result<Option<Bytes>, Ended> {
     match error.kind() {
-        ErrorKind::OutOfMemory => Ended::NoMemory,
-        _ => Ended::LoadFault,
+        ErrorKind::NotFound => Ok(None),
+        ErrorKind::OutOfMemory => Err(Ended::NoMemory),
+        _ => Err(Ended::LoadFault),
     }
 }
 
 // The file's bytes, or one more than a checkpoint can have.
-fn bytes_of<T: Read + Drop>(alloc: Global, file: T) -> Result<Bytes, Ended> {
+fn opened<T: Read + Drop>(alloc: Global, file: T) -> Result<Option<Bytes>, Ended> {
     match read_source(alloc, &mut ReadSource::new(file.take(LIMIT + 1))) {
-        Ok(bytes) => Ok(bytes),
+        Ok(bytes) => Ok(Some(bytes)),
         Err(ReadEnd::Memory) => Err(Ended::NoMemory),
         Err(ReadEnd::Failed | ReadEnd::TooMany) => Err(Ended::LoadFault),
+    }
+}
+
+fn load_path(files: &HostRuntime, alloc: Global, path: &str) -> Result<Option<Bytes>, Ended> {
+    match fs::open(files, path) {
+        Ok(file) => opened(alloc, file),
+        Err(error) => unopened(&error),
     }
 }
 
@@ -33,22 +40,14 @@ fn bytes_of<T: Read + Drop>(alloc: Global, file: T) -> Result<Bytes, Ended> {
 ///
 /// - `LoadFault`: the file could not be read.
 /// - `NoMemory`: there was no memory for its name or its bytes.
-pub fn load<R: Files>(
-    files: &R,
+pub fn load(
+    files: &HostRuntime,
     alloc: Global,
     folder: &str,
     slot: u8,
 ) -> Result<Option<Bytes>, Ended> {
-    let Ok(path) = format!(in alloc; "{folder}/audit-{slot}.ckpt") else {
-        return Err(Ended::NoMemory);
-    };
-    match fs::open(files, path.as_str()) {
-        Ok(file) => Ok(Some(bytes_of(alloc, file)?)),
-        Err(error) => {
-            if error.kind() == ErrorKind::NotFound {
-                return Ok(None);
-            }
-            Err(refusal(&error))
-        }
+    match format!(in alloc; "{folder}/audit-{slot}.ckpt") {
+        Ok(path) => load_path(files, alloc, path.as_str()),
+        Err(_) => Err(Ended::NoMemory),
     }
 }

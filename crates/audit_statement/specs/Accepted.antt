@@ -16,7 +16,7 @@ use Rattle.note_definitions.specs.Note.{Ending, too_many_bytes, bad_graph, bad_r
 use Rattle.graph_definitions.specs.Reading.{reading}
 use Rattle.graph_definitions.specs.Regions.{region_reading}
 use Rattle.word_definitions.specs.Words.{setting_of}
-use Rattle.audit_statement.specs.World.{IfKnown}
+use Rattle.audit_io.specs.Told.{IfTold}
 
 -- the most bytes of a graph
 abbrev pub most_bytes : ℕ
@@ -63,7 +63,7 @@ judged setting bytes = from_bytes setting bytes (nat_lt most_bytes (length bytes
 pub record IsAccepted (words : List (List ℕ)) (left : Option (List ℕ)) (job : Job) : Type 0 where
   pub words_are : setting_of words ≡ Ok job.setting
   pub bytes : List ℕ
-  pub given : IfKnown (input_of job.setting left) (λ input. input ≡ bytes)
+  pub given : IfTold (input_of job.setting left) (λ input. input ≡ bytes)
   pub judged_so : judged job.setting bytes ≡ Ok job
 
 -- the words are accepted, and the graph or its plan is refused for this reason
@@ -71,7 +71,7 @@ pub record IsRefused (words : List (List ℕ)) (left : Option (List ℕ)) (endin
   pub setting : Setting
   pub words_are : setting_of words ≡ Ok setting
   pub bytes : List ℕ
-  pub given : IfKnown (input_of setting left) (λ input. input ≡ bytes)
+  pub given : IfTold (input_of setting left) (λ input. input ≡ bytes)
   pub judged_so : judged setting bytes ≡ Err ending
 
 -- empty texts in place of columns

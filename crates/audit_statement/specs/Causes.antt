@@ -6,7 +6,7 @@ use Rattle.audit_model.specs.Job.{Job}
 use Rattle.word_definitions.specs.Words.{setting_of}
 use Rattle.audit_io.specs.Faults.{Rose}
 use Rattle.audit_statement.specs.Accepted.{judged, input_of}
-use Rattle.audit_statement.specs.Ends.{is_walking, told_opening, leaves_work, IsDone, IsReadFault, IsWriteFault, IsLoadFault, IsSaveFault, IsSlotsFault, IsStopped}
+use Rattle.audit_statement.specs.Endings.{is_walking, TellsOpening, leaves_work, IsDone, IsReadFault, IsWriteFault, IsLoadFault, IsSaveFault, IsSlotsFault, IsStopped}
 use Rattle.audit_statement.specs.World.{World}
 
 -- the words are accepted, and the bytes are told and are this job's
@@ -17,7 +17,7 @@ pub record IsTold (words : List (List ℕ)) (before : World) (setting : Setting)
 -- a walking command finds an opening, and the budget is enough for what it lacks
 abbrev pub HasBudget : Bool → Job → World → Type 0
 HasBudget false job before = ⊤
-HasBudget true job before = (o : List Outcome) × (told_opening job before.keeper.slots ≡ Some (Some o)) × IsFalse (leaves_work job o)
+HasBudget true job before = (o : List Outcome) × TellsOpening job before.keeper.slots (Some o) × IsFalse (leaves_work job o)
 
 -- nothing stands in the way: all is accepted, nothing is left for another run, and no call failed
 pub record MayEndWell (words : List (List ℕ)) (before after : World) : Type 0 where
@@ -47,7 +47,7 @@ pub record LeavesWork (words : List (List ℕ)) (before : World) : Type 0 where
   pub the_job : IsTheJob words before job
   pub walking : IsTrue (is_walking job.setting.command)
   pub outcomes : List Outcome
-  pub opened : told_opening job before.keeper.slots ≡ Some (Some outcomes)
+  pub opened : TellsOpening job before.keeper.slots (Some outcomes)
   pub left : IsTrue (leaves_work job outcomes)
 
 -- a walking command is to resume, and the slots do not say how
@@ -55,7 +55,7 @@ pub record LacksOpening (words : List (List ℕ)) (before : World) : Type 0 wher
   pub job : Job
   pub the_job : IsTheJob words before job
   pub walking : IsTrue (is_walking job.setting.command)
-  pub undefined : told_opening job before.keeper.slots ≡ Some None
+  pub undefined : TellsOpening job before.keeper.slots None
 
 -- each refusal comes where it is to, unless there was no memory; and no failed call is passed over
 pub record HasCauses (words : List (List ℕ)) (before after : World) (status : ℕ) : Type 0 where

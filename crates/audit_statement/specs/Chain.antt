@@ -12,9 +12,10 @@ use Rattle.ckpt_store.specs.Laws.{AreHonest}
 use Rattle.desk_crew.specs.Ran.{IsLater, failed_of}
 use Rattle.draw_definitions.specs.Draw.{draw}
 use Rattle.audit_statement.specs.Causes.{IsTheJob}
-use Rattle.audit_statement.specs.Ends.{IfBothKnown, IsTryOf, NoSaveFailed, place_of, told_opening}
+use Rattle.audit_io.specs.Told.{IfBothTold, IfTold}
+use Rattle.audit_statement.specs.Endings.{IsTryOf, NoSaveFailed, place_of, TellsOpening}
 use Rattle.audit_statement.specs.Headline.{StartsWith, WritesOneThreads}
-use Rattle.audit_statement.specs.World.{IfKnown, World}
+use Rattle.audit_statement.specs.World.{World}
 
 -- all that both slots hold of the job was found by its trajectories
 abbrev pub AreHonestOf : Job → Pair → Type 0
@@ -22,7 +23,7 @@ AreHonestOf job p = AreHonest job (draw job.setting.key) (job_digest job) p
 
 -- a run that resumes finds such slots; of the slots of a run that does not, nothing is asked
 abbrev pub ResumesHonestly : Job → World → Type 0
-ResumesHonestly job before = IsTrue job.setting.resume → IfKnown before.keeper.slots (AreHonestOf job)
+ResumesHonestly job before = IsTrue job.setting.resume → IfTold before.keeper.slots (AreHonestOf job)
 
 -- the saves of a run of the job over these slots, and whether each succeeded: they are all that its keeper was asked for; each went to the place of
 -- these slots, which moved on after each that succeeded, with a checkpoint of the opening and of what the trajectories of ids find that the opening
@@ -32,7 +33,7 @@ pub record TriesOver (job : Job) (before after : World) (p : Pair) (told now : L
   pub tries : List Try
   pub appended : now ≡ told ++ tries
   pub in_turn : AreInTurn job (job_digest job) (place_of job p).0 (place_of job p).1 tries
-  pub each : (outcomes : List Outcome) → told_opening job before.keeper.slots ≡ Some (Some outcomes) → All (IsTryOf job outcomes) tries
+  pub each : (outcomes : List Outcome) → TellsOpening job before.keeper.slots (Some outcomes) → All (IsTryOf job outcomes) tries
   pub growing : AllPairs IsLater tries
   pub covered : min (before.keeper.save_faults + failed_of tries) (2 ^ 64 - 1) ≤ after.keeper.save_faults
   pub right : ResumesHonestly job before → All (λ t. IsRightSave job (draw job.setting.key) (job_digest job) t.bytes) tries
@@ -40,7 +41,7 @@ pub record TriesOver (job : Job) (before after : World) (p : Pair) (told now : L
 -- where the keeper tells, what it was asked to save
 abbrev pub TriedRightly : List (List ℕ) → World → World → Type 0
 TriedRightly words before after = (job : Job) (p : Pair) → IsTheJob words before job → before.keeper.slots ≡ Some p
-    → IfBothKnown before.keeper.tried after.keeper.tried (TriesOver job before after p)
+    → IfBothTold before.keeper.tried after.keeper.tried (TriesOver job before after p)
 
 -- from honest slots a run starts with what its trajectories found, writes the report of one thread, and where no save failed leaves honest slots:
 -- so does the next run

@@ -8,7 +8,7 @@ use Rattle.audit_model.specs.Run.{IsRight}
 use Rattle.draw_definitions.specs.Draw.{draw}
 use Rattle.text_definitions.specs.Report.{full_report, thread_report, check_text}
 use Rattle.audit_statement.specs.Causes.{IsTheJob}
-use Rattle.audit_statement.specs.Ends.{is_walking, told_opening, leaves_work, full_of}
+use Rattle.audit_statement.specs.Endings.{is_walking, TellsOpening, leaves_work, full_of}
 use Rattle.audit_statement.specs.World.{World}
 
 -- the report on what one thread finds that walks each trajectory once
@@ -19,7 +19,7 @@ WritesOneThreads job before after = Appends before.out.bytes after.out.bytes (th
 pub record StartsWith (words : List (List ℕ)) (before : World) (job : Job) (outcomes : List Outcome) : Type 0 where
   pub the_job : IsTheJob words before job
   pub walking : IsTrue (is_walking job.setting.command)
-  pub opened : told_opening job before.keeper.slots ≡ Some (Some outcomes)
+  pub opened : TellsOpening job before.keeper.slots (Some outcomes)
 
 -- a check writes its text; a run writes the report on the opening and on what the opening lacks, and where the opening is right,
 -- that is the report that one thread gives; a failed save changes nothing of it

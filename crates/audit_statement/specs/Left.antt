@@ -2,7 +2,7 @@
 use Rattle.std.specs.Prelude.{◌≡◌, ◌≢◌, ℕ, List, IsFalse, Ok, IsErr}
 use Rattle.audit_model.specs.declared.setting.Setting.{Setting}
 use Rattle.word_definitions.specs.Words.{setting_of}
-use Rattle.audit_statement.specs.Ends.{is_reading, saves, loads}
+use Rattle.audit_statement.specs.Endings.{is_reading, saves, loads}
 use Rattle.audit_statement.specs.World.{World}
 
 -- a refusal writes nothing, saves nothing and tries no save, nor does want of memory or a failed read or load; nothing is written where work is left;

@@ -2,7 +2,7 @@ pub mod Accepted
 pub mod Causes
 pub mod Chain
 pub mod Early
-pub mod Ends
+pub mod Endings
 pub mod Headline
 pub mod Left
 pub mod Promise

@@ -6,11 +6,12 @@ use Rattle.std.specs.Prelude.{ℕ, List}
 use Rattle.audit_statement.specs.Causes.{HasCauses, IsComplete}
 use Rattle.audit_statement.specs.Chain.{StaysHonest, TriedRightly}
 use Rattle.audit_statement.specs.Early.{EndsEarly}
-use Rattle.audit_statement.specs.Ends.{EndsFor}
+use Rattle.audit_statement.specs.Endings.{EndsFor}
 use Rattle.audit_statement.specs.Headline.{WritesWhole}
 use Rattle.audit_statement.specs.Left.{LeavesAlone}
 use Rattle.audit_statement.specs.Visits.{VisitsLegal}
-use Rattle.audit_statement.specs.World.{Stream, World}
+use Rattle.audit_io.specs.State.{Stream}
+use Rattle.audit_statement.specs.World.{World}
 
 -- with status 0 the report of one thread was written; tests that stop early stop where one thread's do; every visited plan is legal; from honest slots
 -- a run goes on rightly and leaves honest slots; each save that was tried is right; the call ended for a reason, and the note tells it; which status

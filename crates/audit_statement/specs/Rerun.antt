@@ -18,10 +18,11 @@ use Rattle.draw_definitions.specs.Draw.{draw}
 use Rattle.text_definitions.specs.Report.{report, thread_report}
 use Rattle.audit_statement.specs.Causes.{IsTheJob}
 use Rattle.audit_statement.specs.Chain.{AreHonestOf, TriedRightly, TriesOver}
-use Rattle.audit_statement.specs.Ends.{is_walking, leaves_work}
+use Rattle.audit_statement.specs.Endings.{is_walking, leaves_work}
 use Rattle.audit_statement.specs.Headline.{StartsWith}
 use Rattle.audit_statement.specs.Promise.{KeepsItsPromise}
-use Rattle.audit_statement.specs.World.{Stream, World}
+use Rattle.audit_io.specs.State.{Stream}
+use Rattle.audit_statement.specs.World.{World}
 
 -- the same job, where it asks for bins or does not, and for the serial test or does not
 abbrev pub asking : Job → Bool → Bool → Job

@@ -15,9 +15,11 @@ use Rattle.plan_jobs.specs.Reading.{Jobs, jobs_reading}
 use Rattle.text_definitions.specs.Report.{plans_text}
 use Rattle.word_definitions.specs.Words.{setting_of}
 use Rattle.audit_statement.specs.Accepted.{columns_of, most_bytes}
-use Rattle.audit_statement.specs.Ends.{AppendsPart, SameUnless, TakesTooMany, TellsWhy}
+use Rattle.audit_statement.specs.Endings.{AppendsPart, SameUnless, TakesTooMany, TellsWhy}
 use Rattle.audit_statement.specs.Status.{status_of}
-use Rattle.audit_statement.specs.World.{Stream, World, IfKnown}
+use Rattle.audit_io.specs.State.{Stream}
+use Rattle.audit_io.specs.Told.{IfTold}
+use Rattle.audit_statement.specs.World.{World}
 
 -- whether the words are those of the command on several plans
 abbrev pub names_plans : List (List ℕ) → Bool
@@ -50,7 +52,7 @@ plans_judged setting bytes = from_size setting bytes (nat_lt most_bytes (length 
 -- the words are accepted as this setting; where the source tells its bytes, they are these
 pub record HasPlansInput (words : List (List ℕ)) (left : Option (List ℕ)) (setting : Setting) (bytes : List ℕ) : Type 0 where
   pub words_are : setting_of words ≡ Ok setting
-  pub given : IfKnown left (λ input. input ≡ bytes)
+  pub given : IfTold left (λ input. input ≡ bytes)
 
 -- all was accepted as these jobs, and the source was read to its end
 pub record ArePrepared (words : List (List ℕ)) (before after : Stream) (setting : Setting) (jobs : Jobs) : Type 0 where

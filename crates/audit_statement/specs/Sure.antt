@@ -5,7 +5,7 @@ use Rattle.audit_model.specs.Job.{Job}
 use Rattle.audit_io.specs.Mem.{SureSlots}
 use Rattle.audit_statement.specs.Accepted.{judged}
 use Rattle.audit_statement.specs.Causes.{HasBudget, IsTold}
-use Rattle.audit_statement.specs.Ends.{is_walking}
+use Rattle.audit_statement.specs.Endings.{is_walking}
 use Rattle.audit_statement.specs.Several.{AreTheJobs, names_plans}
 use Rattle.plan_jobs.specs.Reading.{Jobs}
 use Rattle.audit_statement.specs.World.{World}

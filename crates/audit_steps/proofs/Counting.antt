@@ -8,7 +8,7 @@ use Rattle.audit_model.specs.Below.{filter_below}
 use Rattle.audit_model.specs.Job.{Job}
 use Rattle.audit_model.specs.Run.{total, has_id, run_ids}
 use Rattle.outcome_book.specs.Booked.{AreApart}
-use Rattle.audit_statement.specs.Ends.{lacking}
+use Rattle.audit_statement.specs.Endings.{lacking}
 
 -- ---- how many numbers below a bound pass a test
 

@@ -7,9 +7,10 @@ use Rattle.audit_model.specs.declared.setting.Setting.{Setting}
 use Rattle.audit_model.specs.Job.{Job}
 use Rattle.word_definitions.specs.Words.{setting_of}
 use Rattle.audit_notes.specs.declared.ended.Ended.TheVariants as ended
-use Rattle.audit_statement.specs.Ends.{IsPrepared, IsReadBy, LeavesUntouched, Marks, SameUnless, is_reading, loads, passes, saves}
+use Rattle.audit_statement.specs.Endings.{IsPrepared, IsReadBy, LeavesUntouched, EndingMarks, SameUnless, is_reading, loads, passes, saves}
 use Rattle.audit_steps.specs.Calls.{Finishes}
-use Rattle.audit_statement.specs.World.{Kept, Stream, world}
+use Rattle.audit_io.specs.State.{Kept, Stream}
+use Rattle.audit_statement.specs.World.{world}
 
 -- ---- what the reading left
 
@@ -40,7 +41,7 @@ module _ (words : List (List ℕ)) (before after : Stream) (job : Job) (p : IsPr
   saved_left x y same = subst (λ (r : Result Setting WordFault). SameUnless (passes saves r) x y) (sym p.accepted.words_are) same
 
   -- nothing of the rest was touched but the marked
-  pub left : (out out' : Stream) (k l : Kept) (marks : Marks) → SameUnless marks.wrote out.bytes out'.bytes
+  pub left : (out out' : Stream) (k l : Kept) (marks : EndingMarks) → SameUnless marks.wrote out.bytes out'.bytes
       → SameUnless (marks.saved && passes saves (setting_of words)) k.slots l.slots
       → SameUnless (marks.saved && passes saves (setting_of words)) k.tried l.tried → marks.read_failed ≡ false → SameUnless marks.write_failed out.faults out'.faults
       → SameUnless marks.load_failed k.load_faults l.load_faults → SameUnless (marks.save_failed && passes saves (setting_of words)) k.save_faults l.save_faults

@@ -1,34 +1,13 @@
 -- The numbers below a bound that pass a test, and the first of them.
-use Rattle.std.proofs.Common.{◌≡◌, refl, sym, subst, ℕ, zero, suc, ◌<◌, Bool, true, false, cond, not, List, [], ◌∷◌, ◌++◌, length, take, get_or, All, AllPairs, arith}
+use Rattle.std.proofs.Common.{◌≡◌, sym, subst, ℕ, ◌<◌, Bool, true, not, List, length, take, get_or, All, AllPairs, arith}
 use Rattle.std.proofs.lemmas.Bool.{not-true}
-use Rattle.std.proofs.lemmas.List.{append-nil, get_or-take, length-take}
-use Rattle.std.proofs.lemmas.List.Elements.{All-append}
-use Rattle.std.proofs.lemmas.List.Quantifiers.{all_pairs_push}
+use Rattle.std.proofs.lemmas.List.{get_or-take, length-take}
 use Rattle.audit_model.specs.declared.outcome.Outcome.{Outcome}
 use Rattle.audit_model.specs.Below.{filter_below}
 use Rattle.audit_model.specs.Job.{Job}
 use Rattle.audit_model.specs.Run.{total, has_id, run_ids}
+use Rattle.model_laws.proofs.Filtered.{each_passes, each_rises}
 use Rattle.claim_crew.specs.Walks.{IsTodo}
-
--- each is below the bound and passes the test
-pub each_passes : (n : ℕ) (test : ℕ → Bool) → All (λ id. (id < n) × (test id ≡ true)) (filter_below n test)
-each_passes zero test = λ k d inside. absurd (omega arith)
-each_passes (suc n) test = All-append (λ id. (id < suc n) × (test id ≡ true)) (filter_below n test) (cond (test n) (n ∷ []) [])
-    (λ k d inside. let was = each_passes n test k d inside in let lower = was.0 in (omega arith, was.1))
-    (last (test n) refl)
-  where
-    last : (b : Bool) → test n ≡ b → All (λ id. (id < suc n) × (test id ≡ true)) (cond b (n ∷ []) [])
-    last true e zero d inside = (omega arith, e)
-    last true e (suc k) d inside = absurd (omega arith)
-    last false e k d inside = absurd (omega arith)
-
-pub each_rises : (n : ℕ) (test : ℕ → Bool) → AllPairs (λ a b. a < b) (filter_below n test)
-each_rises zero test = λ i j d before inside. absurd (omega arith)
-each_rises (suc n) test = last (test n) (each_rises n test)
-  where
-    last : (b : Bool) → AllPairs (λ x y. x < y) (filter_below n test) → AllPairs (λ x y. x < y) (filter_below n test ++ cond b (n ∷ []) [])
-    last true rising = all_pairs_push (λ x y. x < y) (filter_below n test) n rising (λ k d inside. (each_passes n test k d inside).0)
-    last false rising = subst (AllPairs (λ x y. x < y)) (sym (append-nil (filter_below n test))) rising
 
 module _ {A : Type 0} (n : ℕ) (xs : List A) where
   inside_both : (k : ℕ) → k < length (take n xs) → (k < n) × (k < length xs)

@@ -19,11 +19,13 @@ use Rattle.audit_model.specs.Run.{total, has_id, run_ids, fits, kept_or, outcome
 use Rattle.checkpoint_definitions.specs.Checkpoint.{AreRising}
 use Rattle.ckpt_store.specs.Fitting.{AreFit}
 use Rattle.model_laws.proofs.Fitting as fitting
+use Rattle.model_laws.proofs.Below.{length-filter_below}
+use Rattle.model_laws.proofs.Lists.{find_passes}
 use Rattle.draw_definitions.specs.Draw.{draw}
 use Rattle.outcome_book.specs.Booked.{AreApart}
 use Rattle.report.specs.Outcomes.{AreOutcomesOf, AreStopsBy, AreStopsOf, reported, reported_by}
-use Rattle.audit_statement.specs.Ends.{is_walking, leaves_work, lacking, full_of}
-use Rattle.audit_steps.specs.Runs.{AcceptedJobsAreRuns, AreAll, IsRun}
+use Rattle.audit_statement.specs.Endings.{is_walking, leaves_work, lacking, full_of}
+use Rattle.audit_steps.specs.Runs.{AcceptedJobsAreRuns, AreAll, IsRunJob}
 use Rattle.claim_crew.specs.Walks.{found}
 use Rattle.audit_steps.proofs.Counting.{lacking_rest}
 use Rattle.audit_steps.proofs.Starting.{every_id}
@@ -38,7 +40,7 @@ run_setting_by Make setting walking within = within
 run_setting_by Plans setting walking within = within
 
 -- the setting of a run is within the limits of a run
-pub run_setting : (job : Job) → IsRun job → IsRunSetting job.setting
+pub run_setting : (job : Job) → IsRunJob job → IsRunSetting job.setting
 run_setting job run = run_setting_by job.setting.command job.setting run.walking run.sound.within.setting.command
 
 -- a job of accepted words that is walked is a run
@@ -60,21 +62,12 @@ no_stops job plain = subst (λ (n : ℕ). AreStopsBy n job []) (sym plain) refl
 pub reports_all : (job : Job) → job.setting.stop ≡ 0 → reported job ≡ total job
 reports_all job plain = ap (λ (n : ℕ). reported_by n job) plain
 
-at_most : (b : Bool) (x : ℕ) → length (cond b (x ∷ []) []) ≤ 1
-at_most true x = omega arith
-at_most false x = omega arith
-
-pub length-filter_below : (n : ℕ) (test : ℕ → Bool) → length (filter_below n test) ≤ n
-length-filter_below zero test = omega arith
-length-filter_below (suc n) test =
-    omega (arith, length-append (filter_below n test) (cond (test n) (n ∷ []) []), length-filter_below n test, at_most (test n) n)
-
 -- no more ids are walked than there are
 pub few_ids : (job : Job) (outcomes : List Outcome) (budget : ℕ) → length (run_ids job outcomes budget) ≤ total job
 few_ids job outcomes budget =
     omega (arith, length-take budget (filter_below (total job) (λ id. not (has_id outcomes id))), length-filter_below (total job) (λ id. not (has_id outcomes id)))
 
-pub few_run_todo : (job : Job) → IsRun job → (ids : List ℕ) (outcomes : List Outcome) (budget : ℕ) → ids ≡ run_ids job outcomes budget → length ids ≤ 100000
+pub few_run_todo : (job : Job) → IsRunJob job → (ids : List ℕ) (outcomes : List Outcome) (budget : ℕ) → ids ≡ run_ids job outcomes budget → length ids ≤ 100000
 few_run_todo job run ids outcomes budget same = omega (arith, ap length same, few_ids job outcomes budget, (run_setting job run).few)
 
 few_run_ids : (job : Job) (outcomes : List Outcome) → length (run_ids job outcomes job.setting.budget) ≤ lacking job outcomes
@@ -135,7 +128,7 @@ fit_list job (x ∷ xs) fit = and_from (fits job x) (list_all (fits job) xs) (fi
 -- ---- all outcomes
 
 -- the outcomes of the opening and what was found fit, whatever their order
-pub found_fit : (job : Job) → IsRun job → (opening : List Outcome) (todo : List ℕ) (outcomes : List Outcome) → AreFit job opening → All (λ id. id < total job) todo
+pub found_fit : (job : Job) → IsRunJob job → (opening : List Outcome) (todo : List ℕ) (outcomes : List Outcome) → AreFit job opening → All (λ id. id < total job) todo
     → IsPermutation outcomes (opening ++ map (found job) todo) → All (λ o. IsTrue (fits job o)) outcomes
 unfolding found
 found_fit job run opening todo outcomes fit within moved =
@@ -152,7 +145,7 @@ pairs_rise (x ∷ y ∷ xs) rising =
     (rising 0 1 x (omega arith) (omega arith), pairs_rise (y ∷ xs) (λ i j d before inside. rising (suc i) (suc j) d (omega arith) (omega arith)))
 
 -- what was walked, by rising id, with what the run started with
-pub are_all : (job : Job) → IsRun job → (opening kept : List Outcome) (todo : List ℕ) (sorted : List Outcome) → kept ≡ opening → AreFit job opening
+pub are_all : (job : Job) → IsRunJob job → (opening kept : List Outcome) (todo : List ℕ) (sorted : List Outcome) → kept ≡ opening → AreFit job opening
     → todo ≡ run_ids job opening job.setting.budget → All (λ id. id < total job) todo
     → ((budget : ℕ) → todo ≡ run_ids job kept budget → sorted ≡ full job (draw job.setting.key) kept budget)
     → IsPermutation sorted (kept ++ map (found job) todo) → AllPairs (λ a b. a.id < b.id) sorted → AreAll job opening sorted
@@ -193,17 +186,6 @@ module _ (job : Job) (opening outcomes : List Outcome) (all : AreAll job opening
   -- an outcome for each trajectory: the budget was enough
   pub whole_leaves : total job ≤ length outcomes → leaves_work job opening ≡ false
   whole_leaves whole = le-ltb job.setting.budget (lacking job opening) (omega (arith, whole, all.count, rest_is, walked_is))
-
-pub find_passes : (test : Outcome → Bool) (os : List Outcome) (o : Outcome) → find test os ≡ Some o → test o ≡ true
-find_passes test [] o e = cc
-find_passes test (x ∷ xs) o e = by (test x) refl (find_passes test xs o)
-  where
-    by : (b : Bool) → test x ≡ b → (find test xs ≡ Some o → test o ≡ true) → test o ≡ true
-    by true passes rec =
-        let here : Some x ≡ Some o = ap (λ b. cond b (Some x) (find test xs)) (sym passes) ∙ e in
-        let same : x ≡ o = cc in
-        subst (λ (y : Outcome). test y ≡ true) same passes
-    by false fails rec = rec (ap (λ b. cond b (Some x) (find test xs)) (sym fails) ∙ e)
 
 pub kept_id : (job : Job) (opening : List Outcome) (id : ℕ) → (outcome_from job (draw job.setting.key) opening id).id ≡ id
 kept_id job opening id = by (find (λ o. o.id == id) opening) refl

@@ -1,14 +1,14 @@
 -- With what a run starts, and whether it saves.
-use Rattle.std.proofs.Common.{◌≡◌, ℕ, zero, suc, ◌<◌, ◌&&◌, not, Bool, true, false, List, [], Option, Some, refl, sym, subst, ap, arith, ◌||◌, None}
+use Rattle.std.proofs.Common.{◌≡◌, ℕ, zero, suc, ◌<◌, ◌&&◌, not, Bool, true, false, List, [], Option, Some, refl, sym, subst, ap, ◌∙◌, arith, ◌||◌, None}
 use Rattle.std.specs.Prelude.{◌==◌}
 use Rattle.std.proofs.lemmas.Bool.{ne_eqb, ltb-false}
 use Rattle.audit_io.specs.Slots.{Pair}
 use Rattle.audit_model.specs.declared.outcome.Outcome.{Outcome}
 use Rattle.audit_model.specs.Job.{Job}
 use Rattle.ckpt_store.specs.Fitting.{AreFit}
-use Rattle.audit_statement.specs.Ends.{IsOpening, opening_by, saves, leaves_work, lacking, Saw, opening_from, told_opening}
-use Rattle.audit_steps.specs.Runs.{IsRun}
-use Rattle.audit_statement.specs.World.{IfKnown, Kept}
+use Rattle.audit_statement.specs.Endings.{IsOpening, StartsFrom, TellsOpening, saves, leaves_work, lacking, Saw, opening_from}
+use Rattle.audit_steps.specs.Runs.{IsRunJob}
+use Rattle.audit_io.specs.State.{Kept}
 use Rattle.std.proofs.lemmas.List.{take_all}
 use Rattle.audit_model.specs.Below.{filter_below}
 use Rattle.audit_model.specs.Graph.{has}
@@ -30,7 +30,7 @@ not_zero : (n : ℕ) → (n ≡ 0 → ⊥) → not (n == 0) ≡ true
 not_zero zero some = absurd (some refl)
 not_zero (suc n) some = ap not (ne_eqb (suc n) 0 (λ e. absurd (omega (arith, e))))
 
-pub saves_some : (job : Job) → IsRun job → (job.setting.save_every ≡ 0 → ⊥) → saves job.setting ≡ true
+pub saves_some : (job : Job) → IsRunJob job → (job.setting.save_every ≡ 0 → ⊥) → saves job.setting ≡ true
 saves_some job run some = rw (run.walking, not_zero job.setting.save_every some) refl
 
 -- ---- with what it starts
@@ -43,21 +43,34 @@ saw_any : (slots : Option Pair) (P : Pair → Type 0) → ((p : Pair) → P p) �
 saw_any None P each = record { pair = record { zero_slot = None; one_slot = None }; same = tt; holds = each (record { zero_slot = None; one_slot = None }) }
 saw_any (Some p) P each = record { pair = p; same = refl; holds = each p }
 
--- what is so of the slots that were seen is so of those that are told
-told_of_seen : (resumes : Bool) (job : Job) (slots : Option Pair) (o : Option (List Outcome)) → Saw slots (λ p. opening_from resumes job p ≡ o)
-    → IfKnown (opening_by resumes job slots) (λ x. x ≡ o)
-told_of_seen false job slots o saw = saw.holds
-told_of_seen true job None o saw = tt
-told_of_seen true job (Some p) o saw = subst (λ q. opening_from true job q ≡ o) saw.same saw.holds
+-- with what a run starts by the slots that are told, it starts by those that were seen
+by_seen : (resumes : Bool) (job : Job) (slots : Option Pair) (told seen : Option (List Outcome)) → StartsFrom resumes job slots told
+    → Saw slots (λ p. opening_from resumes job p ≡ seen) → told ≡ seen
+by_seen false job slots told seen e saw = sym e ∙ saw.holds
+by_seen true job None told seen e saw = absurd e
+by_seen true job (Some p) told seen e saw = sym e ∙ subst (λ q. opening_from true job q ≡ seen) saw.same saw.holds
 
 -- the opening is the told one
-pub opening_known : (job : Job) (slots : Option Pair) (outcomes : List Outcome) → IsOpening job slots outcomes → IfKnown (told_opening job slots) (λ o. o ≡ Some outcomes)
-opening_known job slots outcomes o = told_of_seen job.setting.resume job slots (Some outcomes) o.seen
+pub opening_known : (job : Job) (slots : Option Pair) (told : Option (List Outcome)) (outcomes : List Outcome) → TellsOpening job slots told → IsOpening job slots outcomes
+    → told ≡ Some outcomes
+opening_known job slots told outcomes e o = by_seen job.setting.resume job slots told (Some outcomes) e o.seen
 
 -- slots that do not say how a run may start are told as such
-pub undefined_known : (job : Job) (slots : Option Pair) (P : Pair → Type 0) → Saw slots (λ p. (opening_from job.setting.resume job p ≡ None) × P p)
-    → IfKnown (told_opening job slots) (λ o. o ≡ None)
-undefined_known job slots P saw = told_of_seen job.setting.resume job slots None (record { pair = saw.pair; same = saw.same; holds = saw.holds.0 })
+pub undefined_known : (job : Job) (slots : Option Pair) (told : Option (List Outcome)) (P : Pair → Type 0) → TellsOpening job slots told
+    → Saw slots (λ p. (opening_from job.setting.resume job p ≡ None) × P p) → told ≡ None
+undefined_known job slots told P e saw = by_seen job.setting.resume job slots told None e (record { pair = saw.pair; same = saw.same; holds = saw.holds.0 })
+
+-- where the slots are told, so is with what a run starts by those that were seen
+by_told : (resumes : Bool) (job : Job) (slots : Option Pair) (p : Pair) (o : Option (List Outcome)) → slots ≡ Some p
+    → Saw slots (λ p. opening_from resumes job p ≡ o) → StartsFrom resumes job slots o
+by_told false job slots p o was saw = saw.holds
+by_told true job None p o was saw = cc
+by_told true job (Some q) p o was saw = subst (λ r. opening_from true job r ≡ o) saw.same saw.holds
+
+-- where the slots are told, the opening is
+pub opening_told : (job : Job) (slots : Option Pair) (p : Pair) (outcomes : List Outcome) → slots ≡ Some p → IsOpening job slots outcomes
+    → TellsOpening job slots (Some outcomes)
+opening_told job slots p outcomes was o = by_told job.setting.resume job slots p (Some outcomes) was o.seen
 
 -- a run that does not resume starts with nothing
 pub fresh_opening : (job : Job) (slots : Option Pair) → job.setting.resume ≡ false → IsOpening job slots []

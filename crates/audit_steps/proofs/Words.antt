@@ -2,8 +2,7 @@
 use Rattle.std.proofs.Common.{◌≡◌, ℕ, zero, suc, ◌+◌, ◌≤◌, ◌&&◌, ◌||◌, not, Bool, true, false, cond, List, [], ◌∷◌, Option, Some, None, Ok, refl, sym, subst, ap, ◌∙◌, arith}
 use Rattle.std.specs.Prelude.{◌==◌, bytes_eq, codes, ⊤, find, nat_le, slice_get, unwrap_or, option_map}
 use Rattle.std.specs.List.{list_any}
-use Rattle.std.specs.Option.{option_or}
-use Rattle.std.proofs.lemmas.Bool.{and_parts, eqb-true, leb-true, ne_eqb}
+use Rattle.std.proofs.lemmas.Bool.{and_parts, eqb-true, leb-true, ne_eqb, not-false, not-true}
 use Rattle.audit_model.specs.declared.fault.Name.{Name}
 use Rattle.audit_model.specs.declared.fault.Name.TheVariants.{Walks, Steps, Ends, Budget, Save, Resume, Stop, Serial}
 use Rattle.audit_model.specs.declared.fault.WordFault.{WordFault}
@@ -12,9 +11,10 @@ use Rattle.audit_model.specs.declared.setting.Command.{Command}
 use Rattle.audit_model.specs.declared.setting.Command.TheVariants.{Check, Run, Make, Plans}
 use Rattle.audit_model.specs.declared.setting.Setting.{Setting}
 use Rattle.audit_model.specs.Power.{is_power_of_two}
-use Rattle.word_definitions.specs.Words.{Pair, pairs, text_of, number_of, number_at, is_number, as_run, covers_walks, divides_draws, stops_alone, is_good, is_yes, is_yes_or_no, names_of, command_of, of_command, fault_of, setting_for, setting_or, setting_of}
+use Rattle.model_laws.proofs.Options.{option_or_none, option_map_none}
+use Rattle.word_definitions.specs.Words.{NameAndValue, pairs, text_of, number_of, number_at, is_number, as_run, covers_walks, divides_draws, stops_alone, is_good, is_yes, is_yes_or_no, names_of, command_of, of_command, fault_of, setting_for, setting_or, setting_of}
 use Rattle.audit_words.proofs.Unnamed.{good_budget, good_save}
-use Rattle.audit_statement.specs.Ends.{is_walking}
+use Rattle.audit_statement.specs.Endings.{is_walking}
 use Rattle.audit_steps.specs.Runs.{StopsAlone}
 
 -- ---- the command
@@ -30,11 +30,11 @@ IsBuilt Plans = ⊤
 pub record IsSpoken (setting : Setting) : Type 0 where
   pub command : Command
   pub built : IsBuilt command
-  pub words : List Pair
+  pub words : List NameAndValue
   pub faultless : fault_of command words ≡ None
   pub same : setting_for command words ≡ setting
 
-spoken_or : (command : Command) (words : List Pair) (fault : Option WordFault) (setting : Setting) → IsBuilt command
+spoken_or : (command : Command) (words : List NameAndValue) (fault : Option WordFault) (setting : Setting) → IsBuilt command
     → fault_of command words ≡ fault → setting_or command words fault ≡ Ok setting → IsSpoken setting
 spoken_or command words None setting built faultless e = record { command = command; built = built; words = words; faultless = faultless; same = cc }
 spoken_or command words (Some f) setting built faultless e = cc
@@ -54,7 +54,7 @@ spelled_is_built word = by (bytes_eq word (codes "check")) (bytes_eq word (codes
     by false false false true = tt
     by false false false false = tt
 
-spoken_by : (word : List ℕ) (words : List Pair) (command : Option Command) (setting : Setting) → IsBuiltCommand command → of_command word words command ≡ Ok setting → IsSpoken setting
+spoken_by : (word : List ℕ) (words : List NameAndValue) (command : Option Command) (setting : Setting) → IsBuiltCommand command → of_command word words command ≡ Ok setting → IsSpoken setting
 spoken_by word words (Some command) setting built e = spoken_or command words (fault_of command words) setting built refl e
 spoken_by word words None setting built e = cc
 
@@ -64,14 +64,6 @@ accepted_words [] setting e = cc
 accepted_words (word ∷ rest) setting e = spoken_by word (pairs rest) (command_of word) setting (spelled_is_built word) e
 
 -- ---- what the values say
-
-option_or_none : {A : Type 0} (a b : Option A) → option_or a b ≡ None → (a ≡ None) × (b ≡ None)
-option_or_none None b h = (refl, h)
-option_or_none (Some x) b h = cc
-
-option_map_none : {A B : Type 0} (f : A → B) (o : Option A) → option_map f o ≡ None → o ≡ None
-option_map_none f None h = refl
-option_map_none f (Some x) h = cc
 
 -- where nothing is found, no element passes the test
 find_none : {A : Type 0} (test : A → Bool) (xs : List A) (k : ℕ) (x : A) → find test xs ≡ None → slice_get xs k ≡ Some x → test x ≡ false
@@ -90,11 +82,7 @@ find_none test (y ∷ ys) (suc k) x none at = find_none test ys k x (rest (test 
     rest true e = cc
     rest false e = e
 
-true_from_not : (b : Bool) → not b ≡ false → b ≡ true
-true_from_not true e = refl
-true_from_not false e = cc
-
-module _ (command : Command) (words : List Pair) where
+module _ (command : Command) (words : List NameAndValue) where
   -- the value of each name of the command is good
   pub good : (k : ℕ) (name : Name) → fault_of command words ≡ None → slice_get (names_of command) k ≡ Some name → is_good command words name ≡ true
   good k name faultless at =
@@ -102,7 +90,7 @@ module _ (command : Command) (words : List Pair) where
       let second = option_or_none _ _ first.1 in
       let third = option_or_none _ _ second.1 in
       let none = option_map_none BadValue (find (λ name. not (is_good command words name)) (names_of command)) third.0 in
-      true_from_not (is_good command words name) (find_none (λ name. not (is_good command words name)) (names_of command) k name none at)
+      not-false (is_good command words name) (find_none (λ name. not (is_good command words name)) (names_of command) k name none at)
 
   zero_number : (o : Option ℕ) → unwrap_or (option_map (λ n. nat_le 0 n && nat_le n 100000) o) false ≡ true → unwrap_or o 0 ≡ 0
       → unwrap_or (option_map (λ n. nat_le 0 n && nat_le n 0) o) false ≡ true
@@ -120,7 +108,7 @@ module _ (command : Command) (words : List Pair) where
       let covers = (and_parts (is_number 0 100000 (text_of command words Budget)) (covers_walks command words) budget).1 in
       leb-true _ _ (covered (is_number 0 0 (text_of command words Save)) _ covers (zero_number (number_of (text_of command words Save)) save none))
 
-covers_by : (command : Command) (words : List Pair) (setting : Setting) → IsBuilt command → fault_of command words ≡ None → setting_for command words ≡ setting
+covers_by : (command : Command) (words : List NameAndValue) (setting : Setting) → IsBuilt command → fault_of command words ≡ None → setting_for command words ≡ setting
     → is_walking setting.command ≡ true → setting.save_every ≡ 0 → setting.walks + setting.ends ≤ setting.budget
 covers_by Check words setting built faultless same walking none =
     let check : false ≡ is_walking setting.command = ap (λ (s : Setting). is_walking s.command) same in cc
@@ -177,14 +165,14 @@ passes_among is wanted one good (name ∷ names) none some =
     by : (b : Bool) → is name ≡ b → (list_any is names ≡ true → good wanted ≡ true) → good wanted ≡ true
     by true same rest =
         subst (λ (n : Name). good n ≡ true) (one name same)
-        (true_from_not (good name) (first_passes (not (good name)) name (find (λ name. not (good name)) names) none))
+        (not-false (good name) (first_passes (not (good name)) name (find (λ name. not (good name)) names) none))
     by false other rest = rest (subst (λ (b : Bool). (b || list_any is names) ≡ true) other some)
 
 asked_power : (asked power : Bool) → (not asked || power) ≡ true → asked ≡ true → power ≡ true
 asked_power true power h e = h
 asked_power false power h e = cc
 
-module _ (command : Command) (words : List Pair) (faultless : fault_of command words ≡ None) where
+module _ (command : Command) (words : List NameAndValue) (faultless : fault_of command words ≡ None) where
   good_name : (is : Name → Bool) (wanted : Name) → ((name : Name) → is name ≡ true → name ≡ wanted) → list_any is (names_of command) ≡ true → is_good command words wanted ≡ true
   good_name is wanted one has =
       let first = option_or_none _ _ faultless in
@@ -203,7 +191,7 @@ module _ (command : Command) (words : List Pair) (faultless : fault_of command w
       let divides = (and_parts (is_yes_or_no command words Serial) (divides_draws command words) (good_serial has)).1 in
       asked_power (is_yes command words Serial) (is_power_of_two (number_at command words Steps + 1)) divides asked
 
-even_by : (command : Command) (words : List Pair) (setting : Setting) → IsBuilt command → fault_of command words ≡ None → setting_for command words ≡ setting
+even_by : (command : Command) (words : List NameAndValue) (setting : Setting) → IsBuilt command → fault_of command words ≡ None → setting_for command words ≡ setting
     → setting.serial ≡ true → is_power_of_two (setting.steps + 1) ≡ true
 even_by Check words setting built faultless same asked =
     let check : false ≡ setting.serial = ap (λ (s : Setting). s.serial) same in cc
@@ -225,11 +213,7 @@ asked_alone : (n : ℕ) (alone : Bool) → ((n == 0) || alone) ≡ true → 1 �
 asked_alone zero alone h some = absurd (omega (arith, some))
 asked_alone (suc n) alone h some = subst (λ (b : Bool). (b || alone) ≡ true) (ne_eqb (suc n) 0 (λ e. absurd (omega (arith, e)))) h
 
-not_asked : (b : Bool) → not b ≡ true → b ≡ false
-not_asked true e = cc
-not_asked false e = refl
-
-alone_words : (command : Command) (words : List Pair) → is_walking command ≡ true → is_good command words Stop ≡ true → 1 ≤ number_at command words Stop → StopsAlone (as_run command words)
+alone_words : (command : Command) (words : List NameAndValue) → is_walking command ≡ true → is_good command words Stop ≡ true → 1 ≤ number_at command words Stop → StopsAlone (as_run command words)
 alone_words command words walking good some =
     let ends = nat_le 1 (number_at command words Ends) in
     let saves = number_at command words Save == 0 in
@@ -241,10 +225,10 @@ alone_words command words walking good some =
       walking = walking;
       some_ends = leb-true 1 (number_at command words Ends) first.0;
       no_saves = eqb-true (number_at command words Save) 0 first.1;
-      fresh = not_asked (is_yes command words Resume) both.1;
+      fresh = not-true (is_yes command words Resume) both.1;
     }
 
-alone_by : (command : Command) (words : List Pair) (setting : Setting) → IsBuilt command → fault_of command words ≡ None → setting_for command words ≡ setting
+alone_by : (command : Command) (words : List NameAndValue) (setting : Setting) → IsBuilt command → fault_of command words ≡ None → setting_for command words ≡ setting
     → 1 ≤ setting.stop → StopsAlone setting
 alone_by Check words setting built faultless same some =
     let none : 0 ≡ setting.stop = ap (λ (s : Setting). s.stop) same in absurd (omega (arith, none, some))

@@ -5,8 +5,9 @@ use Rattle.audit_notes.specs.declared.ended.Ended.{Ended}
 use Rattle.audit_statement.specs.Accepted.{columns_of}
 use Rattle.audit_notes.specs.Ended.{ending_of, columns_kept}
 use Rattle.audit_statement.specs.Status.{line_of}
-use Rattle.audit_statement.specs.Ends.{Cause, LeavesUntouched, marks_of, IsPrepared}
-use Rattle.audit_statement.specs.World.{Stream, Kept, World, world}
+use Rattle.audit_statement.specs.Endings.{Cause, LeavesUntouched, marks_of, IsPrepared}
+use Rattle.audit_io.specs.State.{Kept, Stream}
+use Rattle.audit_statement.specs.World.{World, world}
 
 -- a call that ended so, but for its note
 pub record RunsTo (words : List (List ℕ)) (before after : World) (why : Ended) : Type 0 where

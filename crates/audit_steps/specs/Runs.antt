@@ -7,7 +7,7 @@ use Rattle.audit_model.specs.JobOf.{IsJob}
 use Rattle.audit_model.specs.Power.{is_power_of_two}
 use Rattle.audit_model.specs.Run.{total, run_ids}
 use Rattle.ckpt_store.specs.Fitting.{AreFit}
-use Rattle.audit_statement.specs.Ends.{full_of, is_walking}
+use Rattle.audit_statement.specs.Endings.{full_of, is_walking}
 use Rattle.word_definitions.specs.Words.{setting_of}
 
 -- it walks, there are ends to test, and nothing is saved or resumed
@@ -19,7 +19,7 @@ pub record StopsAlone (s : Setting) : Type 0 where
 
 -- the job is accepted, its command walks, where it saves nothing its budget is enough for every trajectory, where its tests stop early it runs alone,
 -- and the run of its serial test has as many plans as a power of two
-pub record IsRun (job : Job) : Type 0 where
+pub record IsRunJob (job : Job) : Type 0 where
   pub sound : IsJob job
   pub walking : IsTrue (is_walking job.setting.command)
   pub covered : job.setting.save_every ≡ 0 → total job ≤ job.setting.budget
@@ -36,4 +36,4 @@ pub record AreAll (job : Job) (opening outcomes : List Outcome) : Type 0 where
 
 -- accepted words are such that each job of theirs that is walked is a run
 abbrev pub AcceptedJobsAreRuns : Type 0
-AcceptedJobsAreRuns = (words : List (List ℕ)) (job : Job) → setting_of words ≡ Ok job.setting → IsJob job → is_walking job.setting.command ≡ true → IsRun job
+AcceptedJobsAreRuns = (words : List (List ℕ)) (job : Job) → setting_of words ≡ Ok job.setting → IsJob job → is_walking job.setting.command ≡ true → IsRunJob job

@@ -12,12 +12,13 @@ use Rattle.audit_model.specs.Run.{total}
 use Rattle.draw_definitions.specs.Draw.{draw}
 use Rattle.text_definitions.specs.Report.{full_report}
 use Rattle.audit_notes.specs.declared.ended.Ended.TheVariants as ended
-use Rattle.audit_statement.specs.Ends.{AppendsPart, IsOpening, SameUnless, SavesAll, SavesWhere, NoSaveFailed, StopsEarly, Writes, WritesReport, WritesText, is_walking, saves}
-use Rattle.audit_steps.specs.Runs.{AreAll, IsRun}
+use Rattle.audit_statement.specs.Endings.{AppendsPart, IsOpening, SameUnless, SavesAll, SavesWhere, NoSaveFailed, StopsEarly, Writes, WritesReport, WritesText, is_walking, saves}
+use Rattle.audit_steps.specs.Runs.{AreAll, IsRunJob}
 use Rattle.audit_unsaved.specs.Ending.{SavedBy, SavesLast, ended_as, ended_by, stopped_by}
 use Rattle.audit_steps.specs.Calls.{Finishes}
 use Rattle.audit_notes.specs.Said.{WritesAllOf}
-use Rattle.audit_statement.specs.World.{Kept, Stream, World, world}
+use Rattle.audit_io.specs.State.{Kept, Stream}
+use Rattle.audit_statement.specs.World.{World, world}
 use Rattle.audit_steps.proofs.Running.{leaves_none, short_count, short_leaves, whole_leaves}
 use Rattle.audit_steps.proofs.Starting.{saves_some}
 use Rattle.audit_steps.proofs.Leaving.{left, saved_left}
@@ -31,7 +32,7 @@ walking_text Run whole job before after w r = r
 walking_text Make whole job before after w r = r
 walking_text Plans whole job before after w r = r
 
-module _ (job : Job) (run : IsRun job) (opening outcomes : List Outcome) (all : AreAll job opening outcomes) (out out' : Stream) (k l : Kept) (opened : IsOpening job k.slots opening) where
+module _ (job : Job) (run : IsRunJob job) (opening outcomes : List Outcome) (all : AreAll job opening outcomes) (out out' : Stream) (k l : Kept) (opened : IsOpening job k.slots opening) where
   report_written : (whole : Bool) (before after : Stream) → total job ≤ length outcomes → Writes whole out.bytes out'.bytes (full_report job (draw job.setting.key) outcomes)
       → WritesReport whole job (world before out k) (world after out' l)
   report_written whole before after none w = record {
@@ -168,7 +169,7 @@ module _ (job : Job) (run : IsRun job) (opening outcomes : List Outcome) (all : 
 
 -- ---- runs that leave work
 
-module _ (job : Job) (run : IsRun job) (opening outcomes : List Outcome) (all : AreAll job opening outcomes) (out : Stream) (k l : Kept) (opened : IsOpening job k.slots opening) (short : length outcomes < total job) where
+module _ (job : Job) (run : IsRunJob job) (opening outcomes : List Outcome) (all : AreAll job opening outcomes) (out : Stream) (k l : Kept) (opened : IsOpening job k.slots opening) (short : length outcomes < total job) where
   -- only a run that saves leaves work
   saving : saves job.setting ≡ true
   saving = saves_some job run (λ e. true_false (sym (short_leaves job opening outcomes all short) ∙ leaves_none job opening (run.covered e)))

@@ -9,16 +9,16 @@ use Rattle.audit_model.specs.Stopping.{stops_of}
 use Rattle.audit_model.specs.Trajectory.{outcome, sequence}
 use Rattle.draw_definitions.specs.Draw.{draw}
 use Rattle.text_definitions.specs.Report.{full_report, report}
-use Rattle.audit_steps.specs.Runs.{IsRun}
+use Rattle.audit_steps.specs.Runs.{IsRunJob}
 use Rattle.audit_unsaved.specs.Ending.{SavedBy, ended_as, ended_by}
 use Rattle.audit_notes.specs.Said.{WritesAllOf}
 use Rattle.audit_steps.specs.Calls.{Finishes}
-use Rattle.audit_statement.specs.World.{Kept, Stream}
+use Rattle.audit_io.specs.State.{Kept, Stream}
 use Rattle.audit_unsaved.proofs.Finished.{written_ends}
 use Rattle.audit_steps.proofs.Starting.{fresh_opening, saves_not}
-use Rattle.audit_walks.proofs.Early.{one_finds_all, one_is_whole, walks_tell_all}
+use Rattle.audit_walks.proofs.EarlyStops.{one_finds_all, one_is_whole, walks_tell_all}
 
-module _ (job : Job) (run : IsRun job) (some : 1 ≤ job.setting.stop) where
+module _ (job : Job) (run : IsRunJob job) (some : 1 ≤ job.setting.stop) where
   -- how a run ends that has written the report on the outlier trajectories and on the stops, or a part
   pub early_ends : (out out' : Stream) (k : Kept) (outcomes : List Outcome) (stops : List (List ℕ)) (serial : Option (ℕ × List ℕ)) (text : List ℕ)
       (written : Result (Unit {0}) Failed) → outcomes ≡ map_below job.setting.walks (outcome job (draw job.setting.key))

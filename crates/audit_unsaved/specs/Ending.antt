@@ -9,8 +9,9 @@ use Rattle.audit_notes.specs.declared.ended.Ended.{Ended}
 use Rattle.audit_notes.specs.declared.ended.Ended.TheVariants as ended
 use Rattle.audit_unsaved.specs.declared.ending.Finished.{Finished}
 use Rattle.audit_unsaved.specs.declared.ending.Finished.TheVariants as finished
-use Rattle.audit_statement.specs.Ends.{IfBothKnown, IsNewest, KeepsASlot, SavesInTurn, TriesTold, full_of}
-use Rattle.audit_statement.specs.World.{Kept}
+use Rattle.audit_io.specs.State.{Kept}
+use Rattle.audit_io.specs.Told.{IfBothTold}
+use Rattle.audit_statement.specs.Endings.{IsNewest, KeepsASlot, SavesInTurn, TriesTold, full_of}
 
 -- how a run ends that leaves work
 abbrev pub stopped_by : ℕ → ℕ → Result (Unit {0}) Failed → Finished
@@ -32,9 +33,9 @@ ended_as finished.SaveFault = ended.SaveFault
 
 -- checkpoints were saved in turn, the last of all outcomes, unless a save failed
 pub record SavesLast (job : Job) (opening : List Outcome) (before after : Kept) (result : Result (Unit {0}) Failed) : Type 0 where
-  pub kept : IfBothKnown before.slots after.slots (KeepsASlot job opening)
-  pub in_turn : OnOk result (IfBothKnown before.slots after.slots (SavesInTurn job opening))
-  pub newest_is : OnOk result (IfBothKnown before.slots after.slots (λ p q. IsNewest job (full_of job opening) q))
+  pub kept : IfBothTold before.slots after.slots (KeepsASlot job opening)
+  pub in_turn : OnOk result (IfBothTold before.slots after.slots (SavesInTurn job opening))
+  pub newest_is : OnOk result (IfBothTold before.slots after.slots (λ p q. IsNewest job (full_of job opening) q))
   pub cause : HasCause before.save_faults after.save_faults result
   pub loads : after.load_faults ≡ before.load_faults
   pub tried : TriesTold job opening before after

@@ -1,12 +1,12 @@
 //! A run whose tests stop early: it walks all outlier trajectories, and then ends in rounds, until every test has stopped, and writes the report.
 
 ghost use Rattle.std.specs.Prelude.{◌≡◌, ◌≤◌, [], vec_len};
-ghost use Rattle.audit_steps.specs.Runs.{IsRun};
+ghost use Rattle.audit_steps.specs.Runs.{IsRunJob};
 ghost use Rattle.audit_walks.specs.Serially.{IsTester};
 ghost use Rattle.audit_steps.specs.Calls.{Finishes};
 ghost use Rattle.audit_unsaved.specs.Ending.{ended_as};
 ghost use Rattle.audit_walks.specs.Stopped.{HasStopped};
-ghost use Rattle.audit_statement.specs.World.{Kept, stream};
+ghost use Rattle.audit_io.specs.State.{Kept};
 ghost use Rattle.walker.specs.Judges.{AreJudges};
 
 use crate::ending::{Finished, end};
@@ -31,11 +31,11 @@ fn report_early<K: Sink, J: Judge>(
     tester: Option<Walker<J>>,
     out: &mut K,
 ) -> Finished
-    requires run { IsRun job.now }
+    requires run { IsRunJob job.now }
     requires early { 1 ≤ job.now.setting.stop }
     requires stopped { HasStopped job.now early }
     requires tester { IsTester J.keeps J.stands J.takes J.rules job.now tester }
-    ensures { (k : Kept) → Finishes job.now (stream K.taken K.faults out.old) (stream K.taken K.faults out.new) k k (ended_as result) }
+    ensures { (k : Kept) → Finishes job.now (K.state out.old) (K.state out.new) k k (ended_as result) }
 {
     let Early {
         sorted,
@@ -62,12 +62,12 @@ pub fn finish_early<R: Threads + Sync, K: Sink, J: Judge + Send, G: Gate + Sync>
     out: &mut K,
     gate: &G,
 ) -> Ended
-    requires run { IsRun job.now }
+    requires run { IsRunJob job.now }
     requires early { 1 ≤ job.now.setting.stop }
     requires judges { AreJudges job.now J.keeps J.takes J.rules judges.items }
     requires workers { vec_len judges ≡ job.now.setting.workers }
     requires tester { IsTester J.keeps J.stands J.takes J.rules job.now tester }
-    ensures { (k : Kept) → Finishes job.now (stream K.taken K.faults out.old) (stream K.taken K.faults out.new) k k result }
+    ensures { (k : Kept) → Finishes job.now (K.state out.old) (K.state out.new) k k result }
 {
     let ready = match make_ready(alloc, job, &[]) {
         Ok(ready) => ready,

@@ -4,13 +4,14 @@ ghost use Rattle.std.specs.Prelude.{◌≡◌, ◌<◌, ◌≤◌, List, [], len
 ghost use Rattle.audit_model.specs.declared.outcome.Outcome as model;
 ghost use Rattle.audit_model.specs.Run.{total};
 ghost use Rattle.report.specs.Outcomes.{AreOutcomesOf};
-ghost use Rattle.audit_statement.specs.Ends.{IsOpening, saves};
-ghost use Rattle.audit_steps.specs.Runs.{AreAll, IsRun};
+ghost use Rattle.audit_statement.specs.Endings.{IsOpening, saves};
+ghost use Rattle.audit_steps.specs.Runs.{AreAll, IsRunJob};
 ghost use Rattle.audit_walks.specs.Ready.{HasReportRoom};
 ghost use Rattle.audit_unsaved.specs.Ending.{SavedBy, ended_as, ended_by, stopped_by};
 ghost use Rattle.audit_walks.specs.Serially.{IsTester};
 ghost use Rattle.audit_steps.specs.Calls.{Finishes};
-ghost use Rattle.audit_statement.specs.World.{Kept, stream};
+ghost use Rattle.audit_io.specs.State.{Kept};
+ghost use Rattle.audit_model.specs.Limits.{most_trajectories};
 
 use audit_io::sink::Sink;
 use audit_io::source::Failed;
@@ -80,16 +81,16 @@ pub fn end_run<K: Sink, J: Judge>(
     saved: Result<(), Failed>,
     out: &mut K,
 ) -> Finished
-    requires run { IsRun job.now }
+    requires run { IsRunJob job.now }
     requires plain { job.now.setting.stop ≡ 0 }
-    requires few { length sorted.now ≤ 100000 }
+    requires few { length sorted.now ≤ most_trajectories }
     requires whole { total job.now ≤ length sorted.now → AreOutcomesOf job.now sorted.now }
     requires blank { text.items ≡ [] }
     requires room { HasReportRoom job.now text.spare }
     requires tester { IsTester J.keeps J.stands J.takes J.rules job.now tester }
     ensures { (opening : List model.Outcome) (before after : Kept) → IsOpening job.now before.slots opening → AreAll job.now opening sorted.now
         → SavedBy (saves job.now.setting) job.now opening before after saved
-        → Finishes job.now (stream K.taken K.faults out.old) (stream K.taken K.faults out.new) before after (ended_as result) }
+        → Finishes job.now (K.state out.old) (K.state out.new) before after (ended_as result) }
 {
     let total = job.total();
     let done = sorted.len() as u32;

@@ -4,3 +4,7 @@
 pub mod early;
 pub mod ending;
 pub mod unsaved;
+
+pub use early::finish_early;
+pub use ending::end_run;
+pub use unsaved::finish_unsaved;

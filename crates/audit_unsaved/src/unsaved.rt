@@ -4,13 +4,13 @@ ghost use Rattle.std.specs.Prelude.{◌≡◌, ◌+◌, ◌<◌, length, false, 
 ghost use Rattle.walker.specs.Judges.{AreJudges};
 ghost use Rattle.ckpt_store.specs.Fitting.{AreFit};
 ghost use Rattle.claim_crew.specs.Crews.{IsCrew};
-ghost use Rattle.audit_statement.specs.Ends.{IsOpening, saves};
-ghost use Rattle.audit_steps.specs.Runs.{IsRun};
+ghost use Rattle.audit_statement.specs.Endings.{IsOpening, saves};
+ghost use Rattle.audit_steps.specs.Runs.{IsRunJob};
 ghost use Rattle.audit_unsaved.specs.Ending.{ended_as};
 ghost use Rattle.audit_walks.specs.Ready.{IsReadyFor};
 ghost use Rattle.audit_walks.specs.Serially.{IsTester};
 ghost use Rattle.audit_steps.specs.Calls.{Finishes};
-ghost use Rattle.audit_statement.specs.World.{Kept, stream};
+ghost use Rattle.audit_io.specs.State.{Kept};
 
 use crate::ending::{Finished, end_run};
 use audit_io::gate::Gate;
@@ -37,14 +37,14 @@ fn walk_and_end<R: Threads + Sync, K: Sink, J: Judge + Send, G: Gate + Sync>(
     out: &mut K,
     gate: &G,
 ) -> Finished
-    requires run { IsRun job.now }
+    requires run { IsRunJob job.now }
     requires plain { job.now.setting.stop ≡ 0 }
     requires unsaved { saves job.now.setting ≡ false }
     requires fit { AreFit job.now opening.now }
     requires ready { IsReadyFor job.now opening.now ready }
     requires crew { IsCrew J.keeps J.stands J.takes J.rules job.now (length ready.todo) job.now.setting.workers crew }
     requires tester { IsTester J.keeps J.stands J.takes J.rules job.now tester }
-    ensures { (k : Kept) → IsOpening job.now k.slots opening.now → Finishes job.now (stream K.taken K.faults out.old) (stream K.taken K.faults out.new) k k (ended_as result) }
+    ensures { (k : Kept) → IsOpening job.now k.slots opening.now → Finishes job.now (K.state out.old) (K.state out.new) k k (ended_as result) }
 {
     let Walked { sorted, text } = walk(rt, job, ready, crew, gate);
     end_run(job, sorted.as_slice(), text, tester, Ok(()), out)
@@ -61,14 +61,14 @@ pub fn finish_unsaved<R: Threads + Sync, K: Sink, J: Judge + Send, G: Gate + Syn
     out: &mut K,
     gate: &G,
 ) -> Ended
-    requires run { IsRun job.now }
+    requires run { IsRunJob job.now }
     requires plain { job.now.setting.stop ≡ 0 }
     requires judges { AreJudges job.now J.keeps J.takes J.rules judges.items }
     requires workers { vec_len judges ≡ job.now.setting.workers }
     requires unsaved { saves job.now.setting ≡ false }
     requires fit { AreFit job.now opening.now }
     requires tester { IsTester J.keeps J.stands J.takes J.rules job.now tester }
-    ensures { (k : Kept) → IsOpening job.now k.slots opening.now → Finishes job.now (stream K.taken K.faults out.old) (stream K.taken K.faults out.new) k k result }
+    ensures { (k : Kept) → IsOpening job.now k.slots opening.now → Finishes job.now (K.state out.old) (K.state out.new) k k result }
 {
     let ready = match make_ready(alloc, job, opening) {
         Ok(ready) => ready,

@@ -1,4 +1,4 @@
-pub mod Early
+pub mod EarlyStops
 pub mod Plain
 pub mod Splitting
 mod Testing

@@ -7,3 +7,9 @@ pub mod serially;
 pub mod stopping;
 pub mod todo;
 pub mod walking;
+
+pub use judges::guards;
+pub use ready::{Ready, make_ready};
+pub use serially::{make_tester, test_serially};
+pub use stopping::{Early, stops_for, walk_early, walks_in};
+pub use walking::{Walked, walk};

@@ -3,7 +3,7 @@
 ghost use Rattle.std.specs.Prelude.{◌≡◌, ◌<◌, IfOk};
 ghost use Rattle.audit_model.specs.Run.{total};
 ghost use Rattle.ckpt_store.specs.Fitting.{AreFit};
-ghost use Rattle.audit_steps.specs.Runs.{IsRun};
+ghost use Rattle.audit_steps.specs.Runs.{IsRunJob};
 ghost use Rattle.audit_walks.specs.Ready.{IsReadyFor};
 
 use crate::todo::todo_of;
@@ -28,7 +28,7 @@ pub struct Ready {
 
 // The book of a run that starts with these outcomes.
 fn book_of(alloc: Global, job: &Job, outcomes: &[Outcome]) -> Result<Book, Memory>
-    requires run { IsRun job.now }
+    requires run { IsRunJob job.now }
     requires fit { AreFit job.now outcomes.now }
     ensures total { IfOk result (λ b. b.total ≡ total job.now) }
     ensures outcomes { IfOk result (λ b. b.outcomes ≡ outcomes.now) }
@@ -42,7 +42,7 @@ fn book_of(alloc: Global, job: &Job, outcomes: &[Outcome]) -> Result<Book, Memor
 
 /// What a run holds that starts with these outcomes. The only error is want of memory.
 pub fn make_ready(alloc: Global, job: &Job, outcomes: &[Outcome]) -> Result<Ready, Memory>
-    requires run { IsRun job.now }
+    requires run { IsRunJob job.now }
     requires fit { AreFit job.now outcomes.now }
     ensures { IfOk result (IsReadyFor job.now outcomes.now) }
 {

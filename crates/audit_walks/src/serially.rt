@@ -5,7 +5,7 @@ ghost use Rattle.audit_model.specs.Serially.{serial_told};
 ghost use Rattle.draw_definitions.specs.Draw.{draw};
 ghost use Rattle.report.specs.Outcomes.{IsSerialOf};
 ghost use Rattle.walker.specs.Judges.{IsJudgeFor};
-ghost use Rattle.audit_steps.specs.Runs.{IsRun};
+ghost use Rattle.audit_steps.specs.Runs.{IsRunJob};
 ghost use Rattle.audit_walks.specs.Serially.{IsTester};
 
 use audit_model::memory::Memory;
@@ -33,7 +33,7 @@ pub fn make_tester<J: Judge>(
 
 /// The place and the ranks that the serial test finds, where it is asked for. It takes no memory.
 pub fn test_serially<J: Judge>(job: &Job, tester: Option<Walker<J>>) -> Option<(u32, [u64; 4])>
-    requires run { IsRun job.now }
+    requires run { IsRunJob job.now }
     requires tester { IsTester J.keeps J.stands J.takes J.rules job.now tester }
     ensures found { result ≡ serial_told job.now (draw job.now.setting.key) }
     ensures within { IsSerialOf job.now result }

@@ -2,7 +2,7 @@
 
 ghost use Rattle.std.specs.Prelude.{◌≡◌, ◌≤◌, [], length, take};
 ghost use Rattle.audit_walks.specs.Ready.{IsReadyFor};
-ghost use Rattle.audit_steps.specs.Runs.{IsRun};
+ghost use Rattle.audit_steps.specs.Runs.{IsRunJob};
 ghost use Rattle.audit_walks.specs.Stopped.{HasStopped};
 ghost use Rattle.stopping_crew.specs.Crews.{IsStoppingCrew};
 
@@ -32,7 +32,7 @@ pub fn walk_early<R: Threads + Sync, J: Judge + Send, G: Gate + Sync>(
     crew: StoppingCrew<J>,
     gate: &G,
 ) -> Early
-    requires run { IsRun job.now }
+    requires run { IsRunJob job.now }
     requires early { 1 ≤ job.now.setting.stop }
     requires ready { IsReadyFor job.now [] ready }
     requires crew { IsStoppingCrew J.keeps J.stands J.takes J.rules job.now job.now.setting.workers crew }

@@ -3,7 +3,7 @@
 ghost use Rattle.std.specs.Prelude.{◌+◌, ◌<◌, length};
 ghost use Rattle.ckpt_store.specs.Fitting.{AreFit};
 ghost use Rattle.claim_crew.specs.Crews.{IsCrew};
-ghost use Rattle.audit_steps.specs.Runs.{IsRun};
+ghost use Rattle.audit_steps.specs.Runs.{IsRunJob};
 ghost use Rattle.audit_walks.specs.Ready.{HasWalked, IsReadyFor};
 
 use crate::ready::Ready;
@@ -30,7 +30,7 @@ pub fn walk<R: Threads + Sync, J: Judge + Send, G: Gate + Sync>(
     crew: Crew<J>,
     gate: &G,
 ) -> Walked
-    requires run { IsRun job.now }
+    requires run { IsRunJob job.now }
     requires fit { AreFit job.now ready.book.outcomes }
     requires ready { IsReadyFor job.now ready.book.outcomes ready }
     requires crew { IsCrew J.keeps J.stands J.takes J.rules job.now (length ready.todo) job.now.setting.workers crew }

@@ -11,7 +11,7 @@ use Rattle.audit_model.specs.declared.fault.Name.TheVariants.{Slack, Key, Walks,
 use Rattle.audit_model.specs.declared.setting.Ask.{Ask as AskOf}
 use Rattle.audit_model.specs.declared.setting.Command.{Command}
 use Rattle.audit_model.specs.declared.setting.Command.TheVariants.{Check, Run, Make, Plans}
-use Rattle.word_definitions.specs.Words.{Pair, are_asks, as_run, asks_of, has_walks, is_good, is_number, number_at, parts_between, setting_for, text_of}
+use Rattle.word_definitions.specs.Words.{NameAndValue, are_asks, as_run, asks_of, has_walks, is_good, is_number, number_at, parts_between, setting_for, text_of}
 use Rattle.audit_words.specs.Judged.{AreGood, AreReadable}
 use Rattle.audit_words.proofs.Asking.{length-asks_of, AllPairs-asks_of}
 use Rattle.audit_words.proofs.Goodness.{asks_of-some, number-bounds, split-bounds}
@@ -46,7 +46,7 @@ AreAsked-good text h =
       apart = AllPairs-asks_of (parts_between 44 text) asked.0 asked.1 asked.3;
     })
 
-pub IsRunSetting-good : (command : Command) (words : List Pair) → AreGood words → IsRunSetting (as_run command words)
+pub IsRunSetting-good : (command : Command) (words : List NameAndValue) → AreGood words → IsRunSetting (as_run command words)
 IsRunSetting-good command words good =
     let ends = and_parts (is_number 0 100000 (text_of Check words Ends)) (has_walks Check words) good.ends in
     let walks = and_parts (nat_le 1 (number_at Check words Walks + number_at Check words Ends)) (nat_le (number_at Check words Walks + number_at Check words Ends) 100000) ends.1 in
@@ -68,7 +68,7 @@ IsRunSetting-good command words good =
       few_workers = workers.1;
     }
 
-IsRunSetting-made : (words : List Pair) → IsRunSetting (as_run Make words) → IsRunSetting (setting_for Make words)
+IsRunSetting-made : (words : List NameAndValue) → IsRunSetting (as_run Make words) → IsRunSetting (setting_for Make words)
 IsRunSetting-made words run = record {
   some = run.some;
   few = run.few;
@@ -83,7 +83,7 @@ IsRunSetting-made words run = record {
   few_workers = run.few_workers;
 }
 
-IsSetting-run : (command : Command) (words : List Pair) → AreGood words → is_good Check words MaxSplit ≡ true → IsSettingOf command (as_run command words) → IsSetting (as_run command words)
+IsSetting-run : (command : Command) (words : List NameAndValue) → AreGood words → is_good Check words MaxSplit ≡ true → IsSettingOf command (as_run command words) → IsSetting (as_run command words)
 IsSetting-run command words good split is = record {
   slack = (number-bounds 0 10000 (text_of Check words Slack) good.slack).1;
   key = length-key (text_of Check words Key) good.key;
@@ -93,7 +93,7 @@ IsSetting-run command words good split is = record {
   command = is;
 }
 
-pub IsSetting-good : (command : Command) (words : List Pair) → AreReadable command words → IsSetting (setting_for command words)
+pub IsSetting-good : (command : Command) (words : List NameAndValue) → AreReadable command words → IsSetting (setting_for command words)
 IsSetting-good Check words good = record {
   slack = (number-bounds 0 10000 (text_of Check words Slack) good.0).1;
   key = refl;

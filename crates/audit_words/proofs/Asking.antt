@@ -1,5 +1,5 @@
 -- The asks that parts of a text spell.
-use Rattle.std.proofs.Common.{◌≡◌, ◌≢◌, ◌∙◌, ℕ, Bool, true, false, not, cond, List, [], ◌∷◌, length, find, ap, arith, refl, sym, subst, Option, Some, None, inl, inr, ◌⊎◌}
+use Rattle.std.proofs.Common.{◌≡◌, ◌≢◌, ◌∙◌, ℕ, true, false, not, List, [], ◌∷◌, length, ap, arith, refl, sym, subst, Option, Some, None}
 use Rattle.std.proofs.lemmas.Bool.{and_parts, false≢true, not-true, or_parts}
 use Rattle.std.proofs.lemmas.List.Elements.{All-cons, All-nil}
 use Rattle.std.proofs.lemmas.List.Kept.{AllPairs-cons}
@@ -7,23 +7,12 @@ use Rattle.std.proofs.lemmas.Slice.Eq.{bytes_eq-Decides}
 use Rattle.std.specs.Prelude.{bytes_eq}
 use Rattle.std.specs.List.{All, AllPairs, cons_option, filter_map, list_any}
 use Rattle.audit_model.specs.declared.setting.Ask.{Ask}
+use Rattle.model_laws.proofs.Lists.{find_passes}
 use Rattle.word_definitions.specs.Words.{ask_of, ask_text, all_asks, asks_of, with_ask, all_different}
-
-found : {X : Type 0} (b : Bool) (y x : X) (o : Option X) → cond b (Some y) o ≡ Some x → ((b ≡ true) × (y ≡ x)) ⊎ (o ≡ Some x)
-found true y x o h = inl (refl, cc)
-found false y x o h = inr h
-
--- what a search finds passes
-find-passes : {X : Type 0} (p : X → Bool) (xs : List X) (x : X) → find p xs ≡ Some x → p x ≡ true
-find-passes p [] x h = cc
-find-passes p (y ∷ ys) x h = elim (found (p y) y x (find p ys) h) [
-  | inl here ↦ subst (λ z. p z ≡ true) here.1 here.0
-  | inr later ↦ find-passes p ys x later
-]
 
 -- the word of an ask spells it
 spelled : (word : List ℕ) (ask : Ask) → ask_of word ≡ Some ask → ask_text ask ≡ word
-spelled word ask h = (bytes_eq-Decides (ask_text ask) word).0 (find-passes (λ a. bytes_eq (ask_text a) word) all_asks ask h)
+spelled word ask h = (bytes_eq-Decides (ask_text ask) word).0 (find_passes (λ a. bytes_eq (ask_text a) word) all_asks ask h)
 
 -- the asks of parts are those of the first and of the others
 with_ask-parts : (first : Option Ask) (others : Option (List Ask)) (asks : List Ask) → with_ask first others ≡ Some asks

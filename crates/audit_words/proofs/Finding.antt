@@ -1,8 +1,6 @@
 -- Searches from the front that pass over what they do not want.
-use Rattle.std.proofs.Common.{◌≡◌, ℕ, zero, suc, ◌<◌, ◌≤◌, Bool, true, false, not, List, [], ◌∷◌, length, get_or, drop, refl, subst, inl, inr, arith, Option, Some, None}
-use Rattle.std.proofs.lemmas.Bool.{or_left, or_right, cases_eq}
+use Rattle.std.proofs.Common.{◌≡◌, ℕ, zero, suc, ◌<◌, ◌≤◌, Bool, true, false, not, List, [], ◌∷◌, length, get_or, drop, refl, arith, Option, Some, None}
 use Rattle.std.specs.Prelude.{find}
-use Rattle.audit_model.specs.Below.{any_below}
 use Rattle.audit_model.specs.First.{first_some_below}
 
 -- the search goes on behind what does not pass, and ends at what does
@@ -21,22 +19,6 @@ find-end p [] zero h = refl
 find-end p [] (suc i) h = refl
 find-end p (x ∷ xs) zero h = absurd (omega arith)
 find-end p (x ∷ xs) (suc i) h = find-end p xs i (omega arith)
-
--- one that passes is enough
-pub any_below-has : (n k : ℕ) (test : ℕ → Bool) → k < n → test k ≡ true → any_below n test ≡ true
-any_below-has zero k test l h = absurd (omega arith)
-any_below-has (suc n) k test l h = elim (cases_eq k n) [
-  | inl e ↦ or_right (any_below n test) (test n) (subst (λ m. test m ≡ true) e h)
-  | inr e ↦ or_left (any_below n test) (test n) (any_below-has n k test (omega arith) h)
-]
-
--- what follows the first thing that is there is passed over
-pub first_some_below-stops : {A : Type 0} (n k : ℕ) (f : ℕ → Option A) (x : A) → k < n → first_some_below k f ≡ None → f k ≡ Some x → first_some_below n f ≡ Some x
-first_some_below-stops zero k f x l none some = absurd (omega arith)
-first_some_below-stops (suc n) k f x l none some = elim (cases_eq k n) [
-  | inl e ↦ rw (subst (λ m. first_some_below m f ≡ None) e none) (subst (λ m. f m ≡ Some x) e some)
-  | inr e ↦ rw (first_some_below-stops n k f x (omega arith) none some) refl
-]
 
 pub first_some_below-none : {A : Type 0} (k m : ℕ) (f : ℕ → Option A) → m ≡ suc k → first_some_below k f ≡ None → f k ≡ None → first_some_below m f ≡ None
 first_some_below-none k m f e none here = rw (e, none, here) refl

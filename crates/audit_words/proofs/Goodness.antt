@@ -1,7 +1,7 @@
 -- What good values are, and the setting that they give.
 use Rattle.std.proofs.Common.{◌≡◌, ◌∙◌, ℕ, zero, suc, ◌<◌, ◌≤◌, get_or, drop, arith, Bool, true, false, not, cond, List, [], ◌∷◌, length, find, ap, refl, sym, Option, Some, None, option_map}
 use Rattle.std.proofs.lemmas.Bool.{and_parts, false≢true, leb-true}
-use Rattle.std.specs.Prelude.{◌&&◌, nat_le, is_some, unwrap_or, bytes_eq, codes}
+use Rattle.std.specs.Prelude.{◌&&◌, nat_le, is_some, unwrap_or}
 use Rattle.std.specs.List.{filter_map}
 use Rattle.audit_model.specs.declared.fault.Name.{Name}
 use Rattle.audit_model.specs.declared.fault.Name.TheVariants.{Pop, Size, Slack, Key, Walks, Steps, Ends, HubSteps, Ask, Workers, Budget, Save, Resume, MaxCut, Shift, Stop, Serial, Region, MaxSplit}
@@ -9,14 +9,11 @@ use Rattle.audit_model.specs.declared.fault.WordFault.TheVariants.{BadValue}
 use Rattle.audit_model.specs.declared.setting.Ask.{Ask as AskOf}
 use Rattle.audit_model.specs.declared.setting.Command.TheVariants.{Check, Run, Make, Plans}
 use Rattle.audit_model.specs.declared.setting.Command.{Command}
-use Rattle.word_definitions.specs.Words.{Pair, all_different, are_asks, ask_of, asks_of, command_of, has_split, is_good, is_number, names_of, number_at, number_of, parts_between, text_of}
+use Rattle.model_laws.proofs.Options.{some_from}
+use Rattle.word_definitions.specs.Words.{NameAndValue, all_different, are_asks, ask_of, asks_of, command_of, has_split, is_good, is_number, names_of, number_at, number_of, parts_between, text_of}
 use Rattle.audit_words.specs.Judged.{AreGood, AreReadable, fault_of_pairs, fault_of_values}
 use Rattle.audit_words.proofs.Unnamed.{good_budget, good_resume, good_save}
 use Rattle.audit_words.proofs.Asking.{filter_map-ask_of}
-
-value_of_some : {A : Type 0} (o : Option A) → is_some o ≡ true → (x : A) × (o ≡ Some x)
-value_of_some None h = absurd (false≢true h)
-value_of_some (Some x) h = (x, refl)
 
 -- a number within bounds
 bounded : (o : Option ℕ) (low high : ℕ) → unwrap_or (option_map (λ n. nat_le low n && nat_le n high) o) false ≡ true → (low ≤ unwrap_or o 0) × (unwrap_or o 0 ≤ high)
@@ -27,7 +24,7 @@ pub number-bounds : (low high : ℕ) (text : List ℕ) → is_number low high te
 number-bounds low high text h = bounded (number_of text) low high h
 
 -- the districts of a region are from 1 to 200
-pub split-bounds : (words : List Pair) → is_good Check words MaxSplit ≡ true → (1 ≤ number_at Check words MaxSplit) × (number_at Check words MaxSplit ≤ 200)
+pub split-bounds : (words : List NameAndValue) → is_good Check words MaxSplit ≡ true → (1 ≤ number_at Check words MaxSplit) × (number_at Check words MaxSplit ≤ 200)
 split-bounds words good =
     number-bounds 1 200 (text_of Check words MaxSplit) (and_parts (is_number 1 200 (text_of Check words MaxSplit)) (has_split Check words) good).0
 
@@ -38,7 +35,7 @@ asks_of-some text h =
     let parts = parts_between 44 text in
     let both = and_parts (is_some (asks_of parts) && nat_le (length parts) 4) (all_different parts) h in
     let some = and_parts (is_some (asks_of parts)) (nat_le (length parts) 4) both.0 in
-    let asks = value_of_some (asks_of parts) some.0 in
+    let asks = some_from (asks_of parts) some.0 in
     (asks.0, asks.1, leb-true (length parts) 4 some.1, both.1)
 
 pub asks_of-good : (text : List ℕ) → are_asks text ≡ true → filter_map ask_of (parts_between 44 text) ≡ unwrap_or (asks_of (parts_between 44 text)) []
@@ -65,7 +62,7 @@ find-all good (name ∷ names) h (suc k) l = find-all good names (find-last good
 abbrev names_before : List Name → List Name
 names_before more = Slack ∷ Key ∷ Walks ∷ Steps ∷ Ends ∷ HubSteps ∷ Ask ∷ Workers ∷ Budget ∷ Save ∷ Resume ∷ MaxCut ∷ Shift ∷ Stop ∷ Serial ∷ more
 
-AreGood-values : (words : List Pair) (more : List Name) → option_map BadValue (find (λ name. not (is_good Check words name)) (names_before more)) ≡ None → AreGood words
+AreGood-values : (words : List NameAndValue) (more : List Name) → option_map BadValue (find (λ name. not (is_good Check words name)) (names_before more)) ≡ None → AreGood words
 AreGood-values words more h =
     let good = find-all (is_good Check words) (names_before more) h in
     record {
@@ -87,7 +84,7 @@ AreGood-values words more h =
     }
 
 -- where no value of a command that a word spells is bad, those of its setting are good
-pub AreReadable-good : (word : List ℕ) (command : Command) (words : List Pair) → Some command ≡ command_of word → fault_of_pairs command words ≡ None → fault_of_values command words ≡ None
+pub AreReadable-good : (word : List ℕ) (command : Command) (words : List NameAndValue) → Some command ≡ command_of word → fault_of_pairs command words ≡ None → fault_of_values command words ≡ None
     → AreReadable command words
 AreReadable-good word Check words spells faultless h =
     let good = find-all (is_good Check words) (names_of Check) h in

@@ -6,7 +6,7 @@ use Rattle.audit_model.specs.declared.fault.Name.{Name}
 use Rattle.audit_model.specs.declared.fault.Name.TheVariants.{Pop, Walks, Steps, Ends, Budget, Save, Stop, Serial}
 use Rattle.audit_model.specs.declared.setting.Command.{Command}
 use Rattle.audit_model.specs.declared.setting.Command.TheVariants.{Check, Run, Make, Plans}
-use Rattle.word_definitions.specs.Words.{Pair, is_good, names_of}
+use Rattle.word_definitions.specs.Words.{NameAndValue, is_good, names_of}
 use Rattle.audit_words.specs.Judged.{RestsOnGood, fault_of_pairs}
 use Rattle.audit_words.proofs.Unnamed.{good_save}
 
@@ -85,7 +85,7 @@ record IsOrdered (names : List Name) : Type 0 where
   steps : leads is_steps on_steps names ≡ true
   ends : leads is_ends on_ends names ≡ true
 
-module _ (command : Command) (words : List Pair) (names : List Name) (k : ℕ) (inside : k < length names) (below : (j : ℕ) → j < k → is_good command words (get_or names j Pop) ≡ true) (ordered : IsOrdered names) where
+module _ (command : Command) (words : List NameAndValue) (names : List Name) (k : ℕ) (inside : k < length names) (below : (j : ℕ) → j < k → is_good command words (get_or names j Pop) ≡ true) (ordered : IsOrdered names) where
   good_leader : (first second : Name → Bool) (name : Name) → leads first second names ≡ true → ((n : Name) → first n ≡ true → n ≡ name) → second (get_or names k Pop) ≡ true → is_good command words name ≡ true
   good_leader first second name led one rests =
       let found = leader first second names k led inside rests in
@@ -117,7 +117,7 @@ is_ordered Make = record { walks = refl; steps = refl; ends = refl }
 is_ordered Plans = record { walks = refl; steps = refl; ends = refl }
 
 -- where a name rests on how often a run saves, that stands before it, or the command does not take it
-saved_by : (command : Command) (words : List Pair) (k : ℕ) → k < length (names_of command) → fault_of_pairs command words ≡ None
+saved_by : (command : Command) (words : List NameAndValue) (k : ℕ) → k < length (names_of command) → fault_of_pairs command words ≡ None
     → ((j : ℕ) → j < k → is_good command words (get_or (names_of command) j Pop) ≡ true) → on_save (get_or (names_of command) k Pop) ≡ true → is_good Check words Save ≡ true
 saved_by Check words k inside faultless below on = saved_before Check words (names_of Check) k inside below (is_ordered Check) refl on
 saved_by Run words k inside faultless below on = saved_before Run words (names_of Run) k inside below (is_ordered Run) refl on
@@ -125,7 +125,7 @@ saved_by Make words k inside faultless below on = saved_before Make words (names
 saved_by Plans words k inside faultless below on = good_save words faultless
 
 -- behind good values a name rests on good ones
-pub RestsOnGood-behind : (command : Command) (words : List Pair) (k : ℕ) → k < length (names_of command) → fault_of_pairs command words ≡ None
+pub RestsOnGood-behind : (command : Command) (words : List NameAndValue) (k : ℕ) → k < length (names_of command) → fault_of_pairs command words ≡ None
     → ((j : ℕ) → j < k → is_good command words (get_or (names_of command) j Pop) ≡ true) → RestsOnGood words (get_or (names_of command) k Pop)
 RestsOnGood-behind command words k inside faultless below =
     rests command words (names_of command) k inside below (is_ordered command) (saved_by command words k inside faultless below) (get_or (names_of command) k Pop) refl

@@ -93,8 +93,3 @@ no_room false few different none = refl
 pub are_within-full : (text : List ℕ) → are_within 0 (parts_between 44 text) ≡ false
 are_within-full text =
     no_room (is_some (asks_of (parts_between 44 text))) (nat_le (length (parts_between 44 text)) 0) (all_different (parts_between 44 text)) (lt-leb (length (parts_between 44 text)) 0 (parts_between-some text))
-
--- what is none
-pub none_since : {A : Type 0} (o : Option A) → is_some o ≡ false → o ≡ None
-none_since None h = refl
-none_since (Some x) h = absurd (false≢true (sym h))

@@ -1,14 +1,13 @@
 -- A number with one digit set is a power of two.
-use Rattle.std.proofs.Common.{◌≡◌, ◌∙◌, ℕ, zero, suc, ◌*◌, ◌/◌, ◌%◌, ◌^◌, ◌<◌, Bool, true, ◌||◌, refl, ap, sym, subst, arith, inl, inr}
+use Rattle.std.proofs.Common.{◌≡◌, ◌∙◌, ℕ, zero, suc, ◌*◌, ◌/◌, ◌%◌, ◌^◌, ◌<◌, Bool, refl, ap, sym, arith, inl, inr}
 use Rattle.std.specs.Prelude.{◌==◌}
 use Rattle.std.specs.Int.{is_power_of_two}
 use Rattle.std.specs.Int.Count.{ones, ones_step}
 use Rattle.std.proofs.Math.Nat.{pow-suc}
 use Rattle.std.proofs.lemmas.Bool.{cases_Bool, cases_eq, eq-eqb, eqb-true}
 use Rattle.std.proofs.lemmas.Nat.{zero_from_ones}
-use Rattle.audit_model.specs.Below.{any_below}
 use Rattle.audit_model.specs.Power as definition
-use Rattle.audit_words.proofs.Finding.{any_below-has}
+use Rattle.model_laws.proofs.Below.{any_below_some, any_below_from}
 
 ones_of_power : (k : ℕ) → ones (2 ^ k) ≡ 1
 unfolding ones
@@ -40,26 +39,19 @@ power_of_one (suc m) n small one =
           (0, omega arith, omega (arith, none, last))
     ]
 
-some_below : (n : ℕ) (test : ℕ → Bool) → any_below n test ≡ true → (k : ℕ) × (k < n) × (test k ≡ true)
-some_below zero test h = cc
-some_below (suc n) test h = elim (cases_Bool (any_below n test)) [
-  | inl before ↦ let some = some_below n test before in (some.0, omega (arith, some.1), some.2)
-  | inr none ↦ (n, omega arith, subst (λ b. (b || test n) ≡ true) none h)
-]
-
 -- std's test of one digit is the definition's search
 pub powers_agree : (n : ℕ) → n < 2 ^ 64 → is_power_of_two n ≡ definition.is_power_of_two n
 powers_agree n small =
     let test : ℕ → Bool = λ k. 2 ^ k == n in
     elim (cases_Bool (definition.is_power_of_two n)) [
       | inl is ↦
-          let some = some_below 64 test is in
+          let some = any_below_some 64 test is in
           let same : 2 ^ some.0 ≡ n = eqb-true (2 ^ some.0) n some.2 in
           eq-eqb (ones n) 1 (sym (ap ones same) ∙ ones_of_power some.0) ∙ sym is
       | inr isnt ↦ elim (cases_Bool (is_power_of_two n)) [
         | inl one ↦
             let found = power_of_one 64 n small (eqb-true (ones n) 1 one) in
-            one ∙ sym (any_below-has 64 found.0 test found.1 (eq-eqb (2 ^ found.0) n found.2))
+            one ∙ sym (any_below_from 64 test found.0 found.1 (eq-eqb (2 ^ found.0) n found.2))
         | inr off ↦ off ∙ sym isnt
       ]
     ]

@@ -6,7 +6,7 @@ use Rattle.audit_model.specs.declared.fault.WordFault.TheVariants.{NoCommand, Un
 use Rattle.audit_model.specs.declared.setting.Command.{Command}
 use Rattle.audit_words.specs.Judged.{fault_of_pairs, fault_of_names, fault_of_values}
 use Rattle.audit_words.specs.Spoken.{spoken}
-use Rattle.word_definitions.specs.Words.{Pair, pairs, command_of, fault_of, of_command, setting_for, setting_or, setting_of}
+use Rattle.word_definitions.specs.Words.{NameAndValue, pairs, command_of, fault_of, of_command, setting_for, setting_or, setting_of}
 
 -- which of three is the first that is there
 first_of : {A : Type 0} (a b c : Option A) (x : A) → a ≡ Some x → first_some (a ∷ b ∷ c ∷ []) ≡ Some x
@@ -37,7 +37,7 @@ pub setting_of-command : (words : List (List ℕ)) (word : List ℕ) (rest : Lis
 unfolding setting_of
 setting_of-command words word rest command h e = ap setting_of h ∙ ap (of_command word (pairs rest)) (sym e)
 
-module _ (command : Command) (words : List Pair) where
+module _ (command : Command) (words : List NameAndValue) where
   pub refused_by_pairs : (fault : WordFault) → fault_of_pairs command words ≡ Some fault → setting_or command words (fault_of command words) ≡ Err fault
   refused_by_pairs fault h = ap (setting_or command words) (first_of (fault_of_pairs command words) (fault_of_names command words) (fault_of_values command words) fault h)
 

@@ -2,38 +2,33 @@
 use Rattle.std.proofs.Common.{◌≡◌, ◌∙◌, ℕ, zero, suc, ◌+◌, ◌<◌, arith, Bool, true, false, not, cond, List, [], ◌∷◌, length, find, ap, refl, subst, sym, Option, Some, None, inl, inr}
 use Rattle.std.proofs.lemmas.Bool.{and_parts, cases_eq}
 use Rattle.std.proofs.lemmas.Slice.Eq.{bytes_eq-Decides}
-use Rattle.std.specs.Prelude.{◌&&◌, ◌||◌, nat_le, is_none, unwrap_or, bytes_eq, codes, option_and_then}
+use Rattle.std.specs.Prelude.{◌&&◌, ◌||◌, nat_le, unwrap_or, bytes_eq, codes, option_and_then}
 use Rattle.std.specs.Fmt.{digits}
 use Rattle.std.specs.List.{slice_index_or}
 use Rattle.std.specs.Option.{option_or}
 use Rattle.audit_model.specs.declared.fault.Name.{Name}
 use Rattle.audit_model.specs.declared.fault.Name.TheVariants.{Budget, Ends, Save, Resume, Walks}
-use Rattle.audit_model.specs.declared.fault.WordFault.{WordFault}
 use Rattle.audit_model.specs.declared.setting.Command.TheVariants.{Check, Plans}
 use Rattle.audit_model.specs.First.{first_some_below}
 use Rattle.audit_model.specs.Names.{name_text}
-use Rattle.word_definitions.specs.Words.{Pair, default_of, given, has_walks, is_good, is_number, known_fault, name_of, number_at, number_of, pair_at, pair_fault, text_of}
+use Rattle.model_laws.proofs.Options.{option_or_none}
+use Rattle.word_definitions.specs.Words.{NameAndValue, default_of, has_walks, is_good, is_number, known_fault, name_of, number_at, number_of, pair_at, pair_fault, text_of}
 use Rattle.audit_words.specs.Judged.{fault_of_pairs}
-
--- none is found, so there is none
-or_none : {A : Type 0} (a b : Option A) → option_or a b ≡ None → (a ≡ None) × (b ≡ None)
-or_none None b h = (refl, h)
-or_none (Some x) b h = cc
 
 all_none : {A : Type 0} (n : ℕ) (f : ℕ → Option A) → first_some_below n f ≡ None → (k : ℕ) → k < n → f k ≡ None
 all_none zero f h k l = absurd (omega (arith, l))
-all_none (suc n) f h k l = let both = or_none (first_some_below n f) (f n) h in elim (cases_eq k n) [
+all_none (suc n) f h k l = let both = option_or_none (first_some_below n f) (f n) h in elim (cases_eq k n) [
   | inl e ↦ subst (λ m. f m ≡ None) (sym e) both.1
   | inr e ↦ all_none n f both.0 k (omega (arith, l, e))
 ]
 
-no_such : (text : List ℕ) (words : List Pair) → ((k : ℕ) → k < length words → bytes_eq (slice_index_or words k ([], None)).0 text ≡ false)
-    → find (λ (pair : Pair). bytes_eq pair.0 text) words ≡ None
+no_such : (text : List ℕ) (words : List NameAndValue) → ((k : ℕ) → k < length words → bytes_eq (slice_index_or words k ([], None)).0 text ≡ false)
+    → find (λ (pair : NameAndValue). bytes_eq pair.0 text) words ≡ None
 no_such text [] h = refl
 no_such text (p ∷ ps) h =
-    ap (λ b. cond b (Some p) (find (λ (pair : Pair). bytes_eq pair.0 text) ps)) (h 0 (omega arith)) ∙ no_such text ps (λ k l. h (suc k) (omega (arith, l)))
+    ap (λ b. cond b (Some p) (find (λ (pair : NameAndValue). bytes_eq pair.0 text) ps)) (h 0 (omega arith)) ∙ no_such text ps (λ k l. h (suc k) (omega (arith, l)))
 
-module _ (words : List Pair) (faultless : fault_of_pairs Plans words ≡ None) where
+module _ (words : List NameAndValue) (faultless : fault_of_pairs Plans words ≡ None) where
   -- a word that spells no name stands in no pair
   not_there : (text : List ℕ) → name_of Plans words text ≡ None → (k : ℕ) → k < length words → bytes_eq (pair_at Plans words k).0 text ≡ false
   not_there text unnamed k l = by (bytes_eq (pair_at Plans words k).0 text) refl
@@ -49,7 +44,7 @@ module _ (words : List Pair) (faultless : fault_of_pairs Plans words ≡ None) w
 
   defaulted : (name : Name) → name_of Plans words (name_text name) ≡ None → text_of Check words name ≡ unwrap_or (default_of name) []
   defaulted name unnamed =
-      ap (λ (found : Option Pair). unwrap_or (option_or (option_and_then (λ pair. pair.1) found) (default_of name)) [])
+      ap (λ (found : Option NameAndValue). unwrap_or (option_or (option_and_then (λ pair. pair.1) found) (default_of name)) [])
       (no_such (name_text name) words (not_there (name_text name) unnamed))
 
   pub save_is : text_of Check words Save ≡ codes "0"

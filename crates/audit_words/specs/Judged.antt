@@ -7,22 +7,22 @@ use Rattle.audit_model.specs.declared.fault.WordFault.{WordFault}
 use Rattle.audit_model.specs.declared.fault.WordFault.TheVariants.{MissingName, BadValue}
 use Rattle.audit_model.specs.declared.setting.Command.{Command}
 use Rattle.audit_model.specs.declared.setting.Command.TheVariants.{Check, Run, Make, Plans}
-use Rattle.word_definitions.specs.Words.{Pair, pair_fault, value_of, is_good, names_of}
+use Rattle.word_definitions.specs.Words.{NameAndValue, pair_fault, value_of, is_good, names_of}
 
 -- the fault of the first pair that has one
-abbrev pub fault_of_pairs : Command → List Pair → Option WordFault
+abbrev pub fault_of_pairs : Command → List NameAndValue → Option WordFault
 fault_of_pairs command words = first_some_below (length words) (pair_fault command words)
 
 -- the first name that is missing
-abbrev pub fault_of_names : Command → List Pair → Option WordFault
+abbrev pub fault_of_names : Command → List NameAndValue → Option WordFault
 fault_of_names command words = option_map MissingName (find (λ name. is_none (value_of command words name)) (names_of command))
 
 -- the first name whose value is bad
-abbrev pub fault_of_values : Command → List Pair → Option WordFault
+abbrev pub fault_of_values : Command → List NameAndValue → Option WordFault
 fault_of_values command words = option_map BadValue (find (λ name. not (is_good command words name)) (names_of command))
 
 -- The values of other names that are looked at for that of a name are good: behind a bad one the name is not judged.
-abbrev pub RestsOnGood : List Pair → Name → Type 0
+abbrev pub RestsOnGood : List NameAndValue → Name → Type 0
 RestsOnGood words Ends = is_good Check words Walks ≡ true
 RestsOnGood words Budget = (is_good Check words Walks ≡ true) × (is_good Check words Ends ≡ true)
 RestsOnGood words Stop = (is_good Check words Ends ≡ true) × (is_good Check words Save ≡ true)
@@ -30,7 +30,7 @@ RestsOnGood words Serial = is_good Check words Steps ≡ true
 RestsOnGood words _ = Unit {0}
 
 -- each value that a run on any graph takes, beside the columns, is good
-pub record AreGood (words : List Pair) : Type 0 where
+pub record AreGood (words : List NameAndValue) : Type 0 where
   pub slack : is_good Check words Slack ≡ true
   pub key : is_good Check words Key ≡ true
   pub walks : is_good Check words Walks ≡ true
@@ -48,7 +48,7 @@ pub record AreGood (words : List Pair) : Type 0 where
   pub serial : is_good Check words Serial ≡ true
 
 -- the values from which the setting of a command is made are good
-abbrev pub AreReadable : Command → List Pair → Type 0
+abbrev pub AreReadable : Command → List NameAndValue → Type 0
 AreReadable Check words = (is_good Check words Slack ≡ true) × (is_good Check words MaxCut ≡ true) × (is_good Check words MaxSplit ≡ true)
 AreReadable Run words = AreGood words × (is_good Check words MaxSplit ≡ true)
 AreReadable Make words = AreGood words × (is_good Make words Size ≡ true)

@@ -3,14 +3,14 @@ use Rattle.std.specs.Prelude.{◌≡◌, ◌⊎◌, ℕ, List, String, map, stri
 use Rattle.std.specs.Result.{MatchResult}
 use Rattle.audit_model.specs.declared.fault.WordFault.{WordFault}
 use Rattle.audit_model.specs.declared.fault.WordFault.TheVariants.{Memory}
-use Rattle.word_definitions.specs.Words.{Pair, pairs}
+use Rattle.word_definitions.specs.Words.{NameAndValue, pairs}
 
 -- the bytes of each word
 abbrev pub spoken : {A : Type 0} → List (String A) → List (List ℕ)
 spoken words = map string_bytes words
 
 -- the pairs that the words after the command make
-abbrev pub pairs_in : {A : Type 0} → List (String A) → List Pair
+abbrev pub pairs_in : {A : Type 0} → List (String A) → List NameAndValue
 pairs_in words = pairs (spoken words)
 
 -- the answer is the fault, where there is one, or want of memory

@@ -11,4 +11,5 @@ pub mod words;
 
 pub use audit_model::fault::{Name, WordFault};
 pub use audit_model::setting::Setting;
+pub use names::command_of;
 pub use words::read;

@@ -18,32 +18,32 @@ pub fn count(words: &[String]) -> usize
 }
 
 /// The first word of the pair at a place.
-pub fn name_at(words: &[String], k: usize) -> &str
-    requires { k < length (pairs_in words.now) }
-    ensures { result.now ≡ (slice_index_or (pairs_in words.now) k ([], None)).0 }
+pub fn name_at(words: &[String], place: usize) -> &str
+    requires { place < length (pairs_in words.now) }
+    ensures { result.now ≡ (slice_index_or (pairs_in words.now) place ([], None)).0 }
 {
-    words[2 * k].as_str()
+    words[2 * place].as_str()
 }
 
 /// The second word of the pair at a place, which the last may lack.
-pub fn value_at(words: &[String], k: usize) -> Option<&str>
-    requires { k < length (pairs_in words.now) }
-    ensures { option_map (λ s. s.now) result ≡ (slice_index_or (pairs_in words.now) k ([], None)).1 }
+pub fn value_at(words: &[String], place: usize) -> Option<&str>
+    requires { place < length (pairs_in words.now) }
+    ensures { option_map (λ s. s.now) result ≡ (slice_index_or (pairs_in words.now) place ([], None)).1 }
 {
-    if 2 * k + 1 < words.len() {
-        Some(words[2 * k + 1].as_str())
+    if 2 * place + 1 < words.len() {
+        Some(words[2 * place + 1].as_str())
     } else {
         None
     }
 }
 
 /// Whether the first word of the pair at a place is that of an earlier pair.
-pub fn is_repeated(words: &[String], k: usize) -> bool
-    requires { k < length (pairs_in words.now) }
-    ensures { result ≡ definition.is_repeated command.Check (pairs_in words.now) k }
+pub fn is_repeated(words: &[String], place: usize) -> bool
+    requires { place < length (pairs_in words.now) }
+    ensures { result ≡ definition.is_repeated command.Check (pairs_in words.now) place }
 {
-    for j in 0..k {
-        if name_at(words, j) == name_at(words, k) {
+    for j in 0..place {
+        if name_at(words, j) == name_at(words, place) {
             return true;
         }
     }

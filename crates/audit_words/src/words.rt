@@ -59,18 +59,23 @@ fn unknown_name(alloc: Global, word: &str) -> WordFault
 }
 
 /// Refuses the pair at a place where its first word is no name or an earlier one, or where it has no value.
-fn judge_pair(alloc: Global, command: Command, words: &[String], k: usize) -> Result<(), WordFault>
-    requires { k < length (pairs_in words.now) }
-    ensures { Tells result (definition.pair_fault command (pairs_in words.now) k) }
+fn judge_pair(
+    alloc: Global,
+    command: Command,
+    words: &[String],
+    place: usize,
+) -> Result<(), WordFault>
+    requires { place < length (pairs_in words.now) }
+    ensures { Tells result (definition.pair_fault command (pairs_in words.now) place) }
 {
-    let word = name_at(words, k);
+    let word = name_at(words, place);
     let Some(name) = name_of(command, word) else {
         return Err(unknown_name(alloc, word));
     };
-    if is_repeated(words, k) {
+    if is_repeated(words, place) {
         return Err(WordFault::Twice(name));
     }
-    if value_at(words, k).is_none() {
+    if value_at(words, place).is_none() {
         return Err(WordFault::NoValue(name));
     }
     Ok(())

@@ -1,79 +1,37 @@
 //! Checks of graphs, one for each line of a file, which is the whole text of a graph, or `hex` and the hexadecimal digits of its bytes.
 
-use crate::given::{Given, READ, WRITE, case_over};
-use crate::runs::Case;
-use crate::shown::run_absent;
-use crate::streams::{source_of, text_of};
-use audit_io::mem_source::MemSource;
-use audit_io::stop_keeper::StopKeeper;
-use hex::decode;
-use std::alloc::Global;
-use std::rt::Files;
-use std::test::Fail;
+use crate::given::{Given, Origin, READ, WRITE};
+use crate::held::{ABSENT, UNSTOPPED};
+use crate::said::Said;
+use crate::streams::word;
 
 /// The words of each check.
-const WORDS: &str = "check --pop pop --first a --second b --district d --slack 1000";
+pub const WORDS: &str = "check --pop pop --first a --second b --district d --slack 1000";
 
-/// What each check is given besides its graph.
-const GIVEN: Given<'static> = Given {
-    file: "",
-    most_read: READ,
-    failing_read: 0,
-    room: 1000,
-    most_write: WRITE,
-    failing_write: 0,
-    wanted: 0,
-};
-
-fn decoded(alloc: Global, digits: &str) -> Result<MemSource, Fail> {
-    let bytes = decode(alloc, digits)?;
-    let source = source_of(alloc, bytes.as_slice(), READ, 0)?;
-    Ok(source)
-}
-
-fn graph_of(alloc: Global, line: &str) -> Result<MemSource, Fail> {
+fn graph_of(line: &str) -> Origin<'_> {
     let mut parts = line.split_whitespace();
-    if parts.next() == Some("hex") {
-        return decoded(alloc, parts.next().unwrap_or(""));
+    if word(&mut parts) == "hex" {
+        Origin::Hex(word(&mut parts))
+    } else {
+        Origin::Text(line)
     }
-    let source = source_of(alloc, line.as_bytes(), READ, 0)?;
-    Ok(source)
 }
 
-fn check_source<R: Print + AllocGlobal, A: Fn(&mut Case, StopKeeper) -> (u8, StopKeeper)>(
-    rt: &R,
-    audit: &A,
-    source: MemSource,
-) -> Result<(), Fail>
-    requires { A.IsAlwaysCallable audit.now }
-{
-    let mut case = case_over(rt.alloc(), source, &GIVEN, WORDS.split_whitespace())?;
-    run_absent(rt, audit, &mut case)
-}
-
-fn check_line<R: Print + AllocGlobal, A: Fn(&mut Case, StopKeeper) -> (u8, StopKeeper)>(
-    rt: &R,
-    audit: &A,
-    line: &str,
-) -> Result<(), Fail>
-    requires { A.IsAlwaysCallable audit.now }
-{
-    rt.println(line)?;
-    let source = graph_of(rt.alloc(), line)?;
-    check_source(rt, audit, source)
-}
-
-/// Checks the graph of each line of a file.
-pub fn check_file<R: Files + Print + AllocGlobal, A: Fn(&mut Case, StopKeeper) -> (u8, StopKeeper)>(
-    rt: &R,
-    audit: &A,
-    file: &str,
-) -> Result<(), Fail>
-    requires { A.IsAlwaysCallable audit.now }
-{
-    let lines = text_of(rt, file)?;
-    for line in lines.lines() {
-        check_line(rt, audit, line)?;
+/// What a line says of its check.
+pub fn said_of(line: &str) -> Said<'_> {
+    let given = Given {
+        graph: graph_of(line),
+        most_read: READ,
+        failing_read: 0,
+        room: 1000,
+        most_write: WRITE,
+        failing_write: 0,
+        wanted: 0,
+    };
+    Said {
+        held: ABSENT,
+        saves: UNSTOPPED,
+        given,
+        is_told: false,
     }
-    Ok(())
 }

@@ -7,7 +7,6 @@ use audit_io::stop_keeper::StopKeeper;
 use audit_model::buffers::Bytes;
 use audit_model::memory::Memory;
 use std::alloc::Global;
-use std::rt::Files;
 use std::test::Fail;
 
 /// What is in both slots, and the number of the load that fails, or 0.
@@ -26,6 +25,20 @@ pub struct Saves {
     pub kept: u32,
 }
 
+/// Both are absent, and no load fails.
+pub const ABSENT: Held<'static> = Held {
+    zero: "absent",
+    one: "absent",
+    failing_load: 0,
+};
+
+/// No save fails, and nothing stops the run.
+pub const UNSTOPPED: Saves = Saves {
+    failing: 0,
+    stop_at: u32::MAX,
+    kept: 0,
+};
+
 /// Of which one save may fail, and within none of which the run is stopped.
 pub fn saves_failing(failing: u64) -> Saves {
     Saves {
@@ -36,8 +49,8 @@ pub fn saves_failing(failing: u64) -> Saves {
 }
 
 /// The keeper of a run, where it is the `same` over what a run before left in both slots.
-pub fn keeper_of<R: Files + AllocGlobal>(
-    rt: &R,
+pub fn keeper_of(
+    rt: &HostRuntime,
     held: &Held<'_>,
     saves: &Saves,
     before: [Option<&[u8]>; 2],
@@ -47,8 +60,8 @@ pub fn keeper_of<R: Files + AllocGlobal>(
     Ok(StopKeeper::new(keeper, saves.stop_at.max(1), saves.kept))
 }
 
-fn slots_of<R: Files + AllocGlobal>(
-    rt: &R,
+fn slots_of(
+    rt: &HostRuntime,
     held: &Held<'_>,
     before: [Option<&[u8]>; 2],
 ) -> Result<(Option<Bytes>, Option<Bytes>), Fail> {
@@ -72,10 +85,4 @@ fn keeper_over(
 /// Two absent slots, of which no call fails.
 pub fn absent(alloc: Global) -> Result<MemKeeper, Memory> {
     keeper_over(alloc, None, None, 0, 0)
-}
-
-/// The same, for a run that nothing stops.
-pub fn absent_keeper(alloc: Global) -> Result<StopKeeper, Memory> {
-    let keeper = absent(alloc)?;
-    Ok(StopKeeper::new(keeper, u32::MAX, 0))
 }

@@ -10,7 +10,6 @@ use hex::{decode, encode};
 use sha2::{Digest, Sha256};
 use std::alloc::Global;
 use std::io;
-use std::rt::Files;
 use std::test::Fail;
 
 /// One byte more than a checkpoint can have.
@@ -18,11 +17,7 @@ const TOO_LONG: usize = 8_000_085;
 
 /// What is in a slot where a line says so: nothing, the bytes of the run before, these with another last byte, too many zeros, or the
 /// bytes whose hexadecimal digits are in a file.
-pub fn slot_of<R: Files + AllocGlobal>(
-    rt: &R,
-    said: &str,
-    before: Option<&[u8]>,
-) -> Result<Option<Bytes>, Fail> {
+pub fn slot_of(rt: &HostRuntime, said: &str, before: Option<&[u8]>) -> Result<Option<Bytes>, Fail> {
     let alloc = rt.alloc();
     match said {
         "absent" => Ok(None),
@@ -51,12 +46,12 @@ fn held_zeros(alloc: Global) -> Result<Option<Bytes>, Fail> {
     Ok(Some(zeros(alloc, TOO_LONG)?))
 }
 
-fn held_file<R: Files + AllocGlobal>(rt: &R, file: &str) -> Result<Option<Bytes>, Fail> {
+fn held_file(rt: &HostRuntime, file: &str) -> Result<Option<Bytes>, Fail> {
     Ok(Some(decoded(rt, file)?))
 }
 
 // The bytes whose hexadecimal digits are in a file.
-fn decoded<R: Files + AllocGlobal>(rt: &R, file: &str) -> Result<Bytes, Fail> {
+fn decoded(rt: &HostRuntime, file: &str) -> Result<Bytes, Fail> {
     let digits = text_of(rt, file)?;
     let bytes = decode(rt.alloc(), digits.trim())?;
     let copy = bytes_of(rt.alloc(), bytes.as_slice())?;
@@ -82,33 +77,33 @@ fn spoilt(alloc: Global, bytes: &[u8]) -> Result<Bytes, Memory> {
 }
 
 /// Shows both slots: their lengths, of a checkpoint its version, its generation and the ids of its outcomes, and the digest of the bytes.
-pub fn show_slots<R: Print + AllocGlobal>(rt: &R, keeper: &MemKeeper) -> io::Result<()> {
+pub fn show_slots(rt: &HostRuntime, keeper: &MemKeeper) -> io::Result<()> {
     show_slot(rt, 0, keeper.slot(0))?;
     show_slot(rt, 1, keeper.slot(1))
 }
 
-fn show_slot<R: Print + AllocGlobal>(rt: &R, slot: u8, held: Option<&[u8]>) -> io::Result<()> {
+fn show_slot(rt: &HostRuntime, slot: u8, held: Option<&[u8]>) -> io::Result<()> {
     match held {
         None => println!(rt; "slot {slot} absent"),
         Some(bytes) => show_bytes(rt, slot, bytes),
     }
 }
 
-fn show_bytes<R: Print + AllocGlobal>(rt: &R, slot: u8, bytes: &[u8]) -> io::Result<()> {
+fn show_bytes(rt: &HostRuntime, slot: u8, bytes: &[u8]) -> io::Result<()> {
     let length = bytes.len();
     print!(rt; "slot {slot} {length} bytes")?;
     show_checkpoint(rt, bytes)?;
     show_digest(rt, bytes)
 }
 
-fn show_checkpoint<R: Print>(rt: &R, bytes: &[u8]) -> io::Result<()> {
+fn show_checkpoint(rt: &HostRuntime, bytes: &[u8]) -> io::Result<()> {
     match records_of(bytes) {
         Some(records) => show_records(rt, bytes, records),
         None => Ok(()),
     }
 }
 
-fn show_digest<R: Print + AllocGlobal>(rt: &R, bytes: &[u8]) -> io::Result<()> {
+fn show_digest(rt: &HostRuntime, bytes: &[u8]) -> io::Result<()> {
     let digest = encode(rt.alloc(), Sha256::digest(bytes))?;
     println!(rt; " sha256 {digest}")
 }
@@ -140,7 +135,7 @@ fn number_at(bytes: &[u8], place: usize) -> Option<u32> {
     Some(u32::from_be_bytes(*four))
 }
 
-fn show_records<R: Print>(rt: &R, bytes: &[u8], records: &[u8]) -> io::Result<()> {
+fn show_records(rt: &HostRuntime, bytes: &[u8], records: &[u8]) -> io::Result<()> {
     let version = number_at(bytes, 8).unwrap_or(0);
     let generation = number_at(bytes, 44).unwrap_or(0);
     print!(rt; " version {version} generation {generation} ids")?;
@@ -150,7 +145,7 @@ fn show_records<R: Print>(rt: &R, bytes: &[u8], records: &[u8]) -> io::Result<()
     Ok(())
 }
 
-fn show_id<R: Print>(rt: &R, record: &[u8]) -> io::Result<()> {
+fn show_id(rt: &HostRuntime, record: &[u8]) -> io::Result<()> {
     match number_at(record, 0) {
         Some(id) => print!(rt; " {id}"),
         None => Ok(()),

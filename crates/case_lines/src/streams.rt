@@ -6,22 +6,18 @@ use audit_model::lists::NumList;
 use audit_model::memory::Memory;
 use std::alloc::{AllocError, Global};
 use std::fs;
-use std::rt::Files;
+use std::num::ParseIntError;
 use std::str::SplitWhitespace;
 use std::test::Fail;
 
-/// The next word of a line.
-pub fn word<'a>(parts: &mut SplitWhitespace<'a>) -> Result<&'a str, Fail> {
-    match parts.next() {
-        Some(word) => Ok(word),
-        None => Err(Fail::new("a word is missing")),
-    }
+/// The next word of a line, which is empty where there is none: as a number it is refused, and as a file it is not found.
+pub fn word<'a>(parts: &mut SplitWhitespace<'a>) -> &'a str {
+    parts.next().unwrap_or("")
 }
 
 /// The next word of a line, which is a number.
-pub fn number(parts: &mut SplitWhitespace<'_>) -> Result<u64, Fail> {
-    let number = word(parts)?.parse::<u64>()?;
-    Ok(number)
+pub fn number(parts: &mut SplitWhitespace<'_>) -> Result<u64, ParseIntError> {
+    word(parts).parse::<u64>()
 }
 
 /// The number of the one call that fails, or of none.
@@ -53,7 +49,7 @@ pub fn bytes_of(alloc: Global, given: &[u8]) -> Result<Bytes, Memory> {
 }
 
 /// The text of a file.
-pub fn text_of<R: Files + AllocGlobal>(rt: &R, file: &str) -> Result<String, Fail> {
+pub fn text_of(rt: &HostRuntime, file: &str) -> Result<String, Fail> {
     let text = fs::read_to_string(rt, file)?;
     Ok(text)
 }

@@ -6,18 +6,17 @@
 use crate::gate::NotingGate;
 use crate::given::note_of;
 use crate::runs::SureCase;
-use crate::shown::show_told;
+use crate::shown::show_end;
 use crate::slots::slot_of;
 use crate::streams::{bytes_of, text_of, word, words_of};
 use audit_io::sure::{SureSink, SureSource};
 use audit_io::sure_keeper::SureKeeper;
 use std::alloc::Global;
 use std::io;
-use std::rt::Files;
 use std::str::SplitWhitespace;
 use std::test::Fail;
 
-fn source_of<R: Files + AllocGlobal>(rt: &R, file: &str) -> Result<SureSource, Fail> {
+fn source_of(rt: &HostRuntime, file: &str) -> Result<SureSource, Fail> {
     let text = text_of(rt, file)?;
     let bytes = bytes_of(rt.alloc(), text.as_bytes())?;
     Ok(SureSource::new(bytes))
@@ -39,17 +38,13 @@ fn case_over(
     })
 }
 
-fn case_of<R: Files + AllocGlobal>(
-    rt: &R,
-    file: &str,
-    parts: SplitWhitespace<'_>,
-) -> Result<SureCase, Fail> {
+fn case_of(rt: &HostRuntime, file: &str, parts: SplitWhitespace<'_>) -> Result<SureCase, Fail> {
     let source = source_of(rt, file)?;
     case_over(rt.alloc(), source, parts)
 }
 
 // The keeper whose slots hold what these words say.
-fn keeper_of<R: Files + AllocGlobal>(rt: &R, zero: &str, one: &str) -> Result<SureKeeper, Fail> {
+fn keeper_of(rt: &HostRuntime, zero: &str, one: &str) -> Result<SureKeeper, Fail> {
     let zero = slot_of(rt, zero, None)?;
     let one = slot_of(rt, one, None)?;
     let keeper = SureKeeper::new(rt.alloc(), zero, one)?;
@@ -57,10 +52,9 @@ fn keeper_of<R: Files + AllocGlobal>(rt: &R, zero: &str, one: &str) -> Result<Su
 }
 
 // Shows the status, the ids that the gate was told, and the note.
-fn show<R: Print>(rt: &R, status: u8, gate: &NotingGate, note: &[u8]) -> io::Result<()> {
-    println!(rt; "status {status}")?;
-    show_told(rt, gate)?;
-    rt.write_all(note)
+fn show(rt: &HostRuntime, status: u8, case: &SureCase) -> io::Result<()> {
+    show_end(rt, status, true, &case.gate)?;
+    rt.write_all(case.note.bytes())
 }
 
 fn status_of<A: Fn(&mut SureCase, SureKeeper) -> (u8, SureKeeper)>(
@@ -75,8 +69,8 @@ fn status_of<A: Fn(&mut SureCase, SureKeeper) -> (u8, SureKeeper)>(
 }
 
 // Makes a run over a keeper whose slots hold what these words say.
-fn run_over<R: Files + Print + AllocGlobal, A: Fn(&mut SureCase, SureKeeper) -> (u8, SureKeeper)>(
-    rt: &R,
+fn run_over<A: Fn(&mut SureCase, SureKeeper) -> (u8, SureKeeper)>(
+    rt: &HostRuntime,
     audit: &A,
     zero: &str,
     one: &str,
@@ -86,53 +80,46 @@ fn run_over<R: Files + Print + AllocGlobal, A: Fn(&mut SureCase, SureKeeper) -> 
 {
     let keeper = keeper_of(rt, zero, one)?;
     let status = status_of(audit, case, keeper);
-    show(rt, status, &case.gate, case.note.bytes())?;
+    show(rt, status, case)?;
     Ok(())
 }
 
-fn run_slots<R: Files + Print + AllocGlobal, A: Fn(&mut SureCase, SureKeeper) -> (u8, SureKeeper)>(
-    rt: &R,
+fn run_slots<A: Fn(&mut SureCase, SureKeeper) -> (u8, SureKeeper)>(
+    rt: &HostRuntime,
     audit: &A,
     zero: &str,
     one: &str,
-    mut parts: SplitWhitespace<'_>,
+    file: &str,
+    parts: SplitWhitespace<'_>,
 ) -> Result<(), Fail>
     requires { A.IsAlwaysCallable audit.now }
 {
-    let file = word(&mut parts)?;
     let mut case = case_of(rt, file, parts)?;
     run_over(rt, audit, zero, one, &mut case)
 }
 
-fn run_parts<R: Files + Print + AllocGlobal, A: Fn(&mut SureCase, SureKeeper) -> (u8, SureKeeper)>(
-    rt: &R,
-    audit: &A,
-    mut parts: SplitWhitespace<'_>,
-) -> Result<(), Fail>
-    requires { A.IsAlwaysCallable audit.now }
-{
-    let zero = word(&mut parts)?;
-    let one = word(&mut parts)?;
-    run_slots(rt, audit, zero, one, parts)
-}
-
 // Makes the run of one line.
-fn run_line<R: Files + Print + AllocGlobal, A: Fn(&mut SureCase, SureKeeper) -> (u8, SureKeeper)>(
-    rt: &R,
+fn run_line<A: Fn(&mut SureCase, SureKeeper) -> (u8, SureKeeper)>(
+    rt: &HostRuntime,
     audit: &A,
     line: &str,
 ) -> Result<(), Fail>
     requires { A.IsAlwaysCallable audit.now }
 {
     rt.println(line)?;
-    run_parts(rt, audit, line.split_whitespace())
+    let mut parts = line.split_whitespace();
+    let zero = word(&mut parts);
+    let one = word(&mut parts);
+    let file = word(&mut parts);
+    run_slots(rt, audit, zero, one, file, parts)
 }
 
 /// Makes the run of each line of a file.
-pub fn run_file<
-    R: Files + Print + AllocGlobal,
-    A: Fn(&mut SureCase, SureKeeper) -> (u8, SureKeeper),
->(rt: &R, audit: &A, file: &str) -> Result<(), Fail>
+pub fn run_file<A: Fn(&mut SureCase, SureKeeper) -> (u8, SureKeeper)>(
+    rt: &HostRuntime,
+    audit: &A,
+    file: &str,
+) -> Result<(), Fail>
     requires { A.IsAlwaysCallable audit.now }
 {
     let lines = text_of(rt, file)?;

@@ -19,10 +19,10 @@ pub struct Draws {
 
 impl Model for Draws {
     ghost use Rattle.std.specs.Prelude.{◌≡◌, ◌*◌, ◌≤◌, ◌^◌};
-    ghost use Rattle.chacha_draws.specs.Place.{Place};
+    ghost use Rattle.chacha_draws.specs.DrawPlace.{DrawPlace};
     ghost use Rattle.rand_chacha.specs.ChaCha.{key_of};
 
-    ghost Value = { Place };
+    ghost Value = { DrawPlace };
 
     ghost view = { λ d. record { key = d.key; stream = d.words.stream; place = d.place } };
 

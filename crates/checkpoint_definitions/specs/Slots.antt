@@ -11,11 +11,12 @@ use Rattle.audit_model.specs.First.{first_below}
 use Rattle.audit_model.specs.Job.{Job}
 use Rattle.audit_model.specs.Run.{IsHonest, fits, taken_up}
 use Rattle.audit_model.specs.Trajectory.{Draws, no_bins}
-use Rattle.checkpoint_definitions.specs.Checkpoint.{number_at, has_bins, outcome_start, stated_version, stated_count, checkpoint_fault}
+use Rattle.checkpoint_definitions.specs.Checkpoint.{number_at, has_bins, outcome_start, stated_version, stated_count, checkpoint_fault, generation_place, digest_place}
+use Rattle.audit_model.specs.Limits.{most_saved_bytes}
 
 -- the most bytes of a checkpoint
 abbrev pub checkpoint_limit : ℕ
-checkpoint_limit = 8000084
+checkpoint_limit = most_saved_bytes
 
 -- what a slot holds
 pub data Slot : Type 0 where
@@ -50,17 +51,17 @@ outcomes_in bytes = map_below (stated_count bytes) (outcome_in bytes)
 
 -- of a checkpoint of the job's digest
 abbrev pub slot_of_ours : List ℕ → Option ℕ → Slot
-slot_of_ours bytes None = ours (number_at w32 44 bytes) (outcomes_in bytes)
+slot_of_ours bytes None = ours (number_at w32 generation_place bytes) (outcomes_in bytes)
 slot_of_ours bytes (Some place) = broken (Unfit place)
 
 abbrev pub slot_of_digest : Job → List ℕ → Bool → Slot
-slot_of_digest job bytes false = other (slice_range bytes 12 44) (number_at w32 44 bytes)
+slot_of_digest job bytes false = other (slice_range bytes digest_place generation_place) (number_at w32 generation_place bytes)
 slot_of_digest job bytes true =
     slot_of_ours bytes (first_below (stated_count bytes) (λ place. not (fits job (outcome_in bytes place))))
 
 abbrev pub slot_of_checkpoint : Job → List ℕ → List ℕ → Option CkptFault → Slot
 slot_of_checkpoint job digest bytes (Some f) = broken f
-slot_of_checkpoint job digest bytes None = slot_of_digest job bytes (bytes_eq (slice_range bytes 12 44) digest)
+slot_of_checkpoint job digest bytes None = slot_of_digest job bytes (bytes_eq (slice_range bytes digest_place generation_place) digest)
 
 abbrev pub slot_of_bytes : Job → List ℕ → List ℕ → Bool → Slot
 slot_of_bytes job digest bytes true = broken (TooLong checkpoint_limit)
@@ -102,8 +103,8 @@ place_beside first second None = (0, 0)
 place_beside first second (Some n) = (1 - n, generation_after (generation_of (slot_at first second n)))
 
 -- where the next checkpoint goes: the slot that is not the newest, and the generation after the newest's
-abbrev pub place : Slot → Slot → ℕ × ℕ
-place first second = place_beside first second (newest first second)
+abbrev pub save_place : Slot → Slot → ℕ × ℕ
+save_place first second = place_beside first second (newest first second)
 
 abbrev pub outcomes_of_slot : Slot → Option (List Outcome)
 outcomes_of_slot absent = Some []

@@ -2,18 +2,14 @@
 use Rattle.std.proofs.Common.{◌≡◌, ℕ, zero, suc, ◌+◌, ◌-◌, ◌<◌, ◌≤◌, List, [], ◌∷◌, ◌++◌, length, get_or, take, drop, sym, ap, subst, ◌∙◌, arith, length-append, length-drop, inl, inr}
 use Rattle.std.specs.Prelude.{slice_range}
 use Rattle.std.proofs.lemmas.Bool.{cases_lt}
-use Rattle.std.proofs.lemmas.List.{get_or-take, get_or-drop, get_or_past, length-take, length-take-le, take-append-le, drop-append-le, drop_at, take_all}
+use Rattle.std.proofs.lemmas.List.{get_or-take, get_or-drop, get_or_past, length-take, length-take-le, drop_at, take_all}
 use Rattle.std.proofs.lemmas.List.Folds.{drop_split}
+use Rattle.model_laws.proofs.Lists.{part-front}
 
 -- ---- parts
 
 pub length-part : {X : Type 0} (xs : List X) (a b : ℕ) → a ≤ b → b ≤ length xs → length (slice_range xs a b) ≡ b - a
 length-part xs a b l m = length-take-le (b - a) (drop a xs) (omega (arith, length-drop a xs))
-
--- a part of the front list
-pub part-front : {X : Type 0} (xs ys : List X) (a b : ℕ) → a ≤ b → b ≤ length xs → slice_range (xs ++ ys) a b ≡ slice_range xs a b
-part-front xs ys a b l m =
-    ap (take (b - a)) (drop-append-le a xs ys (omega arith)) ∙ take-append-le (b - a) (drop a xs) ys (omega (arith, length-drop a xs))
 
 -- the last part
 pub part-back : {X : Type 0} (xs ys : List X) (a b : ℕ) → length xs ≡ a → a + length ys ≡ b → slice_range (xs ++ ys) a b ≡ ys

@@ -9,6 +9,7 @@ use Rattle.audit_model.specs.declared.setting.Setting.{Setting}
 use Rattle.audit_model.specs.Below.{filter_below}
 use Rattle.audit_model.specs.Graph.{Graph, adjacent}
 use Rattle.checkpoint_definitions.specs.Checkpoint.{digest_name, region_bytes, score_code, tail_code}
+use Rattle.audit_model.specs.Limits.{most_edges}
 
 -- the hasher took in these bytes
 pub record Hashes (old new : Sha256) (bytes : List ℕ) : Type 0 where
@@ -31,7 +32,7 @@ ask_bytes ask = to_be_bytes w32 (score_code ask.score) ++ to_be_bytes w32 (tail_
 
 -- the rules limit the cut edges, or have regions
 abbrev pub has_limits : Rules → Bool
-has_limits rules = nat_lt rules.max_cut 400000 || not (length rules.regions == 0)
+has_limits rules = nat_lt rules.max_cut most_edges || not (length rules.regions == 0)
 
 -- what stands behind the setting
 abbrev pub limit_bytes : Bool → Rules → List ℕ

@@ -3,7 +3,7 @@ use Rattle.std.specs.Prelude.{◌≡◌, ℕ, ◌+◌, ◌*◌, ◌<◌, ◌≤�
 use Rattle.std.specs.Int.{w32}
 use Rattle.std.specs.List.{All, AllPairs}
 use Rattle.audit_model.specs.declared.outcome.Outcome.{Outcome}
-use Rattle.checkpoint_definitions.specs.Checkpoint.{AreRising, IsCheckpoint, checkpoint_fault, number_at, outcome_size, stated_version}
+use Rattle.checkpoint_definitions.specs.Checkpoint.{AreRising, IsCheckpoint, checkpoint_fault, number_at, outcome_size, stated_version, digest_place, generation_place, bare_length}
 use Rattle.checkpoint_definitions.specs.Slots.{outcomes_in, checkpoint_limit}
 
 -- the bytes are the checkpoint of some version, digest, generation and outcomes
@@ -18,8 +18,8 @@ FaultlessAreCheckpoints = (bytes : List ℕ) → All (λ b. b < 256) bytes → (
 -- what stands at the places of a checkpoint
 pub record StandsIn (bytes : List ℕ) (version : ℕ) (digest : List ℕ) (generation : ℕ) (outcomes : List Outcome) : Type 0 where
   pub version_at : stated_version bytes ≡ version
-  pub digest_at : slice_range bytes 12 44 ≡ digest
-  pub generation_at : number_at w32 44 bytes ≡ generation
+  pub digest_at : slice_range bytes digest_place generation_place ≡ digest
+  pub generation_at : number_at w32 generation_place bytes ≡ generation
   pub outcomes_at : outcomes_in bytes ≡ outcomes
 
 -- what a checkpoint was made of stands at its places
@@ -38,7 +38,7 @@ CheckpointsAreDetermined =
 abbrev pub CheckpointsHaveLength : Type 0
 CheckpointsHaveLength = (bytes : List ℕ) (version : ℕ) (digest : List ℕ) (generation : ℕ) (outcomes : List Outcome)
     → IsCheckpoint bytes version digest generation outcomes
-    → (length bytes ≡ 84 + outcome_size version * length outcomes) × (length bytes ≤ checkpoint_limit)
+    → (length bytes ≡ bare_length + outcome_size version * length outcomes) × (length bytes ≤ checkpoint_limit)
 
 -- ids of which each is below all later ones rise
 abbrev pub RisingPairsRise : Type 0

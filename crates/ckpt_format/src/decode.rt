@@ -7,7 +7,7 @@ ghost use Rattle.checkpoint_definitions.specs.Checkpoint.{IsCheckpoint, checkpoi
 ghost use Rattle.checkpoint_definitions.specs.Slots.{outcome_in};
 
 use crate::fault::fault_of;
-use crate::places::{array_at, outcome_in, u32_at};
+use crate::places::{COUNT, DIGEST, GENERATION, VERSION, array_at, outcome_in, u32_at};
 use audit_model::buffers::OutcomeList;
 use audit_model::fault::CkptFault;
 use audit_model::memory::Memory;
@@ -52,15 +52,13 @@ fn read(alloc: Global, bytes: &[u8]) -> Result<Checkpoint, CkptFault>
     ensures ok { IfOk result (λ c. IsCheckpoint bytes.now c.version c.digest c.generation c.outcomes.items) }
     ensures err { IfErr result (λ f. f ≡ fault.Memory) }
 {
-    match outcomes_in(alloc, bytes, u32_at(bytes, 48)) {
-        Err(_) => Err(CkptFault::Memory),
-        Ok(outcomes) => Ok(Checkpoint {
-            version: u32_at(bytes, 8),
-            digest: array_at(bytes, 12),
-            generation: u32_at(bytes, 44) as u8,
-            outcomes,
-        }),
-    }
+    let outcomes = outcomes_in(alloc, bytes, u32_at(bytes, COUNT))?;
+    Ok(Checkpoint {
+        version: u32_at(bytes, VERSION),
+        digest: array_at(bytes, DIGEST),
+        generation: u32_at(bytes, GENERATION) as u8,
+        outcomes,
+    })
 }
 
 /// The first outcomes.

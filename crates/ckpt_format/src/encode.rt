@@ -5,8 +5,9 @@ ghost use Rattle.std.specs.List.{AllByRecursion, list_all};
 ghost use Rattle.std.specs.Int.{w32, w64, to_be_bytes, cast_unsigned};
 ghost use Rattle.sha2.specs.Sha256.{sha256};
 ghost use Rattle.audit_model.specs.Run.{is_bare};
-ghost use Rattle.checkpoint_definitions.specs.Checkpoint.{AreRising, HoldsBins, IsCheckpoint, IsOutcome, bin_bytes, checkpoint, outcome_bytes, outcome_size};
+ghost use Rattle.checkpoint_definitions.specs.Checkpoint.{AreRising, HoldsBins, IsCheckpoint, IsOutcome, bin_bytes, checkpoint, outcome_bytes, outcome_size, bare_length, outcomes_place};
 ghost use Rattle.ckpt_format.specs.Written.{Appends, bytes_by, head_bytes, size_by};
+ghost use Rattle.audit_model.specs.Limits.{most_trajectories};
 
 use audit_model::buffers::Bytes;
 use audit_model::outcome::Outcome;
@@ -18,11 +19,11 @@ pub(crate) const MAGIC: [u8; 8] = *b"DISTCKPT";
 /// Makes `out` the checkpoint of a job's digest, a generation and outcomes, in the second version of the format. It takes no memory.
 pub fn encode(digest: &[u8; 32], generation: u8, outcomes: &[Outcome], out: &mut Bytes)
     requires generation { generation < 3 }
-    requires few { length outcomes.now ≤ 100000 }
+    requires few { length outcomes.now ≤ most_trajectories }
     requires rising { AreRising (map (λ o. o.id) outcomes.now) }
-    requires room { 84 + 80 * length outcomes.now ≤ length out.old.items + out.old.spare }
+    requires room { bare_length + 80 * length outcomes.now ≤ length out.old.items + out.old.spare }
     ensures bytes { out.new.items ≡ checkpoint 2 digest.now generation outcomes.now }
-    ensures length { length out.new.items ≡ 84 + 80 * length outcomes.now }
+    ensures length { length out.new.items ≡ bare_length + 80 * length outcomes.now }
     ensures room { length out.new.items + out.new.spare ≡ length out.old.items + out.old.spare }
     ensures sound { IsCheckpoint out.new.items 2 digest.now generation outcomes.now }
 {
@@ -33,12 +34,12 @@ pub fn encode(digest: &[u8; 32], generation: u8, outcomes: &[Outcome], out: &mut
 /// memory.
 pub fn encode_old(digest: &[u8; 32], generation: u8, outcomes: &[Outcome], out: &mut Bytes)
     requires generation { generation < 3 }
-    requires few { length outcomes.now ≤ 100000 }
+    requires few { length outcomes.now ≤ most_trajectories }
     requires rising { AreRising (map (λ o. o.id) outcomes.now) }
     requires bare { IsTrue (list_all is_bare outcomes.now) }
-    requires room { 84 + 44 * length outcomes.now ≤ length out.old.items + out.old.spare }
+    requires room { bare_length + 44 * length outcomes.now ≤ length out.old.items + out.old.spare }
     ensures bytes { out.new.items ≡ checkpoint 1 digest.now generation outcomes.now }
-    ensures length { length out.new.items ≡ 84 + 44 * length outcomes.now }
+    ensures length { length out.new.items ≡ bare_length + 44 * length outcomes.now }
     ensures room { length out.new.items + out.new.spare ≡ length out.old.items + out.old.spare }
     ensures sound { IsCheckpoint out.new.items 1 digest.now generation outcomes.now }
 {
@@ -48,11 +49,11 @@ pub fn encode_old(digest: &[u8; 32], generation: u8, outcomes: &[Outcome], out: 
 /// Makes `out` the checkpoint of a version. Of versions but the second the bins are left out.
 fn encode_as(version: u32, digest: &[u8; 32], generation: u8, outcomes: &[Outcome], out: &mut Bytes)
     requires generation { generation < 3 }
-    requires few { length outcomes.now ≤ 100000 }
+    requires few { length outcomes.now ≤ most_trajectories }
     requires rising { AreRising (map (λ o. o.id) outcomes.now) }
-    requires room { 84 + outcome_size version * length outcomes.now ≤ length out.old.items + out.old.spare }
+    requires room { bare_length + outcome_size version * length outcomes.now ≤ length out.old.items + out.old.spare }
     ensures bytes { out.new.items ≡ checkpoint version digest.now generation outcomes.now }
-    ensures length { length out.new.items ≡ 84 + outcome_size version * length outcomes.now }
+    ensures length { length out.new.items ≡ bare_length + outcome_size version * length outcomes.now }
     ensures room { length out.new.items + out.new.spare ≡ length out.old.items + out.old.spare }
     ensures each { AllByRecursion IsOutcome outcomes.now }
     ensures sound { HoldsBins version outcomes.now → IsCheckpoint out.new.items version digest.now generation outcomes.now }
@@ -65,7 +66,7 @@ fn encode_as(version: u32, digest: &[u8; 32], generation: u8, outcomes: &[Outcom
 
 /// Appends what stands before the outcomes.
 fn append_head(out: &mut Bytes, version: u32, digest: &[u8; 32], generation: u8, count: u32)
-    requires { 52 ≤ out.old.spare }
+    requires { outcomes_place ≤ out.old.spare }
     ensures { Appends out.old out.new (head_bytes version digest.now generation count) }
 {
     append(out, &MAGIC);

@@ -2,11 +2,11 @@
 
 ghost use Rattle.std.specs.Prelude.{◌≡◌, ◌+◌, ◌≤◌, length};
 ghost use Rattle.audit_model.specs.First.{first_below};
-ghost use Rattle.checkpoint_definitions.specs.Checkpoint.{checkpoint_fault, outcome_start, stated_id};
+ghost use Rattle.checkpoint_definitions.specs.Checkpoint.{checkpoint_fault, outcome_start, stated_id, bare_length};
 ghost use Rattle.ckpt_format.specs.Faults.{count_fault, order_fault, digest_fault, head_fault, is_unordered};
 
 use crate::encode::MAGIC;
-use crate::places::{array_at, outcome_size, outcome_start, u32_at};
+use crate::places::{COUNT, GENERATION, VERSION, array_at, outcome_size, outcome_start, u32_at};
 use audit_model::fault::CkptFault;
 use sha2::{Digest, Sha256};
 
@@ -19,7 +19,7 @@ pub(crate) fn fault_of(bytes: &[u8]) -> Option<CkptFault>
     }
     match head_fault(bytes) {
         Some(fault) => Some(fault),
-        None => match order_fault(bytes, u32_at(bytes, 48)) {
+        None => match order_fault(bytes, u32_at(bytes, COUNT)) {
             Some(fault) => Some(fault),
             None => digest_fault(bytes),
         },
@@ -28,21 +28,21 @@ pub(crate) fn fault_of(bytes: &[u8]) -> Option<CkptFault>
 
 /// The first fault of what stands before the outcomes.
 fn head_fault(bytes: &[u8]) -> Option<CkptFault>
-    requires { 84 ≤ length bytes.now }
+    requires { bare_length ≤ length bytes.now }
     ensures { result ≡ head_fault bytes.now }
 {
     if array_at(bytes, 0) != MAGIC {
         return Some(CkptFault::BadMagic);
     }
-    let version = u32_at(bytes, 8);
+    let version = u32_at(bytes, VERSION);
     if version != 1 && version != 2 {
         return Some(CkptFault::BadVersion(version));
     }
-    let generation = u32_at(bytes, 44);
+    let generation = u32_at(bytes, GENERATION);
     if generation > 2 {
         return Some(CkptFault::BadGeneration(generation));
     }
-    count_fault(version, u32_at(bytes, 48), bytes.len() as u64)
+    count_fault(version, u32_at(bytes, COUNT), bytes.len() as u64)
 }
 
 /// The fault of a number of outcomes in so many bytes.

@@ -7,3 +7,8 @@ pub mod encode;
 mod fault;
 pub mod laws;
 mod places;
+
+pub use decode::Checkpoint;
+pub use digest::job_digest;
+pub use encode::encode_old;
+pub use laws::{checkpoints_are_read, faultless_bytes_are_checkpoints, rising_pairs_rise};

@@ -3,10 +3,25 @@
 ghost use Rattle.std.specs.Prelude.{◌≡◌, ◌+◌, ◌*◌, ◌≤◌, IsTrue, length, slice_range};
 ghost use Rattle.std.specs.Int.{w32, w64, cast_signed};
 ghost use Rattle.audit_model.specs.Below.{map_below};
-ghost use Rattle.checkpoint_definitions.specs.Checkpoint.{number_at, outcome_size, outcome_start, stated_version};
+ghost use Rattle.checkpoint_definitions.specs.Checkpoint.{number_at, outcome_size, outcome_start, stated_version, digest_place};
 ghost use Rattle.checkpoint_definitions.specs.Slots.{bins_at, outcome_at, outcome_in};
 
 use audit_model::outcome::Outcome;
+
+/// The place of the version, behind the format's name.
+pub(crate) const VERSION: usize = 8;
+
+/// The place of the job's digest.
+pub(crate) const DIGEST: usize = 12;
+
+/// The place of the generation.
+pub(crate) const GENERATION: usize = 44;
+
+/// The place of the number of outcomes.
+pub(crate) const COUNT: usize = 48;
+
+/// The place of the first outcome.
+pub(crate) const OUTCOMES: usize = 52;
 
 /// The bytes from a place on.
 pub(crate) fn array_at<const N: usize>(bytes: &[u8], at: usize) -> [u8; N]
@@ -36,10 +51,10 @@ pub(crate) fn outcome_size(version: u32) -> usize
 
 /// Where the outcome at a place begins.
 pub(crate) fn outcome_start(bytes: &[u8], place: u32) -> usize
-    requires { 12 ≤ length bytes.now }
+    requires { digest_place ≤ length bytes.now }
     ensures { result ≡ outcome_start bytes.now place }
 {
-    52 + outcome_size(u32_at(bytes, 8)) * place as usize
+    OUTCOMES + outcome_size(u32_at(bytes, VERSION)) * place as usize
 }
 
 /// The outcome at a place of a checkpoint, from 0.
@@ -68,7 +83,7 @@ fn i64_at(bytes: &[u8], at: usize) -> i64
 
 /// The outcome whose bytes begin at a place.
 fn outcome_at(bytes: &[u8], at: usize) -> Outcome
-    requires version { 12 ≤ length bytes.now }
+    requires version { digest_place ≤ length bytes.now }
     requires room { at + outcome_size (stated_version bytes.now) ≤ length bytes.now }
     ensures { result ≡ outcome_at bytes.now at }
 {
@@ -81,7 +96,7 @@ fn outcome_at(bytes: &[u8], at: usize) -> Outcome
             i64_at(bytes, at + 28),
             i64_at(bytes, at + 36),
         ],
-        bins: bins_of(bytes, u32_at(bytes, 8) == 2, at + 44),
+        bins: bins_of(bytes, u32_at(bytes, VERSION) == 2, at + 44),
     }
 }
 

@@ -6,9 +6,9 @@ use Rattle.std.proofs.lemmas.List.{length-take-le, take-append-drop}
 use Rattle.audit_model.specs.declared.fault.CkptFault.{CkptFault}
 use Rattle.audit_model.specs.declared.outcome.Outcome.{Outcome}
 use Rattle.audit_model.specs.Job.{Job}
+use Rattle.model_laws.proofs.Lists.{part-front}
 use Rattle.checkpoint_definitions.specs.Checkpoint.{IsCheckpoint, checkpoint_fault, outcome_size, stated_count, stated_version}
 use Rattle.checkpoint_definitions.specs.Slots.{broken, checkpoint_limit, slot_of, slot_of_bytes, slot_of_checkpoint}
-use Rattle.ckpt_format.proofs.Cutting.{part-front}
 use Rattle.ckpt_format.proofs.Faulting.{IsFaultless-from_none}
 use Rattle.ckpt_format.proofs.Made.{none-from_checkpoint}
 

@@ -3,7 +3,8 @@ use Rattle.std.proofs.Common.{◌≡◌, ℕ, ◌+◌, ◌<◌, List, length, Op
 use Rattle.std.specs.Prelude.{Err, IfOk, replicate}
 use Rattle.std.proofs.lemmas.Bool.{lt-ltb}
 use Rattle.std.proofs.lemmas.List.{length-replicate}
-use Rattle.audit_io.specs.Slots.{IfTold, Loads, LoadsWithin, Pair, stored}
+use Rattle.audit_io.specs.Told.{IfTold}
+use Rattle.audit_io.specs.Slots.{Loads, LoadsWithin, Pair, stored}
 use Rattle.audit_io.specs.declared.keeper.LoadError.{LoadError}
 use Rattle.audit_io.specs.declared.keeper.LoadError.TheVariants as load
 use Rattle.audit_model.specs.declared.fault.CkptFault.TheVariants.{TooLong}

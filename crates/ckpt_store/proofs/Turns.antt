@@ -4,12 +4,13 @@ use Rattle.std.specs.Prelude.{◌==◌, IsTrue}
 use Rattle.std.specs.List.{list_all}
 use Rattle.std.proofs.lemmas.Bool.{cond-false, cond-true, eq-eqb, ne_eqb}
 use Rattle.std.proofs.lemmas.Nat.{mod_below}
-use Rattle.audit_io.specs.Slots.{HoldsBytes, IfTold, Pair, Stored, other_stored, stored}
+use Rattle.audit_io.specs.Told.{IfTold}
+use Rattle.audit_io.specs.Slots.{HoldsBytes, Pair, Stored, other_stored, stored}
 use Rattle.audit_model.specs.declared.outcome.Outcome.{Outcome}
 use Rattle.audit_model.specs.Job.{Job}
 use Rattle.audit_model.specs.Run.{fits}
 use Rattle.checkpoint_definitions.specs.Checkpoint.{IsCheckpoint, checkpoint}
-use Rattle.checkpoint_definitions.specs.Slots.{Slot, absent, broken, generation_of, newest, newest_of, other, ours, place, place_beside, slot_of, generation_after}
+use Rattle.checkpoint_definitions.specs.Slots.{Slot, absent, broken, generation_of, newest, newest_of, other, ours, save_place, place_beside, slot_of, generation_after}
 use Rattle.ckpt_store.specs.Laws.{IsNewestForFitJobs, IsNewestWhere, SavedSlotsAreNewest, WrittenSlotsAreNewest, newest_for, newest_of_both, replaced}
 use Rattle.ckpt_store.proofs.Ours.{checkpoints_are_ours}
 
@@ -45,7 +46,7 @@ beside_newest : (first second : Slot) (follows : Bool)
 beside_newest first second true = refl
 beside_newest first second false = refl
 
-pub place_by_generations : (first second : Slot) → place first second ≡ place_of (generation_of first) (generation_of second)
+pub place_by_generations : (first second : Slot) → save_place first second ≡ place_of (generation_of first) (generation_of second)
 place_by_generations absent absent = refl
 place_by_generations absent (broken e) = refl
 place_by_generations absent (other d h) = refl

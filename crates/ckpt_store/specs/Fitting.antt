@@ -11,6 +11,7 @@ use Rattle.checkpoint_definitions.specs.Slots as definition
 use Rattle.ckpt_format.specs.declared.decode.Checkpoint.{Checkpoint}
 use Rattle.ckpt_store.specs.declared.slots.Slot.{Slot}
 use Rattle.ckpt_store.specs.declared.slots.Slot.TheVariants as slot
+use Rattle.audit_model.specs.Limits.{most_trajectories}
 
 -- there is an outcome, and it does not fit
 abbrev pub is_unfit_one : Job → Option Outcome → Bool
@@ -37,7 +38,7 @@ judged job digest checkpoint = judged_digest job checkpoint (bytes_eq checkpoint
 
 -- the ids rise, and each outcome fits the job
 pub record AreFit (job : Job) (outcomes : List Outcome) : Type 0 where
-  pub few : length outcomes ≤ 100000
+  pub few : length outcomes ≤ most_trajectories
   pub rising : AreRising (map (λ o. o.id) outcomes)
   pub fit : All (λ o. IsTrue (fits job o)) outcomes
 

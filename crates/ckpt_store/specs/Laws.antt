@@ -7,7 +7,7 @@ use Rattle.audit_model.specs.Job.{Job}
 use Rattle.audit_model.specs.Run.{IsHonest, IsRight, fits}
 use Rattle.audit_model.specs.Trajectory.{Draws}
 use Rattle.checkpoint_definitions.specs.Checkpoint.{IsCheckpoint, checkpoint}
-use Rattle.checkpoint_definitions.specs.Slots.{IsAfterStop, IsHonestSlot, Slot, absent, broken, generation_of, newest, opening, other, ours, place, slot_of}
+use Rattle.checkpoint_definitions.specs.Slots.{IsAfterStop, IsHonestSlot, Slot, absent, broken, generation_of, newest, opening, other, ours, save_place, slot_of}
 
 -- ---- the newest slot
 
@@ -26,7 +26,7 @@ newest_for job digest p = newest (slot_of job digest p.zero_slot) (slot_of job d
 
 -- where the next checkpoint of a job goes
 abbrev pub place_for : Job → List ℕ → Pair → ℕ × ℕ
-place_for job digest p = place (slot_of job digest p.zero_slot) (slot_of job digest p.one_slot)
+place_for job digest p = save_place (slot_of job digest p.zero_slot) (slot_of job digest p.one_slot)
 
 -- a checkpoint of outcomes that all fit a job is the job's, where the job is looked for by the checkpoint's digest
 abbrev pub CheckpointsAreOurs : Type 0
@@ -50,7 +50,7 @@ SlotsAreWhatTheyAre = (job : Job) (digest bytes : List ℕ) → All (λ b. b < 2
 -- whatever both slots are, an intact slot of the generation and in the slot of the place is the newest
 abbrev pub WrittenSlotsAreNewest : Type 0
 WrittenSlotsAreNewest = (first second new : Slot) (number generation : ℕ)
-    → place first second ≡ (number, generation) → generation_of new ≡ Some generation
+    → save_place first second ≡ (number, generation) → generation_of new ≡ Some generation
     → newest_of_both (replaced number new first second) ≡ Some number
 
 -- the slot that was written is the job's, with these outcomes, and the newest

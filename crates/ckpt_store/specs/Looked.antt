@@ -1,7 +1,8 @@
 -- What a look at the slots says.
 use Rattle.std.specs.Prelude.{◌≡◌, ℕ, List, Option, Result, Ok, Err}
 use Rattle.audit_io.specs.Faults.{Counts, Rose}
-use Rattle.audit_io.specs.Slots.{IfTold, Pair, Stored, stored}
+use Rattle.audit_io.specs.Told.{IfTold}
+use Rattle.audit_io.specs.Slots.{Pair, Stored, stored}
 use Rattle.audit_io.specs.declared.keeper.LoadError.{LoadError}
 use Rattle.audit_io.specs.declared.keeper.LoadError.TheVariants as load
 use Rattle.audit_model.specs.declared.fault.CkptFault.TheVariants.{Memory, TooLong}

@@ -21,7 +21,7 @@ abbrev pub newest_seen : Slots → Option ℕ
 newest_seen slots = definition.newest (slot_view slots.zero) (slot_view slots.one)
 
 abbrev pub place_seen : Slots → ℕ × ℕ
-place_seen slots = definition.place (slot_view slots.zero) (slot_view slots.one)
+place_seen slots = definition.save_place (slot_view slots.zero) (slot_view slots.one)
 
 -- the outcomes of the newest slot, where they may be taken, and none where both slots are absent
 abbrev pub held_seen : Slots → Option (List Outcome)

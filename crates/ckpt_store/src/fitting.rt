@@ -8,13 +8,14 @@ ghost use Rattle.audit_model.specs.First.{first_below};
 ghost use Rattle.audit_model.specs.Run.{bins_fit, fits, is_bare, steps_of, total};
 ghost use Rattle.audit_model.specs.Trajectory.{value_at};
 ghost use Rattle.ckpt_store.specs.Fitting.{is_unfit};
+ghost use Rattle.audit_model.specs.Limits.{most_trajectories};
 
 use audit_model::outcome::Outcome;
 use plan_core::job::Job;
 
 /// The least place of an outcome that does not fit the job.
 pub(crate) fn first_unfit(job: &Job, outcomes: &[Outcome]) -> Option<u32>
-    requires { length outcomes.now ≤ 100000 }
+    requires { length outcomes.now ≤ most_trajectories }
     ensures { result ≡ first_below (length outcomes.now) (is_unfit job.now outcomes.now) }
 {
     for (place, outcome) in outcomes.iter().enumerate() {

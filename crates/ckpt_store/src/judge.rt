@@ -7,6 +7,7 @@ ghost use Rattle.checkpoint_definitions.specs.Slots.{checkpoint_limit, slot_of};
 ghost use Rattle.ckpt_store.specs.Fitting.{HasFitOutcomes, judged};
 ghost use Rattle.ckpt_store.specs.Looked.{IsByBytes};
 ghost use Rattle.ckpt_store.specs.View.{slot_view};
+ghost use Rattle.audit_model.specs.Limits.{most_trajectories};
 
 use crate::fitting::first_unfit;
 use crate::slots::Slot;
@@ -57,7 +58,7 @@ fn broken(fault: CkptFault) -> Result<Slot, Memory>
 
 /// What a checkpoint is for the job with this digest.
 fn judge(job: &Job, digest: &[u8; 32], checkpoint: Checkpoint) -> Slot
-    requires few { length checkpoint.outcomes.items ≤ 100000 }
+    requires few { length checkpoint.outcomes.items ≤ most_trajectories }
     requires rising { AreRising (map (λ o. o.id) checkpoint.outcomes.items) }
     ensures slot { slot_view result ≡ judged job.now digest.now checkpoint }
     ensures sound { HasFitOutcomes job.now result }

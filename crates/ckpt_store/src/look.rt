@@ -3,6 +3,7 @@
 ghost use Rattle.std.specs.Prelude.{◌≡◌, ◌<◌, ◌≤◌, IfErr, IfOk, length};
 ghost use Rattle.audit_io.specs.Slots.{stored_if};
 ghost use Rattle.checkpoint_definitions.specs.Slots.{checkpoint_limit, slot_of};
+ghost use Rattle.ckpt_store.specs.declared.look.LookFault.TheVariants as fault;
 ghost use Rattle.ckpt_store.specs.Fitting.{HasFitOutcomes};
 ghost use Rattle.ckpt_store.specs.Looked.{HasLookCause, IsByBytes, SawSlot, SawSlots, unloaded};
 ghost use Rattle.ckpt_store.specs.View.{slot_view};
@@ -12,6 +13,7 @@ use crate::slots::{Slot, Slots};
 use audit_io::keeper::{Keeper, LoadError};
 use audit_model::buffers::Bytes;
 use audit_model::fault::CkptFault;
+use audit_model::memory::Memory;
 use plan_core::job::Job;
 use std::alloc::Global;
 
@@ -25,6 +27,14 @@ pub enum LookFault {
     Failed,
     /// There was no memory for a slot's bytes or its outcomes.
     Memory,
+}
+
+impl From<Memory> for LookFault {
+    ghost from_gives = { λ _ f. f ≡ fault.Memory };
+
+    fn from(_: Memory) -> LookFault {
+        LookFault::Memory
+    }
 }
 
 /// What both slots are for the job with this digest: slot 0 is looked at first. No slot is changed. Whatever the keeper tells, there are two
@@ -41,13 +51,13 @@ pub fn look<C: Keeper>(
     digest: &[u8; 32],
     room: &mut Bytes,
 ) -> Result<Slots, LookFault>
-    ensures saw { IfOk result (SawSlots job.now digest.now (C.slots keeper.old)) }
+    ensures saw { IfOk result (SawSlots job.now digest.now (C.state keeper.old).slots) }
     ensures sound { IfOk result (λ s. HasFitOutcomes job.now s.zero × HasFitOutcomes job.now s.one) }
     ensures by_bytes { IfOk result (λ s. IsByBytes s.zero × IsByBytes s.one) }
-    ensures slots { C.slots keeper.new ≡ C.slots keeper.old }
-    ensures cause { HasLookCause (C.load_faults keeper.old) (C.load_faults keeper.new) result }
-    ensures saves { C.save_faults keeper.new ≡ C.save_faults keeper.old }
-    ensures tried { C.tried keeper.new ≡ C.tried keeper.old }
+    ensures slots { (C.state keeper.new).slots ≡ (C.state keeper.old).slots }
+    ensures cause { HasLookCause (C.state keeper.old).load_faults (C.state keeper.new).load_faults result }
+    ensures saves { (C.state keeper.new).save_faults ≡ (C.state keeper.old).save_faults }
+    ensures tried { (C.state keeper.new).tried ≡ (C.state keeper.old).tried }
 {
     let zero = look_at(alloc, keeper, 0, job, digest, room)?;
     let one = look_at(alloc, keeper, 1, job, digest, room)?;
@@ -64,13 +74,13 @@ fn look_at<C: Keeper>(
     room: &mut Bytes,
 ) -> Result<Slot, LookFault>
     requires { slot < 2 }
-    ensures saw { IfOk result (SawSlot job.now digest.now (C.slots keeper.old) slot) }
+    ensures saw { IfOk result (SawSlot job.now digest.now (C.state keeper.old).slots slot) }
     ensures sound { IfOk result (λ s. HasFitOutcomes job.now s) }
     ensures by_bytes { IfOk result IsByBytes }
-    ensures slots { C.slots keeper.new ≡ C.slots keeper.old }
-    ensures cause { HasLookCause (C.load_faults keeper.old) (C.load_faults keeper.new) result }
-    ensures saves { C.save_faults keeper.new ≡ C.save_faults keeper.old }
-    ensures tried { C.tried keeper.new ≡ C.tried keeper.old }
+    ensures slots { (C.state keeper.new).slots ≡ (C.state keeper.old).slots }
+    ensures cause { HasLookCause (C.state keeper.old).load_faults (C.state keeper.new).load_faults result }
+    ensures saves { (C.state keeper.new).save_faults ≡ (C.state keeper.old).save_faults }
+    ensures tried { (C.state keeper.new).tried ≡ (C.state keeper.old).tried }
 {
     match keeper.load(slot, LIMIT, room) {
         Ok(found) => judge_loaded(alloc, job, digest, found, room.as_slice()),
@@ -95,10 +105,7 @@ fn judge_loaded(
     if !found {
         return Ok(Slot::Absent);
     }
-    match judge_bytes(alloc, job, digest, bytes) {
-        Ok(slot) => Ok(slot),
-        Err(_) => Err(LookFault::Memory),
-    }
+    Ok(judge_bytes(alloc, job, digest, bytes)?)
 }
 
 /// What a slot that was not loaded is.

@@ -2,10 +2,12 @@
 
 ghost use Rattle.std.specs.Prelude.{◌≡◌, ◌+◌, ◌-◌, ◌*◌, ◌%◌, ◌<◌, ◌≤◌, length, map, OnErr, OnOk, is_ok};
 ghost use Rattle.audit_io.specs.Faults.{HasCause};
-ghost use Rattle.audit_io.specs.Slots.{HoldsBytes, IfTold, KeepsOther};
+ghost use Rattle.audit_io.specs.Told.{IfTold};
+ghost use Rattle.audit_io.specs.Slots.{HoldsBytes, KeepsOther};
 ghost use Rattle.audit_io.specs.Tries.{tried_too};
-ghost use Rattle.checkpoint_definitions.specs.Checkpoint.{AreRising, IsCheckpoint, checkpoint};
+ghost use Rattle.checkpoint_definitions.specs.Checkpoint.{AreRising, IsCheckpoint, checkpoint, bare_length};
 ghost use Rattle.ckpt_store.specs.Laws.{IsNewestForFitJobs};
+ghost use Rattle.audit_model.specs.Limits.{most_trajectories};
 
 use crate::slots::{Place, generation_after};
 use audit_io::keeper::Keeper;
@@ -29,18 +31,18 @@ pub fn save<C: Keeper>(
 ) -> Result<(), Failed>
     requires slot { place.old.slot < 2 }
     requires generation { place.old.generation < 3 }
-    requires few { length outcomes.now ≤ 100000 }
+    requires few { length outcomes.now ≤ most_trajectories }
     requires rising { AreRising (map (λ o. o.id) outcomes.now) }
-    requires room { 84 + 80 * length outcomes.now ≤ length room.old.items + room.old.spare }
-    ensures saved { OnOk result (HoldsBytes (C.slots keeper.new) place.old.slot (checkpoint 2 digest.now place.old.generation outcomes.now)) }
+    requires room { bare_length + 80 * length outcomes.now ≤ length room.old.items + room.old.spare }
+    ensures saved { OnOk result (HoldsBytes (C.state keeper.new).slots place.old.slot (checkpoint 2 digest.now place.old.generation outcomes.now)) }
     ensures sound { IsCheckpoint (checkpoint 2 digest.now place.old.generation outcomes.now) 2 digest.now place.old.generation outcomes.now }
-    ensures newest { OnOk result (IfTold (C.slots keeper.new) (IsNewestForFitJobs digest.now place.old.slot place.old.generation outcomes.now)) }
+    ensures newest { OnOk result (IfTold (C.state keeper.new).slots (IsNewestForFitJobs digest.now place.old.slot place.old.generation outcomes.now)) }
     ensures moved { OnOk result (place.new ≡ record { slot = 1 - place.old.slot; generation = (place.old.generation + 1) % 3 }) }
     ensures kept { OnErr result (place.new ≡ place.old) }
-    ensures other { KeepsOther (C.slots keeper.old) (C.slots keeper.new) place.old.slot }
-    ensures cause { HasCause (C.save_faults keeper.old) (C.save_faults keeper.new) result }
-    ensures loads { C.load_faults keeper.new ≡ C.load_faults keeper.old }
-    ensures tried { C.tried keeper.new ≡ tried_too (C.tried keeper.old) place.old.slot (checkpoint 2 digest.now place.old.generation outcomes.now) (is_ok result) }
+    ensures other { KeepsOther (C.state keeper.old).slots (C.state keeper.new).slots place.old.slot }
+    ensures cause { HasCause (C.state keeper.old).save_faults (C.state keeper.new).save_faults result }
+    ensures loads { (C.state keeper.new).load_faults ≡ (C.state keeper.old).load_faults }
+    ensures tried { (C.state keeper.new).tried ≡ tried_too (C.state keeper.old).tried place.old.slot (checkpoint 2 digest.now place.old.generation outcomes.now) (is_ok result) }
     ensures room { length room.new.items + room.new.spare ≡ length room.old.items + room.old.spare }
 {
     encode(digest, place.generation, outcomes, room);

@@ -1,5 +1,6 @@
 //! The counter.
 ghost use Rattle.std.specs.Prelude.{◌≡◌, ◌≤◌};
+ghost use Rattle.audit_model.specs.Limits.{most_trajectories};
 
 use crate::pass::Pass;
 use crate::record::{Size, View};
@@ -16,7 +17,7 @@ pub struct Claims {
     ghost one_word: { table.shared.table_id.words ≡ 1 },
     ghost no_slots: { table.shared.table_id.slots ≡ 0 },
     ghost limit_is: { table.shared.key.limit ≡ limit },
-    ghost small: { (limit ≤ 100000) × (table.shared.key.seats ≤ 33) },
+    ghost small: { (limit ≤ most_trajectories) × (table.shared.key.seats ≤ 33) },
 }
 
 /// What a counter gave out.
@@ -35,7 +36,7 @@ impl Claims {
 
     /// A counter of the numbers below `limit`, for at most `seats` passes, and the first of these. The only error is want of memory.
     pub fn new(alloc: Global, limit: u32, seats: u32) -> Result<(Claims, Pass), Memory>
-        requires limit { limit ≤ 100000 }
+        requires limit { limit ≤ most_trajectories }
         requires seats { (1 ≤ seats) × (seats ≤ 33) }
         ensures size { IfOk result (λ c. size_of c.0 ≡ record { limit = limit; seats = seats }) }
         ensures pass { IfOk result (λ c. BelongsTo c.0 c.1 × (own c.1 ≡ fresh (seats - 1))) }
@@ -92,11 +93,11 @@ impl Claims {
     }
 
     /// One pass for two, with the numbers of both. It has ended where both have.
-    pub fn join(&self, a: Pass, b: Pass) -> Pass
-        requires first { BelongsTo self.now a }
-        requires second { BelongsTo self.now b }
+    pub fn join(&self, first: Pass, second: Pass) -> Pass
+        requires first { BelongsTo self.now first }
+        requires second { BelongsTo self.now second }
         ensures pass { BelongsTo self.now result }
-        ensures both { own result ≡ joined (own a) (own b) }
+        ensures both { own result ≡ joined (own first) (own second) }
         ensures different { AreDifferentBelow (size_of self.now).limit (own result).claims }
         ensures all { HasAllSeats (size_of self.now) (own result) → (own result).ended ≡ true → AreAllBelow (size_of self.now).limit (own result).claims }
     {
@@ -104,12 +105,12 @@ impl Claims {
             mut seat,
             spare,
             ended,
-        } = a;
+        } = first;
         let Pass {
             seat: other_seat,
             spare: other_spare,
             ended: other_ended,
-        } = b;
+        } = second;
         self.table
             .shared
             .join_seat::<OnePass>(&mut seat, other_seat);

@@ -13,14 +13,14 @@ use Rattle.claim_counter.specs.declared.claims.Claims.{Claims}
 use Rattle.claim_counter.specs.Records.{AreDifferentBelow}
 use Rattle.claim_counter.specs.Passes.{own, size_of}
 use Rattle.claim_crew.specs.declared.worker.Worker.{Worker}
-use Rattle.claim_crew.specs.Workers.{IsDone}
+use Rattle.claim_crew.specs.Workers.{IsWorkerDone}
 use Rattle.claim_crew.specs.Walks.{found_at, Lacks, IsTodo, IsWithin}
 use Rattle.claim_crew.proofs.Sharing.{found_is, share_within, share_apart, share_absent, lacks_others}
 
 pub none_yet : {A : Type 0} (P : A → Type 0) (xs : List A) → length xs ≡ 0 → All P xs
 none_yet P xs none = λ k d inside. absurd (omega (arith, inside, none))
 
-module _ {J : Type 0} (job : Job) (todo : List ℕ) (c : Claims) (w : Worker J) (done : IsDone job todo c w) (count : (size_of c).limit ≡ length todo) where
+module _ {J : Type 0} (job : Job) (todo : List ℕ) (c : Claims) (w : Worker J) (done : IsWorkerDone job todo c w) (count : (size_of c).limit ≡ length todo) where
   abbrev places : List ℕ
   places = (own w.pass).claims
 

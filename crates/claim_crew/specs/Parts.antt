@@ -8,7 +8,7 @@ use Rattle.claim_counter.specs.declared.claims.Claims.{Claims}
 use Rattle.claim_counter.specs.Records.{fresh}
 use Rattle.claim_counter.specs.Passes.{own, size_of, BelongsTo}
 use Rattle.walker.specs.Seated.{IsSeated, held_of}
-use Rattle.claim_crew.specs.Workers.{IsDone, IsReady}
+use Rattle.claim_crew.specs.Workers.{IsWorkerDone, IsReady}
 use Rattle.claim_crew.specs.declared.parts.Hand.{Hand}
 use Rattle.claim_crew.specs.declared.parts.Part.{Part}
 use Rattle.claim_crew.specs.declared.parts.Team.{Team}
@@ -38,7 +38,7 @@ module _ {J : Type 0} (keeps : J → Type 0) (stands : J → List ℕ → Type 0
 
   -- after it
   pub record IsBack (job : Job) (todo : List ℕ) (c : Claims) (w : Worker J) : Type 0 where
-    pub done : IsDone job todo c w
+    pub done : IsWorkerDone job todo c w
     pub made : (held_of w.walker).job ≡ job
     pub seated : IsSeated job keeps stands takes by w.walker
     pub room : total job ≤ length w.share.items + w.share.spare

@@ -36,7 +36,7 @@ module _ {J : Type 0} (keeps : J → Type 0) (stands : J → List ℕ → Type 0
     pub room : (size_of c).limit ≤ length share.items + share.spare
 
 -- no place is left, and its share is what the places that it drew give
-pub record IsDone {J : Type 0} (job : Job) (todo : List ℕ) (c : Claims) (w : Worker J) : Type 0 where
+pub record IsWorkerDone {J : Type 0} (job : Job) (todo : List ℕ) (c : Claims) (w : Worker J) : Type 0 where
   pub pass : BelongsTo c w.pass
   pub ended : (own w.pass).ended ≡ true
   pub weight : (own w.pass).weight ≡ 1

@@ -3,6 +3,7 @@
 ghost use Rattle.std.specs.Prelude.{◌≤◌, IfOk, vec_len};
 ghost use Rattle.claim_crew.specs.Crews.{IsCrew};
 ghost use Rattle.walker.specs.Judges.{AreJudges};
+ghost use Rattle.audit_model.specs.Limits.{most_trajectories, most_workers};
 
 use crate::parts::{Part, Team, muster};
 use audit_model::memory::Memory;
@@ -25,8 +26,8 @@ pub fn recruit<J: Judge>(
     count: u32,
     judges: Vec<J>,
 ) -> Result<Crew<J>, Memory>
-    requires count { count ≤ 100000 }
-    requires workers { (1 ≤ vec_len judges) × (vec_len judges ≤ 32) }
+    requires count { count ≤ most_trajectories }
+    requires workers { (1 ≤ vec_len judges) × (vec_len judges ≤ most_workers) }
     requires judges { AreJudges job.now J.keeps J.takes J.rules judges.items }
     ensures { IfOk result (IsCrew J.keeps J.stands J.takes J.rules job.now count (vec_len judges)) }
 {

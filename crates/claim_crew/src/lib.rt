@@ -5,3 +5,7 @@ pub mod crew;
 pub mod parts;
 pub mod walking;
 pub mod worker;
+
+pub use crew::{Crew, recruit};
+pub use parts::{Part, Team, find_hub, muster, walk_part};
+pub use walking::walk_run;

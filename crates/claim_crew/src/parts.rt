@@ -11,6 +11,7 @@ ghost use Rattle.walker.specs.Judges.{AreJudges, IsJudgeFor};
 ghost use Rattle.walker.specs.Seated.{IsSeated, held_of};
 ghost use Rattle.claim_crew.specs.Parts.{IsBack, IsHand, IsLent, IsPart, IsTeam};
 ghost use Rattle.claim_crew.specs.Walks.{found, found_at, IsTodo, IsWithin, ServesEnds};
+ghost use Rattle.audit_model.specs.Limits.{most_trajectories, most_workers};
 
 use crate::worker::Worker;
 use audit_io::gate::Gate;
@@ -37,8 +38,8 @@ pub struct Part {
 impl Part {
     /// For `count` trajectories and so many workers. The only error is want of memory.
     pub fn new(alloc: Global, count: u32, workers: u32) -> Result<Part, Memory>
-        requires count { count ≤ 100000 }
-        requires workers { (1 ≤ workers) × (workers ≤ 32) }
+        requires count { count ≤ most_trajectories }
+        requires workers { (1 ≤ workers) × (workers ≤ most_workers) }
         ensures { IfOk result (IsPart count workers) }
     {
         let (claims, pass) = Claims::new(alloc, count, workers)?;

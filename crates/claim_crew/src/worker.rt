@@ -19,7 +19,7 @@ pub struct Worker<J> {
 impl<J: Judge> Worker<J> {
     ghost use Rattle.std.specs.Prelude.{◌≡◌, ◌+◌, length};
     ghost use Rattle.claim_counter.specs.Passes.{size_of};
-    ghost use Rattle.claim_crew.specs.Workers.{IsReady, IsDone};
+    ghost use Rattle.claim_crew.specs.Workers.{IsReady, IsWorkerDone};
     ghost use Rattle.claim_crew.specs.Parts.{IsBack, IsLent};
     ghost use Rattle.walker.specs.Seated.{IsSeated, held_of};
     ghost use Rattle.claim_crew.specs.Walks.{IsWithin, ServesEnds};
@@ -30,7 +30,7 @@ impl<J: Judge> Worker<J> {
         requires count { (size_of claims.now).limit ≡ length todo.now }
         requires within { IsWithin job.now todo.now }
         requires hub { ServesEnds job.now todo.now hub.now }
-        ensures done { IsDone job.now todo.now claims.now self.new }
+        ensures done { IsWorkerDone job.now todo.now claims.now self.new }
         ensures made { (held_of self.new.walker).job ≡ job.now }
         ensures seated { IsSeated job.now J.keeps J.stands J.takes J.rules self.new.walker }
         ensures room { length self.new.share.items + self.new.share.spare ≡ self.old.share.spare }

@@ -1,19 +1,17 @@
 -- A connected district without one unit is connected exactly where that unit's mates are joined within it.
 use Rattle.std.proofs.Common.{◌≡◌, ℕ, ◌<◌, true, not, List, [], ◌∷◌, refl, sym, ◌∙◌, subst, inl, inr}
 use Rattle.std.specs.Prelude.{◌==◌, ◌⊎◌, slice_index}
-use Rattle.std.proofs.lemmas.Bool.{and_parts, and_from, cases_eq, eq-eqb, ne_eqb, both_ways, not_from_false, not-true}
+use Rattle.std.proofs.lemmas.Bool.{and_parts, and_from, cases_eq, eq-eqb, both_ways, not-true}
 use Rattle.audit_model.specs.Graph.{Graph, adjacent, IsIn}
 use Rattle.audit_model.specs.Local.{is_mate, stays_behind, MayLeave}
 use Rattle.audit_model.specs.Path.{IsPath, HasPath, IsConnected}
 use Rattle.audit_model.specs.Plan.{in_district}
 use Rattle.audit_model.specs.Graph.{IsGraph}
 use Rattle.model_laws.proofs.Paths.{path_one, path_before, path_joined, first_in}
+use Rattle.model_laws.proofs.Local.{left_behind}
 use Rattle.contig.proofs.Growing.{mate_stays}
 
 module _ (g : Graph) (plan : List ℕ) (u : ℕ) (graph : IsGraph g) where
-  behind : (v : ℕ) → IsIn g (in_district plan (slice_index plan u)) v → (v ≡ u → ⊥) → IsIn g (stays_behind plan u) v
-  behind v i off = (i.0, and_from (in_district plan (slice_index plan u) v) (not (v == u)) i.1 (not_from_false (v == u) (ne_eqb v u off)))
-
   mate : (v : ℕ) → IsIn g (in_district plan (slice_index plan u)) v → adjacent g u v ≡ true → IsIn g (is_mate g plan u) v
   mate v i a = (i.0, and_from (adjacent g u v) (in_district plan (slice_index plan u) v) a i.1)
 
@@ -32,7 +30,7 @@ module _ (g : Graph) (plan : List ℕ) (u : ℕ) (graph : IsGraph g) where
           rest_of.0,
           rest_of.1,
           subst (λ v. HasPath g (stays_behind plan u) v rest_of.0) p.0
-              (path_before g (stays_behind plan u) w t rest_of.0 (behind w p.1 (λ e. off (sym p.0 ∙ e))) p.2 rest_of.2),
+              (path_before g (stays_behind plan u) w t rest_of.0 (left_behind g plan u w p.1 (λ e. off (sym p.0 ∙ e))) p.2 rest_of.2),
         )
   ]
 
@@ -40,12 +38,12 @@ module _ (g : Graph) (plan : List ℕ) (u : ℕ) (graph : IsGraph g) where
   from_mate : (units : List ℕ) (x y : ℕ) → IsPath g (in_district plan (slice_index plan u)) units x y → (y ≡ u → ⊥)
       → HasPath g (stays_behind plan u) x y ⊎ ((m : ℕ) × IsIn g (is_mate g plan u) m × HasPath g (stays_behind plan u) m y)
   from_mate [] x y p off = absurd p
-  from_mate (w ∷ []) x y p off = inl (w ∷ [], (p.0, p.1, behind w p.2 (λ e. off (sym p.1 ∙ e))))
+  from_mate (w ∷ []) x y p off = inl (w ∷ [], (p.0, p.1, left_behind g plan u w p.2 (λ e. off (sym p.1 ∙ e))))
   from_mate (w ∷ t ∷ rest) x y p off = elim (from_mate (t ∷ rest) t y p.3 off) [
     | inr found ↦ inr found
     | inl path ↦ elim (cases_eq w u) [
       | inl at ↦ inr (t, mate t (first_in g (in_district plan (slice_index plan u)) t rest t y p.3) (subst (λ v. adjacent g v t ≡ true) at p.2), path)
-      | inr on ↦ inl (subst (λ v. HasPath g (stays_behind plan u) v y) p.0 (path_before g (stays_behind plan u) w t y (behind w p.1 on) p.2 path))
+      | inr on ↦ inl (subst (λ v. HasPath g (stays_behind plan u) v y) p.0 (path_before g (stays_behind plan u) w t y (left_behind g plan u w p.1 on) p.2 path))
     ]
   ]
 

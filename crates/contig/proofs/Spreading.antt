@@ -9,7 +9,8 @@ use Rattle.model_laws.proofs.Connected.{has-append_parts}
 use Rattle.model_laws.proofs.Lists.{has_one}
 use Rattle.model_laws.proofs.Paths.{path_one, path_before, path_after, path_joined, path_end}
 use Rattle.dual_graph.specs.Marked.{Marked, IsMarked}
-use Rattle.contig.specs.Parts.{part, IsJoined, IsSpread, Replaced}
+use Rattle.contig.specs.Parts.{part, IsJoined, IsSpread}
+use Rattle.model_laws.specs.Replaced.{Replaced}
 
 -- the root of one label in the place of that of another
 abbrev moved : List ℕ → ℕ → ℕ → ℕ → ℕ

@@ -4,3 +4,5 @@
 mod flood;
 pub mod leave;
 mod parts;
+
+pub use leave::{counting_tells, leaves_connected};

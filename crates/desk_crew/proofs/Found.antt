@@ -1,18 +1,11 @@
 -- What a trajectory finds has its id.
-use Rattle.std.proofs.Common.{◌≡◌, ◌∙◌, ℕ, Bool, true, false, refl, sym, ap}
-use Rattle.std.specs.Prelude.{nat_lt}
+use Rattle.std.proofs.Common.{◌≡◌, ◌∙◌, ℕ, sym, ap}
 use Rattle.audit_model.specs.declared.outcome.Outcome.{Outcome}
 use Rattle.audit_model.specs.Job.{Job}
-use Rattle.audit_model.specs.Trajectory.{outcome, outcome_by}
+use Rattle.audit_model.specs.Trajectory.{outcome}
+use Rattle.model_laws.proofs.Fitting.{outcome_id}
 use Rattle.draw_definitions.specs.Draw.{draw}
 use Rattle.tally_desk.specs.Parts.{found}
-
-outcome_id : (job : Job) (draws : ℕ → ℕ → ℕ) (id : ℕ) → (outcome job draws id).id ≡ id
-outcome_id job draws id = by (nat_lt id job.setting.walks) job.setting.shift
-  where
-    by : (b bins : Bool) → (outcome_by b bins job draws id).id ≡ id
-    by true bins = refl
-    by false bins = refl
 
 -- the outcome of a walk is what is found, and has the id
 pub walked_id : (job : Job) (id : ℕ) (o : Outcome) → o ≡ outcome job (draw job.setting.key) id → o.id ≡ id

@@ -3,6 +3,7 @@ use Rattle.std.proofs.Common.{◌≡◌, ℕ, zero, suc, ◌+◌, ◌-◌, ◌*�
 use Rattle.std.proofs.lemmas.Bool.{true≢false}
 use Rattle.std.proofs.lemmas.List.Elements.{All-append, All-cons, All-head, All-nil}
 use Rattle.std.proofs.lemmas.List.Sums.{sum_by-append, sum_by-cons}
+use Rattle.std.proofs.lemmas.List.{length_push}
 use Rattle.audit_io.specs.Tries.{Try}
 use Rattle.audit_model.specs.Run.{total}
 use Rattle.model_laws.specs.Times.{times}
@@ -46,12 +47,9 @@ module _ (parts : Parts) (plan : IsPlan parts) where
       length-checkpoint 2 (job_digest parts.job) generation (by_id (total parts.job) (booked parts posted)) sound.digest_length sound.each
       ∙ ap (λ (n : ℕ). 84 + 80 * n) (holds_part parts plan posted of_todo).counted
 
-  one_longer : (earlier : List Entry) (e : Entry) → length (earlier ++ e ∷ []) ≡ length earlier + 1
-  one_longer earlier e = length-append earlier (e ∷ [])
-
   first_size : (earlier : List Entry) (e : Entry) → OfTodo (earlier ++ e ∷ []) → IsSound parts.job (made_with parts earlier e)
       → length (try_made parts.job (made_with parts earlier e)).bytes ≡ size (length earlier + 1)
-  first_size earlier e of_todo sound = sized (made_with parts earlier e).generation (earlier ++ e ∷ []) of_todo sound ∙ ap size (one_longer earlier e)
+  first_size earlier e of_todo sound = sized (made_with parts earlier e).generation (earlier ++ e ∷ []) of_todo sound ∙ ap size (length_push earlier e)
 
   abbrev HasAtLeast : ℕ → Try → Type 0
   HasAtLeast n t = size n ≤ length t.bytes
@@ -72,7 +70,7 @@ module _ (parts : Parts) (plan : IsPlan parts) where
       least_with earlier e ms (is_due parts.save_every e) (fewer parts plan earlier posted e of_todo) sound
       (λ k d inside.
       let more = at_least posted (earlier ++ e ∷ []) (later parts plan earlier posted e of_todo) (sound_rest parts plan (is_due parts.save_every e) (made_with parts earlier e) ms sound) k d inside in
-      omega (arith, more, one_longer earlier e))
+      omega (arith, more, length_push earlier e))
 
   -- a save, and those after it
   after_one : (earlier posted : List Entry) (e : Entry) (rest : List Try) → OfTodo (earlier ++ e ∷ posted) → IsSound parts.job (made_with parts earlier e)
@@ -85,7 +83,7 @@ module _ (parts : Parts) (plan : IsPlan parts) where
       All-append (IsLater x) (map (try_made parts.job) (made_after parts (earlier ++ e ∷ []) posted)) rest
       (λ k d inside.
       let more = at_least posted (earlier ++ e ∷ []) (later parts plan earlier posted e of_todo) sounds k d inside in
-      record { no_shorter = omega (arith, is, more, one_longer earlier e); longer = λ _. omega (arith, is, more, one_longer earlier e) })
+      record { no_shorter = omega (arith, is, more, length_push earlier e); longer = λ _. omega (arith, is, more, length_push earlier e) })
       (λ k d inside. let more = enough k d inside in record {
         no_shorter = omega (arith, is, more, length-append earlier (e ∷ posted));
         longer = λ saved. rest_longer posted is none k inside (length-append earlier (e ∷ posted)) saved more;

@@ -1,13 +1,12 @@
 -- What the saves of a run hold.
-use Rattle.std.proofs.Common.{◌≡◌, ◌⊎◌, inl, inr, ℕ, zero, suc, ◌+◌, ◌<◌, ◌≤◌, List, [], ◌∷◌, ◌++◌, map, length, length-append, sym, ap, ◌∙◌, subst, append_assoc, All, Contains, IsPermutation, arith}
+use Rattle.std.proofs.Common.{◌≡◌, ◌⊎◌, inl, inr, ℕ, ◌+◌, ◌<◌, ◌≤◌, List, [], ◌∷◌, ◌++◌, map, length, length-append, sym, ap, ◌∙◌, subst, append_assoc, All, Contains, IsPermutation, arith}
 use Rattle.std.proofs.lemmas.List.{append-nil, length-map, map-append}
 use Rattle.std.proofs.lemmas.List.Elements.{All-append, Contains-append_left, Contains-get_or}
 use Rattle.std.proofs.lemmas.List.Sorted.{All-permutation, Contains-permutation, length_permutation}
 use Rattle.audit_model.specs.declared.outcome.Outcome.{Outcome}
-use Rattle.audit_model.specs.Job.{Job}
 use Rattle.audit_model.specs.Run.{fits, has_id, total}
 use Rattle.model_laws.specs.Times.{times}
-use Rattle.model_laws.proofs.Times.{one, one_same, times-append, times-cons}
+use Rattle.model_laws.proofs.Times.{one, one_same, times-append, times-cons, all_mapped}
 use Rattle.checkpoint_definitions.specs.Checkpoint.{IsCheckpoint, job_digest}
 use Rattle.outcome_book.specs.Booked.{AreApart, by_id}
 use Rattle.outcome_book.proofs.ById.{by_id-permutation}
@@ -21,11 +20,6 @@ use Rattle.tally_desk.proofs.Found.{found_id}
 use Rattle.tally_desk.proofs.Righting.{saved_outcomes_are_right}
 use Rattle.tally_desk.proofs.Todo.{todo_once, todo_within}
 use Rattle.desk_crew.specs.Holding.{HoldsPart, RunTriesAreRight, SavesHoldParts}
-
-each_found : (P : Outcome → Type 0) (job : Job) (ids : List ℕ) → ((id : ℕ) → 0 < times id ids → P (found job id)) → All P (map (found job) ids)
-each_found P job [] f k d inside = absurd (omega arith)
-each_found P job (x ∷ ids) f zero d inside = f x (omega (arith, times-cons x x ids, one_same x))
-each_found P job (x ∷ ids) f (suc k) d inside = each_found P job ids (λ id some_here. f id (omega (arith, some_here, times-cons id x ids))) k d (omega arith)
 
 module _ (parts : Parts) (plan : IsPlan parts) where
   abbrev OfTodo : List Entry → Type 0
@@ -64,7 +58,7 @@ module _ (parts : Parts) (plan : IsPlan parts) where
 
     below : All (λ o. o.id < total parts.job) all
     below = All-append (λ (o : Outcome). o.id < total parts.job) parts.opening (map (found parts.job) (ids_of part)) plan.book.below
-        (each_found (λ (o : Outcome). o.id < total parts.job) parts.job (ids_of part)
+        (all_mapped (λ (o : Outcome). o.id < total parts.job) (found parts.job) (ids_of part)
         (λ id some_here. subst (λ (i : ℕ). i < total parts.job) (sym (found_id parts.job id)) (todo_within parts plan id (some_to_do id some_here))))
 
     apart : AreApart all
@@ -78,7 +72,7 @@ module _ (parts : Parts) (plan : IsPlan parts) where
 
     each_of : All IsOf all
     each_of = All-append IsOf parts.opening (map (found parts.job) (ids_of part)) (λ k d inside. inl (Contains-get_or parts.opening k d inside))
-        (each_found IsOf parts.job (ids_of part) (λ id some_here. inr (
+        (all_mapped IsOf (found parts.job) (ids_of part) (λ id some_here. inr (
           subst (λ (i : ℕ). 0 < times i parts.todo) (sym (found_id parts.job id)) (some_to_do id some_here),
           ap (found parts.job) (sym (found_id parts.job id)),
         )))

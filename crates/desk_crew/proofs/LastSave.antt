@@ -7,8 +7,10 @@ use Rattle.std.proofs.lemmas.List.{append-nil, length-map}
 use Rattle.std.proofs.lemmas.List.Sorted.{length_permutation, sum_by-IsPermutation}
 use Rattle.audit_io.specs.declared.source.Failed.{Failed}
 use Rattle.audit_io.specs.Faults.{Counts, HasCause, Rose}
-use Rattle.audit_io.specs.Slots.{Pair, stored, IfTold, HoldsBytes, KeepsOther}
-use Rattle.audit_io.specs.Tries.{Try, tried_all, tried_too}
+use Rattle.audit_io.specs.State.{Kept as KeeperState}
+use Rattle.audit_io.specs.Told.{IfBothTold, IfTold}
+use Rattle.audit_io.specs.Slots.{Pair, stored, HoldsBytes, KeepsOther}
+use Rattle.audit_io.specs.Tries.{tried_all, tried_too}
 use Rattle.audit_model.specs.declared.outcome.Outcome.{Outcome}
 use Rattle.audit_model.specs.Run.{total}
 use Rattle.model_laws.specs.Times.{times}
@@ -19,22 +21,20 @@ use Rattle.outcome_book.specs.Booked.{Booked, IsBook, by_id}
 use Rattle.tally_desk.specs.declared.entry.Entry.{Entry}
 use Rattle.tally_desk.specs.declared.handing.Kept.{Kept}
 use Rattle.tally_desk.specs.Entries.{id_of, ids_of, saves, up_to_save}
-use Rattle.tally_desk.specs.Homes.{IfToldThen, IsSaveOf, SlotsAs, booked, moved, tries}
+use Rattle.tally_desk.specs.Homes.{IsSaveOf, SlotsAs, booked, moved, tries}
 use Rattle.tally_desk.specs.InTurn.{AreUnfailed, EndsSaves, SavesInTurn, SavesRest, UnfailedRunsSaveInTurn}
 use Rattle.tally_desk.specs.Parts.{Parts, IsPlaceFor}
 use Rattle.tally_desk.specs.Views.{PassView}
 use Rattle.tally_desk.proofs.Marking.{ids_up_to_save}
 use Rattle.tally_desk.proofs.Slotting.{other_is}
 use Rattle.tally_desk.proofs.Trying.{tried_then}
+use Rattle.tally_desk.proofs.Turning.{counts_more}
 use Rattle.desk_crew.specs.Ran.{BothSaved, HasRun, KeepsSome, failed_of}
 use Rattle.desk_crew.specs.Saves.{IsClosedWith, SavesLast, rest_tries, run_tries}
 use Rattle.desk_crew.proofs.Growing.{failed_run, growing}
 use Rattle.desk_crew.proofs.Tried.{are_run_tries}
 
 -- ---- counts of faults
-
-counts_more : (start now after : ℕ) → Counts start now → Counts now after → Counts start after
-counts_more start now after c d = let first = c.later in let second = d.later in record { later = omega arith; within = λ small. d.within (c.within small) }
 
 rose_covered : (last start failed now after : ℕ) → min (start + failed) last ≤ now → now ≤ after → 0 < failed → min (start + 1) last ≤ after
 rose_covered last start failed now after covered le some_failed = omega arith
@@ -89,8 +89,8 @@ cover last start failed now after false (Err why) covered le rose = omega arith
 
 -- ---- the slots
 
-module _ {C : Type 0} (load_faults save_faults : C → ℕ) (slots : C → Option Pair) (history : C → Option (List Try)) (parts : Parts) (v : PassView) (kept : Kept C) (digest : List ℕ)
-    (k : IsClosedWith load_faults save_faults slots history parts v kept digest) where
+module _ {C : Type 0} (state : C → KeeperState) (parts : Parts) (v : PassView) (kept : Kept C) (digest : List ℕ)
+    (k : IsClosedWith state parts v kept digest) where
   abbrev posted : List Entry
   posted = k.closed.posted
 
@@ -113,7 +113,7 @@ module _ {C : Type 0} (load_faults save_faults : C → ℕ) (slots : C → Optio
 
   -- the last post had a save
   saved_before : UnfailedRunsSaveInTurn → kept.failed_saves ≡ 0 → kept.last_saved ≡ true → (a c : Option Pair) → IsPlaceFor parts.job a parts.place
-      → IfToldThen a c (λ p q. SlotsAs parts p q kept.place posted) → IfToldThen a c (λ p q. SavesInTurn parts p q posted)
+      → IfBothTold a c (λ p q. SlotsAs parts p q kept.place posted) → IfBothTold a c (λ p q. SavesInTurn parts p q posted)
   saved_before law none last None c first told = tt
   saved_before law none last (Some p) None first told = told
   saved_before law none last (Some p) (Some q) first told =
@@ -123,9 +123,9 @@ module _ {C : Type 0} (load_faults save_faults : C → ℕ) (slots : C → Optio
   -- the last save was made
   saved_now : UnfailedRunsSaveInTurn → kept.failed_saves ≡ 0 → kept.last_saved ≡ false → (sorted : List Outcome) → sorted ≡ by_id kept.book.total kept.book.outcomes
       → IsCheckpoint (checkpoint 2 digest kept.place.generation sorted) 2 digest kept.place.generation sorted → (a c d : Option Pair) → IsPlaceFor parts.job a parts.place
-      → IfToldThen a c (λ p q. SlotsAs parts p q kept.place posted) → KeepsOther c d kept.place.slot
+      → IfBothTold a c (λ p q. SlotsAs parts p q kept.place posted) → KeepsOther c d kept.place.slot
       → HoldsBytes d kept.place.slot (checkpoint 2 digest kept.place.generation sorted) → IfTold d (IsNewestForFitJobs digest kept.place.slot kept.place.generation sorted)
-      → IfToldThen a d (λ p q. SavesInTurn parts p q posted)
+      → IfBothTold a d (λ p q. SavesInTurn parts p q posted)
   saved_now law none last sorted is sound None c d first told other held fresh = tt
   saved_now law none last sorted is sound (Some p) None d first told other held fresh = absurd told
   saved_now law none last sorted is sound (Some p) (Some q) None first told other held fresh = other
@@ -166,7 +166,7 @@ module _ {C : Type 0} (load_faults save_faults : C → ℕ) (slots : C → Optio
   )
 
   -- whether the keepers tell or not
-  keeps_by : (a c d : Option Pair) → IfToldThen a c (λ p q. SlotsAs parts p q kept.place posted) → KeepsOther c d kept.place.slot → IfToldThen a d (KeepsSome parts)
+  keeps_by : (a c d : Option Pair) → IfBothTold a c (λ p q. SlotsAs parts p q kept.place posted) → KeepsOther c d kept.place.slot → IfBothTold a d (KeepsSome parts)
   keeps_by None c d told other = tt
   keeps_by (Some p) None d told other = absurd told
   keeps_by (Some p) (Some q) None told other = other
@@ -179,9 +179,9 @@ keeps_itself (Some q) at = refl
 
 -- ---- all of it
 
-module _ {C : Type 0} (load_faults save_faults : C → ℕ) (slots : C → Option Pair) (history : C → Option (List Try)) (law : UnfailedRunsSaveInTurn) (parts : Parts) (v : PassView) (kept now : Kept C)
-    (digest : List ℕ) (k : IsClosedWith load_faults save_faults slots history parts v kept digest) (sorted : List Outcome) (rest result : Result (Unit {0}) Failed)
-    (s : SavesLast load_faults save_faults slots history kept now digest sorted rest) (b : BothSaved kept.failed_saves rest result)
+module _ {C : Type 0} (state : C → KeeperState) (law : UnfailedRunsSaveInTurn) (parts : Parts) (v : PassView) (kept now : Kept C)
+    (digest : List ℕ) (k : IsClosedWith state parts v kept digest) (sorted : List Outcome) (rest result : Result (Unit {0}) Failed)
+    (s : SavesLast state kept now digest sorted rest) (b : BothSaved kept.failed_saves rest result)
     (is : sorted ≡ by_id kept.book.total kept.book.outcomes) where
   abbrev all_posted : List Entry
   all_posted = k.closed.posted
@@ -189,51 +189,51 @@ module _ {C : Type 0} (load_faults save_faults : C → ℕ) (slots : C → Optio
   same : sorted ≡ by_id (total parts.job) (booked parts all_posted)
   same = is ∙ ap (λ (x : Booked). by_id x.total x.outcomes) k.closed.kept.book_is
 
-  rest_cause : HasCause (save_faults kept.keeper) (save_faults now.keeper) rest
+  rest_cause : HasCause (state kept.keeper).save_faults (state now.keeper).save_faults rest
   rest_cause = by kept.last_saved refl
     where
-      by : (l : Bool) → kept.last_saved ≡ l → HasCause (save_faults kept.keeper) (save_faults now.keeper) rest
-      by true e = let h = s.saved e in subst (λ (x : C). HasCause (save_faults kept.keeper) (save_faults x) rest) (sym h.0) (same_cause (save_faults kept.keeper) rest h.1)
+      by : (l : Bool) → kept.last_saved ≡ l → HasCause (state kept.keeper).save_faults (state now.keeper).save_faults rest
+      by true e = let h = s.saved e in subst (λ (x : C). HasCause (state kept.keeper).save_faults (state x).save_faults rest) (sym h.0) (same_cause (state kept.keeper).save_faults rest h.1)
       by false e = (s.unsaved e).cause
 
-  rest_loads : load_faults now.keeper ≡ parts.load_faults
+  rest_loads : (state now.keeper).load_faults ≡ parts.keeper.load_faults
   rest_loads = by kept.last_saved refl
     where
-      by : (l : Bool) → kept.last_saved ≡ l → load_faults now.keeper ≡ parts.load_faults
-      by true e = ap load_faults (s.saved e).0 ∙ k.closed.kept.loads
+      by : (l : Bool) → kept.last_saved ≡ l → (state now.keeper).load_faults ≡ parts.keeper.load_faults
+      by true e = ap (λ x. (state x).load_faults) (s.saved e).0 ∙ k.closed.kept.loads
       by false e = (s.unsaved e).loads ∙ k.closed.kept.loads
 
-  rest_other : KeepsOther (slots kept.keeper) (slots now.keeper) kept.place.slot
+  rest_other : KeepsOther (state kept.keeper).slots (state now.keeper).slots kept.place.slot
   rest_other = by kept.last_saved refl
     where
-      by : (l : Bool) → kept.last_saved ≡ l → KeepsOther (slots kept.keeper) (slots now.keeper) kept.place.slot
-      by true e = subst (λ (x : C). KeepsOther (slots kept.keeper) (slots x) kept.place.slot) (sym (s.saved e).0) (keeps_itself (slots kept.keeper) kept.place.slot)
+      by : (l : Bool) → kept.last_saved ≡ l → KeepsOther (state kept.keeper).slots (state now.keeper).slots kept.place.slot
+      by true e = subst (λ (x : C). KeepsOther (state kept.keeper).slots (state x).slots kept.place.slot) (sym (s.saved e).0) (keeps_itself (state kept.keeper).slots kept.place.slot)
       by false e = (s.unsaved e).other
 
-  rest_in_turn : (kept.failed_saves ≡ 0) × IsOk rest → IfToldThen parts.slots (slots now.keeper) (λ p q. SavesInTurn parts p q all_posted)
+  rest_in_turn : (kept.failed_saves ≡ 0) × IsOk rest → IfBothTold parts.keeper.slots (state now.keeper).slots (λ p q. SavesInTurn parts p q all_posted)
   rest_in_turn both = by kept.last_saved refl
     where
-      by : (l : Bool) → kept.last_saved ≡ l → IfToldThen parts.slots (slots now.keeper) (λ p q. SavesInTurn parts p q all_posted)
+      by : (l : Bool) → kept.last_saved ≡ l → IfBothTold parts.keeper.slots (state now.keeper).slots (λ p q. SavesInTurn parts p q all_posted)
       by true e =
-          subst (λ (x : C). IfToldThen parts.slots (slots x) (λ p q. SavesInTurn parts p q all_posted)) (sym (s.saved e).0)
-          (saved_before load_faults save_faults slots history parts v kept digest k law both.0 e parts.slots (slots kept.keeper) k.closed.plan.place k.closed.kept.told)
+          subst (λ (x : C). IfBothTold parts.keeper.slots (state x).slots (λ p q. SavesInTurn parts p q all_posted)) (sym (s.saved e).0)
+          (saved_before state parts v kept digest k law both.0 e parts.keeper.slots (state kept.keeper).slots k.closed.plan.place k.closed.kept.told)
       by false e =
           let t = s.unsaved e in
-          saved_now load_faults save_faults slots history parts v kept digest k law both.0 e sorted is t.sound parts.slots (slots kept.keeper) (slots now.keeper) k.closed.plan.place
+          saved_now state parts v kept digest k law both.0 e sorted is t.sound parts.keeper.slots (state kept.keeper).slots (state now.keeper).slots k.closed.plan.place
           k.closed.kept.told t.other (on_ok_at rest both.1 t.held) (on_ok_at rest both.1 t.newest)
 
-  rest_tried : history now.keeper ≡ tried_all parts.tried (run_tries kept.last_saved (is_ok rest) parts all_posted)
+  rest_tried : (state now.keeper).tried ≡ tried_all parts.keeper.tried (run_tries kept.last_saved (is_ok rest) parts all_posted)
   rest_tried = by kept.last_saved refl
     where
-      by : (l : Bool) → kept.last_saved ≡ l → history now.keeper ≡ tried_all parts.tried (run_tries kept.last_saved (is_ok rest) parts all_posted)
+      by : (l : Bool) → kept.last_saved ≡ l → (state now.keeper).tried ≡ tried_all parts.keeper.tried (run_tries kept.last_saved (is_ok rest) parts all_posted)
       by true e =
-          ap history (s.saved e).0 ∙ k.closed.kept.tried_is ∙ ap (tried_all parts.tried) (sym (append-nil (tries parts all_posted)))
-          ∙ ap (λ (l : Bool). tried_all parts.tried (run_tries l (is_ok rest) parts all_posted)) (sym e)
+          ap (λ x. (state x).tried) (s.saved e).0 ∙ k.closed.kept.tried_is ∙ ap (tried_all parts.keeper.tried) (sym (append-nil (tries parts all_posted)))
+          ∙ ap (λ (l : Bool). tried_all parts.keeper.tried (run_tries l (is_ok rest) parts all_posted)) (sym e)
       by false e =
           (s.unsaved e).tried
           ∙ (λ i. tried_too (k.closed.kept.tried_is i) (k.closed.kept.place_is i).slot (checkpoint 2 (k.digest_is i) (k.closed.kept.place_is i).generation (same i)) (is_ok rest))
-          ∙ sym (tried_then parts.tried (tries parts all_posted) (rest_tries false (is_ok rest) parts all_posted))
-          ∙ ap (λ (l : Bool). tried_all parts.tried (run_tries l (is_ok rest) parts all_posted)) (sym e)
+          ∙ sym (tried_then parts.keeper.tried (tries parts all_posted) (rest_tries false (is_ok rest) parts all_posted))
+          ∙ ap (λ (l : Bool). tried_all parts.keeper.tried (run_tries l (is_ok rest) parts all_posted)) (sym e)
 
   rest_sound : kept.last_saved ≡ false
       → IsCheckpoint (checkpoint 2 (job_digest parts.job) (moved (saves all_posted) parts.place).generation (by_id (total parts.job) (booked parts all_posted)))
@@ -242,15 +242,15 @@ module _ {C : Type 0} (load_faults save_faults : C → ℕ) (slots : C → Optio
       subst (λ (x : List ℕ × Place × List Outcome). IsCheckpoint (checkpoint 2 x.0 x.1.generation x.2) 2 x.0 x.1.generation x.2)
       (λ i. (k.digest_is i, k.closed.kept.place_is i, same i)) (s.unsaved e).sound
 
-  rest_covered : min (parts.save_faults + failed_of (run_tries kept.last_saved (is_ok rest) parts all_posted)) (2 ^ 64 - 1) ≤ save_faults now.keeper
+  rest_covered : min (parts.keeper.save_faults + failed_of (run_tries kept.last_saved (is_ok rest) parts all_posted)) (2 ^ 64 - 1) ≤ (state now.keeper).save_faults
   rest_covered =
       let count = failed_run parts kept.last_saved (is_ok rest) all_posted
       ∙ ap (λ (n : ℕ). n + cond {A = ℕ} (not kept.last_saved && not (is_ok rest)) 1 0) (sym k.closed.kept.failed_is) in
-      subst (λ (n : ℕ). min (parts.save_faults + n) (2 ^ 64 - 1) ≤ save_faults now.keeper) (sym count)
-      (cover (2 ^ 64 - 1) parts.save_faults kept.failed_saves (save_faults kept.keeper) (save_faults now.keeper) kept.last_saved rest k.closed.kept.covered rest_cause.counts.later rest_cause.failed)
+      subst (λ (n : ℕ). min (parts.keeper.save_faults + n) (2 ^ 64 - 1) ≤ (state now.keeper).save_faults) (sym count)
+      (cover (2 ^ 64 - 1) parts.keeper.save_faults kept.failed_saves (state kept.keeper).save_faults (state now.keeper).save_faults kept.last_saved rest k.closed.kept.covered rest_cause.counts.later rest_cause.failed)
 
   pub has_run : IsBook kept.book → IsPermutation kept.book.outcomes sorted → AllPairs (λ a b. a.id < b.id) sorted
-      → HasRun parts (load_faults now.keeper) (save_faults now.keeper) (slots now.keeper) (history now.keeper) sorted result
+      → HasRun parts (state now.keeper) sorted result
   has_run book all rising = record {
     plan = k.closed.plan;
     posted = all_posted;
@@ -259,13 +259,13 @@ module _ {C : Type 0} (load_faults save_faults : C → ℕ) (slots : C → Optio
     sorted_is = same;
     sorted_all = subst (λ (x : Booked). IsPermutation x.outcomes sorted) k.closed.kept.book_is all;
     rising = rising;
-    cause = both_cause parts.save_faults kept.failed_saves (save_faults kept.keeper) (save_faults now.keeper) rest k.closed.kept.covered k.closed.kept.counts k.closed.kept.shown rest_cause result b;
+    cause = both_cause parts.keeper.save_faults kept.failed_saves (state kept.keeper).save_faults (state now.keeper).save_faults rest k.closed.kept.covered k.closed.kept.counts k.closed.kept.shown rest_cause result b;
     loads = rest_loads;
     in_turn = on_ok_of result (λ ok. rest_in_turn (b.ok ok));
-    keeps = keeps_by load_faults save_faults slots history parts v kept digest k parts.slots (slots kept.keeper) (slots now.keeper) k.closed.kept.told rest_other;
+    keeps = keeps_by state parts v kept digest k parts.keeper.slots (state kept.keeper).slots (state now.keeper).slots k.closed.kept.told rest_other;
     tries = run_tries kept.last_saved (is_ok rest) parts all_posted;
     tried = rest_tried;
-    are_tries = are_run_tries parts k.closed.plan kept.last_saved (is_ok rest) all_posted (of_todo load_faults save_faults slots history parts v kept digest k) k.closed.kept.sound k.closed.due
-        (growing parts k.closed.plan kept.last_saved (is_ok rest) all_posted (of_todo load_faults save_faults slots history parts v kept digest k) k.closed.kept.sound k.closed.last rest_sound) rest_sound;
+    are_tries = are_run_tries parts k.closed.plan kept.last_saved (is_ok rest) all_posted (of_todo state parts v kept digest k) k.closed.kept.sound k.closed.due
+        (growing parts k.closed.plan kept.last_saved (is_ok rest) all_posted (of_todo state parts v kept digest k) k.closed.kept.sound k.closed.last rest_sound) rest_sound;
     covered = rest_covered;
   }

@@ -1,5 +1,5 @@
 -- The saves that a run tried are in turn, and each is a checkpoint of the opening and of posts.
-use Rattle.std.proofs.Common.{◌≡◌, ℕ, suc, ◌+◌, ◌-◌, ◌%◌, ◌≤◌, Bool, true, false, cond, List, [], ◌∷◌, ◌++◌, map, refl, sym, ap, ◌∙◌, subst, append_assoc, arith}
+use Rattle.std.proofs.Common.{◌≡◌, ℕ, ◌+◌, ◌-◌, ◌%◌, ◌≤◌, Bool, true, false, cond, List, [], ◌∷◌, ◌++◌, map, refl, sym, ap, ◌∙◌, subst, append_assoc, arith}
 use Rattle.std.specs.List.{All, AllPairs}
 use Rattle.std.specs.Prelude.{◌==◌}
 use Rattle.std.proofs.lemmas.Bool.{true≢false}
@@ -18,7 +18,7 @@ use Rattle.tally_desk.specs.Entries.{id_of, ids_of, is_due, saves}
 use Rattle.tally_desk.specs.Homes.{IsSound, Made, booked, made, made_after, made_with, moved, tries, try_made}
 use Rattle.tally_desk.specs.Parts.{IsPlan, Parts}
 use Rattle.tally_desk.proofs.Booking.{booked_fit, by_id_fit}
-use Rattle.tally_desk.proofs.Marking.{saves-push}
+use Rattle.tally_desk.proofs.Marking.{next_turn}
 use Rattle.desk_crew.specs.Ran.{AreRunTries, IsLater, IsRunTry}
 use Rattle.desk_crew.specs.Saves.{rest_tries, run_tries}
 
@@ -42,10 +42,6 @@ module _ (parts : Parts) (plan : IsPlan parts) where
 
   pub later : (earlier posted : List Entry) (e : Entry) → OfTodo (earlier ++ e ∷ posted) → OfTodo ((earlier ++ e ∷ []) ++ posted)
   later earlier posted e of_todo = subst OfTodo (sym (append_assoc earlier (e ∷ []) posted)) of_todo
-
-  next_turn : (earlier : List Entry) (e : Entry) (s : Bool) → e.saved ≡ s → saves (earlier ++ e ∷ []) ≡ cond s (suc (saves earlier)) (saves earlier)
-  next_turn earlier e true is = let more = saves-push earlier e in let one_more = ap (λ (x : Bool). cond {A = ℕ} x 1 0) is in omega (arith, more, one_more)
-  next_turn earlier e false is = let more = saves-push earlier e in let none = ap (λ (x : Bool). cond {A = ℕ} x 1 0) is in omega (arith, more, none)
 
   pub sound_rest : (b : Bool) (m : Made) (ms : List Made) → All (IsSound parts.job) (cond b (m ∷ []) [] ++ ms) → All (IsSound parts.job) ms
   sound_rest true m ms sound = All-tail (IsSound parts.job) m ms sound

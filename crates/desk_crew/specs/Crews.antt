@@ -42,7 +42,7 @@ abbrev pub IsReady : {J : Type 0} → TableId → Parts → (J → Type 0) → (
 IsReady table parts keeps stands takes by w = IsAtWork table parts keeps stands takes by w.walker w.pass
 
 -- no id is left, and all that was claimed is posted
-pub record IsDone {J : Type 0} (table : TableId) (parts : Parts) (w : DeskWorker J) : Type 0 where
+pub record IsDeskWorkerDone {J : Type 0} (table : TableId) (parts : Parts) (w : DeskWorker J) : Type 0 where
   pub belongs : Belongs table parts w.pass
   pub ended : (view_of w.pass).own.ended ≡ true
   pub weight : (view_of w.pass).own.weight ≡ 1

@@ -1,5 +1,5 @@
 -- What a run leaves that saves while it walks, in terms of the posts at its desk.
-use Rattle.std.specs.Prelude.{◌≡◌, ℕ, ◌+◌, ◌-◌, ◌^◌, ◌<◌, ◌≤◌, ◌⊎◌, min, not, true, List, length, count_by, Option, Result, OnOk, IsErr, IsOk, IsPermutation}
+use Rattle.std.specs.Prelude.{◌≡◌, ℕ, ◌+◌, ◌-◌, ◌^◌, ◌<◌, ◌≤◌, ◌⊎◌, min, not, true, List, length, count_by, Result, OnOk, IsErr, IsOk, IsPermutation}
 use Rattle.std.specs.List.{All, AllPairs}
 use Rattle.audit_io.specs.declared.source.Failed.{Failed}
 use Rattle.audit_io.specs.Faults.{HasCause}
@@ -15,23 +15,22 @@ use Rattle.ckpt_store.specs.Histories.{AreInTurn}
 use Rattle.outcome_book.specs.Booked.{IsBook, by_id}
 use Rattle.tally_desk.specs.declared.entry.Entry.{Entry}
 use Rattle.tally_desk.specs.Entries.{ids_of}
-use Rattle.tally_desk.specs.Homes.{IfToldThen, booked}
+use Rattle.audit_io.specs.State.{Kept}
+use Rattle.audit_io.specs.Told.{IfBothTold}
+use Rattle.tally_desk.specs.Homes.{booked}
 use Rattle.tally_desk.specs.InTurn.{IsPartSave, SavesInTurn}
 use Rattle.tally_desk.specs.Parts.{IsPlan, Parts}
 
 -- what never changes at the desk of a run, by what it starts with
-abbrev pub starts : {C : Type 0} → (C → ℕ) → (C → ℕ) → (C → Option Pair) → (C → Option (List Try)) → Job → List Outcome → List ℕ → ℕ → ℕ → Place → C → Parts
-starts load_faults save_faults slots history job opening todo save_every seats place keeper = record {
+abbrev pub starts : {C : Type 0} → (C → Kept) → Job → List Outcome → List ℕ → ℕ → ℕ → Place → C → Parts
+starts state job opening todo save_every seats place keeper = record {
   job = job;
   opening = opening;
   todo = todo;
   save_every = save_every;
   seats = seats;
   place = place;
-  load_faults = load_faults keeper;
-  save_faults = save_faults keeper;
-  slots = slots keeper;
-  tried = history keeper;
+  keeper = state keeper;
 }
 
 -- no save failed exactly where none did at the desk, nor the last one
@@ -70,7 +69,7 @@ pub record AreRunTries (parts : Parts) (tries : List Try) : Type 0 where
   pub growing : AllPairs IsLater tries
 
 -- what a run leaves: its posts, all outcomes by rising id, and what is known of the keeper
-pub record HasRun (parts : Parts) (loads_now saves_now : ℕ) (slots_now : Option Pair) (tried_now : Option (List Try)) (sorted : List Outcome)
+pub record HasRun (parts : Parts) (keeper_now : Kept) (sorted : List Outcome)
     (result : Result (Unit {0}) Failed) : Type 0 where
   pub plan : IsPlan parts
   pub posted : List Entry
@@ -79,11 +78,11 @@ pub record HasRun (parts : Parts) (loads_now saves_now : ℕ) (slots_now : Optio
   pub sorted_is : sorted ≡ by_id (total parts.job) (booked parts posted)
   pub sorted_all : IsPermutation (booked parts posted) sorted
   pub rising : AllPairs (λ a b. a.id < b.id) sorted
-  pub cause : HasCause parts.save_faults saves_now result
-  pub loads : loads_now ≡ parts.load_faults
-  pub in_turn : OnOk result (IfToldThen parts.slots slots_now (λ p q. SavesInTurn parts p q posted))
-  pub keeps : IfToldThen parts.slots slots_now (KeepsSome parts)
+  pub cause : HasCause parts.keeper.save_faults keeper_now.save_faults result
+  pub loads : keeper_now.load_faults ≡ parts.keeper.load_faults
+  pub in_turn : OnOk result (IfBothTold parts.keeper.slots keeper_now.slots (λ p q. SavesInTurn parts p q posted))
+  pub keeps : IfBothTold parts.keeper.slots keeper_now.slots (KeepsSome parts)
   pub tries : List Try
-  pub tried : tried_now ≡ tried_all parts.tried tries
+  pub tried : keeper_now.tried ≡ tried_all parts.keeper.tried tries
   pub are_tries : AreRunTries parts tries
-  pub covered : min (parts.save_faults + failed_of tries) (2 ^ 64 - 1) ≤ saves_now
+  pub covered : min (parts.keeper.save_faults + failed_of tries) (2 ^ 64 - 1) ≤ keeper_now.save_faults

@@ -49,14 +49,14 @@ pub(crate) fn seat<C: Keeper, J: Judge>(
     mut walkers: Vec<Walker<J>>,
     mut workers: Vec<DeskWorker<J>>,
 ) -> Vec<DeskWorker<J>>
-    requires pass { Belongs desk.now.table.shared.table_id (parts_of C.load_faults C.save_faults C.slots C.tried desk.now.table.shared.key) pass }
-    requires first { view_of pass ≡ first_view (parts_of C.load_faults C.save_faults C.slots C.tried desk.now.table.shared.key) }
+    requires pass { Belongs desk.now.table.shared.table_id (parts_of C.state desk.now.table.shared.key) pass }
+    requires first { view_of pass ≡ first_view (parts_of C.state desk.now.table.shared.key) }
     requires seats { desk.now.table.shared.key.seats ≡ vec_len walkers }
     requires some { 0 < vec_len walkers }
     requires walkers { AreWalkers desk.now.table.shared.key.job.value J.keeps J.stands J.takes J.rules walkers.items }
     requires blank { workers.items ≡ [] }
     requires room { vec_len walkers ≤ vec_capacity workers }
-    ensures ready { All (IsReady desk.now.table.shared.table_id (parts_of C.load_faults C.save_faults C.slots C.tried desk.now.table.shared.key) J.keeps J.stands J.takes J.rules) result.items }
+    ensures ready { All (IsReady desk.now.table.shared.table_id (parts_of C.state desk.now.table.shared.key) J.keeps J.stands J.takes J.rules) result.items }
     ensures count { vec_len result ≡ vec_len walkers }
 {
     // A law, called for what its contract says: a pass that posts what it claims has posted all that it claimed.

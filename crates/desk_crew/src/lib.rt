@@ -8,3 +8,7 @@ pub mod ran;
 mod saving;
 mod walking;
 mod worker;
+
+pub use crew::{Crew, recruit};
+pub use laws::{run_tries_are_right, saves_hold_parts};
+pub use ran::{Ran, run_over};

@@ -12,6 +12,7 @@ ghost use Rattle.desk_crew.specs.Crews.{AreWalkers, IsCrew};
 ghost use Rattle.desk_crew.specs.Ran.{BothSaved, HasRun, starts};
 ghost use Rattle.desk_crew.specs.Saves.{IsClosedWith};
 ghost use Rattle.desk_crew.specs.Walks.{IsWithin, ServesEnds};
+ghost use Rattle.audit_model.specs.Limits.{most_workers};
 
 use crate::crew::{Crew, seat};
 use crate::hub::{has_above, walk_hub};
@@ -66,18 +67,18 @@ pub fn run_over<R: Threads + Wait + Sync, C: Keeper + Send, J: Judge + Send, G: 
     requires every { 1 ≤ plan.save_every }
     requires slot { plan.place.slot < 2 }
     requires generation { plan.place.generation < 3 }
-    requires place { IsPlaceFor job.now (C.slots keeper) plan.place }
+    requires place { IsPlaceFor job.now (C.state keeper).slots plan.place }
     requires total { book.total ≡ total job.now }
     requires fit { All (λ o. IsTrue (fits job.now o)) book.outcomes }
     requires todo { IsTodoFor job.now book.outcomes todo }
     requires within { IsWithin job.now todo }
     requires crew { IsCrew job.now J.keeps J.stands J.takes J.rules (vec_len crew.walkers) crew }
-    requires workers { (1 ≤ vec_len crew.walkers) × (vec_len crew.walkers ≤ 32) }
+    requires workers { (1 ≤ vec_len crew.walkers) × (vec_len crew.walkers ≤ most_workers) }
     requires sorted_room { book.total ≤ length sorted.old.items + sorted.old.spare }
     requires save_room { 84 + 80 * book.total ≤ length room.old.items + room.old.spare }
     ensures ran { IfOk result (λ r. HasRun
-        (starts C.load_faults C.save_faults C.slots C.tried job.now book.outcomes todo plan.save_every (vec_len crew.walkers) plan.place keeper)
-        (C.load_faults r.keeper) (C.save_faults r.keeper) (C.slots r.keeper) (C.tried r.keeper) sorted.new.items r.saved) }
+        (starts C.state job.now book.outcomes todo plan.save_every (vec_len crew.walkers) plan.place keeper)
+        (C.state r.keeper) sorted.new.items r.saved) }
     ensures refused { IfErr result (λ r. (r.book ≡ book) × (r.keeper ≡ keeper)) }
 {
     let digest = plan.digest;
@@ -108,8 +109,8 @@ fn work<R: Threads + Wait + Sync, C: Keeper + Send, J: Judge + Send, G: Gate + S
     hub: &[u32],
     gate: &G,
 ) -> Kept<C>
-    requires pass { Belongs desk.table.shared.table_id (parts_of C.load_faults C.save_faults C.slots C.tried desk.table.shared.key) pass }
-    requires first { view_of pass ≡ first_view (parts_of C.load_faults C.save_faults C.slots C.tried desk.table.shared.key) }
+    requires pass { Belongs desk.table.shared.table_id (parts_of C.state desk.table.shared.key) pass }
+    requires first { view_of pass ≡ first_view (parts_of C.state desk.table.shared.key) }
     requires seats { desk.table.shared.key.seats ≡ vec_len walkers }
     requires some { 0 < vec_len walkers }
     requires walkers { AreWalkers desk.table.shared.key.job.value J.keeps J.stands J.takes J.rules walkers.items }
@@ -118,7 +119,7 @@ fn work<R: Threads + Wait + Sync, C: Keeper + Send, J: Judge + Send, G: Gate + S
     requires job { job.now ≡ desk.table.shared.key.job.value }
     requires within { IsWithin job.now desk.table.shared.key.todo.value }
     requires hub { ServesEnds job.now desk.table.shared.key.todo.value hub.now }
-    ensures { (v : PassView) × IsClosed C.load_faults C.save_faults C.slots C.tried (parts_of C.load_faults C.save_faults C.slots C.tried desk.table.shared.key) v
+    ensures { (v : PassView) × IsClosed C.state (parts_of C.state desk.table.shared.key) v
         result.book result.keeper result.place result.failed_saves result.last_saved }
 {
     let mut workers = seat(&desk, pass, walkers, room);
@@ -143,15 +144,15 @@ fn walk_over<R: Threads + Wait + Sync, C: Keeper + Send, J: Judge + Send, G: Gat
     requires every { 1 ≤ plan.save_every }
     requires slot { plan.place.slot < 2 }
     requires generation { plan.place.generation < 3 }
-    requires place { IsPlaceFor job.now (C.slots keeper) plan.place }
+    requires place { IsPlaceFor job.now (C.state keeper).slots plan.place }
     requires total { book.total ≡ total job.now }
     requires fit { All (λ o. IsTrue (fits job.now o)) book.outcomes }
     requires todo { IsTodoFor job.now book.outcomes todo }
     requires within { IsWithin job.now todo }
     requires crew { IsCrew job.now J.keeps J.stands J.takes J.rules (vec_len crew.walkers) crew }
-    requires workers { (1 ≤ vec_len crew.walkers) × (vec_len crew.walkers ≤ 32) }
-    ensures closed { IfOk result (λ k. (v : PassView) × IsClosed C.load_faults C.save_faults C.slots C.tried
-        (starts C.load_faults C.save_faults C.slots C.tried job.now book.outcomes todo plan.save_every (vec_len crew.walkers) plan.place keeper) v
+    requires workers { (1 ≤ vec_len crew.walkers) × (vec_len crew.walkers ≤ most_workers) }
+    ensures closed { IfOk result (λ k. (v : PassView) × IsClosed C.state
+        (starts C.state job.now book.outcomes todo plan.save_every (vec_len crew.walkers) plan.place keeper) v
         k.book k.keeper k.place k.failed_saves k.last_saved) }
     ensures refused { IfErr result (λ r. (r.book ≡ book) × (r.keeper ≡ keeper)) }
 {
@@ -182,8 +183,8 @@ fn finish<C: Keeper>(
     requires generation { kept.place.generation < 3 }
     requires sorted_room { kept.book.total ≤ length sorted.old.items + sorted.old.spare }
     requires save_room { 84 + 80 * kept.book.total ≤ length room.old.items + room.old.spare }
-    ensures { (parts : Parts) (v : PassView) → IsClosedWith C.load_faults C.save_faults C.slots C.tried parts v kept digest.now
-        → HasRun parts (C.load_faults result.keeper) (C.save_faults result.keeper) (C.slots result.keeper) (C.tried result.keeper) sorted.new.items result.saved }
+    ensures { (parts : Parts) (v : PassView) → IsClosedWith C.state parts v kept digest.now
+        → HasRun parts (C.state result.keeper) sorted.new.items result.saved }
 {
     // A law, called for what its contract says: where no save failed, the last one is whole and in turn.
     unfailed_runs_save_in_turn();

@@ -31,7 +31,7 @@ pub fn save_rest<C: Keeper>(
     ensures sorted { sorted.new.items ≡ by_id kept.old.book.total kept.old.book.outcomes }
     ensures all { IsPermutation kept.old.book.outcomes sorted.new.items }
     ensures rising { AllPairs (λ a b. a.id < b.id) sorted.new.items }
-    ensures rest { SavesLast C.load_faults C.save_faults C.slots C.tried kept.old kept.new digest.now sorted.new.items result }
+    ensures rest { SavesLast C.state kept.old kept.new digest.now sorted.new.items result }
 {
     // A law, called for what its contract says: outcomes by rising id are as a checkpoint asks for them.
     rising_pairs_rise();

@@ -20,7 +20,7 @@ pub struct DeskWorker<J> {
 impl<J: Judge> DeskWorker<J> {
     ghost use Rattle.std.specs.Prelude.{◌≡◌};
     ghost use Rattle.tally_desk.specs.Founded.{parts_of};
-    ghost use Rattle.desk_crew.specs.Crews.{IsDone, IsReady};
+    ghost use Rattle.desk_crew.specs.Crews.{IsDeskWorkerDone, IsReady};
     ghost use Rattle.desk_crew.specs.Walks.{IsWithin, ServesEnds};
 
     /// Claims ids at the desk until none is left, walks the trajectory of each, and posts what it finds.
@@ -32,11 +32,11 @@ impl<J: Judge> DeskWorker<J> {
         gate: &G,
         desk: &Desk<C>,
     )
-        requires ready { IsReady desk.now.table.shared.table_id (parts_of C.load_faults C.save_faults C.slots C.tried desk.now.table.shared.key) J.keeps J.stands J.takes J.rules self.old }
+        requires ready { IsReady desk.now.table.shared.table_id (parts_of C.state desk.now.table.shared.key) J.keeps J.stands J.takes J.rules self.old }
         requires job { job.now ≡ desk.now.table.shared.key.job.value }
         requires within { IsWithin job.now desk.now.table.shared.key.todo.value }
         requires hub { ServesEnds job.now desk.now.table.shared.key.todo.value hub.now }
-        ensures { IsDone desk.now.table.shared.table_id (parts_of C.load_faults C.save_faults C.slots C.tried desk.now.table.shared.key) self.new }
+        ensures { IsDeskWorkerDone desk.now.table.shared.table_id (parts_of C.state desk.now.table.shared.key) self.new }
     {
         // A law, called for what its contract says: a pass that posts what it claims has posted all that it claimed.
         posts_stay_whole();

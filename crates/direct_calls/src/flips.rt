@@ -20,7 +20,7 @@ use std::marker::Brand;
 use std::sync::ledger::Blank;
 
 // Shows what a draw proposes, of three units and three districts.
-fn show_proposal<R: Print>(rt: &R, draw: u64) -> io::Result<()> {
+fn show_proposal(rt: &HostRuntime, draw: u64) -> io::Result<()> {
     match propose(draw, 3, 3) {
         Some((unit, district)) => println!(rt; "draw {draw} unit {unit} district {district}"),
         None => println!(rt; "draw {draw} nothing"),
@@ -28,7 +28,7 @@ fn show_proposal<R: Print>(rt: &R, draw: u64) -> io::Result<()> {
 }
 
 /// Shows proposals of the last draws.
-pub fn show_proposals<R: Print>(rt: &R) -> io::Result<()> {
+pub fn show_proposals(rt: &HostRuntime) -> io::Result<()> {
     for draw in [u64::MAX, u64::MAX - 6, u64::MAX - 7] {
         show_proposal(rt, draw)?;
     }
@@ -36,30 +36,30 @@ pub fn show_proposals<R: Print>(rt: &R) -> io::Result<()> {
 }
 
 // Shows the mirrored draw of one that moves a unit of the path, and a walk.
-fn show_state<R: Print, J: Judge>(rt: &R, job: &Job, state: &mut State<J>) -> io::Result<()>
+fn show_state<J: Judge>(rt: &HostRuntime, job: &Job, state: &mut State<J>) -> io::Result<()>
     requires made { (held_of state.old).job ≡ job.now }
     requires seated { IsSeated job.now J.keeps J.stands J.takes J.rules state.old }
 {
     let mirrored = mirror(job, state, 0x8665eeb269b687c3);
     println!(rt; "mirrored {mirrored}")?;
-    show_walk::<R, J, Brand>(rt, job, state, Blank::new(1))
+    show_walk::<J, Brand>(rt, job, state, Blank::new(1))
 }
 
-fn show_judged<R: Print + AllocGlobal, J: Judge>(rt: &R, job: &Job, judge: J) -> io::Result<()>
+fn show_judged<J: Judge>(rt: &HostRuntime, job: &Job, judge: J) -> io::Result<()>
     requires kept { J.keeps judge }
     requires rules { J.rules judge ≡ rules job.now }
     requires plans { TakesPlansOf job.now (J.takes judge) }
 {
     match State::new(rt.alloc(), job, judge) {
         Ok(mut state) => show_state(rt, job, &mut state),
-        Err(_) => println!(rt; "memory"),
+        Err(_) => rt.println("memory"),
     }
 }
 
 /// Shows flips of a job without regions.
-pub fn show_flips<R: Print + AllocGlobal>(rt: &R, job: &Job) -> io::Result<()> {
+pub fn show_flips(rt: &HostRuntime, job: &Job) -> io::Result<()> {
     if job.rules().regions.len() > 0 {
-        return println!(rt; "regions");
+        return rt.println("regions");
     }
     let max_cut = job.rules().max_cut;
     let rules = Rules {

@@ -3,12 +3,12 @@
 ghost use Rattle.std.specs.Prelude.{◌≡◌, length, IfOk};
 ghost use Rattle.audit_model.specs.Limits.{IsSetting};
 
-use crate::settings::{column_of, setting};
 use audit_model::fault::PlanFault;
 use audit_model::lists::LabelList;
 use audit_model::memory::Memory;
 use audit_model::setting::{Label, Setting};
 use audit_model::text::Text;
+use call_lines::{column_of, setting};
 use dual_json::{read_graph, read_regions};
 use grid_maker::made::read_made;
 use plan_core::job::Job;

@@ -1,32 +1,19 @@
 //! Public calls that no command of the auditor makes, calls whose answer no contract says, and the auditor's outside over real files:
-//! each call is made once, and what it answers is printed. Then walks of which it is shown how many steps searched.
+//! each call is made once, and what it answers is printed (`call_lines` has those that need no job). Then walks of which it is shown how many steps searched.
 #![tactic(auto)]
 
-mod books;
-mod checkpoints;
 mod flips;
 mod jobs;
-mod machine;
-mod outside;
-mod rings;
 mod searches;
-mod settings;
 mod shown;
-mod texts;
 
-use crate::books::show_book;
-use crate::checkpoints::show_checkpoint;
 use crate::flips::show_proposals;
 use crate::jobs::{grid_job, other_job, plain_job, strict_job};
-use crate::machine::show_machine;
-use crate::outside::show_outside;
-use crate::rings::show_rings;
 use crate::shown::{Shown, show_job};
-use crate::texts::show_texts;
-use std::rt::Files;
+use call_lines::{show_book, show_checkpoint, show_machine, show_outside, show_rings, show_texts};
 use std::{fs, io};
 
-fn show_path_text<R: Print + AllocGlobal>(rt: &R, text: &[u8]) -> io::Result<()> {
+fn show_path_text(rt: &HostRuntime, text: &[u8]) -> io::Result<()> {
     show_texts(rt, text)?;
     show_job(rt, strict_job(rt.alloc(), text, "a"), Shown::Legal)?;
     show_job(rt, strict_job(rt.alloc(), text, "district"), Shown::Legal)?;
@@ -36,13 +23,13 @@ fn show_path_text<R: Print + AllocGlobal>(rt: &R, text: &[u8]) -> io::Result<()>
 }
 
 // Four units in a row.
-fn show_path<R: Files + Print + AllocGlobal>(rt: &R) -> io::Result<()> {
+fn show_path(rt: &HostRuntime) -> io::Result<()> {
     let text = fs::read(rt, "path.json")?;
     show_path_text(rt, text.as_slice())
 }
 
 // A ring of six units with one beside it: its district has a hole, so that counting alone does not tell.
-fn show_ring<R: Files + Print + AllocGlobal>(rt: &R) -> io::Result<()> {
+fn show_ring(rt: &HostRuntime) -> io::Result<()> {
     let text = fs::read(rt, "ring.json")?;
     show_job(rt, plain_job(rt.alloc(), text.as_slice()), Shown::Flips)
 }

@@ -38,8 +38,8 @@ fn walk<J: Judge, L: Ledger>(
 }
 
 /// Shows how many steps of a walk changed the plan and how many searched, and whether these were at most one of a thousand.
-pub fn show_walk<R: Print, J: Judge, L: Ledger>(
-    rt: &R,
+pub fn show_walk<J: Judge, L: Ledger>(
+    rt: &HostRuntime,
     job: &Job,
     state: &mut State<J>,
     blank: Blank,

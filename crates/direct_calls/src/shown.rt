@@ -15,28 +15,28 @@ pub enum Shown {
     Flips,
 }
 
-fn show_legal<R: Print + AllocGlobal>(rt: &R, job: &Job) -> io::Result<()> {
+fn show_legal(rt: &HostRuntime, job: &Job) -> io::Result<()> {
     match Marks::new(rt.alloc(), job.units()) {
         Ok(mut marks) => {
             let legal = job.legal(job.start().as_slice(), &mut marks);
             println!(rt; "legal {legal}")
         }
-        Err(_) => println!(rt; "memory"),
+        Err(_) => rt.println("memory"),
     }
 }
 
-fn show_fault<R: Print>(rt: &R, fault: &PlanFault) -> io::Result<()> {
+fn show_fault(rt: &HostRuntime, fault: &PlanFault) -> io::Result<()> {
     match fault {
         PlanFault::TooManySplit {
             region,
             districts,
             most,
         } => println!(rt; "region {region} in {districts} districts, not {most}"),
-        _ => println!(rt; "no job"),
+        _ => rt.println("no job"),
     }
 }
 
-fn show_made<R: Print + AllocGlobal>(rt: &R, job: &Job, shown: Shown) -> io::Result<()> {
+fn show_made(rt: &HostRuntime, job: &Job, shown: Shown) -> io::Result<()> {
     match shown {
         Shown::Legal => show_legal(rt, job),
         Shown::Flips => show_flips(rt, job),
@@ -44,11 +44,7 @@ fn show_made<R: Print + AllocGlobal>(rt: &R, job: &Job, shown: Shown) -> io::Res
 }
 
 /// Shows a job, or why there is none.
-pub fn show_job<R: Print + AllocGlobal>(
-    rt: &R,
-    job: Result<Job, PlanFault>,
-    shown: Shown,
-) -> io::Result<()> {
+pub fn show_job(rt: &HostRuntime, job: Result<Job, PlanFault>, shown: Shown) -> io::Result<()> {
     match job {
         Ok(job) => show_made(rt, &job, shown),
         Err(fault) => show_fault(rt, &fault),

@@ -39,24 +39,24 @@ has_others (x ∷ xs) v w off = ap (λ b. (x == w) || b) (has_others xs v w off)
 -- ---- the walk
 
 -- the counts of the units of the row have lost the unit that moves where it was elsewhere, and have it where it is elsewhere now
-pub record IsWalked (plan : List ℕ) (home d : ℕ) (row old new : List ℕ) : Type 0 where
+pub record IsRecounted (plan : List ℕ) (home d : ℕ) (row old new : List ℕ) : Type 0 where
   pub each : (w : ℕ) → get_or new w 0 + cond {A = ℕ} (has row w && not (get_or plan w 0 == home)) 1 0
       ≡ get_or old w 0 + cond {A = ℕ} (has row w && not (get_or plan w 0 == d)) 1 0
 
 -- the count of a unit that is not in the row is as it was
-pub still : (plan : List ℕ) (home d v : ℕ) (row old new : List ℕ) → IsWalked plan home d row old new → has row v ≡ false → get_or new v 0 ≡ get_or old v 0
+pub still : (plan : List ℕ) (home d v : ℕ) (row old new : List ℕ) → IsRecounted plan home d row old new → has row v ≡ false → get_or new v 0 ≡ get_or old v 0
 still plan home d v row old new walked out =
     let is = walked.each v in
     let none : cond {A = ℕ} (has row v && not (get_or plan v 0 == home)) 1 0 ≡ 0 = ap (λ b. cond {A = ℕ} (b && not (get_or plan v 0 == home)) 1 0) out in
     let other : cond {A = ℕ} (has row v && not (get_or plan v 0 == d)) 1 0 ≡ 0 = ap (λ b. cond {A = ℕ} (b && not (get_or plan v 0 == d)) 1 0) out in
     omega (arith, is, none, other)
 
-pub walked_none : (plan : List ℕ) (home d : ℕ) (counts : List ℕ) → IsWalked plan home d [] counts counts
+pub walked_none : (plan : List ℕ) (home d : ℕ) (counts : List ℕ) → IsRecounted plan home d [] counts counts
 walked_none plan home d counts = record { each = λ w. refl }
 
-pub walked_more : (plan : List ℕ) (home d v count : ℕ) (row old new : List ℕ) → IsWalked plan home d row old new → has row v ≡ false → v < length new
+pub walked_more : (plan : List ℕ) (home d v count : ℕ) (row old new : List ℕ) → IsRecounted plan home d row old new → has row v ≡ false → v < length new
     → count + cond {A = ℕ} (not (get_or plan v 0 == home)) 1 0 ≡ get_or new v 0 + cond {A = ℕ} (not (get_or plan v 0 == d)) 1 0
-    → IsWalked plan home d (row ++ v ∷ []) old (set new v count)
+    → IsRecounted plan home d (row ++ v ∷ []) old (set new v count)
 walked_more plan home d v count row old new walked out l is = record { each = each }
   where
     test : ℕ → Bool → ℕ → ℕ
@@ -99,7 +99,7 @@ apart_some g plan u v sound l near off =
 
 -- what is known of the next unit of the row
 module _ (g : Graph) (plan : List ℕ) (u d i : ℕ) (row old new : List ℕ) (sound : IsGraph g) (is_row : row ≡ slice_index_or g.neighbours u []) (lt : i < length row)
-    (is_old : old ≡ map_below g.units (apart_of g plan)) (walked : IsWalked plan (get_or plan u 0) d (take i row) old new) where
+    (is_old : old ≡ map_below g.units (apart_of g plan)) (walked : IsRecounted plan (get_or plan u 0) d (take i row) old new) where
   pub near : adjacent g u (get_or row i 0) ≡ true
   near = subst (λ (xs : List ℕ). has xs (get_or row i 0) ≡ true) is_row (at_has row i lt)
 
@@ -124,7 +124,7 @@ row_few g u i test row sound is_row =
 
 -- at the end of the row, with the unit's own count, the counts are those of the plan with the unit moved
 pub walked_all : (g : Graph) (plan : List ℕ) (u d count : ℕ) (row old new : List ℕ) → IsGraph g → length plan ≡ g.units → u < g.units
-    → row ≡ slice_index_or g.neighbours u [] → old ≡ map_below g.units (apart_of g plan) → length new ≡ length old → IsWalked plan (get_or plan u 0) d row old new
+    → row ≡ slice_index_or g.neighbours u [] → old ≡ map_below g.units (apart_of g plan) → length new ≡ length old → IsRecounted plan (get_or plan u 0) d row old new
     → count ≡ count_by (λ v. not (get_or plan v 0 == d)) row → set new u count ≡ map_below g.units (apart_of g (set plan u d))
 walked_all g plan u d count row old new sound complete inside is_row is_old width walked is_count =
     ext_get_or 0 (set new u count) (map_below g.units (apart_of g after)) (all ∙ sym (length-map_below g.units (apart_of g after)))

@@ -4,3 +4,6 @@
 pub mod scratch;
 mod shifting;
 pub mod sums;
+
+pub use scratch::count_cut;
+pub use sums::Sums;

@@ -3,7 +3,7 @@
 ghost use Rattle.std.specs.Prelude.{◌≡◌, ◌≢◌, ℕ, ◌+◌, ◌^◌, ◌<◌, ◌≤◌, ◌==◌, ◌&&◌, not, cond, IsTrue, length, slice_index, slice_set, All};
 ghost use Rattle.audit_model.specs.Below.{count_below, map_below};
 ghost use Rattle.audit_model.specs.Graph.{adjacent};
-ghost use Rattle.audit_model.specs.Limits.{IsColumn};
+ghost use Rattle.audit_model.specs.Limits.{IsColumn, most_units, most_people};
 ghost use Rattle.audit_model.specs.Plan.{district_sum};
 ghost use Rattle.district_sums.specs.Following.{AreAdded, apart_of};
 
@@ -12,46 +12,64 @@ use audit_model::outcome::{Counts, SumsView};
 use dual_graph::graph::Graph;
 
 /// The population and the votes of the districts where a unit moves to another district.
-pub(crate) fn shift_counts(counts: &Counts, plan: &[u32], u: u32, d: u32, view: &mut SumsView)
+pub(crate) fn shift_counts(
+    counts: &Counts,
+    plan: &[u32],
+    unit: u32,
+    district: u32,
+    view: &mut SumsView,
+)
     requires population { IsColumn (length plan.now) counts.now.population }
     requires first { IsColumn (length plan.now) counts.now.first }
     requires second { IsColumn (length plan.now) counts.now.second }
-    requires few { length plan.now ≤ 100000 }
-    requires unit { u < length plan.now }
-    requires home { slice_index plan.now u < length view.old.population }
-    requires district { d < length view.old.population }
-    requires elsewhere { slice_index plan.now u ≢ d }
+    requires few { length plan.now ≤ most_units }
+    requires unit { unit < length plan.now }
+    requires home { slice_index plan.now unit < length view.old.population }
+    requires district { district < length view.old.population }
+    requires elsewhere { slice_index plan.now unit ≢ district }
     requires added { AreAdded counts.now (length view.old.population) plan.now view.old }
-    ensures added { AreAdded counts.now (length view.old.population) (slice_set plan.now u d) view.new }
+    ensures added { AreAdded counts.now (length view.old.population) (slice_set plan.now unit district) view.new }
     ensures cut { view.new.cut ≡ view.old.cut }
 {
-    shift_list(&counts.population, plan, u, d, &mut view.population);
-    shift_list(&counts.first, plan, u, d, &mut view.first);
-    shift_list(&counts.second, plan, u, d, &mut view.second);
+    shift_list(
+        &counts.population,
+        plan,
+        unit,
+        district,
+        &mut view.population,
+    );
+    shift_list(&counts.first, plan, unit, district, &mut view.first);
+    shift_list(&counts.second, plan, unit, district, &mut view.second);
 }
 
 /// The same for the counts in a list.
-pub(crate) fn shift_apart(g: &Graph, plan: &[u32], u: u32, d: u32, apart: &mut UnitList)
-    requires plan { length plan.now ≡ g.now.units }
-    requires unit { u < g.now.units }
-    requires width { length apart.old ≡ g.now.units }
-    requires apart { apart.old ≡ map_below g.now.units (apart_of g.now plan.now) }
-    ensures { apart.new ≡ map_below g.now.units (apart_of g.now (slice_set plan.now u d)) }
+pub(crate) fn shift_apart(
+    graph: &Graph,
+    plan: &[u32],
+    unit: u32,
+    district: u32,
+    apart: &mut UnitList,
+)
+    requires plan { length plan.now ≡ graph.now.units }
+    requires unit { unit < graph.now.units }
+    requires width { length apart.old ≡ graph.now.units }
+    requires apart { apart.old ≡ map_below graph.now.units (apart_of graph.now plan.now) }
+    ensures { apart.new ≡ map_below graph.now.units (apart_of graph.now (slice_set plan.now unit district)) }
 {
-    recount(g, plan, u, d, apart.as_mut_slice());
+    recount(graph, plan, unit, district, apart.as_mut_slice());
 }
 
 /// How many neighbours of a unit are in other districts than this.
 #[inline]
-pub(crate) fn others_than(g: &Graph, plan: &[u32], unit: u32, district: u32) -> u32
-    requires plan { length plan.now ≡ g.now.units }
-    requires unit { unit < g.now.units }
-    ensures { result ≡ count_below g.now.units (λ v. adjacent g.now unit v && not (slice_index plan.now v == district)) }
+pub(crate) fn others_than(graph: &Graph, plan: &[u32], unit: u32, district: u32) -> u32
+    requires plan { length plan.now ≡ graph.now.units }
+    requires unit { unit < graph.now.units }
+    ensures { result ≡ count_below graph.now.units (λ v. adjacent graph.now unit v && not (slice_index plan.now v == district)) }
 {
     // Called for what its contract says: the graph is sound, and has at most 100,000 units.
-    let _units = g.units();
+    let _units = graph.units();
     let mut others = 0usize;
-    for other in g.neighbours(unit) {
+    for other in graph.neighbours(unit) {
         if plan[*other as usize] != district {
             others += 1;
         }
@@ -60,41 +78,41 @@ pub(crate) fn others_than(g: &Graph, plan: &[u32], unit: u32, district: u32) -> 
 }
 
 /// Moves a unit's part of a column from its district's sum to that of another district.
-fn shift_column(column: &[u64], plan: &[u32], u: u32, d: u32, sums: &mut [u64])
+fn shift_column(column: &[u64], plan: &[u32], unit: u32, district: u32, sums: &mut [u64])
     requires lengths { length column.now ≡ length plan.now }
-    requires few { length plan.now ≤ 100000 }
-    requires small { All (λ n. n ≤ 10 ^ 9) column.now }
-    requires unit { u < length plan.now }
-    requires home { slice_index plan.now u < length sums.old }
-    requires district { d < length sums.old }
-    requires elsewhere { slice_index plan.now u ≢ d }
+    requires few { length plan.now ≤ most_units }
+    requires small { All (λ n. n ≤ most_people) column.now }
+    requires unit { unit < length plan.now }
+    requires home { slice_index plan.now unit < length sums.old }
+    requires district { district < length sums.old }
+    requires elsewhere { slice_index plan.now unit ≢ district }
     requires added { sums.old ≡ map_below (length sums.old) (district_sum column.now plan.now) }
-    ensures { sums.new ≡ map_below (length sums.old) (district_sum column.now (slice_set plan.now u d)) }
+    ensures { sums.new ≡ map_below (length sums.old) (district_sum column.now (slice_set plan.now unit district)) }
 {
-    let amount = column[u as usize];
-    sums[plan[u as usize] as usize] -= amount;
-    sums[d as usize] += amount;
+    let amount = column[unit as usize];
+    sums[plan[unit as usize] as usize] -= amount;
+    sums[district as usize] += amount;
 }
 
 /// The same for the districts' sums in a list.
-fn shift_list(column: &NumList, plan: &[u32], u: u32, d: u32, sums: &mut NumList)
+fn shift_list(column: &NumList, plan: &[u32], unit: u32, district: u32, sums: &mut NumList)
     requires lengths { length column.now ≡ length plan.now }
-    requires few { length plan.now ≤ 100000 }
-    requires small { All (λ n. n ≤ 10 ^ 9) column.now }
-    requires unit { u < length plan.now }
-    requires home { slice_index plan.now u < length sums.old }
-    requires district { d < length sums.old }
-    requires elsewhere { slice_index plan.now u ≢ d }
+    requires few { length plan.now ≤ most_units }
+    requires small { All (λ n. n ≤ most_people) column.now }
+    requires unit { unit < length plan.now }
+    requires home { slice_index plan.now unit < length sums.old }
+    requires district { district < length sums.old }
+    requires elsewhere { slice_index plan.now unit ≢ district }
     requires added { sums.old ≡ map_below (length sums.old) (district_sum column.now plan.now) }
-    ensures { sums.new ≡ map_below (length sums.old) (district_sum column.now (slice_set plan.now u d)) }
+    ensures { sums.new ≡ map_below (length sums.old) (district_sum column.now (slice_set plan.now unit district)) }
 {
-    shift_column(column.as_slice(), plan, u, d, sums.as_mut_slice());
+    shift_column(column.as_slice(), plan, unit, district, sums.as_mut_slice());
 }
 
 /// The count with one more where the neighbour counts.
 #[inline]
 fn with_one(count: u32, counts: bool) -> u32
-    requires few { count ≤ 100000 }
+    requires few { count ≤ most_units }
     ensures { result ≡ count + cond counts 1 0 }
 {
     if counts { count + 1 } else { count }
@@ -104,7 +122,7 @@ fn with_one(count: u32, counts: bool) -> u32
 #[inline]
 fn recounted(count: u32, counted: bool, counts: bool) -> u32
     requires some { IsTrue counted → 0 < count }
-    requires few { count ≤ 100000 }
+    requires few { count ≤ most_units }
     ensures { result + cond counted 1 0 ≡ count + cond counts 1 0 }
 {
     match (counted, counts) {
@@ -115,22 +133,22 @@ fn recounted(count: u32, counted: bool, counts: bool) -> u32
 }
 
 /// Changes the counts of neighbours elsewhere where a unit moves to another district: its neighbours' and its own.
-fn recount(g: &Graph, plan: &[u32], u: u32, d: u32, apart: &mut [u32])
-    requires plan { length plan.now ≡ g.now.units }
-    requires unit { u < g.now.units }
-    requires width { length apart.old ≡ g.now.units }
-    requires apart { apart.old ≡ map_below g.now.units (apart_of g.now plan.now) }
-    ensures { apart.new ≡ map_below g.now.units (apart_of g.now (slice_set plan.now u d)) }
+fn recount(graph: &Graph, plan: &[u32], unit: u32, into: u32, apart: &mut [u32])
+    requires plan { length plan.now ≡ graph.now.units }
+    requires unit { unit < graph.now.units }
+    requires width { length apart.old ≡ graph.now.units }
+    requires apart { apart.old ≡ map_below graph.now.units (apart_of graph.now plan.now) }
+    ensures { apart.new ≡ map_below graph.now.units (apart_of graph.now (slice_set plan.now unit into)) }
 {
     // Called for what its contract says: the graph is sound, and has at most 100,000 units.
-    let _units = g.units();
-    let home = plan[u as usize];
+    let _units = graph.units();
+    let home = plan[unit as usize];
     let mut others = 0;
-    for other in g.neighbours(u) {
+    for other in graph.neighbours(unit) {
         let v = *other as usize;
         let district = plan[v];
-        apart[v] = recounted(apart[v], district != home, district != d);
-        others = with_one(others, district != d);
+        apart[v] = recounted(apart[v], district != home, district != into);
+        others = with_one(others, district != into);
     }
-    apart[u as usize] = others;
+    apart[unit as usize] = others;
 }

@@ -34,14 +34,14 @@ impl Sums {
     /// The sums of a plan.
     pub fn of(
         alloc: Global,
-        g: &Graph,
+        graph: &Graph,
         counts: &Counts,
         districts: u32,
         plan: &[u32],
     ) -> Result<Sums, Memory>
-        requires inputs { AreInputs g.now counts.now districts plan.now }
+        requires inputs { AreInputs graph.now counts.now districts plan.now }
         ensures districts { IfOk result (λ s. districts_in s ≡ districts) }
-        ensures stands { IfOk result (λ s. StandsFor g.now counts.now plan.now s) }
+        ensures stands { IfOk result (λ s. StandsFor graph.now counts.now plan.now s) }
     {
         let mut view = SumsView {
             population: NumList::zeros(alloc, districts as usize)?,
@@ -49,88 +49,95 @@ impl Sums {
             second: NumList::zeros(alloc, districts as usize)?,
             cut: 0,
         };
-        let mut apart = UnitList::zeros(alloc, g.units() as usize)?;
-        refill_view(g, counts, plan, &mut view);
-        refill_apart(g, plan, &mut apart);
+        let mut apart = UnitList::zeros(alloc, graph.units() as usize)?;
+        refill_view(graph, counts, plan, &mut view);
+        refill_apart(graph, plan, &mut apart);
         Ok(Sums { view, apart })
     }
 
     /// Moves a unit to a district, in the plan and in the sums. It reads the unit's neighbours alone, and takes no memory.
-    pub fn shift(&mut self, g: &Graph, counts: &Counts, plan: &mut [u32], u: u32, d: u32)
-        requires inputs { AreInputs g.now counts.now (districts_in self.old) plan.old }
-        requires stands { StandsFor g.now counts.now plan.old self.old }
-        requires unit { u < g.now.units }
-        requires district { d < districts_in self.old }
-        ensures plan { plan.new ≡ slice_set plan.old u d }
+    pub fn shift(
+        &mut self,
+        graph: &Graph,
+        counts: &Counts,
+        plan: &mut [u32],
+        unit: u32,
+        district: u32,
+    )
+        requires inputs { AreInputs graph.now counts.now (districts_in self.old) plan.old }
+        requires stands { StandsFor graph.now counts.now plan.old self.old }
+        requires unit { unit < graph.now.units }
+        requires district { district < districts_in self.old }
+        ensures plan { plan.new ≡ slice_set plan.old unit district }
         ensures districts { districts_in self.new ≡ districts_in self.old }
-        ensures stands { StandsFor g.now counts.now plan.new self.new }
+        ensures stands { StandsFor graph.now counts.now plan.new self.new }
     {
         // Called for what their contracts say: the graph is sound, with at most 100,000 units and 400,000 edges.
-        let _units = g.units();
-        let _edges = g.edges();
-        if plan[u as usize] == d {
+        let _units = graph.units();
+        let _edges = graph.edges();
+        if plan[unit as usize] == district {
             return;
         }
-        let before = self.apart.as_slice()[u as usize];
-        shift_counts(counts, plan, u, d, &mut self.view);
-        shift_apart(g, plan, u, d, &mut self.apart);
-        let after = self.apart.as_slice()[u as usize];
+        let before = self.apart.as_slice()[unit as usize];
+        shift_counts(counts, plan, unit, district, &mut self.view);
+        shift_apart(graph, plan, unit, district, &mut self.apart);
+        let after = self.apart.as_slice()[unit as usize];
         self.view.cut = self.view.cut + after - before;
-        plan[u as usize] = d;
+        plan[unit as usize] = district;
     }
 
     /// How many edges the plan cuts with a unit in this district. It reads the unit's neighbours alone.
     #[inline]
-    pub fn cut_after(&self, g: &Graph, plan: &[u32], u: u32, d: u32) -> u32
-        requires plan { length plan.now ≡ g.now.units }
-        requires unit { u < g.now.units }
-        requires cut { self.now.view.cut ≡ cut_edges g.now plan.now }
-        requires apart { self.now.apart ≡ map_below g.now.units (apart_of g.now plan.now) }
-        ensures { result ≡ cut_edges g.now (slice_set plan.now u d) }
+    pub fn cut_after(&self, graph: &Graph, plan: &[u32], unit: u32, district: u32) -> u32
+        requires plan { length plan.now ≡ graph.now.units }
+        requires unit { unit < graph.now.units }
+        requires cut { self.now.view.cut ≡ cut_edges graph.now plan.now }
+        requires apart { self.now.apart ≡ map_below graph.now.units (apart_of graph.now plan.now) }
+        ensures { result ≡ cut_edges graph.now (slice_set plan.now unit district) }
     {
         // Called for what their contracts say: the graph is sound, with at most 100,000 units and 400,000 edges.
-        let _units = g.units();
-        let _edges = g.edges();
-        let before = self.apart.as_slice()[u as usize];
-        self.view.cut + others_than(g, plan, u, d) - before
+        let _units = graph.units();
+        let _edges = graph.edges();
+        let before = self.apart.as_slice()[unit as usize];
+        self.view.cut + others_than(graph, plan, unit, district) - before
     }
 
     /// Moves a unit to another district in the sums of the districts alone: the plan with it there cuts so many edges.
     #[inline]
     pub fn shift_view(
         &mut self,
-        _g: &Graph,
+        _graph: &Graph,
         counts: &Counts,
         plan: &[u32],
-        u: u32,
-        d: u32,
+        unit: u32,
+        district: u32,
         cut: u32,
     )
-        requires inputs { AreInputs _g.now counts.now (districts_in self.old) plan.now }
-        requires view { self.old.view ≡ sums_of _g.now counts.now (districts_in self.old) plan.now }
-        requires unit { u < _g.now.units }
-        requires district { d < districts_in self.old }
-        requires elsewhere { slice_index plan.now u ≢ d }
-        requires cut { cut ≡ cut_edges _g.now (slice_set plan.now u d) }
+        requires inputs { AreInputs _graph.now counts.now (districts_in self.old) plan.now }
+        requires view { self.old.view ≡ sums_of _graph.now counts.now (districts_in self.old) plan.now }
+        requires unit { unit < _graph.now.units }
+        requires district { district < districts_in self.old }
+        requires elsewhere { slice_index plan.now unit ≢ district }
+        requires cut { cut ≡ cut_edges _graph.now (slice_set plan.now unit district) }
         ensures districts { districts_in self.new ≡ districts_in self.old }
-        ensures view { self.new.view ≡ sums_of _g.now counts.now (districts_in self.old) (slice_set plan.now u d) }
+        ensures view { self.new.view ≡ sums_of _graph.now counts.now (districts_in self.old) (slice_set plan.now unit district) }
         ensures apart { self.new.apart ≡ self.old.apart }
     {
         // Called for what its contract says: the graph is sound, and has at most 100,000 units.
-        let _units = _g.units();
-        shift_counts(counts, plan, u, d, &mut self.view);
+        let _units = _graph.units();
+        shift_counts(counts, plan, unit, district, &mut self.view);
         self.view.cut = cut;
     }
 
     /// Makes the sums those of another plan. It takes no memory.
-    pub fn refill(&mut self, g: &Graph, counts: &Counts, plan: &[u32])
-        requires inputs { AreInputs g.now counts.now (districts_in self.old) plan.now }
-        requires stands { StandsForSome g.now counts.now self.old }
+    pub fn refill(&mut self, graph: &Graph, counts: &Counts, plan: &[u32])
+        requires inputs { AreInputs graph.now counts.now (districts_in self.old) plan.now }
+        requires stands { StandsForSome graph.now counts.now self.old }
         ensures districts { districts_in self.new ≡ districts_in self.old }
-        ensures stands { StandsFor g.now counts.now plan.now self.new }
+        ensures stands { StandsFor graph.now counts.now plan.now self.new }
     {
-        refill_view(g, counts, plan, &mut self.view);
-        refill_apart(g, plan, &mut self.apart);
+        refill_view(graph, counts, plan, &mut self.view);
+        refill_apart(graph, plan, &mut self.apart);
     }
 
     /// The sums of the districts.

@@ -1,13 +1,14 @@
 -- How many edges a graph has whose edges are the pairs of a list.
-use Rattle.std.proofs.Common.{◌≡◌, ℕ, zero, suc, ◌+◌, ◌*◌, ◌%◌, ◌<◌, ◌≤◌, Bool, true, false, cond, ◌&&◌, ◌||◌, List, [], ◌∷◌, length, map, get_or, refl, sym, ap, ◌∙◌, subst, inl, inr, arith}
+use Rattle.std.proofs.Common.{◌≡◌, ℕ, zero, suc, ◌+◌, ◌<◌, ◌≤◌, Bool, true, false, cond, ◌&&◌, ◌||◌, List, [], ◌∷◌, length, map, get_or, refl, sym, ap, ◌∙◌, subst, inl, inr, arith}
 use Rattle.std.specs.Prelude.{◌==◌, ◌↔◌}
-use Rattle.std.proofs.lemmas.Bool.{and_parts, and_from, and_left, and_right, or_cases, or_left, or_right, cases_eq, cond-true, cond-false, eq-eqb, eqb-true, ne_eqb, false≢true}
+use Rattle.std.proofs.lemmas.Bool.{and_parts, and_from, and_left, and_right, cases_eq, cond-true, cond-false, eq-eqb, eqb-true, ne_eqb, false≢true}
 use Rattle.audit_model.specs.Below.{count_below, sum_below}
-use Rattle.audit_model.specs.Graph.{Graph, IsGraph, has, adjacent, count_edges}
+use Rattle.audit_model.specs.Graph.{Graph, IsGraph, adjacent, count_edges}
 use Rattle.model_laws.proofs.Below.{count_below_same, count_below_none}
 use Rattle.dual_graph.specs.Flat.{graph_of, HasRows, HasEdges}
-use Rattle.dual_graph.specs.Pairs.{pair_at, IsBefore, ArePairs, IsCoded, IsLower, Joins}
-use Rattle.dual_graph.proofs.Building.{built_rows, built_graph, code_sound, code_joins, joins_code, adjacent_from, adjacent_to}
+use Rattle.dual_graph.specs.Pairs.{pair_at, has_pair, IsBefore, ArePairs, AreRising, GoesBothWays, BeginsAt, Joins}
+use Rattle.dual_graph.proofs.Building.{built_rows, built_graph, arcs_sound, arc_joins, joins_arc, adjacent_from, adjacent_to}
+use Rattle.dual_graph.proofs.Ordered.{is_one, pair_is, pair_found, found_pair, before_trans, not_before_itself}
 
 -- ---- sums and counts
 
@@ -60,34 +61,6 @@ count_below_or (suc n) p q apart =
 
 -- ---- pairs
 
-abbrev pub is_one : ℕ × ℕ → ℕ → ℕ → Bool
-is_one p u v = (p.0 == u) && (p.1 == v)
-
-abbrev pub is_pair : List (ℕ × ℕ) → ℕ → ℕ → Bool
-is_pair [] u v = false
-is_pair (p ∷ pairs) u v = is_one p u v || is_pair pairs u v
-
-pub is_pair_at : (pairs : List (ℕ × ℕ)) (u v : ℕ) → is_pair pairs u v ≡ true → (k : ℕ) × (k < length pairs) × ((pair_at pairs k).0 ≡ u) × ((pair_at pairs k).1 ≡ v)
-is_pair_at [] u v h = absurd (false≢true h)
-is_pair_at (p ∷ pairs) u v h = elim (or_cases (is_one p u v) (is_pair pairs u v) h) [
-  | inl e ↦ let parts = and_parts (p.0 == u) (p.1 == v) e in (zero, omega arith, eqb-true p.0 u parts.0, eqb-true p.1 v parts.1)
-  | inr e ↦ let found = is_pair_at pairs u v e in (suc found.0, omega (arith, found.1), found.2, found.3)
-]
-
-pub at_is_pair : (pairs : List (ℕ × ℕ)) (k u v : ℕ) → k < length pairs → (pair_at pairs k).0 ≡ u → (pair_at pairs k).1 ≡ v → is_pair pairs u v ≡ true
-at_is_pair [] k u v l e f = absurd (omega arith)
-at_is_pair (p ∷ pairs) zero u v l e f = or_left (is_one p u v) (is_pair pairs u v) (and_from (p.0 == u) (p.1 == v) (eq-eqb p.0 u e) (eq-eqb p.1 v f))
-at_is_pair (p ∷ pairs) (suc k) u v l e f = or_right (is_one p u v) (is_pair pairs u v) (at_is_pair pairs k u v (omega arith) e f)
-
-before_trans : (p q r : ℕ × ℕ) → IsBefore p q → IsBefore q r → IsBefore p r
-before_trans p q r one two = elim one [
-  | inl a ↦ elim two [ inl b ↦ inl (omega (arith, a, b)) | inr b ↦ let e = b.0 in inl (omega (arith, a, e)) ]
-  | inr a ↦ elim two [
-    | inl b ↦ let e = a.0 in inl (omega (arith, e, b))
-    | inr b ↦ let e = a.0 in let f = b.0 in let g = a.1 in let h = b.1 in inr (omega (arith, e, f), omega (arith, g, h))
-  ]
-]
-
 -- the first pair is before each later one
 first_before : (p : ℕ × ℕ) (pairs : List (ℕ × ℕ)) → ((k : ℕ) → k + 1 < length (p ∷ pairs) → IsBefore (pair_at (p ∷ pairs) k) (pair_at (p ∷ pairs) (k + 1)))
     → (k : ℕ) → k < length pairs → IsBefore p (pair_at pairs k)
@@ -96,9 +69,6 @@ first_before p pairs rising (suc k) l =
     let at : suc k + 1 ≡ suc (suc k) = omega arith in
     let next : IsBefore (pair_at pairs k) (pair_at pairs (suc k)) = subst (λ (j : ℕ). IsBefore (pair_at pairs k) (pair_at (p ∷ pairs) j)) at (rising (suc k) (omega arith)) in
     before_trans p (pair_at pairs k) (pair_at pairs (suc k)) (first_before p pairs rising k (omega arith)) next
-
-not_before_itself : (p q : ℕ × ℕ) → IsBefore p q → p.0 ≡ q.0 → p.1 ≡ q.1 → ⊥
-not_before_itself p q before e f = elim before [ inl l ↦ omega (arith, l, e) | inr l ↦ let g = l.1 in omega (arith, g, f) ]
 
 later_pairs : (n : ℕ) (p : ℕ × ℕ) (pairs : List (ℕ × ℕ)) → ArePairs n (p ∷ pairs) → ArePairs n pairs
 later_pairs n p pairs are = record {
@@ -116,16 +86,16 @@ one_counted n p small below = sum_below_one n p.1 (λ v. count_below v (λ u. is
     (λ u l off. and_left (p.0 == u) (p.1 == p.1) (ne_eqb p.0 u (λ e. off (sym e)))))
     (λ v l off. count_below_none v (λ u. is_one p u v) (λ u under. and_right (p.0 == u) (p.1 == v) (ne_eqb p.1 v (λ e. off (sym e)))))
 
-pub pairs_counted : (n : ℕ) (pairs : List (ℕ × ℕ)) → ArePairs n pairs → sum_below n (λ v. count_below v (λ u. is_pair pairs u v)) ≡ length pairs
+pub pairs_counted : (n : ℕ) (pairs : List (ℕ × ℕ)) → ArePairs n pairs → sum_below n (λ v. count_below v (λ u. has_pair pairs u v)) ≡ length pairs
 pairs_counted n [] are = sum_below_none n (λ v. count_below v (λ u. false)) (λ v l. count_below_none v (λ u. false) (λ u under. refl))
 pairs_counted n (p ∷ pairs) are =
-    let split = sum_below_same n (λ v. count_below v (λ u. is_pair (p ∷ pairs) u v)) (λ v. count_below v (λ u. is_one p u v) + count_below v (λ u. is_pair pairs u v))
-    (λ v l. count_below_or v (λ u. is_one p u v) (λ u. is_pair pairs u v) (λ u under here there.
+    let split = sum_below_same n (λ v. count_below v (λ u. has_pair (p ∷ pairs) u v)) (λ v. count_below v (λ u. is_one p u v) + count_below v (λ u. has_pair pairs u v))
+    (λ v l. count_below_or v (λ u. is_one p u v) (λ u. has_pair pairs u v) (λ u under here there.
     let parts = and_parts (p.0 == u) (p.1 == v) here in
-    let found = is_pair_at pairs u v there in
+    let found = pair_found pairs u v there in
     not_before_itself p (pair_at pairs found.0) (first_before p pairs are.rising found.0 found.1)
     (eqb-true p.0 u parts.0 ∙ sym found.2) (eqb-true p.1 v parts.1 ∙ sym found.3))) in
-    let plus = sum_below_plus n (λ v. count_below v (λ u. is_one p u v)) (λ v. count_below v (λ u. is_pair pairs u v)) in
+    let plus = sum_below_plus n (λ v. count_below v (λ u. is_one p u v)) (λ v. count_below v (λ u. has_pair pairs u v)) in
     let small : p.0 < p.1 = are.small 0 (omega arith) in
     let below : p.1 < n = are.below 0 (omega arith) in
     omega (arith, split, plus, one_counted n p small below, pairs_counted n pairs (later_pairs n p pairs are))
@@ -139,12 +109,12 @@ same_test false false f g = refl
 pub edges_counted : (g : Graph) (pairs : List (ℕ × ℕ)) → ArePairs g.units pairs → ((u v : ℕ) → (adjacent g u v ≡ true) ↔ Joins pairs u v)
     → count_edges g (λ u v. true) ≡ length pairs
 edges_counted g pairs are same =
-    sum_below_same g.units (λ v. count_below v (λ u. adjacent g u v && true)) (λ v. count_below v (λ u. is_pair pairs u v))
-    (λ v l. count_below_same v (λ u. adjacent g u v && true) (λ u. is_pair pairs u v) (λ u under. same_test (adjacent g u v) (is_pair pairs u v)
+    sum_below_same g.units (λ v. count_below v (λ u. adjacent g u v && true)) (λ v. count_below v (λ u. has_pair pairs u v))
+    (λ v l. count_below_same v (λ u. adjacent g u v && true) (λ u. has_pair pairs u v) (λ u under. same_test (adjacent g u v) (has_pair pairs u v)
     (λ h.
     let joins = (same u v).0 h in
     elim joins.2 [
-      | inl e ↦ at_is_pair pairs joins.0 u v joins.1 (ap (λ p. p.0) e) (ap (λ p. p.1) e)
+      | inl e ↦ found_pair pairs joins.0 u v joins.1 (ap (λ p. p.0) e) (ap (λ p. p.1) e)
       | inr e ↦
           let small = are.small joins.0 joins.1 in
           let a : (pair_at pairs joins.0).0 ≡ v = ap (λ p. p.0) e in
@@ -152,12 +122,9 @@ edges_counted g pairs are same =
           absurd (omega (arith, small, a, b, under))
     ])
     (λ h.
-    let found = is_pair_at pairs u v h in
+    let found = pair_found pairs u v h in
     (same u v).1 (found.0, found.1, inl (pair_is (pair_at pairs found.0) u v found.2 found.3)))))
     ∙ pairs_counted g.units pairs are
-  where
-    pair_is : (p : ℕ × ℕ) (u v : ℕ) → p.0 ≡ u → p.1 ≡ v → p ≡ (u, v)
-    pair_is (a, b) u v e f = ap (λ (t : ℕ). let q : ℕ × ℕ = (t, b) in q) e ∙ ap (λ (t : ℕ). let q : ℕ × ℕ = (u, t) in q) f
 
 -- ---- what `from_pairs` builds
 
@@ -167,25 +134,25 @@ pub record IsBuilt (n : ℕ) (pairs : List (ℕ × ℕ)) (begins near : List ℕ
   pub joins : (u v : ℕ) → (adjacent (graph_of n begins near) u v ≡ true) ↔ Joins pairs u v
   pub edges : HasEdges (graph_of n begins near) (length pairs)
 
-pub built_from_pairs : (n : ℕ) (pairs : List (ℕ × ℕ)) (before codes begins near one other : List ℕ) → n ≤ 100000 → length pairs ≤ 400000 → ArePairs n pairs
-    → IsCoded pairs (length pairs) before → ((x : ℕ) → (has codes x ≡ true) ↔ (has before x ≡ true))
-    → ((k : ℕ) → k + 1 < length codes → get_or codes k 0 < get_or codes (k + 1) 0) → length begins ≡ n + 1
-    → one ≡ codes → ((u : ℕ) → u ≤ n → IsLower one (u * 100000) (get_or begins u 0)) → other ≡ codes → near ≡ map (λ c. c % 100000) other → IsBuilt n pairs begins near
-built_from_pairs n pairs before codes begins near one other few short are coded same rising long first low second near_is =
-    let lower : (u : ℕ) → u ≤ n → IsLower codes (u * 100000) (get_or begins u 0) = λ u l. subst (λ (xs : List ℕ). IsLower xs (u * 100000) (get_or begins u 0)) first (low u l) in
-    let seconds : near ≡ map (λ c. c % 100000) codes = near_is ∙ ap (λ (xs : List ℕ). map (λ c. c % 100000) xs) second in
-    let sound = code_sound n pairs before codes are coded same in
+pub built_from_pairs : (n : ℕ) (pairs before arcs : List (ℕ × ℕ)) (begins near : List ℕ) (one other : List (ℕ × ℕ)) → n ≤ 100000 → length pairs ≤ 400000 → ArePairs n pairs
+    → GoesBothWays pairs (length pairs) before → ((u v : ℕ) → (has_pair arcs u v ≡ true) ↔ (has_pair before u v ≡ true))
+    → AreRising arcs → length begins ≡ n + 1
+    → one ≡ arcs → ((u : ℕ) → u ≤ n → BeginsAt one u (get_or begins u 0)) → other ≡ arcs → near ≡ map (λ p. p.1) other → IsBuilt n pairs begins near
+built_from_pairs n pairs before arcs begins near one other few short are both same rising long first begin second near_is =
+    let lower : (u : ℕ) → u ≤ n → BeginsAt arcs u (get_or begins u 0) = λ u l. subst (λ (xs : List (ℕ × ℕ)). BeginsAt xs u (get_or begins u 0)) first (begin u l) in
+    let seconds : near ≡ map (λ p. p.1) arcs = near_is ∙ ap (λ (xs : List (ℕ × ℕ)). map (λ p. p.1) xs) second in
+    let sound = arcs_sound n pairs before arcs are both same in
     let joins : (u v : ℕ) → (adjacent (graph_of n begins near) u v ≡ true) ↔ Joins pairs u v = λ u v. (
       λ h.
-          let from = adjacent_from n begins near codes few rising long lower seconds sound u v h in
-          code_joins n pairs before codes few are coded same u v from.0 from.1 from.2,
+          let from = adjacent_from n begins near arcs few rising long lower seconds sound u v h in
+          arc_joins pairs before arcs both same u v from.2,
       λ h.
-          let to = joins_code n pairs before codes are coded same u v h in
-          adjacent_to n begins near codes few rising long lower seconds sound u v to.0 to.1 to.2,
+          let to = joins_arc n pairs before arcs are both same u v h in
+          adjacent_to n begins near arcs few rising long lower seconds sound u v to.0 to.2,
     ) in
     record {
-      rows = built_rows n begins near codes few rising long lower seconds sound;
-      sound = built_graph n begins near codes few rising long lower seconds sound;
+      rows = built_rows n begins near arcs few rising long lower seconds sound;
+      sound = built_graph n begins near arcs few rising long lower seconds sound;
       joins = joins;
       edges = record { counted = sym (edges_counted (graph_of n begins near) pairs are joins); few = short };
     }

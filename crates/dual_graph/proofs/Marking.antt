@@ -50,10 +50,6 @@ marked_more m u l n items marked lt none pos same grown = record {
     inside : u < length m.labels
     inside = subst (λ k. u < k) (sym marked.width) lt
 
--- what is below a place, or from it on
-has_take_drop : (xs : List ℕ) (i : ℕ) (v : ℕ) → has xs v ≡ true → (k : ℕ) × (k < length xs) × (get_or xs k 0 ≡ v)
-has_take_drop xs i v h = has_at xs v h
-
 -- all labels are taken away
 pub marked_none : (labels : List ℕ) → ((v : ℕ) → get_or labels v 0 ≡ 0) → IsMarked (record { units = length labels; items = []; labels = labels })
 marked_none labels none = record {

@@ -2,6 +2,7 @@
 use Rattle.std.specs.Prelude.{◌≡◌, ℕ, ◌+◌, ◌<◌, ◌≤◌, true, List, length, slice_index, slice_range}
 use Rattle.audit_model.specs.Below.{map_below}
 use Rattle.audit_model.specs.Graph.{Graph, count_edges}
+use Rattle.audit_model.specs.Limits.{most_units, most_edges}
 
 -- the neighbours of a unit
 abbrev pub row : List ℕ → List ℕ → ℕ → List ℕ
@@ -14,7 +15,7 @@ graph_of n begins near = record { units = n; neighbours = map_below n (row begin
 -- each unit's neighbours are a part of the list
 pub record HasRows (n : ℕ) (begins near : List ℕ) : Type 0 where
   pub places : length begins ≡ n + 1
-  pub few : n ≤ 100000
+  pub few : n ≤ most_units
   pub rising : (u : ℕ) → u < n → slice_index begins u ≤ slice_index begins (u + 1)
   pub within : (u : ℕ) → u ≤ n → slice_index begins u ≤ length near
   pub below : (k : ℕ) → k < length near → slice_index near k < n
@@ -22,4 +23,4 @@ pub record HasRows (n : ℕ) (begins near : List ℕ) : Type 0 where
 -- the graph has so many edges
 pub record HasEdges (g : Graph) (edges : ℕ) : Type 0 where
   pub counted : edges ≡ count_edges g (λ u v. true)
-  pub few : edges ≤ 400000
+  pub few : edges ≤ most_edges

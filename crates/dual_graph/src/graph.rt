@@ -4,8 +4,9 @@ ghost use Rattle.std.specs.Prelude.{◌≡◌, ◌<◌, ◌≤◌, ◌↔◌, �
 ghost use Rattle.dual_graph.specs.Pairs.{ArePairs, Joins};
 ghost use Rattle.std.specs.List.{slice_index_or};
 ghost use Rattle.audit_model.specs.Graph.{adjacent, count_edges};
+ghost use Rattle.audit_model.specs.Limits.{most_units, most_edges};
 
-use crate::pairs::{begins_of, codes_of, put_in_order, seconds_of};
+use crate::pairs::{begins_of, both_ways, put_in_order, seconds_of};
 use audit_model::memory::Memory;
 use std::alloc::Global;
 use std::marker::Model;
@@ -36,20 +37,20 @@ impl Graph {
     ghost use Rattle.audit_model.specs.Graph.{IsGraph};
 
     /// The graph of n units whose edges are the pairs.
-    pub fn from_pairs(alloc: Global, n: u32, pairs: &[(u32, u32)]) -> Result<Graph, Memory>
-        requires few { (n ≤ 100000) × (length pairs.now ≤ 400000) }
-        requires pairs { ArePairs n pairs.now }
-        ensures units { IfOk result (λ g. g.units ≡ n) }
+    pub fn from_pairs(alloc: Global, units: u32, pairs: &[(u32, u32)]) -> Result<Graph, Memory>
+        requires few { (units ≤ most_units) × (length pairs.now ≤ most_edges) }
+        requires pairs { ArePairs units pairs.now }
+        ensures units { IfOk result (λ g. g.units ≡ units) }
         ensures edges { IfOk result (λ g. (u v : ℕ) → IsTrue (adjacent g u v) ↔ Joins pairs.now u v) }
         ensures amount { IfOk result (λ g. count_edges g (λ u v. true) ≡ length pairs.now) }
         ensures sound { IfOk result (λ g. IsGraph g) }
     {
-        let mut codes = codes_of(alloc, pairs)?;
-        put_in_order(&mut codes);
-        let begins = begins_of(alloc, n, &codes)?;
-        let near = seconds_of(alloc, &codes)?;
+        let mut arcs = both_ways(alloc, pairs)?;
+        put_in_order(&mut arcs);
+        let begins = begins_of(alloc, units, &arcs)?;
+        let near = seconds_of(alloc, &arcs)?;
         Ok(Graph {
-            units: n,
+            units,
             edges: pairs.len() as u32,
             begins,
             near,
@@ -60,7 +61,7 @@ impl Graph {
     #[inline]
     pub fn units(&self) -> u32
         ensures units { result ≡ self.now.units }
-        ensures few { self.now.units ≤ 100000 }
+        ensures few { self.now.units ≤ most_units }
         ensures sound { IsGraph self.now }
     {
         // Reads the fields, so that what the type says of them is known.
@@ -72,7 +73,7 @@ impl Graph {
     #[inline]
     pub fn edges(&self) -> u32
         ensures edges { result ≡ count_edges self.now (λ u v. true) }
-        ensures few { count_edges self.now (λ u v. true) ≤ 400000 }
+        ensures few { count_edges self.now (λ u v. true) ≤ most_edges }
     {
         // Reads the fields, so that what the type says of them is known.
         let _ = &self.near;
@@ -81,22 +82,22 @@ impl Graph {
 
     /// The neighbours of a unit, in rising order.
     #[inline]
-    pub fn neighbours(&self, u: u32) -> &[u32]
-        requires { u < self.now.units }
-        ensures list { result.now ≡ slice_index_or self.now.neighbours u [] }
+    pub fn neighbours(&self, unit: u32) -> &[u32]
+        requires { unit < self.now.units }
+        ensures list { result.now ≡ slice_index_or self.now.neighbours unit [] }
         ensures below { All (λ v. v < self.now.units) result.now }
     {
-        let begin = self.begins[u as usize] as usize;
-        let end = self.begins[u as usize + 1] as usize;
+        let begin = self.begins[unit as usize] as usize;
+        let end = self.begins[unit as usize + 1] as usize;
         &self.near[begin..end]
     }
 
     /// Whether two units are adjacent.
-    pub fn adjacent(&self, u: u32, v: u32) -> bool
-        requires { u < self.now.units }
-        ensures { result ≡ adjacent self.now u v }
+    pub fn adjacent(&self, unit: u32, other: u32) -> bool
+        requires { unit < self.now.units }
+        ensures { result ≡ adjacent self.now unit other }
     {
-        self.neighbours(u).contains(&v)
+        self.neighbours(unit).contains(&other)
     }
 
     /// Another graph that is the same.

@@ -21,7 +21,7 @@ use Rattle.audit_model.specs.Limits.{IsColumn, AreWithin}
 use Rattle.audit_model.specs.Parsed.{Parsed}
 use Rattle.graph_definitions.specs.Reading.{Document, graph, joined, id_of, same_id, refused_if, label_count, label_at, is_new_label, district_at, refusal, parsed, reading, of_root, of_json, bad_part}
 use Rattle.model_laws.proofs.Below.{count_below_same, filter_below_same, length-map_below, get_or-map_below, map_below_same}
-use Rattle.model_laws.proofs.First.{first_below_same, first_some_below_same, any_below_same, any_from_none, first_passes, any_from_some}
+use Rattle.model_laws.proofs.First.{first_below_same, first_some_below_same, any_below_same, first_passes, none_or_any}
 use Rattle.dual_json.specs.Columns.{count_from, count_in, missing, bad, numbers_in}
 use Rattle.dual_json.specs.Districts.{AreDistricts, count_fault, is_new, different_count}
 use Rattle.dual_json.specs.Edges.{entries_at, first_in, first_entry_in, is_unknown, is_unnamed, joined_in, graph_in, edges_fault, names_node}
@@ -61,10 +61,6 @@ module _ (nodes : List Data) (ids : List Label) (are : AreLabels (codes "id") no
       (first_below_same (length nodes) test other (λ j inside. any_below_same j (λ i. same_id (id_of (object_at nodes i)) (id_of (object_at nodes j))) (λ i. same_label (nth ids i) (nth ids j))
       (λ i l. same_ids i j (omega (arith, l, inside)) inside))
       ∙ ap (λ m. first_below m other) (sym are.count))
-
-  none_or_any : (n : ℕ) (test : ℕ → Bool) (o : Option ℕ) → first_below n test ≡ o → not (any_below n test) ≡ is_none o
-  none_or_any n test None is = ap not (any_from_none n test is)
-  none_or_any n test (Some a) is = ap not (any_from_some n test a is)
 
   never : (n : ℕ) → any_below n (λ j. false) ≡ false
   never zero = refl

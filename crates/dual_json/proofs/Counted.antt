@@ -1,42 +1,22 @@
 -- Counting the different labels, and the place of each among them.
-use Rattle.std.proofs.Common.{◌≡◌, ℕ, ℤ, zero, suc, ◌<◌, ◌≤◌, Bool, true, false, cond, ◌&&◌, List, [], length, get_or, Option, Some, None, Ordering, Less, Equal, Greater, refl, sym, ap, ◌∙◌, inl, inr, arith}
+use Rattle.std.proofs.Common.{◌≡◌, ℕ, zero, suc, ◌<◌, ◌≤◌, Bool, true, false, cond, ◌&&◌, List, [], length, get_or, Option, Some, None, refl, sym, ap, ◌∙◌, inl, inr, arith}
 use Rattle.std.specs.Prelude.{◌==◌}
 use Rattle.std.specs.Option.{option_map, unwrap_or}
-use Rattle.std.specs.Ordering.{is_eq, is_lt, int_cmp, ordering_reverse}
-use Rattle.std.proofs.lemmas.Bool.{and_parts, and_from, cases_eq, cases_order, cond-true, cond-false, eq-eqb, eqb-true, both_ways, true≢false, false≢true, not_from_false, not-true, false_from_ne_true}
-use Rattle.std.proofs.lemmas.Cmp.{int_ranked, tied_itself}
+use Rattle.std.specs.Ordering.{is_eq, is_lt, ordering_reverse}
+use Rattle.std.proofs.lemmas.Bool.{and_parts, and_from, cases_eq, cases_order, cond-true, cond-false, eq-eqb, eqb-true, both_ways, true≢false, not_from_false, not-true, false_from_ne_true}
+use Rattle.std.proofs.lemmas.Cmp.{tied_itself}
 use Rattle.std.proofs.lemmas.List.{ext_get_or}
-use Rattle.std.proofs.lemmas.Map.Text.{is_eq-slice_cmp}
-use Rattle.std.proofs.lemmas.Slice.Eq.{bytes_eq-Decides}
 use Rattle.audit_model.specs.declared.setting.Label.{Label}
-use Rattle.audit_model.specs.declared.setting.Label.TheVariants.{Whole, Word}
+use Rattle.audit_model.specs.declared.setting.Label.TheVariants.{Word}
 use Rattle.audit_model.specs.Below.{any_below, count_below, map_below}
 use Rattle.audit_model.specs.First.{first_below}
 use Rattle.audit_model.specs.Label.{same_label, label_before}
 use Rattle.model_laws.proofs.Below.{count_below_same, count_below_into, any_below_some, any_below_from, length-map_below, get_or-map_below}
 use Rattle.model_laws.proofs.First.{none_passes, first_passes}
+use Rattle.model_laws.proofs.Labels.{same_equal, equal_same}
 use Rattle.dual_json.specs.Districts.{AreDistricts, is_new}
 use Rattle.dual_json.specs.Names.{label_total}
 use Rattle.dual_json.specs.Places.{nth}
-
--- ---- labels that are the same
-
-int_same : (a b : ℤ) (o : Ordering) → o ≡ int_cmp a b → is_eq o ≡ true → a ≡ b
-int_same a b Less is e = absurd (false≢true e)
-int_same a b Equal is e = int_ranked a b Equal is
-int_same a b Greater is e = absurd (false≢true e)
-
-pub same_equal : (a b : Label) → same_label a b ≡ true → a ≡ b
-same_equal (Whole a) (Whole b) e = ap Whole (int_same a b (int_cmp a b) refl e)
-same_equal (Whole a) (Word t) e = absurd (false≢true e)
-same_equal (Word s) (Whole b) e = absurd (false≢true e)
-same_equal (Word s) (Word t) e = ap Word ((bytes_eq-Decides s t).0 (sym (is_eq-slice_cmp s t) ∙ e))
-
-pub same_itself : (a : Label) → same_label a a ≡ true
-same_itself a = ap is_eq (tied_itself label_total a)
-
-pub equal_same : (a b : Label) → a ≡ b → same_label a b ≡ true
-equal_same a b e = ap (same_label a) (sym e) ∙ same_itself a
 
 -- ---- counts
 

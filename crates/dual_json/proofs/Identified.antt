@@ -1,5 +1,5 @@
 -- The ids that are found of a document against what their definition says.
-use Rattle.std.proofs.Common.{◌≡◌, ℕ, ◌<◌, List, [], length, Option, Some, None, refl, sym, ap, ◌∙◌, arith}
+use Rattle.std.proofs.Common.{◌≡◌, ℕ, ◌<◌, List, [], length, Option, Some, None, sym, ap, ◌∙◌, arith}
 use Rattle.std.specs.Prelude.{cond, codes, nat_lt, unwrap_or}
 use Rattle.std.specs.Option.{option_map, option_or}
 use Rattle.std.specs.Str.{is_utf8}
@@ -12,7 +12,7 @@ use Rattle.audit_model.specs.declared.setting.Columns.{Columns}
 use Rattle.audit_model.specs.declared.setting.Label.{Label}
 use Rattle.audit_model.specs.declared.setting.Label.TheVariants.{Word}
 use Rattle.audit_model.specs.Below.{map_below}
-use Rattle.model_laws.proofs.Options.{option_map_none}
+use Rattle.model_laws.proofs.Options.{option_map_none, option_or_none}
 use Rattle.model_laws.proofs.Below.{length-map_below, get_or-map_below}
 use Rattle.graph_definitions.specs.Reading.{Document, document, id_of, label_count, node, node_count, refusal, refused_if}
 use Rattle.graph_definitions.specs.Regions.{id_reading}
@@ -22,11 +22,7 @@ use Rattle.dual_json.specs.Places.{first_unnamed, AreLabels}
 use Rattle.dual_json.specs.Shape.{frame_fault}
 use Rattle.dual_json.specs.Stages.{edge_count, entry_fault, graph_fault, ids_fault, is_stranger, labels_fault, repeated_in}
 use Rattle.dual_json.proofs.Bridge.{refusal_is}
-use Rattle.dual_json.proofs.Regioned.{document_is_of, past}
-
-front : {A : Type 0} → (o rest : Option A) → option_or o rest ≡ None → o ≡ None
-front None rest e = refl
-front (Some a) rest e = cc e
+use Rattle.dual_json.proofs.Regioned.{document_is_of}
 
 -- the refusals after those of the ids
 later : Document → Option GraphFault
@@ -38,10 +34,10 @@ pub all_named : (d : Document) (columns : Columns) → refusal d columns ≡ Non
 unfolding later
 all_named d columns none =
     let whole : graph_fault d ≡ None =
-    front (graph_fault d) (option_or (labels_fault columns d.nodes) (count_fault (label_count d columns))) (sym (refusal_is d columns) ∙ none) in
+    (option_or_none (graph_fault d) (option_or (labels_fault columns d.nodes) (count_fault (label_count d columns))) (sym (refusal_is d columns) ∙ none)).0 in
     let ids : ids_fault d.nodes ≡ None =
-    front (ids_fault d.nodes) (later d) (past (frame_fault d.directed (length d.nodes) (length d.adjacency)) (option_or (ids_fault d.nodes) (later d)) whole) in
-    option_map_none fault.BadId (first_unnamed (codes "id") d.nodes) (front (option_map fault.BadId (first_unnamed (codes "id") d.nodes)) (repeated_in d.nodes) ids)
+    (option_or_none (ids_fault d.nodes) (later d) (option_or_none (frame_fault d.directed (length d.nodes) (length d.adjacency)) (option_or (ids_fault d.nodes) (later d)) whole).1).0 in
+    option_map_none fault.BadId (first_unnamed (codes "id") d.nodes) (option_or_none (option_map fault.BadId (first_unnamed (codes "id") d.nodes)) (repeated_in d.nodes) ids).0
 
 -- the ids of the nodes of a document
 ids_in : Document → List Label

@@ -1,9 +1,9 @@
--- The numbers of the edges against the pairs of nodes that are joined.
-use Rattle.std.proofs.Common.{◌≡◌, ℕ, zero, suc, ◌+◌, ◌*◌, ◌/◌, ◌%◌, ◌<◌, ◌≤◌, Bool, true, false, not, ◌||◌, cond, List, [], ◌∷◌, ◌++◌, length, map, get_or, Option, Some, None, refl, sym, ap, ◌∙◌, subst, inl, inr, arith, length-append, append-nil}
+-- The edges against the pairs of nodes that are joined.
+use Rattle.std.proofs.Common.{◌≡◌, ℕ, zero, suc, ◌+◌, ◌<◌, ◌≤◌, Bool, true, false, not, ◌||◌, cond, List, [], ◌∷◌, ◌++◌, length, get_or, Option, Some, None, refl, sym, ap, ◌∙◌, subst, inl, inr, arith, length-append, append-nil}
 use Rattle.std.specs.Prelude.{◌==◌, ◌⊎◌, ◌↔◌, ◌≢◌, nat_lt}
 use Rattle.std.specs.Option.{option_and_then}
 use Rattle.std.proofs.lemmas.Bool.{and_parts, and_from, or_cases, or_left, or_right, cases_lt, cases_order, cond-true, cond-false, lt-ltb, le-ltb, eq-eqb, eqb-true, ne_eqb, both_ways, false≢true, not_from_false, not-true, false_from_ne_true}
-use Rattle.std.proofs.lemmas.List.{length-map, get_or-map, get_or_append_left, get_or_push, get_or_past, ext_get_or}
+use Rattle.std.proofs.lemmas.List.{get_or_append_left, get_or_push, get_or_past, ext_get_or}
 use Rattle.serde_json.specs.Data.{Data}
 use Rattle.audit_model.specs.declared.setting.Label.{Label}
 use Rattle.audit_model.specs.Below.{any_below, filter_below, map_below}
@@ -15,9 +15,10 @@ use Rattle.model_laws.proofs.Options.{option_map_none}
 use Rattle.model_laws.proofs.Below.{any_below_some, any_below_from, length-map_below, get_or-map_below}
 use Rattle.model_laws.proofs.First.{none_passes, first_passes}
 use Rattle.model_laws.proofs.Lists.{has_at, at_has, rises, first_has}
-use Rattle.dual_graph.specs.Pairs.{pair_at, IsBefore, ArePairs, Joins}
+use Rattle.dual_graph.specs.Pairs.{pair_at, has_pair, AreRising, ArePairs, Joins}
 use Rattle.dual_graph.proofs.Counting.{edges_counted}
-use Rattle.dual_json.specs.Edges.{entries_at, edge_code, names_node, joined_in, graph_in, edges_in, pairs_in, LeadsTo, AreCodes, AreEdges}
+use Rattle.dual_graph.proofs.Ordered.{pair_is, pair_found, pair_there}
+use Rattle.dual_json.specs.Edges.{entries_at, edge, has_edge, names_node, joined_in, graph_in, edges_in, LeadsTo, AreListed}
 use Rattle.dual_json.specs.Places.{nth, object_at, place_in, repeated}
 use Rattle.dual_json.proofs.Indexed.{same_turned, same_alike}
 
@@ -69,76 +70,32 @@ module _ (ids : List Label) (apart : repeated ids ≡ None) where
       let found = any_below_some (length entries) (λ place. same_id (id_of (object_at entries place)) (Some (nth ids v))) names in
       (found.0, found.1, same_place (id_of (object_at entries found.0)) v lv found.2)
 
--- ---- numbers of edges
+-- ---- edges
 
-code_up : (u v : ℕ) → u < v → edge_code u v ≡ u * 100000 + v
-code_up u v l = cond-true (nat_lt u v) (u * 100000 + v) (v * 100000 + u) (lt-ltb u v l)
+edge_up : (u v : ℕ) → u < v → edge u v ≡ (u, v)
+edge_up u v l = cond-true {A = ℕ × ℕ} (nat_lt u v) (u, v) (v, u) (lt-ltb u v l)
 
-code_down : (u v : ℕ) → v ≤ u → edge_code u v ≡ v * 100000 + u
-code_down u v l = cond-false (nat_lt u v) (u * 100000 + v) (v * 100000 + u) (le-ltb u v l)
+edge_down : (u v : ℕ) → v ≤ u → edge u v ≡ (v, u)
+edge_down u v l = cond-false {A = ℕ × ℕ} (nat_lt u v) (u, v) (v, u) (le-ltb u v l)
 
 -- the smaller and the larger end
-pub record HasEnds (u v x : ℕ) : Type 0 where
-  pub smaller : x / 100000 < x % 100000
-  pub either : ((x / 100000 ≡ u) × (x % 100000 ≡ v)) ⊎ ((x / 100000 ≡ v) × (x % 100000 ≡ u))
+pub record HasEnds (u v : ℕ) (e : ℕ × ℕ) : Type 0 where
+  pub smaller : e.0 < e.1
+  pub either : ((e.0 ≡ u) × (e.1 ≡ v)) ⊎ ((e.0 ≡ v) × (e.1 ≡ u))
 
-ends_up : (u v x : ℕ) → u < v → v < 100000 → x ≡ u * 100000 + v → (x / 100000 ≡ u) × (x % 100000 ≡ v)
-ends_up u v x l few is = (omega (arith, l, few, is), omega (arith, l, few, is))
-
-pub code_ends : (u v x : ℕ) → u < 100000 → v < 100000 → v ≢ u → x ≡ edge_code u v → HasEnds u v x
-code_ends u v x lu lv off is = elim (cases_lt u v) [
+pub edge_ends : (u v : ℕ) (e : ℕ × ℕ) → v ≢ u → e ≡ edge u v → HasEnds u v e
+edge_ends u v e off is = elim (cases_lt u v) [
   | inl up ↦
-      let ends = ends_up u v x up lv (is ∙ code_up u v up) in
-      let a = ends.0 in let b = ends.1 in
-      record { smaller = omega (arith, a, b, up); either = inl ends }
+      let same : e ≡ (u, v) = is ∙ edge_up u v up in
+      let a : e.0 ≡ u = ap (λ (p : ℕ × ℕ). p.0) same in
+      let b : e.1 ≡ v = ap (λ (p : ℕ × ℕ). p.1) same in
+      record { smaller = omega (arith, a, b, up); either = inl (a, b) }
   | inr down ↦
-      let under : v < u = omega (arith, down, off) in
-      let ends = ends_up v u x under lu (is ∙ code_down u v down) in
-      let a = ends.0 in let b = ends.1 in
-      record { smaller = omega (arith, a, b, under); either = inr ends }
+      let same : e ≡ (v, u) = is ∙ edge_down u v down in
+      let a : e.0 ≡ v = ap (λ (p : ℕ × ℕ). p.0) same in
+      let b : e.1 ≡ u = ap (λ (p : ℕ × ℕ). p.1) same in
+      record { smaller = omega (arith, a, b, down, off); either = inr (a, b) }
 ]
-
-abbrev pub pair_of : ℕ → ℕ × ℕ
-pair_of c = (c / 100000, c % 100000)
-
-pub map_below-map : (codes : List ℕ) → map_below (length codes) (λ k. pair_of (get_or codes k 0)) ≡ pairs_in codes
-map_below-map codes = ext_get_or (0, 0) (map_below (length codes) (λ k. pair_of (get_or codes k 0))) (map pair_of codes)
-    (length-map_below (length codes) (λ k. pair_of (get_or codes k 0)) ∙ sym (length-map codes pair_of))
-    (λ i l.
-    let inside : i < length codes = omega (arith, l, length-map_below (length codes) (λ k. pair_of (get_or codes k 0))) in
-    get_or-map_below (length codes) (λ k. pair_of (get_or codes k 0)) i (0, 0) inside ∙ sym (get_or-map pair_of codes i 0 (0, 0) inside))
-
-pub pair_at-pairs_in : (codes : List ℕ) (k : ℕ) → k < length codes → pair_at (pairs_in codes) k ≡ pair_of (get_or codes k 0)
-pair_at-pairs_in codes k l = get_or-map pair_of codes k 0 (0, 0) l
-
-module _ (n : ℕ) (codes : List ℕ) (few : n ≤ 100000) (are : AreEdges n codes) where
-  pub edges_pairs : ArePairs n (pairs_in codes)
-  edges_pairs = record {
-    small = λ k l.
-        let inside = place k l in
-        let e = pair_at-pairs_in codes k inside in
-        subst (λ (p : ℕ × ℕ). p.0 < p.1) (sym e) (are.small (get_or codes k 0) (at_has codes k inside));
-    below = λ k l.
-        let inside = place k l in
-        let e = pair_at-pairs_in codes k inside in
-        subst (λ (p : ℕ × ℕ). p.1 < n) (sym e) (are.below (get_or codes k 0) (at_has codes k inside));
-    rising = λ k l.
-        let next : k + 1 < length codes = omega (arith, l, length-map codes pair_of) in
-        let a = pair_at-pairs_in codes k (omega (arith, next)) in
-        let b = pair_at-pairs_in codes (k + 1) next in
-        subst (λ (p : ℕ × ℕ). IsBefore p (pair_at (pairs_in codes) (k + 1))) (sym a)
-        (subst (λ (q : ℕ × ℕ). IsBefore (pair_of (get_or codes k 0)) q) (sym b)
-        (apart (get_or codes k 0) (get_or codes (k + 1) 0) (are.rising k next)));
-  }
-    where
-      place : (k : ℕ) → k < length (pairs_in codes) → k < length codes
-      place k l = omega (arith, l, length-map codes pair_of)
-
-      apart : (x y : ℕ) → x < y → IsBefore (pair_of x) (pair_of y)
-      apart x y l = elim (cases_lt (x / 100000) (y / 100000)) [
-        | inl up ↦ inl up
-        | inr not_up ↦ inr (omega (arith, l, not_up), omega (arith, l, not_up))
-      ]
 
 -- ---- rows
 
@@ -227,60 +184,54 @@ graph_is g n joins is units from to =
 
 -- ---- all together
 
-module _ (ids : List Label) (lists : List (List Data)) (few : length ids ≤ 100000) (long : length lists ≡ length ids) (apart : repeated ids ≡ None)
-    (before codes : List ℕ) (are : AreCodes ids lists (length lists) before) (same : (x : ℕ) → (has codes x ≡ true) ↔ (has before x ≡ true))
-    (rising : (k : ℕ) → k + 1 < length codes → get_or codes k 0 < get_or codes (k + 1) 0) where
-  ends : (x : ℕ) → has codes x ≡ true → (u : ℕ) × (v : ℕ) × (u < length ids) × (v < length ids) × (names_node ids (entries_at lists u) v ≡ true) × (v ≢ u) × HasEnds u v x
-  ends x h =
-      let found = are.from x ((same x).0 h) in
+module _ (ids : List Label) (lists : List (List Data)) (long : length lists ≡ length ids) (apart : repeated ids ≡ None)
+    (before pairs : List (ℕ × ℕ)) (are : AreListed ids lists (length lists) before) (same : (u v : ℕ) → (has_pair pairs u v ≡ true) ↔ (has_pair before u v ≡ true))
+    (rising : AreRising pairs) where
+  ends : (e : ℕ × ℕ) → has_edge pairs e ≡ true → (u : ℕ) × (v : ℕ) × (u < length ids) × (v < length ids) × (names_node ids (entries_at lists u) v ≡ true) × (v ≢ u) × HasEnds u v e
+  ends e h =
+      let found = are.from e ((same e.0 e.1).0 h) in
       let lu : found.0 < length ids = let under = found.2 in omega (arith, under, long) in
       let leads = leads_names ids apart (entries_at lists found.0) found.1 found.3 in
-      let lv = leads.0 in
-      (found.0, found.1, lu, leads.0, leads.1, found.4, code_ends found.0 found.1 x (omega (arith, lu, few)) (omega (arith, lv, few)) found.4 found.5)
+      (found.0, found.1, lu, leads.0, leads.1, found.4, edge_ends found.0 found.1 e found.4 found.5)
 
-  pub codes_edges : AreEdges (length ids) codes
-  codes_edges = record {
-    rising = rising;
-    small = λ x h. (ends x h).6.smaller;
-    below = λ x h.
-        let found = ends x h in
+  pub edges_pairs : ArePairs (length ids) pairs
+  edges_pairs = record {
+    small = λ k l. (ends (pair_at pairs k) (pair_there pairs k l)).6.smaller;
+    below = λ k l.
+        let found = ends (pair_at pairs k) (pair_there pairs k l) in
         let lu = found.2 in
         let lv = found.3 in
         elim found.6.either [
           | inl e ↦ let b = e.1 in omega (arith, b, lv)
           | inr e ↦ let b = e.1 in omega (arith, b, lu)
         ];
+    rising = rising;
   }
 
   -- one node names another
-  there : (u v : ℕ) → u < length ids → v < length ids → v ≢ u → names_node ids (entries_at lists u) v ≡ true → has codes (edge_code u v) ≡ true
-  there u v lu lv off names = (same (edge_code u v)).1 (are.to u v (omega (arith, lu, long)) (names_leads ids apart (entries_at lists u) v lv names) off)
+  there : (u v : ℕ) → u < length ids → v < length ids → v ≢ u → names_node ids (entries_at lists u) v ≡ true → has_edge pairs (edge u v) ≡ true
+  there u v lu lv off names = (same (edge u v).0 (edge u v).1).1 (are.to u v (omega (arith, lu, long)) (names_leads ids apart (entries_at lists u) v lv names) off)
 
-  joins_at : (u v x : ℕ) → has codes x ≡ true → ((x / 100000 ≡ u) × (x % 100000 ≡ v)) ⊎ ((x / 100000 ≡ v) × (x % 100000 ≡ u)) → Joins (pairs_in codes) u v
-  joins_at u v x h either =
-      let at = has_at codes x h in
-      let inside : at.0 < length (pairs_in codes) = let under = at.1 in omega (arith, under, length-map codes pair_of) in
-      let is : pair_at (pairs_in codes) at.0 ≡ pair_of x = pair_at-pairs_in codes at.0 at.1 ∙ ap pair_of at.2 in (
+  joins_at : (u v : ℕ) (e : ℕ × ℕ) → has_edge pairs e ≡ true → ((e.0 ≡ u) × (e.1 ≡ v)) ⊎ ((e.0 ≡ v) × (e.1 ≡ u)) → Joins pairs u v
+  joins_at u v e h either =
+      let at = pair_found pairs e.0 e.1 h in (
         at.0,
-        inside,
+        at.1,
         elim either [
-          | inl e ↦ inl (is ∙ pair_is (x / 100000) (x % 100000) u v e.0 e.1)
-          | inr e ↦ inr (is ∙ pair_is (x / 100000) (x % 100000) v u e.0 e.1)
+          | inl ends ↦ inl (pair_is (pair_at pairs at.0) u v (at.2 ∙ ends.0) (at.3 ∙ ends.1))
+          | inr ends ↦ inr (pair_is (pair_at pairs at.0) v u (at.2 ∙ ends.0) (at.3 ∙ ends.1))
         ],
       )
-    where
-      pair_is : (a b u v : ℕ) → a ≡ u → b ≡ v → ◌≡◌ {A = ℕ × ℕ} (a, b) (u, v)
-      pair_is a b u v e f = ap (λ (t : ℕ). let q : ℕ × ℕ = (t, b) in q) e ∙ ap (λ (t : ℕ). let q : ℕ × ℕ = (u, t) in q) f
 
-  pub joined_joins : (u v : ℕ) → u < length ids → v < length ids → joined_in ids lists u v ≡ true → Joins (pairs_in codes) u v
+  pub joined_joins : (u v : ℕ) → u < length ids → v < length ids → joined_in ids lists u v ≡ true → Joins pairs u v
   joined_joins u v lu lv joined =
       let parts = and_parts (not (u == v)) (names_node ids (entries_at lists u) v || names_node ids (entries_at lists v) u) joined in
       let off : u ≢ v = λ e. both_ways (u == v) (not-true (u == v) parts.0) (eq-eqb u v e) in
       let back : v ≢ u = λ e. off (sym e) in
       elim (or_cases (names_node ids (entries_at lists u) v) (names_node ids (entries_at lists v) u) parts.1) [
-        | inl names ↦ joins_at u v (edge_code u v) (there u v lu lv back names) (code_ends u v (edge_code u v) (omega (arith, lu, few)) (omega (arith, lv, few)) back refl).either
-        | inr names ↦ joins_at u v (edge_code v u) (there v u lv lu off names)
-            (elim (code_ends v u (edge_code v u) (omega (arith, lv, few)) (omega (arith, lu, few)) off refl).either [ inl e ↦ inr e | inr e ↦ inl e ])
+        | inl names ↦ joins_at u v (edge u v) (there u v lu lv back names) (edge_ends u v (edge u v) back refl).either
+        | inr names ↦ joins_at u v (edge v u) (there v u lv lu off names)
+            (elim (edge_ends v u (edge v u) off refl).either [ inl e ↦ inr e | inr e ↦ inl e ])
       ]
 
   joined_up : (u v : ℕ) → u ≢ v → (names_node ids (entries_at lists u) v ≡ true) ⊎ (names_node ids (entries_at lists v) u ≡ true) → joined_in ids lists u v ≡ true
@@ -290,19 +241,14 @@ module _ (ids : List Label) (lists : List (List Data)) (few : length ids ≤ 100
         | inr e ↦ or_right (names_node ids (entries_at lists u) v) (names_node ids (entries_at lists v) u) e
       ])
 
-  pub joins_joined : (u v : ℕ) → Joins (pairs_in codes) u v → (u < length ids) × (v < length ids) × (joined_in ids lists u v ≡ true)
+  pub joins_joined : (u v : ℕ) → Joins pairs u v → (u < length ids) × (v < length ids) × (joined_in ids lists u v ≡ true)
   joins_joined u v joins =
-      let inside : joins.0 < length codes = let under = joins.1 in omega (arith, under, length-map codes pair_of) in
-      let x = get_or codes joins.0 0 in
-      let is = pair_at-pairs_in codes joins.0 inside in
-      let found = ends x (at_has codes joins.0 inside) in
+      let x = pair_at pairs joins.0 in
+      let found = ends x (pair_there pairs joins.0 joins.1) in
       elim joins.2 [
-        | inl e ↦
-            let both = sym is ∙ e in
-            ends_joined u v x found (ap (λ (p : ℕ × ℕ). p.0) both) (ap (λ (p : ℕ × ℕ). p.1) both)
+        | inl e ↦ ends_joined u v x found (ap (λ (p : ℕ × ℕ). p.0) e) (ap (λ (p : ℕ × ℕ). p.1) e)
         | inr e ↦
-            let both = sym is ∙ e in
-            let turned = ends_joined v u x found (ap (λ (p : ℕ × ℕ). p.0) both) (ap (λ (p : ℕ × ℕ). p.1) both) in
+            let turned = ends_joined v u x found (ap (λ (p : ℕ × ℕ). p.0) e) (ap (λ (p : ℕ × ℕ). p.1) e) in
             (turned.1, turned.0, joined_turned v u turned.2)
       ]
     where
@@ -312,8 +258,8 @@ module _ (ids : List Label) (lists : List (List Data)) (few : length ids ≤ 100
           let off : v ≢ u = λ e. both_ways (u == v) (not-true (u == v) parts.0) (eq-eqb u v (sym e)) in
           joined_up v u off (elim (or_cases (names_node ids (entries_at lists u) v) (names_node ids (entries_at lists v) u) parts.1) [ inl e ↦ inr e | inr e ↦ inl e ])
 
-      ends_joined : (u v x : ℕ) → ((a : ℕ) × (b : ℕ) × (a < length ids) × (b < length ids) × (names_node ids (entries_at lists a) b ≡ true) × (b ≢ a) × HasEnds a b x)
-          → x / 100000 ≡ u → x % 100000 ≡ v → (u < length ids) × (v < length ids) × (joined_in ids lists u v ≡ true)
+      ends_joined : (u v : ℕ) (x : ℕ × ℕ) → ((a : ℕ) × (b : ℕ) × (a < length ids) × (b < length ids) × (names_node ids (entries_at lists a) b ≡ true) × (b ≢ a) × HasEnds a b x)
+          → x.0 ≡ u → x.1 ≡ v → (u < length ids) × (v < length ids) × (joined_in ids lists u v ≡ true)
       ends_joined u v x found eu ev = elim found.6.either [
         | inl e ↦
             let a : found.0 ≡ u = sym e.0 ∙ eu in
@@ -346,9 +292,9 @@ module _ (ids : List Label) (lists : List (List Data)) (few : length ids ≤ 100
         (omega (arith, past, length-map_below (length ids) (λ i. filter_below (length ids) (joined_in ids lists i))))) h))
   ]
 
-  pub edges_are : edges_in ids lists ≡ length codes
+  pub edges_are : edges_in ids lists ≡ length pairs
   edges_are =
-      edges_counted (graph_in ids lists) (pairs_in codes) (edges_pairs (length ids) codes few codes_edges)
+      edges_counted (graph_in ids lists) pairs edges_pairs
       (λ u v. (
         λ h. let a = adjacent_joined u v h in joined_joins u v a.0 a.1 a.2,
         λ h.
@@ -356,9 +302,8 @@ module _ (ids : List Label) (lists : List (List Data)) (few : length ids ≤ 100
             subst (λ (row : List ℕ). has row v ≡ true) (sym (get_or-map_below (length ids) (λ i. filter_below (length ids) (joined_in ids lists i)) u [] j.0))
             (filter_below-has (length ids) (joined_in ids lists u) v j.1 j.2),
       ))
-      ∙ length-map codes pair_of
 
-  pub built_graph : (g : Graph) → IsGraph g → g.units ≡ length ids → ((u v : ℕ) → (adjacent g u v ≡ true) ↔ Joins (pairs_in codes) u v) → g ≡ graph_in ids lists
+  pub built_graph : (g : Graph) → IsGraph g → g.units ≡ length ids → ((u v : ℕ) → (adjacent g u v ≡ true) ↔ Joins pairs u v) → g ≡ graph_in ids lists
   built_graph g is units joins = graph_is g (length ids) (joined_in ids lists) is units
       (λ u v h. (joins_joined u v ((joins u v).0 h)).2)
       (λ u v lu lv h. (joins u v).1 (joined_joins u v lu lv h))

@@ -5,7 +5,6 @@ pub mod Identified
 pub mod Indexed
 pub mod Joined
 pub mod Listed
-pub mod Matched
 pub mod Named
 pub mod Regioned
 pub mod Shapes

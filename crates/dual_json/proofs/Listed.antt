@@ -1,10 +1,9 @@
 -- Lists seen through a function.
-use Rattle.std.proofs.Common.{◌≡◌, ℕ, zero, suc, ◌+◌, ◌<◌, ◌≤◌, List, [], ◌∷◌, ◌++◌, length, map, get_or, Bool, true, false, not, Option, Some, None, refl, sym, ap, ◌∙◌, subst, arith}
+use Rattle.std.proofs.Common.{◌≡◌, ℕ, zero, suc, ◌+◌, ◌<◌, ◌≤◌, List, [], ◌∷◌, length, map, get_or, Bool, true, false, not, Option, Some, None, refl, sym, ap, ◌∙◌, subst, arith}
 use Rattle.std.specs.List.{list_all}
 use Rattle.std.specs.Option.{option_map, is_some, is_none, unwrap_or}
 use Rattle.std.proofs.lemmas.Bool.{and_from, and_left, and_right}
 use Rattle.std.proofs.lemmas.List.{length-map}
-use Rattle.audit_model.specs.Below.{map_below}
 use Rattle.audit_model.specs.First.{first_some_below}
 use Rattle.model_laws.proofs.First.{first_some_below_more, first_some_below_found}
 use Rattle.serde_json.specs.Data.{Data, Items, null}
@@ -56,12 +55,6 @@ pub list_all_fails : (test : Data → Bool) (xs : List Data) (k : ℕ) → k < l
 list_all_fails test [] k l fails = absurd (omega arith)
 list_all_fails test (x ∷ xs) zero l fails = and_left (test x) (list_all test xs) fails
 list_all_fails test (x ∷ xs) (suc k) l fails = and_right (test x) (list_all test xs) (list_all_fails test xs k (omega arith) fails)
-
--- one more number of a list
-pub map_below_more : {A : Type 0} (n : ℕ) (f : ℕ → A) (xs ys : List A) (x : A) → xs ≡ map_below n f → x ≡ f n → ys ≡ xs ++ x ∷ [] → ys ≡ map_below (n + 1) f
-map_below_more {A} n f xs ys x before here is =
-    let at : suc n ≡ n + 1 = omega arith in
-    is ∙ ap (λ (l : List A). l ++ x ∷ []) before ∙ ap (λ a. map_below n f ++ a ∷ []) here ∙ ap (λ m. map_below m f) at
 
 -- ---- a loop that gives the first of what a function gives of the objects
 

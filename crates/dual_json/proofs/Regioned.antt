@@ -16,7 +16,7 @@ use Rattle.audit_model.specs.declared.setting.Columns.{Columns}
 use Rattle.audit_model.specs.declared.setting.Label.{Label}
 use Rattle.audit_model.specs.Limits.{AreRegions}
 use Rattle.audit_model.specs.Parsed.{Parsed}
-use Rattle.model_laws.proofs.Options.{none_or}
+use Rattle.model_laws.proofs.Options.{none_or, option_or_none}
 use Rattle.model_laws.proofs.First.{or_some}
 use Rattle.graph_definitions.specs.Reading.{Document, document, reading, of_root, accepted_or, bad_part, refusal, parsed, refused_if}
 use Rattle.graph_definitions.specs.Regions.{as_districts, document_of, region_fault, region_reading, regions, regions_or}
@@ -87,10 +87,6 @@ few_by : (b : Bool) (n : ℕ) (rest : Option GraphFault) → nat_lt 100000 n ≡
 few_by true n rest is none = cc none
 few_by false n rest is none = ltb-false 100000 n is
 
-pub past : {A : Type 0} → (o rest : Option A) → option_or o rest ≡ None → rest ≡ None
-past None rest e = e
-past (Some a) rest e = cc e
-
 module _ (bytes : List ℕ) (columns : Columns) (root : Data) (r : Parsed) (is : cond (is_utf8 bytes) (read bytes) None ≡ Some root) (accepted : reading bytes columns ≡ Ok r) where
   pub root_accepted : of_root columns root (bad_part root) ≡ Ok r
   root_accepted = sym (reading_of bytes columns root is) ∙ accepted
@@ -104,7 +100,7 @@ module _ (bytes : List ℕ) (columns : Columns) (root : Data) (r : Parsed) (is :
       (sym (ap (λ (x : Document). accepted_or (parsed x columns) (refusal x columns)) same) ∙ sym (ap (of_root columns root) part_none) ∙ root_accepted)
 
   pub few_nodes : (d : Document) → document root ≡ d → length d.nodes ≤ 100000
-  few_nodes d same = few_by (nat_lt 100000 (length d.nodes)) (length d.nodes) _ refl (past _ _ (past _ _ (document_read d same).0))
+  few_nodes d same = few_by (nat_lt 100000 (length d.nodes)) (length d.nodes) _ refl (option_or_none _ _ (option_or_none _ _ (document_read d same).0).1).1
 
   pub units_are : (d : Document) → document root ≡ d → r.graph.units ≡ length d.nodes
   units_are d same = ap (λ (p : Parsed). p.graph.units) (sym (document_read d same).1)

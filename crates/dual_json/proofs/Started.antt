@@ -11,11 +11,11 @@ use Rattle.std.proofs.lemmas.List.Elements.{Contains-get_or}
 use Rattle.std.proofs.lemmas.List.Sorted.{searchable_from_sorted}
 use Rattle.std.proofs.lemmas.Map.Keys.{Less-from_sorted}
 use Rattle.audit_model.specs.Label.{label_cmp}
+use Rattle.model_laws.proofs.Labels.{same_equal}
 use Rattle.dual_json.specs.Districts.{AreDifferent, AreDistricts}
 use Rattle.dual_json.specs.Names.{label_from, name_cmp, name_total}
 use Rattle.dual_json.specs.Places.{nth, labels_from}
 use Rattle.dual_json.specs.declared.names.Name.{Name}
-use Rattle.dual_json.proofs.Counted.{same_equal}
 use Rattle.dual_json.proofs.Named.{nth_get}
 
 -- the places of the first names

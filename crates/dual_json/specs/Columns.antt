@@ -11,10 +11,11 @@ use Rattle.audit_model.specs.Below.{map_below}
 use Rattle.audit_model.specs.First.{first_some, first_some_below}
 use Rattle.graph_definitions.specs.Reading.{refused_if}
 use Rattle.dual_json.specs.Places.{object_at}
+use Rattle.audit_model.specs.Limits.{most_people}
 
 -- a whole number from 0 to 10 ^ 9
 abbrev pub count_from : Data → Option ℕ
-count_from d = option_and_then (λ n. cond (nat_le n (10 ^ 9)) (Some n) None) (option_and_then as_u64 (as_number d))
+count_from d = option_and_then (λ n. cond (nat_le n most_people) (Some n) None) (option_and_then as_u64 (as_number d))
 
 -- the number at a key
 abbrev pub count_in : List ℕ → Data → Option ℕ

@@ -12,6 +12,7 @@ use Rattle.graph_definitions.specs.Reading.{refused_if}
 use Rattle.dual_json.specs.Names.{name_cmp, same_name}
 use Rattle.dual_json.specs.Places.{nth}
 use Rattle.dual_json.specs.declared.names.Name.{Name}
+use Rattle.audit_model.specs.Limits.{most_districts}
 
 -- the different names of a list, in rising order
 pub record AreDifferent (names found : List Name) : Type 0 where
@@ -30,7 +31,7 @@ pub record AreDistricts (labels found : List Label) (start : List ℕ) : Type 0 
 
 -- too few or too many districts
 abbrev pub count_fault : ℕ → Option GraphFault
-count_fault count = refused_if (nat_lt count 2 || nat_lt 200 count) (fault.DistrictCount count)
+count_fault count = refused_if (nat_lt count 2 || nat_lt most_districts count) (fault.DistrictCount count)
 
 -- no earlier label is the same
 abbrev pub is_new : List Label → ℕ → Bool

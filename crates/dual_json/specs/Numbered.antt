@@ -9,6 +9,7 @@ use Rattle.audit_model.specs.Parsed.{Parsed}
 use Rattle.graph_definitions.specs.Reading.{reading}
 use Rattle.dual_json.specs.Districts.{AreDistricts}
 use Rattle.dual_json.specs.Places.{object_at}
+use Rattle.audit_model.specs.Limits.{most_regions}
 
 -- the text is a graph under some columns
 pub record IsGraphText (bytes : List ℕ) : Type 0 where
@@ -24,4 +25,4 @@ first_without key objects = first_below (length objects) (λ i. is_none (member 
 pub record AreNumbered (labels : List Label) (regions : List ℕ) : Type 0 where
   pub found : List Label
   pub districts : AreDistricts labels found regions
-  pub few : length found ≤ 5000
+  pub few : length found ≤ most_regions

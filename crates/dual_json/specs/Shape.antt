@@ -8,6 +8,7 @@ use Rattle.audit_model.specs.declared.fault.GraphFault.TheVariants as fault
 use Rattle.audit_model.specs.First.{first_some}
 use Rattle.graph_definitions.specs.Reading.{Document, list_of, refused_if}
 use Rattle.dual_json.specs.declared.shape.Parts.{Parts}
+use Rattle.audit_model.specs.Limits.{most_units}
 
 -- the data of several values
 abbrev pub views : List Value → List Data
@@ -26,5 +27,5 @@ abbrev pub frame_fault : Bool → ℕ → ℕ → Option GraphFault
 frame_fault directed nodes adjacency = first_some (
     refused_if directed fault.Directed
     ∷ refused_if (not (nodes == adjacency)) (fault.LengthsDiffer nodes adjacency)
-    ∷ refused_if (nat_lt 100000 nodes) (fault.TooManyUnits nodes)
+    ∷ refused_if (nat_lt most_units nodes) (fault.TooManyUnits nodes)
     ∷ [])

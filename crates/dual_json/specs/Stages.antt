@@ -16,6 +16,7 @@ use Rattle.dual_json.specs.Districts.{AreDistricts}
 use Rattle.dual_json.specs.Edges.{entries_at, first_in, is_unnamed}
 use Rattle.dual_json.specs.Places.{object_at, first_unnamed, AreLabels}
 use Rattle.dual_json.specs.Shape.{frame_fault}
+use Rattle.audit_model.specs.Limits.{most_edges, most_districts}
 
 -- the least node whose id an earlier node has
 abbrev pub repeated_in : List Data → Option GraphFault
@@ -42,7 +43,7 @@ edge_count d = count_edges (graph d) (λ u v. true)
 abbrev pub graph_fault : Document → Option GraphFault
 graph_fault d = option_or (frame_fault d.directed (length d.nodes) (length d.adjacency)) (option_or (ids_fault d.nodes)
     (option_or (entry_fault d is_unnamed fault.BadNeighbour) (option_or (entry_fault d (is_stranger d.nodes) fault.UnknownNeighbour)
-    (refused_if (nat_lt 400000 (edge_count d)) (fault.TooManyEdges (edge_count d))))))
+    (refused_if (nat_lt most_edges (edge_count d)) (fault.TooManyEdges (edge_count d))))))
 
 -- the first refusal of the columns, up to the labels
 abbrev pub labels_fault : Columns → List Data → Option GraphFault
@@ -57,4 +58,4 @@ pub record AreRows (columns : Columns) (nodes : List Data) (counts : Counts) (st
   pub labelled : AreLabels columns.district nodes labels
   pub districts : AreDistricts labels found start
   pub two : 2 ≤ length found
-  pub few : length found ≤ 200
+  pub few : length found ≤ most_districts

@@ -5,6 +5,7 @@ ghost use Rattle.audit_model.specs.declared.fault.GraphFault.TheVariants.{Memory
 ghost use Rattle.serde_json.specs.View.{view};
 ghost use Rattle.dual_json.specs.Columns.{count_in, missing_in, bad_in, missing, bad, numbers_in};
 ghost use Rattle.dual_json.specs.Shape.{views};
+ghost use Rattle.audit_model.specs.Limits.{most_units};
 
 use audit_model::fault::{Column, GraphFault};
 use audit_model::lists::NumList;
@@ -16,7 +17,7 @@ use std::alloc::Global;
 
 /// Whether each node has all columns, or the first that has not.
 pub fn check_columns(nodes: &[Value], columns: &Columns) -> Result<(), GraphFault>
-    requires { length nodes.now ≤ 100000 }
+    requires { length nodes.now ≤ most_units }
     ensures { MatchResult result (λ _. missing columns.now (views nodes.now) ≡ None) (λ f. missing columns.now (views nodes.now) ≡ Some f) }
 {
     for node in 0..nodes.len() {
@@ -32,7 +33,7 @@ pub fn check_columns(nodes: &[Value], columns: &Columns) -> Result<(), GraphFaul
 
 /// Whether each node has its numbers, or the first that has not.
 pub fn check_numbers(nodes: &[Value], columns: &Columns) -> Result<(), GraphFault>
-    requires { length nodes.now ≤ 100000 }
+    requires { length nodes.now ≤ most_units }
     ensures { MatchResult result (λ _. bad columns.now (views nodes.now) ≡ None) (λ f. bad columns.now (views nodes.now) ≡ Some f) }
 {
     for node in 0..nodes.len() {
@@ -118,9 +119,7 @@ fn numbers_of(alloc: Global, nodes: &[Value], key: &Text) -> Result<NumList, Gra
     let mut numbers = NumList::new(alloc);
     for node in 0..nodes.len() {
         let number = count_at(&nodes[node], key).unwrap_or(0);
-        let Ok(()) = numbers.push(number) else {
-            return Err(GraphFault::Memory);
-        };
+        numbers.push(number)?;
     }
     Ok(numbers)
 }

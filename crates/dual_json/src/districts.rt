@@ -4,6 +4,7 @@ ghost use Rattle.std.specs.Prelude.{◌≡◌, ◌≤◌, None, Some, length, Ma
 ghost use Rattle.audit_model.specs.declared.fault.GraphFault.TheVariants.{Memory};
 ghost use Rattle.dual_json.specs.Districts.{count_fault, AreDifferent, AreDistricts};
 ghost use Rattle.dual_json.specs.Places.{labels_from};
+ghost use Rattle.audit_model.specs.Limits.{most_units};
 
 use crate::names::Name;
 use audit_model::fault::GraphFault;
@@ -14,9 +15,7 @@ use std::alloc::Global;
 pub fn different<'v>(alloc: Global, names: &[Name<'v>]) -> Result<Vec<Name<'v>>, GraphFault>
     ensures { MatchResult result (λ found. AreDifferent names.now found.items) (λ f. f ≡ Memory) }
 {
-    let Ok(mut found) = Vec::from_slice(alloc, names) else {
-        return Err(GraphFault::Memory);
-    };
+    let mut found = Vec::from_slice(alloc, names)?;
     found.sort_unstable();
     found.dedup();
     Ok(found)
@@ -38,7 +37,7 @@ pub fn start_of<'v>(
     names: &[Name<'v>],
     found: &[Name<'v>],
 ) -> Result<UnitList, GraphFault>
-    requires few { length found.now ≤ 100000 }
+    requires few { length found.now ≤ most_units }
     requires different { AreDifferent names.now found.now }
     ensures { MatchResult result (λ start. AreDistricts (labels_from names.now) (labels_from found.now) start) (λ f. f ≡ Memory) }
 {
@@ -47,9 +46,7 @@ pub fn start_of<'v>(
         let Ok(place) = found.binary_search(&names[i]) else {
             unreachable!()
         };
-        let Ok(()) = start.push(place as u32) else {
-            return Err(GraphFault::Memory);
-        };
+        start.push(place as u32)?;
     }
     Ok(start)
 }
@@ -60,12 +57,8 @@ pub fn labels_of(alloc: Global, names: &[Name<'_>]) -> Result<LabelList, GraphFa
 {
     let mut labels = LabelList::new(alloc);
     for name in names {
-        let Ok(label) = name.to_label(alloc) else {
-            return Err(GraphFault::Memory);
-        };
-        let Ok(()) = labels.push(label) else {
-            return Err(GraphFault::Memory);
-        };
+        let label = name.to_label(alloc)?;
+        labels.push(label)?;
     }
     Ok(labels)
 }

@@ -3,11 +3,12 @@
 ghost use Rattle.std.specs.Prelude.{◌≡◌, ◌<◌, ◌≤◌, ◌⊎◌, ◌↔◌, ℕ, IsTrue, None, Some, length, option_map, MatchResult};
 ghost use Rattle.serde_json.specs.View.{view};
 ghost use Rattle.audit_model.specs.declared.fault.GraphFault.TheVariants.{Memory, BadNeighbour, UnknownNeighbour};
-ghost use Rattle.audit_model.specs.Graph.{IsGraph, adjacent, has};
-ghost use Rattle.dual_json.specs.Edges.{edge_code, first_in, first_entry_in, is_unnamed, is_unknown, edges_fault, edges_in, graph_in, pairs_in, AddsEdges, AreCodes, AreEdges, PushesEdge};
-ghost use Rattle.dual_graph.specs.Pairs.{Joins};
+ghost use Rattle.audit_model.specs.Graph.{IsGraph, adjacent};
+ghost use Rattle.dual_json.specs.Edges.{edge, first_in, first_entry_in, is_unnamed, is_unknown, edges_fault, edges_in, graph_in, AddsEdges, AreListed, PushesEdge};
+ghost use Rattle.dual_graph.specs.Pairs.{ArePairs, Joins};
 ghost use Rattle.dual_json.specs.Places.{repeated};
 ghost use Rattle.dual_json.specs.Shape.{views, lists_in};
+ghost use Rattle.audit_model.specs.Limits.{most_units, most_edges};
 
 use crate::index::Index;
 use crate::names::name_at;
@@ -20,7 +21,7 @@ use std::alloc::Global;
 
 /// Whether each entry has an id, or the first that has none.
 pub fn check_entries(adjacency: &[Value]) -> Result<(), GraphFault>
-    requires { length adjacency.now ≤ 100000 }
+    requires { length adjacency.now ≤ most_units }
     ensures { MatchResult result (λ _. first_entry_in is_unnamed BadNeighbour (lists_in adjacency.now) ≡ None)
         (λ f. first_entry_in is_unnamed BadNeighbour (lists_in adjacency.now) ≡ Some f) }
 {
@@ -42,21 +43,21 @@ pub fn graph_of<'v>(
     adjacency: &'v [Value],
     index: &Index<'v>,
 ) -> Result<Graph, GraphFault>
-    requires few { units ≤ 100000 }
+    requires few { units ≤ most_units }
     requires lists { length adjacency.now ≡ units }
     requires ids { length index.now ≡ units }
     requires different { repeated index.now ≡ None }
     ensures { MatchResult result
-        (λ g. (edges_fault index.now (lists_in adjacency.now) ≡ None) × (g ≡ graph_in index.now (lists_in adjacency.now)) × IsGraph g × (edges_in index.now (lists_in adjacency.now) ≤ 400000))
+        (λ g. (edges_fault index.now (lists_in adjacency.now) ≡ None) × (g ≡ graph_in index.now (lists_in adjacency.now)) × IsGraph g × (edges_in index.now (lists_in adjacency.now) ≤ most_edges))
         (λ f. (f ≡ Memory) ⊎ (edges_fault index.now (lists_in adjacency.now) ≡ Some f)) }
 {
-    let mut codes = codes_of(alloc, adjacency, index)?;
-    put_in_order(&mut codes);
-    let edges = codes.len() as u64;
+    let mut pairs = pairs_of(alloc, adjacency, index)?;
+    put_in_order(&mut pairs);
+    let edges = pairs.len() as u64;
     if edges > 400000 {
         return Err(GraphFault::TooManyEdges(edges));
     }
-    graph_from(alloc, units, &codes)
+    graph_from(alloc, units, &pairs)
 }
 
 /// The first entry that has no id.
@@ -71,39 +72,37 @@ fn unnamed_entry(entries: &[Value]) -> Option<usize>
     None
 }
 
-/// An edge as one number, the smaller end first.
-fn code_of(u: u32, v: u32) -> u64
-    ensures { result ≡ edge_code u v }
+/// An edge, the smaller end first.
+fn edge_of(unit: u32, other: u32) -> (u32, u32)
+    ensures { result ≡ edge unit other }
 {
-    if u < v {
-        u64::from(u) * 100000 + u64::from(v)
+    if unit < other {
+        (unit, other)
     } else {
-        u64::from(v) * 100000 + u64::from(u)
+        (other, unit)
     }
 }
 
 /// Appends an edge, unless both ends are one.
-fn push_edge(codes: &mut Vec<u64>, node: u32, other: u32) -> Result<(), GraphFault>
-    ensures { MatchResult result (λ _. PushesEdge node other codes.old.items codes.new.items) (λ f. f ≡ Memory) }
+fn push_edge(pairs: &mut Vec<(u32, u32)>, node: u32, other: u32) -> Result<(), GraphFault>
+    ensures { MatchResult result (λ _. PushesEdge node other pairs.old.items pairs.new.items) (λ f. f ≡ Memory) }
 {
     if other == node {
         return Ok(());
     }
-    match codes.push(code_of(node, other)) {
-        Ok(()) => Ok(()),
-        Err(_) => Err(GraphFault::Memory),
-    }
+    pairs.push(edge_of(node, other))?;
+    Ok(())
 }
 
 /// Appends the edges that one node lists, or gives the first of its entries that names no node.
 fn add_edges<'v>(
-    codes: &mut Vec<u64>,
+    pairs: &mut Vec<(u32, u32)>,
     index: &Index<'v>,
     entries: &'v [Value],
     node: u32,
 ) -> Result<(), GraphFault>
     ensures { MatchResult result
-        (λ _. (first_in (is_unknown index.now) (views entries.now) ≡ None) × AddsEdges index.now (views entries.now) (length entries.now) node codes.old.items codes.new.items)
+        (λ _. (first_in (is_unknown index.now) (views entries.now) ≡ None) × AddsEdges index.now (views entries.now) (length entries.now) node pairs.old.items pairs.new.items)
         (λ f. (f ≡ Memory) ⊎ (option_map (UnknownNeighbour node) (first_in (is_unknown index.now) (views entries.now)) ≡ Some f)) }
 {
     for place in 0..entries.len() {
@@ -113,52 +112,37 @@ fn add_edges<'v>(
                 place: place as u64,
             });
         };
-        push_edge(codes, node, other)?;
+        push_edge(pairs, node, other)?;
     }
     Ok(())
 }
 
 /// The edges that the nodes list, in any order, some of them more than once.
-fn codes_of<'v>(
+fn pairs_of<'v>(
     alloc: Global,
     adjacency: &'v [Value],
     index: &Index<'v>,
-) -> Result<Vec<u64>, GraphFault>
-    requires { length adjacency.now ≤ 100000 }
+) -> Result<Vec<(u32, u32)>, GraphFault>
+    requires { length adjacency.now ≤ most_units }
     ensures { MatchResult result
-        (λ codes. (first_entry_in (is_unknown index.now) UnknownNeighbour (lists_in adjacency.now) ≡ None)
-        × AreCodes index.now (lists_in adjacency.now) (length (lists_in adjacency.now)) codes.items)
+        (λ pairs. (first_entry_in (is_unknown index.now) UnknownNeighbour (lists_in adjacency.now) ≡ None)
+        × AreListed index.now (lists_in adjacency.now) (length (lists_in adjacency.now)) pairs.items)
         (λ f. (f ≡ Memory) ⊎ (first_entry_in (is_unknown index.now) UnknownNeighbour (lists_in adjacency.now) ≡ Some f)) }
 {
-    let mut codes = Vec::new(alloc);
-    for node in 0..adjacency.len() {
-        add_edges(&mut codes, index, entries_of(adjacency, node), node as u32)?;
-    }
-    Ok(codes)
-}
-
-/// The ends of each edge.
-fn pairs_of(alloc: Global, codes: &[u64]) -> Result<Vec<(u32, u32)>, GraphFault>
-    requires { (x : ℕ) → IsTrue (has codes.now x) → x < 10000000000 }
-    ensures { MatchResult result (λ pairs. pairs.items ≡ pairs_in codes.now) (λ f. f ≡ Memory) }
-{
     let mut pairs = Vec::new(alloc);
-    for code in codes {
-        let Ok(()) = pairs.push(((*code / 100000) as u32, (*code % 100000) as u32)) else {
-            return Err(GraphFault::Memory);
-        };
+    for node in 0..adjacency.len() {
+        add_edges(&mut pairs, index, entries_of(adjacency, node), node as u32)?;
     }
     Ok(pairs)
 }
 
 /// The graph of the edges, which rise.
-fn graph_from(alloc: Global, units: u32, codes: &[u64]) -> Result<Graph, GraphFault>
-    requires few { (units ≤ 100000) × (length codes.now ≤ 400000) }
-    requires codes { AreEdges units codes.now }
-    ensures { MatchResult result (λ g. IsGraph g × (g.units ≡ units) × ((u v : ℕ) → IsTrue (adjacent g u v) ↔ Joins (pairs_in codes.now) u v)) (λ f. f ≡ Memory) }
+fn graph_from(alloc: Global, units: u32, pairs: &[(u32, u32)]) -> Result<Graph, GraphFault>
+    requires few { (units ≤ most_units) × (length pairs.now ≤ most_edges) }
+    requires pairs { ArePairs units pairs.now }
+    ensures { MatchResult result (λ g. IsGraph g × (g.units ≡ units) × ((u v : ℕ) → IsTrue (adjacent g u v) ↔ Joins pairs.now u v)) (λ f. f ≡ Memory) }
 {
-    let pairs = pairs_of(alloc, codes)?;
-    match Graph::from_pairs(alloc, units, &pairs) {
+    match Graph::from_pairs(alloc, units, pairs) {
         Ok(graph) => Ok(graph),
         Err(_) => Err(GraphFault::Memory),
     }

@@ -8,6 +8,7 @@ ghost use Rattle.graph_definitions.specs.Regions.{id_reading};
 ghost use Rattle.dual_json.specs.Numbered.{IsGraphText};
 ghost use Rattle.dual_json.specs.Places.{first_unnamed, AreLabels};
 ghost use Rattle.dual_json.specs.Shape.{views};
+ghost use Rattle.audit_model.specs.Limits.{most_units};
 
 use crate::districts::labels_of;
 use crate::names::{Unnamed, names_at};
@@ -23,7 +24,7 @@ pub fn read_ids(alloc: Global, bytes: &[u8]) -> Result<LabelList, Memory>
     requires graph { IsGraphText bytes.now }
     ensures read { IfOk result (λ ids. ids ≡ id_reading bytes.now) }
     ensures width { IfOk result (λ ids. (columns : Columns) (parsed : Parsed) → reading bytes.now columns ≡ Ok parsed → length ids ≡ parsed.graph.units) }
-    ensures few { IfOk result (λ ids. length ids ≤ 100000) }
+    ensures few { IfOk result (λ ids. length ids ≤ most_units) }
 {
     match value_of(alloc, bytes) {
         Ok(root) => match parts_of(&root) {
@@ -36,7 +37,7 @@ pub fn read_ids(alloc: Global, bytes: &[u8]) -> Result<LabelList, Memory>
 
 /// The ids of the nodes, each of which has one.
 fn ids_in(alloc: Global, nodes: &[Value]) -> Result<LabelList, Memory>
-    requires few { length nodes.now ≤ 100000 }
+    requires few { length nodes.now ≤ most_units }
     requires named { first_unnamed (codes "id") (views nodes.now) ≡ None }
     ensures { IfOk result (λ ids. AreLabels (codes "id") (views nodes.now) ids) }
 {

@@ -4,6 +4,7 @@ ghost use Rattle.std.specs.Prelude.{◌≡◌, ◌≤◌, ◌⊎◌, None, Some,
 ghost use Rattle.serde_json.specs.View.{view};
 ghost use Rattle.audit_model.specs.declared.fault.GraphFault.TheVariants.{Memory};
 ghost use Rattle.dual_json.specs.Places.{labels_from, repeated, place_of, IsIndex};
+ghost use Rattle.audit_model.specs.Limits.{most_units};
 
 use crate::names::{Name, name_at};
 use audit_model::fault::GraphFault;
@@ -34,7 +35,7 @@ impl<'v> Model for Index<'v> {
 impl<'v> Index<'v> {
     /// The index of the names, or the first name that an earlier place has too.
     pub fn of(alloc: Global, names: Vec<Name<'v>>) -> Result<Index<'v>, GraphFault>
-        requires { length names.items ≤ 100000 }
+        requires { length names.items ≤ most_units }
         ensures { MatchResult result (λ index. (repeated (labels_from names.entry.items) ≡ None) × (index ≡ labels_from names.entry.items))
             (λ f. (f ≡ Memory) ⊎ (repeated (labels_from names.entry.items) ≡ Some f)) }
     {
@@ -57,13 +58,11 @@ impl<'v> Index<'v> {
 
 /// The place of each name, or the first name that an earlier place has too.
 fn places_of<'v>(alloc: Global, names: &[Name<'v>]) -> Result<HashMap<Name<'v>, u32>, GraphFault>
-    requires { length names.now ≤ 100000 }
+    requires { length names.now ≤ most_units }
     ensures { MatchResult result (λ places. (repeated (labels_from names.now) ≡ None) × IsIndex (labels_from names.now) places)
         (λ f. (f ≡ Memory) ⊎ (repeated (labels_from names.now) ≡ Some f)) }
 {
-    let Ok(mut places) = HashMap::with_capacity(alloc, names.len()) else {
-        return Err(GraphFault::Memory);
-    };
+    let mut places = HashMap::with_capacity(alloc, names.len())?;
     for place in 0..names.len() {
         let second = place as u32;
         match places.insert(names[place], second) {

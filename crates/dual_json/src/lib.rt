@@ -15,3 +15,5 @@ pub use crate::ids::read_ids;
 pub use crate::read::read_graph;
 pub use crate::regions::read_regions;
 pub use audit_model::fault::{Column, GraphFault, Part, RegionFault};
+pub use districts::{different, labels_of, start_of};
+pub use names::Name;

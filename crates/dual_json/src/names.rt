@@ -7,6 +7,7 @@ ghost use Rattle.graph_definitions.specs.Reading.{label_of};
 ghost use Rattle.dual_json.specs.Places.{label_in, labels_from, first_unnamed, AreLabels, Tells};
 ghost use Rattle.dual_json.specs.Shape.{views};
 ghost use Rattle.dual_json.specs.Names.{label_from, name_cmp, same_name, name_writes, name_equiv, name_total, name_per, name_po, name_hashes};
+ghost use Rattle.audit_model.specs.Limits.{most_units};
 
 use audit_model::memory::Memory;
 use audit_model::setting::Label;
@@ -132,7 +133,7 @@ pub fn names_at<'v>(
     objects: &'v [Value],
     key: &str,
 ) -> Result<Vec<Name<'v>>, Unnamed>
-    requires { length objects.now ≤ 100000 }
+    requires { length objects.now ≤ most_units }
     ensures { MatchResult result (λ names. (first_unnamed key.now (views objects.now) ≡ None) × AreLabels key.now (views objects.now) (labels_from names.items))
         (λ why. Tells why (first_unnamed key.now (views objects.now))) }
 {

@@ -6,7 +6,7 @@ ghost use Rattle.serde_json.specs.Read.{read};
 ghost use Rattle.serde_json.specs.View.{view};
 ghost use Rattle.audit_model.specs.declared.fault.GraphFault.TheVariants as fault;
 ghost use Rattle.audit_model.specs.Graph.{IsGraph, count_edges};
-ghost use Rattle.audit_model.specs.Limits.{AreWithin};
+ghost use Rattle.audit_model.specs.Limits.{AreWithin, most_units, most_edges};
 ghost use Rattle.dual_graph.specs.Read.{parsed_of};
 ghost use Rattle.graph_definitions.specs.Reading.{graph, parsed, reading, refusal};
 ghost use Rattle.dual_json.specs.Districts.{count_fault, different_count};
@@ -69,7 +69,7 @@ pub fn read_graph(alloc: Global, bytes: &[u8], cols: &Columns) -> Result<Parsed,
 
 /// The ids of the nodes.
 fn ids_of<'v>(alloc: Global, nodes: &'v [Value]) -> Result<Index<'v>, GraphFault>
-    requires { length nodes.now ≤ 100000 }
+    requires { length nodes.now ≤ most_units }
     ensures { MatchResult result (λ index. (ids_fault (views nodes.now) ≡ None) × AreLabels (codes "id") (views nodes.now) index × (repeated index ≡ None))
         (λ f. (f ≡ fault.Memory) ⊎ (ids_fault (views nodes.now) ≡ Some f)) }
 {
@@ -83,7 +83,7 @@ fn ids_of<'v>(alloc: Global, nodes: &'v [Value]) -> Result<Index<'v>, GraphFault
 /// The graph of the parts.
 fn graph_in(alloc: Global, parts: &Parts<'_>) -> Result<Graph, GraphFault>
     ensures { MatchResult result
-        (λ g. (graph_fault (document_of parts.now) ≡ None) × (graph (document_of parts.now) ≡ g) × (length parts.now.nodes.now ≤ 100000) × IsGraph g × (count_edges g (λ u v. true) ≤ 400000))
+        (λ g. (graph_fault (document_of parts.now) ≡ None) × (graph (document_of parts.now) ≡ g) × (length parts.now.nodes.now ≤ most_units) × IsGraph g × (count_edges g (λ u v. true) ≤ most_edges))
         (λ f. (f ≡ fault.Memory) ⊎ (graph_fault (document_of parts.now) ≡ Some f)) }
 {
     check_frame(parts)?;
@@ -98,7 +98,7 @@ fn names_in<'v>(
     nodes: &'v [Value],
     columns: &Columns,
 ) -> Result<Vec<Name<'v>>, GraphFault>
-    requires { length nodes.now ≤ 100000 }
+    requires { length nodes.now ≤ most_units }
     ensures { MatchResult result
         (λ names. (labels_fault columns.now (views nodes.now) ≡ None) × AreLabels columns.now.district (views nodes.now) (labels_from names.items))
         (λ f. (f ≡ fault.Memory) ⊎ (labels_fault columns.now (views nodes.now) ≡ Some f)) }
@@ -119,7 +119,7 @@ fn rows_of<'v>(
     columns: &Columns,
     names: &[Name<'v>],
 ) -> Result<Rows, GraphFault>
-    requires few { length names.now ≤ 100000 }
+    requires few { length names.now ≤ most_units }
     requires labels { AreLabels columns.now.district (views nodes.now) (labels_from names.now) }
     ensures { MatchResult result
         (λ rows. (count_fault (different_count (labels_from names.now)) ≡ None) × AreRows columns.now (views nodes.now) rows.counts rows.start rows.labels)

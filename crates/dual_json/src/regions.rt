@@ -4,7 +4,7 @@ ghost use Rattle.std.specs.Prelude.{◌≡◌, ◌<◌, ◌≤◌, ◌⊎◌, tr
 ghost use Rattle.serde_json.specs.View.{view};
 ghost use Rattle.audit_model.specs.declared.fault.RegionFault.TheVariants as fault;
 ghost use Rattle.audit_model.specs.declared.setting.Columns.{Columns};
-ghost use Rattle.audit_model.specs.Limits.{AreRegions};
+ghost use Rattle.audit_model.specs.Limits.{AreRegions, most_units, most_regions};
 ghost use Rattle.audit_model.specs.Parsed.{Parsed};
 ghost use Rattle.graph_definitions.specs.Reading.{reading};
 ghost use Rattle.graph_definitions.specs.Regions.{region_fault, region_reading, regions};
@@ -50,7 +50,7 @@ pub fn read_regions(alloc: Global, bytes: &[u8], column: &Text) -> Result<UnitLi
 
 /// The first node that has not the column.
 fn first_missing(nodes: &[Value], column: &Text) -> Option<u32>
-    requires { length nodes.now ≤ 100000 }
+    requires { length nodes.now ≤ most_units }
     ensures { result ≡ first_without column.now (views nodes.now) }
 {
     for node in 0..nodes.len() {
@@ -63,10 +63,10 @@ fn first_missing(nodes: &[Value], column: &Text) -> Option<u32>
 
 /// The place of each name among the different ones in rising order, or how many different ones there are, where these are more than 5,000.
 fn numbers_of(alloc: Global, names: &[Name<'_>]) -> Result<UnitList, RegionFault>
-    requires { length names.now ≤ 100000 }
+    requires { length names.now ≤ most_units }
     ensures { MatchResult result
-        (λ numbers. (nat_lt 5000 (different_count (labels_from names.now)) ≡ false) × AreNumbered (labels_from names.now) numbers)
-        (λ f. (f ≡ fault.Memory) ⊎ ((f ≡ fault.TooMany (different_count (labels_from names.now))) × (nat_lt 5000 (different_count (labels_from names.now)) ≡ true))) }
+        (λ numbers. (nat_lt most_regions (different_count (labels_from names.now)) ≡ false) × AreNumbered (labels_from names.now) numbers)
+        (λ f. (f ≡ fault.Memory) ⊎ ((f ≡ fault.TooMany (different_count (labels_from names.now))) × (nat_lt most_regions (different_count (labels_from names.now)) ≡ true))) }
 {
     let Ok(found) = different(alloc, names) else {
         return Err(RegionFault::Memory);
@@ -83,7 +83,7 @@ fn numbers_of(alloc: Global, names: &[Name<'_>]) -> Result<UnitList, RegionFault
 
 /// The regions of the nodes.
 fn regions_in(alloc: Global, parts: &Parts<'_>, column: &Text) -> Result<UnitList, RegionFault>
-    requires { length parts.now.nodes.now ≤ 100000 }
+    requires { length parts.now.nodes.now ≤ most_units }
     ensures read { MatchResult result
         (λ numbers. (region_fault (document_of parts.now) column.now ≡ None) × (regions (document_of parts.now) column.now ≡ numbers))
         (λ f. (f ≡ fault.Memory) ⊎ (region_fault (document_of parts.now) column.now ≡ Some f)) }

@@ -6,6 +6,7 @@ ghost use Rattle.serde_json.specs.Find.{get, as_bool};
 ghost use Rattle.serde_json.specs.View.{view};
 ghost use Rattle.graph_definitions.specs.Reading.{bad_part, document, is_no_flag, list_at as list_in, list_of};
 ghost use Rattle.dual_json.specs.Shape.{views, lists_in, document_of, frame_fault};
+ghost use Rattle.audit_model.specs.Limits.{most_units};
 
 use audit_model::fault::{GraphFault, Part};
 use serde_json::Value;
@@ -51,7 +52,7 @@ pub fn parts_of(root: &Value) -> Result<Parts<'_>, Part>
 /// Whether the graph is directed, its two lists differ in length, or there are too many units.
 pub fn check_frame(parts: &Parts<'_>) -> Result<(), GraphFault>
     ensures { MatchResult result (λ _. (frame_fault parts.now.directed (length parts.now.nodes.now) (length parts.now.adjacency.now) ≡ None)
-        × (length parts.now.nodes.now ≡ length parts.now.adjacency.now) × (length parts.now.nodes.now ≤ 100000))
+        × (length parts.now.nodes.now ≡ length parts.now.adjacency.now) × (length parts.now.nodes.now ≤ most_units))
         (λ f. frame_fault parts.now.directed (length parts.now.nodes.now) (length parts.now.adjacency.now) ≡ Some f) }
 {
     let nodes = parts.nodes.len() as u64;

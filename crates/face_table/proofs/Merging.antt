@@ -18,9 +18,10 @@ use Rattle.faces.proofs.Linking.{link_near, near_link, share_turned}
 use Rattle.model_laws.proofs.Paths.{path_one, path_before, joined_from}
 use Rattle.face_table.specs.declared.corner.Corner.{Corner}
 use Rattle.face_table.specs.Corners.{IsPlaced, is_filled, units_of, corners_at}
-use Rattle.face_table.specs.Links.{Replaced, AreClasses, AreMerged, is_inner}
+use Rattle.face_table.specs.Links.{AreClasses, AreMerged, is_inner}
 use Rattle.face_table.proofs.Counting.{rising_once}
 use Rattle.face_table.proofs.Seeing.{corners_share, shared_corner}
+use Rattle.model_laws.specs.Replaced.{Replaced}
 
 -- what of classes is kept, where the corners are those of faces
 abbrev pub Kept : Graph → List ℕ → ℕ → List Corner → List ℕ → List ℕ → Type 0

@@ -6,7 +6,7 @@ use Rattle.std.proofs.lemmas.Bool.{and_left, and_right, and_from, cases_eq, case
 use Rattle.audit_model.specs.Below.{count_below, sum_below}
 use Rattle.audit_model.specs.Graph.{Graph, IsGraph, adjacent}
 use Rattle.audit_model.specs.Plan.{in_district}
-use Rattle.model_laws.proofs.Below.{count_below_same, count_none}
+use Rattle.model_laws.proofs.Below.{count_below_none}
 use Rattle.model_laws.proofs.Bools.{and_true}
 use Rattle.faces.specs.Faces.{AreFaces, count_inner_edges, count_inner_faces, count_mates}
 use Rattle.face_table.specs.Corners.{is_filled, corners_at}
@@ -112,9 +112,6 @@ module _ (g : Graph) (sound : IsGraph g) (faces : List (List ℕ)) (are : AreFac
   sum_none zero f none = refl
   sum_none (suc n) f none = omega (arith, sum_none n f none, none n)
 
-  count_out : (n : ℕ) (p : ℕ → Bool) → ((k : ℕ) → p k ≡ false) → count_below n p ≡ 0
-  count_out n p none = count_below_same n p (λ _. false) (λ k l. none k) ∙ count_none n
-
   -- before all units
   pub none_counted : (p : ℕ → ℕ → Bool) (n : ℕ) (counted : Counted) → ((x v : ℕ) → p x v ≡ false) → length counted.edges ≡ n → length counted.filled ≡ n
       → ((d : ℕ) → get_or counted.edges d 0 ≡ 0) → ((d : ℕ) → get_or counted.filled d 0 ≡ 0) → AreCountsOf g faces p n counted
@@ -122,8 +119,8 @@ module _ (g : Graph) (sound : IsGraph g) (faces : List (List ℕ)) (are : AreFac
     edge_places = le;
     filled_places = lf;
     edges = λ d l. ze d ∙ sym (sum_none g.units (λ w. count_below w (λ v. adjacent g v w && (p d v && p d w)))
-        (λ w. count_out w (λ v. adjacent g v w && (p d v && p d w)) (λ v. and_right (adjacent g v w) (p d v && p d w) (and_left (p d v) (p d w) (none d v)))));
-    filled = λ d l. omega (arith, zf d, count_out g.units (p d) (none d), none_inside (p d) (none d) faces are);
+        (λ w. count_below_none w (λ v. adjacent g v w && (p d v && p d w)) (λ v l. and_right (adjacent g v w) (p d v && p d w) (and_left (p d v) (p d w) (none d v)))));
+    filled = λ d l. omega (arith, zf d, count_below_none g.units (p d) (λ k l. none d k), none_inside (p d) (none d) faces are);
   }
 
 -- ---- the sets of a plan

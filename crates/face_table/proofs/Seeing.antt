@@ -8,9 +8,12 @@ use Rattle.std.proofs.lemmas.List.Elements.{All-push, All-weaker, All-nil}
 use Rattle.std.proofs.lemmas.List.Sums.{sum_by-append, sum_by-cons}
 use Rattle.audit_model.specs.Apart.{AllApart}
 use Rattle.audit_model.specs.Graph.{Graph, has}
-use Rattle.model_laws.proofs.Lists.{first_has}
+use Rattle.model_laws.proofs.Lists.{first_has, other, has_2, has_3, has_4}
+use Rattle.model_laws.proofs.Bools.{in_1, in_4}
+use Rattle.model_laws.proofs.Every.{each_from_all, all_from_each}
 use Rattle.faces.specs.Faces.{is_pair, has_side, IsRing, AreFaces, share_face, count_inner_faces_at}
-use Rattle.faces.proofs.Rings.{pair_same, pair_turned, pair_is, in_1, in_4, other, has_2, has_3, has_4, side_in, each_passes}
+use Rattle.faces.proofs.Rings.{pair_same, pair_turned, pair_is, side_in}
+use Rattle.faces.proofs.Around.{turn_three, turn_four}
 use Rattle.face_table.specs.Corners.{with_corner, with_face, corners_at, is_filled}
 
 -- ---- the corner of a ring
@@ -24,24 +27,6 @@ pub record IsCornerOf (ring : List ℕ) (u : ℕ) (t : ℕ × ℕ × ℕ) : Type
   pub all : (v : ℕ) → has ring v ≡ true → (v ≡ u) ⊎ ((v ≡ t.0) ⊎ ((v ≡ t.1) ⊎ (v ≡ t.2)))
   pub ends : (x : ℕ) → has_side ring u x ≡ true → (x ≡ t.0) ⊎ (x ≡ t.1)
   pub off : (t.0 ≡ u → ⊥) × (t.1 ≡ u → ⊥) × (t.2 ≡ u → ⊥)
-
-turn3 : (p q r : Bool) → (p || q || r) ≡ true → (q || r || p) ≡ true
-turn3 true true r h = refl
-turn3 true false true h = refl
-turn3 true false false h = refl
-turn3 false true r h = refl
-turn3 false false true h = refl
-turn3 false false false h = absurd (false≢true h)
-
-turn4 : (p q r s : Bool) → (p || q || r || s) ≡ true → (q || r || s || p) ≡ true
-turn4 true true r s h = refl
-turn4 true false true s h = refl
-turn4 true false false true h = refl
-turn4 true false false false h = refl
-turn4 false true r s h = refl
-turn4 false false true s h = refl
-turn4 false false false true h = refl
-turn4 false false false false h = absurd (false≢true h)
 
 round3 : (p q r : Bool) → (p || (q || (r || false))) ≡ true → (q || (r || (p || false))) ≡ true
 round3 true true r h = refl
@@ -61,12 +46,6 @@ round4 false false true s h = refl
 round4 false false false true h = refl
 round4 false false false false h = absurd (false≢true h)
 
-side3 : (a b c x y : ℕ) → has_side (a ∷ b ∷ c ∷ []) x y ≡ true → has_side (b ∷ c ∷ a ∷ []) x y ≡ true
-side3 a b c x y h = turn3 (is_pair a b x y) (is_pair b c x y) (is_pair c a x y) h
-
-side4 : (a b c d x y : ℕ) → has_side (a ∷ b ∷ c ∷ d ∷ []) x y ≡ true → has_side (b ∷ c ∷ d ∷ a ∷ []) x y ≡ true
-side4 a b c d x y h = turn4 (is_pair a b x y) (is_pair b c x y) (is_pair c d x y) (is_pair d a x y) h
-
 has3 : (a b c v : ℕ) → has (a ∷ b ∷ c ∷ []) v ≡ true → has (b ∷ c ∷ a ∷ []) v ≡ true
 has3 a b c v h = round3 (a == v) (b == v) (c == v) h
 
@@ -80,7 +59,7 @@ turned3 a b c u t s = record {
   other = side t.1 s.other;
   units = (back t.0 s.units.0, back t.1 s.units.1, back t.2 s.units.2);
   all = λ v h. s.all v (has3 a b c v h);
-  ends = λ x h. s.ends x (side3 a b c u x h);
+  ends = λ x h. s.ends x (turn_three a b c u x h);
   off = s.off;
 }
   where
@@ -88,7 +67,7 @@ turned3 a b c u t s = record {
     back v h = has3 c a b v (has3 b c a v h)
 
     side : (x : ℕ) → has_side (b ∷ c ∷ a ∷ []) u x ≡ true → has_side (a ∷ b ∷ c ∷ []) u x ≡ true
-    side x h = side3 c a b u x (side3 b c a u x h)
+    side x h = turn_three c a b u x (turn_three b c a u x h)
 
 turned4 : (a b c d u : ℕ) (t : ℕ × ℕ × ℕ) → IsCornerOf (b ∷ c ∷ d ∷ a ∷ []) u t → IsCornerOf (a ∷ b ∷ c ∷ d ∷ []) u t
 turned4 a b c d u t s = record {
@@ -97,7 +76,7 @@ turned4 a b c d u t s = record {
   other = side t.1 s.other;
   units = (back t.0 s.units.0, back t.1 s.units.1, back t.2 s.units.2);
   all = λ v h. s.all v (has4 a b c d v h);
-  ends = λ x h. s.ends x (side4 a b c d u x h);
+  ends = λ x h. s.ends x (turn_four a b c d u x h);
   off = s.off;
 }
   where
@@ -105,7 +84,7 @@ turned4 a b c d u t s = record {
     back v h = has4 d a b c v (has4 c d a b v (has4 b c d a v h))
 
     side : (x : ℕ) → has_side (b ∷ c ∷ d ∷ a ∷ []) u x ≡ true → has_side (a ∷ b ∷ c ∷ d ∷ []) u x ≡ true
-    side x h = side4 d a b c u x (side4 c d a b u x (side4 b c d a u x h))
+    side x h = turn_four d a b c u x (turn_four c d a b u x (turn_four b c d a u x h))
 
 first3 : (a b c : ℕ) → (a ≡ b → ⊥) → (a ≡ c → ⊥) → IsCornerOf (a ∷ b ∷ c ∷ []) a (b, c, c)
 first3 a b c ab ac = record {
@@ -292,18 +271,13 @@ seen g u cs ring is = by_size ring is.size is.apart
 
 -- ---- all faces
 
-all_from : (test : ℕ → Bool) (ring : List ℕ) → ((v : ℕ) → has ring v ≡ true → test v ≡ true) → list_all test ring ≡ true
-all_from test [] each = refl
-all_from test (v ∷ rest) each =
-    and_from (test v) (list_all test rest) (each v (first_has v rest)) (all_from test rest (λ w h. each w (or_right (v == w) (has rest w) h)))
-
 module _ (inside : ℕ → Bool) (u : ℕ) (in_set : inside u ≡ true) where
   -- a face is inside where the units of its corner are
   filled_face : (ring : List ℕ) (t : ℕ × ℕ × ℕ) → IsCornerOf ring u t → is_filled inside t ≡ true → list_all inside ring ≡ true
   filled_face ring t s h =
       let first = and_parts (inside t.0) (inside t.1 && inside t.2) h in
       let rest = and_parts (inside t.1) (inside t.2) first.1 in
-      all_from inside ring (λ v m. elim (s.all v m) [
+      all_from_each inside ring (λ v m. elim (s.all v m) [
         | inl e ↦ subst (λ k. inside k ≡ true) (sym e) in_set
         | inr k ↦ elim k [
           | inl e ↦ subst (λ k. inside k ≡ true) (sym e) first.0
@@ -316,8 +290,8 @@ module _ (inside : ℕ → Bool) (u : ℕ) (in_set : inside u ≡ true) where
 
   face_filled : (ring : List ℕ) (t : ℕ × ℕ × ℕ) → IsCornerOf ring u t → list_all inside ring ≡ true → is_filled inside t ≡ true
   face_filled ring t s h =
-      and_from (inside t.0) (inside t.1 && inside t.2) (each_passes inside ring t.0 h s.units.0)
-      (and_from (inside t.1) (inside t.2) (each_passes inside ring t.1 h s.units.1) (each_passes inside ring t.2 h s.units.2))
+      and_from (inside t.0) (inside t.1 && inside t.2) (each_from_all inside ring t.0 h s.units.0)
+      (and_from (inside t.1) (inside t.2) (each_from_all inside ring t.1 h s.units.1) (each_from_all inside ring t.2 h s.units.2))
 
   same_filled : (ring : List ℕ) (t : ℕ × ℕ × ℕ) → IsCornerOf ring u t → list_all inside ring ≡ is_filled inside t
   same_filled ring t s = elim (cases_Bool (list_all inside ring)) [

@@ -9,11 +9,6 @@ use Rattle.faces.specs.Faces.{link_graph}
 use Rattle.face_table.specs.declared.corner.Corner.{Corner}
 use Rattle.face_table.specs.Corners.{is_filled, units_of}
 
--- the class of one neighbour stands in the place of that of another
-abbrev pub Replaced : List ℕ → List ℕ → ℕ → ℕ → Type 0
-Replaced old new from into = (k : ℕ) → k < length old
-    → slice_index new k ≡ cond (slice_index old k == slice_index old from) (slice_index old into) (slice_index old k)
-
 -- whether the units of a corner at u are all in u's district
 abbrev pub is_inner : Graph → List ℕ → ℕ → Corner → Bool
 is_inner g plan u corner = is_filled (in_district plan (slice_index plan u)) (units_of (slice_index_or g.neighbours u []) corner)

@@ -4,6 +4,7 @@ ghost use Rattle.std.specs.Prelude.{◌≡◌, ◌≢◌, ℕ, ◌+◌, ◌-◌,
 ghost use Rattle.face_table.specs.Corners.{is_filled, corners_at};
 ghost use Rattle.face_table.specs.Counts.{AreCounts, HasNoHole, is_before};
 ghost use Rattle.faces.specs.Faces.{count_mates};
+ghost use Rattle.audit_model.specs.Limits.{most_edges};
 
 use crate::table::FaceTable;
 use audit_model::memory::Memory;
@@ -41,18 +42,18 @@ impl FaceCounts {
     /// The counts of a plan's districts.
     pub fn new(
         alloc: Global,
-        g: &Graph,
+        graph: &Graph,
         table: &FaceTable,
         districts: u32,
         plan: &[u32],
     ) -> Result<FaceCounts, Memory>
-        requires made { table.now.graph ≡ g.now }
-        requires plan { length plan.now ≡ g.now.units }
-        requires in_range { (u : ℕ) → u < g.now.units → slice_index plan.now u < districts }
-        ensures { IfOk result (λ c. AreCounts g.now table.now.faces districts plan.now c) }
+        requires made { table.now.graph ≡ graph.now }
+        requires plan { length plan.now ≡ graph.now.units }
+        requires in_range { (u : ℕ) → u < graph.now.units → slice_index plan.now u < districts }
+        ensures { IfOk result (λ c. AreCounts graph.now table.now.faces districts plan.now c) }
     {
         let mut counts = FaceCounts::zeros(alloc, districts)?;
-        counts.reset(g, table, plan);
+        counts.reset(graph, table, plan);
         Ok(counts)
     }
 
@@ -69,7 +70,7 @@ impl FaceCounts {
     #[inline]
     fn raise(&mut self, district: u32, mates: u64, corners: u64)
         requires places { (district < length self.old.edges) × (district < length self.old.filled) }
-        requires edges { slice_index self.old.edges district + mates ≤ 400000 }
+        requires edges { slice_index self.old.edges district + mates ≤ most_edges }
         requires filled { slice_index self.old.filled district + 1 + corners ≤ 4100000 }
         ensures edges { self.new.edges ≡ slice_set self.old.edges district (slice_index self.old.edges district + mates) }
         ensures filled { self.new.filled ≡ slice_set self.old.filled district (slice_index self.old.filled district + 1 + corners) }
@@ -93,51 +94,58 @@ impl FaceCounts {
     }
 
     /// Makes the counts those of another plan. It takes no memory.
-    pub fn reset(&mut self, g: &Graph, table: &FaceTable, plan: &[u32])
-        requires made { table.now.graph ≡ g.now }
-        requires plan { length plan.now ≡ g.now.units }
+    pub fn reset(&mut self, graph: &Graph, table: &FaceTable, plan: &[u32])
+        requires made { table.now.graph ≡ graph.now }
+        requires plan { length plan.now ≡ graph.now.units }
         requires places { length self.old.filled ≡ length self.old.edges }
-        requires in_range { (u : ℕ) → u < g.now.units → slice_index plan.now u < length self.old.edges }
-        ensures { AreCounts g.now table.now.faces (length self.old.edges) plan.now self.new }
+        requires in_range { (u : ℕ) → u < graph.now.units → slice_index plan.now u < length self.old.edges }
+        ensures { AreCounts graph.now table.now.faces (length self.old.edges) plan.now self.new }
     {
         // Called for what their contracts say: the table's faces are the graph's, and few, and the graph has at most 400,000 edges.
         let _units = table.units();
-        let _edges = g.edges();
+        let _edges = graph.edges();
         self.clear();
-        for unit in 0..g.units() {
+        for unit in 0..graph.units() {
             let district = plan[unit as usize];
-            let mates = mates_in(g, plan, unit, district, unit);
-            let corners = corners_in(g, table, plan, unit, district, unit);
+            let mates = mates_in(graph, plan, unit, district, unit);
+            let corners = corners_in(graph, table, plan, unit, district, unit);
             self.raise(district, mates, corners);
         }
     }
 
     /// Follows a unit that will move from its district to another one. It reads the unit's neighbours and faces alone,
     /// and takes no memory.
-    pub fn follow(&mut self, g: &Graph, table: &FaceTable, plan: &[u32], unit: u32, district: u32)
-        requires made { table.now.graph ≡ g.now }
-        requires plan { length plan.now ≡ g.now.units }
-        requires in_range { (u : ℕ) → u < g.now.units → slice_index plan.now u < length self.old.edges }
-        requires unit { unit < g.now.units }
+    pub fn follow(
+        &mut self,
+        graph: &Graph,
+        table: &FaceTable,
+        plan: &[u32],
+        unit: u32,
+        district: u32,
+    )
+        requires made { table.now.graph ≡ graph.now }
+        requires plan { length plan.now ≡ graph.now.units }
+        requires in_range { (u : ℕ) → u < graph.now.units → slice_index plan.now u < length self.old.edges }
+        requires unit { unit < graph.now.units }
         requires district { district < length self.old.edges }
         requires elsewhere { slice_index plan.now unit ≢ district }
-        requires counts { AreCounts g.now table.now.faces (length self.old.edges) plan.now self.old }
-        ensures { AreCounts g.now table.now.faces (length self.old.edges) (slice_set plan.now unit district) self.new }
+        requires counts { AreCounts graph.now table.now.faces (length self.old.edges) plan.now self.old }
+        ensures { AreCounts graph.now table.now.faces (length self.old.edges) (slice_set plan.now unit district) self.new }
     {
-        let units = g.units();
+        let units = graph.units();
         // Called for what their contracts say: the graph has at most 400,000 edges, and the table's faces are the graph's, and few.
-        let _edges = g.edges();
+        let _edges = graph.edges();
         let _units = table.units();
         let home = plan[unit as usize];
         self.lower(
             home,
-            mates_in(g, plan, unit, home, units),
-            corners_in(g, table, plan, unit, home, units),
+            mates_in(graph, plan, unit, home, units),
+            corners_in(graph, table, plan, unit, home, units),
         );
         self.raise(
             district,
-            mates_in(g, plan, unit, district, units),
-            corners_in(g, table, plan, unit, district, units),
+            mates_in(graph, plan, unit, district, units),
+            corners_in(graph, table, plan, unit, district, units),
         );
     }
 
@@ -153,15 +161,15 @@ impl FaceCounts {
 
 /// How many neighbours of a unit are in a district, of the units before an end.
 #[inline]
-fn mates_in(g: &Graph, plan: &[u32], unit: u32, district: u32, end: u32) -> u64
-    requires plan { length plan.now ≡ g.now.units }
-    requires unit { unit < g.now.units }
-    ensures { result ≡ count_mates g.now (is_before plan.now end district) unit }
+fn mates_in(graph: &Graph, plan: &[u32], unit: u32, district: u32, end: u32) -> u64
+    requires plan { length plan.now ≡ graph.now.units }
+    requires unit { unit < graph.now.units }
+    ensures { result ≡ count_mates graph.now (is_before plan.now end district) unit }
 {
     // Called for what its contract says: the graph is sound, and has at most 100,000 units.
-    let _units = g.units();
+    let _units = graph.units();
     let mut count = 0;
-    for other in g.neighbours(unit) {
+    for other in graph.neighbours(unit) {
         if plan[*other as usize] == district && *other < end {
             count += 1;
         }
@@ -171,13 +179,20 @@ fn mates_in(g: &Graph, plan: &[u32], unit: u32, district: u32, end: u32) -> u64
 
 /// How many faces at a unit have all their other units in a district, of the units before an end.
 #[inline]
-fn corners_in(g: &Graph, table: &FaceTable, plan: &[u32], unit: u32, district: u32, end: u32) -> u64
-    requires made { table.now.graph ≡ g.now }
-    requires plan { length plan.now ≡ g.now.units }
-    requires unit { unit < g.now.units }
+fn corners_in(
+    graph: &Graph,
+    table: &FaceTable,
+    plan: &[u32],
+    unit: u32,
+    district: u32,
+    end: u32,
+) -> u64
+    requires made { table.now.graph ≡ graph.now }
+    requires plan { length plan.now ≡ graph.now.units }
+    requires unit { unit < graph.now.units }
     ensures { result ≡ count_by (is_filled (is_before plan.now end district)) (corners_at unit table.now.faces) }
 {
-    let row = g.neighbours(unit);
+    let row = graph.neighbours(unit);
     let mut count = 0;
     for corner in table.at(unit) {
         let one = row[corner.one as usize];

@@ -6,3 +6,7 @@ pub mod counts;
 pub mod links;
 mod rows;
 pub mod table;
+
+pub use counts::FaceCounts;
+pub use links::MOST;
+pub use table::FaceTable;

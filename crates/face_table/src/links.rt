@@ -5,8 +5,9 @@ ghost use Rattle.std.specs.List.{slice_index_or};
 ghost use Rattle.audit_model.specs.Graph.{IsGraph, IsIn};
 ghost use Rattle.audit_model.specs.Local.{is_mate};
 ghost use Rattle.face_table.specs.Corners.{IsPlaced, units_of, corners_at};
-ghost use Rattle.face_table.specs.Links.{Replaced, AreClasses, AreMerged, is_inner};
+ghost use Rattle.face_table.specs.Links.{AreClasses, AreMerged, is_inner};
 ghost use Rattle.faces.specs.Faces.{AreFaces, AreLinked};
+ghost use Rattle.model_laws.specs.Replaced.{Replaced};
 
 use crate::corner::Corner;
 use dual_graph::graph::Graph;
@@ -15,26 +16,26 @@ use dual_graph::graph::Graph;
 pub const MOST: usize = 32;
 
 /// Whether the neighbours of a unit in its district are linked, one to the next, through faces inside it.
-pub fn are_linked(g: &Graph, plan: &[u32], u: u32, corners: &[Corner]) -> bool
-    requires plan { length plan.now ≡ g.now.units }
-    requires unit { u < g.now.units }
-    requires few { length (slice_index_or g.now.neighbours u []) ≤ 32 }
-    requires placed { All (IsPlaced g.now (slice_index_or g.now.neighbours u [])) corners.now }
-    ensures { (faces : List (List ℕ)) → AreFaces g.now faces →
-        map (units_of (slice_index_or g.now.neighbours u [])) corners.now ≡ corners_at u faces →
-        IsTrue result ↔ AreLinked g.now faces plan.now u }
+pub fn are_linked(graph: &Graph, plan: &[u32], unit: u32, corners: &[Corner]) -> bool
+    requires plan { length plan.now ≡ graph.now.units }
+    requires unit { unit < graph.now.units }
+    requires few { length (slice_index_or graph.now.neighbours unit []) ≤ 32 }
+    requires placed { All (IsPlaced graph.now (slice_index_or graph.now.neighbours unit [])) corners.now }
+    ensures { (faces : List (List ℕ)) → AreFaces graph.now faces →
+        map (units_of (slice_index_or graph.now.neighbours unit [])) corners.now ≡ corners_at unit faces →
+        IsTrue result ↔ AreLinked graph.now faces plan.now unit }
 {
     // Called for what its contract says: the graph is sound, and has at most 100,000 units.
-    let _units = g.units();
-    match first_mate(g, plan, u) {
+    let _units = graph.units();
+    match first_mate(graph, plan, unit) {
         None => false,
         Some(first) => {
             let mut classes: [u8; 32] = [
                 0, 1, 2, 3, 4, 5, 6, 7, 8, 9, 10, 11, 12, 13, 14, 15, 16, 17, 18, 19, 20, 21, 22,
                 23, 24, 25, 26, 27, 28, 29, 30, 31,
             ];
-            merge(g, plan, u, corners, &mut classes);
-            all_of(g, plan, u, &classes, classes[first])
+            merge(graph, plan, unit, corners, &mut classes);
+            all_of(graph, plan, unit, &classes, classes[first])
         }
     }
 }
@@ -56,14 +57,14 @@ fn join(classes: &mut [u8], from: u32, into: u32)
 
 /// Whether the units of a corner at u are all in u's district.
 #[inline]
-fn is_inner(g: &Graph, plan: &[u32], u: u32, corner: Corner) -> bool
-    requires plan { length plan.now ≡ g.now.units }
-    requires unit { u < g.now.units }
-    requires placed { IsPlaced g.now (slice_index_or g.now.neighbours u []) corner }
-    ensures { result ≡ is_inner g.now plan.now u corner }
+fn is_inner(graph: &Graph, plan: &[u32], unit: u32, corner: Corner) -> bool
+    requires plan { length plan.now ≡ graph.now.units }
+    requires unit { unit < graph.now.units }
+    requires placed { IsPlaced graph.now (slice_index_or graph.now.neighbours unit []) corner }
+    ensures { result ≡ is_inner graph.now plan.now unit corner }
 {
-    let row = g.neighbours(u);
-    let district = plan[u as usize];
+    let row = graph.neighbours(unit);
+    let district = plan[unit as usize];
     plan[row[corner.one as usize] as usize] == district
         && plan[row[corner.other as usize] as usize] == district
         && plan[corner.far as usize] == district
@@ -71,22 +72,22 @@ fn is_inner(g: &Graph, plan: &[u32], u: u32, corner: Corner) -> bool
 
 /// Makes the classes of neighbours one that share a face inside their district.
 #[inline]
-fn merge(g: &Graph, plan: &[u32], u: u32, corners: &[Corner], classes: &mut [u8])
-    requires plan { length plan.now ≡ g.now.units }
-    requires unit { u < g.now.units }
-    requires few { length (slice_index_or g.now.neighbours u []) ≤ 32 }
-    requires placed { All (IsPlaced g.now (slice_index_or g.now.neighbours u [])) corners.now }
+fn merge(graph: &Graph, plan: &[u32], unit: u32, corners: &[Corner], classes: &mut [u8])
+    requires plan { length plan.now ≡ graph.now.units }
+    requires unit { unit < graph.now.units }
+    requires few { length (slice_index_or graph.now.neighbours unit []) ≤ 32 }
+    requires placed { All (IsPlaced graph.now (slice_index_or graph.now.neighbours unit [])) corners.now }
     requires width { length classes.old ≡ 32 }
     ensures width { length classes.new ≡ 32 }
-    ensures merged { AreMerged g.now plan.now u corners.now classes.new }
-    ensures linked { (faces : List (List ℕ)) → AreFaces g.now faces →
-        map (units_of (slice_index_or g.now.neighbours u [])) corners.now ≡ corners_at u faces →
-        AreClasses g.now faces plan.now u classes.old → AreClasses g.now faces plan.now u classes.new }
+    ensures merged { AreMerged graph.now plan.now unit corners.now classes.new }
+    ensures linked { (faces : List (List ℕ)) → AreFaces graph.now faces →
+        map (units_of (slice_index_or graph.now.neighbours unit [])) corners.now ≡ corners_at unit faces →
+        AreClasses graph.now faces plan.now unit classes.old → AreClasses graph.now faces plan.now unit classes.new }
 {
     // Called for what its contract says: the graph is sound, and has at most 100,000 units.
-    let _units = g.units();
+    let _units = graph.units();
     for corner in corners {
-        if is_inner(g, plan, u, *corner)
+        if is_inner(graph, plan, unit, *corner)
             && classes[corner.one as usize] != classes[corner.other as usize]
         {
             join(classes, corner.one, corner.other);
@@ -96,16 +97,16 @@ fn merge(g: &Graph, plan: &[u32], u: u32, corners: &[Corner], classes: &mut [u8]
 
 /// The place of the first neighbour in the unit's district.
 #[inline]
-fn first_mate(g: &Graph, plan: &[u32], u: u32) -> Option<usize>
-    requires plan { length plan.now ≡ g.now.units }
-    requires unit { u < g.now.units }
-    ensures { MatchOption result ((v : ℕ) → IsIn g.now (is_mate g.now plan.now u) v → ⊥)
-        (λ i. (i < length (slice_index_or g.now.neighbours u [])) × IsIn g.now (is_mate g.now plan.now u) (slice_index (slice_index_or g.now.neighbours u []) i)) }
+fn first_mate(graph: &Graph, plan: &[u32], unit: u32) -> Option<usize>
+    requires plan { length plan.now ≡ graph.now.units }
+    requires unit { unit < graph.now.units }
+    ensures { MatchOption result ((v : ℕ) → IsIn graph.now (is_mate graph.now plan.now unit) v → ⊥)
+        (λ i. (i < length (slice_index_or graph.now.neighbours unit [])) × IsIn graph.now (is_mate graph.now plan.now unit) (slice_index (slice_index_or graph.now.neighbours unit []) i)) }
 {
     // Called for what its contract says: the graph is sound, and has at most 100,000 units.
-    let _units = g.units();
-    let row = g.neighbours(u);
-    let district = plan[u as usize];
+    let _units = graph.units();
+    let row = graph.neighbours(unit);
+    let district = plan[unit as usize];
     for place in 0..row.len() {
         if plan[row[place] as usize] == district {
             return Some(place);
@@ -116,20 +117,20 @@ fn first_mate(g: &Graph, plan: &[u32], u: u32) -> Option<usize>
 
 /// Whether all neighbours in the unit's district are of this class.
 #[inline]
-fn all_of(g: &Graph, plan: &[u32], u: u32, classes: &[u8], class: u8) -> bool
-    requires plan { length plan.now ≡ g.now.units }
-    requires unit { u < g.now.units }
-    requires few { length (slice_index_or g.now.neighbours u []) ≤ 32 }
+fn all_of(graph: &Graph, plan: &[u32], unit: u32, classes: &[u8], class: u8) -> bool
+    requires plan { length plan.now ≡ graph.now.units }
+    requires unit { unit < graph.now.units }
+    requires few { length (slice_index_or graph.now.neighbours unit []) ≤ 32 }
     requires width { length classes.now ≡ 32 }
-    ensures yes { IsTrue result → (i : ℕ) → i < length (slice_index_or g.now.neighbours u []) →
-        IsIn g.now (is_mate g.now plan.now u) (slice_index (slice_index_or g.now.neighbours u []) i) → slice_index classes.now i ≡ class }
-    ensures no { IsFalse result → (i : ℕ) × (i < length (slice_index_or g.now.neighbours u []))
-        × IsIn g.now (is_mate g.now plan.now u) (slice_index (slice_index_or g.now.neighbours u []) i) × (slice_index classes.now i ≢ class) }
+    ensures yes { IsTrue result → (i : ℕ) → i < length (slice_index_or graph.now.neighbours unit []) →
+        IsIn graph.now (is_mate graph.now plan.now unit) (slice_index (slice_index_or graph.now.neighbours unit []) i) → slice_index classes.now i ≡ class }
+    ensures no { IsFalse result → (i : ℕ) × (i < length (slice_index_or graph.now.neighbours unit []))
+        × IsIn graph.now (is_mate graph.now plan.now unit) (slice_index (slice_index_or graph.now.neighbours unit []) i) × (slice_index classes.now i ≢ class) }
 {
     // Called for what its contract says: the graph is sound, and has at most 100,000 units.
-    let _units = g.units();
-    let row = g.neighbours(u);
-    let district = plan[u as usize];
+    let _units = graph.units();
+    let row = graph.neighbours(unit);
+    let district = plan[unit as usize];
     for place in 0..row.len() {
         if plan[row[place] as usize] == district && classes[place] != class {
             return false;

@@ -15,29 +15,29 @@ use faces::face::Face;
 use std::alloc::Global;
 
 /// The corners of the faces at each unit.
-pub fn rows_of(alloc: Global, g: &Graph, faces: &[Face]) -> Result<Vec<CornerList>, Memory>
-    requires faces { AreFaces g.now (rings faces.now) }
-    ensures { IfOk result (λ rows. HasCorners g.now (λ w. corners_at w (rings faces.now)) rows.items) }
+pub fn rows_of(alloc: Global, graph: &Graph, faces: &[Face]) -> Result<Vec<CornerList>, Memory>
+    requires faces { AreFaces graph.now (rings faces.now) }
+    ensures { IfOk result (λ rows. HasCorners graph.now (λ w. corners_at w (rings faces.now)) rows.items) }
 {
-    let mut rows = no_rows(alloc, g.units())?;
+    let mut rows = no_rows(alloc, graph.units())?;
     for face in faces {
-        add_face(g, &mut rows, *face)?;
+        add_face(graph, &mut rows, *face)?;
     }
     Ok(rows)
 }
 
 /// The place of a neighbour among a unit's neighbours.
-fn place_of(g: &Graph, u: u32, v: u32) -> u32
-    requires unit { u < g.now.units }
-    requires near { IsTrue (adjacent g.now u v) }
-    ensures within { result < length (slice_index_or g.now.neighbours u []) }
-    ensures there { slice_index (slice_index_or g.now.neighbours u []) result ≡ v }
+fn place_of(graph: &Graph, unit: u32, other: u32) -> u32
+    requires unit { unit < graph.now.units }
+    requires near { IsTrue (adjacent graph.now unit other) }
+    ensures within { result < length (slice_index_or graph.now.neighbours unit []) }
+    ensures there { slice_index (slice_index_or graph.now.neighbours unit []) result ≡ other }
 {
     // Called for what its contract says: the graph is sound, and has at most 100,000 units.
-    let _units = g.units();
-    let row = g.neighbours(u);
+    let _units = graph.units();
+    let row = graph.neighbours(unit);
     for place in 0..row.len() {
-        if row[place] == v {
+        if row[place] == other {
             return place as u32;
         }
     }
@@ -46,61 +46,61 @@ fn place_of(g: &Graph, u: u32, v: u32) -> u32
 
 /// Adds a corner at a unit.
 fn add_corner(
-    g: &Graph,
+    graph: &Graph,
     rows: &mut Vec<CornerList>,
-    u: u32,
+    unit: u32,
     one: u32,
     other: u32,
     far: u32,
 ) -> Result<(), Memory>
-    requires units { (u < g.now.units) × (far < g.now.units) }
-    requires near { IsTrue (adjacent g.now u one) × IsTrue (adjacent g.now u other) }
-    requires rows { length rows.old.items ≡ g.now.units }
-    ensures width { length rows.new.items ≡ g.now.units }
-    ensures added { OnOk result ((corners : ℕ → List (ℕ × ℕ × ℕ)) → HasCorners g.now corners rows.old.items →
-        HasCorners g.now (λ w. with_corner w (corners w) u (one, other, far)) rows.new.items) }
+    requires units { (unit < graph.now.units) × (far < graph.now.units) }
+    requires near { IsTrue (adjacent graph.now unit one) × IsTrue (adjacent graph.now unit other) }
+    requires rows { length rows.old.items ≡ graph.now.units }
+    ensures width { length rows.new.items ≡ graph.now.units }
+    ensures added { OnOk result ((corners : ℕ → List (ℕ × ℕ × ℕ)) → HasCorners graph.now corners rows.old.items →
+        HasCorners graph.now (λ w. with_corner w (corners w) unit (one, other, far)) rows.new.items) }
 {
     let corner = Corner {
-        one: place_of(g, u, one),
-        other: place_of(g, u, other),
+        one: place_of(graph, unit, one),
+        other: place_of(graph, unit, other),
         far,
     };
-    rows[u as usize].push(corner)?;
+    rows[unit as usize].push(corner)?;
     Ok(())
 }
 
 /// Adds the corners of a face.
-fn add_face(g: &Graph, rows: &mut Vec<CornerList>, face: Face) -> Result<(), Memory>
-    requires ring { IsRing g.now (ring_of face) }
-    requires rows { length rows.old.items ≡ g.now.units }
-    ensures width { length rows.new.items ≡ g.now.units }
-    ensures added { OnOk result ((corners : ℕ → List (ℕ × ℕ × ℕ)) → HasCorners g.now corners rows.old.items →
-        HasCorners g.now (λ w. with_face w (corners w) (ring_of face)) rows.new.items) }
+fn add_face(graph: &Graph, rows: &mut Vec<CornerList>, face: Face) -> Result<(), Memory>
+    requires ring { IsRing graph.now (ring_of face) }
+    requires rows { length rows.old.items ≡ graph.now.units }
+    ensures width { length rows.new.items ≡ graph.now.units }
+    ensures added { OnOk result ((corners : ℕ → List (ℕ × ℕ × ℕ)) → HasCorners graph.now corners rows.old.items →
+        HasCorners graph.now (λ w. with_face w (corners w) (ring_of face)) rows.new.items) }
 {
     match face {
         Face::Triangle(a, b, c) => {
-            add_corner(g, rows, a, b, c, c)?;
-            add_corner(g, rows, b, c, a, a)?;
-            add_corner(g, rows, c, a, b, b)?;
+            add_corner(graph, rows, a, b, c, c)?;
+            add_corner(graph, rows, b, c, a, a)?;
+            add_corner(graph, rows, c, a, b, b)?;
             Ok(())
         }
         Face::Square(a, b, c, d) => {
-            add_corner(g, rows, a, b, d, c)?;
-            add_corner(g, rows, b, c, a, d)?;
-            add_corner(g, rows, c, d, b, a)?;
-            add_corner(g, rows, d, a, c, b)?;
+            add_corner(graph, rows, a, b, d, c)?;
+            add_corner(graph, rows, b, c, a, d)?;
+            add_corner(graph, rows, c, d, b, a)?;
+            add_corner(graph, rows, d, a, c, b)?;
             Ok(())
         }
     }
 }
 
 /// No corner at any unit.
-fn no_rows(alloc: Global, n: u32) -> Result<Vec<CornerList>, Memory>
-    ensures width { IfOk result (λ rows. length rows.items ≡ n) }
+fn no_rows(alloc: Global, units: u32) -> Result<Vec<CornerList>, Memory>
+    ensures width { IfOk result (λ rows. length rows.items ≡ units) }
     ensures none { IfOk result (λ rows. (u : ℕ) → slice_index_or rows.items u [] ≡ []) }
 {
-    let mut rows = Vec::with_capacity(alloc, n as usize)?;
-    for _ in 0..n {
+    let mut rows = Vec::with_capacity(alloc, units as usize)?;
+    for _ in 0..units {
         rows.push(CornerList::new(alloc))?;
     }
     Ok(rows)

@@ -43,13 +43,13 @@ impl Model for FaceTable {
 
 impl FaceTable {
     /// The faces of a graph.
-    pub fn of(alloc: Global, g: &Graph) -> Result<FaceTable, Memory>
-        ensures { IfOk result (λ t. t.graph ≡ g.now) }
+    pub fn of(alloc: Global, graph: &Graph) -> Result<FaceTable, Memory>
+        ensures { IfOk result (λ t. t.graph ≡ graph.now) }
     {
-        let list = some_faces(alloc, g)?;
-        let rows = rows_of(alloc, g, list.faces())?;
+        let list = some_faces(alloc, graph)?;
+        let rows = rows_of(alloc, graph, list.faces())?;
         Ok(FaceTable {
-            graph: Snapshot::of(g),
+            graph: Snapshot::of(graph),
             list: Snapshot::of(&list),
             rows,
         })
@@ -67,40 +67,40 @@ impl FaceTable {
 
     /// The faces at a unit.
     #[inline]
-    pub fn at(&self, u: u32) -> &[Corner]
-        requires { u < self.now.graph.units }
+    pub fn at(&self, unit: u32) -> &[Corner]
+        requires { unit < self.now.graph.units }
         ensures faces { AreFaces self.now.graph self.now.faces }
-        ensures placed { All (IsPlaced self.now.graph (slice_index_or self.now.graph.neighbours u [])) result.now }
-        ensures seen { map (units_of (slice_index_or self.now.graph.neighbours u [])) result.now ≡ corners_at u self.now.faces }
+        ensures placed { All (IsPlaced self.now.graph (slice_index_or self.now.graph.neighbours unit [])) result.now }
+        ensures seen { map (units_of (slice_index_or self.now.graph.neighbours unit [])) result.now ≡ corners_at unit self.now.faces }
     {
-        self.rows[u as usize].as_slice()
+        self.rows[unit as usize].as_slice()
     }
 
     /// Whether the neighbours of a unit in its district are linked, one to the next, through faces inside it. Where the
     /// district is connected, a unit may leave it then; and no other may where the district has no hole.
-    pub fn links_mates(&self, g: &Graph, plan: &[u32], u: u32) -> bool
-        requires made { self.now.graph ≡ g.now }
-        requires plan { length plan.now ≡ g.now.units }
-        requires unit { u < g.now.units }
-        requires few { length (slice_index_or g.now.neighbours u []) ≤ 32 }
-        ensures linked { IsTrue result ↔ AreLinked g.now self.now.faces plan.now u }
-        ensures may { IsTrue result → IsConnected g.now (in_district plan.now (slice_index plan.now u)) → MayLeave g.now plan.now u }
-        ensures may_not { IsFalse result → IsConnected g.now (in_district plan.now (slice_index plan.now u)) →
-            count_inner_edges g.now (in_district plan.now (slice_index plan.now u)) + 1
-            ≤ filled_of g.now self.now.faces (in_district plan.now (slice_index plan.now u)) → MayLeave g.now plan.now u → ⊥ }
+    pub fn links_mates(&self, graph: &Graph, plan: &[u32], unit: u32) -> bool
+        requires made { self.now.graph ≡ graph.now }
+        requires plan { length plan.now ≡ graph.now.units }
+        requires unit { unit < graph.now.units }
+        requires few { length (slice_index_or graph.now.neighbours unit []) ≤ 32 }
+        ensures linked { IsTrue result ↔ AreLinked graph.now self.now.faces plan.now unit }
+        ensures may { IsTrue result → IsConnected graph.now (in_district plan.now (slice_index plan.now unit)) → MayLeave graph.now plan.now unit }
+        ensures may_not { IsFalse result → IsConnected graph.now (in_district plan.now (slice_index plan.now unit)) →
+            count_inner_edges graph.now (in_district plan.now (slice_index plan.now unit)) + 1
+            ≤ filled_of graph.now self.now.faces (in_district plan.now (slice_index plan.now unit)) → MayLeave graph.now plan.now unit → ⊥ }
     {
         // Called for what its contract says: the graph is sound, and has at most 100,000 units.
-        let _units = g.units();
-        are_linked(g, plan, u, self.at(u))
+        let _units = graph.units();
+        are_linked(graph, plan, unit, self.at(unit))
     }
 }
 
 /// The faces of a graph, or none where they are too many.
-fn some_faces(alloc: Global, g: &Graph) -> Result<FaceList, Memory>
-    ensures faces { IfOk result (λ l. AreFaces g.now l) }
+fn some_faces(alloc: Global, graph: &Graph) -> Result<FaceList, Memory>
+    ensures faces { IfOk result (λ l. AreFaces graph.now l) }
     ensures few { IfOk result (λ l. length l ≤ 4000000) }
 {
-    let list = faces_of(alloc, g)?;
+    let list = faces_of(alloc, graph)?;
     if list.faces().len() > MOST {
         return Ok(FaceList::new(alloc));
     }

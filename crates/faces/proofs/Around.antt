@@ -1,20 +1,23 @@
 -- A way round a unit: along the faces at it, which link its mates.
 use Rattle.std.proofs.Common.{◌≡◌, ℕ, Bool, true, not, ◌||◌, List, [], ◌∷◌, refl, sym, ◌∙◌, subst, inl, inr}
 use Rattle.std.specs.Prelude.{◌==◌, ◌⊎◌, slice_index}
-use Rattle.std.proofs.lemmas.Bool.{and_parts, and_from, or_cases, or_left, or_right, cases_eq, eq-eqb, eqb-true, ne_eqb, both_ways, not_from_false, not-true, false≢true}
+use Rattle.std.proofs.lemmas.Bool.{and_parts, and_from, or_cases, or_left, or_right, cases_eq, eq-eqb, eqb-true, both_ways, not-true, false≢true}
 use Rattle.audit_model.specs.Graph.{Graph, has, adjacent, IsIn}
 use Rattle.audit_model.specs.Local.{IsSimple, is_mate, stays_behind, MayLeave}
 use Rattle.audit_model.specs.Path.{IsPath, HasPath, IsConnected}
 use Rattle.audit_model.specs.Plan.{in_district}
 use Rattle.model_laws.proofs.Paths.{path_one, path_before, joined_from, first_in}
-use Rattle.model_laws.proofs.Lists.{first_has}
+use Rattle.model_laws.proofs.Lists.{first_has, other, has_2, has_3, has_4}
+use Rattle.model_laws.proofs.Bools.{in_1, in_2, in_3, in_4}
+use Rattle.model_laws.proofs.Every.{each_from_all}
+use Rattle.model_laws.proofs.Local.{left_behind, not_beside_itself}
 use Rattle.faces.proofs.Linking.{near_link, share_ring}
-use Rattle.faces.proofs.Rings.{pair_same, pair_is, side_in, each_passes, other, has_2, has_3, has_4, in_1, in_2, in_3, in_4}
+use Rattle.faces.proofs.Rings.{pair_same, pair_is, side_in}
 use Rattle.faces.specs.Faces.{is_pair, has_side, IsRing, AreFaces, share_face, link_graph, AreLinked}
 
 -- ---- rings, turned so that they begin with u
 
-turn_three : (a b c x y : ℕ) → has_side (a ∷ b ∷ c ∷ []) x y ≡ true → has_side (b ∷ c ∷ a ∷ []) x y ≡ true
+pub turn_three : (a b c x y : ℕ) → has_side (a ∷ b ∷ c ∷ []) x y ≡ true → has_side (b ∷ c ∷ a ∷ []) x y ≡ true
 turn_three a b c x y h = elim (or_cases (is_pair a b x y || is_pair b c x y) (is_pair c a x y) h) [
   | inl e ↦ elim (or_cases (is_pair a b x y) (is_pair b c x y) e) [
     | inl f ↦ or_right (is_pair b c x y || is_pair c a x y) (is_pair a b x y) f
@@ -23,7 +26,7 @@ turn_three a b c x y h = elim (or_cases (is_pair a b x y || is_pair b c x y) (is
   | inr f ↦ or_left (is_pair b c x y || is_pair c a x y) (is_pair a b x y) (or_right (is_pair b c x y) (is_pair c a x y) f)
 ]
 
-turn_four : (a b c d x y : ℕ) → has_side (a ∷ b ∷ c ∷ d ∷ []) x y ≡ true → has_side (b ∷ c ∷ d ∷ a ∷ []) x y ≡ true
+pub turn_four : (a b c d x y : ℕ) → has_side (a ∷ b ∷ c ∷ d ∷ []) x y ≡ true → has_side (b ∷ c ∷ d ∷ a ∷ []) x y ≡ true
 turn_four a b c d x y h = elim (or_cases (is_pair a b x y || is_pair b c x y || is_pair c d x y) (is_pair d a x y) h) [
   | inl e ↦ elim (or_cases (is_pair a b x y || is_pair b c x y) (is_pair c d x y) e) [
     | inl e' ↦ elim (or_cases (is_pair a b x y) (is_pair b c x y) e') [
@@ -241,24 +244,17 @@ module _ (g : Graph) (simple : IsSimple g) (set : ℕ → Bool) (u : ℕ) where
 -- ---- round the unit
 
 module _ (g : Graph) (faces : List (List ℕ)) (plan : List ℕ) (u : ℕ) (simple : IsSimple g) (are : AreFaces g faces) where
-  not_beside_itself : (b : ℕ) → adjacent g u b ≡ true → b ≡ u → ⊥
-  not_beside_itself b h e = both_ways (adjacent g u u) (simple.loopless u) (subst (λ k. adjacent g u k ≡ true) e h)
-
-  -- what is in the district and is not u stays behind
-  behind : (v : ℕ) → IsIn g (in_district plan (slice_index plan u)) v → (v ≡ u → ⊥) → IsIn g (stays_behind plan u) v
-  behind v i off = (i.0, and_from (in_district plan (slice_index plan u) v) (not (v == u)) i.1 (not_from_false (v == u) (ne_eqb v u off)))
-
   mate_behind : (v : ℕ) → IsIn g (is_mate g plan u) v → IsIn g (stays_behind plan u) v
   mate_behind v i =
       let parts = and_parts (adjacent g u v) (in_district plan (slice_index plan u) v) i.1 in
-      behind v (i.0, parts.1) (not_beside_itself v parts.0)
+      left_behind g plan u v (i.0, parts.1) (not_beside_itself g u simple v parts.0)
 
   -- a link is a path round u
   link_path : (p q : ℕ) → share_face faces (in_district plan (slice_index plan u)) u p q ≡ true → HasPath g (stays_behind plan u) p q
   link_path p q h =
       let (ring, is_ring, inner, hp, hq) = share_ring g (in_district plan (slice_index plan u)) u p q faces are h in
       past_ring g simple (stays_behind plan u) u ring p q is_ring
-      (λ v member off. behind v (is_ring.below v member, each_passes (in_district plan (slice_index plan u)) ring v inner member) off) hp hq
+      (λ v member off. left_behind g plan u v (is_ring.below v member, each_from_all (in_district plan (slice_index plan u)) ring v inner member) off) hp hq
 
   -- so is a path of links
   links_path : (units : List ℕ) (p q : ℕ) → IsPath (link_graph g faces (in_district plan (slice_index plan u)) u) (is_mate g plan u) units p q
@@ -282,21 +278,21 @@ module _ (g : Graph) (faces : List (List ℕ)) (plan : List ℕ) (u : ℕ) (simp
     detour : (units : List ℕ) (x y : ℕ) → IsPath g (in_district plan (slice_index plan u)) units x y → (x ≡ u → ⊥) → (y ≡ u → ⊥) → HasPath g (stays_behind plan u) x y
     detour [] x y p off-x off-y = absurd p
     detour (w ∷ []) x y p off-x off-y =
-        let i = behind w p.2 (λ e. off-x (sym p.0 ∙ e)) in (w ∷ [], (p.0, p.1, i))
+        let i = left_behind g plan u w p.2 (λ e. off-x (sym p.0 ∙ e)) in (w ∷ [], (p.0, p.1, i))
     detour (w ∷ t ∷ []) x y p off-x off-y =
         let off-t : t ≡ u → ⊥ = λ e. off-y (sym p.3.1 ∙ e) in
-        (w ∷ t ∷ [], (p.0, behind w p.1 (λ e. off-x (sym p.0 ∙ e)), p.2, (refl, p.3.1, behind t p.3.2 off-t)))
+        (w ∷ t ∷ [], (p.0, left_behind g plan u w p.1 (λ e. off-x (sym p.0 ∙ e)), p.2, (refl, p.3.1, left_behind g plan u t p.3.2 off-t)))
     detour (w ∷ t ∷ s ∷ rest) x y p off-x off-y =
         let off-w : w ≡ u → ⊥ = λ e. off-x (sym p.0 ∙ e) in
         elim (cases_eq t u) [
           | inr off-t ↦ subst (λ v. HasPath g (stays_behind plan u) v y) p.0
-              (path_before g (stays_behind plan u) w t y (behind w p.1 off-w) p.2 (detour (t ∷ s ∷ rest) t y p.3 off-t off-y))
+              (path_before g (stays_behind plan u) w t y (left_behind g plan u w p.1 off-w) p.2 (detour (t ∷ s ∷ rest) t y p.3 off-t off-y))
           | inl at ↦
               let au : adjacent g w u ≡ true = subst (λ v. adjacent g w v ≡ true) at p.2 in
               let ub : adjacent g u s ≡ true = subst (λ v. adjacent g v s ≡ true) at p.3.2 in
               let path = way_round w s p.1 (first_in g (in_district plan (slice_index plan u)) s rest s y p.3.3) au ub in
               subst (λ v. HasPath g (stays_behind plan u) v y) p.0
-              (joined_from g (stays_behind plan u) path.0 w s y path.1 (detour (s ∷ rest) s y p.3.3 (not_beside_itself s ub) off-y))
+              (joined_from g (stays_behind plan u) path.0 w s y path.1 (detour (s ∷ rest) s y p.3.3 (not_beside_itself g u simple s ub) off-y))
         ]
 
     pub linked_may_leave : IsConnected g (in_district plan (slice_index plan u)) → MayLeave g plan u

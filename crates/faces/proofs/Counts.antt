@@ -6,7 +6,7 @@ use Rattle.std.proofs.lemmas.Bool.{and_left, and_right, or_parts, or_cases, case
 use Rattle.audit_model.specs.Below.{count_below, sum_below}
 use Rattle.audit_model.specs.Graph.{Graph, has, adjacent, IsIn}
 use Rattle.audit_model.specs.Local.{IsSimple}
-use Rattle.model_laws.proofs.Below.{count_below_same, count_below_without}
+use Rattle.model_laws.proofs.Below.{count_below_same, count_below_without, count_below_none}
 use Rattle.faces.specs.Faces.{count_units, count_inner_edges, count_inner_faces, without_unit, count_mates, count_inner_faces_at}
 
 -- ---- counts
@@ -27,11 +27,6 @@ count_split n p u l = elim (cases_Bool (p u)) [
       | inl h ↦ let off : p k ≡ false = ap p h ∙ e in off ∙ sym (and_left (p k) (not (k == u)) off)
       | inr h ↦ sym (kept (p k) (k == u) (ne_eqb k u h))
     ]
-
-count_none : (n : ℕ) (p : ℕ → Bool) → ((k : ℕ) → p k ≡ false) → count_below n p ≡ 0
-unfolding count_below
-count_none zero p none = refl
-count_none (suc n) p none = omega (arith, count_none n p none, cond-false {A = ℕ} (p n) 1 0 (none n))
 
 -- ---- edges
 
@@ -74,8 +69,8 @@ module _ (g : Graph) (simple : IsSimple g) (inside : ℕ → Bool) (u : ℕ) (in
   row_at = (
     count_below_same u (λ v. adjacent g v u && (inside v && inside u)) (λ v. adjacent g u v && inside v)
         (λ v below. with_last (adjacent g v u) (inside v) (inside u) in_set ∙ ap (λ t. t && inside v) (simple.symmetric v u)),
-    count_none u (λ v. adjacent g v u && (without_unit inside u v && without_unit inside u u))
-        (λ v. and_right (adjacent g v u) (without_unit inside u v && without_unit inside u u) (and_right (without_unit inside u v) (without_unit inside u u)
+    count_below_none u (λ v. adjacent g v u && (without_unit inside u v && without_unit inside u u))
+        (λ v below. and_right (adjacent g v u) (without_unit inside u v && without_unit inside u u) (and_right (without_unit inside u v) (without_unit inside u u)
         (and_right (inside u) (not (u == u)) (not_from_true (u == u) (eq-eqb u u refl))))),
   )
 

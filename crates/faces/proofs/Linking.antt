@@ -11,8 +11,9 @@ use Rattle.audit_model.specs.Plan.{in_district}
 use Rattle.model_laws.proofs.Connected.{has-filter_below, filter_below-has, path_more, reached_has_path, path_is_reached}
 use Rattle.model_laws.proofs.Below.{get_or-map_below}
 use Rattle.model_laws.proofs.Paths.{first_in}
+use Rattle.model_laws.proofs.Every.{each_from_all}
 use Rattle.faces.proofs.Parting.{district_parts}
-use Rattle.faces.proofs.Rings.{side_in, side_turned, each_passes}
+use Rattle.faces.proofs.Rings.{side_in, side_turned}
 use Rattle.faces.specs.Faces.{has_side, IsRing, AreFaces, share_face, IsClassing, count_units, count_inner_edges, count_inner_faces, link_graph, AreLinked}
 
 -- ---- links
@@ -65,7 +66,7 @@ module _ (g : Graph) (faces : List (List ℕ)) (plan : List ℕ) (u : ℕ) (simp
       let member = side_in ring p u (side_turned ring u p up) in (
         is_ring.below p member,
         and_from (adjacent g u p) (in_district plan (slice_index plan u) p) (is_ring.sides u p up)
-            (each_passes (in_district plan (slice_index plan u)) ring p inner member),
+            (each_from_all (in_district plan (slice_index plan u)) ring p inner member),
       )
 
   links : Graph

@@ -1,5 +1,5 @@
 -- Faces that a program tests and lists.
-use Rattle.std.proofs.Common.{◌≡◌, ℕ, ◌+◌, ◌*◌, ◌<◌, Bool, true, false, not, ◌||◌, List, [], ◌∷◌, ◌++◌, refl, sym, ap, ◌∙◌, subst, inl, inr, arith}
+use Rattle.std.proofs.Common.{◌≡◌, ℕ, ◌<◌, Bool, true, false, not, ◌||◌, List, [], ◌∷◌, ◌++◌, refl, sym, ap, ◌∙◌, subst, inl, inr, arith}
 use Rattle.std.specs.Prelude.{◌==◌, nat_lt}
 use Rattle.std.specs.List.{list_any}
 use Rattle.std.proofs.lemmas.Bool.{and_parts, or_cases, cases_order, cond-true, cond-false, lt-ltb, le-ltb, false_from_ne_true, or_from, ltb-true, eqb-true, eq-eqb, not-true, both_ways, false≢true}
@@ -9,7 +9,7 @@ use Rattle.faces.proofs.Rings.{pair_is}
 use Rattle.faces.specs.declared.face.Face.{Face}
 use Rattle.faces.specs.declared.face.Face.TheVariants.{Triangle, Square}
 use Rattle.faces.specs.Faces.{is_pair, has_side, IsRing, OwnsSide, AreFaces}
-use Rattle.faces.specs.Listed.{rings, side_code, own_code}
+use Rattle.faces.specs.Listed.{rings, side, own_side}
 use Rattle.faces.specs.Rings.{ring_of, goes_round}
 
 -- what is not one way round is not the other
@@ -111,47 +111,47 @@ goes_round_ring g (Square a b c d) simple h =
       ];
     }
 
--- ---- numbers of sides
+-- ---- sides
 
-code_turned : (x y : ℕ) → side_code x y ≡ side_code y x
-code_turned x y = elim (cases_order x y) [
-  | inl e ↦ subst (λ k. side_code x k ≡ side_code k x) e refl
+side_turned : (x y : ℕ) → side x y ≡ side y x
+side_turned x y = elim (cases_order x y) [
+  | inl e ↦ subst (λ k. side x k ≡ side k x) e refl
   | inr o ↦ elim o [
-    | inl l ↦ cond-true {A = ℕ} (nat_lt x y) (x * 4294967296 + y) (y * 4294967296 + x) (lt-ltb x y l)
-        ∙ sym (cond-false {A = ℕ} (nat_lt y x) (y * 4294967296 + x) (x * 4294967296 + y) (le-ltb y x (omega (arith, l))))
-    | inr l ↦ cond-false {A = ℕ} (nat_lt x y) (x * 4294967296 + y) (y * 4294967296 + x) (le-ltb x y (omega (arith, l)))
-        ∙ sym (cond-true {A = ℕ} (nat_lt y x) (y * 4294967296 + x) (x * 4294967296 + y) (lt-ltb y x l))
+    | inl l ↦ cond-true {A = ℕ × ℕ} (nat_lt x y) (x, y) (y, x) (lt-ltb x y l)
+        ∙ sym (cond-false {A = ℕ × ℕ} (nat_lt y x) (y, x) (x, y) (le-ltb y x (omega (arith, l))))
+    | inr l ↦ cond-false {A = ℕ × ℕ} (nat_lt x y) (x, y) (y, x) (le-ltb x y (omega (arith, l)))
+        ∙ sym (cond-true {A = ℕ × ℕ} (nat_lt y x) (y, x) (x, y) (lt-ltb y x l))
   ]
 ]
 
-pub pair_code : (a b x y : ℕ) → is_pair a b x y ≡ true → side_code a b ≡ side_code x y
-pair_code a b x y h = elim (pair_is a b x y h) [
-  | inl e ↦ ap (λ k. side_code k b) e.0 ∙ ap (λ k. side_code x k) e.1
-  | inr e ↦ ap (λ k. side_code k b) e.0 ∙ ap (λ k. side_code y k) e.1 ∙ code_turned y x
+pub pair_side : (a b x y : ℕ) → is_pair a b x y ≡ true → side a b ≡ side x y
+pair_side a b x y h = elim (pair_is a b x y h) [
+  | inl e ↦ ap (λ k. side k b) e.0 ∙ ap (λ k. side x k) e.1
+  | inr e ↦ ap (λ k. side k b) e.0 ∙ ap (λ k. side y k) e.1 ∙ side_turned y x
 ]
 
--- where the numbers of its sides pass a test, so do those of all pairs on a side
-pub triangle_codes : (test : ℕ → Bool) (a b c : ℕ) → test (side_code a b) ≡ true → test (side_code b c) ≡ true → test (side_code c a) ≡ true
-    → (x y : ℕ) → has_side (a ∷ b ∷ c ∷ []) x y ≡ true → test (side_code x y) ≡ true
-triangle_codes test a b c ab bc ca x y h = elim (or_cases (is_pair a b x y || is_pair b c x y) (is_pair c a x y) h) [
+-- where its sides pass a test, so do those of all pairs on a side
+pub triangle_sides : (test : ℕ × ℕ → Bool) (a b c : ℕ) → test (side a b) ≡ true → test (side b c) ≡ true → test (side c a) ≡ true
+    → (x y : ℕ) → has_side (a ∷ b ∷ c ∷ []) x y ≡ true → test (side x y) ≡ true
+triangle_sides test a b c ab bc ca x y h = elim (or_cases (is_pair a b x y || is_pair b c x y) (is_pair c a x y) h) [
   | inl e ↦ elim (or_cases (is_pair a b x y) (is_pair b c x y) e) [
-    | inl f ↦ subst (λ k. test k ≡ true) (pair_code a b x y f) ab
-    | inr f ↦ subst (λ k. test k ≡ true) (pair_code b c x y f) bc
+    | inl f ↦ subst (λ k. test k ≡ true) (pair_side a b x y f) ab
+    | inr f ↦ subst (λ k. test k ≡ true) (pair_side b c x y f) bc
   ]
-  | inr f ↦ subst (λ k. test k ≡ true) (pair_code c a x y f) ca
+  | inr f ↦ subst (λ k. test k ≡ true) (pair_side c a x y f) ca
 ]
 
-pub square_codes : (test : ℕ → Bool) (a b c d : ℕ) → test (side_code a b) ≡ true → test (side_code b c) ≡ true → test (side_code c d) ≡ true → test (side_code d a) ≡ true
-    → (x y : ℕ) → has_side (a ∷ b ∷ c ∷ d ∷ []) x y ≡ true → test (side_code x y) ≡ true
-square_codes test a b c d ab bc cd da x y h = elim (or_cases (is_pair a b x y || is_pair b c x y || is_pair c d x y) (is_pair d a x y) h) [
+pub square_sides : (test : ℕ × ℕ → Bool) (a b c d : ℕ) → test (side a b) ≡ true → test (side b c) ≡ true → test (side c d) ≡ true → test (side d a) ≡ true
+    → (x y : ℕ) → has_side (a ∷ b ∷ c ∷ d ∷ []) x y ≡ true → test (side x y) ≡ true
+square_sides test a b c d ab bc cd da x y h = elim (or_cases (is_pair a b x y || is_pair b c x y || is_pair c d x y) (is_pair d a x y) h) [
   | inl e ↦ elim (or_cases (is_pair a b x y || is_pair b c x y) (is_pair c d x y) e) [
     | inl e' ↦ elim (or_cases (is_pair a b x y) (is_pair b c x y) e') [
-      | inl f ↦ subst (λ k. test k ≡ true) (pair_code a b x y f) ab
-      | inr f ↦ subst (λ k. test k ≡ true) (pair_code b c x y f) bc
+      | inl f ↦ subst (λ k. test k ≡ true) (pair_side a b x y f) ab
+      | inr f ↦ subst (λ k. test k ≡ true) (pair_side b c x y f) bc
     ]
-    | inr f ↦ subst (λ k. test k ≡ true) (pair_code c d x y f) cd
+    | inr f ↦ subst (λ k. test k ≡ true) (pair_side c d x y f) cd
   ]
-  | inr f ↦ subst (λ k. test k ≡ true) (pair_code d a x y f) da
+  | inr f ↦ subst (λ k. test k ≡ true) (pair_side d a x y f) da
 ]
 
 -- ---- one face more
@@ -160,28 +160,28 @@ pub rings_more : (faces : List Face) (face : Face) → rings (faces ++ face ∷ 
 rings_more [] face = refl
 rings_more (first ∷ faces) face = ap (λ (l : List (List ℕ)). l ++ ring_of first ∷ []) (rings_more faces face)
 
--- a face whose own side's number is not there owns its side
-pub owns : (faces : List (List ℕ)) (codes : ℕ → Bool) (face : Face) → ((x y : ℕ) → list_any (λ f. has_side f x y) faces ≡ true → codes (side_code x y) ≡ true)
-    → codes (own_code face) ≡ false → OwnsSide (ring_of face) faces
-owns faces codes (Triangle a b c) holds new = false_from_ne_true (list_any (λ f. has_side f a b) faces) (λ h. both_ways (codes (side_code a b)) new (holds a b h))
-owns faces codes (Square a b c d) holds new = false_from_ne_true (list_any (λ f. has_side f a b) faces) (λ h. both_ways (codes (side_code a b)) new (holds a b h))
+-- a face whose own side is not there owns it
+pub owns : (faces : List (List ℕ)) (there : ℕ × ℕ → Bool) (face : Face) → ((x y : ℕ) → list_any (λ f. has_side f x y) faces ≡ true → there (side x y) ≡ true)
+    → there (own_side face) ≡ false → OwnsSide (ring_of face) faces
+owns faces there (Triangle a b c) holds new = false_from_ne_true (list_any (λ f. has_side f a b) faces) (λ h. both_ways (there (side a b)) new (holds a b h))
+owns faces there (Square a b c d) holds new = false_from_ne_true (list_any (λ f. has_side f a b) faces) (λ h. both_ways (there (side a b)) new (holds a b h))
 
 -- the sides of one face more are in the set
-pub holds_more : (faces new : List Face) (face : Face) (before after : ℕ → Bool) → new ≡ faces ++ face ∷ []
-    → ((x y : ℕ) → list_any (λ f. has_side f x y) (rings faces) ≡ true → before (side_code x y) ≡ true) → ((q : ℕ) → before q ≡ true → after q ≡ true)
-    → ((x y : ℕ) → has_side (ring_of face) x y ≡ true → after (side_code x y) ≡ true)
-    → (x y : ℕ) → list_any (λ f. has_side f x y) (rings new) ≡ true → after (side_code x y) ≡ true
+pub holds_more : (faces new : List Face) (face : Face) (before after : ℕ × ℕ → Bool) → new ≡ faces ++ face ∷ []
+    → ((x y : ℕ) → list_any (λ f. has_side f x y) (rings faces) ≡ true → before (side x y) ≡ true) → ((q : ℕ × ℕ) → before q ≡ true → after q ≡ true)
+    → ((x y : ℕ) → has_side (ring_of face) x y ≡ true → after (side x y) ≡ true)
+    → (x y : ℕ) → list_any (λ f. has_side f x y) (rings new) ≡ true → after (side x y) ≡ true
 holds_more faces new face before after e holds kept there x y h =
     let at : list_any (λ f. has_side f x y) (ring_of face ∷ rings faces) ≡ true =
     subst (λ (l : List (List ℕ)). list_any (λ f. has_side f x y) l ≡ true) (ap rings e ∙ rings_more faces face) h in
     elim (or_cases (has_side (ring_of face) x y) (list_any (λ f. has_side f x y) (rings faces)) at) [
       | inl f ↦ there x y f
-      | inr f ↦ kept (side_code x y) (holds x y f)
+      | inr f ↦ kept (side x y) (holds x y f)
     ]
 
-pub faces_more : (g : Graph) (faces new : List Face) (face : Face) (codes : ℕ → Bool) → new ≡ faces ++ face ∷ [] → IsGraph g → goes_round g face ≡ true
-    → ((x y : ℕ) → list_any (λ f. has_side f x y) (rings faces) ≡ true → codes (side_code x y) ≡ true) → codes (own_code face) ≡ false
+pub faces_more : (g : Graph) (faces new : List Face) (face : Face) (there : ℕ × ℕ → Bool) → new ≡ faces ++ face ∷ [] → IsGraph g → goes_round g face ≡ true
+    → ((x y : ℕ) → list_any (λ f. has_side f x y) (rings faces) ≡ true → there (side x y) ≡ true) → there (own_side face) ≡ false
     → AreFaces g (rings faces) → AreFaces g (rings new)
-faces_more g faces new face codes e sound round holds fresh are =
+faces_more g faces new face there e sound round holds fresh are =
     subst (AreFaces g) (sym (ap rings e ∙ rings_more faces face))
-    (goes_round_ring g face (record { symmetric = sound.symmetric; loopless = sound.loopless }) round, owns (rings faces) codes face holds fresh, are)
+    (goes_round_ring g face (record { symmetric = sound.symmetric; loopless = sound.loopless }) round, owns (rings faces) there face holds fresh, are)

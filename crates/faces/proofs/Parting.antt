@@ -9,8 +9,9 @@ use Rattle.audit_model.specs.Local.{IsSimple, is_mate, stays_behind, MayLeave}
 use Rattle.audit_model.specs.Plan.{in_district}
 use Rattle.audit_model.specs.Path.{HasPath, IsConnected}
 use Rattle.model_laws.proofs.Below.{count_below_more}
+use Rattle.model_laws.proofs.Every.{each_from_all}
 use Rattle.faces.proofs.Labels.{count_roots, edge_labels, edges_less, two_counted, path_same}
-use Rattle.faces.proofs.Rings.{pair_same, pair_is, pair_turned, side_at, side_turned, side_in, own_side, round, each_passes}
+use Rattle.faces.proofs.Rings.{pair_same, pair_is, pair_turned, side_at, side_turned, side_in, own_side, round}
 use Rattle.faces.specs.Faces.{is_pair, has_side, IsRing, AreFaces, count_units, count_inner_edges, count_inner_faces, IsClassing}
 
 module _ (g : Graph) (simple : IsSimple g) (inside : ℕ → Bool) (u : ℕ) (class : ℕ → ℕ) (x : ℕ) where
@@ -202,8 +203,8 @@ module _ (g : Graph) (simple : IsSimple g) (inside : ℕ → Bool) (u : ℕ) (cl
   unfolding IsCovered both_inside
   inside_covered [] = tt
   inside_covered (face ∷ later) = (
-    λ inner v w h. and_from (inside v) (inside w) (each_passes inside face v inner (side_in face v w h))
-        (each_passes inside face w inner (side_in face w v (side_turned face v w h))),
+    λ inner v w h. and_from (inside v) (inside w) (each_from_all inside face v inner (side_in face v w h))
+        (each_from_all inside face w inner (side_in face w v (side_turned face v w h))),
     inside_covered later,
   )
 

@@ -1,11 +1,11 @@
 -- Sides of rings, and a way round a ring that leaves its own side out.
 use Rattle.std.proofs.Common.{◌≡◌, ℕ, Bool, true, false, ◌&&◌, ◌||◌, List, [], ◌∷◌, length, refl, sym, ap, ◌∙◌, subst, inl, inr, arith}
 use Rattle.std.specs.Prelude.{◌==◌, ◌⊎◌}
-use Rattle.std.specs.List.{list_all}
-use Rattle.std.proofs.lemmas.Bool.{and_parts, and_from, or_cases, or_left, or_right, eq-eqb, eqb-true, both_ways, false≢true, false_from_ne_true}
+use Rattle.std.proofs.lemmas.Bool.{and_parts, and_from, or_cases, or_left, or_right, eq-eqb, eqb-true, false≢true, false_from_ne_true}
 use Rattle.audit_model.specs.Apart.{AllApart}
 use Rattle.audit_model.specs.Graph.{has}
-use Rattle.model_laws.proofs.Lists.{first_has}
+use Rattle.model_laws.proofs.Lists.{first_has, other, has_2, has_3, has_4}
+use Rattle.model_laws.proofs.Bools.{in_1, in_2, in_3, in_4}
 use Rattle.faces.specs.Faces.{is_pair, has_side}
 
 -- ---- pairs
@@ -41,19 +41,6 @@ or_map a b c d f k h = elim (or_cases a b h) [
   | inl e ↦ or_left c d (f e)
   | inr e ↦ or_right c d (k e)
 ]
-
--- each part of three or four gives the whole
-pub in_1 : (a b c d : Bool) → a ≡ true → (a || b || c || d) ≡ true
-in_1 a b c d h = or_left (a || b || c) d (or_left (a || b) c (or_left a b h))
-
-pub in_2 : (a b c d : Bool) → b ≡ true → (a || b || c || d) ≡ true
-in_2 a b c d h = or_left (a || b || c) d (or_left (a || b) c (or_right a b h))
-
-pub in_3 : (a b c d : Bool) → c ≡ true → (a || b || c || d) ≡ true
-in_3 a b c d h = or_left (a || b || c) d (or_right (a || b) c h)
-
-pub in_4 : (a b c d : Bool) → d ≡ true → (a || b || c || d) ≡ true
-in_4 a b c d h = or_right (a || b || c) d h
 
 pub side_turned : (ring : List ℕ) (x y : ℕ) → has_side ring x y ≡ true → has_side ring y x ≡ true
 side_turned [] x y h = absurd (false≢true h)
@@ -91,16 +78,6 @@ own_side a b (c ∷ d ∷ e ∷ rest) size = absurd (no_five size)
     no_five : (length (a ∷ b ∷ c ∷ d ∷ e ∷ rest) ≡ 3) ⊎ (length (a ∷ b ∷ c ∷ d ∷ e ∷ rest) ≡ 4) → ⊥
     no_five (inl f) = omega arith
     no_five (inr f) = omega arith
-
--- what has no number is not that number
-pub other : (xs : List ℕ) (n m : ℕ) → has xs n ≡ false → has xs m ≡ true → n ≡ m → ⊥
-other xs n m lacks has-m e = both_ways (has xs n) lacks (subst (λ k. has xs k ≡ true) (sym e) has-m)
-
-pub has_2 : (a b : ℕ) (xs : List ℕ) → has (a ∷ b ∷ xs) b ≡ true
-has_2 a b xs = or_right (a == b) (has (b ∷ xs) b) (first_has b xs)
-
-pub has_3 : (a b c : ℕ) (xs : List ℕ) → has (a ∷ b ∷ c ∷ xs) c ≡ true
-has_3 a b c xs = or_right (a == c) (has (b ∷ c ∷ xs) c) (has_2 b c xs)
 
 -- a label that is the same along each other side, and of the two edges at each corner, is the same along a ring's own side
 pub round : (at : ℕ → ℕ → ℕ) (label : ℕ → ℕ) (a b : ℕ) (rest : List ℕ) → AllApart (a ∷ b ∷ rest) → has_side (a ∷ b ∷ rest) a b ≡ true
@@ -166,9 +143,6 @@ pair_in ring a b x y has-a has-b h = elim (pair_is a b x y h) [
   | inr e ↦ subst (λ k. has ring k ≡ true) e.1 has-b
 ]
 
-pub has_4 : (a b c d : ℕ) (xs : List ℕ) → has (a ∷ b ∷ c ∷ d ∷ xs) d ≡ true
-has_4 a b c d xs = or_right (a == d) (has (b ∷ c ∷ d ∷ xs) d) (has_3 b c d xs)
-
 -- a side's ends are units of the ring
 pub side_in : (ring : List ℕ) (x y : ℕ) → has_side ring x y ≡ true → has ring x ≡ true
 side_in [] x y h = absurd (false≢true h)
@@ -192,11 +166,3 @@ side_in (a ∷ b ∷ c ∷ d ∷ []) x y h = elim (or_cases (is_pair a b x y || 
   | inr f ↦ pair_in (a ∷ b ∷ c ∷ d ∷ []) d a x y (has_4 a b c d []) (first_has a (b ∷ c ∷ d ∷ [])) f
 ]
 side_in (a ∷ b ∷ c ∷ d ∷ e ∷ rest) x y h = absurd (false≢true h)
-
--- what all units of a ring pass, each passes
-pub each_passes : (test : ℕ → Bool) (ring : List ℕ) (v : ℕ) → list_all test ring ≡ true → has ring v ≡ true → test v ≡ true
-each_passes test [] v all h = absurd (false≢true h)
-each_passes test (w ∷ ring) v all h = let parts = and_parts (test w) (list_all test ring) all in elim (or_cases (w == v) (has ring v) h) [
-  | inl e ↦ subst (λ k. test k ≡ true) (eqb-true w v e) parts.0
-  | inr e ↦ each_passes test ring v parts.1 e
-]

@@ -1,5 +1,5 @@
--- Lists of faces, and numbers for the sides that they have.
-use Rattle.std.specs.Prelude.{ℕ, ◌+◌, ◌*◌, cond, nat_lt, nat_eq, IsTrue, List, [], ◌∷◌, ◌++◌}
+-- Lists of faces, and the sides that they have.
+use Rattle.std.specs.Prelude.{ℕ, ◌&&◌, Bool, cond, nat_lt, nat_eq, IsTrue, List, [], ◌∷◌, ◌++◌}
 use Rattle.std.specs.List.{list_any}
 use Rattle.std.specs.HashSet.{HashSet, contains}
 use Rattle.faces.specs.declared.face.Face.{Face}
@@ -12,15 +12,19 @@ abbrev pub rings : List Face → List (List ℕ)
 rings [] = []
 rings (face ∷ later) = rings later ++ ring_of face ∷ []
 
--- one number for x and y in either order
-abbrev pub side_code : ℕ → ℕ → ℕ
-side_code x y = cond (nat_lt x y) (x * 4294967296 + y) (y * 4294967296 + x)
+-- x and y, the smaller first
+abbrev pub side : ℕ → ℕ → ℕ × ℕ
+side x y = cond {A = ℕ × ℕ} (nat_lt x y) (x, y) (y, x)
 
--- the number of a face's own side
-abbrev pub own_code : Face → ℕ
-own_code (Triangle a b c) = side_code a b
-own_code (Square a b c d) = side_code a b
+-- whether two sides are the same
+abbrev pub same_side : ℕ × ℕ → ℕ × ℕ → Bool
+same_side p q = nat_eq p.0 q.0 && nat_eq p.1 q.1
 
--- the numbers of all sides of the rings are in the set
-abbrev pub HoldsSides : {S : Type 0} → List (List ℕ) → HashSet ℕ S → Type 0
-HoldsSides faces codes = (x y : ℕ) → IsTrue (list_any (λ face. has_side face x y) faces) → IsTrue (contains nat_eq codes (side_code x y))
+-- a face's own side
+abbrev pub own_side : Face → ℕ × ℕ
+own_side (Triangle a b c) = side a b
+own_side (Square a b c d) = side a b
+
+-- all sides of the rings are in the set
+abbrev pub HoldsSides : {S : Type 0} → List (List ℕ) → HashSet (ℕ × ℕ) S → Type 0
+HoldsSides faces sides = (x y : ℕ) → IsTrue (list_any (λ face. has_side face x y) faces) → IsTrue (contains same_side sides (side x y))

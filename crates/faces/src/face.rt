@@ -14,10 +14,10 @@ pub enum Face {
 
 impl Face {
     /// Whether the units are different ones of the graph, each adjacent to the next and the last to the first.
-    pub fn is_ring(&self, g: &Graph) -> bool
-        ensures { result ≡ goes_round g.now self.now }
+    pub fn is_ring(&self, graph: &Graph) -> bool
+        ensures { result ≡ goes_round graph.now self.now }
     {
-        let n = g.units();
+        let n = graph.units();
         match *self {
             Face::Triangle(a, b, c) => {
                 a < n
@@ -26,9 +26,9 @@ impl Face {
                     && a != b
                     && a != c
                     && b != c
-                    && g.adjacent(a, b)
-                    && g.adjacent(b, c)
-                    && g.adjacent(c, a)
+                    && graph.adjacent(a, b)
+                    && graph.adjacent(b, c)
+                    && graph.adjacent(c, a)
             }
             Face::Square(a, b, c, d) => {
                 a < n
@@ -41,10 +41,10 @@ impl Face {
                     && b != c
                     && b != d
                     && c != d
-                    && g.adjacent(a, b)
-                    && g.adjacent(b, c)
-                    && g.adjacent(c, d)
-                    && g.adjacent(d, a)
+                    && graph.adjacent(a, b)
+                    && graph.adjacent(b, c)
+                    && graph.adjacent(c, d)
+                    && graph.adjacent(d, a)
             }
         }
     }

@@ -6,3 +6,7 @@ pub mod laws;
 pub mod list;
 pub mod near;
 mod peel;
+
+pub use face::Face;
+pub use list::{FaceList, list_faces};
+pub use near::faces_of;

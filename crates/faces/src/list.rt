@@ -1,10 +1,10 @@
 //! Lists of faces in which each has a side that no later one has.
 
-ghost use Rattle.std.specs.Prelude.{◌≡◌, ℕ, [], ◌∷◌, not, nat_eq, IsTrue, IfOk, OnOk, OnErr};
+ghost use Rattle.std.specs.Prelude.{◌≡◌, ℕ, [], ◌∷◌, not, IsTrue, IfOk, OnOk, OnErr};
 ghost use Rattle.std.specs.Bool.{OnTrue, OnFalse};
 ghost use Rattle.std.specs.HashSet.{contains};
 ghost use Rattle.faces.specs.Faces.{AreFaces, has_side};
-ghost use Rattle.faces.specs.Listed.{rings, side_code, own_code};
+ghost use Rattle.faces.specs.Listed.{rings, same_side, side, own_side};
 ghost use Rattle.faces.specs.Rings.{ring_of};
 
 use crate::face::Face;
@@ -18,7 +18,7 @@ use std::marker::Model;
 #[derive(Drop)]
 pub struct FaceList {
     faces: Vec<Face>,
-    codes: HashSet<u64>,
+    sides: HashSet<(u32, u32)>,
 }
 
 impl Model for FaceList {
@@ -29,7 +29,7 @@ impl Model for FaceList {
 
     ghost view = { λ l. rings l.faces.items };
 
-    ghost invariant = { λ l. HoldsSides (rings l.faces.items) l.codes };
+    ghost invariant = { λ l. HoldsSides (rings l.faces.items) l.sides };
 }
 
 impl FaceList {
@@ -39,7 +39,7 @@ impl FaceList {
     {
         FaceList {
             faces: Vec::new(alloc),
-            codes: HashSet::new(alloc),
+            sides: HashSet::new(alloc),
         }
     }
 
@@ -48,36 +48,36 @@ impl FaceList {
         ensures { rings result.now ≡ self.now }
     {
         // Reads the fields, so that what the type says of them is known.
-        let _ = &self.codes;
+        let _ = &self.sides;
         &self.faces
     }
 
     /// Puts a face in front, where it is a ring and no face of the list has its own side.
-    pub fn push(&mut self, g: &Graph, face: Face) -> Result<bool, Memory>
-        requires faces { AreFaces g.now self.old }
-        ensures faces { AreFaces g.now self.new }
+    pub fn push(&mut self, graph: &Graph, face: Face) -> Result<bool, Memory>
+        requires faces { AreFaces graph.now self.old }
+        ensures faces { AreFaces graph.now self.new }
         ensures added { IfOk result (λ added. OnTrue added (self.new ≡ ring_of face ∷ self.old)) }
         ensures unchanged { IfOk result (λ added. OnFalse added (self.new ≡ self.old)) }
         ensures err { OnErr result (self.new ≡ self.old) }
     {
         // Called for what its contract says: the graph is sound, and has at most 100,000 units.
-        let _units = g.units();
-        if !face.is_ring(g) || has_own(&self.codes, face) {
+        let _units = graph.units();
+        if !face.is_ring(graph) || has_own(&self.sides, face) {
             return Ok(false);
         }
-        note_sides(&mut self.codes, face)?;
+        note_sides(&mut self.sides, face)?;
         self.faces.push(face)?;
         Ok(true)
     }
 
     /// Puts a face in front, begun at the first of its units at which its own side is one that no face of the list has.
-    pub fn push_turned(&mut self, g: &Graph, face: Face) -> Result<(), Memory>
-        requires faces { AreFaces g.now self.old }
-        ensures faces { AreFaces g.now self.new }
+    pub fn push_turned(&mut self, graph: &Graph, face: Face) -> Result<(), Memory>
+        requires faces { AreFaces graph.now self.old }
+        ensures faces { AreFaces graph.now self.new }
     {
         let mut turn = face;
         for _ in 0..4 {
-            if self.push(g, turn)? {
+            if self.push(graph, turn)? {
                 return Ok(());
             }
             turn = turn.turned();
@@ -87,64 +87,60 @@ impl FaceList {
 }
 
 /// The faces among the candidates, each put in front of those before it where it has a side that none of them has.
-pub fn list_faces(alloc: Global, g: &Graph, candidates: &[Face]) -> Result<FaceList, Memory>
-    ensures { IfOk result (λ l. AreFaces g.now l) }
+pub fn list_faces(alloc: Global, graph: &Graph, candidates: &[Face]) -> Result<FaceList, Memory>
+    ensures { IfOk result (λ l. AreFaces graph.now l) }
 {
     let mut list = FaceList::new(alloc);
     for face in candidates {
-        list.push(g, *face)?;
+        list.push(graph, *face)?;
     }
     Ok(list)
 }
 
-/// One number for two units in either order.
-fn code(x: u32, y: u32) -> u64
-    ensures { result ≡ side_code x y }
+/// Two units, the smaller first.
+fn side_of(x: u32, y: u32) -> (u32, u32)
+    ensures { result ≡ side x y }
 {
-    if x < y {
-        x as u64 * 4294967296 + y as u64
-    } else {
-        y as u64 * 4294967296 + x as u64
-    }
+    if x < y { (x, y) } else { (y, x) }
 }
 
-/// Puts the number of two units into the set.
-fn note(codes: &mut HashSet<u64>, x: u32, y: u32) -> Result<(), Memory>
-    ensures kept { (q : ℕ) → IsTrue (contains nat_eq codes.old q) → IsTrue (contains nat_eq codes.new q) }
-    ensures there { OnOk result (IsTrue (contains nat_eq codes.new (side_code x y))) }
+/// Puts the side of two units into the set.
+fn note(sides: &mut HashSet<(u32, u32)>, x: u32, y: u32) -> Result<(), Memory>
+    ensures kept { (q : ℕ × ℕ) → IsTrue (contains same_side sides.old q) → IsTrue (contains same_side sides.new q) }
+    ensures there { OnOk result (IsTrue (contains same_side sides.new (side x y))) }
 {
-    codes.insert(code(x, y))?;
+    sides.insert(side_of(x, y))?;
     Ok(())
 }
 
-/// Puts the numbers of all sides of a face into the set.
-fn note_sides(codes: &mut HashSet<u64>, face: Face) -> Result<(), Memory>
-    ensures kept { (q : ℕ) → IsTrue (contains nat_eq codes.old q) → IsTrue (contains nat_eq codes.new q) }
-    ensures there { OnOk result ((x y : ℕ) → IsTrue (has_side (ring_of face) x y) → IsTrue (contains nat_eq codes.new (side_code x y))) }
+/// Puts all sides of a face into the set.
+fn note_sides(sides: &mut HashSet<(u32, u32)>, face: Face) -> Result<(), Memory>
+    ensures kept { (q : ℕ × ℕ) → IsTrue (contains same_side sides.old q) → IsTrue (contains same_side sides.new q) }
+    ensures there { OnOk result ((x y : ℕ) → IsTrue (has_side (ring_of face) x y) → IsTrue (contains same_side sides.new (side x y))) }
 {
     match face {
         Face::Triangle(a, b, c) => {
-            note(codes, a, b)?;
-            note(codes, b, c)?;
-            note(codes, c, a)?;
+            note(sides, a, b)?;
+            note(sides, b, c)?;
+            note(sides, c, a)?;
             Ok(())
         }
         Face::Square(a, b, c, d) => {
-            note(codes, a, b)?;
-            note(codes, b, c)?;
-            note(codes, c, d)?;
-            note(codes, d, a)?;
+            note(sides, a, b)?;
+            note(sides, b, c)?;
+            note(sides, c, d)?;
+            note(sides, d, a)?;
             Ok(())
         }
     }
 }
 
-/// Whether the number of a face's own side is in the set.
-fn has_own(codes: &HashSet<u64>, face: Face) -> bool
-    ensures { result ≡ contains nat_eq codes.now (own_code face) }
+/// Whether a face's own side is in the set.
+fn has_own(sides: &HashSet<(u32, u32)>, face: Face) -> bool
+    ensures { result ≡ contains same_side sides.now (own_side face) }
 {
     match face {
-        Face::Triangle(a, b, _) => codes.contains(&code(a, b)),
-        Face::Square(a, b, _, _) => codes.contains(&code(a, b)),
+        Face::Triangle(a, b, _) => sides.contains(&side_of(a, b)),
+        Face::Square(a, b, _, _) => sides.contains(&side_of(a, b)),
     }
 }

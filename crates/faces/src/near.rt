@@ -17,20 +17,20 @@ const DEGREE: usize = 32;
 const MOST: usize = 4000000;
 
 /// Triangles and squares of a graph, each with a side that no later one has.
-pub fn faces_of(alloc: Global, g: &Graph) -> Result<FaceList, Memory>
-    ensures { IfOk result (λ l. AreFaces g.now l) }
+pub fn faces_of(alloc: Global, graph: &Graph) -> Result<FaceList, Memory>
+    ensures { IfOk result (λ l. AreFaces graph.now l) }
 {
-    let rings = rings_of(alloc, g)?;
-    let order = peeled(alloc, g, &rings)?;
-    list_faces(alloc, g, &order)
+    let rings = rings_of(alloc, graph)?;
+    let order = peeled(alloc, graph, &rings)?;
+    list_faces(alloc, graph, &order)
 }
 
 /// Whether a unit is adjacent to all of these.
-fn is_near_all(g: &Graph, x: u32, units: &[u32]) -> bool
-    requires { x < g.now.units }
+fn is_near_all(graph: &Graph, x: u32, units: &[u32]) -> bool
+    requires { x < graph.now.units }
 {
     for y in units {
-        if !g.adjacent(x, *y) {
+        if !graph.adjacent(x, *y) {
             return false;
         }
     }
@@ -38,11 +38,11 @@ fn is_near_all(g: &Graph, x: u32, units: &[u32]) -> bool
 }
 
 /// Whether a ring with the unit a goes round one unit, whose faces fill it: the room is left to these.
-fn is_around(g: &Graph, a: u32, ring: &[u32]) -> bool
-    requires { a < g.now.units }
+fn is_around(graph: &Graph, a: u32, ring: &[u32]) -> bool
+    requires { a < graph.now.units }
 {
-    for x in g.neighbours(a) {
-        if (ring.len() == 4 || g.neighbours(*x).len() == 3) && is_near_all(g, *x, ring) {
+    for x in graph.neighbours(a) {
+        if (ring.len() == 4 || graph.neighbours(*x).len() == 3) && is_near_all(graph, *x, ring) {
             return true;
         }
     }
@@ -50,16 +50,16 @@ fn is_around(g: &Graph, a: u32, ring: &[u32]) -> bool
 }
 
 /// Adds the squares with these units in a row, where the fourth unit is greater than the first and not adjacent to it.
-fn add_squares(g: &Graph, rings: &mut Vec<Face>, a: u32, b: u32, d: u32) -> Result<(), Memory>
-    requires units { (a < g.now.units) × (b < g.now.units) × (d < g.now.units) }
+fn add_squares(graph: &Graph, rings: &mut Vec<Face>, a: u32, b: u32, d: u32) -> Result<(), Memory>
+    requires units { (a < graph.now.units) × (b < graph.now.units) × (d < graph.now.units) }
 {
-    for other in g.neighbours(b) {
+    for other in graph.neighbours(b) {
         let c = *other;
         if c > a
-            && g.neighbours(c).len() <= DEGREE
-            && g.adjacent(c, d)
-            && !g.adjacent(c, a)
-            && !is_around(g, a, &[a, b, c, d])
+            && graph.neighbours(c).len() <= DEGREE
+            && graph.adjacent(c, d)
+            && !graph.adjacent(c, a)
+            && !is_around(graph, a, &[a, b, c, d])
         {
             rings.push(Face::Square(a, b, c, d))?;
         }
@@ -68,15 +68,15 @@ fn add_squares(g: &Graph, rings: &mut Vec<Face>, a: u32, b: u32, d: u32) -> Resu
 }
 
 /// Adds the rings with a unit and two greater neighbours of it, one of them given.
-fn add_beside(g: &Graph, rings: &mut Vec<Face>, a: u32, b: u32) -> Result<(), Memory>
-    requires units { (a < g.now.units) × (b < g.now.units) }
+fn add_beside(graph: &Graph, rings: &mut Vec<Face>, a: u32, b: u32) -> Result<(), Memory>
+    requires units { (a < graph.now.units) × (b < graph.now.units) }
 {
-    for other in g.neighbours(a) {
+    for other in graph.neighbours(a) {
         let d = *other;
-        if d > b && g.neighbours(d).len() <= DEGREE {
-            if !g.adjacent(b, d) {
-                add_squares(g, rings, a, b, d)?;
-            } else if !is_around(g, a, &[a, b, d]) {
+        if d > b && graph.neighbours(d).len() <= DEGREE {
+            if !graph.adjacent(b, d) {
+                add_squares(graph, rings, a, b, d)?;
+            } else if !is_around(graph, a, &[a, b, d]) {
                 rings.push(Face::Triangle(a, b, d))?;
             }
         }
@@ -85,13 +85,13 @@ fn add_beside(g: &Graph, rings: &mut Vec<Face>, a: u32, b: u32) -> Result<(), Me
 }
 
 /// Adds the rings of which a unit is the least.
-fn add_at(g: &Graph, rings: &mut Vec<Face>, a: u32) -> Result<(), Memory>
-    requires { a < g.now.units }
+fn add_at(graph: &Graph, rings: &mut Vec<Face>, a: u32) -> Result<(), Memory>
+    requires { a < graph.now.units }
 {
-    if g.neighbours(a).len() <= DEGREE {
-        for b in g.neighbours(a) {
-            if *b > a && g.neighbours(*b).len() <= DEGREE {
-                add_beside(g, rings, a, *b)?;
+    if graph.neighbours(a).len() <= DEGREE {
+        for b in graph.neighbours(a) {
+            if *b > a && graph.neighbours(*b).len() <= DEGREE {
+                add_beside(graph, rings, a, *b)?;
             }
         }
     }
@@ -99,10 +99,10 @@ fn add_at(g: &Graph, rings: &mut Vec<Face>, a: u32) -> Result<(), Memory>
 }
 
 /// The triangles and squares of a graph, or none where they are too many.
-fn rings_of(alloc: Global, g: &Graph) -> Result<Vec<Face>, Memory> {
+fn rings_of(alloc: Global, graph: &Graph) -> Result<Vec<Face>, Memory> {
     let mut rings = Vec::new(alloc);
-    for a in 0..g.units() {
-        add_at(g, &mut rings, a)?;
+    for a in 0..graph.units() {
+        add_at(graph, &mut rings, a)?;
         if rings.len() > MOST {
             return Ok(Vec::new(alloc));
         }

@@ -21,13 +21,13 @@ struct Sides {
 
 impl Sides {
     /// The number of a ring's own side.
-    fn own(&self, g: &Graph, ring: Face) -> usize {
+    fn own(&self, graph: &Graph, ring: Face) -> usize {
         let (a, b) = first_two(ring);
         let (low, high) = if a < b { (a, b) } else { (b, a) };
-        if low >= g.units() || low as usize >= self.begins.len() {
+        if low >= graph.units() || low as usize >= self.begins.len() {
             return 0;
         }
-        let place = match g.neighbours(low).binary_search(&high) {
+        let place = match graph.neighbours(low).binary_search(&high) {
             Ok(place) => place,
             Err(place) => place,
         };
@@ -56,14 +56,14 @@ impl Sides {
     /// Counts one more ring, or one less, at all of its sides.
     fn count_all(
         &mut self,
-        g: &Graph,
+        graph: &Graph,
         ring: Face,
         number: usize,
         more: bool,
     ) -> Result<(), Memory> {
         let mut turn = ring;
         for _ in 0..length_of(ring) {
-            let side = self.own(g, turn);
+            let side = self.own(graph, turn);
             self.count(side, number, more)?;
             turn = turn.turned();
         }
@@ -71,8 +71,8 @@ impl Sides {
     }
 
     /// The sides of these rings.
-    fn of(alloc: Global, g: &Graph, rings: &[Face]) -> Result<Sides, Memory> {
-        let begins = begins_of(alloc, g)?;
+    fn of(alloc: Global, graph: &Graph, rings: &[Face]) -> Result<Sides, Memory> {
+        let begins = begins_of(alloc, graph)?;
         let all = match begins.last() {
             None => 0,
             Some(end) => *end,
@@ -84,7 +84,7 @@ impl Sides {
             ready: Vec::new(alloc),
         };
         for number in 0..rings.len() {
-            sides.count_all(g, rings[number], number, true)?;
+            sides.count_all(graph, rings[number], number, true)?;
         }
         for side in 0..all {
             sides.see(side)?;
@@ -119,10 +119,10 @@ impl Sides {
     }
 
     /// The ring begun with a side.
-    fn begun(&self, g: &Graph, ring: Face, side: usize) -> Face {
+    fn begun(&self, graph: &Graph, ring: Face, side: usize) -> Face {
         let mut turn = ring;
         for _ in 0..length_of(ring) {
-            if self.own(g, turn) == side {
+            if self.own(graph, turn) == side {
                 return turn;
             }
             turn = turn.turned();
@@ -133,26 +133,26 @@ impl Sides {
 
 /// The rings that are taken off while one has a side alone, the last first, each begun with that side. Where none has,
 /// one is dropped.
-pub fn peeled(alloc: Global, g: &Graph, rings: &[Face]) -> Result<Vec<Face>, Memory> {
-    let mut sides = Sides::of(alloc, g, rings)?;
+pub fn peeled(alloc: Global, graph: &Graph, rings: &[Face]) -> Result<Vec<Face>, Memory> {
+    let mut sides = Sides::of(alloc, graph, rings)?;
     let mut left: Vec<bool> = vec![in alloc; true; rings.len()]?;
     let mut kept = Vec::new(alloc);
     for number in 0..rings.len() {
-        keep_ready(g, rings, &mut sides, &mut left, &mut kept)?;
-        take_off(g, rings, &mut sides, &mut left, number)?;
+        keep_ready(graph, rings, &mut sides, &mut left, &mut kept)?;
+        take_off(graph, rings, &mut sides, &mut left, number)?;
     }
-    keep_ready(g, rings, &mut sides, &mut left, &mut kept)?;
+    keep_ready(graph, rings, &mut sides, &mut left, &mut kept)?;
     kept.reverse();
     Ok(kept)
 }
 
 /// The number of the first side of each unit, and behind them that of all.
-fn begins_of(alloc: Global, g: &Graph) -> Result<Vec<usize>, Memory> {
+fn begins_of(alloc: Global, graph: &Graph) -> Result<Vec<usize>, Memory> {
     let mut begins = Vec::new(alloc);
     let mut end = 0usize;
-    for u in 0..g.units() {
+    for u in 0..graph.units() {
         begins.push(end)?;
-        end = end.wrapping_add(g.neighbours(u).len());
+        end = end.wrapping_add(graph.neighbours(u).len());
     }
     begins.push(end)?;
     Ok(begins)
@@ -176,7 +176,7 @@ fn first_two(ring: Face) -> (u32, u32) {
 
 /// Takes a ring off, and tells whether it was left.
 fn take_off(
-    g: &Graph,
+    graph: &Graph,
     rings: &[Face],
     sides: &mut Sides,
     left: &mut [bool],
@@ -186,13 +186,13 @@ fn take_off(
         return Ok(false);
     }
     left[number] = false;
-    sides.count_all(g, rings[number], number, false)?;
+    sides.count_all(graph, rings[number], number, false)?;
     Ok(true)
 }
 
 /// Takes off the rings that have a side alone, one after another, and keeps them.
 fn keep_ready(
-    g: &Graph,
+    graph: &Graph,
     rings: &[Face],
     sides: &mut Sides,
     left: &mut [bool],
@@ -202,8 +202,8 @@ fn keep_ready(
         match sides.next() {
             None => return Ok(()),
             Some((side, number)) => {
-                if take_off(g, rings, sides, left, number)? && number < rings.len() {
-                    kept.push(sides.begun(g, rings[number], side))?;
+                if take_off(graph, rings, sides, left, number)? && number < rings.len() {
+                    kept.push(sides.begun(graph, rings[number], side))?;
                 }
             }
         }

@@ -51,11 +51,11 @@ impl<F: Fn(&SumsView) -> bool + Drop> Judge for Guard<F> {
 
     ghost stands = { λ g plan. ⊤ };
 
-    fn permits(&self, _after: &[u32], sums: &SumsView, _u: u32, _from: u32) -> bool {
+    fn permits(&self, _after: &[u32], sums: &SumsView, _unit: u32, _from: u32) -> bool {
         self.allows(sums)
     }
 
-    fn moved(&mut self, _after: &[u32], _u: u32, _from: u32) {}
+    fn moved(&mut self, _after: &[u32], _unit: u32, _from: u32) {}
 
     fn reset(&mut self, _plan: &[u32]) {}
 }

@@ -22,15 +22,15 @@ pub trait Judge: Drop {
     ghost stands: { Self → List ℕ → Type 0 };
 
     /// Whether the plan after a move, with its sums, meets the rules: the unit came from another district of a plan for which it stands.
-    fn permits(&self, after: &[u32], sums: &SumsView, u: u32, from: u32) -> bool
+    fn permits(&self, after: &[u32], sums: &SumsView, unit: u32, from: u32) -> bool
         requires kept { keeps self.now }
-        requires after { IsAfterMove (takes self.now) (stands self.now) after.now u from }
+        requires after { IsAfterMove (takes self.now) (stands self.now) after.now unit from }
         ensures { result ≡ meets_rules (rules self.now) sums.now.cut after.now };
 
     /// Stands for the plan after a move from now on.
-    fn moved(&mut self, after: &[u32], u: u32, from: u32)
+    fn moved(&mut self, after: &[u32], unit: u32, from: u32)
         requires kept { keeps self.old }
-        requires after { IsAfterMove (takes self.old) (stands self.old) after.now u from }
+        requires after { IsAfterMove (takes self.old) (stands self.old) after.now unit from }
         ensures kept { keeps self.new }
         ensures stands { stands self.new after.now }
         ensures rules { rules self.new ≡ rules self.old }

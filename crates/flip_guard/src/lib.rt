@@ -3,3 +3,6 @@
 
 pub mod guard;
 pub mod judge;
+
+pub use guard::Guard;
+pub use judge::Judge;

@@ -1,20 +1,14 @@
 -- Which units are beside which districts, before and after a move.
 use Rattle.std.proofs.Common.{◌≡◌, ℕ, ◌<◌, Bool, true, false, not, ◌&&◌, ◌||◌, ◌==◌, List, [], ◌∷◌, length, get_or, set, refl, sym, ap, ◌∙◌, inl, inr}
 use Rattle.std.specs.List.{list_any}
-use Rattle.std.proofs.lemmas.Bool.{cases_Bool, cases_eq, eq-eqb, eqb-true, eqb-false, ne_eqb, and_left, and_from, and_parts, or_cases, or_left, or_right, false≢true, both_ways, not-true, not_from_true, not_from_false}
+use Rattle.std.proofs.lemmas.Bool.{cases_Bool, cases_eq, eq-eqb, eqb-true, eqb-false, ne_eqb, and_left, and_from, and_parts, or_left, or_right, both_ways, not-true, not_from_true, not_from_false}
 use Rattle.std.proofs.lemmas.List.{get_or-set_same, get_or-set_other}
 use Rattle.std.proofs.lemmas.List.Folds.{list_any_at}
 use Rattle.audit_model.specs.Graph.{Graph, IsGraph, has, adjacent}
 use Rattle.audit_model.specs.Plan.{in_district}
 use Rattle.model_laws.proofs.Lists.{has_at}
+use Rattle.model_laws.proofs.Every.{some_from_any}
 use Rattle.flip_kernel.specs.Openings.{is_open}
-
-some_of : (test : ℕ → Bool) (xs : List ℕ) → list_any test xs ≡ true → (v : ℕ) × (has xs v ≡ true) × (test v ≡ true)
-some_of test [] h = absurd (false≢true h)
-some_of test (x ∷ xs) h = elim (or_cases (test x) (list_any test xs) h) [
-  | inl e ↦ (x, or_left (x == x) (has xs x) (eq-eqb x x refl), e)
-  | inr e ↦ let found = some_of test xs e in (found.0, or_right (x == found.0) (has xs found.0) found.1, found.2)
-]
 
 any_same : (p q : ℕ → Bool) (xs : List ℕ) → ((v : ℕ) → has xs v ≡ true → p v ≡ q v) → list_any p xs ≡ list_any q xs
 any_same p q [] same = refl
@@ -41,7 +35,7 @@ module _ (g : Graph) (plan : List ℕ) where
   pub open_neighbour : (u d : ℕ) → is_open g plan u d ≡ true → (v : ℕ) × (adjacent g u v ≡ true) × (get_or plan v 0 ≡ d)
   open_neighbour u d h =
       let parts = and_parts (not (in_district plan d u)) (list_any (in_district plan d) (get_or g.neighbours u [])) h in
-      let found = some_of (in_district plan d) (get_or g.neighbours u []) parts.1 in
+      let found = some_from_any (in_district plan d) (get_or g.neighbours u []) parts.1 in
       (found.0, found.1, eqb-true (get_or plan found.0 0) d found.2)
 
   -- no district is open to its own units

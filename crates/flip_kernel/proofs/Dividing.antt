@@ -1,9 +1,10 @@
 -- The division of draws into blocks, by a product with an inverse.
 use Rattle.std.proofs.Common.{◌≡◌, ℕ, ◌+◌, ◌-◌, ◌*◌, ◌/◌, ◌%◌, ◌^◌, ◌<◌, ◌≤◌, Some, None, sym, ap, ◌∙◌, inl, inr, arith}
 use Rattle.std.specs.Prelude.{nat_lt}
-use Rattle.std.proofs.Math.Nat.{mul-le-mul_left, mul-le-mul_right, add-mul}
+use Rattle.std.proofs.Math.Nat.{mul-le-mul_left, mul-le-mul_right}
 use Rattle.std.proofs.lemmas.Bool.{cases_lt, cond-true, cond-false, lt-ltb, ltb-true, false_from_ne_true}
 use Rattle.std.proofs.lemmas.Nat.{div-add-mod', mod-mul-add, mod_below, div_below, le-div}
+use Rattle.model_laws.proofs.Numbers.{one_more_block}
 use Rattle.flip_kernel.specs.Blocks.{place_in}
 
 -- ---- a quotient that is at most one short
@@ -47,9 +48,6 @@ module _ (all draw size inverse blocks : ℕ) (some : 0 < size) (l : draw < all)
       split = omega (arith, blocks_fit, large)
 
 -- ---- blocks of draws
-
-one_more_block : (blocks size : ℕ) → (blocks + 1) * size ≡ blocks * size + size
-one_more_block blocks size = omega (arith, add-mul blocks 1 size)
 
 module _ (draw size last place : ℕ) (some : 0 < size) (whole : last + size ≡ 2 ^ 64) (is : place ≡ draw % size) where
   -- a draw whose block ends below the limit is counted

@@ -74,10 +74,6 @@ module _ (job : Job) (plan : List ℕ) (draw : ℕ) where
   move_differs unit district l move same =
       move.elsewhere (sym (ap (λ (p : List ℕ). get_or p unit 0) same) ∙ get_or-set_same plan unit district 0 l)
 
-  pub mirrored_held : next job plan draw ≡ plan → mirrored job plan draw ≡ draw
-  unfolding mirrored
-  mirrored_held same = cond-true _ _ _ ((bytes_eq-Decides (next job plan draw) plan).1 same)
-
   pub mirrored_moved : (unit district : ℕ) → proposal job.graph.units job.districts draw ≡ Some (unit, district) → (next job plan draw ≡ plan → ⊥)
       → mirrored job plan draw ≡ draw - draw % (job.graph.units * job.districts) + (unit * job.districts + get_or plan unit 0)
   unfolding mirrored

@@ -1,5 +1,5 @@
 -- What a judge is asked of a job's plans, and the sums that are as before once it has answered.
-use Rattle.std.proofs.Common.{◌≡◌, ℕ, suc, ◌<◌, ◌≤◌, Bool, List, [], ◌∷◌, length, get_or, set, sym, ap, ◌∙◌, subst, inl, inr, arith, length-set}
+use Rattle.std.proofs.Common.{◌≡◌, ℕ, ◌<◌, Bool, List, length, get_or, set, sym, ap, ◌∙◌, subst, inl, inr, arith, length-set}
 use Rattle.std.specs.Prelude.{IsTrue}
 use Rattle.std.proofs.lemmas.Bool.{cases_eq}
 use Rattle.std.proofs.lemmas.List.{get_or-set_same, get_or-set_other}
@@ -7,15 +7,12 @@ use Rattle.audit_model.specs.declared.outcome.SumsView.{SumsView}
 use Rattle.audit_model.specs.Below.{above_all}
 use Rattle.audit_model.specs.Job.{Job}
 use Rattle.audit_model.specs.Score.{sums_of}
+use Rattle.model_laws.proofs.Lists.{above_all_most}
 use Rattle.district_sums.specs.Following.{Following, StandsFor, districts_in}
 use Rattle.flip_guard.specs.Judging.{IsTaken, IsAfterMove}
 use Rattle.flip_kernel.specs.Held.{sums_in}
 use Rattle.flip_kernel.specs.Judged.{TakesPlansOf}
 use Rattle.flip_kernel.proofs.Holding.{put_back}
-
-above_all_most : (xs : List ℕ) (n : ℕ) → ((u : ℕ) → u < length xs → get_or xs u 0 < n) → above_all xs ≤ n
-above_all_most [] n each = omega arith
-above_all_most (x ∷ xs) n each = omega (arith, each 0 (omega arith), above_all_most xs n (λ u l. each (suc u) (omega (arith, l))))
 
 module _ (job : Job) (takes : ℕ → ℕ → Bool) (all : TakesPlansOf job takes) (plan : List ℕ) (complete : length plan ≡ job.graph.units)
     (in_range : (u : ℕ) → u < job.graph.units → get_or plan u 0 < job.districts) where

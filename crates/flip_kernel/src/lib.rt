@@ -7,3 +7,7 @@ pub mod laws;
 mod openings;
 pub mod proposal;
 pub mod state;
+
+pub use flip::{mirror, try_flip, try_flip_counting};
+pub use proposal::propose;
+pub use state::State;

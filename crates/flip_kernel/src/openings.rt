@@ -63,54 +63,54 @@ impl Openings {
     }
 
     /// Opens the districts of a unit's neighbours to the unit, to which none is open.
-    fn open_beside(&mut self, g: &Graph, plan: &[u32], districts: u32, unit: u32)
-        requires plan { length plan.now ≡ g.now.units }
-        requires in_range { (u : ℕ) → u < g.now.units → slice_index plan.now u < districts }
-        requires unit { unit < g.now.units }
-        requires width { g.now.units * districts ≤ length self.old }
+    fn open_beside(&mut self, graph: &Graph, plan: &[u32], districts: u32, unit: u32)
+        requires plan { length plan.now ≡ graph.now.units }
+        requires in_range { (u : ℕ) → u < graph.now.units → slice_index plan.now u < districts }
+        requires unit { unit < graph.now.units }
+        requires width { graph.now.units * districts ≤ length self.old }
         requires closed { (d : ℕ) → d < districts → flag_of self.old districts unit d ≡ false }
-        ensures { HasOpened plan.now districts unit (slice_index_or g.now.neighbours unit []) self.old self.new }
+        ensures { HasOpened plan.now districts unit (slice_index_or graph.now.neighbours unit []) self.old self.new }
     {
         let home = plan[unit as usize];
-        for other in g.neighbours(unit) {
+        for other in graph.neighbours(unit) {
             let district = plan[*other as usize];
             self.put(districts, unit, district, home != district);
         }
     }
 
     /// Makes the openings those of a plan. It takes no memory.
-    pub fn refill(&mut self, g: &Graph, plan: &[u32], districts: u32)
-        requires plan { length plan.now ≡ g.now.units }
-        requires in_range { (u : ℕ) → u < g.now.units → slice_index plan.now u < districts }
-        requires width { g.now.units * districts ≤ length self.old }
-        ensures { IsTable g.now plan.now districts self.new }
+    pub fn refill(&mut self, graph: &Graph, plan: &[u32], districts: u32)
+        requires plan { length plan.now ≡ graph.now.units }
+        requires in_range { (u : ℕ) → u < graph.now.units → slice_index plan.now u < districts }
+        requires width { graph.now.units * districts ≤ length self.old }
+        ensures { IsTable graph.now plan.now districts self.new }
     {
         self.clear();
-        for unit in 0..g.units() {
-            self.open_beside(g, plan, districts, unit);
+        for unit in 0..graph.units() {
+            self.open_beside(graph, plan, districts, unit);
         }
     }
 
     /// Follows a unit that was in one district and is in another now. It reads the unit's neighbours and
     /// theirs alone, and takes no memory.
-    pub fn renew(&mut self, g: &Graph, plan: &[u32], districts: u32, unit: u32, home: u32)
-        requires plan { length plan.now ≡ g.now.units }
-        requires in_range { (u : ℕ) → u < g.now.units → slice_index plan.now u < districts }
-        requires unit { unit < g.now.units }
+    pub fn renew(&mut self, graph: &Graph, plan: &[u32], districts: u32, unit: u32, home: u32)
+        requires plan { length plan.now ≡ graph.now.units }
+        requires in_range { (u : ℕ) → u < graph.now.units → slice_index plan.now u < districts }
+        requires unit { unit < graph.now.units }
         requires home { home < districts }
-        requires table { IsTable g.now (slice_set plan.now unit home) districts self.old }
-        ensures { IsTable g.now plan.now districts self.new }
+        requires table { IsTable graph.now (slice_set plan.now unit home) districts self.old }
+        ensures { IsTable graph.now plan.now districts self.new }
     {
         // Called for what its contract says: the graph is sound, and has at most 100,000 units.
-        let _units = g.units();
+        let _units = graph.units();
         let district = plan[unit as usize];
-        for other in g.neighbours(unit) {
+        for other in graph.neighbours(unit) {
             let v = *other;
             self.put(districts, v, district, plan[v as usize] != district);
-            self.put(districts, v, home, is_open(g, plan, v, home));
+            self.put(districts, v, home, is_open(graph, plan, v, home));
         }
         self.put(districts, unit, district, false);
-        self.put(districts, unit, home, is_open(g, plan, unit, home));
+        self.put(districts, unit, home, is_open(graph, plan, unit, home));
     }
 }
 
@@ -153,15 +153,15 @@ fn put_bit(words: &mut [u64], place: usize, flag: bool)
 }
 
 /// Whether the unit is in another district and has a neighbour in this one.
-fn is_open(g: &Graph, plan: &[u32], unit: u32, district: u32) -> bool
-    requires plan { length plan.now ≡ g.now.units }
-    requires unit { unit < g.now.units }
-    ensures { result ≡ is_open g.now plan.now unit district }
+fn is_open(graph: &Graph, plan: &[u32], unit: u32, district: u32) -> bool
+    requires plan { length plan.now ≡ graph.now.units }
+    requires unit { unit < graph.now.units }
+    ensures { result ≡ is_open graph.now plan.now unit district }
 {
     if plan[unit as usize] == district {
         return false;
     }
-    for other in g.neighbours(unit) {
+    for other in graph.neighbours(unit) {
         if plan[*other as usize] == district {
             return true;
         }

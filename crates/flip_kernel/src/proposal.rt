@@ -3,6 +3,7 @@
 ghost use Rattle.std.specs.Prelude.{◌≡◌, ◌*◌, ◌%◌, ◌<◌, ◌≤◌};
 ghost use Rattle.audit_model.specs.Proposal.{proposal};
 ghost use Rattle.flip_kernel.specs.Blocks.{AreBlocks, place_in};
+ghost use Rattle.audit_model.specs.Limits.{most_units, most_districts};
 
 /// The pairs of a unit and a district. Draws are in blocks, which have one draw for each pair.
 #[derive(Drop)]
@@ -17,14 +18,14 @@ pub struct Pairs {
 
 impl Pairs {
     /// The pairs of n units and so many districts.
-    pub fn of(n: u32, districts: u32) -> Pairs
-        requires units { (0 < n) × (n ≤ 100000) }
-        requires districts { (0 < districts) × (districts ≤ 200) }
+    pub fn of(units: u32, districts: u32) -> Pairs
+        requires units { (0 < units) × (units ≤ most_units) }
+        requires districts { (0 < districts) × (districts ≤ most_districts) }
         ensures districts { result.districts ≡ districts }
-        ensures count { result.count ≡ n * districts }
+        ensures count { result.count ≡ units * districts }
         ensures blocks { AreBlocks result }
     {
-        let count = u64::from(n) * u64::from(districts);
+        let count = u64::from(units) * u64::from(districts);
         Pairs {
             districts,
             count,
@@ -65,12 +66,12 @@ impl Pairs {
 /// The unit and the district that a draw proposes, of n units. Nothing is proposed by the draws of the
 /// last block, which has too few draws for all pairs.
 #[inline]
-pub fn propose(draw: u64, n: u32, districts: u32) -> Option<(u32, u32)>
-    requires units { (0 < n) × (n ≤ 100000) }
-    requires districts { (0 < districts) × (districts ≤ 200) }
-    ensures { result ≡ proposal n districts draw }
+pub fn propose(draw: u64, units: u32, districts: u32) -> Option<(u32, u32)>
+    requires units { (0 < units) × (units ≤ most_units) }
+    requires districts { (0 < districts) × (districts ≤ most_districts) }
+    ensures { result ≡ proposal units districts draw }
 {
-    match Pairs::of(n, districts).place(draw) {
+    match Pairs::of(units, districts).place(draw) {
         None => None,
         Some(pair) => {
             let place = pair as u32;

@@ -1,5 +1,5 @@
 -- What is read of a document is a simple graph, in rising lists.
-use Rattle.std.proofs.Common.{◌≡◌, ℕ, zero, suc, ◌<◌, Bool, true, false, not, ◌||◌, List, [], ◌∷◌, ◌++◌, length, get_or, refl, sym, ap, ◌∙◌, subst, inl, inr, arith, length-append}
+use Rattle.std.proofs.Common.{◌≡◌, ℕ, zero, suc, ◌<◌, true, not, ◌||◌, List, [], ◌∷◌, ◌++◌, get_or, refl, sym, ap, ◌∙◌, subst, inl, inr, arith}
 use Rattle.std.specs.Prelude.{◌==◌}
 use Rattle.std.proofs.lemmas.Bool.{and_parts, and_from, or_cases, or_left, or_right, cases_lt, cases_eq, eq-eqb, ne_eqb, false≢true, both_ways, false_from_ne_true, not_from_false, not-true}
 use Rattle.std.proofs.lemmas.List.{get_or_append_left, get_or_at, get_or_past}
@@ -7,11 +7,9 @@ use Rattle.audit_model.specs.Below.{map_below, filter_below}
 use Rattle.audit_model.specs.Graph.{has, adjacent}
 use Rattle.audit_model.specs.Local.{IsSimple}
 use Rattle.model_laws.proofs.Connected.{has-filter_below, filter_below-has}
+use Rattle.model_laws.proofs.Below.{length-map_below}
+use Rattle.model_laws.proofs.Bools.{same_bool}
 use Rattle.graph_definitions.specs.Reading.{Document, node_count, lists, joined, graph}
-
-length-map_below : (n : ℕ) (f : ℕ → List ℕ) → length (map_below n f) ≡ n
-length-map_below zero f = refl
-length-map_below (suc n) f = omega (arith, length-append (map_below n f) (f n ∷ []), length-map_below n f)
 
 get_or-map_below : (n : ℕ) (f : ℕ → List ℕ) (k : ℕ) → k < n → get_or (map_below n f) k [] ≡ f k
 get_or-map_below zero f k l = absurd (omega arith)
@@ -51,14 +49,9 @@ module _ (d : Document) where
   turned : (u v : ℕ) → adjacent (graph d) u v ≡ true → adjacent (graph d) v u ≡ true
   turned u v h = let parts = adjacent_joined u v h in joined_adjacent v u parts.1 parts.0 (joined_turned u v parts.2)
 
-  same_answer : (a b : Bool) → (a ≡ true → b ≡ true) → (b ≡ true → a ≡ true) → a ≡ b
-  same_answer true b f g = sym (f refl)
-  same_answer false true f g = g refl
-  same_answer false false f g = refl
-
   pub graph_is_simple : IsSimple (graph d)
   graph_is_simple = record {
-    symmetric = λ u v. same_answer (adjacent (graph d) u v) (adjacent (graph d) v u) (turned u v) (turned v u);
+    symmetric = λ u v. same_bool (adjacent (graph d) u v) (adjacent (graph d) v u) (turned u v) (turned v u);
     loopless = λ u. false_from_ne_true (adjacent (graph d) u u) (λ h.
         let parts = and_parts (not (u == u)) (lists d u u || lists d u u) (adjacent_joined u u h).2 in
         both_ways (u == u) (not-true (u == u) parts.0) (eq-eqb u u refl));

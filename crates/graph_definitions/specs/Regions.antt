@@ -12,6 +12,7 @@ use Rattle.audit_model.specs.declared.setting.Label.TheVariants.{Word}
 use Rattle.audit_model.specs.Below.{map_below}
 use Rattle.audit_model.specs.First.{first_some, first_below}
 use Rattle.graph_definitions.specs.Reading.{Document, document, node_count, node, id_of, label_of, cell, label_count, district_at, refused_if}
+use Rattle.audit_model.specs.Limits.{most_regions}
 
 -- what is read of a text that is a graph
 abbrev pub document_of : List ℕ → Document
@@ -29,7 +30,7 @@ module _ (read_of : Document) (column : List ℕ) where
   region_fault = first_some (
       option_map Missing (first_below (node_count read_of) (λ i. is_none (cell read_of (as_districts column) i District)))
       ∷ option_map BadLabel (first_below (node_count read_of) (λ i. is_none (option_and_then label_of (cell read_of (as_districts column) i District))))
-      ∷ refused_if (nat_lt 5000 (label_count read_of (as_districts column))) (TooMany (label_count read_of (as_districts column)))
+      ∷ refused_if (nat_lt most_regions (label_count read_of (as_districts column))) (TooMany (label_count read_of (as_districts column)))
       ∷ [])
 
   -- the region of each unit

@@ -2,6 +2,7 @@
 use Rattle.std.proofs.Common.{◌≡◌, ℕ, zero, suc, ◌+◌, ◌-◌, ◌*◌, ◌/◌, ◌^◌, ◌<◌, ◌≤◌, ◌⊎◌, Bool, true, false, cond, not, ◌&&◌, ◌||◌, List, [], ◌∷◌, map, length, get_or, codes, Option, Some, None, option_map, option_and_then, pos, refl, sym, ap, ap₂, ◌∙◌, subst, inl, inr, arith}
 use Rattle.std.specs.Prelude.{◌==◌, nat_le, is_none, unwrap_or}
 use Rattle.std.proofs.lemmas.Bool.{and_parts, or_cases, cases_lt, eq-eqb, ne_eqb, eqb-true, lt-ltb, le-ltb, le-leb, false≢true}
+use Rattle.std.proofs.lemmas.List.{length-map}
 use Rattle.serde_json.specs.Data.{Data, null}
 use Rattle.serde_json.specs.Find.{get}
 use Rattle.audit_model.specs.declared.fault.Column.TheVariants as column
@@ -12,16 +13,17 @@ use Rattle.audit_model.specs.Below.{any_below, count_below, filter_below, map_be
 use Rattle.audit_model.specs.First.{first_some}
 use Rattle.audit_model.specs.Graph.{adjacent, count_edges, has}
 use Rattle.audit_model.specs.Label.{same_label}
+use Rattle.dual_json.proofs.Shapes.{not_refused}
 use Rattle.draw_definitions.specs.Grid.{side, are_beside, first_votes_of}
 use Rattle.graph_definitions.specs.Reading.{Document, node_count, node, entries, entry, id_of, label_of, same_id, lists, joined, graph, count_of, label_at, is_new_label, label_count, refused_if, repeated_id, first_entry, missing_column, bad_number, refusal}
-use Rattle.model_laws.proofs.Below.{count_below_into, count_below_le, any_below_some, any_below_none, length-map_below, get_or-map_below}
+use Rattle.model_laws.proofs.Below.{count_below_into, count_below_le, any_below_some, any_below_none, length-map_below, get_or-map_below, any_below_from}
 use Rattle.model_laws.proofs.Connected.{has-filter_below}
 use Rattle.model_laws.proofs.Options.{or_of_none}
 use Rattle.model_laws.proofs.First.{none_first_below}
 use Rattle.grid_maker.specs.Columns.{grid_columns}
 use Rattle.grid_maker.specs.Tree.{entry_tree, node_tree}
 use Rattle.grid_maker.proofs.Districts.{district_of, units_of, few_units, district_below, first_of, first_district, before_first, first_inside}
-use Rattle.grid_maker.proofs.Finding.{none_some_below, one_passes, item_passes, get_or-map, length-map}
+use Rattle.grid_maker.proofs.Finding.{none_some_below, item_passes, get_or-map}
 
 -- the units beside a unit
 abbrev pub units_beside : ℕ → ℕ → List ℕ
@@ -34,9 +36,6 @@ grid_document size key = record {
   adjacency = map_below (units_of size) (λ u. map entry_tree (units_beside size u));
   directed = false;
 }
-
-pub not_refused : {A : Type 0} (b : Bool) (f : A) → b ≡ false → refused_if b f ≡ None
-not_refused b f e = rw e refl
 
 map_none : {A B : Type 0} (f : A → B) (o : Option A) → o ≡ None → option_map f o ≡ None
 map_none f o e = rw e refl
@@ -69,7 +68,7 @@ module _ (size : ℕ) (key : List ℕ) where
   id_at i l = ap id_of (node_at i l)
 
   place_at : (i place : ℕ) → i < node_count made → place < length (entries made i) → place < length (units_beside size i)
-  place_at i place l lp = omega (arith, lp, ap (λ (ds : List Data). length ds) (entries_at i l), length-map entry_tree (units_beside size i))
+  place_at i place l lp = omega (arith, lp, ap (λ (ds : List Data). length ds) (entries_at i l), length-map (units_beside size i) entry_tree)
 
   entry_at : (i place : ℕ) → i < node_count made → place < length (entries made i) → entry made i place ≡ entry_tree (get_or (units_beside size i) place 0)
   entry_at i place l lp =
@@ -93,7 +92,7 @@ module _ (size : ℕ) (key : List ℕ) where
   known i place l lp =
       let v : ℕ = get_or (units_beside size i) place 0 in
       let inside : v < node_count made = omega (arith, count_is, (item_passes (units_of size) (are_beside size i) place (place_at i place l lp)).0) in
-      one_passes (node_count made) v _ inside (ap₂ same_id (entry_id i place l lp) (id_at v inside) ∙ whole_same v v ∙ eq-eqb v v refl)
+      any_below_from (node_count made) _ v inside (ap₂ same_id (entry_id i place l lp) (id_at v inside) ∙ whole_same v v ∙ eq-eqb v v refl)
 
 -- ---- edges
 
@@ -228,7 +227,7 @@ module _ (size : ℕ) (key : List ℕ) (some : 1 ≤ size) (small : size ≤ 30)
 
   repeats : (j k : ℕ) → j < k → k < node_count grid_made → district_of size j ≡ district_of size k → is_new_label grid_made grid_columns k ≡ false
   repeats j k l lk e =
-      ap not (one_passes k j (λ i. same_label (label_at grid_made grid_columns i) (label_at grid_made grid_columns k)) l
+      ap not (any_below_from k (λ i. same_label (label_at grid_made grid_columns i) (label_at grid_made grid_columns k)) j l
       (same_districts j k (omega (arith, l, lk)) lk ∙ eq-eqb (district_of size j) (district_of size k) e))
 
   few_labels : label_count grid_made grid_columns ≤ 10

@@ -3,7 +3,7 @@ use Rattle.std.proofs.Common.{◌≡◌, ℕ, ◌+◌, ◌-◌, ◌*◌, ◌/◌
 use Rattle.std.specs.Prelude.{◌==◌, ◌≢◌, ◌↔◌, nat_lt, unwrap_or}
 use Rattle.std.specs.declared.cmp.Ordering.TheVariants.{Less}
 use Rattle.std.proofs.lemmas.Bool.{and_parts, and_from, or_cases, or_left, or_right, cases_lt, cases_eq, eq-eqb, ne_eqb, eqb-true, lt-ltb, le-leb, both_ways, not_from_false, not-true}
-use Rattle.std.proofs.lemmas.List.{ext_get_or}
+use Rattle.std.proofs.lemmas.List.{ext_get_or, length-map}
 use Rattle.serde_json.specs.Data.{Data, null}
 use Rattle.audit_model.specs.declared.outcome.Counts.{Counts}
 use Rattle.audit_model.specs.declared.setting.Label.{Label}
@@ -22,14 +22,13 @@ use Rattle.dual_json.proofs.Bridge.{parsed_is, within_is}
 use Rattle.dual_json.proofs.Joined.{graph_is}
 use Rattle.graph_definitions.specs.Reading.{Document, node_count, node, entries, entry, id_of, same_id, lists, joined, graph, reading}
 use Rattle.model_laws.proofs.Connected.{filter_below-has}
-use Rattle.model_laws.proofs.Below.{length-map_below, get_or-map_below}
+use Rattle.model_laws.proofs.Below.{length-map_below, get_or-map_below, any_below_from}
 use Rattle.model_laws.proofs.Lists.{has_at}
 use Rattle.grid_maker.specs.Columns.{grid_columns}
 use Rattle.grid_maker.specs.Pairs.{pairs_until}
 use Rattle.grid_maker.specs.Tree.{entry_tree, node_tree}
 use Rattle.grid_maker.proofs.Accepted.{units_beside, grid_document, count_is, node_at, entries_at, id_at, entry_id, near, lists_beside, whole_same}
 use Rattle.grid_maker.proofs.Districts.{district_of, units_of, few_units, district_below, first_of, first_district, first_inside}
-use Rattle.grid_maker.proofs.Finding.{one_passes, length-map}
 use Rattle.grid_maker.proofs.Graphs.{grid_gives}
 use Rattle.grid_maker.proofs.Neighbours.{beside, right_is_beside, below_is_beside}
 use Rattle.grid_maker.proofs.Paired.{IsNext, right_is, below_is, joins_next, next_joins, next_joins_back, next_inside}
@@ -104,8 +103,8 @@ module _ (size : ℕ) (key : List ℕ) (some : 1 ≤ size) (small : size ≤ 30)
   beside_lists u v lu lv h =
       let at = has_at (units_beside size u) v (filter_below-has (units_of size) (are_beside size u) v (omega (arith, lv, count_is size key)) h) in
       let under = at.1 in
-      let place : at.0 < length (entries made u) = omega (arith, under, ap (λ (ds : List Data). length ds) (entries_at size key u lu), length-map entry_tree (units_beside size u)) in
-      one_passes (length (entries made u)) at.0 (λ k. same_id (id_of (entry made u k)) (id_of (node made v))) place
+      let place : at.0 < length (entries made u) = omega (arith, under, ap (λ (ds : List Data). length ds) (entries_at size key u lu), length-map (units_beside size u) entry_tree) in
+      any_below_from (length (entries made u)) (λ k. same_id (id_of (entry made u k)) (id_of (node made v))) at.0 place
       (ap₂ same_id (entry_id size key u at.0 lu place) (id_at size key v lv) ∙ whole_same (get_or (units_beside size u) at.0 0) v
       ∙ eq-eqb (get_or (units_beside size u) at.0 0) v at.2)
 

@@ -7,19 +7,17 @@ use Rattle.serde_json.specs.Data.{Data}
 use Rattle.serde_json.specs.Read.{read}
 use Rattle.serde_json.specs.View.{items_of}
 use Rattle.audit_model.specs.Below.{map_below}
+use Rattle.dual_json.proofs.Listed.{elements-items_of}
+use Rattle.dual_json.proofs.Shapes.{not_refused}
 use Rattle.model_laws.proofs.Options.{or_of_none}
 use Rattle.draw_definitions.specs.Grid.{grid}
 use Rattle.graph_definitions.specs.Reading.{Document, elements, list_of, bad_part, document, parsed, refusal, accepted_or, of_root, of_json, reading}
 use Rattle.grid_maker.specs.Columns.{grid_columns}
 use Rattle.grid_maker.specs.Tree.{entry_tree, neighbours_tree, node_tree, grid_tree}
-use Rattle.grid_maker.proofs.Accepted.{units_beside, grid_document, not_refused, accepted}
+use Rattle.grid_maker.proofs.Accepted.{units_beside, grid_document, accepted}
 use Rattle.grid_maker.proofs.Compact.{map-map_below}
 use Rattle.grid_maker.proofs.Districts.{units_of}
 use Rattle.grid_maker.proofs.Readable.{grid_read, grid_utf8}
-
-elements-items_of : (ds : List Data) → elements (items_of ds) ≡ ds
-elements-items_of [] = refl
-elements-items_of (d ∷ ds) = ap (λ (es : List Data). d ∷ es) (elements-items_of ds)
 
 list_all-append : (p : Data → Bool) (ds es : List Data) → list_all p ds ≡ true → list_all p es ≡ true → list_all p (ds ++ es) ≡ true
 list_all-append p [] es h k = k

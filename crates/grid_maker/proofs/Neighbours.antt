@@ -1,11 +1,12 @@
 -- The units beside a unit of a grid, in rising order.
-use Rattle.std.proofs.Common.{◌≡◌, ℕ, zero, suc, ◌+◌, ◌-◌, ◌*◌, ◌/◌, ◌%◌, ◌<◌, ◌≤◌, Bool, true, false, cond, ◌&&◌, ◌||◌, List, [], ◌∷◌, ◌++◌, Some, None, refl, sym, ap, ◌∙◌, inl, inr, arith, append-nil, add-one}
+use Rattle.std.proofs.Common.{◌≡◌, ℕ, zero, suc, ◌+◌, ◌-◌, ◌*◌, ◌/◌, ◌%◌, ◌<◌, ◌≤◌, Bool, true, false, cond, ◌&&◌, ◌||◌, List, [], ◌∷◌, ◌++◌, Some, None, refl, sym, ap, ◌∙◌, inl, inr, arith, append-nil}
 use Rattle.std.specs.Prelude.{◌==◌, nat_lt, option_to_list}
 use Rattle.std.proofs.lemmas.Bool.{cases_lt, eq-eqb, ne_eqb, lt-ltb, le-ltb, le-leb, lt-leb}
 use Rattle.std.proofs.lemmas.Nat.{div-add-mod', div-mul-add, mod-mul-add, mod_below}
 use Rattle.std.proofs.Math.Nat.{suc-mul}
 use Rattle.audit_model.specs.Below.{filter_below}
 use Rattle.model_laws.proofs.Below.{filter_below_cut}
+use Rattle.model_laws.proofs.Numbers.{one_more_block}
 use Rattle.draw_definitions.specs.Grid.{side, are_beside}
 use Rattle.grid_maker.specs.Beside.{above, left, right, below}
 
@@ -43,11 +44,9 @@ same_row_next width u some = elim (cases_lt (u % width + 1) width) [
       eq-eqb (u / width) ((u + 1) / width) (sym next) ∙ sym (lt-ltb (u % width + 1) width l)
   | inr past ↦
       let next : (u + 1) / width ≡ u / width + 1 = row_of width (u + 1) (u / width + 1) 0 some
-      (omega (arith, div-add-mod' u width, mod_below u width some, one_row (u / width) width, past)) in
+      (omega (arith, div-add-mod' u width, mod_below u width some, one_more_block (u / width) width, past)) in
       ne_eqb (u / width) ((u + 1) / width) (λ e. omega (arith, e, next)) ∙ sym (le-ltb (u % width + 1) width past)
-] where
-  one_row : (q w : ℕ) → (q + 1) * w ≡ q * w + w
-  one_row q w = rw (add-one, suc-mul) refl
+]
 
 same_row_before : (width w : ℕ) → 0 < width → (suc w / width == w / width) ≡ nat_lt 0 (suc w % width)
 same_row_before width w some = elim (cases_lt 0 (suc w % width)) [

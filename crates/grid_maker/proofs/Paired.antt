@@ -4,6 +4,7 @@ use Rattle.std.specs.Prelude.{◌⊎◌, nat_lt, unwrap_or}
 use Rattle.std.proofs.lemmas.Bool.{cases_lt, cases_eq, ltb-true, both_ways}
 use Rattle.std.proofs.lemmas.List.{get_or_append_left, get_or_push}
 use Rattle.dual_graph.specs.Pairs.{pair_at, IsBefore, ArePairs, Joins}
+use Rattle.dual_graph.proofs.Ordered.{before_trans}
 use Rattle.grid_maker.specs.Beside.{right, below}
 use Rattle.grid_maker.specs.Pairs.{extended, pairs_until}
 use Rattle.grid_maker.proofs.Neighbours.{last_ends}
@@ -38,28 +39,13 @@ below_inside side u v some e =
 
 -- ---- pairs that rise
 
-before_then : (p q r : ℕ × ℕ) → IsBefore p q → IsBefore q r → IsBefore p r
-before_then p q r a b = elim a [
-  | inl l ↦ elim b [
-    | inl m ↦ inl (omega (arith, l, m))
-    | inr m ↦ let e = m.0 in inl (omega (arith, l, e))
-  ]
-  | inr l ↦
-      let e = l.0 in
-      let under = l.1 in
-      elim b [
-        | inl m ↦ inl (omega (arith, e, m))
-        | inr m ↦ let f = m.0 in let more = m.1 in inr (omega (arith, e, f), omega (arith, under, more))
-      ]
-]
-
 -- the pairs rise, and are before another
 record Rises (n : ℕ) (pairs : List (ℕ × ℕ)) (top : ℕ × ℕ) : Type 0 where
   are : ArePairs n pairs
   under : (k : ℕ) → k < length pairs → IsBefore (pair_at pairs k) top
 
 rises_on : (n : ℕ) (pairs : List (ℕ × ℕ)) (p q : ℕ × ℕ) → Rises n pairs p → IsBefore p q → Rises n pairs q
-rises_on n pairs p q r b = record { are = r.are; under = λ k l. before_then (pair_at pairs k) p q (r.under k l) b }
+rises_on n pairs p q r b = record { are = r.are; under = λ k l. before_trans (pair_at pairs k) p q (r.under k l) b }
 
 -- what is true of each pair and of one more
 each_push : (P : ℕ × ℕ → Type 0) (pairs : List (ℕ × ℕ)) (p : ℕ × ℕ) → ((k : ℕ) → k < length pairs → P (pair_at pairs k)) → P p
@@ -84,7 +70,7 @@ rises_push n pairs p q r up inside b = record {
           (subst (λ (y : ℕ × ℕ). IsBefore (pair_at pairs k) y) (sym (get_or_push pairs p (0, 0) (k + 1) end)) (r.under k (omega (arith, end))))
     ];
   };
-  under = each_push (λ (x : ℕ × ℕ). IsBefore x q) pairs p (λ k l. before_then (pair_at pairs k) p q (r.under k l) b) b;
+  under = each_push (λ (x : ℕ × ℕ). IsBefore x q) pairs p (λ k l. before_trans (pair_at pairs k) p q (r.under k l) b) b;
 }
 
 rises_extended : (n : ℕ) (pairs : List (ℕ × ℕ)) (u : ℕ) (o : Option ℕ) (w : ℕ) (q : ℕ × ℕ) → Rises n pairs (u, w)

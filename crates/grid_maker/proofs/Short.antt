@@ -1,5 +1,5 @@
 -- The grid's text is far shorter than the most that is read.
-use Rattle.std.proofs.Common.{◌≡◌, ℕ, zero, suc, ◌+◌, ◌-◌, ◌*◌, ◌<◌, ◌≤◌, List, [], ◌∷◌, ◌++◌, map, length, get_or, codes, Option, Some, None, refl, sym, ap, ◌∙◌, subst, arith, length-append, add-one}
+use Rattle.std.proofs.Common.{◌≡◌, ℕ, zero, suc, ◌+◌, ◌-◌, ◌*◌, ◌<◌, ◌≤◌, List, [], ◌∷◌, ◌++◌, map, length, get_or, codes, Option, Some, None, sym, subst, arith, length-append, suc-mul}
 use Rattle.std.specs.Prelude.{decimal, option_to_list}
 use Rattle.std.specs.List.{join_with_byte}
 use Rattle.std.proofs.lemmas.Fmt.{length-decimal-le}
@@ -27,25 +27,19 @@ total-append : (xs ys : List (List ℕ)) → total (xs ++ ys) ≡ total xs + tot
 total-append [] ys = omega arith
 total-append (x ∷ xs) ys = omega (arith, total-append xs ys)
 
-one_row : (n w : ℕ) → (n + 1) * w ≡ n * w + w
-one_row n w = rw (add-one, suc-mul) refl
-
-next_row : (n w : ℕ) → suc n * w ≡ n * w + w
-next_row n w = ap (λ (k : ℕ). k * w) (let e : suc n ≡ n + 1 = omega arith in e) ∙ one_row n w
-
 total-map_below : (n : ℕ) (f : ℕ → List ℕ) (w : ℕ) → ((i : ℕ) → i < n → length (f i) + 1 ≤ w) → total (map_below n f) ≤ n * w
 total-map_below zero f w h = omega arith
 total-map_below (suc n) f w h =
     let before = total-map_below n f w (λ i l. h i (omega (arith, l))) in
     let here = h n (omega arith) in
-    omega (arith, total-append (map_below n f) (f n ∷ []), before, here, next_row n w)
+    omega (arith, total-append (map_below n f) (f n ∷ []), before, here, suc-mul n w)
 
 total-map : (xs : List ℕ) (f : ℕ → List ℕ) (w : ℕ) → ((i : ℕ) → i < length xs → length (f (get_or xs i 0)) + 1 ≤ w) → total (map f xs) ≤ length xs * w
 total-map [] f w h = omega arith
 total-map (x ∷ xs) f w h =
     let here = h 0 (omega arith) in
     let after = total-map xs f w (λ i l. h (suc i) (omega (arith, l))) in
-    omega (arith, here, after, next_row (length xs) w)
+    omega (arith, here, after, suc-mul (length xs) w)
 
 length-bracketed : (parts : List (List ℕ)) → length (bracketed parts) ≤ total parts + 2
 length-bracketed parts = omega (arith, length-append (codes "[" ++ join_with_byte 44 parts) (codes "]"), length-joined 44 parts)

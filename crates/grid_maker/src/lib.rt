@@ -16,6 +16,8 @@ use crate::adjacency::adjacency_of;
 use crate::nodes::nodes_of;
 use audit_model::buffers::Bytes;
 use audit_model::memory::Memory;
+pub use laws::grids_are_short;
+pub use made::read_made;
 use serde_json::{Value, json};
 use std::alloc::Global;
 

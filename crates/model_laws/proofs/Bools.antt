@@ -1,5 +1,6 @@
 -- Truth values.
 use Rattle.std.proofs.Common.{◌≡◌, Bool, true, false, ◌&&◌, refl, sym, ◌||◌}
+use Rattle.std.proofs.lemmas.Bool.{or_left, or_right}
 
 pub and_true : (b c : Bool) → c ≡ true → (b && c) ≡ b
 and_true true c h = h
@@ -13,3 +14,16 @@ same_bool false false f g = refl
 pub or_false : (b : Bool) → (b || false) ≡ b
 or_false true = refl
 or_false false = refl
+
+-- each part of three or four gives the whole
+pub in_1 : (a b c d : Bool) → a ≡ true → (a || b || c || d) ≡ true
+in_1 a b c d h = or_left (a || b || c) d (or_left (a || b) c (or_left a b h))
+
+pub in_2 : (a b c d : Bool) → b ≡ true → (a || b || c || d) ≡ true
+in_2 a b c d h = or_left (a || b || c) d (or_left (a || b) c (or_right a b h))
+
+pub in_3 : (a b c d : Bool) → c ≡ true → (a || b || c || d) ≡ true
+in_3 a b c d h = or_left (a || b || c) d (or_right (a || b) c h)
+
+pub in_4 : (a b c d : Bool) → d ≡ true → (a || b || c || d) ≡ true
+in_4 a b c d h = or_right (a || b || c) d h

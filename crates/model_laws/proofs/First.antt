@@ -1,7 +1,8 @@
 -- The least number that passes a test, found by trying each.
-use Rattle.std.proofs.Common.{◌≡◌, ℕ, zero, suc, ◌+◌, ◌<◌, Bool, true, false, cond, Option, Some, None, refl, sym, ap, ◌∙◌, subst, inl, inr, arith, add-one, ◌⊎◌, ◌||◌}
+use Rattle.std.proofs.Common.{◌≡◌, ℕ, zero, suc, ◌+◌, ◌<◌, Bool, true, false, cond, Option, Some, None, refl, sym, ap, ◌∙◌, subst, inl, inr, arith, add-one, ◌⊎◌, ◌||◌, not, is_none}
 use Rattle.std.specs.Option.{option_or}
 use Rattle.std.proofs.lemmas.Bool.{cases_eq, cond-true, or_from, both_ways, false_from_ne_true}
+use Rattle.std.proofs.lemmas.Option.{cond_some}
 use Rattle.audit_model.specs.First.{first_below, first_some_below}
 use Rattle.model_laws.proofs.Options.{none_or, option_or_none, cond_some_none, cond_none}
 use Rattle.audit_model.specs.Below.{any_below}
@@ -48,11 +49,6 @@ none_first_below zero test each = refl
 none_first_below (suc n) test each =
     ap (λ o. option_or o (cond (test n) (Some n) None)) (none_first_below n test (λ k l. each k (omega arith)))
     ∙ ap (λ b. cond b (Some n) None) (each n (omega arith))
-
--- the least number that passes is below the bound and passes
-cond_some : (b : Bool) (n k : ℕ) → cond b (Some n) None ≡ Some k → (b ≡ true) × (n ≡ k)
-cond_some true n k h = (refl, cc)
-cond_some false n k h = cc
 
 option_or_some : (o : Option ℕ) (b : Bool) (n k : ℕ) → option_or o (cond b (Some n) None) ≡ Some k → (o ≡ Some k) ⊎ ((b ≡ true) × (n ≡ k))
 option_or_some None b n k h = inr (cond_some b n k h)
@@ -136,3 +132,7 @@ first_passes (suc n) test a e = first_split n test a (first_below n test) refl e
 
 pub any_from_some : (n : ℕ) (test : ℕ → Bool) (a : ℕ) → first_below n test ≡ Some a → any_below n test ≡ true
 any_from_some n test a e = let found = first_passes n test a e in any_below_from n test a found.0 found.1
+
+pub none_or_any : (n : ℕ) (test : ℕ → Bool) (o : Option ℕ) → first_below n test ≡ o → not (any_below n test) ≡ is_none o
+none_or_any n test None is = ap not (any_from_none n test is)
+none_or_any n test (Some a) is = ap not (any_from_some n test a is)

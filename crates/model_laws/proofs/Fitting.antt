@@ -11,7 +11,7 @@ use Rattle.audit_model.specs.declared.setting.Tail.TheVariants.{Low, High}
 use Rattle.audit_model.specs.Below.{all_below, count_below}
 use Rattle.audit_model.specs.Job.{Job}
 use Rattle.audit_model.specs.Run.{total, steps_of, bins_fit, fits, is_bare}
-use Rattle.audit_model.specs.Trajectory.{Draws, visit, plan_value, in_tail, visits_in_tail, four_values, value_at, walk_outcome, end_outcome, outcome_by, outcome_with, bins_by}
+use Rattle.audit_model.specs.Trajectory.{Draws, visit, plan_value, in_tail, visits_in_tail, four_values, value_at, walk_outcome, end_outcome, outcome_by, outcome_with, bins_by, outcome}
 use Rattle.model_laws.proofs.Below.{all_below_from, count_below_le}
 use Rattle.model_laws.proofs.BinSums.{bins_add_up}
 
@@ -118,3 +118,6 @@ module _ (job : Job) (draws : Draws) where
       by : (walks b : Bool) → (outcome_by walks b job draws id).id ≡ id
       by true b = refl
       by false b = refl
+
+pub outcome_id : (job : Job) (draws : Draws) (id : ℕ) → (outcome job draws id).id ≡ id
+outcome_id job draws id = found_id job draws job.setting.shift id

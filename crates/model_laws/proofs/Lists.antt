@@ -1,5 +1,5 @@
 -- Lists of numbers: which numbers they have, and lists of different numbers.
-use Rattle.std.proofs.Common.{◌≡◌, ℕ, true, false, [], ◌∷◌, inl, inr, refl, zero, suc, ◌<◌, List, length, get_or, arith, ◌+◌, not, ◌++◌, sym, ◌≤◌, ◌&&◌, ◌||◌, ap, ◌∙◌, take, subst, length-append, All}
+use Rattle.std.proofs.Common.{◌≡◌, ℕ, true, false, [], ◌∷◌, inl, inr, refl, zero, suc, ◌<◌, List, length, get_or, arith, ◌+◌, not, ◌++◌, sym, ◌≤◌, ◌&&◌, ◌||◌, ap, ◌∙◌, take, subst, length-append, All, Bool, cond, find, Option, Some, ◌⊎◌, ◌-◌, drop, length-drop, slice_range, bytes_eq}
 use Rattle.std.specs.Prelude.{◌==◌, max}
 use Rattle.std.proofs.lemmas.Bool.{or_cases, eqb-true, false≢true, or_left, eq-eqb, or_right, or_parts, both_ways, false_from_ne_true, cases_eq, ne_eqb, not_from_true, not_from_false, and_right}
 use Rattle.audit_model.specs.Graph.{has}
@@ -8,8 +8,9 @@ use Rattle.model_laws.proofs.Connected.{has-append_parts}
 use Rattle.audit_model.specs.Below.{count_below, above_all}
 use Rattle.model_laws.proofs.Below.{count_below_same, count_below_without, count_below_le}
 use Rattle.model_laws.proofs.Bools.{and_true}
-use Rattle.std.proofs.lemmas.List.{get_or_append_left}
+use Rattle.std.proofs.lemmas.List.{get_or_append_left, take_all, drop-append-le, take-append-le}
 use Rattle.std.proofs.Math.Seq.{get_or-append_seam}
+use Rattle.std.proofs.lemmas.Slice.Eq.{bytes_eq-Decides}
 
 pub has_one : (x n : ℕ) → has (x ∷ []) n ≡ true → x ≡ n
 has_one x n h = elim (or_cases (x == n) false h) [ inl e ↦ eqb-true x n e | inr e ↦ absurd (false≢true e) ]
@@ -99,3 +100,46 @@ pub popped_rest : {A : Type 0} (P : A → Type 0) (all rest : List A) (x : A) �
 popped_rest P all rest x each is k d inside =
     subst P (ap (λ xs. get_or xs k d) is ∙ get_or_append_left rest (x ∷ []) d k inside)
     (each k d (omega (arith, ap length is, length-append rest (x ∷ []))))
+
+-- where each number is below a bound, the one above all is at most the bound
+pub above_all_most : (xs : List ℕ) (n : ℕ) → ((u : ℕ) → u < length xs → get_or xs u 0 < n) → above_all xs ≤ n
+above_all_most [] n each = omega arith
+above_all_most (x ∷ xs) n each = omega (arith, each 0 (omega arith), above_all_most xs n (λ u l. each (suc u) (omega (arith, l))))
+
+-- what has no number is not that number
+pub other : (xs : List ℕ) (n m : ℕ) → has xs n ≡ false → has xs m ≡ true → n ≡ m → ⊥
+other xs n m lacks has-m e = both_ways (has xs n) lacks (subst (λ k. has xs k ≡ true) (sym e) has-m)
+
+pub has_2 : (a b : ℕ) (xs : List ℕ) → has (a ∷ b ∷ xs) b ≡ true
+has_2 a b xs = or_right (a == b) (has (b ∷ xs) b) (first_has b xs)
+
+pub has_3 : (a b c : ℕ) (xs : List ℕ) → has (a ∷ b ∷ c ∷ xs) c ≡ true
+has_3 a b c xs = or_right (a == c) (has (b ∷ c ∷ xs) c) (has_2 b c xs)
+
+pub has_4 : (a b c d : ℕ) (xs : List ℕ) → has (a ∷ b ∷ c ∷ d ∷ xs) d ≡ true
+has_4 a b c d xs = or_right (a == d) (has (b ∷ c ∷ d ∷ xs) d) (has_3 b c d xs)
+
+-- what a search finds passes
+found_or : {X : Type 0} (b : Bool) (y x : X) (o : Option X) → cond b (Some y) o ≡ Some x → ((b ≡ true) × (y ≡ x)) ⊎ (o ≡ Some x)
+found_or true y x o h = inl (refl, cc)
+found_or false y x o h = inr h
+
+pub find_passes : {X : Type 0} (test : X → Bool) (xs : List X) (x : X) → find test xs ≡ Some x → test x ≡ true
+find_passes test [] x h = cc
+find_passes test (y ∷ ys) x h = elim (found_or (test y) y x (find test ys) h) [
+  | inl here ↦ subst (λ z. test z ≡ true) here.1 here.0
+  | inr later ↦ find_passes test ys x later
+]
+
+-- the whole of a list
+pub take_own : {A : Type 0} (xs : List A) → take (length xs) xs ≡ xs
+take_own xs = take_all (length xs) xs (omega arith)
+
+-- a part of the front list
+pub part-front : {X : Type 0} (xs ys : List X) (a b : ℕ) → a ≤ b → b ≤ length xs → slice_range (xs ++ ys) a b ≡ slice_range xs a b
+part-front xs ys a b l m =
+    ap (take (b - a)) (drop-append-le a xs ys (omega arith)) ∙ take-append-le (b - a) (drop a xs) ys (omega (arith, length-drop a xs))
+
+-- texts that differ
+pub bytes_other : (xs ys : List ℕ) → (xs ≡ ys → ⊥) → bytes_eq xs ys ≡ false
+bytes_other xs ys differ = false_from_ne_true (bytes_eq xs ys) (λ same. differ ((bytes_eq-Decides xs ys).0 same))

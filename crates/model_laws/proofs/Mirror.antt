@@ -2,7 +2,7 @@
 use Rattle.std.proofs.Common.{◌≡◌, ℕ, suc, zero, ◌+◌, ◌-◌, ◌*◌, ◌/◌, ◌%◌, ◌^◌, ◌<◌, ◌≤◌, Bool, true, false, cond, List, set, Option, Some, None, refl, sym, ap, ◌∙◌, subst, inl, inr, arith}
 use Rattle.std.specs.Prelude.{◌⊎◌, nat_lt, slice_index, bytes_eq}
 use Rattle.std.proofs.Math.Nat.{mul_comm}
-use Rattle.std.proofs.lemmas.Bool.{cases_Bool, cases_eq, cond-true, cond-false, ltb-true, lt-ltb, both_ways, false_from_ne_true}
+use Rattle.std.proofs.lemmas.Bool.{cases_Bool, cases_eq, cond-true, cond-false, ltb-true, lt-ltb, both_ways}
 use Rattle.std.proofs.lemmas.List.{set-set, set-get_or, get_or-set_same}
 use Rattle.std.proofs.lemmas.Nat.{div-add-mod', mul-add-lt, div-mul-add, mod-mul-add, div_below, mod_below}
 use Rattle.std.proofs.lemmas.Slice.Eq.{bytes_eq-Decides}
@@ -13,6 +13,8 @@ use Rattle.audit_model.specs.Step.{changed, next, ways, turned_back, mirrored}
 use Rattle.audit_model.specs.Trajectory.{visit}
 use Rattle.model_laws.proofs.Below.{count_below_into}
 use Rattle.model_laws.proofs.Legal.{legal_passes, passes_legal}
+use Rattle.model_laws.proofs.Numbers.{place_below}
+use Rattle.model_laws.proofs.Lists.{bytes_other}
 
 -- ---- numbers: a draw of a block, and another of the same block
 
@@ -24,11 +26,6 @@ block draw size = omega (arith, div-add-mod' draw size)
 same_block_below : (draw size blocks place : ℕ) → 0 < size → draw < blocks * size → place < size → draw / size * size + place < blocks * size
 same_block_below draw size blocks place pos l p =
     subst (λ m. draw / size * size + place < m) (mul_comm size blocks) (mul-add-lt (draw / size) size place blocks (div_below draw size blocks pos l) p)
-
--- the place of a unit and a district
-place_below : (unit district units districts : ℕ) → unit < units → district < districts → unit * districts + district < units * districts
-place_below unit district units districts u d =
-    subst (λ m. unit * districts + district < m) (mul_comm districts units) (mul-add-lt unit districts district units u d)
 
 -- ---- what a draw proposes
 
@@ -180,25 +177,22 @@ module _ (job : Job) (plan : List ℕ) (draw : ℕ) (legal : IsLegal job plan) (
       ∙ ap (λ r. draw / size job * size job + r) (div-add-mod' (draw % size job) job.districts)
       ∙ div-add-mod' draw (size job)
 
+pub mirrored_stays : (job : Job) (plan : List ℕ) (draw : ℕ) → next job plan draw ≡ plan → mirrored job plan draw ≡ draw
+unfolding mirrored
+mirrored_stays job plan draw same = cond-true _ _ _ ((bytes_eq-Decides (next job plan draw) plan).1 same)
+
 mirrored_moves : (job : Job) (plan : List ℕ) (draw : ℕ) → bytes_eq (next job plan draw) plan ≡ false
     → mirrored job plan draw ≡ turned_back job.graph.units job.districts plan draw (proposal job.graph.units job.districts draw)
 unfolding mirrored
 mirrored_moves job plan draw changes = cond-false _ _ _ changes
 
 module _ (job : Job) (plan : List ℕ) (draw : ℕ) (legal : IsLegal job plan) where
-  mirrored_stays : next job plan draw ≡ plan → mirrored job plan draw ≡ draw
-  unfolding mirrored
-  mirrored_stays same = cond-true _ _ _ ((bytes_eq-Decides (next job plan draw) plan).1 same)
-
-  unequal : (xs ys : List ℕ) → (xs ≡ ys → ⊥) → bytes_eq xs ys ≡ false
-  unequal xs ys differ = false_from_ne_true (bytes_eq xs ys) (λ same. differ ((bytes_eq-Decides xs ys).0 same))
-
   -- the mirrored draw leads back
   pub next-mirrored : next job (next job plan draw) (mirrored job plan draw) ≡ plan
   next-mirrored = elim (cases_Bool (bytes_eq (next job plan draw) plan)) [
     | inl stays ↦
         let same : next job plan draw ≡ plan = (bytes_eq-Decides (next job plan draw) plan).0 stays in
-        ap (λ w. next job (next job plan draw) w) (mirrored_stays same) ∙ ap (λ p. next job p draw) same ∙ same
+        ap (λ w. next job (next job plan draw) w) (mirrored_stays job plan draw same) ∙ ap (λ p. next job p draw) same ∙ same
     | inr changes ↦ elim (cases_next job plan draw) [
       | inl same ↦ absurd (both_ways (bytes_eq (next job plan draw) plan) changes ((bytes_eq-Decides (next job plan draw) plan).1 same))
       | inr move ↦
@@ -214,7 +208,7 @@ module _ (job : Job) (plan : List ℕ) (draw : ℕ) (legal : IsLegal job plan) w
   mirrored-mirrored = elim (cases_Bool (bytes_eq (next job plan draw) plan)) [
     | inl stays ↦
         let same : next job plan draw ≡ plan = (bytes_eq-Decides (next job plan draw) plan).0 stays in
-        ap (λ w. mirrored job (next job plan draw) w) (mirrored_stays same) ∙ ap (λ p. mirrored job p draw) same ∙ mirrored_stays same
+        ap (λ w. mirrored job (next job plan draw) w) (mirrored_stays job plan draw same) ∙ ap (λ p. mirrored job p draw) same ∙ mirrored_stays job plan draw same
     | inr changes ↦ elim (cases_next job plan draw) [
       | inl same ↦ absurd (both_ways (bytes_eq (next job plan draw) plan) changes ((bytes_eq-Decides (next job plan draw) plan).1 same))
       | inr move ↦
@@ -223,7 +217,7 @@ module _ (job : Job) (plan : List ℕ) (draw : ℕ) (legal : IsLegal job plan) w
           let w_is : w ≡ back job plan draw legal move = mirrored_is_back job plan draw legal move changes in
           let leads : next job after w ≡ plan = next-mirrored in
           let differs : plan ≡ after → ⊥ = λ e. both_ways (bytes_eq after plan) changes ((bytes_eq-Decides after plan).1 (sym e)) in
-          let changes_back : bytes_eq (next job after w) after ≡ false = unequal (next job after w) after (λ e. differs (sym leads ∙ e)) in
+          let changes_back : bytes_eq (next job after w) after ≡ false = bytes_other (next job after w) after (λ e. differs (sym leads ∙ e)) in
           mirrored_moves job after w changes_back
           ∙ ap (λ v. turned_back job.graph.units job.districts after v (proposal job.graph.units job.districts v)) w_is
           ∙ ap (λ o. turned_back job.graph.units job.districts after (back job plan draw legal move) o)
@@ -240,7 +234,7 @@ module _ (job : Job) (plan : List ℕ) (draw : ℕ) (legal : IsLegal job plan) w
   pub mirrored_block : mirrored job plan draw / (job.graph.units * job.districts) ≡ draw / (job.graph.units * job.districts)
   unfolding size
   mirrored_block = elim (cases_Bool (bytes_eq (next job plan draw) plan)) [
-    | inl stays ↦ ap (λ w. w / size job) (mirrored_stays ((bytes_eq-Decides (next job plan draw) plan).0 stays))
+    | inl stays ↦ ap (λ w. w / size job) (mirrored_stays job plan draw ((bytes_eq-Decides (next job plan draw) plan).0 stays))
     | inr changes ↦ elim (cases_next job plan draw) [
       | inl same ↦ absurd (both_ways (bytes_eq (next job plan draw) plan) changes ((bytes_eq-Decides (next job plan draw) plan).1 same))
       | inr move ↦ ap (λ w. w / size job) (mirrored_is_back job plan draw legal move changes) ∙ back_block job plan draw legal move
@@ -251,7 +245,7 @@ module _ (job : Job) (plan : List ℕ) (draw : ℕ) (legal : IsLegal job plan) w
   pub mirrored_below : draw < 2 ^ 64 → mirrored job plan draw < 2 ^ 64
   unfolding size
   mirrored_below l = elim (cases_Bool (bytes_eq (next job plan draw) plan)) [
-    | inl stays ↦ subst (λ w. w < 2 ^ 64) (sym (mirrored_stays ((bytes_eq-Decides (next job plan draw) plan).0 stays))) l
+    | inl stays ↦ subst (λ w. w < 2 ^ 64) (sym (mirrored_stays job plan draw ((bytes_eq-Decides (next job plan draw) plan).0 stays))) l
     | inr changes ↦ elim (cases_next job plan draw) [
       | inl same ↦ absurd (both_ways (bytes_eq (next job plan draw) plan) changes ((bytes_eq-Decides (next job plan draw) plan).1 same))
       | inr move ↦ subst (λ w. w < 2 ^ 64) (sym (mirrored_is_back job plan draw legal move changes))

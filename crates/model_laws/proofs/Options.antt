@@ -1,7 +1,8 @@
 -- Options that are none, and the first of two.
-use Rattle.std.proofs.Common.{◌≡◌, Some, None, Option, refl, Bool, true, false, cond, ℕ}
-use Rattle.std.specs.Option.{option_or}
+use Rattle.std.proofs.Common.{◌≡◌, Some, None, Option, refl, Bool, true, false, cond, ℕ, sym}
+use Rattle.std.specs.Option.{option_or, is_some}
 use Rattle.std.specs.Prelude.{option_map}
+use Rattle.std.proofs.lemmas.Bool.{false≢true}
 
 pub some_is_not_none : {A : Type 0} (x : A) → Some x ≡ None → ⊥
 some_is_not_none x h = cc
@@ -33,3 +34,11 @@ or_of_none (Some x) b h k = absurd (some_is_not_none x h)
 pub or_nothing : (x : Option ℕ) → option_or x None ≡ x
 or_nothing None = refl
 or_nothing (Some a) = refl
+
+pub none_from : {A : Type 0} (o : Option A) → is_some o ≡ false → o ≡ None
+none_from None h = refl
+none_from (Some x) h = absurd (false≢true (sym h))
+
+pub some_from : {A : Type 0} (o : Option A) → is_some o ≡ true → (x : A) × (o ≡ Some x)
+some_from None h = absurd (false≢true h)
+some_from (Some x) h = (x, refl)

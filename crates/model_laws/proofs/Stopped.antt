@@ -1,14 +1,17 @@
 -- What values up to a stop settle, no values after them change.
-use Rattle.std.proofs.Common.{◌≡◌, ℕ, zero, suc, ◌+◌, ◌<◌, ◌≤◌, Bool, true, false, cond, List, [], ◌∷◌, ◌++◌, length, take, Option, Some, None, refl, sym, ap, ◌∙◌, subst, inl, inr, arith}
+use Rattle.std.proofs.Common.{◌≡◌, ℕ, zero, suc, ◌+◌, ◌<◌, ◌≤◌, Bool, true, false, cond, List, [], ◌∷◌, ◌++◌, length, take, Option, Some, None, refl, sym, ap, ◌∙◌, subst, inl, inr, arith, length-append}
 use Rattle.std.specs.Prelude.{◌==◌, count_by, sum_by, ℤ}
 use Rattle.std.specs.Option.{option_or}
 use Rattle.std.proofs.lemmas.Bool.{cases_lt, cond-true, eq-eqb}
 use Rattle.std.proofs.lemmas.List.Sums.{sum_by-cons}
+use Rattle.std.proofs.lemmas.List.{take-append-le}
+use Rattle.std.proofs.lemmas.Option.{none-some}
 use Rattle.audit_model.specs.declared.setting.Tail.{Tail}
 use Rattle.audit_model.specs.First.{first_below}
 use Rattle.audit_model.specs.Stopping.{count_in_tail, stop, stopped_at}
 use Rattle.audit_model.specs.Trajectory.{in_tail}
 use Rattle.model_laws.proofs.First.{first_below_same}
+use Rattle.model_laws.proofs.Lists.{take_own}
 
 -- ---- the first of several
 
@@ -19,15 +22,12 @@ first_below_more n (suc more) test k h =
     let e : suc (more + n) ≡ suc more + n = omega arith in
     subst (λ m. first_below m test ≡ Some k) e (ap (λ o. option_or o (cond (test (more + n)) (Some (more + n)) None)) (first_below_more n more test k h))
 
-none_is_not_some : (j : ℕ) → None ≡ Some j → ⊥
-none_is_not_some j e = cc
-
 -- by what is found below a bound, with one number more that passes or not
 one_more : (n k : ℕ) (test : ℕ → Bool) (o : Option ℕ) → first_below n test ≡ o → k < suc n → test k ≡ true
     → (k < n → (j : ℕ) × (first_below n test ≡ Some j)) → (j : ℕ) × (first_below (suc n) test ≡ Some j)
 one_more n k test (Some j) e l h before = (j, ap (λ o. option_or o (cond (test n) (Some n) None)) e)
 one_more n k test None e l h before = elim (cases_lt k n) [
-  | inl less ↦ let found = before less in absurd (none_is_not_some found.0 (sym e ∙ found.1))
+  | inl less ↦ let found = before less in absurd (none-some found.0 (sym e ∙ found.1))
   | inr past ↦
       let at : k ≡ n = omega (arith, past, l) in
       (n, ap (λ o. option_or o (cond (test n) (Some n) None)) e ∙ cond-true (test n) (Some n) None (subst (λ m. test m ≡ true) at h))
@@ -70,19 +70,6 @@ module _ (p : ℤ → Bool) where
     | inr few ↦ (suc n, omega arith, omega (arith, h, few))
   ]
 
-take_front : (xs ys : List ℤ) (n : ℕ) → n ≤ length xs → take n (xs ++ ys) ≡ take n xs
-take_front xs ys zero l = refl
-take_front [] ys (suc n) l = absurd (omega arith)
-take_front (x ∷ xs) ys (suc n) l = ap (λ rest. x ∷ rest) (take_front xs ys n (omega arith))
-
-take_whole : (xs : List ℤ) → take (length xs) xs ≡ xs
-take_whole [] = refl
-take_whole (x ∷ xs) = ap (λ rest. x ∷ rest) (take_whole xs)
-
-length_both : (xs ys : List ℤ) → length (xs ++ ys) ≡ length xs + length ys
-length_both [] ys = omega arith
-length_both (x ∷ xs) ys = let rest = length_both xs ys in omega (arith, rest)
-
 module _ (tail : Tail) (start : ℤ) (values later : List ℤ) (enough : ℕ) (h : enough ≤ count_in_tail tail start values) where
   inside : ℤ → Bool
   inside v = in_tail tail v start
@@ -97,17 +84,17 @@ module _ (tail : Tail) (start : ℤ) (values later : List ℤ) (enough : ℕ) (h
   unfolding front_test
   front_found =
       let at = reaches (λ v. in_tail tail v start) values enough (length values)
-      (subst (λ xs. enough ≤ count_by (λ v. in_tail tail v start) xs) (sym (take_whole values)) h) in
+      (subst (λ xs. enough ≤ count_by (λ v. in_tail tail v start) xs) (sym (take_own values)) h) in
       first_below_some (length values + 1) front_test at.0 (omega (arith, at.1))
       (eq-eqb (count_in_tail tail start (take at.0 values)) enough at.2)
 
   same : (n : ℕ) → n < length values + 1 → whole_test n ≡ front_test n
   unfolding front_test whole_test
-  same n l = ap (λ xs. count_in_tail tail start xs == enough) (take_front values later n (omega arith))
+  same n l = ap (λ xs. count_in_tail tail start xs == enough) (take-append-le n values later (omega arith))
 
   whole_found : first_below (length (values ++ later) + 1) whole_test ≡ Some front_found.0
   whole_found =
-      let longer = length_both values later in
+      let longer = length-append values later in
       let at : length later + (length values + 1) ≡ length (values ++ later) + 1 = omega (arith, longer) in
       subst (λ m. first_below m whole_test ≡ Some front_found.0) at
       (first_below_more (length values + 1) (length later) whole_test front_found.0

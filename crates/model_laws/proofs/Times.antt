@@ -1,5 +1,5 @@
 -- Sums over a list when one element changes, and lists with the same counts.
-use Rattle.std.proofs.Common.{◌≡◌, ℕ, zero, suc, ◌+◌, ◌<◌, ◌≤◌, ◌==◌, min, Bool, cond, List, [], ◌∷◌, ◌++◌, set, sym, refl, ap, ◌∙◌, subst, ⊎_elim, length, length-append, arith}
+use Rattle.std.proofs.Common.{◌≡◌, ℕ, zero, suc, ◌+◌, ◌<◌, ◌≤◌, ◌==◌, min, Bool, cond, List, [], ◌∷◌, ◌++◌, set, sym, refl, ap, ◌∙◌, subst, ⊎_elim, length, length-append, arith, All, map}
 use mathlib.Core.Logic.{dite}
 use native.Mathlib.Decide.{ℕ_discrete}
 use mathlib.Core.Option.{some, some-injective, some-ne-none}
@@ -133,3 +133,9 @@ one_more_id ids others o within none some_there i = dite (ℕ_discrete i o)
 
 pub below_from_once : (x n : ℕ) → 0 < once_below x n → x < n
 below_from_once x n some_below = grind arith
+
+-- what holds of what a function gives of each number of a list
+pub all_mapped : {A : Type 0} (P : A → Type 0) (f : ℕ → A) (ids : List ℕ) → ((id : ℕ) → 0 < times id ids → P (f id)) → All P (map f ids)
+all_mapped P f [] each k d inside = absurd (omega arith)
+all_mapped P f (x ∷ ids) each zero d inside = each x (omega (arith, times-cons x x ids, one_same x))
+all_mapped P f (x ∷ ids) each (suc k) d inside = all_mapped P f ids (λ id some_here. each id (omega (arith, some_here, times-cons id x ids))) k d (omega arith)

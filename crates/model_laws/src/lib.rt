@@ -2,3 +2,7 @@
 #![tactic(auto)]
 
 pub mod laws;
+
+pub use laws::{
+    bare_outcomes_have_no_bins, honest_runs_go_on_rightly, visits_stay_legal, ways_are_symmetric,
+};

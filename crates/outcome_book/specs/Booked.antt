@@ -2,6 +2,7 @@
 use Rattle.std.specs.Prelude.{◌≡◌, ℕ, zero, suc, ◌<◌, ◌≤◌, ◌==◌, List, [], ◌++◌, length, sum, Option, option_to_list, find}
 use Rattle.std.specs.List.{All, AllPairs}
 use Rattle.audit_model.specs.declared.outcome.Outcome.{Outcome}
+use Rattle.audit_model.specs.Limits.{most_trajectories}
 
 -- how many ids there are, and the outcomes in the order of posting
 pub record Booked : Type 0 where
@@ -18,7 +19,7 @@ HasFewVisits o = sum o.bins ≤ 1000000001
 
 -- the ids of the outcomes differ and are below the total, so there are no more outcomes than ids
 pub record IsBook (b : Booked) : Type 0 where
-  pub small : b.total ≤ 100000
+  pub small : b.total ≤ most_trajectories
   pub apart : AreApart b.outcomes
   pub below : All (λ o. o.id < b.total) b.outcomes
   pub few : length b.outcomes ≤ b.total

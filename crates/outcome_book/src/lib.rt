@@ -3,3 +3,6 @@
 
 pub mod book;
 pub mod laws;
+
+pub use book::Book;
+pub use laws::{outcomes_by_id_are_mapped, outcomes_have_few_visits};

@@ -24,7 +24,7 @@ use Rattle.model_laws.proofs.Bools.{same_bool}
 use Rattle.model_laws.proofs.Options.{none_or, option_or_none, cond_some_none, some_is_not_none, option_map_none}
 use Rattle.model_laws.proofs.First.{first_below_here, first_below_none, none_first_below}
 use Rattle.plan_core.specs.Input.{with_start, shape_fault}
-use Rattle.plan_core.specs.Parting.{least_in, parted_in, parting_of}
+use Rattle.plain_search.specs.Parting.{least_in, parted_in, parting_of}
 
 -- ---- the refusal of a parted district
 

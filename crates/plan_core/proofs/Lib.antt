@@ -1,6 +1,5 @@
 pub mod Bounded
 pub mod Judged
-pub mod Parted
 pub mod Splitting
 pub mod Voted
 pub mod Started

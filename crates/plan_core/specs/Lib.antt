@@ -1,5 +1,4 @@
 pub mod Input
 pub mod Outside
-pub mod Parting
 pub mod Splits
 pub mod Valued

@@ -3,6 +3,7 @@
 ghost use Rattle.std.specs.Prelude.{◌≡◌, ◌+◌, ◌-◌, ◌*◌, ◌/◌, ◌^◌, ◌<◌, ◌≤◌, length};
 ghost use Rattle.audit_model.specs.Rounded.{quotient_up};
 ghost use Rattle.plan_core.specs.Outside.{first_outside};
+ghost use Rattle.audit_model.specs.Limits.{most_districts};
 
 use audit_model::fault::PlanFault;
 
@@ -10,7 +11,7 @@ use audit_model::fault::PlanFault;
 pub fn limits_of(total: u64, slack: u32, districts: u32) -> (u64, u64)
     requires total { total ≤ 10 ^ 14 }
     requires slack { slack ≤ 10000 }
-    requires districts { (0 < districts) × (districts ≤ 200) }
+    requires districts { (0 < districts) × (districts ≤ most_districts) }
     ensures low { result.0 ≡ quotient_up ((10000 - slack) * total) (10000 * districts) }
     ensures high { result.1 ≡ (10000 + slack) * total / (10000 * districts) }
 {

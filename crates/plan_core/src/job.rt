@@ -90,10 +90,9 @@ impl Job {
         ensures sound { IfOk result (λ job. IsJob job) }
     {
         let input = Input::new(parsed, setting, regions);
-        match input.plan_fault(alloc) {
-            Err(_) => Err(PlanFault::Memory),
-            Ok(Some(fault)) => Err(fault),
-            Ok(None) => Job::with_values(alloc, input),
+        match input.plan_fault(alloc)? {
+            Some(fault) => Err(fault),
+            None => Job::with_values(alloc, input),
         }
     }
 
@@ -117,13 +116,10 @@ impl Job {
             (λ fault. (fault ≡ plan.Memory) ⊎ (job_with self.now start labels ≡ Err fault)) }
         ensures sound { IfOk result (λ job. IsJob job) }
     {
-        let Ok(input) = self.input.restarted(start, labels.len() as u32) else {
-            return Err(PlanFault::Memory);
-        };
-        match input.plan_fault(alloc) {
-            Err(_) => Err(PlanFault::Memory),
-            Ok(Some(fault)) => Err(fault),
-            Ok(None) => Job::with_values(alloc, input),
+        let input = self.input.restarted(start, labels.len() as u32)?;
+        match input.plan_fault(alloc)? {
+            Some(fault) => Err(fault),
+            None => Job::with_values(alloc, input),
         }
     }
 
@@ -132,10 +128,8 @@ impl Job {
         requires { IsJob input }
         ensures { MatchResult result (λ job. job ≡ input) (λ fault. fault ≡ plan.Memory) }
     {
-        match start_values(alloc, &input) {
-            Err(_) => Err(PlanFault::Memory),
-            Ok(values) => Ok(Job { input, values }),
-        }
+        let values = start_values(alloc, &input)?;
+        Ok(Job { input, values })
     }
 
     /// The least and the greatest population of a district that is within the bounds. Where none is, the

@@ -8,3 +8,5 @@ mod search;
 mod splits;
 mod sums;
 mod values;
+
+pub use job::Job;

@@ -5,12 +5,13 @@ ghost use Rattle.std.specs.List.{slice_index_or};
 ghost use Rattle.audit_model.specs.Below.{above_all, count_below};
 ghost use Rattle.audit_model.specs.Meets.{lies_in, split_of};
 ghost use Rattle.plan_core.specs.Splits.{first_split};
+ghost use Rattle.audit_model.specs.Limits.{most_regions, most_districts};
 
 use audit_model::fault::PlanFault;
 
 /// One more than the greatest number, and 0 where there is none.
 fn above_all(numbers: &[u32]) -> u32
-    requires { All (λ n. n < 5000) numbers.now }
+    requires { All (λ n. n < most_regions) numbers.now }
     ensures { result ≡ above_all numbers.now }
 {
     let mut above = 0;
@@ -25,8 +26,8 @@ fn above_all(numbers: &[u32]) -> u32
 /// Whether some unit of a region is in each district.
 fn districts_of(regions: &[u32], plan: &[u32], region: u32) -> [bool; 200]
     requires lengths { length regions.now ≤ length plan.now }
-    requires districts { (u : ℕ) → u < length plan.now → slice_index plan.now u < 200 }
-    ensures { (d : ℕ) → d < 200 → slice_index_or result d false ≡ lies_in regions.now plan.now region d }
+    requires districts { (u : ℕ) → u < length plan.now → slice_index plan.now u < most_districts }
+    ensures { (d : ℕ) → d < most_districts → slice_index_or result d false ≡ lies_in regions.now plan.now region d }
 {
     let mut seen = [false; 200];
     for unit in 0..regions.len() {
@@ -38,7 +39,7 @@ fn districts_of(regions: &[u32], plan: &[u32], region: u32) -> [bool; 200]
 
 /// How many of the places are marked.
 fn count_marked(seen: &[bool; 200]) -> u32
-    ensures { result ≡ count_below 200 (λ d. slice_index_or seen.now d false) }
+    ensures { result ≡ count_below most_districts (λ d. slice_index_or seen.now d false) }
 {
     let mut count = 0;
     for place in 0..200usize {
@@ -52,7 +53,7 @@ fn count_marked(seen: &[bool; 200]) -> u32
 /// How many different districts a plan gives to the units of a region.
 fn split_of(regions: &[u32], plan: &[u32], region: u32) -> u32
     requires lengths { length regions.now ≤ length plan.now }
-    requires districts { (u : ℕ) → u < length plan.now → slice_index plan.now u < 200 }
+    requires districts { (u : ℕ) → u < length plan.now → slice_index plan.now u < most_districts }
     ensures { result ≡ split_of regions.now plan.now region }
 {
     count_marked(&districts_of(regions, plan, region))
@@ -61,8 +62,8 @@ fn split_of(regions: &[u32], plan: &[u32], region: u32) -> u32
 /// The refusal of the least region that is split among too many districts.
 pub fn first_split(regions: &[u32], plan: &[u32], most: u32) -> Option<PlanFault>
     requires lengths { length regions.now ≤ length plan.now }
-    requires few { All (λ r. r < 5000) regions.now }
-    requires districts { (u : ℕ) → u < length plan.now → slice_index plan.now u < 200 }
+    requires few { All (λ r. r < most_regions) regions.now }
+    requires districts { (u : ℕ) → u < length plan.now → slice_index plan.now u < most_districts }
     ensures { result ≡ first_split regions.now plan.now most }
 {
     for region in 0..above_all(regions) {

@@ -7,6 +7,7 @@ ghost use Rattle.audit_model.specs.JobOf.{IsJob};
 ghost use Rattle.audit_model.specs.Score.{sums_of};
 ghost use Rattle.audit_model.specs.Trajectory.{plan_value};
 ghost use Rattle.plan_core.specs.Valued.{value_of, start_values};
+ghost use Rattle.audit_model.specs.Limits.{most_districts};
 
 use crate::input::Input;
 use audit_model::memory::Memory;
@@ -20,7 +21,7 @@ use std::alloc::Global;
 fn scored(input: &Input, sums: &SumsView, score: Score, room: &mut [u64]) -> i64
     requires sound { IsJob input.now }
     requires sums { sums.now ≡ sums_of input.now.graph input.now.counts input.now.districts input.now.start }
-    requires room { length room.old ≡ 200 }
+    requires room { length room.old ≡ most_districts }
     ensures { result ≡ plan_value input.now input.now.start score }
 {
     value(score, sums, room)
@@ -31,7 +32,7 @@ fn scored(input: &Input, sums: &SumsView, score: Score, room: &mut [u64]) -> i64
 fn value_at(input: &Input, sums: &SumsView, asks: &[Ask], place: usize, room: &mut [u64]) -> i64
     requires sound { IsJob input.now }
     requires sums { sums.now ≡ sums_of input.now.graph input.now.counts input.now.districts input.now.start }
-    requires room { length room.old ≡ 200 }
+    requires room { length room.old ≡ most_districts }
     ensures { result ≡ value_of input.now (slice_get asks.now place) }
 {
     match asks.get(place) {

@@ -11,9 +11,8 @@ use Rattle.audit_model.specs.declared.plans.Assigned.{Assigned}
 use Rattle.audit_model.specs.declared.setting.Label.{Label}
 use Rattle.audit_model.specs.Below.{map_below}
 use Rattle.audit_model.specs.First.{first_below}
-use Rattle.model_laws.proofs.Below.{map_below_same}
+use Rattle.model_laws.proofs.Below.{map_below_same, map_below_more}
 use Rattle.model_laws.proofs.First.{first_below_more, first_below_found}
-use Rattle.dual_json.proofs.Listed.{map_below_more}
 use Rattle.table_definitions.specs.Table.{accepted_or, assigned, district_in, entry_of, is_miscounted, label_count, of_rows, plan_count, refused_count, table_reading}
 use Rattle.plan_csv.specs.Fit.{IsPlanOf}
 use Rattle.plan_csv.specs.Stages.{assigned_by, refused, AreRecords}

@@ -1,9 +1,10 @@
 -- What the units of the records say of the records themselves.
-use Rattle.std.proofs.Common.{◌≡◌, ◌<◌, ℕ, suc, List, [], length, bytes_eq, not, Option, Some, None, Bool, sym, ap, ◌∙◌, inl, inr, arith, eq-eqb}
+use Rattle.std.proofs.Common.{◌≡◌, ◌<◌, ℕ, suc, List, [], length, bytes_eq, not, Option, Some, None, sym, ap, ◌∙◌, inl, inr, arith, eq-eqb}
 use Rattle.std.specs.List.{slice_index_or}
 use Rattle.std.specs.Option.{option_map, unwrap_or, is_none}
 use Rattle.std.specs.Cmp.Lexicographic.{bytes_decides}
 use Rattle.std.proofs.lemmas.Bool.{cases_lt, eqb-true, eqb-false, both_ways, true_from_ne_false}
+use Rattle.std.proofs.lemmas.Option.{same_Some}
 use Rattle.audit_model.specs.Below.{any_below}
 use Rattle.audit_model.specs.First.{first_below}
 use Rattle.audit_model.specs.declared.fault.TableFault.TheVariants as fault
@@ -11,19 +12,12 @@ use Rattle.audit_model.specs.declared.setting.Label.{Label}
 use Rattle.model_laws.proofs.Bools.{same_bool}
 use Rattle.model_laws.proofs.Options.{option_map_none}
 use Rattle.model_laws.proofs.Below.{any_below_from}
-use Rattle.model_laws.proofs.First.{first_below_same, any_below_same, any_from_none, none_passes, first_passes, any_from_some}
+use Rattle.model_laws.proofs.First.{first_below_same, any_below_same, none_passes, first_passes, none_or_any}
 use Rattle.table_definitions.specs.Table.{unit_text, names_unit, is_shared, shared_id, repeated_unit, missing_unit, entry_of}
 use Rattle.plan_csv.specs.Stages.{AreUnits, ArePlaces, AreThere, is_of, repeated, unnamed}
 
 abbrev id_at : List (List (List ℕ)) → ℕ → List ℕ
 id_at rows e = slice_index_or (slice_index_or rows e []) 0 []
-
-none_or_any : (n : ℕ) (t : ℕ → Bool) (x : Option ℕ) → first_below n t ≡ x → not (any_below n t) ≡ is_none x
-none_or_any n t None e = ap not (any_from_none n t e)
-none_or_any n t (Some a) e = ap not (any_from_some n t a e)
-
-some_is : (a b : ℕ) → Some a ≡ Some b → a ≡ b
-some_is a b e = cc e
 
 module _ (ids : List Label) (rows : List (List (List ℕ))) (units : List ℕ) (are : AreUnits ids rows units) where
   module _ (e : ℕ) (l : e < length rows) where
@@ -45,7 +39,7 @@ module _ (ids : List Label) (rows : List (List (List ℕ))) (units : List ℕ) (
       (λ same.
       let text = (bytes_decides (id_at rows b) (id_at rows e)).0 same in
       eq-eqb (slice_index_or units b 0) (slice_index_or units e 0)
-      (some_is (slice_index_or units b 0) (slice_index_or units e 0)
+      (same_Some (slice_index_or units b 0) (slice_index_or units e 0)
       (sym (are.each b lb) ∙ ap (λ t. first_below (length ids) (λ u. bytes_eq t (unit_text ids [] [] u))) text ∙ are.each e le)))
       (λ same.
       let unit = eqb-true (slice_index_or units b 0) (slice_index_or units e 0) same in

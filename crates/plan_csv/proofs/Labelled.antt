@@ -14,11 +14,12 @@ use Rattle.audit_model.specs.First.{first_below}
 use Rattle.audit_model.specs.Label.{same_label, label_before}
 use Rattle.model_laws.proofs.Below.{count_below_same, length-map_below, get_or-map_below, map_below_same}
 use Rattle.model_laws.proofs.First.{any_below_same, none_passes, first_passes}
+use Rattle.model_laws.proofs.Labels.{same_equal, equal_same}
 use Rattle.dual_json.specs.Districts.{AreDifferent, AreDistricts, is_new}
 use Rattle.dual_json.specs.Names.{label_from}
 use Rattle.dual_json.specs.Places.{nth, labels_from}
 use Rattle.dual_json.specs.declared.names.Name.{Name}
-use Rattle.dual_json.proofs.Counted.{same_equal, equal_same, label_count_is, district_is, labels_are}
+use Rattle.dual_json.proofs.Counted.{label_count_is, district_is, labels_are}
 use Rattle.dual_json.proofs.Named.{nth_get, nth-push_same, nth-push_other}
 use Rattle.dual_json.proofs.Started.{started_all}
 use Rattle.table_definitions.specs.Table.{plan_name, is_new_label, label_count, label_in, label_of_district, district_in}

@@ -1,6 +1,5 @@
 mod Assembled
 mod Bridge
-mod Chosen
 mod Early
 mod Heads
 mod Indexed

@@ -2,11 +2,11 @@
 use Rattle.std.proofs.Common.{◌≡◌, ◌<◌, ◌+◌, ◌++◌, ℕ, zero, suc, List, [], ◌∷◌, length, Option, Some, None, true, false, refl, sym, ap, ◌∙◌, subst, inl, inr, arith, length-append, eq-eqb, get_or-set_other, get_or-set_same, length-set}
 use Rattle.std.specs.List.{slice_index_or, slice_set}
 use Rattle.std.specs.Option.{option_map, option_or, is_none, is_some}
-use Rattle.std.proofs.lemmas.Bool.{cases_eq, cond-false, ne_eqb, false≢true}
+use Rattle.std.proofs.lemmas.Bool.{cases_eq, cond-false, ne_eqb}
 use Rattle.audit_model.specs.Below.{any_below}
 use Rattle.audit_model.specs.First.{first_below}
 use Rattle.audit_model.specs.declared.fault.TableFault.TheVariants as fault
-use Rattle.model_laws.proofs.Options.{or_nothing}
+use Rattle.model_laws.proofs.Options.{or_nothing, none_from, some_from}
 use Rattle.model_laws.proofs.First.{first_below_more, first_below_found, any_from_none, any_from_some}
 use Rattle.plan_csv.specs.Stages.{is_of, repeated, unnamed, ArePlaces, AreThere}
 use Rattle.plan_csv.proofs.Pushed.{push_same, push_other}
@@ -15,14 +15,6 @@ pub record IsPlaced (units : List ℕ) (count j : ℕ) (places : List (Option �
   pub size : length places ≡ count
   pub none : first_below j (λ e. any_below e (is_of units (slice_index_or units e 0))) ≡ None
   pub each : (u : ℕ) → u < count → slice_index_or places u None ≡ first_below j (is_of units u)
-
-there : (x : Option ℕ) → is_some x ≡ true → (a : ℕ) × (x ≡ Some a)
-there None e = absurd (false≢true e)
-there (Some a) e = (a, refl)
-
-absent : (x : Option ℕ) → is_some x ≡ false → x ≡ None
-absent None e = refl
-absent (Some a) e = absurd (false≢true (sym e))
 
 pub blank_more : (xs : List (Option ℕ)) → ((u : ℕ) → slice_index_or xs u None ≡ None) → (u : ℕ) → slice_index_or (xs ++ None ∷ []) u None ≡ None
 blank_more [] h zero = refl
@@ -36,7 +28,7 @@ placed_none units count places size blank = record { size = size; none = refl; e
 module _ (units : List ℕ) (count j : ℕ) (places : List (Option ℕ)) (before : IsPlaced units count j places) (unit : ℕ) (at : slice_index_or units j 0 ≡ unit) (under : unit < count) where
   pub again_here : j < length units → is_some (slice_index_or places unit None) ≡ true → repeated units ≡ Some (fault.Twice (suc j))
   again_here l is =
-      let found = there (slice_index_or places unit None) is in
+      let found = some_from (slice_index_or places unit None) is in
       let first : first_below j (is_of units unit) ≡ Some found.0 = sym (before.each unit under) ∙ found.1 in
       ap (option_map (λ e. fault.Twice (suc e)))
       (first_below_found (length units) j (λ e. any_below e (is_of units (slice_index_or units e 0))) l before.none
@@ -44,7 +36,7 @@ module _ (units : List ℕ) (count j : ℕ) (places : List (Option ℕ)) (before
 
   pub placed_more : (new : List (Option ℕ)) → is_some (slice_index_or places unit None) ≡ false → new ≡ slice_set places unit (Some j) → IsPlaced units count (j + 1) new
   placed_more new is made =
-      let nothing : first_below j (is_of units unit) ≡ None = sym (before.each unit under) ∙ absent (slice_index_or places unit None) is in
+      let nothing : first_below j (is_of units unit) ≡ None = sym (before.each unit under) ∙ none_from (slice_index_or places unit None) is in
       let next : suc j ≡ j + 1 = omega arith in
       let inside : unit < length places = omega (arith, under, before.size) in
       record {

@@ -1,6 +1,7 @@
 -- A list with one more item.
 use Rattle.std.proofs.Common.{◌≡◌, ◌<◌, ◌≤◌, ◌-◌, ◌++◌, ◌∙◌, ℕ, zero, suc, List, [], ◌∷◌, length, map, take, drop, refl, sym, ap, arith, get_or}
 use Rattle.std.specs.List.{slice_index_or}
+use Rattle.model_laws.proofs.Lists.{take_own}
 use Rattle.csv.specs.Records.{Row, fields_of}
 
 pub push_same : {A : Type 0} → (xs : List A) (x d : A) → slice_index_or (xs ++ x ∷ []) (length xs) d ≡ x
@@ -21,10 +22,6 @@ pub item_is : {A : Type 0} → (xs : List A) (k : ℕ) (x d : A) → k < length 
 item_is [] k x d l is = absurd (omega arith)
 item_is (y ∷ xs) zero x d l is = sym is
 item_is (y ∷ xs) (suc k) x d l is = item_is xs k x d (omega arith) is
-
-take_own : (xs : List Row) → take (length xs) xs ≡ xs
-take_own [] = refl
-take_own (x ∷ xs) = ap (λ (r : List Row). x ∷ r) (take_own xs)
 
 pub split_first : (xs : List Row) (x : Row) → 1 ≤ length xs → x ≡ get_or xs 0 x → fields_of x ∷ map fields_of (take (length xs - 1) (drop 1 xs)) ≡ map fields_of xs
 split_first [] x l is = absurd (omega arith)

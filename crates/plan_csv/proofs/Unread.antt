@@ -1,9 +1,9 @@
 -- Records that are read as texts, one after another.
-use Rattle.std.proofs.Common.{◌≡◌, ◌≢◌, ◌<◌, ◌+◌, ◌==◌, ◌&&◌, ◌||◌, ◌++◌, ℕ, zero, suc, List, [], ◌∷◌, length, map, not, Some, None, Bool, true, false, refl, sym, ap, ◌∙◌, subst, arith, length-append, append_assoc, eq-eqb}
+use Rattle.std.proofs.Common.{◌≡◌, ◌≢◌, ◌<◌, ◌+◌, ◌==◌, ◌||◌, ◌++◌, ℕ, zero, suc, List, [], ◌∷◌, length, map, not, Some, None, Bool, true, false, refl, sym, ap, ◌∙◌, subst, arith, length-append, append_assoc, eq-eqb}
 use Rattle.std.specs.List.{list_all, slice_index_or}
 use Rattle.std.specs.Option.{option_map}
 use Rattle.std.specs.Str.{is_utf8}
-use Rattle.std.proofs.lemmas.Bool.{eqb-true, and_from}
+use Rattle.std.proofs.lemmas.Bool.{eqb-true, and_from, and_parts}
 use Rattle.std.proofs.lemmas.List.{length-map, map-append, append-nil}
 use Rattle.std.proofs.lemmas.Str.{IsUtf8-from_is_utf8, is_utf8-from_IsUtf8}
 use Rattle.csv.specs.Records.{AllText, Row, fields_of, field_at}
@@ -18,14 +18,6 @@ none_there [] i e = refl
 none_there (f ∷ fs) zero e = cc e
 none_there (f ∷ fs) (suc i) e = none_there fs i e
 
-text_first : (a b : Bool) → (a && b) ≡ true → a ≡ true
-text_first true b e = refl
-text_first false b e = e
-
-text_then : (a b : Bool) → (a && b) ≡ true → b ≡ true
-text_then true b e = e
-text_then false b e = cc e
-
 all_text : (row : List (List ℕ)) → AllText row → list_all is_utf8 row ≡ true
 unfolding AllText
 all_text [] h = refl
@@ -34,7 +26,7 @@ all_text (f ∷ fs) h = and_from (is_utf8 f) (list_all is_utf8 fs) (is_utf8-from
 text_all : (row : List (List ℕ)) → list_all is_utf8 row ≡ true → AllText row
 unfolding AllText
 text_all [] h = tt
-text_all (f ∷ fs) h = (IsUtf8-from_is_utf8 f (text_first (is_utf8 f) (list_all is_utf8 fs) h), text_all fs (text_then (is_utf8 f) (list_all is_utf8 fs) h))
+text_all (f ∷ fs) h = let parts = and_parts (is_utf8 f) (list_all is_utf8 fs) h in (IsUtf8-from_is_utf8 f parts.0, text_all fs parts.1)
 
 pub readable : (columns : ℕ) (row : List (List ℕ)) → length row ≡ columns → AllText row → is_unread columns row ≡ false
 readable columns row l t = tests (length row == columns) (list_all is_utf8 row) (eq-eqb (length row) columns l) (all_text row t)

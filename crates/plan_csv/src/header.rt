@@ -48,10 +48,10 @@ pub fn plans_of(header: &StringRecord) -> Result<usize, TableFault>
 }
 
 /// Whether a byte is seen.
-fn is_seen(c: u8) -> bool
-    ensures { result ≡ (nat_le 33 c && nat_le c 126) }
+fn is_seen(byte: u8) -> bool
+    ensures { result ≡ (nat_le 33 byte && nat_le byte 126) }
 {
-    c >= 33 && c <= 126
+    byte >= 33 && byte <= 126
 }
 
 /// Whether each byte is seen.

@@ -9,6 +9,7 @@ ghost use Rattle.dual_json.specs.Places.{labels_from};
 ghost use Rattle.table_definitions.specs.Table as table;
 ghost use Rattle.plan_csv.specs.Fit.{IsPlanOf};
 ghost use Rattle.plan_csv.specs.Stages.{assigned_by, AreLabels, IsAssigned};
+ghost use Rattle.audit_model.specs.Limits.{most_districts};
 
 use crate::rows::field;
 use audit_model::fault::TableFault;
@@ -23,7 +24,7 @@ use std::alloc::Global;
 
 /// Whether a plan may not have so many districts.
 pub fn is_miscounted(districts: usize) -> bool
-    ensures { result ≡ (nat_lt districts 2 || nat_lt 200 districts) }
+    ensures { result ≡ (nat_lt districts 2 || nat_lt most_districts districts) }
 {
     districts < 2 || districts > 200
 }
@@ -44,9 +45,7 @@ pub fn plan_of(
         × (table.is_miscounted [] [] (map fields_of entries.now) plan ≡ true))) }
     ensures fit { IfOk result (λ a. IsPlanOf (length records.now) a) }
 {
-    let Ok(names) = names_of(alloc, entries, plan) else {
-        return Err(TableFault::Memory);
-    };
+    let names = names_of(alloc, entries, plan)?;
     let Ok(found) = different(alloc, &names) else {
         return Err(TableFault::Memory);
     };
@@ -57,10 +56,7 @@ pub fn plan_of(
             count: districts as u64,
         });
     }
-    match assigned_of(alloc, field(header, plan + 1), &names, &found, records) {
-        Ok(assigned) => Ok(assigned),
-        Err(_) => Err(TableFault::Memory),
-    }
+    Ok(assigned_of(alloc, field(header, plan + 1), &names, &found, records)?)
 }
 
 /// The label of each record in a plan.
@@ -109,7 +105,7 @@ fn assigned_of(
     records: &[usize],
 ) -> Result<Assigned, Memory>
     requires different { AreDifferent names.now found.now }
-    requires few { length found.now ≤ 200 }
+    requires few { length found.now ≤ most_districts }
     requires under { (u : ℕ) → u < length records.now → slice_index records.now u < length names.now }
     ensures { IfOk result (λ plan. IsAssigned name.now (labels_from names.now) (labels_from found.now) records.now plan) }
 {

@@ -7,6 +7,7 @@ ghost use Rattle.audit_model.specs.declared.fault.TableFault.TheVariants as faul
 ghost use Rattle.table_definitions.specs.Table as table;
 ghost use Rattle.plan_csv.specs.Fit.{IsPlanOf};
 ghost use Rattle.plan_csv.specs.Stages.{assigned_by, later};
+ghost use Rattle.audit_model.specs.Limits.{most_units};
 
 use crate::header::plans_of;
 use crate::labels::plan_of;
@@ -37,14 +38,12 @@ use std::alloc::Global;
 /// - `DistrictCount`: a plan with fewer than 2 or more than 200 different labels.
 /// - `Memory`: there was no memory for the records, or for the plans.
 pub fn read_plans(alloc: Global, bytes: &[u8], ids: &LabelList) -> Result<AssignedList, TableFault>
-    requires { length ids.now ≤ 100000 }
+    requires { length ids.now ≤ most_units }
     ensures read { MatchResult result (λ plans. table.table_reading bytes.now ids.now ≡ Ok plans)
         (λ f. (f ≡ fault.Memory) ⊎ (table.table_reading bytes.now ids.now ≡ Err f)) }
     ensures fit { IfOk result (λ plans. All (IsPlanOf (length ids.now)) plans) }
 {
-    let Ok(rows) = records_of(alloc, bytes) else {
-        return Err(TableFault::Memory);
-    };
+    let rows = records_of(alloc, bytes)?;
     let columns = columns_of(rows.as_slice());
     let texts = texts_of(alloc, rows, columns)?;
     match texts.as_slice() {
@@ -74,11 +73,7 @@ fn labelled(
     for plan in 0..plans {
         match plan_of(alloc, header, entries, records, plan) {
             Err(fault) => return Err(fault),
-            Ok(assigned) => {
-                let Ok(()) = list.push(assigned) else {
-                    return Err(TableFault::Memory);
-                };
-            }
+            Ok(assigned) => list.push(assigned)?,
         }
     }
     Ok(list)
@@ -91,7 +86,7 @@ fn plans_from(
     entries: &[StringRecord],
     ids: &LabelList,
 ) -> Result<AssignedList, TableFault>
-    requires few { length ids.now ≤ 100000 }
+    requires few { length ids.now ≤ most_units }
     requires small { length entries.now < 2 ^ 63 }
     ensures read { MatchResult result
         (λ list. (later ids.now (fields_of header.now) (map fields_of entries.now) ≡ None)

@@ -55,9 +55,7 @@ pub fn texts_of(
         let Ok(text) = StringRecord::from_byte_record(row) else {
             return Err(TableFault::Unreadable(texts.len() as u64));
         };
-        let Ok(()) = texts.push(text) else {
-            return Err(TableFault::Memory);
-        };
+        texts.push(text)?;
     }
     Ok(texts)
 }

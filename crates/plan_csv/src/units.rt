@@ -7,6 +7,7 @@ ghost use Rattle.audit_model.specs.declared.fault.TableFault.TheVariants as faul
 ghost use Rattle.audit_model.specs.declared.setting.Label.{Label};
 ghost use Rattle.table_definitions.specs.Table as table;
 ghost use Rattle.plan_csv.specs.Stages.{repeated, refused_units, unnamed, AreRecords, IsIndex, AreUnits, ArePlaces, AreThere};
+ghost use Rattle.audit_model.specs.Limits.{most_units};
 
 use crate::rows::field;
 use audit_model::fault::TableFault;
@@ -32,22 +33,18 @@ pub fn id_text(alloc: Global, id: &Label) -> Result<String, Memory>
 
 /// The unit of each id as text, or the first unit whose text an earlier one has too.
 pub fn index_of(alloc: Global, ids: &[Label]) -> Result<BTreeMap<String, u32>, TableFault>
-    requires { length ids.now ≤ 100000 }
+    requires { length ids.now ≤ most_units }
     ensures { MatchResult result (λ index. (table.shared_id ids.now [] [] ≡ None) × IsIndex string_bytes ids.now index.entries)
         (λ f. (f ≡ fault.Memory) ⊎ (table.shared_id ids.now [] [] ≡ Some f)) }
 {
     let mut index = BTreeMap::new(alloc);
     for unit in 0..ids.len() {
-        let Ok(text) = id_text(alloc, &ids[unit]) else {
-            return Err(TableFault::Memory);
-        };
+        let text = id_text(alloc, &ids[unit])?;
         let other = unit as u32;
         if let Some(one) = index.get(text.as_str()) {
             return Err(TableFault::SharedId { one: *one, other });
         }
-        let Ok(_) = index.insert(text, other) else {
-            return Err(TableFault::Memory);
-        };
+        index.insert(text, other)?;
     }
     Ok(index)
 }
@@ -68,9 +65,7 @@ pub fn units_of(
         let Some(unit) = index.get(field(&entries[entry], 0)) else {
             return Err(TableFault::UnknownId(entry as u64 + 1));
         };
-        let Ok(()) = units.push(*unit) else {
-            return Err(TableFault::Memory);
-        };
+        units.push(*unit)?;
     }
     Ok(units)
 }
@@ -81,15 +76,13 @@ pub fn places_of(
     units: &[u32],
     count: usize,
 ) -> Result<Vec<Option<usize>>, TableFault>
-    requires few { count ≤ 100000 }
+    requires few { count ≤ most_units }
     requires small { length units.now < 2 ^ 63 }
     requires within { (k : ℕ) → k < length units.now → slice_index_or units.now k 0 < count }
     ensures { MatchResult result (λ places. (repeated units.now ≡ None) × ArePlaces units.now count places.items)
         (λ f. (f ≡ fault.Memory) ⊎ (repeated units.now ≡ Some f)) }
 {
-    let Ok(mut places) = blanks(alloc, count) else {
-        return Err(TableFault::Memory);
-    };
+    let mut places = blanks(alloc, count)?;
     for entry in 0..units.len() {
         let unit = units[entry] as usize;
         if places[unit].is_some() {
@@ -102,7 +95,7 @@ pub fn places_of(
 
 /// The record of each unit, or the first unit that no record names.
 pub fn records_of(alloc: Global, places: &[Option<usize>]) -> Result<Vec<usize>, TableFault>
-    requires { length places.now ≤ 100000 }
+    requires { length places.now ≤ most_units }
     ensures { MatchResult result (λ records. (unnamed places.now ≡ None) × AreThere places.now records.items)
         (λ f. (f ≡ fault.Memory) ⊎ (unnamed places.now ≡ Some f)) }
 {
@@ -111,9 +104,7 @@ pub fn records_of(alloc: Global, places: &[Option<usize>]) -> Result<Vec<usize>,
         let Some(record) = places[unit] else {
             return Err(TableFault::MissingUnit(unit as u32));
         };
-        let Ok(()) = records.push(record) else {
-            return Err(TableFault::Memory);
-        };
+        records.push(record)?;
     }
     Ok(records)
 }
@@ -124,7 +115,7 @@ pub fn records_from(
     entries: &[StringRecord],
     ids: &[Label],
 ) -> Result<Vec<usize>, TableFault>
-    requires few { length ids.now ≤ 100000 }
+    requires few { length ids.now ≤ most_units }
     requires small { length entries.now < 2 ^ 63 }
     ensures { MatchResult result (λ records. (refused_units ids.now (map fields_of entries.now) ≡ None) × AreRecords ids.now (map fields_of entries.now) records.items)
         (λ f. (f ≡ fault.Memory) ⊎ (refused_units ids.now (map fields_of entries.now) ≡ Some f)) }

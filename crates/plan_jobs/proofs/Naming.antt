@@ -14,7 +14,7 @@ use Rattle.audit_model.specs.Several.{named_before, named_jobs}
 use Rattle.plan_jobs.specs.declared.fault.PlansFault.{PlansFault}
 use Rattle.plan_jobs.specs.declared.fault.PlansFault.TheVariants as fault
 use Rattle.plan_jobs.specs.declared.named.Named.{Named}
-use Rattle.plan_jobs.specs.Ends.{named_end}
+use Rattle.plan_jobs.specs.Refusals.{named_end}
 use Rattle.plan_jobs.specs.Named.{jobs_of, pair_of, IsOneOf}
 use Rattle.plan_jobs.specs.Reading.{Jobs}
 use Rattle.plan_jobs.specs.Stages.{IsNamedBy, IsNamedFault, RefusesPlan}

@@ -22,10 +22,10 @@ use Rattle.graph_definitions.specs.Regions.{id_reading}
 use Rattle.table_definitions.specs.Table.{graph_part, table_part, table_reading}
 use Rattle.plan_jobs.specs.declared.fault.PlansFault.{PlansFault}
 use Rattle.plan_jobs.specs.declared.fault.PlansFault.TheVariants as fault
-use Rattle.plan_jobs.specs.Ends.{graph_end, region_end, table_end, plan_end}
+use Rattle.plan_jobs.specs.Refusals.{graph_end, region_end, table_end, plan_end}
 use Rattle.plan_jobs.specs.Named.{IsOneOf}
 use Rattle.plan_jobs.specs.Shared.{AreShared}
-use Rattle.plan_jobs.specs.Reading.{Jobs, from_graph, from_others, from_own, from_regions, from_table, jobs_reading, regions_named}
+use Rattle.plan_jobs.specs.Reading.{Jobs, from_graph, from_others, from_own, from_regions, from_table, jobs_reading}
 use Rattle.plan_jobs.specs.declared.named.Named.{Named}
 use Rattle.plan_jobs.specs.Stages.{IsNamedFault, IsOwn, IsOwnFault}
 
@@ -67,9 +67,6 @@ module _ (p : Parsed) (setting : Setting) (regions : List ℕ) (job : Job) where
       by : (o : Option PlanFault) → job_or (job_from p setting regions) o ≡ Ok job → job_from p setting regions ≡ job
       by None h = cc h
       by (Some f) h = cc h
-
-pub own_set : (p : Parsed) (setting : Setting) (regions : List ℕ) (job : Job) → job_of p setting regions ≡ Ok job → job.setting ≡ setting
-own_set p setting regions job e = ap (λ (j : Job). j.setting) (sym (own_keeps p setting regions job e))
 
 pub own_units : (p : Parsed) (setting : Setting) (regions : List ℕ) (job : Job) → job_of p setting regions ≡ Ok job → job.graph.units ≡ p.graph.units
 own_units p setting regions job e = ap (λ (j : Job). j.graph.units) (sym (own_keeps p setting regions job e))

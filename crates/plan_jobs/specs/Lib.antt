@@ -1,4 +1,4 @@
-pub mod Ends
+pub mod Refusals
 pub mod Named
 pub mod Reading
 pub mod Shared

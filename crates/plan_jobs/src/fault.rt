@@ -1,7 +1,7 @@
 //! Why several plans of one graph are refused.
 
 ghost use Rattle.std.specs.Prelude.{◌≡◌};
-ghost use Rattle.plan_jobs.specs.Ends.{graph_end, region_end, table_end, plan_end, named_end};
+ghost use Rattle.plan_jobs.specs.Refusals.{graph_end, region_end, table_end, plan_end, named_end};
 
 use audit_model::fault::{GraphFault, PlanFault, RegionFault, TableFault};
 use audit_model::text::Text;

@@ -7,3 +7,5 @@ pub mod named;
 pub mod parts;
 
 pub use crate::jobs::read_jobs;
+pub use fault::PlansFault;
+pub use named::Named;

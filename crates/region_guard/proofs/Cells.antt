@@ -98,12 +98,6 @@ all_is_none (suc n) f = elim (cases_Bool (f n)) [
 
 -- ---- places in the table
 
-pub cell_inside : (rows districts q d : ℕ) → q < rows → d < districts → q * districts + d < rows * districts
-cell_inside rows districts q d lq ld =
-    let row : suc q * districts ≤ rows * districts = mul-le-mul_right districts (omega (arith, lq)) in
-    let one : suc q * districts ≡ q * districts + districts = omega arith in
-    omega (arith, row, one, ld)
-
 same_cell : (districts q d r e : ℕ) → d < districts → e < districts → q < r → q * districts + d ≡ r * districts + e → ⊥
 same_cell districts q d r e ld le l h =
     let row : suc q * districts ≤ r * districts = mul-le-mul_right districts (omega (arith, l)) in

@@ -1,5 +1,5 @@
 -- What a move changes in the counts.
-use Rattle.std.proofs.Common.{◌≡◌, ℕ, zero, suc, ◌+◌, ◌*◌, ◌-◌, ◌<◌, ◌≤◌, Bool, true, false, not, ◌&&◌, ◌==◌, List, [], ◌∷◌, ◌++◌, length, take, drop, get_or, refl, sym, ap, ◌∙◌, subst, inl, inr, arith, add-one}
+use Rattle.std.proofs.Common.{◌≡◌, ℕ, zero, suc, ◌+◌, ◌*◌, ◌-◌, ◌<◌, ◌≤◌, Bool, true, false, not, ◌&&◌, ◌==◌, List, ◌++◌, length, take, drop, get_or, refl, sym, ap, ◌∙◌, subst, inl, inr, arith, add-one}
 use Rattle.std.specs.Prelude.{nat_lt, nat_le}
 use Rattle.std.proofs.Math.Nat.{mul-le-mul_right}
 use Rattle.std.proofs.Math.ListN.{set, length-set}
@@ -10,8 +10,9 @@ use Rattle.audit_model.specs.declared.rules.Rules.{Rules}
 use Rattle.audit_model.specs.Meets.{are_whole, meets_rules, split_of}
 use Rattle.model_laws.proofs.Below.{count_below_same, count_below_le}
 use Rattle.model_laws.proofs.Meeting.{below_above_all}
+use Rattle.model_laws.proofs.Numbers.{place_below}
 use Rattle.region_guard.specs.Standing.{IsStanding, IsStep, IsTable, broken_in, cell, is_fitting, units_among}
-use Rattle.region_guard.proofs.Cells.{one_if, all_is_none, count_more, count_but_one, count_but_two, some_counted, split_is_counted, cell_inside, row_of_cell, place_of_cell}
+use Rattle.region_guard.proofs.Cells.{one_if, all_is_none, count_more, count_but_one, count_but_two, some_counted, split_is_counted, row_of_cell, place_of_cell}
 
 module _ (regions after : List ℕ) (most districts u from : ℕ) (step : IsStep regions districts after u from) where
   abbrev pub before : List ℕ
@@ -218,10 +219,10 @@ module _ (regions after : List ℕ) (most districts u from : ℕ) (step : IsStep
     moved = set less place_to (get_or less place_to 0 + 1)
 
     pub from_inside : place_from < length cells
-    from_inside = omega (arith, cell_inside (length widths) districts r from row_below from_below, table.places)
+    from_inside = omega (arith, place_below r from (length widths) districts row_below from_below, table.places)
 
     pub to_inside : place_to < length cells
-    to_inside = omega (arith, cell_inside (length widths) districts r to row_below to_below, table.places)
+    to_inside = omega (arith, place_below r to (length widths) districts row_below to_below, table.places)
 
     module _ (apart : to ≡ from → ⊥) where
       pub some_there : 1 ≤ get_or cells place_from 0
@@ -302,7 +303,7 @@ counted_on regions plan cells districts unit rows places lr lp before q d lq ld 
           let one : one_if ((r == q) && (p == d)) ≡ 1 = cond-true {A = ℕ} ((r == q) && (p == d)) 1 0
           (and_from (r == q) (p == d) (eq-eqb r q (sym row)) (eq-eqb p d (sym spot))) in
           let written = ap (λ k. get_or (set cells place (get_or cells place 0 + 1)) k 0) at
-          ∙ get_or-set_same cells place (get_or cells place 0 + 1) 0 (omega (arith, cell_inside rows districts r p lr lp, places)) in
+          ∙ get_or-set_same cells place (get_or cells place 0 + 1) 0 (omega (arith, place_below r p rows districts lr lp, places)) in
           let was = ap (λ k. get_or cells k 0) at in
           omega (arith, next, one, written, was, before q d lq ld)
       | inr off ↦
@@ -312,10 +313,6 @@ counted_on regions plan cells districts unit rows places lr lp before q d lq ld 
           let kept = get_or-set_other cells place (q * districts + d) (get_or cells place 0 + 1) 0 off in
           omega (arith, next, none, kept, before q d lq ld)
     ]
-
-pub above_few : (n : ℕ) (xs : List ℕ) → ((k : ℕ) → k < length xs → get_or xs k 0 < n) → above_all xs ≤ n
-above_few n [] each = omega arith
-above_few n (x ∷ xs) each = omega (arith, each 0 (omega arith), above_few n xs (λ k l. each (suc k) (omega (arith, l))))
 
 -- a plan that fits has one entry for each unit, all below the number of districts
 pub fitting_parts : (regions : List ℕ) (districts units above : ℕ) → is_fitting regions districts units above ≡ true → (units ≡ length regions) × (above ≤ districts)
@@ -335,7 +332,7 @@ step_of regions districts after u from taken inside taken_before = record {
 pub small_place : (regions : List ℕ) (districts : ℕ) (cells widths : List ℕ) (r d : ℕ) → IsTable regions districts cells widths → r < length widths → d < districts
     → r * districts + d < 1000000
 small_place regions districts cells widths r d table lr ld =
-    let inside = cell_inside (length widths) districts r d lr ld in
+    let inside = place_below r d (length widths) districts lr ld in
     let few : length widths * districts ≤ 5000 * districts = mul-le-mul_right districts (omega (arith, table.rows, table.few_rows)) in
     omega (arith, inside, few, table.few)
 

@@ -2,6 +2,7 @@
 use Rattle.std.specs.Prelude.{◌≡◌, ℕ, ◌+◌, ◌*◌, ◌<◌, ◌≤◌, ◌==◌, ◌&&◌, Bool, not, nat_le, List, length, slice_index, slice_set}
 use Rattle.audit_model.specs.Below.{above_all, count_below}
 use Rattle.audit_model.specs.Meets.{split_of}
+use Rattle.audit_model.specs.Limits.{most_regions, most_districts}
 
 -- how many of the first units of the region are in the district
 abbrev pub units_among : ℕ → List ℕ → List ℕ → ℕ → ℕ → ℕ
@@ -23,9 +24,9 @@ broken_in regions most plan = count_below (above_all regions) (λ region. not (n
 pub record IsTable (regions : List ℕ) (districts : ℕ) (cells widths : List ℕ) : Type 0 where
   pub rows : length widths ≡ above_all regions
   pub places : length cells ≡ length widths * districts
-  pub few_rows : above_all regions ≤ 5000
+  pub few_rows : above_all regions ≤ most_regions
   pub some : 1 ≤ districts
-  pub few : districts ≤ 200
+  pub few : districts ≤ most_districts
 
 -- the counts are the plan's: the units of each region in each district, the districts of each region, and the regions split too often
 pub record IsStanding (regions : List ℕ) (most districts : ℕ) (cells widths : List ℕ) (broken : ℕ) (plan : List ℕ) : Type 0 where

@@ -3,6 +3,7 @@
 ghost use Rattle.std.specs.Prelude.{◌≡◌, ℕ, ◌+◌, ◌-◌, ◌*◌, ◌^◌, ◌<◌, ◌≤◌, nat_lt, length, slice_index, slice_set};
 ghost use Rattle.audit_model.specs.Below.{above_all, count_below};
 ghost use Rattle.region_guard.specs.Standing.{cell, units_among};
+ghost use Rattle.audit_model.specs.Limits.{most_regions, most_districts};
 
 /// Writes how many units of each region are in each district.
 pub(crate) fn count_units(
@@ -13,8 +14,8 @@ pub(crate) fn count_units(
     cells: &mut [u64],
 )
     requires lengths { length plan.now ≡ length regions.now }
-    requires few_rows { rows ≤ 5000 }
-    requires few { districts ≤ 200 }
+    requires few_rows { rows ≤ most_regions }
+    requires few { districts ≤ most_districts }
     requires places { length cells.old ≡ rows * districts }
     requires regions { (u : ℕ) → u < length regions.now → slice_index regions.now u < rows }
     requires districts { (u : ℕ) → u < length plan.now → slice_index plan.now u < districts }
@@ -30,8 +31,8 @@ pub(crate) fn count_units(
 
 /// Writes for each region how many districts have units of it.
 pub(crate) fn count_widths(cells: &[u64], districts: usize, widths: &mut [u32])
-    requires few_rows { length widths.old ≤ 5000 }
-    requires few { districts ≤ 200 }
+    requires few_rows { length widths.old ≤ most_regions }
+    requires few { districts ≤ most_districts }
     requires places { length cells.now ≡ length widths.old * districts }
     ensures { (region : ℕ) → region < length widths.old →
         slice_index widths.new region ≡ count_below districts (λ district. nat_lt 0 (cell districts cells.now region district)) }
@@ -64,7 +65,7 @@ pub(crate) fn set_width(widths: &mut [u32], region: usize, width: u32)
 
 /// One more than the greatest of the regions.
 pub(crate) fn row_count(regions: &[u32]) -> u32
-    requires { (u : ℕ) → u < length regions.now → slice_index regions.now u < 5000 }
+    requires { (u : ℕ) → u < length regions.now → slice_index regions.now u < most_regions }
     ensures { result ≡ above_all regions.now }
 {
     let mut rows = 0;
@@ -78,8 +79,8 @@ pub(crate) fn row_count(regions: &[u32]) -> u32
 
 /// How many districts have units of a region.
 fn width(cells: &[u64], rows: usize, districts: usize, region: usize) -> u32
-    requires few_rows { rows ≤ 5000 }
-    requires few { districts ≤ 200 }
+    requires few_rows { rows ≤ most_regions }
+    requires few { districts ≤ most_districts }
     requires places { length cells.now ≡ rows * districts }
     requires region { region < rows }
     ensures { result ≡ count_below districts (λ district. nat_lt 0 (cell districts cells.now region district)) }

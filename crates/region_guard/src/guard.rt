@@ -6,6 +6,7 @@ ghost use Rattle.audit_model.specs.declared.outcome.SumsView.{SumsView as Sums};
 ghost use Rattle.audit_model.specs.Below.{count_below};
 ghost use Rattle.audit_model.specs.Meets.{split_of};
 ghost use Rattle.region_guard.specs.Standing.{IsStanding, IsStep, IsTable, broken_in, cell, is_fitting};
+ghost use Rattle.audit_model.specs.Limits.{most_districts, most_regions};
 
 use crate::counting::{count_units, count_widths, move_unit, row_count, set_width};
 use audit_model::lists::{NumList, UnitList};
@@ -46,7 +47,7 @@ impl<F: Fn(&SumsView) -> bool + Drop, T: Fn(u32) -> bool + Drop> RegionGuard<F, 
         requires from { from < self.now.districts }
         requires to { to < self.now.districts }
         requires some { cell self.now.districts self.now.cells region from ≡ 1 → 1 ≤ slice_index self.now.widths region }
-        requires few { slice_index self.now.widths region ≤ 200 }
+        requires few { slice_index self.now.widths region ≤ most_districts }
         ensures { result + cond (cell self.now.districts self.now.cells region from == 1) 1 0 ≡
             slice_index self.now.widths region + cond (cell self.now.districts self.now.cells region to == 0) 1 0 }
     {
@@ -75,7 +76,7 @@ impl<F: Fn(&SumsView) -> bool + Drop, T: Fn(u32) -> bool + Drop> RegionGuard<F, 
         requires callable { T.IsAlwaysCallable self.now.test }
         requires answers { (width : ℕ) (answer : Bool) → width < 2 ^ 32 → T.post self.now.test width answer → answer ≡ nat_le width self.now.rules.max_split }
         requires some { nat_le width self.now.rules.max_split ≡ false → 1 ≤ self.now.broken }
-        requires few { self.now.broken ≤ 5000 }
+        requires few { self.now.broken ≤ most_regions }
         ensures { result + cond (not (nat_le width self.now.rules.max_split)) 1 0 ≡
             self.now.broken + cond (not (nat_le wide self.now.rules.max_split)) 1 0 }
     {
@@ -93,7 +94,7 @@ impl<F: Fn(&SumsView) -> bool + Drop, T: Fn(u32) -> bool + Drop> RegionGuard<F, 
     fn count_broken(&self) -> u32
         requires callable { T.IsAlwaysCallable self.now.test }
         requires answers { (width : ℕ) (answer : Bool) → width < 2 ^ 32 → T.post self.now.test width answer → answer ≡ nat_le width self.now.rules.max_split }
-        requires few { length self.now.widths ≤ 5000 }
+        requires few { length self.now.widths ≤ most_regions }
         ensures { result ≡ count_below (length self.now.widths) (λ q. not (nat_le (slice_index self.now.widths q) self.now.rules.max_split)) }
     {
         let widths = self.widths.as_slice();
@@ -107,39 +108,39 @@ impl<F: Fn(&SumsView) -> bool + Drop, T: Fn(u32) -> bool + Drop> RegionGuard<F, 
     }
 
     /// The region of a unit.
-    fn region_of(&self, u: u32) -> usize
-        requires unit { u < length self.now.rules.regions }
-        ensures { result ≡ slice_index self.now.rules.regions u }
+    fn region_of(&self, unit: u32) -> usize
+        requires unit { unit < length self.now.rules.regions }
+        ensures { result ≡ slice_index self.now.rules.regions unit }
     {
-        self.rules.regions.as_slice()[u as usize] as usize
+        self.rules.regions.as_slice()[unit as usize] as usize
     }
 
     /// Among how many districts the unit's region is split after its move from another district.
-    fn split_with(&self, after: &[u32], u: u32, from: u32) -> u32
+    fn split_with(&self, after: &[u32], unit: u32, from: u32) -> u32
         requires table { IsTable self.now.rules.regions self.now.districts self.now.cells self.now.widths }
-        requires step { IsStep self.now.rules.regions self.now.districts after.now u from }
-        requires stood { IsStanding self.now.rules.regions self.now.rules.max_split self.now.districts self.now.cells self.now.widths self.now.broken (slice_set after.now u from) }
-        requires apart { slice_index after.now u ≢ from }
-        ensures { result ≡ split_of self.now.rules.regions after.now (slice_index self.now.rules.regions u) }
+        requires step { IsStep self.now.rules.regions self.now.districts after.now unit from }
+        requires stood { IsStanding self.now.rules.regions self.now.rules.max_split self.now.districts self.now.cells self.now.widths self.now.broken (slice_set after.now unit from) }
+        requires apart { slice_index after.now unit ≢ from }
+        ensures { result ≡ split_of self.now.rules.regions after.now (slice_index self.now.rules.regions unit) }
     {
-        let region = self.region_of(u);
-        self.wide_after(region, from, after[u as usize])
+        let region = self.region_of(unit);
+        self.wide_after(region, from, after[unit as usize])
     }
 
     /// How many regions fail the test after a move.
-    fn broken_with(&self, after: &[u32], u: u32, from: u32) -> u32
+    fn broken_with(&self, after: &[u32], unit: u32, from: u32) -> u32
         requires callable { T.IsAlwaysCallable self.now.test }
         requires answers { (width : ℕ) (answer : Bool) → width < 2 ^ 32 → T.post self.now.test width answer → answer ≡ nat_le width self.now.rules.max_split }
         requires table { IsTable self.now.rules.regions self.now.districts self.now.cells self.now.widths }
-        requires step { IsStep self.now.rules.regions self.now.districts after.now u from }
-        requires stood { IsStanding self.now.rules.regions self.now.rules.max_split self.now.districts self.now.cells self.now.widths self.now.broken (slice_set after.now u from) }
+        requires step { IsStep self.now.rules.regions self.now.districts after.now unit from }
+        requires stood { IsStanding self.now.rules.regions self.now.rules.max_split self.now.districts self.now.cells self.now.widths self.now.broken (slice_set after.now unit from) }
         ensures { result ≡ broken_in self.now.rules.regions self.now.rules.max_split after.now }
     {
-        if after[u as usize] == from {
+        if after[unit as usize] == from {
             return self.broken;
         }
-        let wide = self.split_with(after, u, from);
-        let width = self.width_of(self.region_of(u));
+        let wide = self.split_with(after, unit, from);
+        let width = self.width_of(self.region_of(unit));
         self.broken_after(width, wide)
     }
 
@@ -157,8 +158,8 @@ impl<F: Fn(&SumsView) -> bool + Drop, T: Fn(u32) -> bool + Drop> RegionGuard<F, 
         requires answers { (width : ℕ) (answer : Bool) → width < 2 ^ 32 → T.post test width answer → answer ≡ nat_le width rules.max_split }
         requires same_cut { cut.rules.max_cut ≡ rules.max_cut }
         requires some_regions { rules.regions ≢ [] }
-        requires few_regions { All (λ r. r < 5000) rules.regions }
-        requires districts { (1 ≤ districts) × (districts ≤ 200) }
+        requires few_regions { All (λ r. r < most_regions) rules.regions }
+        requires districts { (1 ≤ districts) × (districts ≤ most_districts) }
         ensures cut { IfOk result (λ g. g.cut ≡ cut) }
         ensures test { IfOk result (λ g. g.test ≡ test) }
         ensures rules { IfOk result (λ g. g.rules ≡ rules) }
@@ -195,18 +196,18 @@ impl<F: Fn(&SumsView) -> bool + Drop, T: Fn(u32) -> bool + Drop> Judge for Regio
 
     ghost stands = { λ g plan. IsStanding g.rules.regions g.rules.max_split g.districts g.cells g.widths g.broken plan };
 
-    fn permits(&self, after: &[u32], sums: &SumsView, u: u32, from: u32) -> bool {
-        self.cut.allows(sums) && self.broken_with(after, u, from) == 0
+    fn permits(&self, after: &[u32], sums: &SumsView, unit: u32, from: u32) -> bool {
+        self.cut.allows(sums) && self.broken_with(after, unit, from) == 0
     }
 
-    fn moved(&mut self, after: &[u32], u: u32, from: u32) {
-        let to = after[u as usize];
+    fn moved(&mut self, after: &[u32], unit: u32, from: u32) {
+        let to = after[unit as usize];
         if to == from {
             return;
         }
-        let region = self.region_of(u);
-        let wide = self.split_with(after, u, from);
-        let broken = self.broken_with(after, u, from);
+        let region = self.region_of(unit);
+        let wide = self.split_with(after, unit, from);
+        let broken = self.broken_with(after, unit, from);
         let row = region * self.districts as usize;
         move_unit(
             self.cells.as_mut_slice(),

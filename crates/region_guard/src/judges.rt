@@ -4,6 +4,7 @@ ghost use Rattle.std.specs.Prelude.{◌≡◌, ◌<◌, ◌≤◌, ◌^◌, ◌�
 ghost use Rattle.std.specs.Fn.{FnReturnsAt};
 ghost use Rattle.audit_model.specs.declared.outcome.SumsView.{SumsView as Sums};
 ghost use Rattle.region_guard.specs.Guards.{AreRegionGuards, IsRegionGuard};
+ghost use Rattle.audit_model.specs.Limits.{most_regions, most_districts};
 
 use crate::guard::RegionGuard;
 use audit_model::lists::UnitList;
@@ -28,8 +29,8 @@ pub fn region_guards<F: Fn(&SumsView) -> bool + Copy + Drop, T: Fn(u32) -> bool 
     requires callable { T.IsAlwaysCallable test }
     requires answers { (width : ℕ) (answer : Bool) → width < 2 ^ 32 → T.post test width answer → answer ≡ nat_le width rules.now.max_split }
     requires some_regions { rules.now.regions ≢ [] }
-    requires few_regions { All (λ r. r < 5000) rules.now.regions }
-    requires districts { (1 ≤ districts) × (districts ≤ 200) }
+    requires few_regions { All (λ r. r < most_regions) rules.now.regions }
+    requires districts { (1 ≤ districts) × (districts ≤ most_districts) }
     ensures each { IfOk result (λ j. AreRegionGuards cut test rules.now districts j.items) }
     ensures count { IfOk result (λ j. vec_len j ≡ count) }
 {
@@ -53,8 +54,8 @@ fn region_guard_of<F: Fn(&SumsView) -> bool + Copy + Drop, T: Fn(u32) -> bool + 
     requires callable { T.IsAlwaysCallable test }
     requires answers { (width : ℕ) (answer : Bool) → width < 2 ^ 32 → T.post test width answer → answer ≡ nat_le width rules.now.max_split }
     requires some_regions { rules.now.regions ≢ [] }
-    requires few_regions { All (λ r. r < 5000) rules.now.regions }
-    requires districts { (1 ≤ districts) × (districts ≤ 200) }
+    requires few_regions { All (λ r. r < most_regions) rules.now.regions }
+    requires districts { (1 ≤ districts) × (districts ≤ most_districts) }
     ensures { IfOk result (λ g. IsRegionGuard cut test rules.now districts g) }
 {
     let cuts = Rules {

@@ -4,3 +4,6 @@
 mod counting;
 pub mod guard;
 pub mod judges;
+
+pub use guard::RegionGuard;
+pub use judges::region_guards;

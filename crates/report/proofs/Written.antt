@@ -75,10 +75,6 @@ appends-two old mid new a b r first second = written-last old mid new (a ++ b) b
 pub appends-err : (old new : RoomyBytes) (a b : List ℕ) (e : Memory) → Appends old new a (Err e) → Appends old new (a ++ b) (Err e)
 appends-err old new a b e first = written-err old old new (a ++ b) a b e (written-none old (a ++ b) (a ++ b) refl) first
 
-pub empty : (words : List Word) → length words ≡ 0 → words ≡ []
-empty [] h = refl
-empty (word ∷ words) h = absurd (omega arith)
-
 -- five texts in turn, appended at once
 pub appended-five : (start one two three four last out new a b c d e : List ℕ) → start ≡ [] → one ≡ start ++ a → two ≡ one ++ b → three ≡ two ++ c → four ≡ three ++ d → last ≡ four ++ e → new ≡ out ++ last
     → new ≡ out ++ ((((a ++ b) ++ c) ++ d) ++ e)

@@ -7,6 +7,7 @@ ghost use Rattle.audit_model.specs.Graph.{has};
 ghost use Rattle.audit_model.specs.Meets.{region_count};
 ghost use Rattle.report.specs.Lines.{Appends};
 ghost use Rattle.text_definitions.specs.Report as definition;
+ghost use Rattle.audit_model.specs.Limits.{most_regions};
 
 use crate::lines::{Word, push_line};
 use audit_model::buffers::Bytes;
@@ -57,7 +58,7 @@ fn push_split_line(job: &Job, out: &mut Bytes) -> Result<(), Memory>
 /// The regions of the units.
 fn regions_of(job: &Job) -> &[u32]
     ensures value { result.now ≡ job.now.regions }
-    ensures few { All (λ r. r < 5000) result.now }
+    ensures few { All (λ r. r < most_regions) result.now }
 {
     // Called for what its contract says: the job is within its limits, and its start plan is legal.
     let _units = job.units();
@@ -66,7 +67,7 @@ fn regions_of(job: &Job) -> &[u32]
 
 /// How many regions there are.
 fn count_regions(regions: &[u32]) -> u32
-    requires { All (λ r. r < 5000) regions.now }
+    requires { All (λ r. r < most_regions) regions.now }
     ensures { result ≡ region_count regions.now }
 {
     count_marked(&marked(regions))
@@ -74,8 +75,8 @@ fn count_regions(regions: &[u32]) -> u32
 
 /// The numbers that are those of regions.
 fn marked(regions: &[u32]) -> [bool; REGIONS]
-    requires { All (λ r. r < 5000) regions.now }
-    ensures { (r : ℕ) → r < 5000 → slice_index_or result r false ≡ has regions.now r }
+    requires { All (λ r. r < most_regions) regions.now }
+    ensures { (r : ℕ) → r < most_regions → slice_index_or result r false ≡ has regions.now r }
 {
     let mut seen = [false; REGIONS];
     for &region in regions {
@@ -86,7 +87,7 @@ fn marked(regions: &[u32]) -> [bool; REGIONS]
 
 /// How many numbers are marked.
 fn count_marked(seen: &[bool; REGIONS]) -> u32
-    ensures { result ≡ count_below 5000 (λ r. slice_index_or seen.now r false) }
+    ensures { result ≡ count_below most_regions (λ r. slice_index_or seen.now r false) }
 {
     let mut count = 0;
     for number in 0..REGIONS {

@@ -4,6 +4,7 @@ ghost use Rattle.std.specs.Prelude.{◌≡◌, ◌<◌, ◌≤◌, true, length,
 ghost use Rattle.report.specs.Lines.{Appends};
 ghost use Rattle.report.specs.Outcomes.{AreOutcomesOf};
 ghost use Rattle.text_definitions.specs.Report as definition;
+ghost use Rattle.audit_model.specs.Limits.{most_trajectories};
 
 use crate::lines::{Word, push_line};
 use audit_model::buffers::Bytes;
@@ -26,7 +27,7 @@ pub fn push_shift_line(job: &Job, sorted: &[Outcome], out: &mut Bytes) -> Result
 
 /// Appends the line of the sums.
 fn push_tally(sorted: &[Outcome], out: &mut Bytes) -> Result<(), Memory>
-    requires { length sorted.now ≤ 100000 }
+    requires { length sorted.now ≤ most_trajectories }
     ensures { Appends out.old out.new (definition.shift_line true sorted.now) result }
 {
     push_line(
@@ -48,7 +49,7 @@ fn push_tally(sorted: &[Outcome], out: &mut Bytes) -> Result<(), Memory>
 
 /// The sum of a bin.
 fn bin_sum(sorted: &[Outcome], bin: usize) -> u64
-    requires few { length sorted.now ≤ 100000 }
+    requires few { length sorted.now ≤ most_trajectories }
     requires bin { bin < 9 }
     ensures { result ≡ sum_by (λ o. slice_index o.bins bin) sorted.now }
 {

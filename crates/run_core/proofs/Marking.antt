@@ -7,17 +7,6 @@ use Rattle.std.proofs.lemmas.List.Folds.{list_any-append}
 use Rattle.audit_model.specs.Graph.{has}
 use Rattle.model_laws.proofs.Bools.{or_false}
 
-pub take_whole : (n : ℕ) (xs : List ℕ) → length xs ≤ n → take n xs ≡ xs
-take_whole zero [] l = refl
-take_whole zero (x ∷ xs) l = absurd (omega arith)
-take_whole (suc n) [] l = refl
-take_whole (suc n) (x ∷ xs) l = ap (λ ys. x ∷ ys) (take_whole n xs (omega arith))
-
-pub take_front : (n : ℕ) (xs ys : List ℕ) → n ≤ length xs → take n (xs ++ ys) ≡ take n xs
-take_front zero xs ys l = refl
-take_front (suc n) [] ys l = absurd (omega arith)
-take_front (suc n) (x ∷ xs) ys l = ap (λ zs. x ∷ zs) (take_front n xs ys (omega arith))
-
 pub take_more : (k : ℕ) (xs : List ℕ) → k < length xs → take (suc k) xs ≡ take k xs ++ get_or xs k 0 ∷ []
 take_more zero [] l = absurd (omega arith)
 take_more zero (x ∷ xs) l = refl

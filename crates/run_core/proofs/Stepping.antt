@@ -2,7 +2,7 @@
 use Rattle.std.proofs.Common.{◌≡◌, ℕ, ◌+◌, ◌-◌, ◌<◌, ◌≤◌, Bool, true, false, not, ◌||◌, List, [], ◌∷◌, ◌++◌, length, take, drop, get_or, set, replicate, Option, Some, None, All, refl, sym, ap, ◌∙◌, subst, arith, length-append, length-set}
 use Rattle.std.specs.Prelude.{◌==◌, slice_get}
 use Rattle.std.proofs.lemmas.Bool.{false≢true}
-use Rattle.std.proofs.lemmas.List.{append-nil, length-take-le, length-replicate, get_or-replicate}
+use Rattle.std.proofs.lemmas.List.{append-nil, length-take-le, length-replicate, get_or-replicate, take_all, take-append-le}
 use Rattle.std.proofs.lemmas.List.Folds.{list_any-append}
 use Rattle.std.proofs.lemmas.Option.{slice_get-get_or, slice_get_past}
 use Rattle.audit_model.specs.declared.outcome.Did.{Did}
@@ -17,7 +17,7 @@ use Rattle.model_laws.proofs.Below.{length-filter_below, filter_below_same}
 use Rattle.model_laws.proofs.Lists.{apart_le, has-take}
 use Rattle.run_core.specs.Kept.{machine, IsKept}
 use Rattle.run_core.specs.Opening.{IsStart}
-use Rattle.run_core.proofs.Marking.{take_whole, take_front, take_split, all_from_has, has-drop, AreMarked}
+use Rattle.run_core.proofs.Marking.{take_split, all_from_has, has-drop, AreMarked}
 
 -- ---- openings
 
@@ -54,7 +54,7 @@ post_by m w o e = ap (post m w) (sym e)
 -- ---- what is to do
 
 todo_is : (m : Machine) → m.budget ≡ m.total → todo m ≡ filter_below m.total (λ id. not (has m.start id))
-todo_is m same = take_whole m.budget (filter_below m.total (λ id. not (has m.start id)))
+todo_is m same = take_all m.budget (filter_below m.total (λ id. not (has m.start id)))
     (omega (arith, same, length-filter_below m.total (λ id. not (has m.start id))))
 
 -- no more ids are done than there are
@@ -97,9 +97,9 @@ module _ (total started saved : ℕ) (done : List ℕ) (next : ℕ) (held : List
         ≡ record { total = total; budget = total; start = take started done; saved = take saved done; done = done ++ id ∷ []; next = next; held = set held w None }
     fronts =
         ap (λ s. record { total = total; budget = total; start = s; saved = take saved (done ++ id ∷ []); done = done ++ id ∷ []; next = next; held = set held w None })
-        (take_front started done (id ∷ []) (omega (arith, kept.start_saved, kept.saved_done)))
+        (take-append-le started done (id ∷ []) (omega (arith, kept.start_saved, kept.saved_done)))
         ∙ ap (λ s. record { total = total; budget = total; start = take started done; saved = s; done = done ++ id ∷ []; next = next; held = set held w None })
-        (take_front saved done (id ∷ []) kept.saved_done)
+        (take-append-le saved done (id ∷ []) kept.saved_done)
 
     pub post_is : (machine total started saved (done ++ id ∷ []) next (set held w None), Posted id) ≡ step (machine total started saved done next held) (Post w)
     post_is = ap (λ (m : Machine). (m, Posted id)) fronts ∙ post_by (machine total started saved done next held) w (Some (Some id)) open_id
@@ -127,7 +127,7 @@ module _ (total started saved : ℕ) (done : List ℕ) (next : ℕ) (held : List
   pub save_is : (count : ℕ) → count ≡ length done → (machine total started count done next held, Saved count) ≡ step (machine total started saved done next held) Save
   save_is count is =
       ap (λ s. (record { total = total; budget = total; start = take started done; saved = s; done = done; next = next; held = held }, Saved count))
-      (take_whole count done (omega (arith, is)))
+      (take_all count done (omega (arith, is)))
       ∙ ap (λ c. (record { total = total; budget = total; start = take started done; saved = done; done = done; next = next; held = held }, Saved c)) is
 
   pub kept_save : (count : ℕ) → count ≡ length done → IsKept (machine total started count done next held) started count ids marks
@@ -146,7 +146,7 @@ module _ (total started saved : ℕ) (done : List ℕ) (next : ℕ) (held : List
 
   module _ (nobody : List (Option ℕ)) (none : nobody ≡ replicate 32 None) where
     again : take saved (take saved done) ≡ take saved done
-    again = take_whole saved (take saved done) (omega (arith, length-take-le saved done kept.saved_done))
+    again = take_all saved (take saved done) (omega (arith, length-take-le saved done kept.saved_done))
 
     pub halt_is : (machine total saved saved (take saved done) 0 nobody, Halted) ≡ step (machine total started saved done next held) Halt
     halt_is =

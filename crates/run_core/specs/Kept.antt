@@ -3,6 +3,7 @@ use Rattle.std.specs.Prelude.{◌≡◌, ℕ, ◌<◌, ◌≤◌, Bool, false, L
 use Rattle.std.specs.List.{slice_index_or}
 use Rattle.audit_model.specs.Graph.{has}
 use Rattle.audit_model.specs.Machine.{Machine, IsRun, todo}
+use Rattle.audit_model.specs.Limits.{most_trajectories, most_workers}
 
 -- the machine of these ids: what was done at the start and what was saved are as many of the first ids that are done
 abbrev pub machine : ℕ → ℕ → ℕ → List ℕ → ℕ → List (Option ℕ) → Machine
@@ -12,8 +13,8 @@ machine total started saved done next held =
 -- the machine is one of a run of 32 workers; the ids to do are listed, and the ids that were done at the start are marked
 pub record IsKept (m : Machine) (started saved : ℕ) (listed : List ℕ) (marked : List Bool) : Type 0 where
   pub run : IsRun m
-  pub small : m.total ≤ 100000
-  pub workers : length m.held ≡ 32
+  pub small : m.total ≤ most_trajectories
+  pub workers : length m.held ≡ most_workers
   pub start_saved : started ≤ saved
   pub saved_done : saved ≤ length m.done
   pub ids : listed ≡ todo m

@@ -6,3 +6,4 @@ pub mod machine;
 mod marks;
 
 pub use audit_model::outcome::Did;
+pub use machine::Core;

@@ -3,6 +3,7 @@
 ghost use Rattle.std.specs.Prelude.{◌≡◌, ◌≤◌, IfOk, slice_get};
 ghost use Rattle.audit_model.specs.declared.outcome.Event.TheVariants.{Claim, Post, Save, Halt};
 ghost use Rattle.audit_model.specs.Machine.{IsRun, new_machine, step};
+ghost use Rattle.audit_model.specs.Limits.{most_trajectories, most_workers};
 
 use crate::marks::{list_unmarked, mark};
 use audit_model::memory::Memory;
@@ -38,8 +39,8 @@ impl Model for Core {
 impl Core {
     /// The run of the ids below `total`, with nothing done.
     pub fn new(alloc: Global, total: u32) -> Result<Core, Memory>
-        requires { total ≤ 100000 }
-        ensures machine { IfOk result (λ m. m ≡ new_machine total 32) }
+        requires { total ≤ most_trajectories }
+        ensures machine { IfOk result (λ m. m ≡ new_machine total most_workers) }
         ensures sound { IfOk result IsRun }
     {
         let done = Vec::with_capacity(alloc, total as usize)?;

@@ -4,6 +4,7 @@ ghost use Rattle.std.specs.Prelude.{◌≡◌, ℕ, ◌<◌, ◌≤◌, ◌||◌
 ghost use Rattle.std.specs.List.{slice_index_or};
 ghost use Rattle.audit_model.specs.Below.{filter_below};
 ghost use Rattle.audit_model.specs.Graph.{has};
+ghost use Rattle.audit_model.specs.Limits.{most_trajectories};
 
 // Marks the ids.
 pub(crate) fn mark(marks: &mut [bool], ids: &[u32])
@@ -18,7 +19,7 @@ pub(crate) fn mark(marks: &mut [bool], ids: &[u32])
 
 // Makes the list the ids without a mark, in rising order.
 pub(crate) fn list_unmarked(ids: &mut Vec<u32>, marks: &[bool])
-    requires small { length marks.now ≤ 100000 }
+    requires small { length marks.now ≤ most_trajectories }
     requires room { length marks.now ≤ vec_capacity ids.old }
     ensures ids { ids.new.items ≡ filter_below (length marks.now) (λ id. not (slice_index_or marks.now id false)) }
     ensures room { vec_capacity ids.new ≡ vec_capacity ids.old }

@@ -1,11 +1,12 @@
 -- The votes of which scores are computed.
 use Rattle.std.specs.Prelude.{◌≡◌, ℕ, ◌^◌, ◌≤◌, List, length}
 use Rattle.std.specs.List.{All}
+use Rattle.audit_model.specs.Limits.{most_districts}
 
 -- each party's votes in each of 1 to 200 districts, at most 10 ^ 14
 pub record AreVotes (first second : List ℕ) : Type 0 where
   pub some : 1 ≤ length first
-  pub few : length first ≤ 200
+  pub few : length first ≤ most_districts
   pub as_many : length second ≡ length first
   pub small_first : All (λ n. n ≤ 10 ^ 14) first
   pub small_second : All (λ n. n ≤ 10 ^ 14) second

@@ -4,6 +4,7 @@
 ghost use Rattle.std.specs.Prelude.{◌≡◌, ◌*◌, ◌+◌, ◌^◌, ◌-◌, ◌/◌, ◌<◌, ◌≤◌, pos, length, sum, All};
 ghost use Rattle.audit_model.specs.Score as definition;
 ghost use Rattle.scores.specs.Votes.{AreVotes};
+ghost use Rattle.audit_model.specs.Limits.{most_districts};
 
 use audit_model::outcome::SumsView;
 use audit_model::setting::Score;
@@ -114,7 +115,7 @@ fn share(first: u64, second: u64) -> u64
 /// The median share less the mean share, times twice the number of districts. It puts the shares into rising order.
 fn mean_median(shares: &mut [u64]) -> i64
     requires some { 1 ≤ length shares.old }
-    requires few { length shares.old ≤ 200 }
+    requires few { length shares.old ≤ most_districts }
     requires small { All (λ n. n ≤ 10 ^ 9) shares.old }
     ensures { result ≡ definition.mean_median shares.old }
 {
@@ -137,7 +138,7 @@ fn twice_median(numbers: &mut [u64]) -> u64
 
 /// The sum of the shares.
 fn total(shares: &[u64]) -> u64
-    requires few { length shares.now ≤ 200 }
+    requires few { length shares.now ≤ most_districts }
     requires small { All (λ n. n ≤ 10 ^ 9) shares.now }
     ensures value { result ≡ sum shares.now }
     ensures small { result ≤ 200 * 10 ^ 9 }

@@ -1,6 +1,6 @@
 -- What right outcomes settle is the stop of all ends.
 use Rattle.std.proofs.Common.{◌≡◌, ℕ, zero, suc, ◌+◌, ◌<◌, ◌≤◌, ◌⊎◌, Bool, true, false, cond, not, ◌||◌, ◌==◌, List, [], ◌∷◌, ◌++◌, length, map, filter, Option, Some, None, refl, sym, ap, ◌∙◌, subst, inl, inr, arith, append_assoc}
-use Rattle.std.specs.Prelude.{nat_le, nat_lt, find, unwrap_or, option_map, ℤ, pos}
+use Rattle.std.specs.Prelude.{nat_le, find, unwrap_or, option_map, ℤ, pos}
 use Rattle.std.specs.List.{All}
 use Rattle.std.specs.Option.{option_or}
 use Rattle.std.proofs.lemmas.Bool.{cases_eq, cases_Bool, or_cases, or_right, eq-eqb, eqb-true, leb-true, le-leb, false_from_ne_true, not_from_true, not-false}
@@ -14,19 +14,13 @@ use Rattle.audit_model.specs.First.{first_below}
 use Rattle.audit_model.specs.Job.{Job}
 use Rattle.audit_model.specs.Run.{IsRight, has_id}
 use Rattle.audit_model.specs.Stopping.{count_in_tail, end_values, ends_before_gap, known_values, settled, some_if, stop_of, value_with_id}
-use Rattle.audit_model.specs.Trajectory.{Draws, outcome, outcome_by, plan_value, sequence, value_at}
+use Rattle.audit_model.specs.Trajectory.{Draws, outcome, plan_value, sequence, value_at}
 use Rattle.model_laws.proofs.Stopped.{stop_is_settled}
 use Rattle.model_laws.proofs.First.{none_first_below}
-use Rattle.sequential_test.proofs.Settled.{length-map_below}
+use Rattle.model_laws.proofs.Fitting.{outcome_id}
+use Rattle.model_laws.proofs.Below.{length-map_below, map_below_same}
 
 -- ---- what is known of right outcomes
-
-outcome_by_id : (b s : Bool) (job : Job) (draws : Draws) (id : ℕ) → (outcome_by b s job draws id).id ≡ id
-outcome_by_id true s job draws id = refl
-outcome_by_id false s job draws id = refl
-
-outcome_id : (job : Job) (draws : Draws) (id : ℕ) → (outcome job draws id).id ≡ id
-outcome_id job draws id = outcome_by_id (nat_lt id job.setting.walks) job.setting.shift job draws id
 
 all_rest : {X : Type 0} (P : X → Type 0) (x : X) (xs : List X) → All P (x ∷ xs) → All P xs
 all_rest P x xs each = λ k d l. each (suc k) d (omega (arith, l))
@@ -44,12 +38,6 @@ found_value job draws place (o ∷ rest) id each h = elim (cases_Bool (o.id == i
       ap (λ t. unwrap_or (option_map (λ o. value_at o place) (cond t (Some o) (find (λ o. o.id == id) rest))) (pos 0)) fails
       ∙ found_value job draws place rest id (all_rest (λ o. o ≡ outcome job draws o.id) o rest each) later
 ]
-
-map_below_same : (n : ℕ) (f g : ℕ → ℤ) → ((k : ℕ) → k < n → f k ≡ g k) → map_below n f ≡ map_below n g
-map_below_same zero f g same = refl
-map_below_same (suc n) f g same =
-    ap (λ xs. xs ++ f n ∷ []) (map_below_same n f g (λ k l. same k (omega (arith, l))))
-    ∙ ap (λ x. map_below n g ++ x ∷ []) (same n (omega arith))
 
 -- a longer list by place begins with a shorter one
 later_values : (g n : ℕ) (f : ℕ → ℤ) → g ≤ n → (later : List ℤ) × (map_below n f ≡ map_below g f ++ later)

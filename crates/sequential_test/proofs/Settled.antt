@@ -1,5 +1,5 @@
 -- What halving finds is what is settled.
-use Rattle.std.proofs.Common.{◌≡◌, ◌≢◌, ℕ, zero, suc, ◌+◌, ◌-◌, ◌<◌, ◌≤◌, Bool, true, false, cond, not, ◌||◌, ◌==◌, List, [], ◌∷◌, length, take, Option, Some, None, refl, sym, ap, ◌∙◌, subst, inl, inr, arith, take_all, length-append}
+use Rattle.std.proofs.Common.{◌≡◌, ◌≢◌, ℕ, zero, suc, ◌+◌, ◌-◌, ◌<◌, ◌≤◌, Bool, true, false, cond, not, ◌||◌, ◌==◌, List, [], ◌∷◌, length, take, Option, Some, None, refl, sym, ap, ◌∙◌, subst, inl, inr, arith, take_all}
 use Rattle.std.specs.Prelude.{nat_le, count_by, unwrap_or, ℤ}
 use Rattle.std.specs.Option.{option_or}
 use Rattle.std.proofs.lemmas.Bool.{cases_eq, cases_lt, cases_Bool, cond-true, cond-false, eq-eqb, ne_eqb, le-leb, leb-true, or_left, or_right, or_from, not_from_true, not_from_false, false_from_ne_true}
@@ -15,7 +15,7 @@ use Rattle.audit_model.specs.Job.{Job}
 use Rattle.audit_model.specs.Run.{has_id}
 use Rattle.audit_model.specs.Stopping.{count_in_tail, settled, some_if, stop, stopped_at, value_with_id}
 use Rattle.audit_model.specs.Trajectory.{in_tail, plan_value}
-use Rattle.model_laws.proofs.Below.{count_below_le}
+use Rattle.model_laws.proofs.Below.{count_below_le, length-map_below}
 use Rattle.model_laws.proofs.First.{none_first_below}
 use Rattle.sequential_test.specs.Ranks.{ends_below, tails_below}
 use Rattle.sequential_test.proofs.Ranks.{AreApart, ends_counted, tails_counted, ends_ranked}
@@ -71,10 +71,6 @@ first_below_is (suc n) test k l none hit = elim (cases_eq k n) [
 ]
 
 -- ---- lists made by place
-
-pub length-map_below : (n : ℕ) (f : ℕ → ℤ) → length (map_below n f) ≡ n
-length-map_below zero f = refl
-length-map_below (suc n) f = omega (arith, length-append (map_below n f) (f n ∷ []), length-map_below n f)
 
 take-map_below : (g n : ℕ) (f : ℕ → ℤ) → n ≤ g → take n (map_below g f) ≡ map_below n f
 take-map_below g n f l = elim (cases_eq n g) [

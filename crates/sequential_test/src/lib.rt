@@ -3,3 +3,5 @@
 
 pub mod laws;
 pub mod settle;
+
+pub use laws::{all_ends_settle, settled_stops_are_final};

@@ -7,6 +7,7 @@ ghost use Rattle.audit_model.specs.Stopping.{settled};
 ghost use Rattle.audit_model.specs.Trajectory as trajectory;
 ghost use Rattle.audit_model.specs.declared.setting.Ask.{Ask};
 ghost use Rattle.sequential_test.specs.Ranks.{ends_below, tails_below};
+ghost use Rattle.audit_model.specs.Limits.{most_trajectories};
 
 use audit_model::outcome::{Outcome, Stop};
 use audit_model::setting::Tail;
@@ -22,18 +23,18 @@ struct EndTest {
     tail: Tail,
 }
 
-/// What the outcomes that are there settle for an ask: the place at which Besag and Clifford's test stops that needs `h` ends in the tail,
+/// What the outcomes that are there settle for an ask: the place at which Besag and Clifford's test stops that needs `hits` ends in the tail,
 /// and its p-value as a fraction. The outcomes may be in any order, and some may be past that place.
 ///
-/// Only ends by rising id up to the first that is missing count. Where `h` of these are in the tail, the place is the least number of them
-/// among which there are `h`, and the fraction is `h` out of that number. Where fewer are and none is missing, the place is the number of
+/// Only ends by rising id up to the first that is missing count. Where `hits` of these are in the tail, the place is the least number of them
+/// among which there are `hits`, and the fraction is `hits` out of that number. Where fewer are and none is missing, the place is the number of
 /// all ends, and the fraction is one more than are in the tail out of one more than there are. Elsewhere nothing is settled: `None`. It
 /// takes no memory.
-pub fn settle(job: &Job, ask: u32, h: u32, posted: &[Outcome]) -> Option<Stop>
+pub fn settle(job: &Job, ask: u32, hits: u32, posted: &[Outcome]) -> Option<Stop>
     requires ask { ask < length job.now.setting.asks }
-    requires some { 1 ≤ h }
+    requires some { 1 ≤ hits }
     requires apart { AllPairs (λ a b. a.id ≡ b.id → ⊥) posted.now }
-    ensures settled { IfSome (slice_get job.now.setting.asks ask) (λ asked. result ≡ settled job.now (ask, asked) h posted.now) }
+    ensures settled { IfSome (slice_get job.now.setting.asks ask) (λ asked. result ≡ settled job.now (ask, asked) hits posted.now) }
     ensures part { IfSome result (λ s. (s.place ≤ job.now.setting.ends) × (1 ≤ s.top) × (s.top ≤ s.of) × (s.of ≤ job.now.setting.ends + 1)) }
 {
     // Called for what its contract says: the job is within its limits, and its start plan is legal.
@@ -47,25 +48,25 @@ pub fn settle(job: &Job, ask: u32, h: u32, posted: &[Outcome]) -> Option<Stop>
         tail,
         job.start_value(ask),
         place,
-        h,
+        hits,
         posted,
     )
 }
 
-/// How many of the first `n` ends are there.
-fn count_ends(walks: u32, posted: &[Outcome], n: u32) -> usize
-    requires few { walks + n ≤ 100000 }
-    ensures { result ≡ ends_below walks posted.now n }
+/// How many of the first `count` ends are there.
+fn count_ends(walks: u32, posted: &[Outcome], count: u32) -> usize
+    requires few { walks + count ≤ most_trajectories }
+    ensures { result ≡ ends_below walks posted.now count }
 {
     posted
         .iter()
-        .filter(|o| walks <= o.id && o.id < walks + n)
+        .filter(|o| walks <= o.id && o.id < walks + count)
         .count()
 }
 
 /// How many of the first `n` ends are there and in the tail.
 fn count_tail(test: EndTest, posted: &[Outcome], n: u32) -> usize
-    requires few { test.walks + n ≤ 100000 }
+    requires few { test.walks + n ≤ most_trajectories }
     requires place { test.place < 4 }
     ensures { result ≡ tails_below test.walks test.place test.tail test.start posted.now n }
 {
@@ -81,7 +82,7 @@ fn count_tail(test: EndTest, posted: &[Outcome], n: u32) -> usize
 
 /// The most ends by rising id of which none is missing: so many that as many outcomes have their ids, while one more are not all there.
 fn known_ends(walks: u32, ends: u32, posted: &[Outcome]) -> u32
-    requires few { walks + ends ≤ 100000 }
+    requires few { walks + ends ≤ most_trajectories }
     ensures within { result ≤ ends }
     ensures known { ends_below walks posted.now result ≡ result }
     ensures gap { result < ends → ends_below walks posted.now (result + 1) ≢ result + 1 }
@@ -101,7 +102,7 @@ fn known_ends(walks: u32, ends: u32, posted: &[Outcome]) -> u32
 
 /// The first of the places up to `known` at which enough ends are in the tail.
 fn tail_place(test: EndTest, known: u32, enough: usize, posted: &[Outcome]) -> u32
-    requires few { test.walks + known ≤ 100000 }
+    requires few { test.walks + known ≤ most_trajectories }
     requires place { test.place < 4 }
     requires some { 1 ≤ enough }
     requires reached { enough ≤ tails_below test.walks test.place test.tail test.start posted.now known }
@@ -131,15 +132,15 @@ fn settle_values(
     tail: Tail,
     start: i64,
     place: usize,
-    h: u32,
+    hits: u32,
     posted: &[Outcome],
 ) -> Option<Stop>
-    requires few { walks + ends ≤ 100000 }
+    requires few { walks + ends ≤ most_trajectories }
     requires place { place < 4 }
-    requires some { 1 ≤ h }
+    requires some { 1 ≤ hits }
     requires apart { AllPairs (λ a b. a.id ≡ b.id → ⊥) posted.now }
     ensures settled { (job : JobValue) (ask : Ask) → job.setting.walks ≡ walks → job.setting.ends ≡ ends → ask.tail ≡ tail →
-        trajectory.plan_value job job.start ask.score ≡ start → result ≡ settled job (place, ask) h posted.now }
+        trajectory.plan_value job job.start ask.score ≡ start → result ≡ settled job (place, ask) hits posted.now }
     ensures part { IfSome result (λ s. (s.place ≤ ends) × (1 ≤ s.top) × (s.top ≤ s.of) × (s.of ≤ ends + 1)) }
 {
     let test = EndTest {
@@ -150,11 +151,11 @@ fn settle_values(
     };
     let known = known_ends(walks, ends, posted);
     let inside = count_tail(test, posted, known);
-    if inside >= h as usize {
-        let place = tail_place(test, known, h as usize, posted);
+    if inside >= hits as usize {
+        let place = tail_place(test, known, hits as usize, posted);
         return Some(Stop {
             place,
-            top: h,
+            top: hits,
             of: place,
         });
     }

@@ -2,8 +2,9 @@
 //! start plan's rank among all plans of the run. It needs no hub, and each step counts.
 #![tactic(auto)]
 
-mod place;
 mod ranks;
 pub mod run;
+mod start_place;
 
 pub use audit_model::outcome;
+pub use run::serial;

@@ -7,8 +7,8 @@ ghost use Rattle.audit_model.specs.Serially.{serial_of};
 ghost use Rattle.serial_test.specs.Ranks.{HasRanks, RunsStayLegal};
 ghost use Rattle.walker.specs.Seated.{IsSeated, held_of};
 
-use crate::place::place;
 use crate::ranks::ranks;
+use crate::start_place::start_place;
 use audit_model::outcome::Serial;
 use chacha_draws::Draws;
 use flip_guard::judge::Judge;
@@ -48,7 +48,7 @@ pub fn serial<J: Judge>(walker: &mut Walker<J>, job: &Job) -> Serial
     let steps = setting.steps;
     let mut draws = Draws::new(setting.key, PLACE_STREAM);
     let drawn = draws.next();
-    let place = place(drawn, u64::from(steps) + 1);
+    let place = start_place(drawn, u64::from(steps) + 1);
     let forward = walker.run(job, FORWARD_STREAM, place);
     let backward = walker.run(job, BACKWARD_STREAM, steps - place);
     Serial {

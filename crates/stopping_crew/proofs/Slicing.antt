@@ -1,9 +1,9 @@
 -- Parts of the list of all ids, and what is found by the trajectories that were walked so far.
-use Rattle.std.proofs.Common.{◌≡◌, ◌∙◌, refl, sym, ap, subst, ℕ, zero, suc, ◌+◌, ◌-◌, ◌<◌, ◌≤◌, inl, inr, min, Bool, true, false, cond, List, [], ◌∷◌, ◌++◌, length, length-append, map, take, drop, get_or, Some, All, append-nil, append_assoc, arith}
+use Rattle.std.proofs.Common.{◌≡◌, ◌∙◌, refl, sym, ap, subst, ℕ, zero, suc, ◌+◌, ◌-◌, ◌<◌, ◌≤◌, inl, inr, min, Bool, true, false, cond, List, [], ◌∷◌, ◌++◌, length, map, take, drop, get_or, Some, All, append-nil, append_assoc, arith}
 use Rattle.std.specs.Prelude.{◌==◌, nat_lt, IsPermutation}
 use Rattle.std.specs.List.{slice_get, enumerate_from}
 use Rattle.std.proofs.lemmas.Bool.{cases_eq, cases_lt, eq-eqb, ne_eqb, lt-ltb, le-ltb, or_left, or_right, or_from}
-use Rattle.std.proofs.lemmas.List.{map-append, get_or_push, get_or_append_left, get_or-drop, get_or-take, length-take, length-drop}
+use Rattle.std.proofs.lemmas.List.{map-append, get_or-drop, get_or-take, length-take, length-drop}
 use Rattle.std.proofs.lemmas.List.Folds.{list_any-append}
 use Rattle.std.proofs.lemmas.List.Sorted.{All-permutation, IsPermutation-refl, IsPermutation-sym, IsPermutation-append_left, IsPermutation-trans, list_any-IsPermutation}
 use Rattle.audit_model.specs.declared.outcome.Outcome.{Outcome}
@@ -13,31 +13,19 @@ use Rattle.audit_model.specs.Below.{filter_below, map_below}
 use Rattle.audit_model.specs.Job.{Job}
 use Rattle.audit_model.specs.Run.{IsRight, total, has_id}
 use Rattle.audit_model.specs.Stopping.{end_values, known_values, settled, stop_of, stops_by, stops_of, three_numbers}
-use Rattle.audit_model.specs.Trajectory.{Draws, outcome, outcome_by, sequence}
+use Rattle.audit_model.specs.Trajectory.{Draws, outcome, sequence}
+use Rattle.model_laws.proofs.Fitting.{outcome_id}
+use Rattle.model_laws.proofs.Below.{length-map_below, get_or-map_below}
 use Rattle.claim_crew.specs.Walks.{found, IsTodo}
 use Rattle.draw_definitions.specs.Draw.{draw}
 use Rattle.outcome_book.specs.Booked.{AreApart, by_id}
 use Rattle.stopping_crew.specs.Rounds.{found_below, AreIds, AreSettled, AreSettledBelow}
 
--- ---- lists by place
-
-pub length-below : {A : Type 0} (n : ℕ) (f : ℕ → A) → length (map_below n f) ≡ n
-length-below zero f = refl
-length-below (suc n) f = omega (arith, length-append (map_below n f) (f n ∷ []), length-below n f)
-
-pub at-below : {A : Type 0} (n : ℕ) (f : ℕ → A) (k : ℕ) (d : A) → k < n → get_or (map_below n f) k d ≡ f k
-at-below zero f k d l = absurd (omega (arith, l))
-at-below (suc n) f k d l = elim (cases_eq k n) [
-  | inl e ↦ get_or_push (map_below n f) (f n) d k (length-below n f ∙ sym e) ∙ ap f (sym e)
-  | inr off ↦
-      get_or_append_left (map_below n f) (f n ∷ []) d k (omega (arith, length-below n f, off, l)) ∙ at-below n f k d (omega (arith, l, off))
-]
-
 -- ---- parts of the ids
 
 pub ids_between : (n from to : ℕ) (all ids : List ℕ) → all ≡ map_below n (λ id. id) → from ≤ to → to ≤ n → ids ≡ take (to - from) (drop from all) → AreIds from to ids
 ids_between n from to all ids whole order few is =
-    let long : length all ≡ n = ap length whole ∙ length-below n (λ id. id) in
+    let long : length all ≡ n = ap length whole ∙ length-map_below n (λ id. id) in
     let count : length ids ≡ to - from = ap length is ∙ omega (arith, length-take (to - from) (drop from all), length-drop from all, long, order, few) in
     record {
       count = omega arith;
@@ -47,21 +35,14 @@ ids_between n from to all ids whole order few is =
           ∙ get_or-take (to - from) (drop from all) k d here
           ∙ get_or-drop from all k d
           ∙ ap (λ xs. get_or xs (from + k) d) whole
-          ∙ at-below n (λ id. id) (from + k) d (omega arith);
+          ∙ get_or-map_below n (λ id. id) (from + k) d (omega arith);
     }
 
 -- a list of all ids is one of as many as it has
 pub whole_ids : (n : ℕ) (all : List ℕ) → all ≡ map_below n (λ id. id) → all ≡ map_below (length all) (λ id. id)
-whole_ids n all is = is ∙ ap (λ k. map_below k (λ id. id)) (let long : n ≡ length all = sym (ap length is ∙ length-below n (λ id. id)) in long)
+whole_ids n all is = is ∙ ap (λ k. map_below k (λ id. id)) (let long : n ≡ length all = sym (ap length is ∙ length-map_below n (λ id. id)) in long)
 
 -- ---- outcomes by id
-
-outcome_id : (job : Job) (draws : Draws) (id : ℕ) → (outcome job draws id).id ≡ id
-outcome_id job draws id = by (nat_lt id job.setting.walks) job.setting.shift
-  where
-    by : (b bins : Bool) → (outcome_by b bins job draws id).id ≡ id
-    by true bins = refl
-    by false bins = refl
 
 module _ (f : ℕ → Outcome) (same : (id : ℕ) → (f id).id ≡ id) where
   has_true : (n id : ℕ) → id < n → has_id (map_below n f) id ≡ true
@@ -89,21 +70,21 @@ module _ (f : ℕ → Outcome) (same : (id : ℕ) → (f id).id ≡ id) where
   ]
 
   id_at : (n k : ℕ) (d : Outcome) → k < n → (get_or (map_below n f) k d).id ≡ k
-  id_at n k d l = ap (λ (o : Outcome). o.id) (at-below n f k d l) ∙ same k
+  id_at n k d l = ap (λ (o : Outcome). o.id) (get_or-map_below n f k d l) ∙ same k
 
   below_apart : (n : ℕ) → AreApart (map_below n f)
   below_apart n i j d before inside e =
-      let long = length-below n f in
+      let long = length-map_below n f in
       omega (arith, before, inside, long, e, id_at n i d (omega (arith, before, inside, long)), id_at n j d (omega (arith, inside, long)))
 
   each_found : (n : ℕ) → All (λ o. o ≡ f o.id) (map_below n f)
   each_found n k d inside =
-      let l : k < n = omega (arith, inside, length-below n f) in
-      at-below n f k d l ∙ ap f (sym (id_at n k d l))
+      let l : k < n = omega (arith, inside, length-map_below n f) in
+      get_or-map_below n f k d l ∙ ap f (sym (id_at n k d l))
 
   each_within : (n t : ℕ) → n ≤ t → All (λ o. o.id < t) (map_below n f)
   each_within n t few k d inside =
-      let l : k < n = omega (arith, inside, length-below n f) in
+      let l : k < n = omega (arith, inside, length-map_below n f) in
       let e = id_at n k d l in
       omega (arith, e, l, few)
 

@@ -4,6 +4,7 @@ ghost use Rattle.std.specs.Prelude.{◌≡◌, ◌+◌, ◌*◌, ◌≤◌, min,
 ghost use Rattle.stopping_crew.specs.Crews.{AreRounds, IsStoppingCrew};
 ghost use Rattle.stopping_crew.specs.Rounds.{ends_after};
 ghost use Rattle.walker.specs.Judges.{AreJudges};
+ghost use Rattle.audit_model.specs.Limits.{most_trajectories, most_workers};
 
 use audit_model::memory::Memory;
 use claim_crew::parts::{Part, Team, muster};
@@ -25,7 +26,7 @@ pub struct StoppingCrew<J> {
 
 /// How many of so many ends are walked after one round more. Each round has twice as many ends as the one before, while some are left.
 pub fn after_round(ends: u32, walked: u32) -> u32
-    requires { (ends ≤ 100000) × (walked ≤ ends) }
+    requires { (ends ≤ most_trajectories) × (walked ≤ ends) }
     ensures { result ≡ min ends (2 * walked + 64) }
 {
     ends.min(2 * walked + FIRST_ROUND)
@@ -33,8 +34,8 @@ pub fn after_round(ends: u32, walked: u32) -> u32
 
 // What each round is walked with.
 fn make_rounds(alloc: Global, ends: u32, seats: u32) -> Result<Vec<Part>, Memory>
-    requires ends { ends ≤ 100000 }
-    requires seats { (1 ≤ seats) × (seats ≤ 32) }
+    requires ends { ends ≤ most_trajectories }
+    requires seats { (1 ≤ seats) × (seats ≤ most_workers) }
     ensures rounds { IfOk result (λ r. AreRounds ends seats 0 r.items) }
     ensures all { IfOk result (λ r. ends_after ends (vec_len r) ≡ ends) }
 {
@@ -55,7 +56,7 @@ pub fn recruit<J: Judge>(
     job: &Job,
     judges: Vec<J>,
 ) -> Result<StoppingCrew<J>, Memory>
-    requires workers { (1 ≤ vec_len judges) × (vec_len judges ≤ 32) }
+    requires workers { (1 ≤ vec_len judges) × (vec_len judges ≤ most_workers) }
     requires judges { AreJudges job.now J.keeps J.takes J.rules judges.items }
     ensures { IfOk result (IsStoppingCrew J.keeps J.stands J.takes J.rules job.now (vec_len judges)) }
 {

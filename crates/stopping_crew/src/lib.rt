@@ -4,3 +4,6 @@
 pub mod crew;
 pub mod settling;
 pub mod walking;
+
+pub use crew::{StoppingCrew, recruit};
+pub use walking::walk_to_stops;

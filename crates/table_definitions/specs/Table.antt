@@ -14,6 +14,7 @@ use Rattle.audit_model.specs.declared.setting.Label.TheVariants.{Whole, Word}
 use Rattle.audit_model.specs.Below.{any_below, count_below, map_below}
 use Rattle.audit_model.specs.First.{first_some, first_below}
 use Rattle.audit_model.specs.Label.{same_label, label_before}
+use Rattle.audit_model.specs.Limits.{most_districts}
 
 -- ---- the two parts of the input
 
@@ -120,7 +121,7 @@ module _ (ids : List Label) (header : List (List ℕ)) (entries : List (List (Li
       (first_below (length ids) (λ u. not (any_below (length entries) (λ entry. names_unit entry u))))
 
   abbrev pub is_miscounted : ℕ → Bool
-  is_miscounted plan = nat_lt (label_count plan) 2 || nat_lt 200 (label_count plan)
+  is_miscounted plan = nat_lt (label_count plan) 2 || nat_lt most_districts (label_count plan)
 
   abbrev pub refused_count : Option TableFault
   refused_count = option_map (λ plan. fault.DistrictCount plan (label_count plan)) (first_below plan_count is_miscounted)

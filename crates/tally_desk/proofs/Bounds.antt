@@ -11,7 +11,7 @@ use Rattle.std.proofs.lemmas.List.Concat.{length-flat_map}
 use Rattle.claim_counter.specs.declared.record.PassRecord.{PassRecord}
 use Rattle.claim_counter.specs.Records.{IsCounted}
 use Rattle.model_laws.specs.Times.{times, once_below}
-use Rattle.model_laws.proofs.Times.{sum_set, sum_le, times-append, one, length-apart, times_push, permutation_below}
+use Rattle.model_laws.proofs.Times.{sum_set, sum_le, times-append, one, length-apart, times_push, permutation_below, times-flat_map}
 
 module _ {A : Type 0} where
   pub sum_same : (f : A → ℕ) (xs : List A) (i : ℕ) (v w : A) → get_elem? xs i ≡ some v → f v ≡ f w → sum_by f (set xs i w) ≡ sum_by f xs
@@ -34,15 +34,11 @@ module _ {A : Type 0} where
   sum_mapped f g [] = refl
   sum_mapped f g (x ∷ xs) = let r = sum_mapped f g xs in omega (arith, sum_by-cons f (g x) (map g xs), sum_by-cons (λ (y : A). f (g y)) x xs)
 
-  pub times-flat : (x : ℕ) (f : A → List ℕ) (ps : List A) → times x (flat_map f ps) ≡ sum_by (λ p. times x (f p)) ps
-  times-flat x f [] = refl
-  times-flat x f (p ∷ ps) = let r = times-flat x f ps in omega (arith, times-append x (f p) (flat_map f ps), sum_by-cons (λ (q : A). times x (f q)) p ps)
-
 abbrev claims_of : PassRecord → List ℕ
 claims_of p = p.claims
 
 pub claim_count : (limit count word : ℕ) (ps : List PassRecord) → IsCounted limit count word ps → sum_by (λ p. length p.claims) ps ≤ limit
-claim_count limit count word ps c = let most = length-apart limit (flat_map claims_of ps) (λ x. let more : once_below x (min word limit) ≤ once_below x limit = grind arith in omega (arith, times-flat x claims_of ps, c.claims x, more)) in
+claim_count limit count word ps c = let most = length-apart limit (flat_map claims_of ps) (λ x. let more : once_below x (min word limit) ≤ once_below x limit = grind arith in omega (arith, times-flat_map x claims_of ps, c.claims x, more)) in
     omega (arith, most, length-flat_map claims_of ps)
 
 module _ (P : ℕ → ℕ → ℕ → Type 0) where
@@ -102,10 +98,6 @@ claimed_of_todo todo count word ps c x =
     let next = min word (length todo) in
     let flat = flat_map claims_of ps in
     let within : next ≤ length todo = omega arith in
-    let p : IsPermutation flat (range_with_len 0 next) = permutation_below next flat (λ y. times-flat y claims_of ps ∙ c.claims y) in
+    let p : IsPermutation flat (range_with_len 0 next) = permutation_below next flat (λ y. times-flat_map y claims_of ps ∙ c.claims y) in
     let q = sum_by-IsPermutation (one x) _ _ (IsPermutation-map (at_of todo) flat (range_with_len 0 next) p) in
     omega (arith, q, times-ids-flat x todo ps, times-first x todo next within, sum_by-take-le (one x) todo next)
-
-pub nil_from_length : {A : Type 0} (xs : List A) → length xs ≡ 0 → xs ≡ []
-nil_from_length [] none = refl
-nil_from_length (x ∷ xs) none = absurd (omega arith)

@@ -1,11 +1,11 @@
 -- What a claim and a post do to the run machine for which a desk stands.
-use Rattle.std.proofs.Common.{◌≡◌, ◌≢◌, ℕ, zero, suc, ◌+◌, ◌<◌, ◌≤◌, ◌==◌, ◌&&◌, ◌||◌, nat_lt, min, not, Bool, true, false, cond, List, [], ◌∷◌, ◌++◌, map, set, take, get_or, length, length-append, Option, Some, None, refl, sym, ap, ◌∙◌, append_assoc, arith}
+use Rattle.std.proofs.Common.{◌≡◌, ◌≢◌, ℕ, zero, suc, ◌+◌, ◌<◌, ◌≤◌, ◌==◌, ◌&&◌, ◌||◌, nat_lt, min, not, Bool, true, false, cond, List, [], ◌∷◌, ◌++◌, map, set, take, get_or, length, Option, Some, None, refl, sym, ap, ◌∙◌, append_assoc, arith}
 use Rattle.std.specs.Prelude.{slice_get}
 use Rattle.std.proofs.lemmas.Bool.{and_right, eq-eqb, ne_eqb, le-ltb, lt-ltb}
 use mathlib.Core.Logic.{dite}
 use native.Mathlib.Decide.{ℕ_discrete, dec_le}
 use Rattle.std.proofs.Common.{lt_of_not-le}
-use Rattle.std.proofs.lemmas.List.{map-append}
+use Rattle.std.proofs.lemmas.List.{map-append, set-append_left}
 use Rattle.audit_model.specs.declared.outcome.Did.{Did}
 use Rattle.audit_model.specs.declared.outcome.Did.TheVariants.{Claimed, Posted}
 use Rattle.audit_model.specs.declared.outcome.Event.TheVariants.{Claim, Post, Save}
@@ -16,6 +16,7 @@ use Rattle.audit_model.specs.Machine.{Machine, claim, claimed, post, state_after
 use Rattle.audit_model.specs.Run.{total, has_id}
 use Rattle.model_laws.specs.Times.{times}
 use Rattle.model_laws.proofs.Times.{one, one_same, times-cons, times_push}
+use Rattle.model_laws.proofs.Below.{length-map_below, map_below_same}
 use Rattle.tally_desk.specs.declared.entry.Entry.{Entry}
 use Rattle.tally_desk.specs.Entries.{entry, id_of, ids_of, saves, up_to_save}
 use Rattle.tally_desk.specs.Machines.{machine_of, open_at, opening_ids, post_events}
@@ -37,20 +38,11 @@ module _ {A : Type 0} where
   get_last (x ∷ xs) y zero is = absurd (omega arith)
   get_last (x ∷ xs) y (suc k) is = get_last xs y k (omega arith)
 
-  set-append : (xs ys : List A) (k : ℕ) (x : A) → k < length xs → set (xs ++ ys) k x ≡ set xs k x ++ ys
-  set-append [] ys k x within = absurd (omega arith)
-  set-append (z ∷ xs) ys zero x within = refl
-  set-append (z ∷ xs) ys (suc k) x within = ap (λ (l : List A). z ∷ l) (set-append xs ys k x (omega arith))
-
   set_last : (xs : List A) (y : A) (k : ℕ) (x : A) → k ≡ length xs → set (xs ++ y ∷ []) k x ≡ xs ++ x ∷ []
   set_last [] y zero x is = refl
   set_last [] y (suc k) x is = absurd (omega arith)
   set_last (z ∷ xs) y zero x is = absurd (omega arith)
   set_last (z ∷ xs) y (suc k) x is = ap (λ (l : List A). z ∷ l) (set_last xs y k x (omega arith))
-
-  length-map_below : (n : ℕ) (f : ℕ → A) → length (map_below n f) ≡ n
-  length-map_below zero f = refl
-  length-map_below (suc n) f = let before = length-map_below n f in omega (arith, before, length-append (map_below n f) (f n ∷ []))
 
   get-map_below : (n : ℕ) (f : ℕ → A) (k : ℕ) → k < n → slice_get (map_below n f) k ≡ Some (f k)
   get-map_below zero f k within = absurd (omega arith)
@@ -62,10 +54,6 @@ module _ {A : Type 0} where
       lt_from : (k n : ℕ) → k < suc n → (k ≡ n → ⊥) → k < n
       lt_from k n l differ = dite (dec_le n k) (λ le. absurd (differ (omega arith))) (λ not_le. lt_of_not-le not_le)
 
-  map_below_same : (n : ℕ) (f g : ℕ → A) → ((j : ℕ) → j < n → f j ≡ g j) → map_below n f ≡ map_below n g
-  map_below_same zero f g same = refl
-  map_below_same (suc n) f g same = λ i. map_below_same n f g (λ j l. same j (omega arith)) i ++ same n (omega arith) i ∷ []
-
   set-map_below : (n : ℕ) (f : ℕ → A) (k : ℕ) (x : A) → k < n → set (map_below n f) k x ≡ map_below n (λ j. cond (j == k) x (f j))
   set-map_below zero f k x within = absurd (omega arith)
   set-map_below (suc n) f k x within = dite (ℕ_discrete k n)
@@ -73,7 +61,7 @@ module _ {A : Type 0} where
       ∙ (λ i. map_below_same n f (λ j. cond (j == k) x (f j)) (λ j l. ap (λ (b : Bool). cond b x (f j)) (sym (ne_eqb j k (λ e. absurd (omega (arith, e, l, last)))))) i
       ++ ap (λ (b : Bool). cond b x (f n)) (sym (eq-eqb n k (sym last))) i ∷ []))
       (λ before. let less : k < n = lt_from k n within before in
-      set-append (map_below n f) (f n ∷ []) k x (omega (arith, less, length-map_below n f))
+      set-append_left (map_below n f) (f n ∷ []) k x (omega (arith, less, length-map_below n f))
       ∙ (λ i. set-map_below n f k x less i ++ ap (λ (b : Bool). cond b x (f n)) (sym (ne_eqb n k (λ e. before (sym e)))) i ∷ []))
     where
       lt_from : (k n : ℕ) → k < suc n → (k ≡ n → ⊥) → k < n

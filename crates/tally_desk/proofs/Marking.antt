@@ -12,6 +12,11 @@ mark e = cond (is_saved e) 1 0
 pub saves-push : (l : List Entry) (e : Entry) → saves (l ++ e ∷ []) ≡ saves l + mark e
 saves-push l e = sum_by_push mark l e
 
+-- by whether it was saved
+pub next_turn : (earlier : List Entry) (e : Entry) (s : Bool) → e.saved ≡ s → saves (earlier ++ e ∷ []) ≡ cond s (suc (saves earlier)) (saves earlier)
+next_turn earlier e true is = let more = saves-push earlier e in let one_more = ap (λ (x : Bool). cond {A = ℕ} x 1 0) is in omega (arith, more, one_more)
+next_turn earlier e false is = let more = saves-push earlier e in let none = ap (λ (x : Bool). cond {A = ℕ} x 1 0) is in omega (arith, more, none)
+
 pub missed-push : (every : ℕ) (l : List Entry) (e : Entry) → missed every (l ++ e ∷ []) ≡ missed every l + cond (is_missed every e) 1 0
 missed-push every l e = sum_by_push (λ (x : Entry). cond (is_missed every x) 1 0) l e
 

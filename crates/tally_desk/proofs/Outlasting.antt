@@ -1,5 +1,5 @@
 -- The saves of a desk are right and in turn.
-use Rattle.std.proofs.Common.{◌≡◌, ℕ, suc, ◌+◌, ◌-◌, ◌%◌, ◌≤◌, Bool, true, false, cond, List, [], ◌∷◌, ◌++◌, map, refl, sym, ap, ◌∙◌, subst, append_assoc, arith}
+use Rattle.std.proofs.Common.{◌≡◌, ℕ, ◌+◌, ◌-◌, ◌%◌, ◌≤◌, Bool, true, false, cond, List, [], ◌∷◌, ◌++◌, map, refl, sym, ap, ◌∙◌, subst, append_assoc, arith}
 use Rattle.std.specs.List.{All}
 use Rattle.std.proofs.lemmas.Bool.{true≢false}
 use Rattle.std.proofs.lemmas.List.{map-append}
@@ -18,7 +18,7 @@ use Rattle.tally_desk.specs.Homes.{IsSound, Made, booked, made_after, made_with,
 use Rattle.tally_desk.specs.Outlasting.{StopsKeepTheNewest, StopsLeaveHonestSlots}
 use Rattle.tally_desk.specs.Parts.{IsPlan, Parts}
 use Rattle.tally_desk.proofs.Booking.{booked_fit, by_id_fit}
-use Rattle.tally_desk.proofs.Marking.{saves-push}
+use Rattle.tally_desk.proofs.Marking.{next_turn}
 use Rattle.tally_desk.proofs.Righting.{saved_outcomes_are_right}
 
 module _ (parts : Parts) (plan : IsPlan parts) where
@@ -69,10 +69,6 @@ module _ (parts : Parts) (plan : IsPlan parts) where
 
   abbrev InTurnFrom : ℕ → List Made → Type 0
   InTurnFrom n ms = AreInTurn parts.job (job_digest parts.job) (moved n parts.place).slot (moved n parts.place).generation (map (try_made parts.job) ms)
-
-  next_turn : (earlier : List Entry) (e : Entry) (s : Bool) → e.saved ≡ s → saves (earlier ++ e ∷ []) ≡ cond s (suc (saves earlier)) (saves earlier)
-  next_turn earlier e true is = let more = saves-push earlier e in let one_more = ap (λ (x : Bool). cond {A = ℕ} x 1 0) is in omega (arith, more, one_more)
-  next_turn earlier e false is = let more = saves-push earlier e in let none = ap (λ (x : Bool). cond {A = ℕ} x 1 0) is in omega (arith, more, none)
 
   save_at : (earlier : List Entry) (e : Entry) → ((id : ℕ) → times id (ids_of (earlier ++ e ∷ [])) ≤ times id parts.todo) → IsSound parts.job (made_with parts earlier e)
       → IsSaveAt parts.job (job_digest parts.job) (moved (saves earlier) parts.place).slot (moved (saves earlier) parts.place).generation (try_made parts.job (made_with parts earlier e))

@@ -13,7 +13,8 @@ use Rattle.ckpt_store.specs.Laws.{CheckpointsAreOurs, IsNewestForFitJobs, SavedS
 use Rattle.outcome_book.specs.Booked.{by_id}
 use Rattle.tally_desk.specs.declared.entry.Entry.{Entry}
 use Rattle.tally_desk.specs.Entries.{entry, ids_of, is_missed, saves, missed, up_to_save, after_save}
-use Rattle.tally_desk.specs.Homes.{IfToldThen, IsSaveOf, SlotsAs, booked, moved, next_place}
+use Rattle.audit_io.specs.Told.{IfBothTold}
+use Rattle.tally_desk.specs.Homes.{IsSaveOf, SlotsAs, booked, moved, next_place}
 use Rattle.tally_desk.specs.Parts.{Parts, IsPlan}
 use Rattle.tally_desk.proofs.Booking.{saved_fit}
 use Rattle.tally_desk.proofs.Marking.{saves-push, missed-push, up_to_save-kept, up_to_save-all, after_save-kept, ends_saved-push}
@@ -64,7 +65,7 @@ after_before (suc (suc (suc g))) below = absurd (omega arith)
 
 -- ---- told or not
 
-pub told_map : {A : Type 0} (a b : Option A) (P Q : A → A → Type 0) → ((x y : A) → P x y → Q x y) → IfToldThen a b P → IfToldThen a b Q
+pub told_map : {A : Type 0} (a b : Option A) (P Q : A → A → Type 0) → ((x y : A) → P x y → Q x y) → IfBothTold a b P → IfBothTold a b Q
 told_map None b P Q f h = tt
 told_map (Some x) None P Q f h = h
 told_map (Some x) (Some y) P Q f h = f x y h

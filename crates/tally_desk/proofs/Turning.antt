@@ -5,8 +5,10 @@ use Rattle.std.proofs.lemmas.List.{length-map, map-append}
 use Rattle.std.proofs.lemmas.List.Sums.{count_by-le-length}
 use Rattle.std.proofs.lemmas.Bool.{true≢false}
 use Rattle.audit_io.specs.Faults.{Counts}
-use Rattle.audit_io.specs.Slots.{Pair, IfTold, HoldsBytes, KeepsOther}
-use Rattle.audit_io.specs.Tries.{Try, tried_all, tried_too}
+use Rattle.audit_io.specs.State.{Kept}
+use Rattle.audit_io.specs.Told.{IfBothTold, IfTold}
+use Rattle.audit_io.specs.Slots.{Pair, HoldsBytes, KeepsOther}
+use Rattle.audit_io.specs.Tries.{tried_all, tried_too}
 use Rattle.audit_model.specs.declared.outcome.Outcome.{Outcome}
 use Rattle.audit_model.specs.Job.{Job}
 use Rattle.audit_model.specs.JobOf.{IsJob}
@@ -23,7 +25,7 @@ use Rattle.outcome_book.specs.Booked.{Booked, HasFewVisits, by_id}
 use Rattle.tally_desk.specs.declared.entry.Entry.{Entry}
 use Rattle.tally_desk.specs.declared.home.Home.{Home}
 use Rattle.tally_desk.specs.Entries.{entry, id_of, ids_of, is_due, is_missed, saves, missed}
-use Rattle.tally_desk.specs.Homes.{HasTurned, IfToldThen, IsSound, KeptAs, MayTurn, SlotsAs, booked, made, moved, next_place, tries}
+use Rattle.tally_desk.specs.Homes.{HasTurned, IsSound, KeptAs, MayTurn, SlotsAs, booked, made, moved, next_place, tries}
 use Rattle.tally_desk.specs.Parts.{Parts, IsPlan, IsPlaceFor}
 use Rattle.tally_desk.specs.Saving.{SavedWhereDue, TriedSave, sorted_of}
 use Rattle.tally_desk.proofs.Booking.{absent_of_book, booked-push, booked_fit, by_id_fit}
@@ -38,7 +40,7 @@ use Rattle.tally_desk.proofs.Todo.{todo_small, todo_within}
 covered_more : (last start failed now after : ℕ) → min (start + failed) last ≤ now → min (now + 1) last ≤ after → min (start + (failed + 1)) last ≤ after
 covered_more last start failed now after covered rose = omega arith
 
-counts_more : (start now after : ℕ) → Counts start now → Counts now after → Counts start after
+pub counts_more : (start now after : ℕ) → Counts start now → Counts now after → Counts start after
 counts_more start now after c d = let first = c.later in let second = d.later in record { later = omega arith; within = λ small. d.within (c.within small) }
 
 -- ---- posts that are due
@@ -65,13 +67,13 @@ count_none false is = refl
 
 -- nothing was saved
 told_as_before : (parts : Parts) (l : List Entry) (t i : ℕ) (place : Place) → is_missed parts.save_every (entry t i false) ≡ false → (a b : Option Pair)
-    → IfToldThen a b (λ before now. SlotsAs parts before now place l) → IfToldThen a b (λ before now. SlotsAs parts before now place (l ++ entry t i false ∷ []))
+    → IfBothTold a b (λ before now. SlotsAs parts before now place l) → IfBothTold a b (λ before now. SlotsAs parts before now place (l ++ entry t i false ∷ []))
 told_as_before parts l t i place unmissed a b h = told_map a b _ _ (λ before now s. unsaved_slots parts l t i before now now place refl (λ _. refl) s) h
 
 -- a save failed
 told_failed : (parts : Parts) (l : List Entry) (t i : ℕ) (place : Place) → place.slot < 2 → is_missed parts.save_every (entry t i false) ≡ true → (a b c : Option Pair)
-    → IfToldThen a b (λ before now. SlotsAs parts before now place l) → KeepsOther b c place.slot
-    → IfToldThen a c (λ before now. SlotsAs parts before now place (l ++ entry t i false ∷ []))
+    → IfBothTold a b (λ before now. SlotsAs parts before now place l) → KeepsOther b c place.slot
+    → IfBothTold a c (λ before now. SlotsAs parts before now place (l ++ entry t i false ∷ []))
 told_failed parts l t i place slot is_one None b c h other = tt
 told_failed parts l t i place slot is_one (Some p) None c h other = absurd h
 told_failed parts l t i place slot is_one (Some p) (Some q) None h other = other
@@ -85,10 +87,10 @@ module _ (newest : SavedSlotsAreNewest) (ours : CheckpointsAreOurs) where
       → (let all = by_id (total parts.job) (booked parts (l ++ entry t i true ∷ [])) in
       list_all (fits parts.job) all ≡ true
       → IsCheckpoint (checkpoint 2 (job_digest parts.job) place.generation all) 2 (job_digest parts.job) place.generation all
-      → (a b c : Option Pair) → IsPlaceFor parts.job a parts.place → IfToldThen a b (λ before now. SlotsAs parts before now place l)
+      → (a b c : Option Pair) → IsPlaceFor parts.job a parts.place → IfBothTold a b (λ before now. SlotsAs parts before now place l)
       → KeepsOther b c place.slot → HoldsBytes c place.slot (checkpoint 2 (job_digest parts.job) place.generation all)
       → IfTold c (IsNewestForFitJobs (job_digest parts.job) place.slot place.generation all)
-      → IfToldThen a c (λ before now. SlotsAs parts before now (next_place place) (l ++ entry t i true ∷ [])))
+      → IfBothTold a c (λ before now. SlotsAs parts before now (next_place place) (l ++ entry t i true ∷ [])))
   told_saved parts plan l t i place at of_todo fit sound None b c first h other held fresh = tt
   told_saved parts plan l t i place at of_todo fit sound (Some p) None c first h other held fresh = absurd h
   told_saved parts plan l t i place at of_todo fit sound (Some p) (Some q) None first h other held fresh = other
@@ -100,8 +102,8 @@ module _ (newest : SavedSlotsAreNewest) (ours : CheckpointsAreOurs) where
 
 -- ---- the turn
 
-module _ {C : Type 0} (load_faults save_faults : C → ℕ) (slots : C → Option Pair) (history : C → Option (List Try)) (parts : Parts) (y : Home C) (l : List Entry) (o : Outcome)
-    (may : MayTurn load_faults save_faults slots history parts y l o) where
+module _ {C : Type 0} (state : C → Kept) (parts : Parts) (y : Home C) (l : List Entry) (o : Outcome)
+    (may : MayTurn state parts y l o) where
   abbrev next : Bool → List Entry
   next saved = l ++ entry (length l) o.id saved ∷ []
 
@@ -146,7 +148,7 @@ module _ {C : Type 0} (load_faults save_faults : C → ℕ) (slots : C → Optio
 
   -- what is left to show of the value after the save
   pub record Done (n : Home C) (saved : Bool) : Type 0 where
-    pub kept : KeptAs load_faults save_faults slots history parts n.book n.keeper n.place n.failed_saves (next saved)
+    pub kept : KeptAs state parts n.book n.keeper n.place n.failed_saves (next saved)
     pub due : saved ≡ true → is_due parts.save_every (entry (length l) o.id saved) ≡ true
     pub posted : n.posted ≡ y.posted
     pub every : n.save_every ≡ parts.save_every
@@ -181,9 +183,9 @@ module _ {C : Type 0} (load_faults save_faults : C → ℕ) (slots : C → Optio
             shown = k.shown;
             loads = k.loads;
             place_is = k.place_is ∙ ap (λ (n : ℕ). moved n parts.place) (let more = saves-push l (entry (length l) o.id false) in let same : saves l ≡ saves (next false) = omega (arith, more) in same);
-            tried_is = k.tried_is ∙ undue_tries parts parts.tried l (entry (length l) o.id false) not_due;
+            tried_is = k.tried_is ∙ undue_tries parts parts.keeper.tried l (entry (length l) o.id false) not_due;
             sound = undue_sound parts l (entry (length l) o.id false) not_due k.sound;
-            told = told_as_before parts l (length l) o.id y.place unmissed parts.slots (slots y.keeper) k.told;
+            told = told_as_before parts l (length l) o.id y.place unmissed parts.keeper.slots (state y.keeper).slots k.told;
           };
           due = λ h. absurd (true≢false (sym h));
           posted = refl;
@@ -195,7 +197,7 @@ module _ {C : Type 0} (load_faults save_faults : C → ℕ) (slots : C → Optio
 
     module _ (newest : SavedSlotsAreNewest) (ours : CheckpointsAreOurs) (n : Home C) (was_due : (saved : Bool) → is_due parts.save_every (entry (length l) o.id saved) ≡ true) where
       -- what a save leaves, and that it was due
-      rest_done : (saved : Bool) → TriedSave load_faults save_faults slots history m n saved → KeptAs load_faults save_faults slots history parts n.book n.keeper n.place n.failed_saves (next saved) → Done n saved
+      rest_done : (saved : Bool) → TriedSave state m n saved → KeptAs state parts n.book n.keeper n.place n.failed_saves (next saved) → Done n saved
       rest_done saved tried kept = record {
         kept = kept;
         due = λ _. was_due saved;
@@ -216,15 +218,15 @@ module _ {C : Type 0} (load_faults save_faults : C → ℕ) (slots : C → Optio
       sorted_is = ap (λ (q : Booked). by_id q.total q.outcomes) (book_is true)
 
       -- the history has this save too, whether it succeeded or not
-      history_is : (saved : Bool) → TriedSave load_faults save_faults slots history m n saved → history n.keeper ≡ tried_all parts.tried (tries parts (next saved))
+      history_is : (saved : Bool) → TriedSave state m n saved → (state n.keeper).tried ≡ tried_all parts.keeper.tried (tries parts (next saved))
       history_is saved tried =
           let k = may.holds.kept in
           let sorted : sorted_of m ≡ by_id (total parts.job) (booked parts (next saved)) = ap (λ (q : Booked). by_id q.total q.outcomes) (book_is saved) in
           tried.tried
           ∙ (λ i. tried_too (k.tried_is i) (k.place_is i).slot (checkpoint 2 (digests i) (k.place_is i).generation (sorted i)) saved)
-          ∙ due_tries parts parts.tried l (entry (length l) o.id saved) (was_due saved)
+          ∙ due_tries parts parts.keeper.tried l (entry (length l) o.id saved) (was_due saved)
 
-      sound_is : (saved : Bool) → TriedSave load_faults save_faults slots history m n saved → All (IsSound parts.job) (made parts (next saved))
+      sound_is : (saved : Bool) → TriedSave state m n saved → All (IsSound parts.job) (made parts (next saved))
       sound_is saved tried =
           let k = may.holds.kept in
           let sorted : sorted_of m ≡ by_id (total parts.job) (booked parts (next saved)) = ap (λ (q : Booked). by_id q.total q.outcomes) (book_is saved) in
@@ -232,7 +234,7 @@ module _ {C : Type 0} (load_faults save_faults : C → ℕ) (slots : C → Optio
           (subst (λ (x : List ℕ × Place × List Outcome). IsCheckpoint (checkpoint 2 x.0 x.1.generation x.2) 2 x.0 x.1.generation x.2) (λ i. (digests i, k.place_is i, sorted i)) tried.sound)
           k.sound
 
-      saved_kept : TriedSave load_faults save_faults slots history m n true → KeptAs load_faults save_faults slots history parts n.book n.keeper n.place n.failed_saves (next true)
+      saved_kept : TriedSave state m n true → KeptAs state parts n.book n.keeper n.place n.failed_saves (next true)
       saved_kept tried =
           let k = may.holds.kept in
           let w = tried.on_ok refl in
@@ -244,22 +246,22 @@ module _ {C : Type 0} (load_faults save_faults : C → ℕ) (slots : C → Optio
             book_is = tried.rest.book ∙ book_is true;
             failed_is = w.failed ∙ k.failed_is ∙ same_missed;
             covered = omega (arith, k.covered, w.faults, w.failed);
-            counts = subst (Counts parts.save_faults) (sym w.faults) k.counts;
+            counts = subst (Counts parts.keeper.save_faults) (sym w.faults) k.counts;
             shown = λ rose. let some_failed = k.shown (omega (arith, rose, w.faults)) in omega (arith, some_failed, w.failed);
             loads = tried.loads ∙ k.loads;
             place_is = w.place ∙ ap next_place k.place_is ∙ ap (λ (c : ℕ). moved c parts.place) (sym count);
             tried_is = history_is true tried;
             sound = sound_is true tried;
-            told = subst (λ (p : Place). IfToldThen parts.slots (slots n.keeper) (λ before now. SlotsAs parts before now p (next true))) (sym w.place)
+            told = subst (λ (p : Place). IfBothTold parts.keeper.slots (state n.keeper).slots (λ before now. SlotsAs parts before now p (next true))) (sym w.place)
                 (told_saved newest ours parts may.plan l (length l) o.id y.place k.place_is may.of_todo
                 (by_id_fit (fits parts.job) (total parts.job) (booked parts (next true)) (booked_fit parts may.plan (next true) (next_of_todo true)))
                 (subst (λ (x : List ℕ × List Outcome). IsCheckpoint (checkpoint 2 x.0 y.place.generation x.1) 2 x.0 y.place.generation x.1) (λ i. (digests i, sorted_is i)) tried.sound)
-                parts.slots (slots y.keeper) (slots n.keeper) may.plan.place k.told tried.other
-                (subst (λ (x : List ℕ × List Outcome). HoldsBytes (slots n.keeper) y.place.slot (checkpoint 2 x.0 y.place.generation x.1)) (λ i. (digests i, sorted_is i)) w.held)
-                (subst (λ (x : List ℕ × List Outcome). IfTold (slots n.keeper) (IsNewestForFitJobs x.0 y.place.slot y.place.generation x.1)) (λ i. (digests i, sorted_is i)) w.newest));
+                parts.keeper.slots (state y.keeper).slots (state n.keeper).slots may.plan.place k.told tried.other
+                (subst (λ (x : List ℕ × List Outcome). HoldsBytes (state n.keeper).slots y.place.slot (checkpoint 2 x.0 y.place.generation x.1)) (λ i. (digests i, sorted_is i)) w.held)
+                (subst (λ (x : List ℕ × List Outcome). IfTold (state n.keeper).slots (IsNewestForFitJobs x.0 y.place.slot y.place.generation x.1)) (λ i. (digests i, sorted_is i)) w.newest));
           }
 
-      failed_kept : TriedSave load_faults save_faults slots history m n false → KeptAs load_faults save_faults slots history parts n.book n.keeper n.place n.failed_saves (next false)
+      failed_kept : TriedSave state m n false → KeptAs state parts n.book n.keeper n.place n.failed_saves (next false)
       failed_kept tried =
           let k = may.holds.kept in
           let w = tried.on_err refl in
@@ -271,23 +273,23 @@ module _ {C : Type 0} (load_faults save_faults : C → ℕ) (slots : C → Optio
           record {
             book_is = tried.rest.book ∙ book_is false;
             failed_is = w.failed ∙ ap (λ (c : ℕ). c + 1) k.failed_is ∙ sym one_more;
-            covered = subst (λ (c : ℕ). min (parts.save_faults + c) (2 ^ 64 - 1) ≤ save_faults n.keeper) (sym w.failed)
-                (covered_more (2 ^ 64 - 1) parts.save_faults y.failed_saves (save_faults y.keeper) (save_faults n.keeper) k.covered w.rose);
-            counts = counts_more parts.save_faults (save_faults y.keeper) (save_faults n.keeper) k.counts tried.counts;
+            covered = subst (λ (c : ℕ). min (parts.keeper.save_faults + c) (2 ^ 64 - 1) ≤ (state n.keeper).save_faults) (sym w.failed)
+                (covered_more (2 ^ 64 - 1) parts.keeper.save_faults y.failed_saves (state y.keeper).save_faults (state n.keeper).save_faults k.covered w.rose);
+            counts = counts_more parts.keeper.save_faults (state y.keeper).save_faults (state n.keeper).save_faults k.counts tried.counts;
             shown = λ rose. omega (arith, w.failed);
             loads = tried.loads ∙ k.loads;
             place_is = w.place ∙ k.place_is ∙ ap (λ (c : ℕ). moved c parts.place) same;
             tried_is = history_is false tried;
             sound = sound_is false tried;
-            told = subst (λ (p : Place). IfToldThen parts.slots (slots n.keeper) (λ before now. SlotsAs parts before now p (next false))) (sym w.place)
-                (told_failed parts l (length l) o.id y.place slot_below is_one parts.slots (slots y.keeper) (slots n.keeper) k.told tried.other);
+            told = subst (λ (p : Place). IfBothTold parts.keeper.slots (state n.keeper).slots (λ before now. SlotsAs parts before now p (next false))) (sym w.place)
+                (told_failed parts l (length l) o.id y.place slot_below is_one parts.keeper.slots (state y.keeper).slots (state n.keeper).slots k.told tried.other);
           }
 
-      tried_done : (saved : Bool) → TriedSave load_faults save_faults slots history m n saved → Done n saved
+      tried_done : (saved : Bool) → TriedSave state m n saved → Done n saved
       tried_done true tried = rest_done true tried (saved_kept tried)
       tried_done false tried = rest_done false tried (failed_kept tried)
 
-    pub done : SavedSlotsAreNewest → CheckpointsAreOurs → (n : Home C) (saved : Bool) → SavedWhereDue load_faults save_faults slots history (length l + 1) m n saved → Done n saved
+    pub done : SavedSlotsAreNewest → CheckpointsAreOurs → (n : Home C) (saved : Bool) → SavedWhereDue state (length l + 1) m n saved → Done n saved
     done newest ours n saved s = by (is_due parts.save_every (entry (length l) o.id false)) refl
       where
         due_by : (d : Bool) → is_due parts.save_every (entry (length l) o.id false) ≡ d → ((length l + 1) % y.save_every == 0) ≡ d
@@ -300,11 +302,11 @@ module _ {C : Type 0} (load_faults save_faults : C → ℕ) (slots : C → Optio
   -- the entry was appended
   pub turned : (n z : Home C) (saved : Bool) → Done n saved → z.posted.items ≡ n.posted.items ++ entry (length l) o.id saved ∷ []
       → vec_capacity z.posted ≡ vec_capacity n.posted → z.book ≡ n.book → z.keeper ≡ n.keeper → z.place ≡ n.place → z.failed_saves ≡ n.failed_saves
-      → z.save_every ≡ n.save_every → z.digest ≡ n.digest → z.sorted ≡ n.sorted → z.room ≡ n.room → HasTurned load_faults save_faults slots history parts z l o saved
+      → z.save_every ≡ n.save_every → z.digest ≡ n.digest → z.sorted ≡ n.sorted → z.room ≡ n.room → HasTurned state parts z l o saved
   turned n z saved d items capacity book keeper place failed every digest sorted room = record {
     holds = record {
       entries = items ∙ ap (λ (q : List Entry). q ++ entry (length l) o.id saved ∷ []) (ap (λ v. v.items) d.posted ∙ may.holds.entries);
-      kept = subst (λ (q : Booked × C × Place × ℕ). KeptAs load_faults save_faults slots history parts q.0 q.1 q.2 q.3 (next saved))
+      kept = subst (λ (q : Booked × C × Place × ℕ). KeptAs state parts q.0 q.1 q.2 q.3 (next saved))
           (λ k. (sym book k, sym keeper k, sym place k, sym failed k)) d.kept;
       equipped = record {
         every = every ∙ d.every;

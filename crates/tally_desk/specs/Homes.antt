@@ -1,6 +1,8 @@
 -- What the slot of a desk holds after these posts.
-use Rattle.std.specs.Prelude.{◌≡◌, ℕ, zero, suc, ◌+◌, ◌-◌, ◌*◌, ◌%◌, ◌^◌, ◌<◌, ◌≤◌, min, Bool, true, cond, List, ◌∷◌, [], ◌++◌, length, map, ⊤, Option, Some, None, vec_capacity}
+use Rattle.std.specs.Prelude.{◌≡◌, ℕ, zero, suc, ◌+◌, ◌-◌, ◌*◌, ◌%◌, ◌^◌, ◌<◌, ◌≤◌, min, Bool, true, cond, List, ◌∷◌, [], ◌++◌, length, map, Some, vec_capacity}
 use Rattle.std.specs.List.{All, range_with_len}
+use Rattle.audit_io.specs.State.{Kept}
+use Rattle.audit_io.specs.Told.{IfBothTold}
 use Rattle.audit_io.specs.Faults.{Counts}
 use Rattle.audit_io.specs.Slots.{Pair, Stored, stored}
 use Rattle.audit_io.specs.Tries.{Try, tried_all, try_of}
@@ -97,31 +99,25 @@ pub record SlotsAs (parts : Parts) (before now : Pair) (place : Place) (posted :
   -- where the last of all posts is marked, the last slot is the newest
   pub newest : ends_saved posted ≡ true → newest_for parts.job (job_digest parts.job) now ≡ Some (1 - place.slot)
 
--- what is known of both, where the first is told; a keeper that tells goes on telling
-abbrev pub IfToldThen : {A : Type 0} → Option A → Option A → (A → A → Type 0) → Type 0
-IfToldThen None now P = ⊤
-IfToldThen (Some x) None P = ⊥
-IfToldThen (Some x) (Some y) P = P x y
-
 -- ---- the value
 
-module _ {C : Type 0} (load_faults save_faults : C → ℕ) (slots : C → Option Pair) (history : C → Option (List Try)) where
+module _ {C : Type 0} (state : C → Kept) where
   -- what a desk keeps after these posts: the book, the keeper, the place and how many saves failed
   pub record KeptAs (parts : Parts) (book : Booked) (keeper : C) (place : Place) (failed : ℕ) (posted : List Entry) : Type 0 where
     pub book_is : book ≡ record { total = total parts.job; outcomes = booked parts posted }
     -- each save that was due and is not marked failed
     pub failed_is : failed ≡ missed parts.save_every posted
     -- the keeper counted each of them, or its count stands at its last number
-    pub covered : min (parts.save_faults + failed) (2 ^ 64 - 1) ≤ save_faults keeper
-    pub counts : Counts parts.save_faults (save_faults keeper)
+    pub covered : min (parts.keeper.save_faults + failed) (2 ^ 64 - 1) ≤ (state keeper).save_faults
+    pub counts : Counts parts.keeper.save_faults (state keeper).save_faults
     -- and no other failed
-    pub shown : parts.save_faults < save_faults keeper → 0 < failed
-    pub loads : load_faults keeper ≡ parts.load_faults
+    pub shown : parts.keeper.save_faults < (state keeper).save_faults → 0 < failed
+    pub loads : (state keeper).load_faults ≡ parts.keeper.load_faults
     pub place_is : place ≡ moved (saves posted) parts.place
     -- the keeper was asked for these saves and no others
-    pub tried_is : history keeper ≡ tried_all parts.tried (tries parts posted)
+    pub tried_is : (state keeper).tried ≡ tried_all parts.keeper.tried (tries parts posted)
     pub sound : All (IsSound parts.job) (made parts posted)
-    pub told : IfToldThen parts.slots (slots keeper) (λ before now. SlotsAs parts before now place posted)
+    pub told : IfBothTold parts.keeper.slots (state keeper).slots (λ before now. SlotsAs parts before now place posted)
 
   -- what the code has beside: how often it saves, the job's digest, and room for all posts, for all outcomes by rising id and for their checkpoint
   pub record IsEquipped (parts : Parts) (home : Home C) : Type 0 where

@@ -1,8 +1,9 @@
 -- What never changes at a desk, and what a desk may be made of.
 use Rattle.std.specs.Prelude.{◌≡◌, ℕ, ◌<◌, ◌≤◌, IsTrue, List, length, Option}
 use Rattle.std.specs.List.{All}
-use Rattle.audit_io.specs.Slots.{Pair, IfTold}
-use Rattle.audit_io.specs.Tries.{Try}
+use Rattle.audit_io.specs.State.{Kept}
+use Rattle.audit_io.specs.Told.{IfTold}
+use Rattle.audit_io.specs.Slots.{Pair}
 use Rattle.audit_model.specs.declared.outcome.Outcome.{Outcome}
 use Rattle.audit_model.specs.Job.{Job}
 use Rattle.audit_model.specs.JobOf.{IsJob}
@@ -15,8 +16,7 @@ use Rattle.draw_definitions.specs.Draw.{draw}
 use Rattle.outcome_book.specs.Booked.{IsBook}
 
 -- the job, the outcomes of the book and the ids to do; after how many posts a save is due, how many passes there may be, and where the
--- first save goes; and what the keeper told when the desk was made: how often loads and saves had failed, its slots,
--- and the saves that were tried
+-- first save goes; and what the keeper was when the desk was made
 pub record Parts : Type 0 where
   pub job : Job
   pub opening : List Outcome
@@ -24,10 +24,7 @@ pub record Parts : Type 0 where
   pub save_every : ℕ
   pub seats : ℕ
   pub place : Place
-  pub load_faults : ℕ
-  pub save_faults : ℕ
-  pub slots : Option Pair
-  pub tried : Option (List Try)
+  pub keeper : Kept
 
 -- what the trajectory with this id finds, by the draws of the job's key
 unfoldable pub found : Job → ℕ → Outcome
@@ -53,4 +50,4 @@ pub record IsPlan (parts : Parts) : Type 0 where
   pub few_seats : parts.seats ≤ 33
   pub slot : parts.place.slot < 2
   pub generation : parts.place.generation < 3
-  pub place : IsPlaceFor parts.job parts.slots parts.place
+  pub place : IsPlaceFor parts.job parts.keeper.slots parts.place

@@ -1,10 +1,9 @@
 -- What clauses say of passes.
-use Rattle.std.specs.Prelude.{◌≡◌, ℕ, ◌+◌, ◌<◌, Bool, List, length, slice_index, Option, Some}
+use Rattle.std.specs.Prelude.{◌≡◌, ℕ, ◌+◌, ◌<◌, Bool, List, length, slice_index, Some}
 use Rattle.std.specs.List.{range_with_len}
 use Rattle.std.specs.List.Sorted.{IsPermutation}
 use Rattle.atomic_table.specs.Seated.{TableId}
-use Rattle.audit_io.specs.Slots.{Pair}
-use Rattle.audit_io.specs.Tries.{Try}
+use Rattle.audit_io.specs.State.{Kept}
 use Rattle.ckpt_store.specs.declared.slots.Place.{Place}
 use Rattle.claim_counter.specs.Records.{with_claim}
 use Rattle.outcome_book.specs.Booked.{Booked}
@@ -50,7 +49,7 @@ HasPostedAll parts v = (id : ℕ) → times id (ids_of v.entries) ≡ times id (
 
 -- What a desk leaves that is closed with its only pass, which posted all. These are its posts, by rising ticket: each id to do has one, only those
 -- with which a save was due are marked, and what is handed back is what a desk keeps after them.
-pub record IsClosed {C : Type 0} (load_faults save_faults : C → ℕ) (slots : C → Option Pair) (history : C → Option (List Try)) (parts : Parts) (v : PassView)
+pub record IsClosed {C : Type 0} (state : C → Kept) (parts : Parts) (v : PassView)
     (book : Booked) (keeper : C) (place : Place) (failed : ℕ) (last_saved : Bool) : Type 0 where
   pub plan : IsPlan parts
   pub slot : place.slot < 2
@@ -60,7 +59,7 @@ pub record IsClosed {C : Type 0} (load_faults save_faults : C → ℕ) (slots : 
   pub in_order : tickets_of posted ≡ range_with_len 0 (length parts.todo)
   pub all : IsPermutation (ids_of posted) parts.todo
   pub due : AreDue parts posted
-  pub kept : KeptAs load_faults save_faults slots history parts book keeper place failed posted
+  pub kept : KeptAs state parts book keeper place failed posted
   pub last : last_saved ≡ ends_saved posted
 
 -- ---- what stays true of a pass that posts what it claims

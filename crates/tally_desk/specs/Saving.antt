@@ -1,8 +1,10 @@
 -- What a save of the book does to what the slot of a desk holds.
-use Rattle.std.specs.Prelude.{◌≡◌, ℕ, ◌+◌, ◌%◌, ◌==◌, Bool, true, false, List, length, Option}
+use Rattle.std.specs.Prelude.{◌≡◌, ℕ, ◌+◌, ◌%◌, ◌==◌, Bool, true, false, List, length}
 use Rattle.audit_io.specs.Faults.{Counts, Rose}
-use Rattle.audit_io.specs.Slots.{Pair, IfTold, HoldsBytes, KeepsOther}
-use Rattle.audit_io.specs.Tries.{Try, tried_too}
+use Rattle.audit_io.specs.State.{Kept}
+use Rattle.audit_io.specs.Told.{IfTold}
+use Rattle.audit_io.specs.Slots.{HoldsBytes, KeepsOther}
+use Rattle.audit_io.specs.Tries.{tried_too}
 use Rattle.audit_model.specs.declared.outcome.Outcome.{Outcome}
 use Rattle.checkpoint_definitions.specs.Checkpoint.{IsCheckpoint, checkpoint}
 use Rattle.ckpt_store.specs.Laws.{IsNewestForFitJobs}
@@ -28,28 +30,28 @@ module _ {C : Type 0} where
     pub sorted_room : length now.sorted.items + now.sorted.spare ≡ length before.sorted.items + before.sorted.spare
     pub save_room : length now.room.items + now.room.spare ≡ length before.room.items + before.room.spare
 
-  module _ (load_faults save_faults : C → ℕ) (slots : C → Option Pair) (history : C → Option (List Try)) where
+  module _ (state : C → Kept) where
     -- the save succeeded
     pub record Saved (before now : Home C) : Type 0 where
       pub place : now.place ≡ next_place before.place
       pub failed : now.failed_saves ≡ before.failed_saves
-      pub faults : save_faults now.keeper ≡ save_faults before.keeper
-      pub held : HoldsBytes (slots now.keeper) before.place.slot (bytes_of before)
-      pub newest : IfTold (slots now.keeper) (IsNewestForFitJobs before.digest before.place.slot before.place.generation (sorted_of before))
+      pub faults : (state now.keeper).save_faults ≡ (state before.keeper).save_faults
+      pub held : HoldsBytes (state now.keeper).slots before.place.slot (bytes_of before)
+      pub newest : IfTold (state now.keeper).slots (IsNewestForFitJobs before.digest before.place.slot before.place.generation (sorted_of before))
 
     -- the save failed
     pub record FailedSave (before now : Home C) : Type 0 where
       pub place : now.place ≡ before.place
       pub failed : now.failed_saves ≡ before.failed_saves + 1
-      pub rose : Rose (save_faults before.keeper) (save_faults now.keeper)
+      pub rose : Rose (state before.keeper).save_faults (state now.keeper).save_faults
 
     -- a save was tried
     pub record TriedSave (before now : Home C) (saved : Bool) : Type 0 where
       pub rest : KeepsRest before now
-      pub loads : load_faults now.keeper ≡ load_faults before.keeper
-      pub counts : Counts (save_faults before.keeper) (save_faults now.keeper)
-      pub tried : history now.keeper ≡ tried_too (history before.keeper) before.place.slot (bytes_of before) saved
-      pub other : KeepsOther (slots before.keeper) (slots now.keeper) before.place.slot
+      pub loads : (state now.keeper).load_faults ≡ (state before.keeper).load_faults
+      pub counts : Counts (state before.keeper).save_faults (state now.keeper).save_faults
+      pub tried : (state now.keeper).tried ≡ tried_too (state before.keeper).tried before.place.slot (bytes_of before) saved
+      pub other : KeepsOther (state before.keeper).slots (state now.keeper).slots before.place.slot
       pub sound : IsCheckpoint (bytes_of before) 2 before.digest before.place.generation (sorted_of before)
       pub on_ok : saved ≡ true → Saved before now
       pub on_err : saved ≡ false → FailedSave before now

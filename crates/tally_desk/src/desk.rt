@@ -61,24 +61,21 @@ impl<C: Keeper> Desk<C> {
         requires every { 1 ≤ plan.save_every }
         requires slot { plan.place.slot < 2 }
         requires generation { plan.place.generation < 3 }
-        requires place { IsPlaceFor job.now (C.slots keeper) plan.place }
+        requires place { IsPlaceFor job.now (C.state keeper).slots plan.place }
         requires total { book.total ≡ total job.now }
         requires fit { All (λ o. IsTrue (fits job.now o)) book.outcomes }
         requires todo { IsTodoFor job.now book.outcomes todo }
         requires seats { (1 ≤ seats) × (seats ≤ 33) }
-        ensures parts { IfOk result (λ d. parts_of C.load_faults C.save_faults C.slots C.tried d.0.table.shared.key ≡ record {
+        ensures parts { IfOk result (λ d. parts_of C.state d.0.table.shared.key ≡ record {
           job = job.now;
           opening = book.outcomes;
           todo = todo;
           save_every = plan.save_every;
           seats = seats;
           place = plan.place;
-          load_faults = C.load_faults keeper;
-          save_faults = C.save_faults keeper;
-          slots = C.slots keeper;
-          tried = C.tried keeper;
+          keeper = C.state keeper;
         }) }
-        ensures pass { IfOk result (λ d. let parts = parts_of C.load_faults C.save_faults C.slots C.tried d.0.table.shared.key in
+        ensures pass { IfOk result (λ d. let parts = parts_of C.state d.0.table.shared.key in
             Belongs d.0.table.shared.table_id parts d.1 × (view_of d.1 ≡ first_view parts)) }
         ensures refused { IfErr result (λ r. (r.book ≡ book) × (r.keeper ≡ keeper)) }
     {
@@ -114,10 +111,10 @@ impl<C: Keeper> Desk<C> {
     /// Draws the next place of the list in one atomic step, and answers its id. No other pass of this desk has it, or ever gets it. `None` says
     /// that no id was left, and the pass has ended.
     pub fn claim(&self, pass: &mut DeskPass) -> Option<u32>
-        requires pass { Belongs self.now.table.shared.table_id (parts_of C.load_faults C.save_faults C.slots C.tried self.now.table.shared.key) pass.old }
+        requires pass { Belongs self.now.table.shared.table_id (parts_of C.state self.now.table.shared.key) pass.old }
         requires before_end { (view_of pass.old).own.ended ≡ false }
-        ensures pass { Belongs self.now.table.shared.table_id (parts_of C.load_faults C.save_faults C.slots C.tried self.now.table.shared.key) pass.new }
-        ensures claimed { IfSome result (λ id. Claims (parts_of C.load_faults C.save_faults C.slots C.tried self.now.table.shared.key) id (view_of pass.old) (view_of pass.new)) }
+        ensures pass { Belongs self.now.table.shared.table_id (parts_of C.state self.now.table.shared.key) pass.new }
+        ensures claimed { IfSome result (λ id. Claims (parts_of C.state self.now.table.shared.key) id (view_of pass.old) (view_of pass.new)) }
         ensures end { IfNone result (view_of pass.new ≡ ended_view (view_of pass.old)) }
         ensures few { length (view_of pass.new).own.claims ≤ length self.now.table.shared.key.todo.value }
     {
@@ -136,18 +133,18 @@ impl<C: Keeper> Desk<C> {
 
     /// Posts the outcome of a claim, under a turn of its own: it looks again until its ticket is served, and parks nobody. It takes no memory but
     /// the keeper's.
-    pub fn post<R: Wait>(&self, rt: &R, pass: &mut DeskPass, o: Outcome)
-        requires pass { Belongs self.now.table.shared.table_id (parts_of C.load_faults C.save_faults C.slots C.tried self.now.table.shared.key) pass.old }
-        requires claimed { 0 < times o.id (claimed_ids (parts_of C.load_faults C.save_faults C.slots C.tried self.now.table.shared.key) (view_of pass.old)) }
-        requires unposted { times o.id (ids_of (view_of pass.old).entries) ≡ 0 }
-        requires right { o ≡ found self.now.table.shared.key.job.value o.id }
-        ensures pass { Belongs self.now.table.shared.table_id (parts_of C.load_faults C.save_faults C.slots C.tried self.now.table.shared.key) pass.new }
-        ensures posted { Posts o.id (view_of pass.old) (view_of pass.new) }
+    pub fn post<R: Wait>(&self, rt: &R, pass: &mut DeskPass, outcome: Outcome)
+        requires pass { Belongs self.now.table.shared.table_id (parts_of C.state self.now.table.shared.key) pass.old }
+        requires claimed { 0 < times outcome.id (claimed_ids (parts_of C.state self.now.table.shared.key) (view_of pass.old)) }
+        requires unposted { times outcome.id (ids_of (view_of pass.old).entries) ≡ 0 }
+        requires right { outcome ≡ found self.now.table.shared.key.job.value outcome.id }
+        ensures pass { Belongs self.now.table.shared.table_id (parts_of C.state self.now.table.shared.key) pass.new }
+        ensures posted { Posts outcome.id (view_of pass.old) (view_of pass.new) }
     {
         let mut seat = take_out(&mut pass.badge);
-        let ticket = self.take_ticket::<Brand>(&mut seat, o.id);
-        self.await_turn(rt, &mut seat, ticket, o.id);
-        self.serve(&mut seat, ticket, o);
+        let ticket = self.take_ticket::<Brand>(&mut seat, outcome.id);
+        self.await_turn(rt, &mut seat, ticket, outcome.id);
+        self.serve(&mut seat, ticket, outcome);
         pass.badge = seat.into_badge();
     }
 
@@ -156,7 +153,7 @@ impl<C: Keeper> Desk<C> {
         requires name { B.id ≡ id }
         requires table { seat.old.table_id ≡ self.now.table.shared.table_id }
         requires empty { seat.old.me.1 ≡ [] }
-        requires post { CanPost (parts_of C.load_faults C.save_faults C.slots C.tried self.now.table.shared.key) seat.old.me.0 id }
+        requires post { CanPost (parts_of C.state self.now.table.shared.key) seat.old.me.0 id }
         ensures table { seat.new.table_id ≡ seat.old.table_id }
         ensures seat { seat.new.me ≡ (with_turn seat.old.me.0 (waiting result id), []) }
     {
@@ -167,9 +164,9 @@ impl<C: Keeper> Desk<C> {
     fn await_turn<R: Wait>(&self, rt: &R, seat: &mut Seat<Home<C>, View>, ticket: u64, id: u32)
         requires table { seat.old.table_id ≡ self.now.table.shared.table_id }
         requires empty { seat.old.me.1 ≡ [] }
-        requires waits { IsWaiting (parts_of C.load_faults C.save_faults C.slots C.tried self.now.table.shared.key) ticket id seat.old.me.0 }
+        requires waits { IsWaiting (parts_of C.state self.now.table.shared.key) ticket id seat.old.me.0 }
         ensures table { seat.new.table_id ≡ seat.old.table_id }
-        ensures begins { BeginsTurn (HomeAs C.load_faults C.save_faults C.slots C.tried) (parts_of C.load_faults C.save_faults C.slots C.tried self.now.table.shared.key) ticket id seat.old.me seat.new.me }
+        ensures begins { BeginsTurn (HomeAs C.state) (parts_of C.state self.now.table.shared.key) ticket id seat.old.me seat.new.me }
     {
         for _ in rt.forever() {
             if self.table.shared.load::<Look>(seat, 2) == ticket {
@@ -181,24 +178,24 @@ impl<C: Keeper> Desk<C> {
     }
 
     // Posts the outcome under the turn, and serves the next ticket.
-    fn serve(&self, seat: &mut Seat<Home<C>, View>, ticket: u64, o: Outcome)
+    fn serve(&self, seat: &mut Seat<Home<C>, View>, ticket: u64, outcome: Outcome)
         requires table { seat.old.table_id ≡ self.now.table.shared.table_id }
-        requires right { o ≡ found self.now.table.shared.key.job.value o.id }
-        requires turn { IsInTurn (HomeAs C.load_faults C.save_faults C.slots C.tried) (parts_of C.load_faults C.save_faults C.slots C.tried self.now.table.shared.key) ticket o.id seat.old.me }
+        requires right { outcome ≡ found self.now.table.shared.key.job.value outcome.id }
+        requires turn { IsInTurn (HomeAs C.state) (parts_of C.state self.now.table.shared.key) ticket outcome.id seat.old.me }
         ensures table { seat.new.table_id ≡ seat.old.table_id }
-        ensures served { HasServed ticket o.id seat.old.me seat.new.me }
+        ensures served { HasServed ticket outcome.id seat.old.me seat.new.me }
     {
         let home = seat.slot_mut(&self.table.shared, 0);
-        home.turn(o);
+        home.turn(outcome);
         self.table.shared.store::<Serve>(seat, 2, ticket + 1);
     }
 
     /// One more pass, which has claimed nothing. `pass` can then be split once less.
     pub fn split(&self, pass: &mut DeskPass) -> DeskPass
-        requires pass { Belongs self.now.table.shared.table_id (parts_of C.load_faults C.save_faults C.slots C.tried self.now.table.shared.key) pass.old }
+        requires pass { Belongs self.now.table.shared.table_id (parts_of C.state self.now.table.shared.key) pass.old }
         requires spare { 0 < (view_of pass.old).own.spare }
-        ensures rest { Belongs self.now.table.shared.table_id (parts_of C.load_faults C.save_faults C.slots C.tried self.now.table.shared.key) pass.new × (view_of pass.new ≡ left_view (view_of pass.old)) }
-        ensures new { Belongs self.now.table.shared.table_id (parts_of C.load_faults C.save_faults C.slots C.tried self.now.table.shared.key) result × (view_of result ≡ right_view (view_of pass.old)) }
+        ensures rest { Belongs self.now.table.shared.table_id (parts_of C.state self.now.table.shared.key) pass.new × (view_of pass.new ≡ left_view (view_of pass.old)) }
+        ensures new { Belongs self.now.table.shared.table_id (parts_of C.state self.now.table.shared.key) result × (view_of result ≡ right_view (view_of pass.old)) }
     {
         // Laws, called for what their contracts say: what each kind of draw keeps.
         counter_laws();
@@ -214,11 +211,11 @@ impl<C: Keeper> Desk<C> {
     }
 
     /// One pass for two, with the claims and the posts of both. It has ended where both have.
-    pub fn join(&self, a: DeskPass, b: DeskPass) -> DeskPass
-        requires first { Belongs self.now.table.shared.table_id (parts_of C.load_faults C.save_faults C.slots C.tried self.now.table.shared.key) a }
-        requires second { Belongs self.now.table.shared.table_id (parts_of C.load_faults C.save_faults C.slots C.tried self.now.table.shared.key) b }
-        ensures pass { Belongs self.now.table.shared.table_id (parts_of C.load_faults C.save_faults C.slots C.tried self.now.table.shared.key) result }
-        ensures both { view_of result ≡ joined_view (view_of a) (view_of b) }
+    pub fn join(&self, first: DeskPass, second: DeskPass) -> DeskPass
+        requires first { Belongs self.now.table.shared.table_id (parts_of C.state self.now.table.shared.key) first }
+        requires second { Belongs self.now.table.shared.table_id (parts_of C.state self.now.table.shared.key) second }
+        ensures pass { Belongs self.now.table.shared.table_id (parts_of C.state self.now.table.shared.key) result }
+        ensures both { view_of result ≡ joined_view (view_of first) (view_of second) }
     {
         // Laws, called for what their contracts say: what each kind of draw keeps.
         counter_laws();
@@ -226,12 +223,12 @@ impl<C: Keeper> Desk<C> {
             mut badge,
             spare,
             ended,
-        } = a;
+        } = first;
         let DeskPass {
             badge: mut other_badge,
             spare: other_spare,
             ended: other_ended,
-        } = b;
+        } = second;
         let mut seat = take_out(&mut badge);
         let other = take_out(&mut other_badge);
         self.table.shared.join_seat::<OnePass>(&mut seat, other);
@@ -246,11 +243,11 @@ impl<C: Keeper> Desk<C> {
 
     /// Ends the desk with its only pass, which has ended and has posted all that it claimed.
     pub fn close(self, pass: DeskPass) -> Kept<C>
-        requires pass { Belongs self.table.shared.table_id (parts_of C.load_faults C.save_faults C.slots C.tried self.table.shared.key) pass }
-        requires only { HasAllSeats (parts_of C.load_faults C.save_faults C.slots C.tried self.table.shared.key) (view_of pass) }
+        requires pass { Belongs self.table.shared.table_id (parts_of C.state self.table.shared.key) pass }
+        requires only { HasAllSeats (parts_of C.state self.table.shared.key) (view_of pass) }
         requires ended { (view_of pass).own.ended ≡ true }
-        requires posted { HasPostedAll (parts_of C.load_faults C.save_faults C.slots C.tried self.table.shared.key) (view_of pass) }
-        ensures { IsClosed C.load_faults C.save_faults C.slots C.tried (parts_of C.load_faults C.save_faults C.slots C.tried self.table.shared.key) (view_of pass)
+        requires posted { HasPostedAll (parts_of C.state self.table.shared.key) (view_of pass) }
+        ensures { IsClosed C.state (parts_of C.state self.table.shared.key) (view_of pass)
             result.book result.keeper result.place result.failed_saves result.last_saved }
     {
         // Laws, called for what their contracts say: what each kind of draw keeps.

@@ -96,11 +96,11 @@ pub(crate) fn open<C: Keeper>(
     ),
     Refused<C>,
 >
-    requires plan { IsPlan (parts_of C.load_faults C.save_faults C.slots C.tried founding.now) }
-    requires home { HomeAs C.load_faults C.save_faults C.slots C.tried (parts_of C.load_faults C.save_faults C.slots C.tried founding.now) home [] }
+    requires plan { IsPlan (parts_of C.state founding.now) }
+    requires home { HomeAs C.state (parts_of C.state founding.now) home [] }
     ensures counts { IfOk result (λ t. (t.0.shared.table_id.words ≡ 3) × (t.0.shared.table_id.slots ≡ 1)) }
     ensures key { IfOk result (λ t. t.0.shared.key ≡ founding.now) }
-    ensures seat { IfOk result (λ t. (t.1.table_id ≡ t.0.shared.table_id) × (t.1.me ≡ (first_view (parts_of C.load_faults C.save_faults C.slots C.tried founding.now), []))) }
+    ensures seat { IfOk result (λ t. (t.1.table_id ≡ t.0.shared.table_id) × (t.1.me ≡ (first_view (parts_of C.state founding.now), []))) }
     ensures refused { IfErr result (λ r. (r.book ≡ home.book) × (r.keeper ≡ home.keeper)) }
 {
     // Laws, called for what their contracts say: what each kind of draw keeps.

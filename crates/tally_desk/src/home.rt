@@ -41,7 +41,7 @@ impl<C: Keeper> Home<C> {
         requires count { self.old.failed_saves + 1 < 2 ^ 32 }
         requires sorted_room { self.old.book.total ≤ length self.old.sorted.items + self.old.sorted.spare }
         requires save_room { 84 + 80 * self.old.book.total ≤ length self.old.room.items + self.old.room.spare }
-        ensures { TriedSave C.load_faults C.save_faults C.slots C.tried self.old self.new result }
+        ensures { TriedSave C.state self.old self.new result }
     {
         // Called for what its contract says: the book holds no more than it has room for.
         let _count = self.book.len();
@@ -72,7 +72,7 @@ impl<C: Keeper> Home<C> {
         requires count { self.old.failed_saves + 1 < 2 ^ 32 }
         requires sorted_room { self.old.book.total ≤ length self.old.sorted.items + self.old.sorted.spare }
         requires save_room { 84 + 80 * self.old.book.total ≤ length self.old.room.items + self.old.room.spare }
-        ensures { SavedWhereDue C.load_faults C.save_faults C.slots C.tried posts self.old self.new result }
+        ensures { SavedWhereDue C.state posts self.old self.new result }
     {
         if posts % u64::from(self.save_every) != 0 {
             return false;
@@ -82,22 +82,22 @@ impl<C: Keeper> Home<C> {
 
     /// Appends an outcome, and saves a checkpoint of the book where one is due: each time that the number of posts is a multiple. Whether a
     /// save was made and succeeded. It takes no memory but the keeper's.
-    pub fn turn(&mut self, o: Outcome) -> bool
-        requires { (parts : Parts) × ((posted : List model.Entry) × MayTurn C.load_faults C.save_faults C.slots C.tried parts self.old posted o) }
-        ensures turned { (parts : Parts) (posted : List model.Entry) → MayTurn C.load_faults C.save_faults C.slots C.tried parts self.old posted o
-            → HasTurned C.load_faults C.save_faults C.slots C.tried parts self.new posted o result }
-        ensures entry { self.new.posted.items ≡ self.old.posted.items ++ entry (length self.old.posted.items) o.id result ∷ [] }
+    pub fn turn(&mut self, outcome: Outcome) -> bool
+        requires { (parts : Parts) × ((posted : List model.Entry) × MayTurn C.state parts self.old posted outcome) }
+        ensures turned { (parts : Parts) (posted : List model.Entry) → MayTurn C.state parts self.old posted outcome
+            → HasTurned C.state parts self.new posted outcome result }
+        ensures entry { self.new.posted.items ≡ self.old.posted.items ++ entry (length self.old.posted.items) outcome.id result ∷ [] }
     {
         // Laws, called for what their contracts say: what is saved is in the newest slot and is the job's, and bins add up to few enough.
         saved_slots_are_newest();
         checkpoints_are_ours();
         outcomes_have_few_visits();
         let ticket = self.posted.len() as u64;
-        self.book.post(o);
+        self.book.post(outcome);
         let saved = self.save_where_due(ticket + 1);
         self.posted.push_reserved(Entry {
             ticket,
-            id: o.id,
+            id: outcome.id,
             saved,
         });
         saved

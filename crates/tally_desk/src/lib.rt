@@ -10,3 +10,8 @@ pub mod laws;
 pub mod pass;
 mod rule;
 mod view;
+
+pub use desk::Desk;
+pub use handing::{DeskPlan, Kept, Refused};
+pub use laws::{posts_stay_whole, unfailed_runs_save_in_turn};
+pub use pass::DeskPass;

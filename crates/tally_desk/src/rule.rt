@@ -18,9 +18,9 @@ impl<C: Keeper> TableRule<Home<C>, View, Founding<C>> for OneTally<C> {
     ghost use Rattle.tally_desk.specs.Founded.{parts_of};
     ghost use Rattle.tally_desk.specs.Homes.{HomeAs};
 
-    ghost holds = { λ key. Tallied (HomeAs C.load_faults C.save_faults C.slots C.tried) (parts_of C.load_faults C.save_faults C.slots C.tried key) };
+    ghost holds = { λ key. Tallied (HomeAs C.state) (parts_of C.state key) };
 
-    ghost first = { λ key. first_view (parts_of C.load_faults C.save_faults C.slots C.tried key) };
+    ghost first = { λ key. first_view (parts_of C.state key) };
 }
 
 /// A draw of the next place.
@@ -59,7 +59,7 @@ impl<C: Keeper> Play<Home<C>, View> for Look {
     ghost use Rattle.tally_desk.specs.Desks.{Looks};
     ghost use Rattle.tally_desk.specs.Homes.{HomeAs};
 
-    ghost then = { Looks (HomeAs C.load_faults C.save_faults C.slots C.tried) };
+    ghost then = { Looks (HomeAs C.state) };
 }
 
 /// The end of a turn.

@@ -15,6 +15,7 @@ use Rattle.audit_model.specs.Stopping.{placed_asks, stops_of}
 use Rattle.audit_model.specs.Test.{bound, p_value}
 use Rattle.audit_model.specs.Trajectory.{Draws, plan_value, rank, sequence, tally, value_at}
 use Rattle.text_definitions.specs.Names.{score_name, tail_name}
+use Rattle.audit_model.specs.Limits.{most_edges}
 
 -- the words with a space between each two, and a line feed at the end
 abbrev pub line : List (List ℕ) → List ℕ
@@ -46,7 +47,7 @@ population_line job = line (
 
 -- the most cut edges, where they are limited
 abbrev pub cut_line : Job → List ℕ
-cut_line job = cond (nat_lt job.setting.max_cut 400000) (line (codes "max-cut" ∷ decimal job.setting.max_cut ∷ [])) []
+cut_line job = cond (nat_lt job.setting.max_cut most_edges) (line (codes "max-cut" ∷ decimal job.setting.max_cut ∷ [])) []
 
 -- among how many districts a region may be split, and how many regions there are, where there are any
 abbrev pub split_line : ℕ → List ℕ → List ℕ

@@ -11,7 +11,7 @@ use Rattle.audit_model.specs.Job.{Job}
 use Rattle.audit_model.specs.Step.{next}
 use Rattle.audit_model.specs.Trajectory.{no_bins, plan_seats, visit}
 use Rattle.model_laws.proofs.Below.{count_below_le, length-map_below, get_or-map_below}
-use Rattle.chacha_draws.specs.Place.{Place}
+use Rattle.chacha_draws.specs.DrawPlace.{DrawPlace}
 use Rattle.draw_definitions.specs.Draw.{draw}
 use Rattle.walker.specs.Asked.{each, asked_value, four_more, inside, visits_inside}
 use Rattle.walker.specs.Binned.{first_bins, plan_bin, visits_binned}
@@ -205,7 +205,7 @@ tested_first job held plan asks t same at these start tests seats bin small =
     tests (λ asked. seats asked ∙ ap (λ (j : Job). plan_seats j j.start) same) bin small)
 
 -- a trail along a stream
-pub arrived : (job : Job) (key : List ℕ) (stream place steps : ℕ) (d : Place) (t : Trail) → d.key ≡ key → d.stream ≡ stream → place ≡ steps
+pub arrived : (job : Job) (key : List ℕ) (stream place steps : ℕ) (d : DrawPlace) (t : Trail) → d.key ≡ key → d.stream ≡ stream → place ≡ steps
     → IsTrail job (draw d.key d.stream) place t → IsTrail job (draw key stream) steps t
 arrived job key stream place steps d t k s e trail =
     subst (λ (n : ℕ). IsTrail job (draw key stream) n t) e

@@ -8,7 +8,7 @@ use Rattle.audit_model.specs.Trajectory.{visit, moves}
 use Rattle.model_laws.proofs.Below.{count_below_le}
 use Rattle.draw_definitions.specs.Draw.{draw}
 use mir.Val.{bool_byte}
-use Rattle.chacha_draws.specs.Place.{Place}
+use Rattle.chacha_draws.specs.DrawPlace.{DrawPlace}
 use Rattle.flip_kernel.specs.Held.{Held}
 
 pub count_below_more : (n : ℕ) (test : ℕ → Bool) → count_below (n + 1) test ≡ count_below n test + cond (test n) 1 0
@@ -38,7 +38,7 @@ module _ (job : Job) (draws : ℕ → ℕ) (plan : List ℕ) where
       ∙ ap (λ (k : ℕ). moves job draws plan i + cond {A = ℕ} (not (bytes_eq (visit job draws plan i) (visit job draws plan k))) 1 0) (sym (add-one i))
 
 -- after this many steps from the plan along the stream
-pub record IsWalked (job : Job) (key : List ℕ) (stream : ℕ) (plan : List ℕ) (steps : ℕ) (state : Held) (draws : Place) (moved : ℕ) : Type 0 where
+pub record IsWalked (job : Job) (key : List ℕ) (stream : ℕ) (plan : List ℕ) (steps : ℕ) (state : Held) (draws : DrawPlace) (moved : ℕ) : Type 0 where
   pub made : state.job ≡ job
   pub visited : state.plan ≡ visit job (draw key stream) plan steps
   pub same_key : draws.key ≡ key
@@ -46,7 +46,7 @@ pub record IsWalked (job : Job) (key : List ℕ) (stream : ℕ) (plan : List ℕ
   pub same_place : draws.place ≡ steps
   pub counted : moved ≡ moves job (draw key stream) plan steps
 
-pub walked_none : (job : Job) (key : List ℕ) (stream : ℕ) (plan : List ℕ) (state : Held) (draws : Place) → state.job ≡ job → state.plan ≡ plan
+pub walked_none : (job : Job) (key : List ℕ) (stream : ℕ) (plan : List ℕ) (state : Held) (draws : DrawPlace) → state.job ≡ job → state.plan ≡ plan
     → draws.key ≡ key → draws.stream ≡ stream → draws.place ≡ 0 → IsWalked job key stream plan 0 state draws 0
 walked_none job key stream plan state draws made at k s first = record {
   made = made;
@@ -66,7 +66,7 @@ pub byte_le : (b : Bool) → bool_byte b ≤ 1
 byte_le true = omega arith
 byte_le false = omega arith
 
-module _ (job : Job) (key : List ℕ) (stream : ℕ) (plan : List ℕ) (steps : ℕ) (state : Held) (draws : Place) (moved : ℕ)
+module _ (job : Job) (key : List ℕ) (stream : ℕ) (plan : List ℕ) (steps : ℕ) (state : Held) (draws : DrawPlace) (moved : ℕ)
     (walked : IsWalked job key stream plan steps state draws moved) where
   pub walked_small : moved ≤ steps
   walked_small = omega (arith, walked.counted, moves_le job (draw key stream) plan steps)
@@ -81,7 +81,7 @@ module _ (job : Job) (key : List ℕ) (stream : ℕ) (plan : List ℕ) (steps : 
     pub walked_moves : moved ≡ moves job (draw key stream) plan all
     walked_moves = walked.counted ∙ ap (λ (n : ℕ). moves job (draw key stream) plan n) e
 
-  module _ (after : Held) (later : Place)
+  module _ (after : Held) (later : DrawPlace)
       (stepped : after ≡ record { job = state.job; plan = next job state.plan (draw draws.key draws.stream draws.place) })
       (drawn : later ≡ record { key = draws.key; stream = draws.stream; place = draws.place + 1 }) where
     visited_more : after.plan ≡ visit job (draw key stream) plan (steps + 1)
@@ -98,9 +98,9 @@ module _ (job : Job) (key : List ℕ) (stream : ℕ) (plan : List ℕ) (steps : 
     walked_more more changed is added = record {
       made = ap (λ (h : Held). h.job) stepped ∙ walked.made;
       visited = visited_more;
-      same_key = ap (λ (p : Place). p.key) drawn ∙ walked.same_key;
-      same_stream = ap (λ (p : Place). p.stream) drawn ∙ walked.same_stream;
-      same_place = ap (λ (p : Place). p.place) drawn ∙ ap (λ (n : ℕ). n + 1) walked.same_place;
+      same_key = ap (λ (p : DrawPlace). p.key) drawn ∙ walked.same_key;
+      same_stream = ap (λ (p : DrawPlace). p.stream) drawn ∙ walked.same_stream;
+      same_place = ap (λ (p : DrawPlace). p.place) drawn ∙ ap (λ (n : ℕ). n + 1) walked.same_place;
       counted =
           added ∙ ap (λ (b : Bool). moved + cond {A = ℕ} b 1 0) is
           ∙ ap (λ (p : List ℕ). moved + cond {A = ℕ} (not (bytes_eq p after.plan)) 1 0) walked.visited

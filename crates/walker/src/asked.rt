@@ -6,6 +6,7 @@ ghost use Rattle.audit_model.specs.JobOf.{IsJob};
 ghost use Rattle.audit_model.specs.Trajectory.{plan_value};
 ghost use Rattle.flip_kernel.specs.Judged.{held_of};
 ghost use Rattle.walker.specs.Asked.{each, asked_value, four_more, inside};
+ghost use Rattle.audit_model.specs.Limits.{most_districts};
 
 use audit_model::setting::{Ask, Score};
 use flip_guard::judge::Judge;
@@ -24,7 +25,7 @@ pub struct Tally {
 /// The value of each ask for the held plan.
 pub fn values<J: Judge>(state: &State<J>, asks: &[Ask], room: &mut [u64]) -> [i64; 4]
     requires sound { IsJob (held_of state.now).job }
-    requires room { length room.old ≡ 200 }
+    requires room { length room.old ≡ most_districts }
     ensures { result ≡ each (asked_value (held_of state.now).job (held_of state.now).plan) asks.now }
 {
     [
@@ -51,7 +52,7 @@ impl Tally {
     /// A tally that has tested the start plan, which is held, and counted none.
     pub fn new<J: Judge>(state: &State<J>, asks: &[Ask], room: &mut [u64]) -> Tally
         requires sound { IsJob (held_of state.now).job }
-        requires room { length room.old ≡ 200 }
+        requires room { length room.old ≡ most_districts }
         requires start { (held_of state.now).plan ≡ (held_of state.now).job.start }
         ensures start { result.start ≡ each (asked_value (held_of state.now).job (held_of state.now).job.start) asks.now }
         ensures inside { result.inside ≡ each (inside (held_of state.now).job (held_of state.now).plan) asks.now }
@@ -70,7 +71,7 @@ impl Tally {
     /// Tests the plan that is held now.
     pub fn renew<J: Judge>(&mut self, state: &State<J>, asks: &[Ask], room: &mut [u64])
         requires sound { IsJob (held_of state.now).job }
-        requires room { length room.old ≡ 200 }
+        requires room { length room.old ≡ most_districts }
         requires start { self.old.start ≡ each (asked_value (held_of state.now).job (held_of state.now).job.start) asks.now }
         ensures start { self.new.start ≡ self.old.start }
         ensures inside { self.new.inside ≡ each (inside (held_of state.now).job (held_of state.now).plan) asks.now }
@@ -103,7 +104,7 @@ impl Tally {
 /// The numerator of a score of the held plan.
 fn held_value<J: Judge>(state: &State<J>, score: Score, room: &mut [u64]) -> i64
     requires sound { IsJob (held_of state.now).job }
-    requires room { length room.old ≡ 200 }
+    requires room { length room.old ≡ most_districts }
     ensures { result ≡ plan_value (held_of state.now).job (held_of state.now).plan score }
 {
     // Called for what its contract says: the plan is legal.
@@ -115,7 +116,7 @@ fn held_value<J: Judge>(state: &State<J>, score: Score, room: &mut [u64]) -> i64
 #[tactic(auto, unfolding(crate::specs::Asked::asked_value))]
 fn value_at<J: Judge>(state: &State<J>, asks: &[Ask], place: usize, room: &mut [u64]) -> i64
     requires sound { IsJob (held_of state.now).job }
-    requires room { length room.old ≡ 200 }
+    requires room { length room.old ≡ most_districts }
     ensures { result ≡ asked_value (held_of state.now).job (held_of state.now).plan (slice_get asks.now place) }
 {
     match asks.get(place) {
@@ -134,7 +135,7 @@ fn inside_at<J: Judge>(
     room: &mut [u64],
 ) -> u32
     requires sound { IsJob (held_of state.now).job }
-    requires room { length room.old ≡ 200 }
+    requires room { length room.old ≡ most_districts }
     requires start { start ≡ asked_value (held_of state.now).job (held_of state.now).job.start (slice_get asks.now place) }
     ensures { result ≡ inside (held_of state.now).job (held_of state.now).plan (slice_get asks.now place) }
 {

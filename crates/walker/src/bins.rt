@@ -6,6 +6,7 @@ ghost use Rattle.audit_model.specs.Trajectory.{no_bins, plan_seats};
 ghost use Rattle.audit_model.specs.Trajectory as definition;
 ghost use Rattle.flip_kernel.specs.Judged.{held_of};
 ghost use Rattle.walker.specs.Binned.{plan_bin};
+ghost use Rattle.audit_model.specs.Limits.{most_districts};
 
 use audit_model::setting::Score;
 use flip_guard::judge::Judge;
@@ -26,7 +27,7 @@ impl Bins {
     /// The bins of no plan, where the start plan is held.
     pub fn new<J: Judge>(asked: bool, state: &State<J>, room: &mut [u64]) -> Bins
         requires sound { IsJob (held_of state.now).job }
-        requires room { length room.old ≡ 200 }
+        requires room { length room.old ≡ most_districts }
         requires start { (held_of state.now).plan ≡ (held_of state.now).job.start }
         ensures asked { result.asked ≡ asked }
         ensures start { IsTrue asked → result.start ≡ plan_seats (held_of state.now).job (held_of state.now).job.start }
@@ -46,7 +47,7 @@ impl Bins {
     /// Takes the bin of the plan that is held now.
     pub fn renew<J: Judge>(&mut self, state: &State<J>, room: &mut [u64])
         requires sound { IsJob (held_of state.now).job }
-        requires room { length room.old ≡ 200 }
+        requires room { length room.old ≡ most_districts }
         requires start { IsTrue self.old.asked → self.old.start ≡ plan_seats (held_of state.now).job (held_of state.now).job.start }
         requires small { self.old.bin < 9 }
         ensures asked { self.new.asked ≡ self.old.asked }
@@ -81,7 +82,7 @@ impl Bins {
 /// The seats of the held plan.
 fn held_seats<J: Judge>(state: &State<J>, room: &mut [u64]) -> u64
     requires sound { IsJob (held_of state.now).job }
-    requires room { length room.old ≡ 200 }
+    requires room { length room.old ≡ most_districts }
     ensures seats { result ≡ plan_seats (held_of state.now).job (held_of state.now).plan }
     ensures small { result < 2 ^ 63 }
 {

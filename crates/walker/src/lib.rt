@@ -6,3 +6,5 @@ mod bins;
 mod steps;
 mod trail;
 pub mod walker;
+
+pub use walker::Walker;

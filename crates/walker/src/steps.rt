@@ -9,6 +9,7 @@ ghost use Rattle.flip_kernel.specs.Judged.{IsSeated, held_of};
 ghost use Rattle.walker.specs.Asked.{each, visits_inside};
 ghost use Rattle.walker.specs.Binned.{first_bins};
 ghost use Rattle.walker.specs.Trail.{IsTrail};
+ghost use Rattle.audit_model.specs.Limits.{most_districts};
 
 use crate::trail::Trail;
 use audit_model::steps::Steps;
@@ -58,7 +59,7 @@ pub fn count_visits<J: Judge, L: Ledger>(
     requires seated { IsSeated job.now J.keeps J.stands J.takes J.rules state.old }
     requires start { (held_of state.old).plan ≡ job.now.start }
     requires few { steps ≤ 10 ^ 9 }
-    requires room { length room.old ≡ 200 }
+    requires room { length room.old ≡ most_districts }
     ensures made { (held_of state.new).job ≡ job.now }
     ensures seated { IsSeated job.now J.keeps J.stands J.takes J.rules state.new }
     ensures moved { result.moved ≡ moves job.now (draw job.now.setting.key stream) job.now.start steps }
@@ -112,7 +113,7 @@ fn visit_next<J: Judge, L: Ledger>(
     requires place { draws.old.place ≡ place }
     requires few { place < 10 ^ 9 }
     requires sound { IsJob job.now }
-    requires room { length room.old ≡ 200 }
+    requires room { length room.old ≡ most_districts }
     requires visited { (held_of state.old).plan ≡ visit job.now (draw draws.old.key draws.old.stream) job.now.start place }
     requires trail { IsTrail job.now (draw draws.old.key draws.old.stream) place trail.old }
     ensures made { (held_of state.new).job ≡ job.now }

@@ -7,6 +7,7 @@ ghost use Rattle.audit_model.specs.Trajectory.{plan_seats};
 ghost use Rattle.flip_kernel.specs.Judged.{held_of};
 ghost use Rattle.walker.specs.Asked.{each, asked_value};
 ghost use Rattle.walker.specs.Trail.{IsCounted, IsTested, IsTrail};
+ghost use Rattle.audit_model.specs.Limits.{most_districts};
 
 use crate::asked::Tally;
 use crate::bins::Bins;
@@ -29,7 +30,7 @@ impl Trail {
     pub fn new<J: Judge>(job: &Job, state: &State<J>, shift: bool, room: &mut [u64]) -> Trail
         requires made { (held_of state.now).job ≡ job.now }
         requires sound { IsJob job.now }
-        requires room { length room.old ≡ 200 }
+        requires room { length room.old ≡ most_districts }
         requires start { (held_of state.now).plan ≡ job.now.start }
         ensures asked { result.bins.asked ≡ shift }
         ensures trail { (draws : ℕ → ℕ) → IsTrail job.now draws 0 result }
@@ -66,7 +67,7 @@ impl Trail {
     pub fn renew<J: Judge>(&mut self, job: &Job, state: &State<J>, room: &mut [u64])
         requires made { (held_of state.now).job ≡ job.now }
         requires sound { IsJob job.now }
-        requires room { length room.old ≡ 200 }
+        requires room { length room.old ≡ most_districts }
         requires few { self.old.moved < 10 ^ 9 }
         requires start { self.old.tally.start ≡ each (asked_value job.now job.now.start) job.now.setting.asks }
         requires seats { IsTrue self.old.bins.asked → self.old.bins.start ≡ plan_seats job.now job.now.start }

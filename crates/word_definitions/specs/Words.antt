@@ -21,6 +21,7 @@ use Rattle.audit_model.specs.Graph.{has}
 use Rattle.audit_model.specs.Names.{name_text}
 use Rattle.audit_model.specs.Power.{is_power_of_two}
 use Rattle.text_definitions.specs.Names.{score_name, tail_name}
+use Rattle.audit_model.specs.Limits.{most_trajectories, most_districts, most_steps, most_workers, most_edges}
 
 -- ---- the table of names
 
@@ -116,10 +117,10 @@ are_asks text = is_some (asks_of (parts_between 44 text)) && nat_le (length (par
 
 -- ---- the pairs of a name and a value
 
-abbrev pub Pair : Type 0
-Pair = List ℕ × Option (List ℕ)
+abbrev pub NameAndValue : Type 0
+NameAndValue = List ℕ × Option (List ℕ)
 
-abbrev pub pairs : List (List ℕ) → List Pair
+abbrev pub pairs : List (List ℕ) → List NameAndValue
 pairs [] = []
 pairs (name ∷ []) = (name, None) ∷ []
 pairs (name ∷ value ∷ rest) = (name, Some value) ∷ pairs rest
@@ -138,8 +139,8 @@ is_one_line Run text = true
 is_one_line Make text = true
 is_one_line Plans text = not (has text 10)
 
-module _ (command : Command) (words : List Pair) where
-  abbrev pub pair_at : ℕ → Pair
+module _ (command : Command) (words : List NameAndValue) where
+  abbrev pub pair_at : ℕ → NameAndValue
   pair_at k = slice_index_or words k ([], None)
 
   -- the name that a word spells
@@ -173,7 +174,7 @@ module _ (command : Command) (words : List Pair) where
 
   -- the trajectories that are asked for are neither none nor too many
   abbrev pub has_walks : Bool
-  has_walks = nat_le 1 (number_at Walks + number_at Ends) && nat_le (number_at Walks + number_at Ends) 100000
+  has_walks = nat_le 1 (number_at Walks + number_at Ends) && nat_le (number_at Walks + number_at Ends) most_trajectories
 
   -- a run that saves nothing does all of them
   abbrev pub covers_walks : Bool
@@ -195,7 +196,7 @@ module _ (command : Command) (words : List Pair) where
 
   -- only regions are split
   abbrev pub has_split : Bool
-  has_split = (number_at MaxSplit == 200) || not (length (text_of Region) == 0)
+  has_split = (number_at MaxSplit == most_districts) || not (length (text_of Region) == 0)
 
   -- whether the value of a name is one that it may have
   abbrev pub is_good : Name → Bool
@@ -206,21 +207,21 @@ module _ (command : Command) (words : List Pair) where
   is_good Size = is_number 1 30 (text_of Size)
   is_good Slack = is_number 0 10000 (text_of Slack)
   is_good Key = is_some (result_ok (decode_sized (text_of Key) 32))
-  is_good Walks = is_number 0 100000 (text_of Walks)
-  is_good Steps = is_number 1 1000000000 (text_of Steps)
-  is_good Ends = is_number 0 100000 (text_of Ends) && has_walks
-  is_good HubSteps = is_number 1 1000000000 (text_of HubSteps)
+  is_good Walks = is_number 0 most_trajectories (text_of Walks)
+  is_good Steps = is_number 1 most_steps (text_of Steps)
+  is_good Ends = is_number 0 most_trajectories (text_of Ends) && has_walks
+  is_good HubSteps = is_number 1 most_steps (text_of HubSteps)
   is_good Ask = are_asks (text_of Ask)
-  is_good Workers = is_number 1 32 (text_of Workers)
-  is_good Budget = is_number 0 100000 (text_of Budget) && covers_walks
-  is_good Save = is_number 0 100000 (text_of Save)
+  is_good Workers = is_number 1 most_workers (text_of Workers)
+  is_good Budget = is_number 0 most_trajectories (text_of Budget) && covers_walks
+  is_good Save = is_number 0 most_trajectories (text_of Save)
   is_good Resume = is_yes_or_no Resume
-  is_good MaxCut = is_number 0 400000 (text_of MaxCut)
+  is_good MaxCut = is_number 0 most_edges (text_of MaxCut)
   is_good Shift = is_yes_or_no Shift
-  is_good Stop = is_number 0 100000 (text_of Stop) && stops_alone
+  is_good Stop = is_number 0 most_trajectories (text_of Stop) && stops_alone
   is_good Serial = is_yes_or_no Serial && divides_draws
   is_good Region = true
-  is_good MaxSplit = is_number 1 200 (text_of MaxSplit) && has_split
+  is_good MaxSplit = is_number 1 most_districts (text_of MaxSplit) && has_split
 
   -- the first fault, in the order of the refusals
   abbrev pub fault_of : Option WordFault
@@ -256,7 +257,7 @@ module _ (command : Command) (words : List Pair) where
   }
 
 -- with what a command fixes
-abbrev pub setting_for : Command → List Pair → Setting
+abbrev pub setting_for : Command → List NameAndValue → Setting
 setting_for Check words = record {
   command = Check;
   columns = (as_run Check words).columns;
@@ -284,15 +285,15 @@ setting_for Make words = record (as_run Make words) {
   columns = record { population = codes "pop"; first = codes "a"; second = codes "b"; district = codes "district" };
   size = number_at Make words Size;
   region = [];
-  max_split = 200;
+  max_split = most_districts;
 }
 setting_for Plans words = as_run Plans words
 
-abbrev pub setting_or : Command → List Pair → Option WordFault → Result Setting WordFault
+abbrev pub setting_or : Command → List NameAndValue → Option WordFault → Result Setting WordFault
 setting_or command words None = Ok (setting_for command words)
 setting_or command words (Some fault) = Err fault
 
-abbrev pub of_command : List ℕ → List Pair → Option Command → Result Setting WordFault
+abbrev pub of_command : List ℕ → List NameAndValue → Option Command → Result Setting WordFault
 of_command word words None = Err (UnknownCommand word)
 of_command word words (Some command) = setting_or command words (fault_of command words)
 

@@ -15,7 +15,7 @@ ghost use Rattle.worked_examples.specs.Texts.{columns, path_text, other_path_tex
 ghost use Rattle.graph_definitions.specs.Reading.{reading};
 ghost use Rattle.draw_definitions.specs.Grid.{neighbours_json};
 ghost use Rattle.note_definitions.specs.Note.{note, bad_words, bad_graph, bad_plan, bad_plan_named, bad_regions, bad_table, stopped, damaged};
-ghost use Rattle.checkpoint_definitions.specs.Slots.{newest, place, absent, broken, ours};
+ghost use Rattle.checkpoint_definitions.specs.Slots.{newest, save_place, absent, broken, ours};
 ghost use Rattle.audit_model.specs.declared.fault.Column.TheVariants as column;
 ghost use Rattle.audit_model.specs.declared.fault.Part.TheVariants as part;
 ghost use Rattle.audit_model.specs.declared.fault.PlanFault.TheVariants as plan;
@@ -152,10 +152,10 @@ pub fn small_notes()
 
 /// Which slot is the newest, and where the next checkpoint goes.
 pub fn small_slots()
-    ensures none { place absent absent ≡ (0, 0) }
-    ensures one { place (ours 2 []) (broken (ckpt.TooShort 40)) ≡ (1, 0) }
+    ensures none { save_place absent absent ≡ (0, 0) }
+    ensures one { save_place (ours 2 []) (broken (ckpt.TooShort 40)) ≡ (1, 0) }
     ensures follows { newest (ours 2 []) (ours 0 []) ≡ Some 1 }
-    ensures before { place (ours 2 []) (ours 1 []) ≡ (1, 0) }
+    ensures before { save_place (ours 2 []) (ours 1 []) ≡ (1, 0) }
 {}
 
 /// The neighbours of the first unit of a grid.

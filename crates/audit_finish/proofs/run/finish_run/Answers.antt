@@ -1,6 +1,6 @@
 use Rattle.std.proofs.Common.{sym, subst}
 use Rattle.audit_opening.specs.Opening.{IsOpened}
-use Rattle.audit_statement.specs.World.{Kept}
+use Rattle.audit_io.specs.State.{Kept}
 use Rattle.audit_finish.proofs.Placing.{goes_on}
 use Rattle.audit_finish.proofs.run.finish_run.Goals as goal
 

@@ -1,7 +1,6 @@
 use Rattle.std.proofs.Common.{List, sym, subst}
 use Rattle.audit_model.specs.declared.outcome.Outcome.{Outcome}
-use Rattle.audit_statement.specs.Ends.{IsOpening}
-use Rattle.audit_statement.specs.World.{kept}
+use Rattle.audit_statement.specs.Endings.{IsOpening}
 use Rattle.audit_finish.proofs.Placing.{no_target_told, target_told}
 use Rattle.audit_finish.proofs.run.finish_tested.Goals as goal
 
@@ -16,8 +15,8 @@ finish_saved-requires-clause-placed g c κs within = (target_told _ _ _ _ c.in-S
 
 pub returns-in-None : goal.returns-in-None
 returns-in-None g c =
-    c.finish_unsaved-why.ensures _ (subst (λ (os : List Outcome). IsOpening c.args.job.now (g.C.Keeper.slots c.args.keeper) os) (sym c.as_slice.ensures) c.requires.opened.opened)
+    c.finish_unsaved-why.ensures _ (subst (λ (os : List Outcome). IsOpening c.args.job.now (g.C.Keeper.state c.args.keeper).slots os) (sym c.as_slice.ensures) c.requires.opened.opened)
 
 pub returns-then-setting-gt0 : goal.returns-then-setting-gt0
 returns-then-setting-gt0 g c =
-    c.finish_early-why.ensures (kept g.C.Keeper.slots g.C.Keeper.tried g.C.Keeper.load_faults g.C.Keeper.save_faults c.args.keeper)
+    c.finish_early-why.ensures (g.C.Keeper.state c.args.keeper)

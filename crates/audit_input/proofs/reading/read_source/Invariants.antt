@@ -4,8 +4,8 @@ use Rattle.audit_input.proofs.reading.read_source.Given as goal
 
 abbrev pub invariant-turns : goal.invariant-turns
 invariant-turns g l =
-    (length l.bytes.items ≤ 67108865) × Consumes (g.S.Source.left l.initial.source) (g.S.Source.left l.source) l.bytes.items
-    × (g.S.Source.faults l.source ≡ g.S.Source.faults l.initial.source)
+    (length l.bytes.items ≤ 67108865) × Consumes (g.S.Source.state l.initial.source).bytes (g.S.Source.state l.source).bytes l.bytes.items
+    × ((g.S.Source.state l.source).faults ≡ (g.S.Source.state l.initial.source).faults)
 
 abbrev pub decreases-turns : goal.decreases-turns
 decreases-turns g l = 67108865 - length l.bytes.items

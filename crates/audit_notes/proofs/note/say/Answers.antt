@@ -3,7 +3,6 @@ use Rattle.audit_notes.specs.declared.piece.Piece.{Piece}
 use Rattle.audit_notes.specs.declared.piece.Piece.TheVariants.{Text}
 use Rattle.audit_notes.specs.Pieces.{piece_text}
 use Rattle.audit_notes.proofs.Lines.{IsOnTheWay, begun, ends_line, goes_on, no_piece_left, one_piece_more, said_nothing}
-use Rattle.audit_statement.specs.World.{stream}
 use Rattle.note_definitions.specs.Note.{joined}
 use Rattle.audit_notes.proofs.note.say.Goals as goal
 
@@ -14,9 +13,9 @@ pub loop-piece-preserved : goal.loop-piece-preserved
 loop-piece-preserved g c =
     let blank : Piece = Text (record { ref_ptr = (0, 0); now = [] }) in
     goes_on _ _ _ _ _ _ (piece_text (get_or c.args.pieces.now c.loop-piece.piece-index blank)) (joined (map piece_text (drop (c.loop-piece.piece-index + 1) c.args.pieces.now)))
-    (subst (λ t. IsOnTheWay (stream g.N.Sink.taken g.N.Sink.faults c.args.note.now) (stream g.N.Sink.taken g.N.Sink.faults c.loop-piece.note) c.loop-piece.going (joined (c.args.first.now ∷ map piece_text c.args.pieces.now)) t) (one_piece_more c.args.pieces.now c.loop-piece.piece-index blank (omega arith)) c.loop-piece.invariant)
+    (subst (λ t. IsOnTheWay (g.N.Sink.state c.args.note.now) (g.N.Sink.state c.loop-piece.note) c.loop-piece.going (joined (c.args.first.now ∷ map piece_text c.args.pieces.now)) t) (one_piece_more c.args.pieces.now c.loop-piece.piece-index blank (omega arith)) c.loop-piece.invariant)
     c.add_piece-going.ensures
 
 pub returns : goal.returns
 returns g c =
-    ends_line _ _ _ _ _ _ _ (subst (λ t. IsOnTheWay (stream g.N.Sink.taken g.N.Sink.faults c.args.note.now) (stream g.N.Sink.taken g.N.Sink.faults c.loop-piece.note) c.loop-piece.going (joined (c.args.first.now ∷ map piece_text c.args.pieces.now)) t) (no_piece_left c.args.pieces.now c.loop-piece.piece-index (omega arith)) c.loop-piece.invariant) c.add-ended.ensures
+    ends_line _ _ _ _ _ _ _ (subst (λ t. IsOnTheWay (g.N.Sink.state c.args.note.now) (g.N.Sink.state c.loop-piece.note) c.loop-piece.going (joined (c.args.first.now ∷ map piece_text c.args.pieces.now)) t) (no_piece_left c.args.pieces.now c.loop-piece.piece-index (omega arith)) c.loop-piece.invariant) c.add-ended.ensures

@@ -4,8 +4,8 @@ use Rattle.audit_notes.proofs.writing.write_all.Given as goal
 
 abbrev pub invariant-turns : goal.invariant-turns
 invariant-turns g l =
-    (l.at ≤ length l.text) × Appends (g.K.Sink.taken l.initial.out) (g.K.Sink.taken l.out) (take l.at l.text)
-    × (g.K.Sink.faults l.out ≡ g.K.Sink.faults l.initial.out)
+    (l.at ≤ length l.text) × Appends (g.K.Sink.state l.initial.out).bytes (g.K.Sink.state l.out).bytes (take l.at l.text)
+    × ((g.K.Sink.state l.out).faults ≡ (g.K.Sink.state l.initial.out).faults)
 
 abbrev pub decreases-turns : goal.decreases-turns
 decreases-turns g l = length l.text - l.at

@@ -2,7 +2,7 @@ use Rattle.std.proofs.Common.{◌≡◌, ◌∙◌, List, false, refl, sym, ap, 
 use Rattle.audit_model.specs.declared.outcome.Outcome.{Outcome}
 use Rattle.audit_model.specs.declared.setting.Setting.{Setting}
 use Rattle.ckpt_store.specs.Fitting.{AreFit}
-use Rattle.audit_statement.specs.Ends.{IsOpening}
+use Rattle.audit_statement.specs.Endings.{IsOpening}
 use Rattle.audit_steps.proofs.Starting.{fresh_opening, none_fit}
 use Rattle.audit_opening.proofs.Started.{no_target}
 use Rattle.audit_opening.proofs.opening.open.Goals as goal
@@ -14,7 +14,7 @@ returns g c =
     record {
       same = refl;
       opened = record {
-        opened = subst (λ (os : List Outcome). IsOpening c.args.job.now (g.C.Keeper.slots c.args.keeper.now) os) (sym c.new.ensures) (fresh_opening c.args.job.now _ fresh);
+        opened = subst (λ (os : List Outcome). IsOpening c.args.job.now (g.C.Keeper.state c.args.keeper.now).slots os) (sym c.new.ensures) (fresh_opening c.args.job.now _ fresh);
         fit = subst (λ (os : List Outcome). AreFit c.args.job.now os) (sym c.new.ensures) (none_fit c.args.job.now);
         target = no_target c.args.job.now _ unsaved;
       };

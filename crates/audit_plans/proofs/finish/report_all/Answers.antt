@@ -1,7 +1,8 @@
-use Rattle.std.proofs.Common.{◌∙◌, ℕ, List, arith, ap, sym, length}
+use Rattle.std.proofs.Common.{◌∙◌, arith, ap, sym, length}
+use Rattle.std.proofs.lemmas.List.{nil_from_length}
 use Rattle.audit_model.specs.declared.rules.Rules.{Rules}
 use Rattle.audit_model.specs.Job.{Job}
-use Rattle.audit_plans.proofs.Likeness.{all_like, none_long}
+use Rattle.audit_plans.proofs.Likeness.{all_like}
 use Rattle.audit_plans.proofs.finish.report_all.Goals as goal
 
 pub first_of-requires : goal.first_of-requires
@@ -10,7 +11,7 @@ first_of-requires g c = omega (arith, ap length c.as_slice.ensures.value, c.requ
 pub report_cut-requires-clause-no_regions : goal.report_cut-requires-clause-no_regions
 report_cut-requires-clause-no_regions g c κs within = λ k d inside.
     let regions = ap (λ (r : Rules). r.regions) c.rules.ensures ∙ ap (λ (j : Job). j.regions) c.first_of.ensures.2 in
-    ((all_like c.args.plans.items c.first_of.ensures.0 (rw c.as_slice.ensures.value at c.first_of.ensures.1) c.requires.alike) k d inside).regioned ∙ none_long c.first_of.ensures.0.job.regions (sym (ap length regions) ∙ sym c.len.ensures ∙ c.if-len-eq0.true)
+    ((all_like c.args.plans.items c.first_of.ensures.0 (rw c.as_slice.ensures.value at c.first_of.ensures.1) c.requires.alike) k d inside).regioned ∙ nil_from_length c.first_of.ensures.0.job.regions (sym (ap length regions) ∙ sym c.len.ensures ∙ c.if-len-eq0.true)
 
 pub report_split-requires-clause-some_regions : goal.report_split-requires-clause-some_regions
 report_split-requires-clause-some_regions g c κs within = λ k d inside none.

@@ -1,11 +1,11 @@
-use Rattle.std.proofs.Common.{◌≡◌, ◌≢◌, ◌∙◌, ◌+◌, ℕ, List, [], arith, ap, refl, rules, sym, length}
+use Rattle.std.proofs.Common.{◌≢◌, ◌∙◌, ◌+◌, [], arith, ap, refl, rules, sym, length}
 use Rattle.std.proofs.lemmas.Grind.{common_steps}
 use Rattle.audit_model.specs.declared.rules.Rules.{Rules}
 use Rattle.audit_model.specs.declared.setting.Setting.{Setting}
 use Rattle.audit_model.specs.Job.{Job}
 use Rattle.plan_jobs.specs.declared.named.Named.{Named}
 use Rattle.audit_steps.proofs.Running.{run_setting}
-use Rattle.audit_plans.specs.Walks.{RunsAlone}
+use Rattle.plan_walks.specs.Walks.{RunsAlone}
 use Rattle.audit_walks.proofs.Splitting.{takes_plans}
 use Rattle.audit_plans.proofs.Likeness.{IsLike, all_like, of_first}
 use Rattle.audit_plans.proofs.Pairing.{paired_with}

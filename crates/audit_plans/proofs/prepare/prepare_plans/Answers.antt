@@ -1,6 +1,6 @@
 use Rattle.std.proofs.Common.{sym, subst}
 use Rattle.audit_notes.specs.declared.ended.Ended.{Ended}
-use Rattle.audit_statement.specs.World.{Kept, Stream, stream, world}
+use Rattle.audit_statement.specs.World.{world}
 use Rattle.audit_words.specs.Spoken.{spoken}
 use Rattle.audit_plans.specs.Stages.{PlansRunTo}
 use Rattle.audit_plans.proofs.Preparing.{prepared, words_run}
@@ -11,6 +11,6 @@ returns-in-Ok g c = prepared (spoken c.args.words.now) c.in-Ok.setting c.in-Ok.e
 
 pub returns-in-Err : goal.returns-in-Err
 returns-in-Err g c = λ out keeper.
-    let source = stream g.S.Source.left g.S.Source.faults c.args.source.now in
+    let source = g.S.Source.state c.args.source.now in
     subst (λ (why : Ended). PlansRunTo (spoken c.args.words.now) (world source out keeper) (world source out keeper) why) (sym c.word_end.ensures)
     (words_run (spoken c.args.words.now) source c.in-Err.fault out keeper c.in-Err.ensures.exact)

@@ -1,9 +1,8 @@
-use Rattle.std.proofs.Common.{◌∙◌, ◌++◌, ◌∷◌, [], ℕ, List, nat_le, get_or, take, sym, ap, subst, arith}
+use Rattle.std.proofs.Common.{◌∙◌, ◌++◌, ◌∷◌, [], List, nat_le, take, sym, ap, subst, arith}
 use Rattle.std.proofs.lemmas.List.{take_more}
 use Rattle.audit_model.specs.declared.rules.Rules.{Rules}
 use Rattle.plan_jobs.specs.declared.named.Named.{Named}
-use Rattle.region_guard.specs.Guards.{AreRegionGuards}
-use Rattle.audit_plans.specs.Paired.{ArePaired}
+use Rattle.plan_walks.specs.Paired.{ArePaired}
 use Rattle.audit_plans.specs.Seats.{IsSplitBy, IsSplitSeat}
 use Rattle.audit_plans.proofs.Pairing.{paired_push}
 use Rattle.audit_plans.proofs.seats.split_seats.Goals as goal

@@ -1,4 +1,3 @@
-use Rattle.audit_statement.specs.World.{stream}
 use Rattle.audit_plans.proofs.Preparing.{reported_run}
 use Rattle.audit_plans.proofs.Words.{run_alone, same_key}
 use Rattle.audit_plans.proofs.several.run_plans.Goals as goal
@@ -15,4 +14,4 @@ returns-in-Ok g c = λ keeper.
     (c.report_all.ensures c.in-Ok.ensures.setting.key (same_key _ _ _ c.in-Ok.plans.items c.in-Ok.ensures))
 
 pub returns-in-Err : goal.returns-in-Err
-returns-in-Err g c = λ keeper. c.in-Err.ensures (stream g.K.Sink.taken g.K.Sink.faults c.args.out.now) keeper
+returns-in-Err g c = λ keeper. c.in-Err.ensures (g.K.Sink.state c.args.out.now) keeper

@@ -1,6 +1,5 @@
 use Rattle.std.proofs.Common.{◌∙◌, sym}
 use Rattle.std.proofs.lemmas.Bool.{false≢true}
-use Rattle.audit_statement.specs.World.{kept}
 use Rattle.audit_run.proofs.audit.audit.Goals as goal
 
 pub audit_plans-status-requires-after_bounds : goal.audit_plans-status-requires-after_bounds
@@ -9,7 +8,7 @@ audit_plans-status-requires-after_bounds g c κs within = sym c.names_plans.ensu
 pub returns-then-names_plans : goal.returns-then-names_plans
 returns-then-names_plans g c = record {
   one = λ single. absurd (false≢true (sym single ∙ sym c.names_plans.ensures ∙ c.if-names_plans.true));
-  several = λ many. c.audit_plans-status.ensures (kept g.C.Keeper.slots g.C.Keeper.tried g.C.Keeper.load_faults g.C.Keeper.save_faults c.args.keeper);
+  several = λ many. c.audit_plans-status.ensures (g.C.Keeper.state c.args.keeper);
 }
 
 pub returns : goal.returns

@@ -6,8 +6,7 @@ use Rattle.text_definitions.specs.Report.{report}
 use Rattle.audit_unsaved.specs.declared.ending.Finished.{Finished}
 use Rattle.audit_unsaved.specs.Ending.{ended_as}
 use Rattle.audit_steps.specs.Calls.{Finishes}
-use Rattle.audit_statement.specs.World.{stream}
-use Rattle.audit_walks.proofs.Early.{walks_fit}
+use Rattle.audit_walks.proofs.EarlyStops.{walks_fit}
 use Rattle.audit_unsaved.proofs.Reported.{early_ends}
 use Rattle.audit_unsaved.proofs.early.report_early.Goals as goal
 
@@ -43,8 +42,8 @@ returns g c = λ k.
     ∙ c.requires.stopped.stops in
     let text = c.as_slice-2.ensures ∙ c.text.ensures.items
     ∙ ap (λ xs. xs ++ report c.args.job.now c.walks_in-walks.result.now c.stops_for-told.result.now c.test_serially-serial.result) c.requires.stopped.blank in
-    let out = stream g.K.Sink.taken g.K.Sink.faults c.args.out.now in
-    let later = stream g.K.Sink.taken g.K.Sink.faults c.write_all-written.new.out in
+    let out = g.K.Sink.state c.args.out.now in
+    let later = g.K.Sink.state c.write_all-written.new.out in
     subst (λ (how : Finished). Finishes c.args.job.now out later k k (ended_as how)) (sym c.end.ensures)
     (early_ends c.args.job.now c.requires.run c.requires.early out later k c.walks_in-walks.result.now c.stops_for-told.result.now c.test_serially-serial.result
     c.as_slice-2.result.now c.write_all-written.result walks told c.test_serially-serial.ensures.found text c.write_all-written.ensures)

@@ -1,6 +1,5 @@
 use Rattle.std.proofs.Common.{arith, subst, sym}
 use Rattle.audit_notes.specs.declared.ended.Ended.{Ended}
-use Rattle.audit_statement.specs.World.{stream}
 use Rattle.audit_steps.specs.Calls.{Finishes}
 use Rattle.audit_steps.proofs.Running.{few_run_todo}
 use Rattle.audit_unsaved.proofs.unsaved.finish_unsaved.Goals as goal
@@ -14,6 +13,6 @@ recruit-requires-clause-count g c =
 
 pub returns-in-Ok-recruit : goal.returns-in-Ok-recruit
 returns-in-Ok-recruit g c = λ k opened.
-    let out = stream g.K.Sink.taken g.K.Sink.faults c.args.out.now in
-    let later = stream g.K.Sink.taken g.K.Sink.faults c.walk_and_end.new.out in
+    let out = g.K.Sink.state c.args.out.now in
+    let later = g.K.Sink.state c.walk_and_end.new.out in
     subst (λ (why : Ended). Finishes c.args.job.now out later k k why) (sym c.ended.ensures) (c.walk_and_end.ensures k opened)

@@ -1,5 +1,5 @@
 use Rattle.std.proofs.Common.{◌∙◌, arith}
-use Rattle.audit_walks.proofs.Early.{all_ids_walked, covered, stops_told, walks_first}
+use Rattle.audit_walks.proofs.EarlyStops.{all_ids_walked, covered, stops_told, walks_first}
 use Rattle.audit_steps.proofs.Running.{run_setting}
 use Rattle.audit_walks.proofs.stopping.walk_early.Goals as goal
 

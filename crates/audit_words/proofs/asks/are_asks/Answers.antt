@@ -2,8 +2,9 @@ use Rattle.std.proofs.Common.{◌≡◌, ◌∙◌, ◌+◌, ◌-◌, ap, arith,
 use Rattle.std.proofs.lemmas.Str.Pattern.{split_once_first, split_parts}
 use Rattle.std.specs.Prelude.{bytes_eq, is_some}
 use Rattle.std.specs.List.{list_any}
+use Rattle.model_laws.proofs.Options.{none_from}
 use Rattle.word_definitions.specs.Words.{ask_of, parts_between}
-use Rattle.audit_words.proofs.Parting.{are_within, are_within-bad, are_within-full, are_within-last, are_within-more, are_within-twice, none_since, parts_between-first, parts_between-whole}
+use Rattle.audit_words.proofs.Parting.{are_within, are_within-bad, are_within-full, are_within-last, are_within-more, are_within-twice, parts_between-first, parts_between-whole}
 use Rattle.audit_words.proofs.asks.are_asks.Goals as goal
 use Rattle.audit_words.proofs.asks.are_asks.Goals.{then-is_none-via-then-is_none, then-is_none-via-else-is_none+then-has_part}
 
@@ -18,7 +19,7 @@ returns-then-is_none c =
     let first = parts_between-first c.loop.rest.now c.in-Some.word.now c.in-Some.more.now (split_once_first 44 c.loop.rest.now (Some (c.in-Some.word, c.in-Some.more)) c.in-Some.ensures.cases (lit< tt)) in
     let refused : are_within (4 - c.loop.counter) (c.in-Some.word.now ∷ parts_between 44 c.in-Some.more.now) ≡ false = elim c.then-is_none.branch [
       | then-is_none-via-then-is_none w ↦
-          are_within-bad c.in-Some.word.now (parts_between 44 c.in-Some.more.now) (4 - c.loop.counter) (sym c.ask_of-in-Some.ensures ∙ none_since c.ask_of-in-Some.result w.if-is_none.ensures)
+          are_within-bad c.in-Some.word.now (parts_between 44 c.in-Some.more.now) (4 - c.loop.counter) (sym c.ask_of-in-Some.ensures ∙ none_from c.ask_of-in-Some.result w.if-is_none.ensures)
       | then-is_none-via-else-is_none+then-has_part w ↦
           are_within-twice c.in-Some.word.now (parts_between 44 c.in-Some.more.now) (4 - c.loop.counter) (sym w.if-has_part.ensures)
     ] in

@@ -6,4 +6,4 @@ use Rattle.word_definitions.specs.Words as definition
 use Rattle.audit_words.proofs.pairs.is_repeated.Given as goal
 
 abbrev pub invariant-loop-j : goal.invariant-loop-j
-invariant-loop-j l = any_below l.j (λ j. bytes_eq (definition.pair_at command.Check (pairs_in l.words) j).0 (definition.pair_at command.Check (pairs_in l.words) l.k).0) ≡ false
+invariant-loop-j l = any_below l.j (λ j. bytes_eq (definition.pair_at command.Check (pairs_in l.words) j).0 (definition.pair_at command.Check (pairs_in l.words) l.place).0) ≡ false

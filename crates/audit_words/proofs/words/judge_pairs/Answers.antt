@@ -1,8 +1,9 @@
 use Rattle.std.proofs.Common.{◌≡◌, ◌+◌, subst, arith, None, inl, inr, length}
 use Rattle.std.proofs.lemmas.Result.{err_from_is_err_and}
 use Rattle.audit_model.specs.First.{first_some_below}
+use Rattle.model_laws.proofs.First.{first_some_below_found}
 use Rattle.audit_words.specs.Spoken.{pairs_in}
-use Rattle.audit_words.proofs.Finding.{first_some_below-stops, first_some_below-none}
+use Rattle.audit_words.proofs.Finding.{first_some_below-none}
 use Rattle.word_definitions.specs.Words as definition
 use Rattle.audit_words.proofs.words.judge_pairs.Goals as goal
 
@@ -11,7 +12,7 @@ returns-in_err-judge_pair c =
     let p = err_from_is_err_and c.from_residual.result c.from_residual.ensures.1 in
     rw (p.1, p.2) (elim c.in_err-judge_pair.ensures [
       | inl memory ↦ inl memory
-      | inr found ↦ inr (first_some_below-stops (length (pairs_in c.args.words.now)) c.loop-k.k (definition.pair_fault c.args.command (pairs_in c.args.words.now)) _ (omega arith) c.loop-k.invariant found)
+      | inr found ↦ inr (first_some_below_found (length (pairs_in c.args.words.now)) c.loop-k.k (definition.pair_fault c.args.command (pairs_in c.args.words.now)) _ (omega arith) c.loop-k.invariant found)
     ])
 
 pub loop-k-preserved : goal.loop-k-preserved

@@ -3,7 +3,7 @@ use Rattle.std.proofs.Math.Nat.{mul_comm}
 use Rattle.draw_definitions.specs.Draw.{draw}
 use Rattle.rand_chacha.specs.ChaCha.{ChaCha, word_at, key_of, next_word}
 use Rattle.rand_core.specs.Steps.{u64_via_u32}
-use Rattle.chacha_draws.specs.Place.{Place}
+use Rattle.chacha_draws.specs.DrawPlace.{DrawPlace}
 use Rattle.chacha_draws.proofs.Draws.next.Goals as goal
 
 -- two words from an even place on, the first one the lower half
@@ -22,5 +22,5 @@ pub returns-clause-value : goal.returns-clause-value
 returns-clause-value c =
     let words = c.self.inside.words in
     ap (λ (p : ℕ × ChaCha). p.0) c.next_u64_via_u32.ensures
-    ∙ two_words words c.self.inside.key c.self.inside.place c.self.invariant.0 c.self.invariant.1 (omega (arith, ap (λ (p : Place). p.place) c.self.view_is))
-    ∙ ap (λ (p : Place). draw p.key p.stream p.place) c.self.view_is
+    ∙ two_words words c.self.inside.key c.self.inside.place c.self.invariant.0 c.self.invariant.1 (omega (arith, ap (λ (p : DrawPlace). p.place) c.self.view_is))
+    ∙ ap (λ (p : DrawPlace). draw p.key p.stream p.place) c.self.view_is

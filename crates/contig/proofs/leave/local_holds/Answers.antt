@@ -6,4 +6,4 @@ use Rattle.contig.proofs.leave.local_holds.Goals as goal
 pub are_linked-requires-clause-joined : goal.are_linked-requires-clause-joined
 are_linked-requires-clause-joined c =
     let few : c.mark_mates-mates.result ≤ 16 = omega (arith, c.if-mates-gt-MOST.false) in
-    seeds_joined c.args.g.now c.args.plan.now c.args.u c.mark_mates-mates.result c.mark_mates-mates.new.marks own_labels (c.mark_mates-mates.ensures.seeded few) few own_at
+    seeds_joined c.args.graph.now c.args.plan.now c.args.unit c.mark_mates-mates.result c.mark_mates-mates.new.marks own_labels (c.mark_mates-mates.ensures.seeded few) few own_at

@@ -11,22 +11,22 @@ link-requires-clause-unit c =
     let s = c.requires.seeded in
     let lt : c.loop-place.place < length m.items = omega (arith, c.loop-place-test.true, c.count-place-end.ensures) in (
       c.requires.unit,
-      subst (λ t. t < c.args.g.now.units) (sym c.at.ensures)
+      subst (λ t. t < c.args.graph.now.units) (sym c.at.ensures)
           (subst (λ t. get_or m.items c.loop-place.place 0 < t) s.units (s.marked.below (get_or m.items c.loop-place.place 0) (at_has m.items c.loop-place.place lt))),
     )
 
 pub returns-clause-local : goal.returns-clause-local
 returns-clause-local c =
     let all : length c.args.marks.now.items ≤ c.loop-place.place = omega (arith, c.loop-place-test.false, c.count-place-end.ensures) in (
-      λ h. linked_one c.args.g.now c.args.plan.now c.args.u c.args.last c.args.marks.now c.requires.seeded c.loop-place.roots c.loop-place.place c.loop-place.invariant
+      λ h. linked_one c.args.graph.now c.args.plan.now c.args.unit c.args.last c.args.marks.now c.requires.seeded c.loop-place.roots c.loop-place.place c.loop-place.invariant
           c.requires.last.0 (c.all_one.ensures.yes h),
       λ local. elim (cases_Bool c.all_one.result) [
         | inl e ↦ e
-        | inr e ↦ absurd (linked_parted c.args.g.now c.args.plan.now c.args.u c.args.last c.args.marks.now c.requires.seeded c.loop-place.roots c.loop-place.place c.loop-place.invariant
+        | inr e ↦ absurd (linked_parted c.args.graph.now c.args.plan.now c.args.unit c.args.last c.args.marks.now c.requires.seeded c.loop-place.roots c.loop-place.place c.loop-place.invariant
             all c.requires.last.0 (c.all_one.ensures.no e) local)
       ],
     )
 
 pub returns-clause-joined : goal.returns-clause-joined
 returns-clause-joined c =
-    linked_stays c.args.g.now c.args.plan.now c.args.u c.args.last c.args.marks.now c.requires.seeded c.loop-place.roots c.loop-place.place c.loop-place.invariant c.units-units.ensures.sound
+    linked_stays c.args.graph.now c.args.plan.now c.args.unit c.args.last c.args.marks.now c.requires.seeded c.loop-place.roots c.loop-place.place c.loop-place.invariant c.units-units.ensures.sound

@@ -4,15 +4,16 @@ use Rattle.audit_model.specs.Graph.{Graph, has, adjacent}
 use Rattle.audit_model.specs.Local.{is_mate}
 use Rattle.model_laws.proofs.Lists.{at_has}
 use Rattle.dual_graph.specs.Marked.{Marked}
-use Rattle.contig.specs.Parts.{IsSpread, Replaced}
+use Rattle.contig.specs.Parts.{IsSpread}
 use Rattle.contig.proofs.Spreading.{spread_passed, spread_joined, labels_stay_small, above_zero}
 use Rattle.contig.proofs.parts.link.Goals as goal
 use Rattle.contig.proofs.parts.link.Goals.{then-there-ne0+then-roots-there, else-there-ne0, else-there-ne0-via-then-there-ne0+else-roots-there, else-there-ne0-via-else-there-ne0}
+use Rattle.model_laws.specs.Replaced.{Replaced}
 
 pub loop-other-preserved : goal.loop-other-preserved
 loop-other-preserved c =
-    let g : Graph = c.args.g.now in
-    let inside : ℕ → Bool = is_mate g c.args.plan.now c.args.u in
+    let g : Graph = c.args.graph.now in
+    let inside : ℕ → Bool = is_mate g c.args.plan.now c.args.leaving in
     let row : List ℕ = c.neighbours-other-items.result.now in
     let i : ℕ = c.loop-other.other-index in
     let lt : i < length row = c.loop-other-test.true in

@@ -16,14 +16,14 @@ mark_as-requires-clause-absent c =
     let row : List ℕ = c.neighbours-other-items.result.now in
     let i = c.loop-other.other-index in
     let rising : (j : ℕ) → j + 1 < length row → get_or row j 0 < get_or row (j + 1) 0 =
-    subst (λ (xs : List ℕ). (j : ℕ) → j + 1 < length xs → get_or xs j 0 < get_or xs (j + 1) 0) (sym c.neighbours-other-items.ensures.list) (c.units-units.ensures.sound.rising c.args.u) in
-    not_labelled c.args.g.now c.args.plan.now c.args.u (take i row) c.loop-other.count c.loop-other.marks (get_or row i 0) c.loop-other.invariant.seeding (not_before row i rising c.loop-other-test.true)
+    subst (λ (xs : List ℕ). (j : ℕ) → j + 1 < length xs → get_or xs j 0 < get_or xs (j + 1) 0) (sym c.neighbours-other-items.ensures.list) (c.units-units.ensures.sound.rising c.args.unit) in
+    not_labelled c.args.graph.now c.args.plan.now c.args.unit (take i row) c.loop-other.count c.loop-other.marks (get_or row i 0) c.loop-other.invariant.seeding (not_before row i rising c.loop-other-test.true)
 
 pub loop-other-preserved : goal.loop-other-preserved
 loop-other-preserved c =
-    let g : Graph = c.args.g.now in
+    let g : Graph = c.args.graph.now in
     let plan : List ℕ = c.args.plan.now in
-    let u : ℕ = c.args.u in
+    let u : ℕ = c.args.unit in
     let row : List ℕ = c.neighbours-other-items.result.now in
     let i : ℕ = c.loop-other.other-index in
     let lt : i < length row = c.loop-other-test.true in

@@ -7,16 +7,17 @@ use Rattle.audit_model.specs.Local.{stays_behind}
 use Rattle.audit_model.specs.Plan.{in_district}
 use Rattle.model_laws.proofs.Lists.{at_has}
 use Rattle.dual_graph.specs.Marked.{Marked}
-use Rattle.contig.specs.Parts.{IsSpread, Replaced}
+use Rattle.contig.specs.Parts.{IsSpread}
 use Rattle.contig.proofs.Spreading.{spread_passed, spread_marked, spread_joined, labels_stay_small, above_zero}
 use Rattle.contig.proofs.parts.spread.Goals as goal
-use Rattle.contig.proofs.parts.spread.Goals.{then-plan-v+then-v-u+then-there-eq0, then-plan-v+then-v-u+else-there-eq0+then-roots-there, then-plan-v+then-v-u+else-there-eq0+else-roots-there, else-plan-v, else-plan-v-via-then-plan-v+else-v-u, else-plan-v-via-else-plan-v}
+use Rattle.contig.proofs.parts.spread.Goals.{then-plan-v+then-v-leaving+then-there-eq0, then-plan-v+then-v-leaving+else-there-eq0+then-roots-there, then-plan-v+then-v-leaving+else-there-eq0+else-roots-there, else-plan-v, else-plan-v-via-then-plan-v+else-v-leaving, else-plan-v-via-else-plan-v}
+use Rattle.model_laws.specs.Replaced.{Replaced}
 
 pub loop-other-preserved : goal.loop-other-preserved
 loop-other-preserved c =
-    let g : Graph = c.args.g.now in
+    let g : Graph = c.args.graph.now in
     let plan : List ℕ = c.args.plan.now in
-    let u : ℕ = c.args.u in
+    let u : ℕ = c.args.leaving in
     let inside : ℕ → Bool = stays_behind plan u in
     let row : List ℕ = c.neighbours-other-items.result.now in
     let i : ℕ = c.loop-other.other-index in
@@ -44,21 +45,21 @@ loop-other-preserved c =
     λ same off. (lv, and_from (in_district plan (slice_index plan u) v) (not (v == u)) (eq-eqb (get_or plan v 0) (get_or plan u 0) same) (not_from_false (v == u) (ne_eqb v u off))) in
     let small : (w : ℕ) → get_or new.labels w 0 < length after = λ w. labels_stay_small g inside (take i row) label old new before after s c.requires.small unit c.requires.label.1 w in
     elim c.if-plan-v.branch [
-      | then-plan-v+then-v-u+then-there-eq0 w ↦ record {
+      | then-plan-v+then-v-leaving+then-there-eq0 w ↦ record {
         spread = far w.mark_as.new.self after w.marks-is w.roots-is
-            (spread_marked g inside (take i row) label old new before after v s unit found c.requires.label.0 (in_set w.if-plan-v.true w.if-v-u.true) uv vu
+            (spread_marked g inside (take i row) label old new before after v s unit found c.requires.label.0 (in_set w.if-plan-v.true w.if-v-leaving.true) uv vu
             w.mark_as.new.self (sym w.label-there.ensures ∙ w.if-there-eq0.true) (subst (λ t. v < t) (sym (s.units ∙ c.requires.units)) lv)
             w.mark_as.ensures.units w.mark_as.ensures.items w.mark_as.ensures.labels w.mark_as.ensures.sound);
         same = λ h. w.roots-is ∙ c.loop-other.invariant.same (sym w.met-is ∙ h);
       }
-      | then-plan-v+then-v-u+else-there-eq0+then-roots-there w ↦ record {
+      | then-plan-v+then-v-leaving+else-there-eq0+then-roots-there w ↦ record {
         spread = far new w.join.new.roots w.marks-is w.roots-is
-            (spread_joined g inside (take i row) label old new before after v s unit found c.requires.label.0 (in_set w.if-plan-v.true w.if-v-u.true) uv vu
+            (spread_joined g inside (take i row) label old new before after v s unit found c.requires.label.0 (in_set w.if-plan-v.true w.if-v-leaving.true) uv vu
             w.join.new.roots (above_zero w.label-there.result (get_or new.labels v 0) w.label-there.ensures w.if-there-eq0.false) small
             (subst (λ t. Replaced after w.join.new.roots t label) w.label-there.ensures w.join.ensures) w.join.auto.roots);
         same = λ h. absurd (false≢true (sym h ∙ w.met-is));
       }
-      | then-plan-v+then-v-u+else-there-eq0+else-roots-there w ↦ record {
+      | then-plan-v+then-v-leaving+else-there-eq0+else-roots-there w ↦ record {
         spread = far new after w.marks-is w.roots-is
             (spread_passed g inside (take i row) label old new before after v s (λ _.
             (above_zero w.label-there.result (get_or new.labels v 0) w.label-there.ensures w.if-there-eq0.false, ap (λ t. get_or after t 0) (sym w.label-there.ensures) ∙ w.if-roots-there.false)));
@@ -69,7 +70,7 @@ loop-other-preserved c =
             (spread_passed g inside (take i row) label old new before after v s (λ j.
             let parts = and_parts (in_district plan (slice_index plan u) v) (not (v == u)) j.1 in
             absurd (elim w.else-plan-v.branch [
-              | else-plan-v-via-then-plan-v+else-v-u w' ↦ both_ways (v == u) (not-true (v == u) parts.1) (eq-eqb v u w'.if-v-u.false)
+              | else-plan-v-via-then-plan-v+else-v-leaving w' ↦ both_ways (v == u) (not-true (v == u) parts.1) (eq-eqb v u w'.if-v-leaving.false)
               | else-plan-v-via-else-plan-v w' ↦ w'.if-plan-v.false (eqb-true (get_or plan v 0) (get_or plan u 0) parts.0)
             ])));
         same = λ h. w.roots-is ∙ c.loop-other.invariant.same (sym w.met-is ∙ h);

@@ -9,7 +9,7 @@ use Rattle.model_laws.proofs.Lists.{popped_last, popped_rest}
 
 pub loop-walker-init : goal.loop-walker-init
 loop-walker-init g c =
-    let parts = parts_of g.C.Keeper.load_faults g.C.Keeper.save_faults g.C.Keeper.slots g.C.Keeper.tried c.args.desk.now.table.shared.key in
+    let parts = parts_of g.C.Keeper.state c.args.desk.now.table.shared.key in
     let table = c.args.desk.now.table.shared.table_id in
     let first = c.requires.first in
     let left = c.in-Some.ensures.len in
@@ -27,7 +27,7 @@ loop-walker-init g c =
 
 pub loop-walker-preserved : goal.loop-walker-preserved
 loop-walker-preserved g c =
-    let parts = parts_of g.C.Keeper.load_faults g.C.Keeper.save_faults g.C.Keeper.slots g.C.Keeper.tried c.args.desk.now.table.shared.key in
+    let parts = parts_of g.C.Keeper.state c.args.desk.now.table.shared.key in
     let table = c.args.desk.now.table.shared.table_id in
     let was = c.loop-walker.invariant in
     let rest = c.split-part.ensures.rest in
@@ -55,7 +55,7 @@ loop-walker-preserved g c =
 
 pub returns-clause-ready : goal.returns-clause-ready
 returns-clause-ready g c =
-    let parts = parts_of g.C.Keeper.load_faults g.C.Keeper.save_faults g.C.Keeper.slots g.C.Keeper.tried c.args.desk.now.table.shared.key in
+    let parts = parts_of g.C.Keeper.state c.args.desk.now.table.shared.key in
     let table = c.args.desk.now.table.shared.table_id in
     let was = c.loop-walker.invariant in
     subst (All (IsReady table parts g.J.Judge.keeps g.J.Judge.stands g.J.Judge.takes g.J.Judge.rules)) (sym c.push_reserved-2.ensures.items)

@@ -7,12 +7,12 @@ use Rattle.desk_crew.proofs.crew.seat.Given as goal
 abbrev pub invariant-loop-walker : goal.invariant-loop-walker
 invariant-loop-walker g l = record {
   walkers : AreWalkers l.desk.table.shared.key.job.value g.J.Judge.keeps g.J.Judge.stands g.J.Judge.takes g.J.Judge.rules l.walkers.items;
-  ready : All (IsReady l.desk.table.shared.table_id (parts_of g.C.Keeper.load_faults g.C.Keeper.save_faults g.C.Keeper.slots g.C.Keeper.tried l.desk.table.shared.key) g.J.Judge.keeps g.J.Judge.stands g.J.Judge.takes g.J.Judge.rules) l.workers.items;
-  pass : Belongs l.desk.table.shared.table_id (parts_of g.C.Keeper.load_faults g.C.Keeper.save_faults g.C.Keeper.slots g.C.Keeper.tried l.desk.table.shared.key) l.pass;
+  ready : All (IsReady l.desk.table.shared.table_id (parts_of g.C.Keeper.state l.desk.table.shared.key) g.J.Judge.keeps g.J.Judge.stands g.J.Judge.takes g.J.Judge.rules) l.workers.items;
+  pass : Belongs l.desk.table.shared.table_id (parts_of g.C.Keeper.state l.desk.table.shared.key) l.pass;
   going : (view_of l.pass).own.ended ≡ false;
   weight : (view_of l.pass).own.weight ≡ 1;
   spare : (view_of l.pass).own.spare ≡ vec_len l.walkers;
-  whole : HasPostedAll (parts_of g.C.Keeper.load_faults g.C.Keeper.save_faults g.C.Keeper.slots g.C.Keeper.tried l.desk.table.shared.key) (view_of l.pass);
+  whole : HasPostedAll (parts_of g.C.Keeper.state l.desk.table.shared.key) (view_of l.pass);
   count : vec_len l.workers + vec_len l.walkers + 1 ≡ vec_len l.fn.walkers;
   room : vec_len l.fn.walkers ≤ vec_capacity l.workers;
 }

@@ -6,7 +6,7 @@ use Rattle.district_sums.proofs.scratch.count_cut.Goals as goal
 
 pub overflow_add-cut : goal.overflow_add-cut
 overflow_add-cut c =
-    let g = c.args.g.now in
+    let g = c.args.graph.now in
     let unit = c.loop-unit.unit in
     let test : ℕ → ℕ → Bool = λ u v. not (get_or c.args.plan.now u 0 == get_or c.args.plan.now v 0) in
     let each : ℕ → ℕ = λ v. count_below v (λ u. adjacent g u v && test u v) in
@@ -16,7 +16,7 @@ overflow_add-cut c =
 
 pub returns : goal.returns
 returns c =
-    let g = c.args.g.now in
+    let g = c.args.graph.now in
     let each : ℕ → ℕ = λ v. count_below v (λ u. adjacent g u v && not (get_or c.args.plan.now u 0 == get_or c.args.plan.now v 0)) in
     let all : c.loop-unit.unit ≡ g.units = omega (arith, c.loop-unit-test.false, c.loop-unit.auto.unit-end, c.units-unit-end.ensures.units) in
     c.loop-unit.invariant ∙ ap (λ (n : ℕ). sum_below n each) all

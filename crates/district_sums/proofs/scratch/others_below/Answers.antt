@@ -17,13 +17,13 @@ row_counted g unit bound others i test row sound is end counted =
 pub overflow_cast-result : goal.overflow_cast-result
 overflow_cast-result c =
     let test : ℕ → Bool = λ v. not (get_or c.args.plan.now v 0 == get_or c.args.plan.now c.args.unit 0) in
-    let is = row_counted c.args.g.now c.args.unit c.args.bound c.loop-other.others c.loop-other.other-index test c.neighbours-other-items.result.now
+    let is = row_counted c.args.graph.now c.args.unit c.args.bound c.loop-other.others c.loop-other.other-index test c.neighbours-other-items.result.now
     c.requires.graph c.neighbours-other-items.ensures.list c.loop-other-test.false c.loop-other.invariant in
-    let small = count_below_le c.args.bound (λ v. adjacent c.args.g.now v c.args.unit && test v) in
+    let small = count_below_le c.args.bound (λ v. adjacent c.args.graph.now v c.args.unit && test v) in
     omega (arith, is, small, c.ranges.bound)
 
 pub returns : goal.returns
 returns c =
-    row_counted c.args.g.now c.args.unit c.args.bound c.loop-other.others c.loop-other.other-index
+    row_counted c.args.graph.now c.args.unit c.args.bound c.loop-other.others c.loop-other.other-index
     (λ v. not (get_or c.args.plan.now v 0 == get_or c.args.plan.now c.args.unit 0)) c.neighbours-other-items.result.now
     c.requires.graph c.neighbours-other-items.ensures.list c.loop-other-test.false c.loop-other.invariant

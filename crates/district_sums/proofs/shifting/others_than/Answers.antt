@@ -13,7 +13,7 @@ all_counted g unit others i test row sound is end counted = counted ∙ ap (coun
 
 pub overflow_cast-result : goal.overflow_cast-result
 overflow_cast-result c =
-    let g : Graph = c.args.g.now in
+    let g : Graph = c.args.graph.now in
     let test : ℕ → Bool = λ v. not (get_or c.args.plan.now v 0 == c.args.district) in
     let is = all_counted g c.args.unit c.loop-other.others c.loop-other.other-index test c.neighbours-other-items.result.now
     c.units-units.ensures.sound c.neighbours-other-items.ensures.list c.loop-other-test.false c.loop-other.invariant in
@@ -21,5 +21,5 @@ overflow_cast-result c =
 
 pub returns : goal.returns
 returns c =
-    all_counted c.args.g.now c.args.unit c.loop-other.others c.loop-other.other-index (λ v. not (get_or c.args.plan.now v 0 == c.args.district))
+    all_counted c.args.graph.now c.args.unit c.loop-other.others c.loop-other.other-index (λ v. not (get_or c.args.plan.now v 0 == c.args.district))
     c.neighbours-other-items.result.now c.units-units.ensures.sound c.neighbours-other-items.ensures.list c.loop-other-test.false c.loop-other.invariant

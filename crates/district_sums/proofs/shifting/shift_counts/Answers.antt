@@ -34,7 +34,7 @@ shift_list-requires-3-clause-added c =
 
 pub returns-clause-added : goal.returns-clause-added
 returns-clause-added c =
-    let after : List ℕ = set c.args.plan.now c.args.u c.args.d in
+    let after : List ℕ = set c.args.plan.now c.args.unit c.args.district in
     let counts = c.args.counts.now in
     let view = c.args.view.now in
     record {

@@ -1,10 +1,11 @@
 use Rattle.std.proofs.Common.{◌≡◌, length, sym, ap, ◌∙◌, arith}
 use Rattle.std.specs.Option.{unwrap_or}
 use Rattle.audit_model.specs.Below.{map_below}
+use Rattle.model_laws.proofs.Below.{map_below_more}
 use Rattle.dual_json.specs.Columns.{count_in}
 use Rattle.dual_json.specs.Places.{object_at}
 use Rattle.dual_json.specs.Shape.{views}
-use Rattle.dual_json.proofs.Listed.{map_below_more, object_is, length-views}
+use Rattle.dual_json.proofs.Listed.{object_is, length-views}
 use Rattle.dual_json.proofs.columns.numbers_of.Goals as goal
 
 pub loop-node-init : goal.loop-node-init
@@ -15,7 +16,7 @@ loop-node-preserved c =
     map_below_more c.loop-node.node (λ i. unwrap_or (count_in c.args.key.now (object_at (views c.args.nodes.now) i)) 0) c.loop-node.numbers c.push.new.self c.unwrap_or-number.result
     c.loop-node.invariant
     (c.unwrap_or-number.ensures ∙ ap (λ o. unwrap_or o 0) (c.count_at.ensures ∙ ap (count_in c.args.key.now) (sym (object_is c.args.nodes.now c.loop-node.node c.index-nodes-node.result c.loop-node-test.true c.index-nodes-node.is))))
-    c.in-Ok.ensures.ok
+    c.in_ok-push.ensures.ok
 
 pub returns : goal.returns
 returns c =

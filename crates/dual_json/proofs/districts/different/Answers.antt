@@ -17,14 +17,14 @@ returns c =
       short =
           let bound = c.dedup.ensures.bound in
           let same = c.sort_unstable.ensures.len in
-          let one = c.in-Ok.ensures.len in
-          omega (arith, bound, same, one, c.dedup.new.self.ok.0, c.sort_unstable.new.self.ok.0, c.in-Ok.found.ok.0);
+          let one = c.in_ok-found.ensures.len in
+          omega (arith, bound, same, one, c.dedup.new.self.ok.0, c.sort_unstable.new.self.ok.0, c.in_ok-found.found.ok.0);
       from = λ x h.
           let in_sorted = Contains-from_dedup same_name sorted x (subst (λ (xs : List Name). Contains xs x) is h) in
-          subst (λ (xs : List Name). Contains xs x) c.in-Ok.ensures.items
-          (Contains-permutation sorted c.in-Ok.found.items x (IsPermutation-sym c.in-Ok.found.items sorted c.sort_unstable.ensures.permutation) in_sorted);
+          subst (λ (xs : List Name). Contains xs x) c.in_ok-found.ensures.items
+          (Contains-permutation sorted c.in_ok-found.found.items x (IsPermutation-sym c.in_ok-found.found.items sorted c.sort_unstable.ensures.permutation) in_sorted);
       to = λ x h.
-          let in_copy = subst (λ (xs : List Name). Contains xs x) (sym c.in-Ok.ensures.items) h in
+          let in_copy = subst (λ (xs : List Name). Contains xs x) (sym c.in_ok-found.ensures.items) h in
           subst (λ (xs : List Name). Any (λ y. same_name x y ≡ true) xs) (sym is)
-          (Any-dedup name_equiv sorted x (Contains-permutation c.in-Ok.found.items sorted x c.sort_unstable.ensures.permutation in_copy));
+          (Any-dedup name_equiv sorted x (Contains-permutation c.in_ok-found.found.items sorted x c.sort_unstable.ensures.permutation in_copy));
     }

@@ -12,7 +12,7 @@ unreachable-requires c = never_missing c.args.names.now c.args.found.now c.loop-
 pub loop-i-preserved : goal.loop-i-preserved
 loop-i-preserved c =
     started_more c.args.names.now c.args.found.now c.loop-i.i c.loop-i.start c.push.new.self c.in-Ok.place _ c.loop-i.invariant c.in-Ok.ensures.bound
-    (nth_get c.args.names.now c.loop-i.i _ c.loop-i-test.true) (c.in-Ok.ensures.ok _) c.in-Ok-push.ensures.ok
+    (nth_get c.args.names.now c.loop-i.i _ c.loop-i-test.true) (c.in-Ok.ensures.ok _) c.in_ok-push.ensures.ok
 
 pub returns : goal.returns
 returns c =

@@ -11,7 +11,7 @@ use Rattle.dual_json.proofs.Listed.{object_is, length-views}
 use Rattle.dual_json.proofs.edges.add_edges.Goals as goal
 
 pub loop-place-init : goal.loop-place-init
-loop-place-init c = (refl, adds_none c.args.index.now (views c.args.entries.now) c.args.node c.args.codes.now.items)
+loop-place-init c = (refl, adds_none c.args.index.now (views c.args.entries.now) c.args.node c.args.pairs.now.items)
 
 pub returns-in_default : goal.returns-in_default
 returns-in_default c =
@@ -36,5 +36,5 @@ returns c =
     let at : c.loop-place.place ≡ length (views c.args.entries.now) = omega (arith, low, high, length-views c.args.entries.now) in
     let end : c.loop-place.place ≡ length c.args.entries.now = omega (arith, low, high) in (
       subst (λ (m : ℕ). first_below m (λ k. is_unknown c.args.index.now (object_at (views c.args.entries.now) k)) ≡ None) at c.loop-place.invariant.0,
-      subst (λ (m : ℕ). AddsEdges c.args.index.now (views c.args.entries.now) m c.args.node c.args.codes.now.items c.loop-place.codes.items) end c.loop-place.invariant.1,
+      subst (λ (m : ℕ). AddsEdges c.args.index.now (views c.args.entries.now) m c.args.node c.args.pairs.now.items c.loop-place.pairs.items) end c.loop-place.invariant.1,
     )

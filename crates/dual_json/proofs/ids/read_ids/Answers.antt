@@ -1,9 +1,9 @@
 use Rattle.std.proofs.Common.{◌≡◌, Option, Some, None, sym, ◌∙◌, arith}
+use Rattle.model_laws.proofs.Results.{ok_map}
 use Rattle.serde_json.specs.View.{view}
 use Rattle.dual_json.specs.Shape.{document_of}
 use Rattle.dual_json.proofs.Identified.{all_named, ids_are}
 use Rattle.dual_json.proofs.Listed.{length-views}
-use Rattle.dual_json.proofs.Matched.{ok_map}
 use Rattle.dual_json.proofs.Regioned.{part_none, document_read, few_nodes, units_are}
 use Rattle.dual_json.proofs.ids.read_ids.Goals as goal
 

@@ -8,7 +8,7 @@ use Rattle.dual_json.proofs.Named.{nth_get}
 use Rattle.dual_json.proofs.index.places_of.Goals as goal
 
 pub loop-place-init : goal.loop-place-init
-loop-place-init c = record { leads = λ q. ap (lookup (same_name q)) c.in-Ok.ensures.empty; none = refl }
+loop-place-init c = record { leads = λ q. ap (lookup (same_name q)) c.in_ok-places.ensures.empty; none = refl }
 
 pub returns-in-Ok-Some : goal.returns-in-Ok-Some
 returns-in-Ok-Some c =

@@ -4,13 +4,13 @@ use Rattle.audit_model.specs.declared.setting.Label.{Label}
 use Rattle.audit_model.specs.Graph.{Graph, count_edges}
 use Rattle.model_laws.proofs.Options.{none_or, or_of_none}
 use Rattle.model_laws.proofs.First.{or_some}
+use Rattle.model_laws.proofs.Results.{match_map, err_at}
 use Rattle.graph_definitions.specs.Reading.{Document}
 use Rattle.dual_json.specs.Edges.{is_unnamed}
 use Rattle.dual_json.specs.Shape.{views, lists_in, document_of, frame_fault}
 use Rattle.dual_json.specs.Stages.{ids_fault, entry_fault}
 use Rattle.dual_json.proofs.Bridge.{entry_same, edges_same, graph_same}
 use Rattle.dual_json.proofs.Listed.{length-views, length-lists_in}
-use Rattle.dual_json.proofs.Matched.{match_map, err_at}
 use Rattle.dual_json.proofs.read.graph_in.Goals as goal
 
 pub returns-in_err-check_entries : goal.returns-in_err-check_entries

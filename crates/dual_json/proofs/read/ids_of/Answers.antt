@@ -4,11 +4,11 @@ use Rattle.std.specs.Option.{option_map}
 use Rattle.audit_model.specs.declared.fault.GraphFault.TheVariants.{BadId}
 use Rattle.audit_model.specs.declared.setting.Label.{Label}
 use Rattle.model_laws.proofs.Options.{none_or, or_of_none}
+use Rattle.model_laws.proofs.Results.{match_map}
 use Rattle.dual_json.specs.Places.{labels_from, first_unnamed, repeated, AreLabels}
 use Rattle.dual_json.specs.Shape.{views}
 use Rattle.dual_json.specs.Stages.{repeated_in}
 use Rattle.dual_json.proofs.Bridge.{repeated_same}
-use Rattle.dual_json.proofs.Matched.{match_map}
 use Rattle.dual_json.proofs.read.ids_of.Goals as goal
 
 pub returns-in-Ok : goal.returns-in-Ok

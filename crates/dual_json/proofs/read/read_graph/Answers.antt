@@ -1,11 +1,11 @@
 use Rattle.std.proofs.Common.{◌≡◌, Ok, Err, sym, ap, ◌∙◌, inl, inr, rules}
 use Rattle.std.specs.Prelude.{◌⊎◌}
 use Rattle.audit_model.specs.declared.fault.GraphFault.TheVariants.{Memory}
+use Rattle.model_laws.proofs.Results.{match_map, err_at}
 use Rattle.serde_json.specs.View.{view}
 use Rattle.graph_definitions.specs.Reading.{Document, reading, of_root, accepted_or, parsed, refusal}
 use Rattle.dual_json.specs.Shape.{document_of}
 use Rattle.dual_json.proofs.Bridge.{reading_of, reading_none}
-use Rattle.dual_json.proofs.Matched.{match_map, err_at}
 use Rattle.dual_json.proofs.read.read_graph.Goals as goal
 
 pub returns-in_err-root-clause-read : goal.returns-in_err-root-clause-read

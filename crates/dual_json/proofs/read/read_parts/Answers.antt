@@ -4,6 +4,7 @@ use Rattle.audit_model.specs.declared.fault.GraphFault.TheVariants.{Memory}
 use Rattle.audit_model.specs.declared.setting.Label.{Label}
 use Rattle.audit_model.specs.Graph.{Graph}
 use Rattle.model_laws.proofs.Options.{none_or, or_of_none}
+use Rattle.model_laws.proofs.Results.{err_at}
 use Rattle.graph_definitions.specs.Reading.{Document, refusal}
 use Rattle.dual_json.specs.Districts.{count_fault, different_count}
 use Rattle.dual_json.specs.Places.{labels_from}
@@ -12,7 +13,6 @@ use Rattle.dual_json.specs.Stages.{graph_fault, labels_fault}
 use Rattle.dual_json.specs.declared.names.Name.{Name}
 use Rattle.dual_json.proofs.Bridge.{refusal_is, different_same, parsed_is, within_is}
 use Rattle.dual_json.proofs.Listed.{length-views}
-use Rattle.dual_json.proofs.Matched.{err_at}
 use Rattle.dual_json.proofs.read.read_parts.Goals as goal
 
 pub returns-in_err-rows-clause-read : goal.returns-in_err-rows-clause-read

@@ -1,13 +1,13 @@
 use Rattle.std.proofs.Common.{◌≡◌, List, length, Err, sym, ap, subst, ◌∙◌, inr, arith, rules}
 use Rattle.std.proofs.lemmas.List.{length-map}
 use Rattle.audit_model.specs.declared.setting.Label.{Label}
+use Rattle.model_laws.proofs.Results.{err_at}
 use Rattle.dual_json.specs.Districts.{count_fault, different_count, AreDistricts}
 use Rattle.dual_json.specs.Names.{label_from}
 use Rattle.dual_json.specs.Places.{labels_from}
 use Rattle.dual_json.specs.declared.names.Name.{Name}
 use Rattle.dual_json.proofs.Bridge.{count_within}
 use Rattle.dual_json.proofs.Counted.{label_count_is}
-use Rattle.dual_json.proofs.Matched.{err_at}
 use Rattle.dual_json.proofs.read.rows_of.Goals as goal
 
 pub returns-in_err-check_count : goal.returns-in_err-check_count

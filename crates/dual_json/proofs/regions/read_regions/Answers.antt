@@ -1,10 +1,10 @@
 use Rattle.std.proofs.Common.{◌≡◌, Option, Some, None, Ok, sym, ap, subst, ◌∙◌, inl, inr, arith}
 use Rattle.serde_json.specs.View.{view}
 use Rattle.audit_model.specs.Limits.{AreRegions}
+use Rattle.model_laws.proofs.Results.{match_map, ok_map}
 use Rattle.graph_definitions.specs.Regions.{regions, regions_or}
 use Rattle.dual_json.specs.Shape.{document_of}
 use Rattle.dual_json.proofs.Listed.{length-views}
-use Rattle.dual_json.proofs.Matched.{match_map, ok_map}
 use Rattle.dual_json.proofs.Regioned.{part_none, few_nodes, units_are, region_reading_of}
 use Rattle.dual_json.proofs.regions.read_regions.Goals as goal
 

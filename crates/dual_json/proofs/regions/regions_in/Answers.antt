@@ -1,6 +1,7 @@
 use Rattle.std.proofs.Common.{◌≡◌, ℕ, List, Option, Some, None, sym, ap, subst, ◌∙◌, inl, inr}
 use Rattle.audit_model.specs.declared.fault.RegionFault.TheVariants.{BadLabel}
 use Rattle.audit_model.specs.declared.setting.Label.{Label}
+use Rattle.model_laws.proofs.Results.{match_map, ok_from}
 use Rattle.dual_json.specs.Numbered.{first_without}
 use Rattle.graph_definitions.specs.Regions.{region_fault}
 use Rattle.dual_json.specs.Places.{labels_from, first_unnamed, AreLabels, Tells}
@@ -9,7 +10,6 @@ use Rattle.dual_json.specs.declared.names.Name.{Name}
 use Rattle.dual_json.specs.declared.names.Unnamed.{Unnamed}
 use Rattle.dual_json.specs.declared.names.Unnamed.TheVariants.{At, Memory as NoMemory}
 use Rattle.dual_json.proofs.Listed.{length-views}
-use Rattle.dual_json.proofs.Matched.{match_map, ok_from}
 use Rattle.dual_json.proofs.Regioned.{fault_unlabelled, fault_many, fault_none, regions_are, regions_within}
 use Rattle.dual_json.proofs.regions.regions_in.Goals as goal
 

@@ -10,4 +10,4 @@ returns c =
     c.loop-other.invariant.counted
     ∙ ap (count_by (is_before c.args.plan.now c.args.end c.args.district))
     (take_all c.loop-other.other-index c.neighbours-other-items.result.now (omega (arith, c.loop-other-test.false)) ∙ c.neighbours-other-items.ensures.list)
-    ∙ row_counted c.args.g.now c.args.unit (is_before c.args.plan.now c.args.end c.args.district) c.units-units.ensures.sound
+    ∙ row_counted c.args.graph.now c.args.unit (is_before c.args.plan.now c.args.end c.args.district) c.units-units.ensures.sound

@@ -5,16 +5,16 @@ use Rattle.face_table.proofs.links.are_linked.Goals as goal
 
 pub returns-in-Some : goal.returns-in-Some
 returns-in-Some c faces are is =
-    let g = c.args.g.now in
+    let g = c.args.graph.now in
     let sound = c.units-units.ensures.sound in
-    let kept = c.merge.ensures.linked faces are is (own_classes g c.args.plan.now c.args.u sound c.requires.unit faces are _ c.requires.few refl) in (
-      λ h. all_linked g c.args.plan.now c.args.u sound c.requires.unit faces are c.args.corners.now is c.requires.placed c.requires.few
+    let kept = c.merge.ensures.linked faces are is (own_classes g c.args.plan.now c.args.unit sound c.requires.unit faces are _ c.requires.few refl) in (
+      λ h. all_linked g c.args.plan.now c.args.unit sound c.requires.unit faces are c.args.corners.now is c.requires.placed c.requires.few
           c.merge.new.classes c.in-Some.first kept c.in-Some.ensures.0 c.in-Some.ensures.1 (c.all_of.ensures.yes h),
       λ linked. elim (cases_Bool c.all_of.result) [
         | inl e ↦ e
         | inr e ↦
             let other = c.all_of.ensures.no e in
-            absurd (parted g c.args.plan.now c.args.u sound c.requires.unit faces are c.args.corners.now is c.requires.placed c.requires.few
+            absurd (parted g c.args.plan.now c.args.unit sound c.requires.unit faces are c.args.corners.now is c.requires.placed c.requires.few
             c.merge.new.classes c.merge.ensures.merged c.in-Some.first other.0 c.in-Some.ensures.0 other.1 c.in-Some.ensures.1 other.2 other.3 linked)
       ],
     )

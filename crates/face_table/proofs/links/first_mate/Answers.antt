@@ -8,8 +8,8 @@ use Rattle.face_table.proofs.links.first_mate.Goals as goal
 
 pub returns : goal.returns
 returns c v i =
-    let parts = and_parts (adjacent c.args.g.now c.args.u v) (in_district c.args.plan.now (slice_index c.args.plan.now c.args.u) v) i.1 in
+    let parts = and_parts (adjacent c.args.graph.now c.args.unit v) (in_district c.args.plan.now (slice_index c.args.plan.now c.args.unit) v) i.1 in
     let row : List ℕ = c.neighbours-row.result.now in
     let place = has_at row v (subst (λ (xs : List ℕ). has xs v ≡ true) (sym c.neighbours-row.ensures.list) parts.0) in
     c.loop-place.invariant place.0 (omega (arith, place.1, c.loop-place-test.false, c.loop-place.auto.place-end))
-    (ap (λ t. get_or c.args.plan.now t 0) place.2 ∙ eqb-true (get_or c.args.plan.now v 0) (get_or c.args.plan.now c.args.u 0) parts.1)
+    (ap (λ t. get_or c.args.plan.now t 0) place.2 ∙ eqb-true (get_or c.args.plan.now v 0) (get_or c.args.plan.now c.args.unit 0) parts.1)

@@ -4,16 +4,17 @@ use Rattle.std.proofs.lemmas.List.{take_all}
 use Rattle.std.proofs.lemmas.List.Elements.{All-get_or}
 use Rattle.face_table.specs.declared.corner.Corner.{Corner}
 use Rattle.face_table.specs.Corners.{IsPlaced}
-use Rattle.face_table.specs.Links.{AreMerged, Replaced, is_inner}
+use Rattle.face_table.specs.Links.{AreMerged, is_inner}
 use Rattle.face_table.proofs.Merging.{Kept, row, merged_step, joined_coarser, joined_one, classes_joined}
 use Rattle.face_table.proofs.links.merge.Goals as goal
 use Rattle.face_table.proofs.links.merge.Goals.{then-is_inner+then-classes-corner, else-is_inner, else-is_inner-via-then-is_inner+else-classes-corner, else-is_inner-via-else-is_inner}
+use Rattle.model_laws.specs.Replaced.{Replaced}
 
 pub loop-corner-preserved : goal.loop-corner-preserved
 loop-corner-preserved c =
-    let g = c.args.g.now in
+    let g = c.args.graph.now in
     let plan : List ℕ = c.args.plan.now in
-    let u : ℕ = c.args.u in
+    let u : ℕ = c.args.unit in
     let corners : List Corner = c.args.corners.now in
     let k : ℕ = c.loop-corner.corner-index in
     let d : Corner = record { one = 0; other = 0; far = 0 } in
@@ -53,5 +54,5 @@ loop-corner-preserved c =
 
 pub returns-clause-merged : goal.returns-clause-merged
 returns-clause-merged c =
-    subst (λ (t : List Corner). AreMerged c.args.g.now c.args.plan.now c.args.u t c.loop-corner.classes)
+    subst (λ (t : List Corner). AreMerged c.args.graph.now c.args.plan.now c.args.unit t c.loop-corner.classes)
     (take_all c.loop-corner.corner-index c.args.corners.now (omega (arith, c.loop-corner-test.false))) c.loop-corner.invariant.merged

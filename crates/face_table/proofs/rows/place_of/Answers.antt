@@ -6,11 +6,11 @@ use Rattle.face_table.proofs.rows.place_of.Goals as goal
 
 pub overflow_cast-result : goal.overflow_cast-result
 overflow_cast-result c =
-    let short = row_short c.args.g.now c.args.u c.units-units.ensures.sound in
+    let short = row_short c.args.graph.now c.args.unit c.units-units.ensures.sound in
     let same = ap (length {A = ℕ}) c.neighbours-row.ensures.list in
     omega (arith, short, same, c.units-units.ensures.few, c.loop-place-test.true, c.loop-place.auto.place-end)
 
 pub returns-clause-there : goal.returns-clause-there
 returns-clause-there c =
-    let place = has_at c.neighbours-row.result.now c.args.v (subst (λ (xs : List ℕ). has xs c.args.v ≡ true) (sym c.neighbours-row.ensures.list) c.requires.near) in
+    let place = has_at c.neighbours-row.result.now c.args.other (subst (λ (xs : List ℕ). has xs c.args.other ≡ true) (sym c.neighbours-row.ensures.list) c.requires.near) in
     absurd (c.loop-place.invariant place.0 (omega (arith, place.1, c.loop-place-test.false, c.loop-place.auto.place-end)) place.2)

@@ -5,10 +5,10 @@ use Rattle.face_table.proofs.Adding.{ring_at, rings_step}
 use Rattle.face_table.proofs.rows.rows_of.Goals as goal
 
 pub add_face-requires-clause-ring : goal.add_face-requires-clause-ring
-add_face-requires-clause-ring c = ring_at c.args.g.now c.args.faces.now c.loop-face.face-index (Triangle 0 0 0) c.loop-face-test.true c.requires.faces
+add_face-requires-clause-ring c = ring_at c.args.graph.now c.args.faces.now c.loop-face.face-index (Triangle 0 0 0) c.loop-face-test.true c.requires.faces
 
 pub loop-face-preserved : goal.loop-face-preserved
 loop-face-preserved c =
-    subst (λ (l : List (List ℕ)). HasCorners c.args.g.now (λ w. corners_at w l) c.add_face.new.rows.items)
+    subst (λ (l : List (List ℕ)). HasCorners c.args.graph.now (λ w. corners_at w l) c.add_face.new.rows.items)
     (sym (rings_step c.args.faces.now c.loop-face.face-index (Triangle 0 0 0) c.loop-face-test.true))
     (c.in_ok-add_face.ensures.added _ c.loop-face.invariant)

@@ -1,16 +1,16 @@
-use Rattle.std.proofs.Common.{◌≡◌, ℕ, nat_eq, true, sym, subst}
+use Rattle.std.proofs.Common.{◌≡◌, ℕ, true, sym, subst}
 use Rattle.std.specs.HashSet.{contains}
-use Rattle.faces.proofs.Listing.{square_codes}
+use Rattle.faces.proofs.Listing.{square_sides}
 use Rattle.faces.specs.Faces.{has_side}
-use Rattle.faces.specs.Listed.{side_code}
+use Rattle.faces.specs.Listed.{same_side, side}
 use Rattle.faces.specs.Rings.{ring_of}
 use Rattle.faces.specs.declared.face.Face.{Face}
 use Rattle.faces.proofs.list.note_sides.Goals as goal
 
 pub returns-in_ok-note-in-Square-4-clause-there : goal.returns-in_ok-note-in-Square-4-clause-there
 returns-in_ok-note-in-Square-4-clause-there c =
-    subst (λ (f : Face). (x y : ℕ) → has_side (ring_of f) x y ≡ true → contains nat_eq c.note-in-Square-4.new.codes (side_code x y) ≡ true) (sym c.in-Square.is)
-    (square_codes (contains nat_eq c.note-in-Square-4.new.codes) c.in-Square.a c.in-Square.b c.in-Square.c c.in-Square.d
+    subst (λ (f : Face). (x y : ℕ) → has_side (ring_of f) x y ≡ true → contains same_side c.note-in-Square-4.new.sides (side x y) ≡ true) (sym c.in-Square.is)
+    (square_sides (contains same_side c.note-in-Square-4.new.sides) c.in-Square.a c.in-Square.b c.in-Square.c c.in-Square.d
     (c.note-in-Square-4.ensures.kept _ (c.note-in-Square-3.ensures.kept _ (c.note-in-Square-2.ensures.kept _ c.in_ok-note-in-Square.ensures.there)))
     (c.note-in-Square-4.ensures.kept _ (c.note-in-Square-3.ensures.kept _ c.in_ok-note-in-Square-2.ensures.there))
     (c.note-in-Square-4.ensures.kept _ c.in_ok-note-in-Square-3.ensures.there)

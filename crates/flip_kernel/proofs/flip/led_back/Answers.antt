@@ -4,10 +4,10 @@ use Rattle.audit_model.specs.Job.{Job}
 use Rattle.audit_model.specs.Plan.{IsLegal}
 use Rattle.audit_model.specs.Proposal.{proposal}
 use Rattle.audit_model.specs.Step.{next, mirrored}
-use Rattle.model_laws.proofs.Mirror.{mirrored_below}
+use Rattle.model_laws.proofs.Mirror.{mirrored_below, mirrored_stays}
 use Rattle.flip_kernel.specs.Held.{IsMove, ProposesOpen}
 use Rattle.flip_kernel.proofs.flip.led_back.Goals as goal
-use Rattle.flip_kernel.proofs.Flipping.{next_moved, next_stays, move_differs, mirrored_held, mirrored_turned}
+use Rattle.flip_kernel.proofs.Flipping.{next_moved, next_stays, move_differs, mirrored_turned}
 
 -- a move's draw less its district, plus the unit's old one
 turned : (job : Job) (plan : List ℕ) (draw unit district minus plus : ℕ) → proposal job.graph.units job.districts draw ≡ Some (unit, district)
@@ -20,7 +20,7 @@ turned job plan draw unit district minus plus is l move less more =
 pub returns-in-None-clause-value : goal.returns-in-None-clause-value
 returns-in-None-clause-value g c =
     let plan : List ℕ = c.args.state.now.board.plan in
-    sym (mirrored_held c.args.job.now plan c.args.draw (subst (λ (j : Job). next j plan c.args.draw ≡ plan) c.requires.made c.in-None.ensures))
+    sym (mirrored_stays c.args.job.now plan c.args.draw (subst (λ (j : Job). next j plan c.args.draw ≡ plan) c.requires.made c.in-None.ensures))
 
 pub overflow_add-result : goal.overflow_add-result
 overflow_add-result g c =
@@ -50,5 +50,5 @@ returns-clause-value g c =
     let plan : List ℕ = c.args.state.now.board.plan in
     let offer : ProposesOpen job plan c.args.draw c.in-Some.unit c.in-Some.district =
     subst (λ (j : Job). ProposesOpen j plan c.args.draw c.in-Some.unit c.in-Some.district) c.requires.made c.in-Some.ensures in
-    sym (mirrored_held job plan c.args.draw (next_stays job plan c.args.draw c.in-Some.unit c.in-Some.district offer.proposed
+    sym (mirrored_stays job plan c.args.draw (next_stays job plan c.args.draw c.in-Some.unit c.in-Some.district offer.proposed
     (λ move. both_ways c.may_move.result c.if-may_move.false (c.may_move.ensures.moves.1 move))))

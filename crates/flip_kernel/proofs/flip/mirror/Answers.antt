@@ -1,11 +1,11 @@
 use Rattle.std.proofs.Common.{ℕ, ap, ◌∙◌}
 use Rattle.audit_model.specs.Step.{next, mirrored}
-use Rattle.model_laws.proofs.Mirror.{next-mirrored, mirrored-mirrored}
-use Rattle.flip_kernel.proofs.Flipping.{mirrored_held, mirrored_moved}
+use Rattle.model_laws.proofs.Mirror.{next-mirrored, mirrored-mirrored, mirrored_stays}
+use Rattle.flip_kernel.proofs.Flipping.{mirrored_moved}
 use Rattle.flip_kernel.proofs.flip.mirror.Goals as goal
 
 pub returns-clause-held : goal.returns-clause-held
-returns-clause-held g c = λ same. c.led_back.ensures.value ∙ mirrored_held c.args.job.now c.args.state.now.board.plan c.args.draw same
+returns-clause-held g c = λ same. c.led_back.ensures.value ∙ mirrored_stays c.args.job.now c.args.state.now.board.plan c.args.draw same
 
 pub returns-clause-moved : goal.returns-clause-moved
 returns-clause-moved g c = λ unit district is differs.

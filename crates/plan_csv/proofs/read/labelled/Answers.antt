@@ -25,7 +25,7 @@ returns-in-Err-clause-read c =
 pub loop-plan-preserved : goal.loop-plan-preserved
 loop-plan-preserved c =
     listed_more (fields_of c.args.header.now) (map fields_of c.args.entries.now) c.args.records.now c.loop-plan.plan c.loop-plan.list c.loop-plan.invariant
-    c.push.new.self c.in-Ok.assigned c.in-Ok-push.ensures.ok c.in-Ok.ensures.read.0 c.in-Ok.ensures.read.1 c.in-Ok.ensures.fit
+    c.push.new.self c.in-Ok.assigned c.in_ok-push-in-Ok.ensures.ok c.in-Ok.ensures.read.0 c.in-Ok.ensures.read.1 c.in-Ok.ensures.fit
 
 pub returns-clause-read : goal.returns-clause-read
 returns-clause-read c =

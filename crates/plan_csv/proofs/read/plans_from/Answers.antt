@@ -2,12 +2,11 @@ use Rattle.std.proofs.Common.{◌≡◌, ◌<◌, ℕ, List, length, map, get_or
 use Rattle.std.specs.List.{All}
 use Rattle.std.proofs.lemmas.List.{length-map}
 use Rattle.csv.specs.Records.{fields_of}
-use Rattle.audit_model.specs.declared.plans.Assigned.{Assigned}
 use Rattle.audit_model.specs.declared.setting.Label.{Label}
+use Rattle.model_laws.proofs.Results.{match_map, ok_map}
 use Rattle.plan_csv.specs.Fit.{IsPlanOf}
 use Rattle.plan_csv.specs.Stages.{AreRecords, refused_units}
 use Rattle.plan_csv.proofs.Assembled.{plans_are}
-use Rattle.plan_csv.proofs.Chosen.{weaker, ok_map}
 use Rattle.plan_csv.proofs.Early.{count_first, none_later}
 use Rattle.plan_csv.proofs.read.plans_from.Goals as goal
 
@@ -31,7 +30,7 @@ returns-clause-read c =
     let are : AreRecords ids rows c.as_slice-2.result.now =
     subst (λ (ls : List Label). AreRecords ls rows c.as_slice-2.result.now) c.as_slice.ensures
     (subst (λ (rs : List ℕ). AreRecords c.as_slice.result.now rows rs) (sym have) c.in_ok-records.ensures.1) in
-    weaker c.labelled.result _ _ _ _ c.labelled.ensures.read
+    match_map c.labelled.result _ _ _ _ c.labelled.ensures.read
     (λ list h. (
       none_later ids header rows p.1 p.2 p.3 units h.0,
       h.1 ∙ plans_are ids header rows c.as_slice-2.result.now c.in_ok-plans.plans are p.0,

@@ -21,7 +21,7 @@ pub loop-row-preserved : goal.loop-row-preserved
 loop-row-preserved c =
     let step = c.in-Some.ensures.steps in (
       read_more c.args.columns (map fields_of c.args.rows.items) c.loop-row.texts.items (into_iter_items c.loop-row.row-iterator) (into_iter_items c.next.new.self) c.in-Some.row
-          c.loop-row.invariant.0 step.0 c.push.new.self.items c.in-Ok.text c.in-Ok-push.ensures.items c.in-Ok.ensures.same
+          c.loop-row.invariant.0 step.0 c.push.new.self.items c.in-Ok.text c.in_ok-push.ensures.items c.in-Ok.ensures.same
           (readable c.args.columns (fields_of c.in-Some.row) (sym c.len.ensures ∙ c.if-len-columns.false) (subst AllText c.in-Ok.ensures.same c.in-Ok.ensures.text)),
       omega (arith, step.1, c.loop-row.invariant.1, ap length step.0),
     )

@@ -14,15 +14,15 @@ loop-unit-init c = record { leads = λ q. ap (lookup (λ k. is_eq (slice_cmp nat
 pub returns-in-Some : goal.returns-in-Some
 returns-in-Some c =
     let l = c.loop-unit-test.true in
-    let at = c.as_str.ensures.value ∙ c.in-Ok.ensures ∙ ap id_text (sym (item_is c.args.ids.now c.loop-unit.unit c.index-ids-unit.result (Word []) l c.index-ids-unit.is)) in
+    let at = c.as_str.ensures.value ∙ c.in_ok-text.ensures ∙ ap id_text (sym (item_is c.args.ids.now c.loop-unit.unit c.index-ids-unit.result (Word []) l c.index-ids-unit.is)) in
     inr (shared_here string_bytes c.args.ids.now c.loop-unit.unit c.loop-unit.index.entries c.as_str.result.now c.loop-unit.invariant at c.in-Some.one.now l (sym c.in-Some.ensures.value))
 
 pub loop-unit-preserved : goal.loop-unit-preserved
 loop-unit-preserved c =
     let l = c.loop-unit-test.true in
-    let at = c.as_str.ensures.value ∙ c.in-Ok.ensures ∙ ap id_text (sym (item_is c.args.ids.now c.loop-unit.unit c.index-ids-unit.result (Word []) l c.index-ids-unit.is)) in
+    let at = c.as_str.ensures.value ∙ c.in_ok-text.ensures ∙ ap id_text (sym (item_is c.args.ids.now c.loop-unit.unit c.index-ids-unit.result (Word []) l c.index-ids-unit.is)) in
     indexed_more string_bytes c.args.ids.now c.loop-unit.unit c.loop-unit.index.entries c.as_str.result.now c.loop-unit.invariant at
-    c.in-Ok.text (sym c.as_str.ensures.value) (sym c.in_default-get.ensures.value) c.insert.new.self.entries c.in-Ok-insert.ensures.entries
+    c.in_ok-text.text (sym c.as_str.ensures.value) (sym c.in_default.ensures.value) c.insert.new.self.entries c.in_ok-insert.ensures.entries
 
 pub returns : goal.returns
 returns c =

@@ -6,7 +6,7 @@ use Rattle.plan_csv.proofs.Placed.{again_here, placed_more, placed_all, placed_n
 use Rattle.plan_csv.proofs.units.places_of.Goals as goal
 
 pub loop-entry-init : goal.loop-entry-init
-loop-entry-init c = placed_none c.args.units.now c.args.count c.in-Ok.places.items c.in-Ok.ensures.0 c.in-Ok.ensures.1
+loop-entry-init c = placed_none c.args.units.now c.args.count c.in_ok-places.places.items c.in_ok-places.ensures.0 c.in_ok-places.ensures.1
 
 pub returns-then-is_some : goal.returns-then-is_some
 returns-then-is_some c =

@@ -1,7 +1,7 @@
 use Rattle.std.proofs.Common.{◌<◌, ap, arith, length, map, sym, inl, inr, subst, get_or, List, ℕ}
 use Rattle.std.proofs.lemmas.Result.{err_from_is_err_and}
+use Rattle.model_laws.proofs.Results.{match_map}
 use Rattle.csv.specs.Records.{fields_of}
-use Rattle.plan_csv.proofs.Chosen.{weaker}
 use Rattle.plan_csv.proofs.Bridge.{unit_under}
 use Rattle.plan_csv.proofs.Refused.{twice_first, missing_first, none_refused, all_records}
 use Rattle.plan_csv.proofs.units.records_from.Goals as goal
@@ -29,7 +29,7 @@ returns c =
     let us = c.in_ok-units.units.items in
     let placed = rw (c.as_slice.ensures.value) at c.in_ok-places.ensures in
     let same = c.as_slice-2.ensures.value in
-    weaker c.records_of.result _ _ _ _ c.records_of.ensures
+    match_map c.records_of.result _ _ _ _ c.records_of.ensures
     (λ records got. let have = rw same at got in (
       none_refused c.args.ids.now rows c.in_ok-index.ensures.0 u.0 us u.1 placed.0 c.in_ok-places.places.items placed.1 have.0,
       all_records c.args.ids.now rows c.in_ok-index.ensures.0 u.0 us u.1 placed.0 c.in_ok-places.places.items placed.1 records.items have.1,

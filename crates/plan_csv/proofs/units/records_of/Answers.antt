@@ -9,7 +9,7 @@ pub returns-in_default : goal.returns-in_default
 returns-in_default c = inr (unnamed_here c.args.places.now c.loop-unit.unit c.loop-unit.records.items c.loop-unit.invariant c.loop-unit-test.true c.in_default.is)
 
 pub loop-unit-preserved : goal.loop-unit-preserved
-loop-unit-preserved c = there_more c.args.places.now c.loop-unit.unit c.loop-unit.records.items c.loop-unit.invariant c.in-Some.record c.push.new.self.items c.in-Some.is c.in-Ok.ensures.items
+loop-unit-preserved c = there_more c.args.places.now c.loop-unit.unit c.loop-unit.records.items c.loop-unit.invariant c.in-Some.record c.push.new.self.items c.in-Some.is c.in_ok-push.ensures.items
 
 pub returns : goal.returns
 returns c =

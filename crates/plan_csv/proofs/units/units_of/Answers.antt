@@ -24,7 +24,7 @@ loop-entry-preserved c = λ ids is.
     let l = c.loop-entry-test.true in
     let at = ap (λ row. slice_index_or row 0 []) (row_is c.args.entries.now c.loop-entry.entry c.index-entries-entry.result l c.index-entries-entry.is) ∙ sym c.field.ensures in
     united_more string_bytes ids c.args.index.now.entries is (map fields_of c.args.entries.now) c.loop-entry.entry c.loop-entry.units.items (c.loop-entry.invariant ids is) c.field.result.now at
-    c.in-Some.unit.now c.push.new.self.items (sym c.in-Some.ensures.value) c.in-Ok.ensures.items
+    c.in-Some.unit.now c.push.new.self.items (sym c.in-Some.ensures.value) c.in_ok-push.ensures.items
 
 pub returns : goal.returns
 returns c =

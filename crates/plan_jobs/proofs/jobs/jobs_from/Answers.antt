@@ -1,7 +1,8 @@
-use Rattle.std.proofs.Common.{rules, ◌≡◌, ◌⊎◌, Ok, Err, length, IfOk, MatchResult, sym, ◌∙◌, ap, subst, ℕ, List, Result}
+use Rattle.std.proofs.Common.{◌≡◌, ◌⊎◌, Ok, Err, length, IfOk, MatchResult, sym, ◌∙◌, ap, subst, ℕ, List, Result}
 use Rattle.std.specs.List.{All}
 use Rattle.audit_model.specs.declared.plans.Assigned.{Assigned}
 use Rattle.audit_model.specs.declared.setting.Setting.{Setting}
+use Rattle.model_laws.proofs.Jobs.{setting_of_job}
 use Rattle.dual_graph.specs.Read.{parsed_of}
 use Rattle.plan_csv.specs.Fit.{IsPlanOf}
 use Rattle.plan_jobs.specs.declared.fault.PlansFault.{PlansFault}
@@ -9,7 +10,7 @@ use Rattle.plan_jobs.specs.declared.fault.PlansFault.TheVariants as fault
 use Rattle.plan_jobs.specs.Named.{jobs_of}
 use Rattle.plan_jobs.specs.Reading.{Jobs}
 use Rattle.plan_jobs.specs.Shared.{AreShared}
-use Rattle.plan_jobs.proofs.Reading.{own_fails, own_joins, own_set, own_units}
+use Rattle.plan_jobs.proofs.Reading.{own_fails, own_joins, own_units}
 use Rattle.plan_jobs.proofs.jobs.jobs_from.Goals as goal
 
 pub returns-in-Err-own_of-clause-read : goal.returns-in-Err-own_of-clause-read
@@ -35,4 +36,4 @@ returns-clause-read c =
 pub returns-clause-shared : goal.returns-clause-shared
 returns-clause-shared c =
     subst (λ (s : Setting). IfOk c.join.result (λ named. AreShared s named.items))
-    (own_set (parsed_of c.args.parsed) c.args.setting.now c.args.regions c.in-Ok-own_of.own.job c.in-Ok-own_of.ensures.made) c.join.ensures.shared
+    (setting_of_job (parsed_of c.args.parsed) c.args.setting.now c.args.regions c.in-Ok-own_of.own.job c.in-Ok-own_of.ensures.made) c.join.ensures.shared

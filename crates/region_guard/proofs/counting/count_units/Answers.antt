@@ -1,12 +1,12 @@
 use Rattle.std.proofs.Common.{ℕ, ◌+◌, ◌*◌, ◌<◌, ◌&&◌, ◌==◌, get_or, refl, sym, ◌∙◌, arith}
-use Rattle.region_guard.proofs.Cells.{cell_inside}
 use Rattle.region_guard.proofs.Moves.{counted_on}
 use Rattle.region_guard.proofs.counting.count_units.Goals as goal
 use Rattle.model_laws.proofs.Below.{count_below_le, count_below_zero}
+use Rattle.model_laws.proofs.Numbers.{place_below}
 
 pub loop-unit-init : goal.loop-unit-init
 loop-unit-init c = λ q d lq ld.
-    c.fill.ensures.clones (q * c.args.districts + d) 0 (omega (arith, cell_inside c.args.rows c.args.districts q d lq ld, c.requires.places)) refl
+    c.fill.ensures.clones (q * c.args.districts + d) 0 (omega (arith, place_below q d c.args.rows c.args.districts lq ld, c.requires.places)) refl
     ∙ sym (count_below_zero (λ u. (get_or c.args.regions.now u 0 == q) && (get_or c.args.plan.now u 0 == d)))
 
 pub overflow_add-cells-in-loop-unit : goal.overflow_add-cells-in-loop-unit

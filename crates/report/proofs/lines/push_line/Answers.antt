@@ -1,13 +1,14 @@
 use Rattle.std.proofs.Common.{◌≡◌, ◌∷◌, ◌++◌, ap, map, [], sym, subst, ◌∙◌}
 use Rattle.std.proofs.lemmas.Result.{err_from_is_err_and}
+use Rattle.std.proofs.lemmas.List.{nil_from_length}
 use Rattle.report.specs.Lines.{word_text, tail_of, Appends}
-use Rattle.report.proofs.Written.{line-cons, appends-two, appends-err, empty}
+use Rattle.report.proofs.Written.{line-cons, appends-two, appends-err}
 use Rattle.text_definitions.specs.Report.{line}
 use Rattle.report.proofs.lines.push_line.Goals as goal
 
 pub returns-in_default : goal.returns-in_default
 returns-in_default c =
-    let whole : 10 ∷ [] ≡ line (map word_text c.args.words.now) = ap (λ w. line (map word_text w)) (sym (empty c.args.words.now c.in_default.ensures.cases)) in
+    let whole : 10 ∷ [] ≡ line (map word_text c.args.words.now) = ap (λ w. line (map word_text w)) (sym (nil_from_length c.args.words.now c.in_default.ensures.cases)) in
     subst (λ t. Appends c.args.out.now c.push.new.self t c.push.result) whole (record { ok = c.push.ensures.ok; room = c.push.ensures.room })
 
 pub returns-in_err-push_word : goal.returns-in_err-push_word

@@ -10,8 +10,8 @@ use Rattle.audit_model.specs.Trajectory.{in_tail}
 use Rattle.model_laws.proofs.Below.{count_below_le}
 use Rattle.sequential_test.proofs.settle.settle_values.Goals as goal
 
-pub returns-then-inside-h-clause-settled : goal.returns-then-inside-h-clause-settled
-returns-then-inside-h-clause-settled c = λ job ask w e t s.
+pub returns-then-inside-hits-clause-settled : goal.returns-then-inside-hits-clause-settled
+returns-then-inside-hits-clause-settled c = λ job ask w e t s.
     let walks : ℕ = c.args.walks in
     let ends : ℕ = c.args.ends in
     let posted : List Outcome = c.args.posted.now in
@@ -25,10 +25,10 @@ returns-then-inside-h-clause-settled c = λ job ask w e t s.
     let within = c.tail_place-place.ensures.within in
     let here = tails_are walks ends g posted c.requires.apart gap c.args.place c.args.tail start place within.1 in
     let before = tails_are walks ends g posted c.requires.apart gap c.args.place c.args.tail start (place - 1) (omega (arith, within.1)) in
-    stopped c.args.tail start g (λ j. value_with_id c.args.place posted (walks + j)) c.args.h ends place within.0 within.1
+    stopped c.args.tail start g (λ j. value_with_id c.args.place posted (walks + j)) c.args.hits ends place within.0 within.1
     (omega (arith, here, reached)) (omega (arith, before, short))
-    ∙ ap (λ values. settled_from ends c.args.tail start values c.args.h) (sym (values_are walks ends g posted c.requires.apart gap c.args.place))
-    ∙ of_job walks ends c.args.place c.args.h c.args.tail start posted job ask w e t s
+    ∙ ap (λ values. settled_from ends c.args.tail start values c.args.hits) (sym (values_are walks ends g posted c.requires.apart gap c.args.place))
+    ∙ of_job walks ends c.args.place c.args.hits c.args.tail start posted job ask w e t s
 
 pub returns-then-known-ends-clause-settled : goal.returns-then-known-ends-clause-settled
 returns-then-known-ends-clause-settled c = λ job ask w e t s.
@@ -41,10 +41,10 @@ returns-then-known-ends-clause-settled c = λ job ask w e t s.
     let gap : IsGap walks ends g posted =
     record { within = c.known_ends-known.ensures.within; counted = c.known_ends-known.ensures.known; gap = c.known_ends-known.ensures.gap } in
     let all = tails_are walks ends g posted c.requires.apart gap c.args.place c.args.tail start g (omega arith) in
-    unsettled c.args.tail start g (λ j. value_with_id c.args.place posted (walks + j)) c.args.h ends
-    (omega (arith, all, inside, c.if-inside-h.false)) c.if-known-ends.true
-    ∙ ap (λ values. settled_from ends c.args.tail start values c.args.h) (sym (values_are walks ends g posted c.requires.apart gap c.args.place))
-    ∙ of_job walks ends c.args.place c.args.h c.args.tail start posted job ask w e t s
+    unsettled c.args.tail start g (λ j. value_with_id c.args.place posted (walks + j)) c.args.hits ends
+    (omega (arith, all, inside, c.if-inside-hits.false)) c.if-known-ends.true
+    ∙ ap (λ values. settled_from ends c.args.tail start values c.args.hits) (sym (values_are walks ends g posted c.requires.apart gap c.args.place))
+    ∙ of_job walks ends c.args.place c.args.hits c.args.tail start posted job ask w e t s
 
 pub returns-clause-settled : goal.returns-clause-settled
 returns-clause-settled c = λ job ask w e t s.
@@ -60,13 +60,13 @@ returns-clause-settled c = λ job ask w e t s.
     let whole : g ≡ ends = omega (arith, c.if-known-ends.false, c.known_ends-known.ensures.within) in
     let answer : ℕ → Option Stop = λ n. Some (record { place = g; top = n + 1; of = g + 1 }) in
     ap answer (inside ∙ all)
-    ∙ ended c.args.tail start g (λ j. value_with_id c.args.place posted (walks + j)) c.args.h (omega (arith, all, inside, c.if-inside-h.false))
-    ∙ ap (λ values. settled_from g c.args.tail start values c.args.h) (sym (values_are walks ends g posted c.requires.apart gap c.args.place))
-    ∙ ap (λ n. settled_from n c.args.tail start (values_from walks ends c.args.place posted) c.args.h) whole
-    ∙ of_job walks ends c.args.place c.args.h c.args.tail start posted job ask w e t s
+    ∙ ended c.args.tail start g (λ j. value_with_id c.args.place posted (walks + j)) c.args.hits (omega (arith, all, inside, c.if-inside-hits.false))
+    ∙ ap (λ values. settled_from g c.args.tail start values c.args.hits) (sym (values_are walks ends g posted c.requires.apart gap c.args.place))
+    ∙ ap (λ n. settled_from n c.args.tail start (values_from walks ends c.args.place posted) c.args.hits) whole
+    ∙ of_job walks ends c.args.place c.args.hits c.args.tail start posted job ask w e t s
 
-pub returns-then-inside-h-clause-part : goal.returns-then-inside-h-clause-part
-returns-then-inside-h-clause-part c =
+pub returns-then-inside-hits-clause-part : goal.returns-then-inside-hits-clause-part
+returns-then-inside-hits-clause-part c =
     let walks : ℕ = c.args.walks in
     let posted : List Outcome = c.args.posted.now in
     let place : ℕ = c.tail_place-place.result in

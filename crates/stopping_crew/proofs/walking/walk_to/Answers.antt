@@ -1,8 +1,9 @@
 use Rattle.std.proofs.Common.{◌∙◌, ℕ, ap, arith, length, subst, sym}
 use Rattle.audit_model.specs.Run.{total}
+use Rattle.model_laws.proofs.Below.{length-map_below}
 use Rattle.claim_crew.specs.Parts.{IsPart}
 use Rattle.outcome_book.specs.Booked.{AreApart, by_id}
-use Rattle.stopping_crew.proofs.Slicing.{found_apart, found_more, found_sorted, length-below, may_walk, whole_ids}
+use Rattle.stopping_crew.proofs.Slicing.{found_apart, found_more, found_sorted, may_walk, whole_ids}
 use Rattle.stopping_crew.proofs.walking.walk_to.Goals as goal
 
 pub walk_part-requires-clause-part : goal.walk_part-requires-clause-part
@@ -47,4 +48,4 @@ returns-clause-rising g c =
     (found_apart c.args.job.now c.args.to)
 
 pub ids_from-ids-requires : goal.ids_from-ids-requires
-ids_from-ids-requires g c = record { order = (c.requires.order.0, omega (arith, c.requires.order.1, ap length c.requires.ids, length-below (total c.args.job.now) (λ id. id))) }
+ids_from-ids-requires g c = record { order = (c.requires.order.0, omega (arith, c.requires.order.1, ap length c.requires.ids, length-map_below (total c.args.job.now) (λ id. id))) }

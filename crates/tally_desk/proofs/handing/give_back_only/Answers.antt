@@ -1,6 +1,6 @@
 use Rattle.std.proofs.Common.{arith, ap, ◌∙◌, ◌≡◌, List, [], ◌∷◌, ◌++◌, length}
+use Rattle.std.proofs.lemmas.List.{nil_from_length}
 use Rattle.tally_desk.specs.declared.home.Home.{Home}
-use Rattle.tally_desk.proofs.Bounds.{nil_from_length}
 use Rattle.tally_desk.proofs.handing.give_back_only.Goals as goal
 
 pub returns : goal.returns

@@ -3,4 +3,4 @@ use Rattle.tally_desk.proofs.Events.{steps_are_events}
 use Rattle.tally_desk.proofs.laws.steps_are_events.Goals as goal
 
 pub returns : goal.returns
-returns g c = λ parts. steps_are_events (HomeAs g.C.Keeper.load_faults g.C.Keeper.save_faults g.C.Keeper.slots g.C.Keeper.tried) parts c.counter_laws.ensures
+returns g c = λ parts. steps_are_events (HomeAs g.C.Keeper.state) parts c.counter_laws.ensures

@@ -1,7 +1,7 @@
 use Rattle.std.proofs.Common.{◌≡◌, ◌+◌, Bool, refl, sym, ap, subst, ◌∙◌, arith}
 use Rattle.audit_model.specs.declared.setting.Setting.{Setting}
 use Rattle.audit_model.specs.Trajectory.{visit}
-use Rattle.chacha_draws.specs.Place.{Place}
+use Rattle.chacha_draws.specs.DrawPlace.{DrawPlace}
 use Rattle.draw_definitions.specs.Draw.{draw}
 use Rattle.walker.specs.Binned.{first_bins}
 use Rattle.walker.specs.Trail.{IsTrail}
@@ -33,12 +33,12 @@ loop-place-preserved g c =
     record {
       made = c.visit_next.ensures.made;
       seated = c.visit_next.ensures.seated;
-      same_key = ap (λ (d : Place). d.key) drawn ∙ held.same_key;
-      same_stream = ap (λ (d : Place). d.stream) drawn ∙ held.same_stream;
-      same_place = ap (λ (d : Place). d.place) drawn;
-      visited = subst (λ (d : Place). c.visit_next.new.state.board.plan ≡ visit job (draw d.key d.stream) job.start (c.loop-place.place + 1)) (sym drawn) c.visit_next.ensures.visited;
+      same_key = ap (λ (d : DrawPlace). d.key) drawn ∙ held.same_key;
+      same_stream = ap (λ (d : DrawPlace). d.stream) drawn ∙ held.same_stream;
+      same_place = ap (λ (d : DrawPlace). d.place) drawn;
+      visited = subst (λ (d : DrawPlace). c.visit_next.new.state.board.plan ≡ visit job (draw d.key d.stream) job.start (c.loop-place.place + 1)) (sym drawn) c.visit_next.ensures.visited;
       asked = c.visit_next.ensures.asked ∙ held.asked;
-      trail = subst (λ (d : Place). IsTrail job (draw d.key d.stream) (c.loop-place.place + 1) c.visit_next.new.trail) (sym drawn) c.visit_next.ensures.trail;
+      trail = subst (λ (d : DrawPlace). IsTrail job (draw d.key d.stream) (c.loop-place.place + 1) c.visit_next.new.trail) (sym drawn) c.visit_next.ensures.trail;
     }
 
 pub settle-requires-clause-tails : goal.settle-requires-clause-tails

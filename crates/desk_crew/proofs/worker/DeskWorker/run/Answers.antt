@@ -12,19 +12,19 @@ post-requires-clause-right g c = walked_found c.args.job.now c.args.desk.now.tab
 
 pub post-requires-clause-claimed : goal.post-requires-clause-claimed
 post-requires-clause-claimed g c =
-    let parts = parts_of g.C.Keeper.load_faults g.C.Keeper.save_faults g.C.Keeper.slots g.C.Keeper.tried c.args.desk.now.table.shared.key in
+    let parts = parts_of g.C.Keeper.state c.args.desk.now.table.shared.key in
     let may = c.posts_stay_whole.ensures.may parts c.in-Some.id _ _ c.loop-id.invariant.whole c.in-Some.ensures.claimed in
     (subst (λ (id : ℕ). MayPost parts id (view_of c.claim.new.pass)) (sym (walked_id c.args.job.now c.in-Some.id c.walk.result c.walk.ensures.outcome)) may).claimed
 
 pub post-requires-clause-unposted : goal.post-requires-clause-unposted
 post-requires-clause-unposted g c =
-    let parts = parts_of g.C.Keeper.load_faults g.C.Keeper.save_faults g.C.Keeper.slots g.C.Keeper.tried c.args.desk.now.table.shared.key in
+    let parts = parts_of g.C.Keeper.state c.args.desk.now.table.shared.key in
     let may = c.posts_stay_whole.ensures.may parts c.in-Some.id _ _ c.loop-id.invariant.whole c.in-Some.ensures.claimed in
     (subst (λ (id : ℕ). MayPost parts id (view_of c.claim.new.pass)) (sym (walked_id c.args.job.now c.in-Some.id c.walk.result c.walk.ensures.outcome)) may).unposted
 
 pub loop-id-preserved : goal.loop-id-preserved
 loop-id-preserved g c =
-    let parts = parts_of g.C.Keeper.load_faults g.C.Keeper.save_faults g.C.Keeper.slots g.C.Keeper.tried c.args.desk.now.table.shared.key in
+    let parts = parts_of g.C.Keeper.state c.args.desk.now.table.shared.key in
     let was = c.loop-id.invariant in
     let claimed = c.in-Some.ensures.claimed in
     let posted = subst (λ (id : ℕ). Posts id (view_of c.claim.new.pass) (view_of c.post.new.pass)) (walked_id c.args.job.now c.in-Some.id c.walk.result c.walk.ensures.outcome) c.post.ensures.posted in
@@ -46,5 +46,5 @@ returns g c =
       ended = ap (λ (v : PassView). v.own.ended) end;
       weight = ap (λ (v : PassView). v.own.weight) end ∙ was.weight;
       spare = ap (λ (v : PassView). v.own.spare) end ∙ was.spare;
-      whole = subst (HasPostedAll (parts_of g.C.Keeper.load_faults g.C.Keeper.save_faults g.C.Keeper.slots g.C.Keeper.tried c.args.desk.now.table.shared.key)) (sym end) was.whole;
+      whole = subst (HasPostedAll (parts_of g.C.Keeper.state c.args.desk.now.table.shared.key)) (sym end) was.whole;
     }

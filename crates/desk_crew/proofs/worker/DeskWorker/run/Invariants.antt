@@ -5,7 +5,7 @@ use Rattle.desk_crew.specs.Crews.{IsAtWork}
 use Rattle.desk_crew.proofs.worker.DeskWorker.run.Given as goal
 
 abbrev pub invariant-loop-id : goal.invariant-loop-id
-invariant-loop-id g l = IsAtWork l.desk.table.shared.table_id (parts_of g.C.Keeper.load_faults g.C.Keeper.save_faults g.C.Keeper.slots g.C.Keeper.tried l.desk.table.shared.key) g.J.Judge.keeps g.J.Judge.stands g.J.Judge.takes g.J.Judge.rules l.walker l.pass
+invariant-loop-id g l = IsAtWork l.desk.table.shared.table_id (parts_of g.C.Keeper.state l.desk.table.shared.key) g.J.Judge.keeps g.J.Judge.stands g.J.Judge.takes g.J.Judge.rules l.walker l.pass
 
 abbrev pub decreases-loop-id : goal.decreases-loop-id
 decreases-loop-id g l = length l.desk.table.shared.key.todo.value - length (view_of l.pass).own.claims

@@ -8,46 +8,46 @@ use Rattle.district_sums.proofs.Shifted.{places, own_apart, shifted_cut}
 use Rattle.district_sums.proofs.Walking.{apart_few}
 use Rattle.district_sums.proofs.sums.Sums.cut_after.Goals as goal
 
-pub bounds-as_slice-u : goal.bounds-as_slice-u
-bounds-as_slice-u c =
+pub bounds-as_slice-unit : goal.bounds-as_slice-unit
+bounds-as_slice-unit c =
     let is = c.as_slice.ensures ∙ ap (λ (s : Following). s.apart) c.self.view_is ∙ c.requires.apart in
-    omega (arith, places c.args.g.now.units (apart_of c.args.g.now c.args.plan.now) c.as_slice.result.now is, c.requires.unit)
+    omega (arith, places c.args.graph.now.units (apart_of c.args.graph.now c.args.plan.now) c.as_slice.result.now is, c.requires.unit)
 
 pub overflow_add-result : goal.overflow_add-result
 overflow_add-result c =
-    let g = c.args.g.now in
+    let g = c.args.graph.now in
     let plan : List ℕ = c.args.plan.now in
-    let after : List ℕ = set plan c.args.u c.args.d in
-    let inside : c.args.u < length plan = omega (arith, c.requires.unit, c.requires.plan) in
+    let after : List ℕ = set plan c.args.unit c.args.district in
+    let inside : c.args.unit < length plan = omega (arith, c.requires.unit, c.requires.plan) in
     let cut : c.self.inside.view.cut ≡ cut_edges g plan = ap (λ (s : Following). s.view.cut) c.self.view_is ∙ c.requires.cut in
-    let now : c.others_than.result ≡ apart_of g after c.args.u =
-    c.others_than.ensures ∙ sym (own_apart plan c.args.u c.args.d inside g c.units-units.ensures.sound c.requires.unit) in
-    omega (arith, cut, now, cut_edges_few g plan, c.edges-edges.ensures.few, apart_few g after c.args.u, c.units-units.ensures.few)
+    let now : c.others_than.result ≡ apart_of g after c.args.unit =
+    c.others_than.ensures ∙ sym (own_apart plan c.args.unit c.args.district inside g c.units-units.ensures.sound c.requires.unit) in
+    omega (arith, cut, now, cut_edges_few g plan, c.edges-edges.ensures.few, apart_few g after c.args.unit, c.units-units.ensures.few)
 
 pub overflow_sub-result : goal.overflow_sub-result
 overflow_sub-result c =
-    let g = c.args.g.now in
+    let g = c.args.graph.now in
     let plan : List ℕ = c.args.plan.now in
-    let after : List ℕ = set plan c.args.u c.args.d in
-    let inside : c.args.u < length plan = omega (arith, c.requires.unit, c.requires.plan) in
+    let after : List ℕ = set plan c.args.unit c.args.district in
+    let inside : c.args.unit < length plan = omega (arith, c.requires.unit, c.requires.plan) in
     let cut : c.self.inside.view.cut ≡ cut_edges g plan = ap (λ (s : Following). s.view.cut) c.self.view_is ∙ c.requires.cut in
-    let now : c.others_than.result ≡ apart_of g after c.args.u =
-    c.others_than.ensures ∙ sym (own_apart plan c.args.u c.args.d inside g c.units-units.ensures.sound c.requires.unit) in
-    let was : get_or c.as_slice.result.now c.args.u 0 ≡ apart_of g plan c.args.u =
-    ap (λ (xs : List ℕ). get_or xs c.args.u 0) (c.as_slice.ensures ∙ ap (λ (s : Following). s.apart) c.self.view_is ∙ c.requires.apart)
-    ∙ get_or-map_below g.units (apart_of g plan) c.args.u 0 c.requires.unit in
-    omega (arith, cut, was, now, shifted_cut plan c.args.u c.args.d inside g c.units-units.ensures.sound c.requires.unit)
+    let now : c.others_than.result ≡ apart_of g after c.args.unit =
+    c.others_than.ensures ∙ sym (own_apart plan c.args.unit c.args.district inside g c.units-units.ensures.sound c.requires.unit) in
+    let was : get_or c.as_slice.result.now c.args.unit 0 ≡ apart_of g plan c.args.unit =
+    ap (λ (xs : List ℕ). get_or xs c.args.unit 0) (c.as_slice.ensures ∙ ap (λ (s : Following). s.apart) c.self.view_is ∙ c.requires.apart)
+    ∙ get_or-map_below g.units (apart_of g plan) c.args.unit 0 c.requires.unit in
+    omega (arith, cut, was, now, shifted_cut plan c.args.unit c.args.district inside g c.units-units.ensures.sound c.requires.unit)
 
 pub returns : goal.returns
 returns c =
-    let g = c.args.g.now in
+    let g = c.args.graph.now in
     let plan : List ℕ = c.args.plan.now in
-    let after : List ℕ = set plan c.args.u c.args.d in
-    let inside : c.args.u < length plan = omega (arith, c.requires.unit, c.requires.plan) in
+    let after : List ℕ = set plan c.args.unit c.args.district in
+    let inside : c.args.unit < length plan = omega (arith, c.requires.unit, c.requires.plan) in
     let cut : c.self.inside.view.cut ≡ cut_edges g plan = ap (λ (s : Following). s.view.cut) c.self.view_is ∙ c.requires.cut in
-    let now : c.others_than.result ≡ apart_of g after c.args.u =
-    c.others_than.ensures ∙ sym (own_apart plan c.args.u c.args.d inside g c.units-units.ensures.sound c.requires.unit) in
-    let was : get_or c.as_slice.result.now c.args.u 0 ≡ apart_of g plan c.args.u =
-    ap (λ (xs : List ℕ). get_or xs c.args.u 0) (c.as_slice.ensures ∙ ap (λ (s : Following). s.apart) c.self.view_is ∙ c.requires.apart)
-    ∙ get_or-map_below g.units (apart_of g plan) c.args.u 0 c.requires.unit in
-    omega (arith, cut, was, now, shifted_cut plan c.args.u c.args.d inside g c.units-units.ensures.sound c.requires.unit)
+    let now : c.others_than.result ≡ apart_of g after c.args.unit =
+    c.others_than.ensures ∙ sym (own_apart plan c.args.unit c.args.district inside g c.units-units.ensures.sound c.requires.unit) in
+    let was : get_or c.as_slice.result.now c.args.unit 0 ≡ apart_of g plan c.args.unit =
+    ap (λ (xs : List ℕ). get_or xs c.args.unit 0) (c.as_slice.ensures ∙ ap (λ (s : Following). s.apart) c.self.view_is ∙ c.requires.apart)
+    ∙ get_or-map_below g.units (apart_of g plan) c.args.unit 0 c.requires.unit in
+    omega (arith, cut, was, now, shifted_cut plan c.args.unit c.args.district inside g c.units-units.ensures.sound c.requires.unit)

@@ -9,69 +9,69 @@ use Rattle.district_sums.proofs.Walking.{apart_few}
 use Rattle.district_sums.proofs.Standing.{apart_width, cut_is, all_stand}
 use Rattle.district_sums.proofs.sums.Sums.shift.Goals as goal
 
-pub bounds-as_slice-u : goal.bounds-as_slice-u
-bounds-as_slice-u c =
-    let width = apart_width c.args.g.now c.args.counts.now c.args.plan.now c.args.self.now c.requires.stands in
+pub bounds-as_slice-unit : goal.bounds-as_slice-unit
+bounds-as_slice-unit c =
+    let width = apart_width c.args.graph.now c.args.counts.now c.args.plan.now c.args.self.now c.requires.stands in
     let is = ap (length {A = ℕ}) (c.as_slice.ensures ∙ ap (λ (s : Following). s.apart) c.self.view_is) in
     omega (arith, width, is, c.requires.unit)
 
 pub shift_apart-requires-clause-width : goal.shift_apart-requires-clause-width
 shift_apart-requires-clause-width c =
     ap (λ (s : Following). length s.apart) c.self.view_is
-    ∙ apart_width c.args.g.now c.args.counts.now c.args.plan.now c.args.self.now c.requires.stands
+    ∙ apart_width c.args.graph.now c.args.counts.now c.args.plan.now c.args.self.now c.requires.stands
 
-pub bounds-as_slice-u-2 : goal.bounds-as_slice-u-2
-bounds-as_slice-u-2 c =
-    let width = places c.args.g.now.units (apart_of c.args.g.now (set c.args.plan.now c.args.u c.args.d)) c.as_slice-2.result.now (c.as_slice-2.ensures ∙ c.shift_apart.ensures) in
+pub bounds-as_slice-unit-2 : goal.bounds-as_slice-unit-2
+bounds-as_slice-unit-2 c =
+    let width = places c.args.graph.now.units (apart_of c.args.graph.now (set c.args.plan.now c.args.unit c.args.district)) c.as_slice-2.result.now (c.as_slice-2.ensures ∙ c.shift_apart.ensures) in
     omega (arith, width, c.requires.unit)
 
 pub overflow_add-self : goal.overflow_add-self
 overflow_add-self c =
-    let g = c.args.g.now in
+    let g = c.args.graph.now in
     let plan : List ℕ = c.args.plan.now in
-    let after : List ℕ = set plan c.args.u c.args.d in
+    let after : List ℕ = set plan c.args.unit c.args.district in
     let cut : c.shift_counts.new.view.cut ≡ cut_edges g plan =
     c.shift_counts.ensures.cut ∙ ap (λ (s : Following). s.view.cut) c.self.view_is ∙ cut_is g c.args.counts.now plan c.args.self.now c.requires.stands in
-    let now : get_or c.as_slice-2.result.now c.args.u 0 ≡ apart_of g after c.args.u =
-    ap (λ (xs : List ℕ). get_or xs c.args.u 0) (c.as_slice-2.ensures ∙ c.shift_apart.ensures) ∙ get_or-map_below g.units (apart_of g after) c.args.u 0 c.requires.unit in
-    omega (arith, cut, now, cut_edges_few g plan, c.edges-edges.ensures.few, apart_few g after c.args.u, c.units-units.ensures.few)
+    let now : get_or c.as_slice-2.result.now c.args.unit 0 ≡ apart_of g after c.args.unit =
+    ap (λ (xs : List ℕ). get_or xs c.args.unit 0) (c.as_slice-2.ensures ∙ c.shift_apart.ensures) ∙ get_or-map_below g.units (apart_of g after) c.args.unit 0 c.requires.unit in
+    omega (arith, cut, now, cut_edges_few g plan, c.edges-edges.ensures.few, apart_few g after c.args.unit, c.units-units.ensures.few)
 
 pub overflow_sub-self : goal.overflow_sub-self
 overflow_sub-self c =
-    let g = c.args.g.now in
+    let g = c.args.graph.now in
     let plan : List ℕ = c.args.plan.now in
-    let after : List ℕ = set plan c.args.u c.args.d in
+    let after : List ℕ = set plan c.args.unit c.args.district in
     let cut : c.shift_counts.new.view.cut ≡ cut_edges g plan =
     c.shift_counts.ensures.cut ∙ ap (λ (s : Following). s.view.cut) c.self.view_is ∙ cut_is g c.args.counts.now plan c.args.self.now c.requires.stands in
-    let was : get_or c.as_slice.result.now c.args.u 0 ≡ apart_of g plan c.args.u =
-    ap (λ (xs : List ℕ). get_or xs c.args.u 0) (c.as_slice.ensures ∙ ap (λ (s : Following). s.apart) c.self.view_is ∙ c.requires.stands.apart)
-    ∙ get_or-map_below g.units (apart_of g plan) c.args.u 0 c.requires.unit in
-    let now : get_or c.as_slice-2.result.now c.args.u 0 ≡ apart_of g after c.args.u =
-    ap (λ (xs : List ℕ). get_or xs c.args.u 0) (c.as_slice-2.ensures ∙ c.shift_apart.ensures) ∙ get_or-map_below g.units (apart_of g after) c.args.u 0 c.requires.unit in
-    let inside : c.args.u < length plan = omega (arith, c.requires.unit, c.requires.inputs.complete) in
-    let edges = shifted_cut plan c.args.u c.args.d inside g c.units-units.ensures.sound c.requires.unit in
+    let was : get_or c.as_slice.result.now c.args.unit 0 ≡ apart_of g plan c.args.unit =
+    ap (λ (xs : List ℕ). get_or xs c.args.unit 0) (c.as_slice.ensures ∙ ap (λ (s : Following). s.apart) c.self.view_is ∙ c.requires.stands.apart)
+    ∙ get_or-map_below g.units (apart_of g plan) c.args.unit 0 c.requires.unit in
+    let now : get_or c.as_slice-2.result.now c.args.unit 0 ≡ apart_of g after c.args.unit =
+    ap (λ (xs : List ℕ). get_or xs c.args.unit 0) (c.as_slice-2.ensures ∙ c.shift_apart.ensures) ∙ get_or-map_below g.units (apart_of g after) c.args.unit 0 c.requires.unit in
+    let inside : c.args.unit < length plan = omega (arith, c.requires.unit, c.requires.inputs.complete) in
+    let edges = shifted_cut plan c.args.unit c.args.district inside g c.units-units.ensures.sound c.requires.unit in
     omega (arith, cut, was, now, edges)
 
 pub returns-clause-districts : goal.returns-clause-districts
 returns-clause-districts c =
-    places (length c.self.inside.view.population) (district_sum c.args.counts.now.population (set c.args.plan.now c.args.u c.args.d)) c.shift_counts.new.view.population
+    places (length c.self.inside.view.population) (district_sum c.args.counts.now.population (set c.args.plan.now c.args.unit c.args.district)) c.shift_counts.new.view.population
     c.shift_counts.ensures.added.population
     ∙ ap (λ (s : Following). length s.view.population) c.self.view_is
 
 pub returns-clause-stands : goal.returns-clause-stands
 returns-clause-stands c =
-    let g = c.args.g.now in
+    let g = c.args.graph.now in
     let plan : List ℕ = c.args.plan.now in
-    let after : List ℕ = set plan c.args.u c.args.d in
+    let after : List ℕ = set plan c.args.unit c.args.district in
     let cut : c.shift_counts.new.view.cut ≡ cut_edges g plan =
     c.shift_counts.ensures.cut ∙ ap (λ (s : Following). s.view.cut) c.self.view_is ∙ cut_is g c.args.counts.now plan c.args.self.now c.requires.stands in
-    let was : get_or c.as_slice.result.now c.args.u 0 ≡ apart_of g plan c.args.u =
-    ap (λ (xs : List ℕ). get_or xs c.args.u 0) (c.as_slice.ensures ∙ ap (λ (s : Following). s.apart) c.self.view_is ∙ c.requires.stands.apart)
-    ∙ get_or-map_below g.units (apart_of g plan) c.args.u 0 c.requires.unit in
-    let now : get_or c.as_slice-2.result.now c.args.u 0 ≡ apart_of g after c.args.u =
-    ap (λ (xs : List ℕ). get_or xs c.args.u 0) (c.as_slice-2.ensures ∙ c.shift_apart.ensures) ∙ get_or-map_below g.units (apart_of g after) c.args.u 0 c.requires.unit in
-    let inside : c.args.u < length plan = omega (arith, c.requires.unit, c.requires.inputs.complete) in
-    let edges = shifted_cut plan c.args.u c.args.d inside g c.units-units.ensures.sound c.requires.unit in
+    let was : get_or c.as_slice.result.now c.args.unit 0 ≡ apart_of g plan c.args.unit =
+    ap (λ (xs : List ℕ). get_or xs c.args.unit 0) (c.as_slice.ensures ∙ ap (λ (s : Following). s.apart) c.self.view_is ∙ c.requires.stands.apart)
+    ∙ get_or-map_below g.units (apart_of g plan) c.args.unit 0 c.requires.unit in
+    let now : get_or c.as_slice-2.result.now c.args.unit 0 ≡ apart_of g after c.args.unit =
+    ap (λ (xs : List ℕ). get_or xs c.args.unit 0) (c.as_slice-2.ensures ∙ c.shift_apart.ensures) ∙ get_or-map_below g.units (apart_of g after) c.args.unit 0 c.requires.unit in
+    let inside : c.args.unit < length plan = omega (arith, c.requires.unit, c.requires.inputs.complete) in
+    let edges = shifted_cut plan c.args.unit c.args.district inside g c.units-units.ensures.sound c.requires.unit in
     all_stand g c.args.counts.now (length c.self.inside.view.population) after c.shift_counts.new.view
-    (c.shift_counts.new.view.cut + get_or c.as_slice-2.result.now c.args.u 0 - get_or c.as_slice.result.now c.args.u 0) c.shift_apart.new.apart
+    (c.shift_counts.new.view.cut + get_or c.as_slice-2.result.now c.args.unit 0 - get_or c.as_slice.result.now c.args.unit 0) c.shift_apart.new.apart
     c.shift_counts.ensures.added (omega (arith, cut, was, now, edges)) c.shift_apart.ensures

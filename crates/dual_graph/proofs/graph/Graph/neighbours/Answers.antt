@@ -7,7 +7,7 @@ use Rattle.dual_graph.proofs.graph.Graph.neighbours.Goals as goal
 pub returns-clause-list : goal.returns-clause-list
 returns-clause-list c =
     let i = c.self.inside in
-    let u = c.args.u in
+    let u = c.args.unit in
     let lt : u < i.units = subst (λ (g : Graph). u < g.units) (sym c.self.view_is) c.requires in
     let long : length i.begins.items ≡ i.units + 1 = c.self.invariant.0.places in
     let a : c.index.result.now ≡ get_or i.begins.items u 0 = get_or_read i.begins.items u c.index.result.now (omega arith) c.index.ensures 0 in

@@ -8,9 +8,9 @@ pub index_mut-requires-2 : goal.index_mut-requires-2
 index_mut-requires-2 c =
     let i = c.self.inside in
     let m : Marked = record { units = length i.labels.items; items = take i.count i.order.items; labels = i.labels.items } in
-    let lt : c.args.u < m.units = subst (λ (t : Marked). c.args.u < t.units) (sym c.self.view_is) c.requires.unit in
-    let none : get_or m.labels c.args.u 0 ≡ 0 = ap (λ (t : Marked). get_or t.labels c.args.u 0) c.self.view_is ∙ c.requires.absent in
-    let room = has_room m c.args.u c.self.invariant.2 lt none in
+    let lt : c.args.unit < m.units = subst (λ (t : Marked). c.args.unit < t.units) (sym c.self.view_is) c.requires.unit in
+    let none : get_or m.labels c.args.unit 0 ≡ 0 = ap (λ (t : Marked). get_or t.labels c.args.unit 0) c.self.view_is ∙ c.requires.absent in
+    let room = has_room m c.args.unit c.self.invariant.2 lt none in
     omega (arith, room, length-take-le i.count i.order.items c.self.invariant.1, i.order.ok.0, c.self.invariant.0)
 
 room_in : (m : Marked) (order : List ℕ) (count u : ℕ) → IsMarked m → u < m.units → get_or m.labels u 0 ≡ 0 → m.items ≡ take count order
@@ -22,30 +22,30 @@ pub invariant_of-self : goal.invariant_of-self
 invariant_of-self c =
     let i = c.self.inside in
     let m : Marked = record { units = length i.labels.items; items = take i.count i.order.items; labels = i.labels.items } in
-    let lt : c.args.u < m.units = subst (λ (t : Marked). c.args.u < t.units) (sym c.self.view_is) c.requires.unit in
-    let none : get_or m.labels c.args.u 0 ≡ 0 = ap (λ (t : Marked). get_or t.labels c.args.u 0) c.self.view_is ∙ c.requires.absent in
-    let room : i.count < length i.order.items = room_in m i.order.items i.count c.args.u c.self.invariant.2 lt none refl c.self.invariant.0 c.self.invariant.1 in (
-      length-set i.order.items i.count c.args.u ∙ c.self.invariant.0 ∙ sym (length-set i.labels.items c.args.u c.args.label),
-      omega (arith, room, length-set i.order.items i.count c.args.u),
-      marked_more m c.args.u c.args.label _ _ c.self.invariant.2 lt none c.requires.label (length-set i.labels.items c.args.u c.args.label)
-          (take_more_set i.order.items i.count c.args.u room),
+    let lt : c.args.unit < m.units = subst (λ (t : Marked). c.args.unit < t.units) (sym c.self.view_is) c.requires.unit in
+    let none : get_or m.labels c.args.unit 0 ≡ 0 = ap (λ (t : Marked). get_or t.labels c.args.unit 0) c.self.view_is ∙ c.requires.absent in
+    let room : i.count < length i.order.items = room_in m i.order.items i.count c.args.unit c.self.invariant.2 lt none refl c.self.invariant.0 c.self.invariant.1 in (
+      length-set i.order.items i.count c.args.unit ∙ c.self.invariant.0 ∙ sym (length-set i.labels.items c.args.unit c.args.label),
+      omega (arith, room, length-set i.order.items i.count c.args.unit),
+      marked_more m c.args.unit c.args.label _ _ c.self.invariant.2 lt none c.requires.label (length-set i.labels.items c.args.unit c.args.label)
+          (take_more_set i.order.items i.count c.args.unit room),
     )
 
 pub returns-clause-items : goal.returns-clause-items
 returns-clause-items c =
     let i = c.self.inside in
     let m : Marked = record { units = length i.labels.items; items = take i.count i.order.items; labels = i.labels.items } in
-    let lt : c.args.u < m.units = subst (λ (t : Marked). c.args.u < t.units) (sym c.self.view_is) c.requires.unit in
-    let none : get_or m.labels c.args.u 0 ≡ 0 = ap (λ (t : Marked). get_or t.labels c.args.u 0) c.self.view_is ∙ c.requires.absent in
-    let room : i.count < length i.order.items = room_in m i.order.items i.count c.args.u c.self.invariant.2 lt none refl c.self.invariant.0 c.self.invariant.1 in
-    take_more_set i.order.items i.count c.args.u room ∙ ap (λ (t : Marked). t.items ++ c.args.u ∷ []) c.self.view_is
+    let lt : c.args.unit < m.units = subst (λ (t : Marked). c.args.unit < t.units) (sym c.self.view_is) c.requires.unit in
+    let none : get_or m.labels c.args.unit 0 ≡ 0 = ap (λ (t : Marked). get_or t.labels c.args.unit 0) c.self.view_is ∙ c.requires.absent in
+    let room : i.count < length i.order.items = room_in m i.order.items i.count c.args.unit c.self.invariant.2 lt none refl c.self.invariant.0 c.self.invariant.1 in
+    take_more_set i.order.items i.count c.args.unit room ∙ ap (λ (t : Marked). t.items ++ c.args.unit ∷ []) c.self.view_is
 
 pub returns-clause-sound : goal.returns-clause-sound
 returns-clause-sound c =
     let i = c.self.inside in
     let m : Marked = record { units = length i.labels.items; items = take i.count i.order.items; labels = i.labels.items } in
-    let lt : c.args.u < m.units = subst (λ (t : Marked). c.args.u < t.units) (sym c.self.view_is) c.requires.unit in
-    let none : get_or m.labels c.args.u 0 ≡ 0 = ap (λ (t : Marked). get_or t.labels c.args.u 0) c.self.view_is ∙ c.requires.absent in
-    let room : i.count < length i.order.items = room_in m i.order.items i.count c.args.u c.self.invariant.2 lt none refl c.self.invariant.0 c.self.invariant.1 in
-    marked_more m c.args.u c.args.label _ _ c.self.invariant.2 lt none c.requires.label (length-set i.labels.items c.args.u c.args.label)
-    (take_more_set i.order.items i.count c.args.u room)
+    let lt : c.args.unit < m.units = subst (λ (t : Marked). c.args.unit < t.units) (sym c.self.view_is) c.requires.unit in
+    let none : get_or m.labels c.args.unit 0 ≡ 0 = ap (λ (t : Marked). get_or t.labels c.args.unit 0) c.self.view_is ∙ c.requires.absent in
+    let room : i.count < length i.order.items = room_in m i.order.items i.count c.args.unit c.self.invariant.2 lt none refl c.self.invariant.0 c.self.invariant.1 in
+    marked_more m c.args.unit c.args.label _ _ c.self.invariant.2 lt none c.requires.label (length-set i.labels.items c.args.unit c.args.label)
+    (take_more_set i.order.items i.count c.args.unit room)

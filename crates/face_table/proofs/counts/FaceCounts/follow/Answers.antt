@@ -10,7 +10,7 @@ use Rattle.face_table.proofs.counts.FaceCounts.follow.Goals as goal
 
 pub lower-requires-clause-edges : goal.lower-requires-clause-edges
 lower-requires-clause-edges c =
-    let g = c.args.g.now in
+    let g = c.args.graph.now in
     let plan : List ℕ = c.args.plan.now in
     let u : ℕ = c.args.unit in
     let home : ℕ = get_or plan u 0 in
@@ -25,7 +25,7 @@ lower-requires-clause-edges c =
 
 pub lower-requires-clause-filled : goal.lower-requires-clause-filled
 lower-requires-clause-filled c =
-    let g = c.args.g.now in
+    let g = c.args.graph.now in
     let plan : List ℕ = c.args.plan.now in
     let u : ℕ = c.args.unit in
     let home : ℕ = get_or plan u 0 in
@@ -40,7 +40,7 @@ lower-requires-clause-filled c =
 
 pub lower-requires-clause-few : goal.lower-requires-clause-few
 lower-requires-clause-few c =
-    let g = c.args.g.now in
+    let g = c.args.graph.now in
     let plan : List ℕ = c.args.plan.now in
     let u : ℕ = c.args.unit in
     let home : ℕ = get_or plan u 0 in
@@ -52,7 +52,7 @@ lower-requires-clause-few c =
 
 pub raise-requires-clause-edges : goal.raise-requires-clause-edges
 raise-requires-clause-edges c =
-    let g = c.args.g.now in
+    let g = c.args.graph.now in
     let plan : List ℕ = c.args.plan.now in
     let u : ℕ = c.args.unit in
     let home : ℕ = get_or plan u 0 in
@@ -74,7 +74,7 @@ raise-requires-clause-edges c =
 
 pub raise-requires-clause-filled : goal.raise-requires-clause-filled
 raise-requires-clause-filled c =
-    let g = c.args.g.now in
+    let g = c.args.graph.now in
     let plan : List ℕ = c.args.plan.now in
     let u : ℕ = c.args.unit in
     let home : ℕ = get_or plan u 0 in
@@ -96,7 +96,7 @@ raise-requires-clause-filled c =
 
 pub returns : goal.returns
 returns c =
-    let g = c.args.g.now in
+    let g = c.args.graph.now in
     let plan : List ℕ = c.args.plan.now in
     let u : ℕ = c.args.unit in
     let home : ℕ = get_or plan u 0 in

@@ -9,7 +9,7 @@ use Rattle.face_table.proofs.counts.FaceCounts.reset.Goals as goal
 
 pub loop-unit-init : goal.loop-unit-init
 loop-unit-init c =
-    none_counted c.args.g.now c.units-unit-end.ensures.sound c.args.table.now.faces
+    none_counted c.args.graph.now c.units-unit-end.ensures.sound c.args.table.now.faces
     (subst (λ (g : Graph). AreFaces g c.args.table.now.faces) c.requires.made c.units-units.ensures.faces)
     (is_before c.args.plan.now 0) (length c.args.self.now.edges) c.clear.new.self (before_none c.args.plan.now)
     (ap (length {A = ℕ}) c.clear.ensures.edges ∙ length-replicate (length c.args.self.now.edges) 0)
@@ -19,7 +19,7 @@ loop-unit-init c =
 
 pub raise-requires-clause-edges : goal.raise-requires-clause-edges
 raise-requires-clause-edges c =
-    let g = c.args.g.now in
+    let g = c.args.graph.now in
     let plan : List ℕ = c.args.plan.now in
     let u : ℕ = c.loop-unit.unit in
     let lu : u < g.units = omega (arith, c.loop-unit-test.true, c.units-unit-end.ensures.units, c.loop-unit.auto.unit-end) in
@@ -33,7 +33,7 @@ raise-requires-clause-edges c =
 
 pub raise-requires-clause-filled : goal.raise-requires-clause-filled
 raise-requires-clause-filled c =
-    let g = c.args.g.now in
+    let g = c.args.graph.now in
     let plan : List ℕ = c.args.plan.now in
     let u : ℕ = c.loop-unit.unit in
     let lu : u < g.units = omega (arith, c.loop-unit-test.true, c.units-unit-end.ensures.units, c.loop-unit.auto.unit-end) in
@@ -47,7 +47,7 @@ raise-requires-clause-filled c =
 
 pub loop-unit-preserved : goal.loop-unit-preserved
 loop-unit-preserved c =
-    let g = c.args.g.now in
+    let g = c.args.graph.now in
     let plan : List ℕ = c.args.plan.now in
     let u : ℕ = c.loop-unit.unit in
     let lu : u < g.units = omega (arith, c.loop-unit-test.true, c.units-unit-end.ensures.units, c.loop-unit.auto.unit-end) in
@@ -59,6 +59,6 @@ loop-unit-preserved c =
 
 pub returns : goal.returns
 returns c =
-    counts_alike c.args.g.now c.units-unit-end.ensures.sound c.args.table.now.faces
+    counts_alike c.args.graph.now c.units-unit-end.ensures.sound c.args.table.now.faces
     (subst (λ (t : Graph). AreFaces t c.args.table.now.faces) c.requires.made c.units-units.ensures.faces) _ _ (length c.args.self.now.edges) c.loop-unit.self
     (λ x v l. before_all c.args.plan.now c.loop-unit.unit x v (omega (arith, l, c.loop-unit-test.false, c.units-unit-end.ensures.units))) c.loop-unit.invariant

@@ -18,14 +18,14 @@ seen_at g h corners u seen made is = subst (λ (t : Graph). map (units_of (get_o
 
 pub returns-clause-may : goal.returns-clause-may
 returns-clause-may c h connected =
-    let are = are_at c.args.g.now c.args.self.now.graph c.args.self.now.faces c.requires.made c.at.ensures.faces in
-    let seen = seen_at c.args.g.now c.args.self.now.graph c.at.result.now c.args.u _ c.requires.made c.at.ensures.seen in
-    linked_may_leave c.args.g.now c.args.self.now.faces c.args.plan.now c.args.u (simple c.args.g.now c.units-units.ensures.sound) are
+    let are = are_at c.args.graph.now c.args.self.now.graph c.args.self.now.faces c.requires.made c.at.ensures.faces in
+    let seen = seen_at c.args.graph.now c.args.self.now.graph c.at.result.now c.args.unit _ c.requires.made c.at.ensures.seen in
+    linked_may_leave c.args.graph.now c.args.self.now.faces c.args.plan.now c.args.unit (simple c.args.graph.now c.units-units.ensures.sound) are
     ((c.are_linked.ensures c.args.self.now.faces are seen).0 h) connected
 
 pub returns-clause-may_not : goal.returns-clause-may_not
 returns-clause-may_not c h connected holes may =
-    let are = are_at c.args.g.now c.args.self.now.graph c.args.self.now.faces c.requires.made c.at.ensures.faces in
-    let seen = seen_at c.args.g.now c.args.self.now.graph c.at.result.now c.args.u _ c.requires.made c.at.ensures.seen in
+    let are = are_at c.args.graph.now c.args.self.now.graph c.args.self.now.faces c.requires.made c.at.ensures.faces in
+    let seen = seen_at c.args.graph.now c.args.self.now.graph c.at.result.now c.args.unit _ c.requires.made c.at.ensures.seen in
     both_ways c.are_linked.result h ((c.are_linked.ensures c.args.self.now.faces are seen).1
-    (leaving_is_linked c.args.g.now c.args.self.now.faces c.args.plan.now c.args.u (simple c.args.g.now c.units-units.ensures.sound) are c.requires.unit connected holes may))
+    (leaving_is_linked c.args.graph.now c.args.self.now.faces c.args.plan.now c.args.unit (simple c.args.graph.now c.units-units.ensures.sound) are c.requires.unit connected holes may))

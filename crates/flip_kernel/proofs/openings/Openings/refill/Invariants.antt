@@ -4,6 +4,6 @@ use Rattle.flip_kernel.proofs.openings.Openings.refill.Given as goal
 
 abbrev pub invariant-loop-unit : goal.invariant-loop-unit
 invariant-loop-unit l = record {
-  width : l.g.units * l.districts ≤ length l.self;
-  filling : IsFilling l.g l.plan l.districts l.unit l.self;
+  width : l.graph.units * l.districts ≤ length l.self;
+  filling : IsFilling l.graph l.plan l.districts l.unit l.self;
 }

@@ -9,24 +9,24 @@ use Rattle.flip_kernel.proofs.openings.Openings.renew.Goals as goal
 
 pub loop-other-init : goal.loop-other-init
 loop-other-init c =
-    renewing_none c.args.g.now c.args.plan.now c.args.districts c.neighbours-other-items.result.now c.args.unit c.args.home c.args.self.now
+    renewing_none c.args.graph.now c.args.plan.now c.args.districts c.neighbours-other-items.result.now c.args.unit c.args.home c.args.self.now
     c.units-units.ensures.sound (omega (arith, c.requires.unit, c.requires.plan)) c.neighbours-other-items.ensures.list c.requires.table
 
 pub put-requires : goal.put-requires
 put-requires c =
     let row : List ℕ = c.neighbours-other-items.result.now in
     let i : ℕ = c.loop-other.other-index in
-    let below : get_or row i 0 < c.args.g.now.units = All-get_or (λ v. v < c.args.g.now.units) row i 0 c.loop-other-test.true c.neighbours-other-items.ensures.below in
-    place_within c.args.g.now.units c.args.districts (get_or row i 0) (get_or c.args.plan.now c.args.unit 0) (length c.loop-other.self) below
+    let below : get_or row i 0 < c.args.graph.now.units = All-get_or (λ v. v < c.args.graph.now.units) row i 0 c.loop-other-test.true c.neighbours-other-items.ensures.below in
+    place_within c.args.graph.now.units c.args.districts (get_or row i 0) (get_or c.args.plan.now c.args.unit 0) (length c.loop-other.self) below
     (c.requires.in_range c.args.unit c.requires.unit) c.loop-other.invariant.width
 
 pub put-requires-in-loop-other : goal.put-requires-in-loop-other
 put-requires-in-loop-other c =
     let row : List ℕ = c.neighbours-other-items.result.now in
     let i : ℕ = c.loop-other.other-index in
-    let below : get_or row i 0 < c.args.g.now.units = All-get_or (λ v. v < c.args.g.now.units) row i 0 c.loop-other-test.true c.neighbours-other-items.ensures.below in
+    let below : get_or row i 0 < c.args.graph.now.units = All-get_or (λ v. v < c.args.graph.now.units) row i 0 c.loop-other-test.true c.neighbours-other-items.ensures.below in
     let same = ap (length {A = Bool}) c.put.ensures in
-    let inside = place_within c.args.g.now.units c.args.districts (get_or row i 0) c.args.home (length c.loop-other.self) below c.requires.home c.loop-other.invariant.width in
+    let inside = place_within c.args.graph.now.units c.args.districts (get_or row i 0) c.args.home (length c.loop-other.self) below c.requires.home c.loop-other.invariant.width in
     omega (arith, inside, same, length-set {A = Bool})
 
 -- the table after two writes
@@ -35,7 +35,7 @@ twice first second third k j one other e is = sym (is ∙ ap (λ (t : List Bool)
 
 pub loop-other-preserved : goal.loop-other-preserved
 loop-other-preserved c =
-    let g = c.args.g.now in
+    let g = c.args.graph.now in
     let plan : List ℕ = c.args.plan.now in
     let row : List ℕ = c.neighbours-other-items.result.now in
     let i : ℕ = c.loop-other.other-index in
@@ -52,7 +52,7 @@ loop-other-preserved c =
 
 pub returns : goal.returns
 returns c =
-    let g = c.args.g.now in
+    let g = c.args.graph.now in
     let plan : List ℕ = c.args.plan.now in
     let row : List ℕ = c.neighbours-other-items.result.now in
     let i : ℕ = c.loop-other.other-index in

@@ -13,7 +13,7 @@ width_of-width-requires g c =
     let cells : List ℕ = c.args.self.now.cells in
     let widths : List ℕ = c.args.self.now.widths in
     let broken : ℕ = c.args.self.now.broken in
-    record { region = row_below regions after most districts c.args.u c.args.from c.requires.step cells widths broken c.region_of.result c.requires.table c.requires.stood c.region_of.ensures }
+    record { region = row_below regions after most districts c.args.unit c.args.from c.requires.step cells widths broken c.region_of.result c.requires.table c.requires.stood c.region_of.ensures }
 
 pub broken_after-requires-clause-some : goal.broken_after-requires-clause-some
 broken_after-requires-clause-some g c =
@@ -24,7 +24,7 @@ broken_after-requires-clause-some g c =
     let cells : List ℕ = c.args.self.now.cells in
     let widths : List ℕ = c.args.self.now.widths in
     let broken : ℕ = c.args.self.now.broken in
-    λ h. some_broken regions after most districts c.args.u c.args.from c.requires.step cells widths broken c.region_of.result c.requires.table c.requires.stood c.region_of.ensures (ap (λ x. nat_le x most) (sym c.width_of-width.ensures) ∙ h)
+    λ h. some_broken regions after most districts c.args.unit c.args.from c.requires.step cells widths broken c.region_of.result c.requires.table c.requires.stood c.region_of.ensures (ap (λ x. nat_le x most) (sym c.width_of-width.ensures) ∙ h)
 
 pub broken_after-requires-clause-few : goal.broken_after-requires-clause-few
 broken_after-requires-clause-few g c =
@@ -35,7 +35,7 @@ broken_after-requires-clause-few g c =
     let cells : List ℕ = c.args.self.now.cells in
     let widths : List ℕ = c.args.self.now.widths in
     let broken : ℕ = c.args.self.now.broken in
-    few_broken regions after most districts c.args.u c.args.from c.requires.step cells widths broken c.region_of.result c.requires.table c.requires.stood c.region_of.ensures
+    few_broken regions after most districts c.args.unit c.args.from c.requires.step cells widths broken c.region_of.result c.requires.table c.requires.stood c.region_of.ensures
 
 pub returns : goal.returns
 returns g c =
@@ -46,5 +46,5 @@ returns g c =
     let cells : List ℕ = c.args.self.now.cells in
     let widths : List ℕ = c.args.self.now.widths in
     let broken : ℕ = c.args.self.now.broken in
-    broken_found regions after most districts c.args.u c.args.from c.requires.step cells widths broken c.region_of.result c.requires.table c.requires.stood c.region_of.ensures c.split_with-wide.result c.broken_after.result c.split_with-wide.ensures
+    broken_found regions after most districts c.args.unit c.args.from c.requires.step cells widths broken c.region_of.result c.requires.table c.requires.stood c.region_of.ensures c.split_with-wide.result c.broken_after.result c.split_with-wide.ensures
     (subst (λ w. c.broken_after.result + one_if (not (nat_le w most)) ≡ broken + one_if (not (nat_le c.split_with-wide.result most))) c.width_of-width.ensures c.broken_after.ensures)

@@ -1,7 +1,7 @@
 use Rattle.std.proofs.Common.{◌≡◌, ℕ, ◌*◌, length, sym, ap, ◌∙◌}
 use Rattle.std.proofs.lemmas.List.{length-replicate}
 use Rattle.audit_model.specs.Below.{above_all}
-use Rattle.region_guard.proofs.Moves.{above_few}
+use Rattle.model_laws.proofs.Lists.{above_all_most}
 use Rattle.region_guard.proofs.guard.RegionGuard.new.Goals as goal
 
 pub returns-clause-table : goal.returns-clause-table
@@ -13,7 +13,7 @@ returns-clause-table g c =
     record {
       rows = wide ∙ is_rows;
       places = long ∙ ap (λ n. n * c.args.districts) (sym wide);
-      few_rows = above_few 5000 c.args.rules.regions (λ k l. c.requires.few_regions k 0 l);
+      few_rows = above_all_most c.args.rules.regions 5000 (λ k l. c.requires.few_regions k 0 l);
       some = c.requires.districts.0;
       few = c.requires.districts.1;
     }

@@ -11,7 +11,7 @@ wide_after-requires-clause-region g c =
     let cells : List ℕ = c.args.self.now.cells in
     let widths : List ℕ = c.args.self.now.widths in
     let broken : ℕ = c.args.self.now.broken in
-    row_below regions after most districts c.args.u c.args.from c.requires.step cells widths broken c.region_of-region.result c.requires.table c.requires.stood c.region_of-region.ensures
+    row_below regions after most districts c.args.unit c.args.from c.requires.step cells widths broken c.region_of-region.result c.requires.table c.requires.stood c.region_of-region.ensures
 
 pub wide_after-requires-clause-from : goal.wide_after-requires-clause-from
 wide_after-requires-clause-from g c =
@@ -22,7 +22,7 @@ wide_after-requires-clause-from g c =
     let cells : List ℕ = c.args.self.now.cells in
     let widths : List ℕ = c.args.self.now.widths in
     let broken : ℕ = c.args.self.now.broken in
-    from_below regions after most districts c.args.u c.args.from c.requires.step
+    from_below regions after most districts c.args.unit c.args.from c.requires.step
 
 pub wide_after-requires-clause-to : goal.wide_after-requires-clause-to
 wide_after-requires-clause-to g c =
@@ -33,7 +33,7 @@ wide_after-requires-clause-to g c =
     let cells : List ℕ = c.args.self.now.cells in
     let widths : List ℕ = c.args.self.now.widths in
     let broken : ℕ = c.args.self.now.broken in
-    to_below regions after most districts c.args.u c.args.from c.requires.step
+    to_below regions after most districts c.args.unit c.args.from c.requires.step
 
 pub wide_after-requires-clause-some : goal.wide_after-requires-clause-some
 wide_after-requires-clause-some g c =
@@ -44,7 +44,7 @@ wide_after-requires-clause-some g c =
     let cells : List ℕ = c.args.self.now.cells in
     let widths : List ℕ = c.args.self.now.widths in
     let broken : ℕ = c.args.self.now.broken in
-    λ one. some_width regions after most districts c.args.u c.args.from c.requires.step cells widths broken c.region_of-region.result c.requires.table c.requires.stood c.region_of-region.ensures c.requires.apart
+    λ one. some_width regions after most districts c.args.unit c.args.from c.requires.step cells widths broken c.region_of-region.result c.requires.table c.requires.stood c.region_of-region.ensures c.requires.apart
 
 pub wide_after-requires-clause-few : goal.wide_after-requires-clause-few
 wide_after-requires-clause-few g c =
@@ -55,7 +55,7 @@ wide_after-requires-clause-few g c =
     let cells : List ℕ = c.args.self.now.cells in
     let widths : List ℕ = c.args.self.now.widths in
     let broken : ℕ = c.args.self.now.broken in
-    few_width regions after most districts c.args.u c.args.from c.requires.step cells widths broken c.region_of-region.result c.requires.table c.requires.stood c.region_of-region.ensures c.requires.apart
+    few_width regions after most districts c.args.unit c.args.from c.requires.step cells widths broken c.region_of-region.result c.requires.table c.requires.stood c.region_of-region.ensures c.requires.apart
 
 pub returns : goal.returns
 returns g c =
@@ -66,4 +66,4 @@ returns g c =
     let cells : List ℕ = c.args.self.now.cells in
     let widths : List ℕ = c.args.self.now.widths in
     let broken : ℕ = c.args.self.now.broken in
-    split_found regions after most districts c.args.u c.args.from c.requires.step cells widths broken c.region_of-region.result c.requires.table c.requires.stood c.region_of-region.ensures c.requires.apart c.wide_after.result c.wide_after.ensures
+    split_found regions after most districts c.args.unit c.args.from c.requires.step cells widths broken c.region_of-region.result c.requires.table c.requires.stood c.region_of-region.ensures c.requires.apart c.wide_after.result c.wide_after.ensures

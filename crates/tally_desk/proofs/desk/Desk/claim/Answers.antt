@@ -16,16 +16,16 @@ fetch_add-drawn-requires g c =
     let live : 0 < c.take_out-seat.result.me.0.own.weight = subst (λ (n : ℕ). 0 < n) (sym (ap (λ m. m.0.own.weight) was)) c.args.pass.now.live in (
       c.take_out-seat.ensures.table ∙ c.requires.pass.of_table,
       search rules,
-      claim (HomeAs g.C.Keeper.load_faults g.C.Keeper.save_faults g.C.Keeper.slots g.C.Keeper.tried) _ c.counter_laws.ensures _ _ _ (ap (λ m. m.0.parts) was ∙ c.requires.pass.of_parts) live (ap (λ m. m.0.own.ended) was ∙ c.requires.before_end),
+      claim (HomeAs g.C.Keeper.state) _ c.counter_laws.ensures _ _ _ (ap (λ m. m.0.parts) was ∙ c.requires.pass.of_parts) live (ap (λ m. m.0.own.ended) was ∙ c.requires.before_end),
     )
 
 pub into_badge-requires : goal.into_badge-requires
 into_badge-requires g c =
-    still_empty (parts_of g.C.Keeper.load_faults g.C.Keeper.save_faults g.C.Keeper.slots g.C.Keeper.tried c.args.self.now.table.shared.key) (view_in c.args.pass.now.badge.views) _ _ _ _ c.take_out-seat.ensures.view c.requires.pass.of_parts c.fetch_add-drawn.ensures.2
+    still_empty (parts_of g.C.Keeper.state c.args.self.now.table.shared.key) (view_in c.args.pass.now.badge.views) _ _ _ _ c.take_out-seat.ensures.view c.requires.pass.of_parts c.fetch_add-drawn.ensures.2
 
 pub invariant_of-pass : goal.invariant_of-pass
 invariant_of-pass g c =
-    let parts = parts_of g.C.Keeper.load_faults g.C.Keeper.save_faults g.C.Keeper.slots g.C.Keeper.tried c.args.self.now.table.shared.key in
+    let parts = parts_of g.C.Keeper.state c.args.self.now.table.shared.key in
     let v = view_in c.args.pass.now.badge.views in
     let below : c.fetch_add-drawn.result < length parts.todo = omega (arith, c.if-drawn-len.true, c.len.ensures, ap length c.args.self.now.todo_is) in
     let views = c.into_badge.ensures.2 in
@@ -41,7 +41,7 @@ invariant_of-pass g c =
 
 pub invariant_of-pass-else-drawn-len : goal.invariant_of-pass-else-drawn-len
 invariant_of-pass-else-drawn-len g c =
-    let parts = parts_of g.C.Keeper.load_faults g.C.Keeper.save_faults g.C.Keeper.slots g.C.Keeper.tried c.args.self.now.table.shared.key in
+    let parts = parts_of g.C.Keeper.state c.args.self.now.table.shared.key in
     let v = view_in c.args.pass.now.badge.views in
     let past : length parts.todo ≤ c.fetch_add-drawn.result = omega (arith, c.if-drawn-len.false, c.len.ensures, ap length c.args.self.now.todo_is) in
     let views = c.into_badge.ensures.2 in
@@ -57,7 +57,7 @@ invariant_of-pass-else-drawn-len g c =
 
 pub returns-then-drawn-len-clause-pass : goal.returns-then-drawn-len-clause-pass
 returns-then-drawn-len-clause-pass g c =
-    let parts = parts_of g.C.Keeper.load_faults g.C.Keeper.save_faults g.C.Keeper.slots g.C.Keeper.tried c.args.self.now.table.shared.key in
+    let parts = parts_of g.C.Keeper.state c.args.self.now.table.shared.key in
     let v = view_in c.args.pass.now.badge.views in
     let below : c.fetch_add-drawn.result < length parts.todo = omega (arith, c.if-drawn-len.true, c.len.ensures, ap length c.args.self.now.todo_is) in
     let is : view_in c.into_badge.result.views ≡ with_own v (with_claim c.fetch_add-drawn.result v.own) =
@@ -69,7 +69,7 @@ returns-then-drawn-len-clause-pass g c =
 
 pub returns-then-drawn-len-clause-claimed : goal.returns-then-drawn-len-clause-claimed
 returns-then-drawn-len-clause-claimed g c =
-    let parts = parts_of g.C.Keeper.load_faults g.C.Keeper.save_faults g.C.Keeper.slots g.C.Keeper.tried c.args.self.now.table.shared.key in
+    let parts = parts_of g.C.Keeper.state c.args.self.now.table.shared.key in
     let v = view_in c.args.pass.now.badge.views in
     let below : c.fetch_add-drawn.result < length parts.todo = omega (arith, c.if-drawn-len.true, c.len.ensures, ap length c.args.self.now.todo_is) in
     let id_is = ap (λ (l : List ℕ). get_or l c.fetch_add-drawn.result 0) (c.as_slice.ensures ∙ c.args.self.now.todo_is) in
@@ -84,7 +84,7 @@ returns-then-drawn-len-clause-claimed g c =
 
 pub returns-else-drawn-len-clause-pass : goal.returns-else-drawn-len-clause-pass
 returns-else-drawn-len-clause-pass g c =
-    let parts = parts_of g.C.Keeper.load_faults g.C.Keeper.save_faults g.C.Keeper.slots g.C.Keeper.tried c.args.self.now.table.shared.key in
+    let parts = parts_of g.C.Keeper.state c.args.self.now.table.shared.key in
     let v = view_in c.args.pass.now.badge.views in
     let past : length parts.todo ≤ c.fetch_add-drawn.result = omega (arith, c.if-drawn-len.false, c.len.ensures, ap length c.args.self.now.todo_is) in
     let is : view_in c.into_badge.result.views ≡ ended_view v =
@@ -96,19 +96,19 @@ returns-else-drawn-len-clause-pass g c =
 
 pub returns-else-drawn-len-clause-end : goal.returns-else-drawn-len-clause-end
 returns-else-drawn-len-clause-end g c =
-    let parts = parts_of g.C.Keeper.load_faults g.C.Keeper.save_faults g.C.Keeper.slots g.C.Keeper.tried c.args.self.now.table.shared.key in
+    let parts = parts_of g.C.Keeper.state c.args.self.now.table.shared.key in
     let v = view_in c.args.pass.now.badge.views in
     let past : length parts.todo ≤ c.fetch_add-drawn.result = omega (arith, c.if-drawn-len.false, c.len.ensures, ap length c.args.self.now.todo_is) in
     ap view_in c.into_badge.ensures.2 ∙ drew_end parts v _ _ _ _ c.take_out-seat.ensures.view c.requires.pass.of_parts c.fetch_add-drawn.ensures.2 past
 
 pub returns-then-drawn-len-clause-few : goal.returns-then-drawn-len-clause-few
 returns-then-drawn-len-clause-few g c =
-    let parts = parts_of g.C.Keeper.load_faults g.C.Keeper.save_faults g.C.Keeper.slots g.C.Keeper.tried c.args.self.now.table.shared.key in
+    let parts = parts_of g.C.Keeper.state c.args.self.now.table.shared.key in
     subst (λ (u : PassView). length u.own.claims ≤ length parts.todo) (sym (ap view_in c.into_badge.ensures.2))
     (drew_few parts (view_in c.args.pass.now.badge.views) _ _ _ _ c.take_out-seat.ensures.view c.requires.pass.of_parts c.fetch_add-drawn.ensures.2)
 
 pub returns-else-drawn-len-clause-few : goal.returns-else-drawn-len-clause-few
 returns-else-drawn-len-clause-few g c =
-    let parts = parts_of g.C.Keeper.load_faults g.C.Keeper.save_faults g.C.Keeper.slots g.C.Keeper.tried c.args.self.now.table.shared.key in
+    let parts = parts_of g.C.Keeper.state c.args.self.now.table.shared.key in
     subst (λ (u : PassView). length u.own.claims ≤ length parts.todo) (sym (ap view_in c.into_badge.ensures.2))
     (drew_few parts (view_in c.args.pass.now.badge.views) _ _ _ _ c.take_out-seat.ensures.view c.requires.pass.of_parts c.fetch_add-drawn.ensures.2)

@@ -8,4 +8,4 @@ use Rattle.tally_desk.proofs.desk.Desk.take_ticket.Goals as goal
 
 pub fetch_add-requires : goal.fetch_add-requires
 fetch_add-requires g c =
-    (search rules, search rules, ticket (HomeAs g.C.Keeper.load_faults g.C.Keeper.save_faults g.C.Keeper.slots g.C.Keeper.tried) _ _ _ _ g.B.Posting.id (subst (CanPost (parts_of g.C.Keeper.load_faults g.C.Keeper.save_faults g.C.Keeper.slots g.C.Keeper.tried c.args.self.now.table.shared.key) c.args.seat.now.me.0) (sym c.requires.name) c.requires.post))
+    (search rules, search rules, ticket (HomeAs g.C.Keeper.state) _ _ _ _ g.B.Posting.id (subst (CanPost (parts_of g.C.Keeper.state c.args.self.now.table.shared.key) c.args.seat.now.me.0) (sym c.requires.name) c.requires.post))

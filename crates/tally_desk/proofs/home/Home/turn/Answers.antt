@@ -6,15 +6,15 @@ use Rattle.tally_desk.proofs.home.Home.turn.Goals as goal
 
 pub post-requires-clause-below : goal.post-requires-clause-below
 post-requires-clause-below g c =
-    id_below g.C.Keeper.load_faults g.C.Keeper.save_faults g.C.Keeper.slots g.C.Keeper.tried c.requires.0 c.args.self.now c.requires.1.0 c.args.o c.requires.1.1
+    id_below g.C.Keeper.state c.requires.0 c.args.self.now c.requires.1.0 c.args.outcome c.requires.1.1
 
 pub post-requires-clause-absent : goal.post-requires-clause-absent
 post-requires-clause-absent g c =
-    id_absent g.C.Keeper.load_faults g.C.Keeper.save_faults g.C.Keeper.slots g.C.Keeper.tried c.requires.0 c.args.self.now c.requires.1.0 c.args.o c.requires.1.1
+    id_absent g.C.Keeper.state c.requires.0 c.args.self.now c.requires.1.0 c.args.outcome c.requires.1.1
 
 pub post-requires-clause-bins : goal.post-requires-clause-bins
 post-requires-clause-bins g c =
-    few_visits g.C.Keeper.load_faults g.C.Keeper.save_faults g.C.Keeper.slots g.C.Keeper.tried c.requires.0 c.args.self.now c.requires.1.0 c.args.o c.requires.1.1
+    few_visits g.C.Keeper.state c.requires.0 c.args.self.now c.requires.1.0 c.args.outcome c.requires.1.1
     c.outcomes_have_few_visits.ensures.found
 
 pub save_where_due-saved-requires-clause-every : goal.save_where_due-saved-requires-clause-every
@@ -22,26 +22,26 @@ save_where_due-saved-requires-clause-every g c = let may = c.requires.1.1 in ome
 
 pub save_where_due-saved-requires-clause-slot : goal.save_where_due-saved-requires-clause-slot
 save_where_due-saved-requires-clause-slot g c =
-    slot_below g.C.Keeper.load_faults g.C.Keeper.save_faults g.C.Keeper.slots g.C.Keeper.tried c.requires.0 c.args.self.now c.requires.1.0 c.args.o c.requires.1.1
+    slot_below g.C.Keeper.state c.requires.0 c.args.self.now c.requires.1.0 c.args.outcome c.requires.1.1
 
 pub save_where_due-saved-requires-clause-generation : goal.save_where_due-saved-requires-clause-generation
 save_where_due-saved-requires-clause-generation g c =
-    generation_below g.C.Keeper.load_faults g.C.Keeper.save_faults g.C.Keeper.slots g.C.Keeper.tried c.requires.0 c.args.self.now c.requires.1.0 c.args.o c.requires.1.1
+    generation_below g.C.Keeper.state c.requires.0 c.args.self.now c.requires.1.0 c.args.outcome c.requires.1.1
 
 pub save_where_due-saved-requires-clause-count : goal.save_where_due-saved-requires-clause-count
 save_where_due-saved-requires-clause-count g c =
-    few_failed g.C.Keeper.load_faults g.C.Keeper.save_faults g.C.Keeper.slots g.C.Keeper.tried c.requires.0 c.args.self.now c.requires.1.0 c.args.o c.requires.1.1
+    few_failed g.C.Keeper.state c.requires.0 c.args.self.now c.requires.1.0 c.args.outcome c.requires.1.1
 
 pub save_where_due-saved-requires-clause-sorted_room : goal.save_where_due-saved-requires-clause-sorted_room
 save_where_due-saved-requires-clause-sorted_room g c =
     let may = c.requires.1.1 in
-    let total = total_is g.C.Keeper.load_faults g.C.Keeper.save_faults g.C.Keeper.slots g.C.Keeper.tried c.requires.0 c.args.self.now c.requires.1.0 c.args.o may in
+    let total = total_is g.C.Keeper.state c.requires.0 c.args.self.now c.requires.1.0 c.args.outcome may in
     omega (arith, total, may.holds.equipped.sorted_room, c.post.ensures.total)
 
 pub save_where_due-saved-requires-clause-save_room : goal.save_where_due-saved-requires-clause-save_room
 save_where_due-saved-requires-clause-save_room g c =
     let may = c.requires.1.1 in
-    let total = total_is g.C.Keeper.load_faults g.C.Keeper.save_faults g.C.Keeper.slots g.C.Keeper.tried c.requires.0 c.args.self.now c.requires.1.0 c.args.o may in
+    let total = total_is g.C.Keeper.state c.requires.0 c.args.self.now c.requires.1.0 c.args.outcome may in
     omega (arith, total, may.holds.equipped.save_room, c.post.ensures.total)
 
 pub push_reserved-requires : goal.push_reserved-requires
@@ -51,11 +51,11 @@ push_reserved-requires g c =
     let y = c.args.self.now in
     let len = y.posted.ok.0 in
     let ticket : c.len-ticket.result ≡ length posted = omega (arith, c.len-ticket.ensures, len, ap length may.holds.entries) in
-    let left = some_left g.C.Keeper.load_faults g.C.Keeper.save_faults g.C.Keeper.slots g.C.Keeper.tried c.requires.0 y posted c.args.o may in
+    let left = some_left g.C.Keeper.state c.requires.0 y posted c.args.outcome may in
     let room : vec_len y.posted < vec_capacity y.posted = omega (arith, len, ap length may.holds.entries, left, may.holds.equipped.entry_room) in
-    let effect = subst (λ (k : ℕ). SavedWhereDue g.C.Keeper.load_faults g.C.Keeper.save_faults g.C.Keeper.slots g.C.Keeper.tried (k + 1) (record y { book = c.post.new.self }) c.save_where_due-saved.new.self c.save_where_due-saved.result)
+    let effect = subst (λ (k : ℕ). SavedWhereDue g.C.Keeper.state (k + 1) (record y { book = c.post.new.self }) c.save_where_due-saved.new.self c.save_where_due-saved.result)
     ticket c.save_where_due-saved.ensures in
-    let d = done g.C.Keeper.load_faults g.C.Keeper.save_faults g.C.Keeper.slots g.C.Keeper.tried c.requires.0 y posted c.args.o may c.post.new.self c.post.ensures.total c.post.ensures.outcomes
+    let d = done g.C.Keeper.state c.requires.0 y posted c.args.outcome may c.post.new.self c.post.ensures.total c.post.ensures.outcomes
     c.saved_slots_are_newest.ensures c.checkpoints_are_ours.ensures c.save_where_due-saved.new.self c.save_where_due-saved.result effect in
     subst (λ v. vec_len v < vec_capacity v) (sym d.posted) room
 
@@ -65,10 +65,10 @@ returns-clause-turned g c = λ parts posted may.
     let len = y.posted.ok.0 in
     let saved = c.save_where_due-saved.result in
     let ticket : c.len-ticket.result ≡ length posted = omega (arith, c.len-ticket.ensures, len, ap length may.holds.entries) in
-    let effect = subst (λ (k : ℕ). SavedWhereDue g.C.Keeper.load_faults g.C.Keeper.save_faults g.C.Keeper.slots g.C.Keeper.tried (k + 1) (record y { book = c.post.new.self }) c.save_where_due-saved.new.self saved)
+    let effect = subst (λ (k : ℕ). SavedWhereDue g.C.Keeper.state (k + 1) (record y { book = c.post.new.self }) c.save_where_due-saved.new.self saved)
     ticket c.save_where_due-saved.ensures in
-    let d = done g.C.Keeper.load_faults g.C.Keeper.save_faults g.C.Keeper.slots g.C.Keeper.tried parts y posted c.args.o may c.post.new.self c.post.ensures.total c.post.ensures.outcomes
+    let d = done g.C.Keeper.state parts y posted c.args.outcome may c.post.new.self c.post.ensures.total c.post.ensures.outcomes
     c.saved_slots_are_newest.ensures c.checkpoints_are_ours.ensures c.save_where_due-saved.new.self saved effect in
-    turned g.C.Keeper.load_faults g.C.Keeper.save_faults g.C.Keeper.slots g.C.Keeper.tried parts y posted c.args.o may c.save_where_due-saved.new.self _ saved d
-    (c.push_reserved.ensures.items ∙ ap (λ (k : ℕ). c.save_where_due-saved.new.self.posted.items ++ entry k c.args.o.id saved ∷ []) ticket)
+    turned g.C.Keeper.state parts y posted c.args.outcome may c.save_where_due-saved.new.self _ saved d
+    (c.push_reserved.ensures.items ∙ ap (λ (k : ℕ). c.save_where_due-saved.new.self.posted.items ++ entry k c.args.outcome.id saved ∷ []) ticket)
     c.push_reserved.ensures.capacity refl refl refl refl refl refl refl refl

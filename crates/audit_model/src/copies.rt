@@ -1,0 +1,26 @@
+//! Values whose clone is the same value.
+
+ghost use Rattle.std.specs.Prelude.{◌≡◌};
+
+use crate::setting::{Ask, Label};
+
+/// A value whose clone is the same value.
+pub trait Same: Clone {
+    ghost same: { (x y : Self) → Self.Clone.is_clone x y → y ≡ x };
+}
+
+impl Same for u64 {
+    ghost same = { λ x y same. same };
+}
+
+impl Same for u32 {
+    ghost same = { λ x y same. same };
+}
+
+impl Same for Ask {
+    ghost same = { λ x y same. same };
+}
+
+impl Same for Label {
+    ghost same = { λ x y same. same };
+}

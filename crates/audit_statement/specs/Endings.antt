@@ -1,0 +1,425 @@
+-- How a call may end: for each reason, what caused it, what it wrote, and what it left untouched.
+use Rattle.std.specs.Prelude.{◌≡◌, ◌⊎◌, ℕ, suc, ◌+◌, ◌-◌, ◌*◌, ◌%◌, ◌^◌, ◌<◌, ◌≤◌, ◌==◌, min, ◌&&◌, ◌||◌, Bool, true, false, not, IsTrue, IsFalse, nat_lt, List, [], ◌++◌, length, map, take, ⊤, Option, Some, None, Result, Ok, Err}
+use Rattle.std.specs.List.{list_all, All, AllPairs, Contains}
+use Rattle.std.specs.Io.KnownBytes.{Appends, IsAtEnd}
+use Rattle.audit_model.specs.declared.fault.WordFault.{WordFault}
+use Rattle.audit_model.specs.declared.outcome.Outcome.{Outcome}
+use Rattle.audit_model.specs.declared.setting.Columns.{Columns}
+use Rattle.audit_model.specs.declared.setting.Command.{Command}
+use Rattle.audit_model.specs.declared.setting.Command.TheVariants.{Check, Run, Make, Plans}
+use Rattle.audit_model.specs.declared.setting.Setting.{Setting}
+use Rattle.audit_model.specs.Below.{filter_below}
+use Rattle.audit_model.specs.Job.{Job}
+use Rattle.audit_model.specs.JobOf.{IsJob}
+use Rattle.audit_model.specs.Apart.{AllApart}
+use Rattle.audit_model.specs.Run.{total, has_id, run_ids, full, fits, IsRight}
+use Rattle.audit_model.specs.Trajectory.{outcome}
+use Rattle.checkpoint_definitions.specs.Checkpoint.{IsCheckpoint, checkpoint, job_digest}
+use Rattle.ckpt_store.specs.declared.slots.Place.{Place}
+use Rattle.ckpt_store.specs.Histories.{AreInTurn, IsRightSave}
+use Rattle.desk_crew.specs.Ran.{IsLater, failed_of}
+use Rattle.draw_definitions.specs.Draw.{draw}
+use Rattle.note_definitions.specs.Note.{Ending, bad_words, too_many_bytes, bad_graph, bad_regions, bad_table, bad_plan, bad_plan_named, no_memory, read_fault, write_fault, load_fault, stopped, damaged, other_job, save_fault, note}
+use Rattle.text_definitions.specs.Report.{full_report, check_text}
+use Rattle.checkpoint_definitions.specs.Slots.{Slot, other, ours, slot_of, opening, newest, save_place, slot_at}
+use Rattle.word_definitions.specs.Words.{setting_of}
+use Rattle.tally_desk.specs.Homes.{moved}
+use Rattle.tally_desk.specs.InTurn.{saves_of}
+use Rattle.audit_io.specs.Faults.{Rose}
+use Rattle.audit_io.specs.Slots.{Pair, stored}
+use Rattle.audit_io.specs.Tries.{Try}
+use Rattle.audit_statement.specs.Accepted.{IsAccepted, IsRefused, columns_of, most_bytes}
+use Rattle.audit_statement.specs.Status.{status_of}
+use Rattle.audit_io.specs.State.{Kept, Stream}
+use Rattle.audit_io.specs.Told.{IfTold, IfBothTold}
+use Rattle.audit_statement.specs.World.{World}
+
+-- ---- what the words ask for
+
+-- the command reads the source
+abbrev pub is_reading : Command → Bool
+is_reading Check = true
+is_reading Run = true
+is_reading Make = false
+is_reading Plans = true
+
+-- the command walks
+abbrev pub is_walking : Command → Bool
+is_walking Check = false
+is_walking Run = true
+is_walking Make = true
+is_walking Plans = true
+
+-- a run of this setting saves, and loads
+abbrev pub saves : Setting → Bool
+saves setting = is_walking setting.command && not (setting.save_every == 0)
+
+abbrev pub loads : Setting → Bool
+loads setting = is_walking setting.command && (setting.resume || not (setting.save_every == 0))
+
+-- the words are accepted and pass the test
+abbrev pub passes : (Setting → Bool) → Result Setting WordFault → Bool
+passes test (Ok setting) = test setting
+passes test (Err f) = false
+
+-- ---- the slots that were seen, and the opening
+
+-- there are two slots that were seen, the told ones where the keeper tells, and this holds of them
+pub record Saw (slots : Option Pair) (P : Pair → Type 0) : Type 0 where
+  pub pair : Pair
+  pub same : IfTold slots (λ p. pair ≡ p)
+  pub holds : P pair
+
+-- the outcomes with which a run starts that finds these slots, where it may start: nothing, unless it resumes
+abbrev pub opening_from : Bool → Job → Pair → Option (List Outcome)
+opening_from false job p = Some []
+opening_from true job p = opening true job.setting (slot_of job (job_digest job) p.zero_slot) (slot_of job (job_digest job) p.one_slot)
+
+-- what a keeper tells of its slots says with what a run starts, where it may start: with nothing, unless it resumes; and where it resumes,
+-- it is to tell
+abbrev pub StartsFrom : Bool → Job → Option Pair → Option (List Outcome) → Type 0
+StartsFrom false job slots o = Some [] ≡ o
+StartsFrom true job None o = ⊥
+StartsFrom true job (Some p) o = opening_from true job p ≡ o
+
+-- what a keeper tells of its slots says that a run of the job starts with this
+abbrev pub TellsOpening : Job → Option Pair → Option (List Outcome) → Type 0
+TellsOpening job slots o = StartsFrom job.setting.resume job slots o
+
+-- these are the outcomes with which a run starts that finds the slots that were seen
+pub record IsOpening (job : Job) (slots : Option Pair) (outcomes : List Outcome) : Type 0 where
+  pub seen : Saw slots (λ p. opening_from job.setting.resume job p ≡ Some outcomes)
+  pub apart : AllApart (map (λ o. o.id) outcomes)
+  pub fitting : IsTrue (list_all (fits job) outcomes)
+
+-- how many ids the opening lacks
+abbrev pub lacking : Job → List Outcome → ℕ
+lacking job outcomes = length (filter_below (total job) (λ id. not (has_id outcomes id)))
+
+-- the budget is below that number
+abbrev pub leaves_work : Job → List Outcome → Bool
+leaves_work job outcomes = nat_lt job.setting.budget (lacking job outcomes)
+
+-- the outcomes of the opening, and of the first ids that it lacks
+abbrev pub full_of : Job → List Outcome → List Outcome
+full_of job outcomes = full job (draw job.setting.key) outcomes job.setting.budget
+
+-- ---- what was read
+
+-- the source was read to its end, or not at all
+abbrev pub IsReadBy : Bool → Stream → Stream → Type 0
+IsReadBy true before after = IsAtEnd after.bytes × (after.faults ≡ before.faults)
+IsReadBy false before after = after ≡ before
+
+-- the job was accepted, all that it holds is within the limits, its plan is legal, and the source was read for it
+pub record IsPrepared (words : List (List ℕ)) (before after : Stream) (job : Job) : Type 0 where
+  pub accepted : IsAccepted words before.bytes job
+  pub sound : IsJob job
+  pub read : IsReadBy (is_reading job.setting.command) before after
+
+-- ---- what was written
+
+-- some of the text's first bytes were taken
+abbrev pub AppendsPart : Option (List ℕ) → Option (List ℕ) → List ℕ → Type 0
+AppendsPart before after text = (n : ℕ) × (n ≤ length text) × Appends before after (take n text)
+
+-- a text was taken whole, or in part
+abbrev pub Writes : Bool → Option (List ℕ) → Option (List ℕ) → List ℕ → Type 0
+Writes true before after text = Appends before after text
+Writes false before after text = AppendsPart before after text
+
+-- nothing is left to be walked, and the report on all outcomes was written
+pub record WritesReport (whole : Bool) (job : Job) (before after : World) : Type 0 where
+  pub outcomes : List Outcome
+  pub opened : IsOpening job before.keeper.slots outcomes
+  pub nothing_left : IsFalse (leaves_work job outcomes)
+  pub written : Writes whole before.out.bytes after.out.bytes (full_report job (draw job.setting.key) (full_of job outcomes))
+
+-- what a command writes
+abbrev pub WritesText : Command → Bool → Job → World → World → Type 0
+WritesText Check whole job before after = Writes whole before.out.bytes after.out.bytes (check_text job)
+WritesText Run whole job before after = WritesReport whole job before after
+WritesText Make whole job before after = WritesReport whole job before after
+WritesText Plans whole job before after = WritesReport whole job before after
+
+-- work is left, and nothing was written
+pub record StopsEarly (job : Job) (before after : World) : Type 0 where
+  pub outcomes : List Outcome
+  pub opened : IsOpening job before.keeper.slots outcomes
+  pub work_left : IsTrue (leaves_work job outcomes)
+  pub unwritten : after.out.bytes ≡ before.out.bytes
+
+-- ---- what was saved
+
+-- where the keeper tells, the newest slot is the checkpoint of the opening and of what was walked
+abbrev pub IsNewest : Job → List Outcome → Pair → Type 0
+IsNewest job outcomes p =
+    (n : ℕ) × (newest (slot_of job (job_digest job) p.zero_slot) (slot_of job (job_digest job) p.one_slot) ≡ Some n)
+    × ((g : ℕ) × (g < 3) × (stored p n ≡ Some (checkpoint 2 (job_digest job) g outcomes)))
+
+-- an outcome of the opening, or what the trajectory of an id finds that the opening lacks and that is to be walked
+abbrev pub IsOpeningOrFound : Job → List Outcome → Outcome → Type 0
+IsOpeningOrFound job outcomes o =
+    Contains outcomes o
+    ⊎ (IsFalse (has_id outcomes o.id) × (o.id < total job) × Contains (run_ids job outcomes job.setting.budget) o.id × (o ≡ outcome job (draw job.setting.key) o.id))
+
+-- these are all outcomes of the opening, and so many others
+pub record HoldsPart (job : Job) (outcomes : List Outcome) (count : ℕ) (saved : List Outcome) : Type 0 where
+  pub each : All (IsOpeningOrFound job outcomes) saved
+  pub opening_kept : All (Contains saved) outcomes
+  pub counted : length saved ≡ length outcomes + count
+
+-- the slot is a checkpoint of the job with this generation, of the opening and of so many ids that the opening lacks, and is read as that
+pub record IsPartly (job : Job) (outcomes : List Outcome) (count generation : ℕ) (slot : Option (List ℕ)) : Type 0 where
+  pub saved : List Outcome
+  pub bytes_are : slot ≡ Some (checkpoint 2 (job_digest job) generation saved)
+  pub sound : IsCheckpoint (checkpoint 2 (job_digest job) generation saved) 2 (job_digest job) generation saved
+  pub slot_is : slot_of job (job_digest job) slot ≡ ours generation saved
+  pub holds : HoldsPart job outcomes count saved
+
+-- of two slots of which one was intact, one is the newest slot as it was, or a checkpoint of the opening and of ids that it lacks
+abbrev pub KeepsASlot : Job → List Outcome → Pair → Pair → Type 0
+KeepsASlot job outcomes p q =
+    (n : ℕ) → newest (slot_of job (job_digest job) p.zero_slot) (slot_of job (job_digest job) p.one_slot) ≡ Some n
+    → (m : ℕ) × ((stored q m ≡ stored p n) ⊎ ((count : ℕ) × ((g : ℕ) × IsPartly job outcomes count g (stored q m))))
+
+-- where a run saves: the place that the slots at its start give
+abbrev pub place_of : Job → Pair → ℕ × ℕ
+place_of job p = save_place (slot_of job (job_digest job) p.zero_slot) (slot_of job (job_digest job) p.one_slot)
+
+-- how many saves a run makes: one each time that as many ids were walked as was asked for, and a last one where the last id had none
+abbrev pub count_of_saves : Job → List Outcome → ℕ
+count_of_saves job outcomes = saves_of (length (run_ids job outcomes job.setting.budget)) job.setting.save_every
+
+-- the place of the last of them: after each the place moves to the other slot and the next generation of three in turn
+abbrev pub last_place : Job → List Outcome → Pair → Place
+last_place job outcomes p = moved (count_of_saves job outcomes - 1) (record { slot = (place_of job p).0; generation = (place_of job p).1 })
+
+-- so many saves were made, the last at this place: it is the checkpoint of the opening and of all that was walked, is read as that, and is the
+-- newest; where it is the only one, the other slot is as it was, and elsewhere the other slot is the save before
+pub record SavesInTurnAt (job : Job) (outcomes : List Outcome) (p q : Pair) (at : Place) (count : ℕ) : Type 0 where
+  pub last : stored q at.slot ≡ Some (checkpoint 2 (job_digest job) at.generation (full_of job outcomes))
+  pub last_is : slot_of job (job_digest job) (stored q at.slot) ≡ ours at.generation (full_of job outcomes)
+  pub newest_is : newest (slot_of job (job_digest job) q.zero_slot) (slot_of job (job_digest job) q.one_slot) ≡ Some at.slot
+  pub only : count ≡ 1 → stored q (1 - at.slot) ≡ stored p (1 - at.slot)
+  pub before_last : 1 < count → IsPartly job outcomes ((count - 1) * job.setting.save_every) ((at.generation + 2) % 3) (stored q (1 - at.slot))
+
+abbrev pub SavesInTurn : Job → List Outcome → Pair → Pair → Type 0
+SavesInTurn job outcomes p q = SavesInTurnAt job outcomes p q (last_place job outcomes p) (count_of_saves job outcomes)
+
+-- ---- what was tried
+
+-- a save that was tried: a checkpoint of the job, of the opening and of what the trajectories of ids find that the opening lacks
+pub record IsTryOf (job : Job) (outcomes : List Outcome) (t : Try) : Type 0 where
+  pub generation : ℕ
+  pub count : ℕ
+  pub saved : List Outcome
+  pub sound : IsCheckpoint t.bytes 2 (job_digest job) generation saved
+  pub holds : HoldsPart job outcomes count saved
+
+-- the saves of a run over these slots, and whether each succeeded: they are all that its keeper was asked for since; each went to the place
+-- of these slots, which moved on after each that succeeded; each holds no less than those before it, and more than those of them that succeeded;
+-- the keeper's count covers those that failed; and where the opening is right, so are they
+pub record TriesOf (job : Job) (outcomes : List Outcome) (p : Pair) (faults faults_now : ℕ) (told now : List Try) : Type 0 where
+  pub tries : List Try
+  pub appended : now ≡ told ++ tries
+  pub in_turn : AreInTurn job (job_digest job) (place_of job p).0 (place_of job p).1 tries
+  pub each : All (IsTryOf job outcomes) tries
+  pub growing : AllPairs IsLater tries
+  pub covered : min (faults + failed_of tries) (2 ^ 64 - 1) ≤ faults_now
+  pub right : IsRight job (draw job.setting.key) outcomes → All (λ t. IsRightSave job (draw job.setting.key) (job_digest job) t.bytes) tries
+
+-- what a run that saves has tried, where its keeper tells
+abbrev pub TriesTold : Job → List Outcome → Kept → Kept → Type 0
+TriesTold job outcomes before after = IfTold before.slots (λ p. IfBothTold before.tried after.tried (TriesOf job outcomes p before.save_faults after.save_faults))
+
+-- the slots after a run that saves, and what it has tried: where each save was made, they were made in turn, and the checkpoint of the opening
+-- and of all that was walked is in the newest slot
+pub record SavesAll (made : Type 0) (job : Job) (before after : World) : Type 0 where
+  pub outcomes : List Outcome
+  pub opened : IsOpening job before.keeper.slots outcomes
+  pub kept : IfBothTold before.keeper.slots after.keeper.slots (KeepsASlot job outcomes)
+  pub in_turn : made → IfBothTold before.keeper.slots after.keeper.slots (SavesInTurn job outcomes)
+  pub newest_is : made → IfBothTold before.keeper.slots after.keeper.slots (λ p q. IsNewest job (full_of job outcomes) q)
+  pub tried : TriesTold job outcomes before.keeper after.keeper
+
+abbrev pub SavesWhere : Bool → Type 0 → Job → World → World → Type 0
+SavesWhere false made job before after = after.keeper.slots ≡ before.keeper.slots
+SavesWhere true made job before after = SavesAll made job before after
+
+-- no save failed
+abbrev pub NoSaveFailed : World → World → Type 0
+NoSaveFailed before after = Rose before.keeper.save_faults after.keeper.save_faults → ⊥
+
+-- ---- each reason
+
+-- one byte more than the limit was taken, where the source is read and tells
+abbrev pub TakesTooMany : Bool → Option (List ℕ) → Option (List ℕ) → Type 0
+TakesTooMany true before after = IfBothTold before after (λ left rest. length left ≡ suc (most_bytes + length rest))
+TakesTooMany false before after = ⊤
+
+-- the bytes are more than the limit, and the source was read no further than that
+pub record IsTooMany (words : List (List ℕ)) (before after : World) : Type 0 where
+  pub refused : IsRefused words before.source.bytes too_many_bytes
+  pub taken : TakesTooMany (is_reading refused.setting.command) before.source.bytes after.source.bytes
+
+pub record IsDone (words : List (List ℕ)) (before after : World) : Type 0 where
+  pub job : Job
+  pub prepared : IsPrepared words before.source after.source job
+  pub written : WritesText job.setting.command true job before after
+  pub saved : SavesWhere (saves job.setting) ⊤ job before after
+
+pub record IsReadFault (words : List (List ℕ)) (before after : World) : Type 0 where
+  pub setting : Setting
+  pub words_are : setting_of words ≡ Ok setting
+  pub reading : IsTrue (is_reading setting.command)
+  pub rose : Rose before.source.faults after.source.faults
+
+pub record IsWriteFault (words : List (List ℕ)) (before after : World) : Type 0 where
+  pub job : Job
+  pub prepared : IsPrepared words before.source after.source job
+  pub written : WritesText job.setting.command false job before after
+  pub saved : SavesWhere (saves job.setting) (NoSaveFailed before after) job before after
+  pub rose : Rose before.out.faults after.out.faults
+
+pub record IsLoadFault (words : List (List ℕ)) (before after : World) : Type 0 where
+  pub job : Job
+  pub prepared : IsPrepared words before.source after.source job
+  pub loading : IsTrue (loads job.setting)
+  pub rose : Rose before.keeper.load_faults after.keeper.load_faults
+
+pub record IsStopped (words : List (List ℕ)) (before after : World) (done all : ℕ) : Type 0 where
+  pub job : Job
+  pub prepared : IsPrepared words before.source after.source job
+  pub saving : IsTrue (saves job.setting)
+  pub stopped : StopsEarly job before after
+  pub done_is : done ≡ length stopped.outcomes + job.setting.budget
+  pub all_is : all ≡ total job
+  pub saved : SavesAll ⊤ job before after
+
+-- resuming was asked, and the slots that were seen do not say how a run may start, and are so for the job
+pub record IsSlotsFault (words : List (List ℕ)) (before after : World) (found : Job → Pair → Type 0) : Type 0 where
+  pub job : Job
+  pub prepared : IsPrepared words before.source after.source job
+  pub resuming : IsTrue (is_walking job.setting.command && job.setting.resume)
+  pub seen : Saw before.keeper.slots (λ p. (opening_from job.setting.resume job p ≡ None) × found job p)
+
+-- both slots as they are, of which none is intact
+pub record AreDamaged (zero one : Slot) (job : Job) (p : Pair) : Type 0 where
+  pub zero_is : slot_of job (job_digest job) p.zero_slot ≡ zero
+  pub one_is : slot_of job (job_digest job) p.one_slot ≡ one
+  pub no_newest : newest zero one ≡ None
+
+-- the newest slot is another job's
+pub record IsOtherJob (found wanted : List ℕ) (job : Job) (p : Pair) : Type 0 where
+  pub wanted_is : wanted ≡ job_digest job
+  pub generation : ℕ
+  pub number : ℕ
+  pub newest_is : newest (slot_of job (job_digest job) p.zero_slot) (slot_of job (job_digest job) p.one_slot) ≡ Some number
+  pub found_is : slot_at (slot_of job (job_digest job) p.zero_slot) (slot_of job (job_digest job) p.one_slot) number ≡ other found generation
+
+-- a save failed; all else is done as without it
+abbrev pub WritesOrStops : Bool → Job → World → World → Type 0
+WritesOrStops true job before after = WritesReport true job before after
+WritesOrStops false job before after = StopsEarly job before after
+
+pub record IsSaveFault (words : List (List ℕ)) (before after : World) : Type 0 where
+  pub job : Job
+  pub prepared : IsPrepared words before.source after.source job
+  pub saving : IsTrue (saves job.setting)
+  pub whole : Bool
+  pub written : WritesOrStops whole job before after
+  pub outcomes : List Outcome
+  pub opened : IsOpening job before.keeper.slots outcomes
+  pub kept : IfBothTold before.keeper.slots after.keeper.slots (KeepsASlot job outcomes)
+  pub tried : TriesTold job outcomes before.keeper after.keeper
+  pub rose : Rose before.keeper.save_faults after.keeper.save_faults
+
+-- why a call ended
+abbrev pub Cause : List (List ℕ) → World → World → Option Ending → Type 0
+Cause words before after None = IsDone words before after
+Cause words before after (Some (bad_words f)) = setting_of words ≡ Err f
+Cause words before after (Some too_many_bytes) = IsTooMany words before after
+Cause words before after (Some (bad_graph f)) = IsRefused words before.source.bytes (bad_graph f)
+Cause words before after (Some (bad_regions column f)) = IsRefused words before.source.bytes (bad_regions column f)
+Cause words before after (Some (bad_table f)) = ⊥
+Cause words before after (Some (bad_plan f)) = IsRefused words before.source.bytes (bad_plan f)
+Cause words before after (Some (bad_plan_named name f)) = ⊥
+Cause words before after (Some no_memory) = ⊤
+Cause words before after (Some read_fault) = IsReadFault words before after
+Cause words before after (Some write_fault) = IsWriteFault words before after
+Cause words before after (Some load_fault) = IsLoadFault words before after
+Cause words before after (Some (stopped done all)) = IsStopped words before after done all
+Cause words before after (Some (damaged first second)) = IsSlotsFault words before after (AreDamaged first second)
+Cause words before after (Some (other_job found wanted)) = IsSlotsFault words before after (IsOtherJob found wanted)
+Cause words before after (Some save_fault) = IsSaveFault words before after
+
+-- ---- what is left as it was
+
+-- the value is as before, unless the test passed
+abbrev pub SameUnless : {A : Type 0} → Bool → A → A → Type 0
+SameUnless true before after = ⊤
+SameUnless false before after = after ≡ before
+
+-- which endings may have written, saved, and seen which call fail
+pub record EndingMarks : Type 0 where
+  pub wrote : Bool
+  pub saved : Bool
+  pub read_failed : Bool
+  pub write_failed : Bool
+  pub load_failed : Bool
+  pub save_failed : Bool
+
+abbrev pub no_marks : EndingMarks
+no_marks = record { wrote = false; saved = false; read_failed = false; write_failed = false; load_failed = false; save_failed = false }
+
+abbrev pub marks_of : Option Ending → EndingMarks
+marks_of None = record no_marks { wrote = true; saved = true }
+marks_of (Some (bad_words f)) = no_marks
+marks_of (Some too_many_bytes) = no_marks
+marks_of (Some (bad_graph f)) = no_marks
+marks_of (Some (bad_regions column f)) = no_marks
+marks_of (Some (bad_table f)) = no_marks
+marks_of (Some (bad_plan f)) = no_marks
+marks_of (Some (bad_plan_named name f)) = no_marks
+marks_of (Some no_memory) = no_marks
+marks_of (Some read_fault) = record no_marks { read_failed = true }
+marks_of (Some write_fault) = record no_marks { wrote = true; saved = true; write_failed = true; save_failed = true }
+marks_of (Some load_fault) = record no_marks { load_failed = true }
+marks_of (Some (stopped done all)) = record no_marks { saved = true }
+marks_of (Some (damaged first second)) = no_marks
+marks_of (Some (other_job found wanted)) = no_marks
+marks_of (Some save_fault) = record no_marks { wrote = true; saved = true; save_failed = true }
+
+-- the source is touched only where it is read, the slots only where the run saves, and only then is a save tried, `out` only where a text was to be written;
+-- and no failed call is passed over: each count is as before, but that of the call whose fault is told, or of a save before a write fault
+pub record LeavesUntouched (words : List (List ℕ)) (before after : World) (marks : EndingMarks) : Type 0 where
+  pub source : SameUnless (passes (λ s. is_reading s.command) (setting_of words)) before.source after.source
+  pub out : SameUnless marks.wrote before.out.bytes after.out.bytes
+  pub slots : SameUnless (marks.saved && passes saves (setting_of words)) before.keeper.slots after.keeper.slots
+  pub tried : SameUnless (marks.saved && passes saves (setting_of words)) before.keeper.tried after.keeper.tried
+  pub read_faults : SameUnless marks.read_failed before.source.faults after.source.faults
+  pub write_faults : SameUnless marks.write_failed before.out.faults after.out.faults
+  pub load_faults : SameUnless marks.load_failed before.keeper.load_faults after.keeper.load_faults
+  pub save_faults : SameUnless (marks.save_failed && passes saves (setting_of words)) before.keeper.save_faults after.keeper.save_faults
+
+-- ---- the note
+
+-- the line was added whole, or in part where the note's count rose
+pub record AddsLine (before after : Stream) (line : List ℕ) : Type 0 where
+  pub added : (Appends before.bytes after.bytes line × (after.faults ≡ before.faults))
+      ⊎ (AppendsPart before.bytes after.bytes line × Rose before.faults after.faults)
+
+abbrev pub TellsWhy : Columns → Stream → Stream → Option Ending → Type 0
+TellsWhy columns before after None = after ≡ before
+TellsWhy columns before after (Some ending) = AddsLine before after (note columns ending)
+
+-- ---- the whole
+
+-- there is a reason: the status says it, it has its cause, it leaves untouched what it is to, and the note tells it
+pub record EndsFor (words : List (List ℕ)) (before after : World) (note_before note_after : Stream) (status : ℕ) : Type 0 where
+  pub reason : Option Ending
+  pub status_is : status ≡ status_of reason
+  pub cause : Cause words before after reason
+  pub untouched : LeavesUntouched words before after (marks_of reason)
+  pub told : TellsWhy (columns_of words) note_before note_after reason

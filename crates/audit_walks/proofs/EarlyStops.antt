@@ -1,0 +1,228 @@
+-- Runs whose tests stop early: what they find, and what the report on them is on.
+use Rattle.std.proofs.Common.{◌≡◌, ◌∙◌, ℕ, zero, suc, ◌+◌, ◌<◌, ◌≤◌, ◌||◌, inl, inr, min, Bool, true, false, cond, List, [], ◌∷◌, ◌++◌, length, map, take, get_or, Option, refl, sym, ap, subst, append-nil, AllPairs, arith}
+use Rattle.std.specs.Prelude.{IsPermutation, codes, decimal, filter, flat_map, nat_lt, replicate, slice_index, sum_by}
+use Rattle.std.proofs.Math.Path.{fun_ext}
+use Rattle.std.proofs.lemmas.Bool.{cases_lt, le-ltb, lt-ltb}
+use Rattle.std.proofs.lemmas.List.{get_or_default, get_or-take, length-take, map-append, take-append-le, take_all}
+use Rattle.std.proofs.lemmas.List.Elements.{filter-append}
+use Rattle.std.proofs.lemmas.List.Sorted.{IsPermutation-refl}
+use Rattle.std.proofs.lemmas.List.Sums.{sum_by-append}
+use Rattle.audit_model.specs.declared.outcome.Outcome.{Outcome}
+use Rattle.audit_model.specs.Below.{filter_below, map_below}
+use Rattle.audit_model.specs.Graph.{has}
+use Rattle.audit_model.specs.Job.{Job}
+use Rattle.audit_model.specs.Run.{fits, full, has_id, run_ids, total}
+use Rattle.audit_model.specs.Stopping.{placed_asks}
+use Rattle.audit_model.specs.Trajectory.{Draws, outcome, outcome_by, sequence, tally}
+use Rattle.claim_crew.specs.Walks.{found}
+use Rattle.draw_definitions.specs.Draw.{draw}
+use Rattle.hex.specs.Hex.{encode_lower}
+use Rattle.model_laws.proofs.Fitting as fitting
+use Rattle.model_laws.proofs.Resumed.{full_is_sequence}
+use Rattle.model_laws.proofs.Below.{length-map_below, get_or-map_below}
+use Rattle.report.specs.Outcomes.{AreOutcomesOf, AreStopsBy, AreStopsOf, IsStop, reported_by}
+use Rattle.stopping_crew.specs.Rounds.{AreParts, StopsInTime, ends_after, found_below}
+use Rattle.text_definitions.specs.Report.{graph_line, line, population_line, report, rule_lines, serial_lines, setting_line, shift_line, stop_line, test_lines, title_line, walk_line, walk_lines}
+use Rattle.audit_steps.specs.Runs.{AreAll, IsRunJob}
+use Rattle.audit_steps.proofs.Starting.{every_id, none_right, none_fit}
+use Rattle.audit_steps.proofs.Running.{are_all, fit_list, leaves_none, run_setting}
+
+-- ---- lists by place
+
+map-below : {A B : Type 0} (n : ℕ) (g : A → B) (f : ℕ → A) → map g (map_below n f) ≡ map_below n (λ k. g (f k))
+map-below zero g f = refl
+map-below (suc n) g f = map-append g (map_below n f) (f n ∷ []) ∙ ap (λ xs. xs ++ g (f n) ∷ []) (map-below n g f)
+
+-- the first of what a function gives
+take-below : {A : Type 0} (w n : ℕ) (f : ℕ → A) → take w (map_below (w + n) f) ≡ map_below w f
+take-below w zero f =
+    ap (λ k. take w (map_below k f)) (let e : w + zero ≡ w = omega arith in e)
+    ∙ take_all w (map_below w f) (omega (arith, length-map_below w f))
+take-below w (suc n) f =
+    ap (λ k. take w (map_below k f)) (let e : w + suc n ≡ suc (w + n) = omega arith in e)
+    ∙ take-append-le w (map_below (w + n) f) (f (w + n) ∷ []) (omega (arith, length-map_below (w + n) f))
+    ∙ take-below w n f
+
+-- ---- what ends add to a report whose tests stop early: nothing
+
+-- no bin of an end counts
+zeros : (n bin : ℕ) → get_or {A = ℕ} (replicate n 0) bin 0 ≡ 0
+zeros zero bin = refl
+zeros (suc n) zero = refl
+zeros (suc n) (suc bin) = zeros n bin
+
+module _ (job : Job) (draws : Draws) where
+  abbrev f : ℕ → Outcome
+  f = outcome job draws
+
+  same_id : (id : ℕ) → (f id).id ≡ id
+  same_id id = fitting.found_id job draws job.setting.shift id
+
+  kept_walks : (n : ℕ) → filter (λ o. nat_lt o.id job.setting.walks) (map_below n f) ≡ map_below (min n job.setting.walks) f
+  kept_walks zero = ap (λ k. map_below k f) (let e : zero ≡ min zero job.setting.walks = omega arith in e)
+  kept_walks (suc n) =
+      filter-append (λ (o : Outcome). nat_lt o.id job.setting.walks) (map_below n f) (f n ∷ [])
+      ∙ ap (λ xs. xs ++ filter (λ o. nat_lt o.id job.setting.walks) (f n ∷ [])) (kept_walks n)
+      ∙ elim (cases_lt n job.setting.walks) [
+        | inl l ↦
+            ap (λ b. map_below (min n job.setting.walks) f ++ cond b (f n ∷ []) []) (lt-ltb (f n).id job.setting.walks (omega (arith, same_id n, l)))
+            ∙ ap (λ k. map_below k f ++ f n ∷ []) (let e : min n job.setting.walks ≡ n = omega (arith, l) in e)
+            ∙ ap (λ k. map_below k f) (let e : suc n ≡ min (suc n) job.setting.walks = omega (arith, l) in e)
+        | inr past ↦
+            ap (λ b. map_below (min n job.setting.walks) f ++ cond b (f n ∷ []) []) (le-ltb (f n).id job.setting.walks (omega (arith, same_id n, past)))
+            ∙ append-nil (map_below (min n job.setting.walks) f)
+            ∙ ap (λ k. map_below k f) (let e : min n job.setting.walks ≡ min (suc n) job.setting.walks = omega (arith, past) in e)
+      ]
+
+  walks_kept : (n : ℕ) → job.setting.walks ≤ n → filter (λ o. nat_lt o.id job.setting.walks) (map_below n f) ≡ map_below job.setting.walks f
+  walks_kept n enough = kept_walks n ∙ ap (λ k. map_below k f) (let e : min n job.setting.walks ≡ job.setting.walks = omega (arith, enough) in e)
+
+  no_bins_of_ends : (id bin : ℕ) → job.setting.walks ≤ id → slice_index (f id).bins bin ≡ 0
+  no_bins_of_ends id bin past = ap (λ b. slice_index (outcome_by b job.setting.shift job draws id).bins bin) (le-ltb id job.setting.walks past) ∙ zeros 9 bin
+
+  bin_of_walks : (bin n : ℕ) → sum_by (λ o. slice_index o.bins bin) (map_below (job.setting.walks + n) f) ≡ sum_by (λ o. slice_index o.bins bin) (map_below job.setting.walks f)
+  bin_of_walks bin zero = ap (λ k. sum_by (λ o. slice_index o.bins bin) (map_below k f)) (let e : job.setting.walks + zero ≡ job.setting.walks = omega arith in e)
+  bin_of_walks bin (suc n) =
+      ap (λ k. sum_by (λ o. slice_index o.bins bin) (map_below k f)) (let e : job.setting.walks + suc n ≡ suc (job.setting.walks + n) = omega arith in e)
+      ∙ sum_by-append (λ (o : Outcome). slice_index o.bins bin) (map_below (job.setting.walks + n) f) (f (job.setting.walks + n) ∷ [])
+      ∙ (let none = no_bins_of_ends (job.setting.walks + n) bin (omega arith) in
+      let before = bin_of_walks bin n in
+      omega (arith, none, before))
+
+  tally_of_walks : (n : ℕ) → tally (map_below (job.setting.walks + n) f) ≡ tally (map_below job.setting.walks f)
+  tally_of_walks n = ap (λ (g : ℕ → ℕ). map_below 9 g) (fun_ext (λ bin. bin_of_walks bin n))
+
+  shift_of_walks : (b : Bool) (n : ℕ) → shift_line b (map_below (job.setting.walks + n) f) ≡ shift_line b (map_below job.setting.walks f)
+  shift_of_walks true n = ap (λ (counts : List ℕ). line (codes "shift" ∷ map decimal counts)) (tally_of_walks n)
+  shift_of_walks false n = refl
+
+  tests_alike : (h : ℕ) → 1 ≤ h → (os ps : List Outcome) (stops : List (List ℕ)) → test_lines h job os stops ≡ test_lines h job ps stops
+  tests_alike zero some os ps stops = absurd (omega (arith, some))
+  tests_alike (suc h) some os ps stops = refl
+
+  -- the report is the same whether it is on the outlier trajectories alone or on the ends too
+  pub walks_tell_all : 1 ≤ job.setting.stop → (stops : List (List ℕ)) (serial : Option (ℕ × List ℕ))
+      → report job (map_below job.setting.walks f) stops serial ≡ report job (sequence job draws) stops serial
+  unfolding report sequence
+  walks_tell_all some stops serial =
+      ap (λ (walks : List ℕ). with_lines walks (shift_line job.setting.shift alone) (test_lines job.setting.stop job alone stops))
+      (ap (λ (os : List Outcome). flat_map (λ found. flat_map (walk_line job found) (placed_asks job)) os) (walks_kept job.setting.walks (omega arith) ∙ sym (walks_kept (job.setting.walks + job.setting.ends) (omega arith))))
+      ∙ ap (λ (shift : List ℕ). with_lines (walk_lines job all) shift (test_lines job.setting.stop job alone stops)) (sym (shift_of_walks job.setting.shift job.setting.ends))
+      ∙ ap (λ (tests : List ℕ). with_lines (walk_lines job all) (shift_line job.setting.shift all) tests) (tests_alike job.setting.stop some alone all stops)
+    where
+      alone : List Outcome
+      alone = map_below job.setting.walks f
+
+      all : List Outcome
+      all = map_below (job.setting.walks + job.setting.ends) f
+
+      with_lines : List ℕ → List ℕ → List ℕ → List ℕ
+      with_lines walks shift tests =
+          title_line job.setting.shift
+          ++ line (codes "key" ∷ encode_lower job.setting.key ∷ [])
+          ++ graph_line job
+          ++ population_line job
+          ++ rule_lines job
+          ++ setting_line job
+          ++ stop_line job.setting.stop
+          ++ walks
+          ++ shift
+          ++ tests
+          ++ serial_lines job serial
+          ++ line (codes "end" ∷ [])
+
+-- ---- all that one thread finds
+
+all_below-filter : (n : ℕ) → filter_below n (λ id. true) ≡ map_below n (λ id. id)
+all_below-filter zero = refl
+all_below-filter (suc n) = ap (λ xs. xs ++ n ∷ []) (all_below-filter n)
+
+-- with nothing to start with and a budget for all, every id is walked
+pub all_ids_walked : (job : Job) → total job ≤ job.setting.budget → run_ids job [] job.setting.budget ≡ map_below (total job) (λ id. id)
+all_ids_walked job enough =
+    ap (take job.setting.budget) (all_below-filter (total job))
+    ∙ take_all job.setting.budget (map_below (total job) (λ id. id)) (omega (arith, length-map_below (total job) (λ id. id), enough))
+
+module _ (job : Job) (run : IsRunJob job) (some : 1 ≤ job.setting.stop) where
+  pub covered : total job ≤ job.setting.budget
+  covered = run.covered (run.alone some).no_saves
+
+  found_by_one : map (found job) (map_below (total job) (λ id. id)) ≡ sequence job (draw job.setting.key)
+  unfolding found sequence
+  found_by_one = map-below (total job) (found job) (λ id. id)
+
+  one_rises : AllPairs (λ a b. a.id < b.id) (sequence job (draw job.setting.key))
+  unfolding sequence
+  one_rises i j d before inside =
+      let long = length-map_below (total job) (outcome job (draw job.setting.key)) in
+      let first = ap (λ (o : Outcome). o.id) (get_or-map_below (total job) (outcome job (draw job.setting.key)) i d (omega (arith, before, inside, long))) in
+      let second = ap (λ (o : Outcome). o.id) (get_or-map_below (total job) (outcome job (draw job.setting.key)) j d (omega (arith, inside, long))) in
+      omega (arith, first, second, same_id job (draw job.setting.key) i, same_id job (draw job.setting.key) j, before)
+
+  one_is_full : (budget : ℕ) → map_below (total job) (λ id. id) ≡ run_ids job [] budget → sequence job (draw job.setting.key) ≡ full job (draw job.setting.key) [] budget
+  one_is_full budget ids = sym (full_is_sequence job (draw job.setting.key) [] (none_right job (draw job.setting.key)) budget (λ id inside.
+      subst (λ (xs : List ℕ). (has_id [] id || has xs id) ≡ true) (all_ids_walked job covered ∙ ids)
+      (every_id job [] (leaves_none job [] covered) id inside)))
+
+  -- what one thread finds are all outcomes of a run that starts with none
+  pub one_finds_all : AreAll job [] (sequence job (draw job.setting.key))
+  one_finds_all =
+      are_all job run [] [] (map_below (total job) (λ id. id)) (sequence job (draw job.setting.key)) refl (none_fit job)
+      (sym (all_ids_walked job covered))
+      (λ k d inside. let long = length-map_below (total job) (λ id. id) in let at = get_or-map_below (total job) (λ id. id) k d (omega (arith, inside, long)) in omega (arith, inside, long, at))
+      one_is_full
+      (subst (λ (os : List Outcome). IsPermutation (sequence job (draw job.setting.key)) os) (sym found_by_one) (IsPermutation-refl (sequence job (draw job.setting.key))))
+      one_rises
+
+  pub one_is_whole : total job ≤ length (sequence job (draw job.setting.key))
+  unfolding sequence
+  one_is_whole = omega (arith, length-map_below (total job) (outcome job (draw job.setting.key)))
+
+  -- ---- what the report is on
+
+  reports_walks : reported_by job.setting.stop job ≡ job.setting.walks
+  reports_walks = by job.setting.stop some
+    where
+      by : (h : ℕ) → 1 ≤ h → reported_by h job ≡ job.setting.walks
+      by zero few = absurd (omega (arith, few))
+      by (suc h) few = refl
+
+  -- the outlier trajectories are what the report is on
+  pub walks_fit : (outcomes : List Outcome) → outcomes ≡ map_below job.setting.walks (outcome job (draw job.setting.key)) → AreOutcomesOf job outcomes
+  walks_fit outcomes is = subst (AreOutcomesOf job) (sym is) (record {
+    ids = map-below job.setting.walks (λ (o : Outcome). o.id) (outcome job (draw job.setting.key))
+        ∙ ap (λ (g : ℕ → ℕ). map_below job.setting.walks g) (fun_ext (same_id job (draw job.setting.key)))
+        ∙ ap (λ (n : ℕ). map_below n (λ id. id)) (sym reports_walks);
+    fitting = fit_list job (map_below job.setting.walks (outcome job (draw job.setting.key))) (λ k d inside.
+        let long = length-map_below job.setting.walks (outcome job (draw job.setting.key)) in
+        subst (λ (o : Outcome). fits job o ≡ true) (sym (get_or-map_below job.setting.walks (outcome job (draw job.setting.key)) k d (omega (arith, inside, long))))
+        (fitting.found_fits job (draw job.setting.key) job.setting.shift (run_setting job run).few_asks k (omega (arith, inside, long))));
+  })
+
+  -- the stops are such as a report tells
+  pub stops_told : (stops : List (List ℕ)) → length job.setting.asks ≤ length stops → AreParts job.setting.ends (length job.setting.asks) stops
+      → AreStopsOf job (take (length job.setting.asks) stops)
+  stops_told stops enough parts = by job.setting.stop some
+    where
+      by : (h : ℕ) → 1 ≤ h → AreStopsBy h job (take (length job.setting.asks) stops)
+      by zero few = absurd (omega (arith, few))
+      by (suc h) few = record {
+        count = omega (arith, length-take (length job.setting.asks) stops, enough);
+        each = λ k d inside.
+            let within : k < length job.setting.asks = omega (arith, inside, length-take (length job.setting.asks) stops) in
+            let p = parts k within in
+            subst (IsStop job.setting.ends)
+            (sym (get_or-take (length job.setting.asks) stops k d within ∙ get_or_default stops k d [] (omega (arith, within, enough))))
+            (record { place = p.place; some = p.some; part = p.part; of = p.of });
+      }
+
+  -- the first of what was found are the outlier trajectories
+  pub walks_first : (outcomes : List Outcome) → StopsInTime job outcomes
+      → (job.setting.walks ≤ length outcomes) × (take job.setting.walks outcomes ≡ map_below job.setting.walks (outcome job (draw job.setting.key)))
+  unfolding found_below
+  walks_first outcomes time =
+      let count : ℕ = job.setting.walks + ends_after job.setting.ends time.rounds in
+      let long = length-map_below count (outcome job (draw job.setting.key)) in (
+        omega (arith, ap length time.found_are, long),
+        ap (take job.setting.walks) time.found_are ∙ take-below job.setting.walks (ends_after job.setting.ends time.rounds) (outcome job (draw job.setting.key)),
+      )

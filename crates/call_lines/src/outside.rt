@@ -1,0 +1,70 @@
+//! The outside that never fails, and slots in real files.
+
+ghost use Rattle.std.specs.Prelude.{◌<◌, length};
+
+use audit_io::file_keeper::FileKeeper;
+use audit_io::keeper::Keeper;
+use audit_io::sink::Sink;
+use audit_io::source::Source;
+use audit_io::sure::{SureSink, SureSource};
+use audit_model::buffers::Bytes;
+use std::alloc::Global;
+use std::io;
+
+// Reads three bytes.
+fn read_three(alloc: Global, room: &mut [u8]) -> usize
+    requires { 0 < length room.old }
+{
+    let mut text = Bytes::new(alloc);
+    if text.append(b"abc").is_err() {
+        return 0;
+    }
+    SureSource::new(text).read(room).unwrap_or(0)
+}
+
+// Reads three bytes with room for four, and writes them.
+fn show_sure(rt: &HostRuntime) -> io::Result<()> {
+    let mut room = [0; 4];
+    let read = read_three(rt.alloc(), &mut room);
+    let written = SureSink::new().write(&room).unwrap_or(0);
+    println!(rt; "source {read} sink {written}")
+}
+
+// Shows what is loaded from a slot.
+fn show_slot<C: Keeper>(
+    rt: &HostRuntime,
+    keeper: &mut C,
+    slot: u8,
+    room: &mut Bytes,
+) -> io::Result<()>
+    requires { slot < 2 }
+{
+    match keeper.load(slot, 9000, room) {
+        Ok(true) => println!(rt; "slot {slot} {} bytes", room.len()),
+        Ok(false) => println!(rt; "slot {slot} absent"),
+        Err(_) => println!(rt; "slot {slot} not loaded"),
+    }
+}
+
+// Saves in both slots, and in the first once more.
+fn show_saves<C: Keeper>(rt: &HostRuntime, keeper: &mut C) -> io::Result<()> {
+    let saved = keeper.save(1, &[7; 9000]).is_ok() && keeper.save(0, b"longer").is_ok();
+    let again = keeper.save(0, b"first").is_ok();
+    println!(rt; "saved {saved} {again}")
+}
+
+// Saves in both slots, of which the first is shown before, too.
+fn show_keeper<C: Keeper>(rt: &HostRuntime, keeper: &mut C, room: &mut Bytes) -> io::Result<()> {
+    show_slot(rt, keeper, 0, room)?;
+    show_saves(rt, keeper)?;
+    show_slot(rt, keeper, 0, room)?;
+    show_slot(rt, keeper, 1, room)
+}
+
+/// Shows what a source and a sink that never fail answer, and saves in both slots of the folder, of which the first is shown before, too.
+pub fn show_outside(rt: &HostRuntime) -> io::Result<()> {
+    show_sure(rt)?;
+    let mut keeper = FileKeeper::new(rt);
+    let mut room = Bytes::new(rt.alloc());
+    show_keeper(rt, &mut keeper, &mut room)
+}

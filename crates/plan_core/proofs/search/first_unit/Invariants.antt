@@ -1,7 +1,0 @@
-use Rattle.std.proofs.Common.{◌≡◌, None}
-use Rattle.audit_model.specs.First.{first_below}
-use Rattle.audit_model.specs.Plan.{in_district}
-use Rattle.plan_core.proofs.search.first_unit.Given as goal
-
-abbrev pub invariant-loop-unit : goal.invariant-loop-unit
-invariant-loop-unit l = first_below l.unit (in_district l.plan l.district) ≡ None
