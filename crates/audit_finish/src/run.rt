@@ -173,7 +173,7 @@ fn finish_split<R: Threads + Wait + Sync, K: Sink, C: Keeper + Send, G: Gate + S
     }
 }
 
-/// Looks with what the run starts, takes all its memory, walks as many trajectories as the budget allows, saves now and then and at the end where
+/// Looks with what the run starts, takes all its memory, walks as many trajectories of its part as the budget allows, saves now and then and at the end where
 /// the setting asks for it, and writes the report where all are done.
 pub fn finish_run<R: Threads + Wait + Sync, K: Sink, C: Keeper + Send, G: Gate + Sync>(
     rt: &R,

@@ -1,12 +1,13 @@
 //! A keeper over two files.
 
-ghost use Rattle.std.specs.Prelude.{◌≡◌, ◌⊎◌, ◌↔◌, ◌<◌, false, true, [], None, Ok, IsOk, IfOk, OnOk, IsErrAnd};
+ghost use Rattle.std.specs.Prelude.{◌≡◌, ◌⊎◌, ◌↔◌, ◌<◌, false, true, [], None, Ok, Err, IsOk, IfOk, OnOk, IsErrAnd};
 ghost use Rattle.std.specs.IoError.{error_kind};
 ghost use Rattle.std.specs.Io.KnownBytes.{Appends};
 ghost use Rattle.audit_io.specs.Files.{ReadsWithin, LoadsFile, file_name};
 ghost use Rattle.audit_io.specs.Slots.{LoadsWithin};
 
 use crate::again::read_again;
+use crate::folder_lock::{Taken, lock_folder};
 use crate::keeper::{Keeper, LoadError};
 use crate::source::Failed;
 use audit_model::buffers::Bytes;
@@ -23,15 +24,28 @@ const PIECE: usize = 4096;
 /// A save answers `Ok` only after the system has answered that the file's bytes and its length are stored and, since the last file was made
 /// anew, that the folder is. It is trusted that the file system keeps what it has stored, gives it back, and leaves the other file alone: this keeper
 /// tells nothing of what its slots hold.
+///
+/// Its first call takes the lock of the working folder, where the system has such locks, and holds it as long as the keeper lives. Where another
+/// keeper holds it the call fails, and touches no file.
 #[derive(Drop)]
-pub struct FileKeeper<R: Files + Drop> {
+pub struct FileKeeper<R: Files<File = File> + Drop> {
     files: R,
+    folder: Folder,
     settled: bool,
     load_faults: u64,
     save_faults: u64,
 }
 
-impl<R: Files + Drop> FileKeeper<R> {
+/// Whether the working folder is the keeper's own.
+#[derive(Drop)]
+enum Folder {
+    /// No call has taken it.
+    Untaken,
+    /// The opened folder holds the lock, where the system has such locks.
+    Own(Option<File>),
+}
+
+impl<R: Files<File = File> + Drop> FileKeeper<R> {
     /// A keeper over the files that this part of the runtime opens, of which no call has failed. It tells nothing.
     pub fn new(files: R) -> FileKeeper<R>
         ensures slots { (⟦<FileKeeper<R> as Keeper>⟧.state result).slots ≡ None }
@@ -41,6 +55,7 @@ impl<R: Files + Drop> FileKeeper<R> {
     {
         FileKeeper {
             files,
+            folder: Folder::Untaken,
             settled: false,
             load_faults: 0,
             save_faults: 0,
@@ -48,13 +63,16 @@ impl<R: Files + Drop> FileKeeper<R> {
     }
 }
 
-impl<R: Files + Drop> Keeper for FileKeeper<R> {
+impl<R: Files<File = File> + Drop> Keeper for FileKeeper<R> {
     ghost state = { λ k. record { slots = None; tried = None; load_faults = k.load_faults; save_faults = k.save_faults } };
 
-    /// A slot is absent exactly where opening its file answers that there is none; a file that was read is there, whatever its length. Want of
-    /// memory, the system's too, is `Memory`.
+    /// Where another keeper holds the folder, the answer is `Failed`. Else a slot is absent exactly where opening its file answers that there is
+    /// none; a file that was read is there, whatever its length. Want of memory, the system's too, is `Memory`.
     fn load(&mut self, slot: u8, limit: u64, room: &mut Bytes) -> Result<bool, LoadError> {
-        let loaded = load_opened(fs::open(&self.files, name_of(slot)), limit, room);
+        let loaded = match take_folder(&self.files, &mut self.folder) {
+            Ok(()) => load_opened(fs::open(&self.files, name_of(slot)), limit, room),
+            Err(Taken) => refuse(room),
+        };
         if loaded == Err(LoadError::Failed) {
             self.load_faults = self.load_faults.saturating_add(1);
         }
@@ -63,14 +81,36 @@ impl<R: Files + Drop> Keeper for FileKeeper<R> {
 
     /// Makes the file where there is none, and touches no other. Want of memory is `Failed`.
     fn save(&mut self, slot: u8, bytes: &[u8]) -> Result<(), Failed> {
-        match save_file(&self.files, name_of(slot), bytes, &mut self.settled) {
-            Ok(()) => Ok(()),
-            Err(_) => {
-                self.save_faults = self.save_faults.saturating_add(1);
-                Err(Failed)
-            }
+        let saved = match take_folder(&self.files, &mut self.folder) {
+            Ok(()) => save_file(&self.files, name_of(slot), bytes, &mut self.settled).is_ok(),
+            Err(Taken) => false,
+        };
+        if saved {
+            return Ok(());
+        }
+        self.save_faults = self.save_faults.saturating_add(1);
+        Err(Failed)
+    }
+}
+
+// Takes the working folder, unless it is the keeper's already.
+fn take_folder<R: Files<File = File>>(files: &R, folder: &mut Folder) -> Result<(), Taken> {
+    match folder {
+        Folder::Own(_) => Ok(()),
+        Folder::Untaken => {
+            *folder = Folder::Own(lock_folder(files, ".")?);
+            Ok(())
         }
     }
+}
+
+// What a load answers where another keeper holds the folder.
+fn refuse(room: &mut Bytes) -> Result<bool, LoadError>
+    ensures room { room.new.items ≡ [] }
+    ensures failed { result ≡ Err LoadError.Failed }
+{
+    room.clear();
+    Err(LoadError::Failed)
 }
 
 // The file of a slot.
@@ -120,8 +160,8 @@ fn read_within<T: Read>(from: &mut T, limit: u64, room: &mut Bytes) -> Result<()
     Err(LoadError::Long(limit))
 }
 
-// What a load answers over what opening the file answered. Absent exactly where there is no such file; a file that was read is there.
-fn load_opened<F: Read + Drop>(
+/// What a load answers over what opening the file answered. Absent exactly where there is no such file; a file that was read is there.
+pub fn load_opened<F: Read + Drop>(
     opened: io::Result<F>,
     limit: u64,
     room: &mut Bytes,

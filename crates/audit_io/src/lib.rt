@@ -4,6 +4,7 @@
 mod again;
 mod copying;
 pub mod file_keeper;
+pub mod folder_lock;
 pub mod gate;
 pub mod keeper;
 pub mod mem_keeper;
@@ -19,6 +20,7 @@ pub mod sure_keeper;
 mod tries;
 
 pub use file_keeper::FileKeeper;
+pub use folder_lock::{Taken, lock_folder};
 pub use gate::{FreeGate, Gate};
 pub use keeper::{Keeper, LoadError};
 pub use mem_keeper::MemKeeper;

@@ -1,7 +1,7 @@
 -- From honest slots to the report of one thread, and to honest slots again.
-use Rattle.std.proofs.Common.{◌≡◌, ◌⊎◌, inl, inr, ℕ, zero, suc, ◌+◌, ◌-◌, ◌*◌, ◌/◌, ◌%◌, ◌^◌, ◌<◌, ◌≤◌, ◌||◌, not, Bool, true, false, cond, List, [], ◌∷◌, length, map, min, get_or, Option, Some, None, refl, sym, ap, ◌∙◌, subst, All, div-add-mod', arith}
+use Rattle.std.proofs.Common.{◌≡◌, ◌⊎◌, inl, inr, ℕ, zero, suc, ◌+◌, ◌-◌, ◌*◌, ◌/◌, ◌%◌, ◌^◌, ◌<◌, ◌≤◌, ◌||◌, ◌&&◌, not, Bool, true, false, cond, List, [], ◌∷◌, length, map, min, get_or, Option, Some, None, refl, sym, ap, ◌∙◌, subst, All, div-add-mod', arith}
 use Rattle.std.specs.Prelude.{◌==◌, find, IsTrue, ⊤}
-use Rattle.std.proofs.lemmas.Bool.{cases_order, eqb-true, ne_eqb}
+use Rattle.std.proofs.lemmas.Bool.{cases_order, eqb-true, ne_eqb, true≢false}
 use Rattle.std.proofs.lemmas.List.{append-nil, get_or-map, length-map}
 use Rattle.std.proofs.lemmas.List.Elements.{All-contains, All-map, All-nil}
 use Rattle.audit_io.specs.Faults.{Rose}
@@ -25,10 +25,12 @@ use Rattle.tally_desk.specs.InTurn.{saves_of}
 use Rattle.word_definitions.specs.Words.{setting_of}
 use Rattle.note_definitions.specs.Note.{Ending, write_fault, stopped, save_fault}
 use Rattle.audit_statement.specs.Causes.{IsTheJob}
-use Rattle.audit_statement.specs.Chain.{AreHonestOf, StaysHonest, TriedRightly, TriesOver}
+use Rattle.audit_statement.specs.Chain.{AreHonestOf, AreSavesWhere, StaysHonest, TriedRightly, TriesOver, has_walked}
+use Rattle.audit_statement.specs.Status.{status_of}
+use Rattle.audit_laws.proofs.Held.{as_many_as_due, later_hold_more}
 use Rattle.audit_io.specs.State.{Stream}
 use Rattle.audit_io.specs.Told.{IfBothTold, IfTold}
-use Rattle.audit_statement.specs.Endings.{Cause, EndsFor, IsOpening, IsOpeningOrFound, IsPartly, IsPrepared, IsTryOf, LeavesUntouched, NoSaveFailed, SameUnless, SavesAll, SavesInTurn, SavesInTurnAt, SavesWhere, TriesOf, TriesTold, count_of_saves, full_of, last_place, marks_of, StartsFrom, TellsOpening, passes, saves}
+use Rattle.audit_statement.specs.Endings.{Cause, EndsFor, IsOpening, IsOpeningOrFound, IsPartly, IsPrepared, IsTryOf, LeavesUntouched, NoSaveFailed, SameUnless, SavesAll, SavesInTurn, SavesInTurnAt, SavesWhere, TriesOf, TriesTold, count_of_saves, full_of, last_place, marks_of, StartsFrom, TellsOpening, is_walking, passes, saves}
 use Rattle.audit_statement.specs.Headline.{WritesWhole}
 use Rattle.audit_statement.specs.World.{World}
 use Rattle.audit_steps.proofs.Starting.{none_right, opening_known, opening_told}
@@ -212,36 +214,54 @@ stays_honest law honestly words before after n m status e w = record {
 
 -- ---- what it tried
 
-module _ (law : HonestSlotsOpenRight) (words : List (List ℕ)) (before after : World) (p : Pair) (was : before.keeper.slots ≡ Some p) where
+module _ (law : HonestSlotsOpenRight) (words : List (List ℕ)) (before after : World) (p : Pair) (status : ℕ) (was : before.keeper.slots ≡ Some p) where
   abbrev Tried : Job → Type 0
-  Tried job = IfBothTold before.keeper.tried after.keeper.tried (TriesOver job before after p)
+  Tried job = IfBothTold before.keeper.tried after.keeper.tried (TriesOver job before after p status)
 
   -- nothing was tried
-  tried_none : (job : Job) → after.keeper.tried ≡ before.keeper.tried → after.keeper.save_faults ≡ before.keeper.save_faults → Tried job
-  tried_none job same calm = subst (λ (x : Option (List Try)). IfBothTold before.keeper.tried x (TriesOver job before after p)) (sym same) (by before.keeper.tried)
+  tried_none : (job : Job) → (saves job.setting && has_walked status) ≡ false → after.keeper.tried ≡ before.keeper.tried → after.keeper.save_faults ≡ before.keeper.save_faults → Tried job
+  tried_none job idle same calm = subst (λ (x : Option (List Try)). IfBothTold before.keeper.tried x (TriesOver job before after p status)) (sym same) (by before.keeper.tried)
     where
-      by : (a : Option (List Try)) → IfBothTold a a (TriesOver job before after p)
+      by : (a : Option (List Try)) → IfBothTold a a (TriesOver job before after p status)
       by None = tt
       by (Some told) = record {
         tries = [];
         appended = sym (append-nil told);
+        exactly = λ outcomes opened. subst (λ (b : Bool). AreSavesWhere b job outcomes p []) (sym idle) refl;
         in_turn = tt;
         each = λ outcomes opened. All-nil (IsTryOf job outcomes);
         growing = λ i j d less inside. absurd (omega arith);
+        counted = λ outcomes opened walks all. absurd (true≢false (sym walks ∙ idle));
         covered = omega (arith, calm);
         right = λ honest. All-nil (λ (t : Try). IsRightSave job (draw job.setting.key) (job_digest job) t.bytes);
       }
 
-  over_of : (job : Job) (outcomes : List Outcome) → IsOpening job before.keeper.slots outcomes → (told now : List Try) → TriesOf job outcomes p before.keeper.save_faults after.keeper.save_faults told now → TriesOver job before after p told now
-  over_of job outcomes opened told now t = record {
+  some_every : (job : Job) → saves job.setting ≡ true → 1 ≤ job.setting.save_every
+  some_every job saving = by job.setting.save_every (is_walking job.setting.command) saving
+    where
+      by : (n : ℕ) (b : Bool) → (b && not (n == 0)) ≡ true → 1 ≤ n
+      by zero true h = absurd (true≢false (sym h))
+      by zero false h = absurd (true≢false (sym h))
+      by (suc n) b h = omega arith
+
+  over_of : (job : Job) (outcomes : List Outcome) → saves job.setting ≡ true → has_walked status ≡ true → IsOpening job before.keeper.slots outcomes → (told now : List Try) → TriesOf job outcomes p before.keeper.save_faults after.keeper.save_faults told now → TriesOver job before after p status told now
+  over_of job outcomes saving walks opened told now t = record {
     tries = t.tries;
     appended = t.appended;
+    exactly = λ others others_told.
+        let same : Some others ≡ Some outcomes = opening_known job before.keeper.slots (Some others) outcomes others_told opened in
+        let is : outcomes ≡ others = cc in
+        subst (λ (x : Bool × List Outcome). AreSavesWhere x.0 job x.1 p t.tries) (λ i. ((sym saving i) && (sym walks i), is i)) t.exact;
     in_turn = t.in_turn;
     each = λ others others_told.
         let same : Some others ≡ Some outcomes = opening_known job before.keeper.slots (Some others) outcomes others_told opened in
         let is : outcomes ≡ others = cc in
         subst (λ (os : List Outcome). All (IsTryOf job os) t.tries) is t.each;
-    growing = t.growing;
+    growing = later_hold_more job outcomes p t.tries (some_every job saving) t.exact;
+    counted = λ others others_told walking all.
+        let same : Some others ≡ Some outcomes = opening_known job before.keeper.slots (Some others) outcomes others_told opened in
+        let is : outcomes ≡ others = cc in
+        subst (λ (os : List Outcome). length t.tries ≡ count_of_saves job os) is (as_many_as_due job outcomes p t.tries (some_every job saving) t.exact all);
     covered = t.covered;
     right = λ honest. t.right (start_right law job before.keeper.slots outcomes (opening_told job before.keeper.slots p outcomes was opened) honest);
   }
@@ -251,15 +271,15 @@ module _ (law : HonestSlotsOpenRight) (words : List (List ℕ)) (before after : 
   told_map (Some x) None P Q f h = h
   told_map (Some x) (Some y) P Q f h = f x y h
 
-  tried_all_of : (job : Job) (outcomes : List Outcome) → IsOpening job before.keeper.slots outcomes → TriesTold job outcomes before.keeper after.keeper → Tried job
-  tried_all_of job outcomes opened t =
-      told_map before.keeper.tried after.keeper.tried (TriesOf job outcomes p before.keeper.save_faults after.keeper.save_faults) (TriesOver job before after p) (over_of job outcomes opened)
+  tried_all_of : (job : Job) (outcomes : List Outcome) → saves job.setting ≡ true → has_walked status ≡ true → IsOpening job before.keeper.slots outcomes → TriesTold job outcomes before.keeper after.keeper → Tried job
+  tried_all_of job outcomes saving walks opened t =
+      told_map before.keeper.tried after.keeper.tried (TriesOf job outcomes p before.keeper.save_faults after.keeper.save_faults) (TriesOver job before after p status) (over_of job outcomes saving walks opened)
       (subst (λ (s : Option Pair). IfTold s (λ x. IfBothTold before.keeper.tried after.keeper.tried (TriesOf job outcomes x before.keeper.save_faults after.keeper.save_faults))) was t)
 
-  tried_where : (b : Bool) (made : Type 0) (job : Job) → (b ≡ false → (after.keeper.tried ≡ before.keeper.tried) × (after.keeper.save_faults ≡ before.keeper.save_faults))
+  tried_where : (b : Bool) (made : Type 0) (job : Job) → saves job.setting ≡ b → has_walked status ≡ true → (b ≡ false → (after.keeper.tried ≡ before.keeper.tried) × (after.keeper.save_faults ≡ before.keeper.save_faults))
       → SavesWhere b made job before after → Tried job
-  tried_where false made job none s = tried_none job (none refl).0 (none refl).1
-  tried_where true made job none s = tried_all_of job s.outcomes s.opened s.tried
+  tried_where false made job is walks none s = tried_none job (ap (λ (b : Bool). b && has_walked status) is) (none refl).0 (none refl).1
+  tried_where true made job is walks none s = tried_all_of job s.outcomes is walks s.opened s.tried
 
   untried_where : {A : Type 0} (job : Job) (x y : A) → IsPrepared words before.source after.source job → SameUnless (passes saves (setting_of words)) x y → saves job.setting ≡ false → y ≡ x
   untried_where job x y prepared same off = by (passes saves (setting_of words)) (ap (passes saves) prepared.accepted.words_are ∙ off) same
@@ -273,14 +293,18 @@ module _ (law : HonestSlotsOpenRight) (words : List (List ℕ)) (before after : 
       → (after.keeper.tried ≡ before.keeper.tried) × (after.keeper.save_faults ≡ before.keeper.save_faults)
   untried_both job prepared same calm off = (untried_where job before.keeper.tried after.keeper.tried prepared same off, untried_where job before.keeper.save_faults after.keeper.save_faults prepared calm off)
 
-  pub tried_at : (job : Job) → IsTheJob words before job → (r : Option Ending) → Cause words before after r → LeavesUntouched words before after (marks_of r) → Tried job
-  tried_at job t None c u =
-      subst Tried (job_is words before after job c.job t c.prepared) (tried_where (saves c.job.setting) ⊤ c.job (λ off. (untried_where c.job before.keeper.tried after.keeper.tried c.prepared u.tried off, u.save_faults)) c.saved)
-  tried_at job t (Some write_fault) c u =
-      subst Tried (job_is words before after job c.job t c.prepared) (tried_where (saves c.job.setting) (NoSaveFailed before after) c.job (untried_both c.job c.prepared u.tried u.save_faults) c.saved)
-  tried_at job t (Some (stopped done all)) c u = subst Tried (job_is words before after job c.job t c.prepared) (tried_all_of c.job c.saved.outcomes c.saved.opened c.saved.tried)
-  tried_at job t (Some save_fault) c u = subst Tried (job_is words before after job c.job t c.prepared) (tried_all_of c.job c.outcomes c.opened c.tried)
-  tried_at job t r c u = tried_none job u.tried u.save_faults
+  idle_at : (b : Bool) → has_walked status ≡ false → (b && has_walked status) ≡ false
+  idle_at true is = is
+  idle_at false is = refl
 
-pub tried_rightly : HonestSlotsOpenRight → (words : List (List ℕ)) (before after : World) (n m : Stream) (status : ℕ) → EndsFor words before after n m status → TriedRightly words before after
-tried_rightly law words before after n m status e job p t was = tried_at law words before after p was job t e.reason e.cause e.untouched
+  pub tried_at : (job : Job) → IsTheJob words before job → (r : Option Ending) → status ≡ status_of r → Cause words before after r → LeavesUntouched words before after (marks_of r) → Tried job
+  tried_at job t None e c u =
+      subst Tried (job_is words before after job c.job t c.prepared) (tried_where (saves c.job.setting) ⊤ c.job refl (ap has_walked e) (λ off. (untried_where c.job before.keeper.tried after.keeper.tried c.prepared u.tried off, u.save_faults)) c.saved)
+  tried_at job t (Some write_fault) e c u =
+      subst Tried (job_is words before after job c.job t c.prepared) (tried_where (saves c.job.setting) (NoSaveFailed before after) c.job refl (ap has_walked e) (untried_both c.job c.prepared u.tried u.save_faults) c.saved)
+  tried_at job t (Some (stopped done all)) e c u = subst Tried (job_is words before after job c.job t c.prepared) (tried_all_of c.job c.saved.outcomes c.saving (ap has_walked e) c.saved.opened c.saved.tried)
+  tried_at job t (Some save_fault) e c u = subst Tried (job_is words before after job c.job t c.prepared) (tried_all_of c.job c.outcomes c.saving (ap has_walked e) c.opened c.tried)
+  tried_at job t r e c u = tried_none job (idle_at (saves job.setting) (ap has_walked e)) u.tried u.save_faults
+
+pub tried_rightly : HonestSlotsOpenRight → (words : List (List ℕ)) (before after : World) (n m : Stream) (status : ℕ) → EndsFor words before after n m status → TriedRightly words before after status
+tried_rightly law words before after n m status e job p t was = tried_at law words before after p status was job t e.reason e.status_is e.cause e.untouched

@@ -1,7 +1,11 @@
 mod Alone
 mod Causing
 mod Chained
+mod Folders
 mod Following
+mod Gathering
+mod Held
+mod Lasting
 mod OneThread
 mod Promised
 mod Reruns

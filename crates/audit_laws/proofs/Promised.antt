@@ -1,5 +1,5 @@
 -- What the words promise that ask for tests that stop early.
-use Rattle.std.proofs.Common.{◌≡◌, ℕ, ◌<◌, ◌&&◌, Bool, true, false, List, [], Option, Some, Ok, refl, sym, subst, ap, arith}
+use Rattle.std.proofs.Common.{◌≡◌, ℕ, ◌<◌, ◌&&◌, Bool, true, false, List, [], Option, Some, Ok, refl, sym, subst, arith}
 use Rattle.std.proofs.lemmas.Bool.{and_right, both_ways}
 use Rattle.audit_model.specs.declared.setting.Setting.{Setting}
 use Rattle.audit_model.specs.Job.{Job}

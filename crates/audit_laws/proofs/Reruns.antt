@@ -1,4 +1,4 @@
--- Workers, budget, saving and resuming change nothing of what a job finds; chains of its runs.
+-- How a job is run changes nothing of what it finds; chains of its runs.
 use Rattle.std.proofs.Common.{◌≡◌, ℕ, zero, suc, ◌+◌, ◌-◌, ◌*◌, ◌==◌, ◌⊎◌, inl, inr, ◌&&◌, ◌||◌, not, Bool, true, false, List, [], ◌∷◌, ◌++◌, length, map, drop, take, replicate, get_or, Option, Some, None, refl, sym, ap, ◌∙◌, subst}
 use Rattle.std.specs.Prelude.{bytes_eq, codes, int_le, nat_le, nat_lt, pos, slice_range, flat_map}
 use Rattle.std.specs.Int.{to_be_bytes, w32}
@@ -12,7 +12,6 @@ use Rattle.audit_io.specs.Faults.{Rose}
 use Rattle.audit_io.specs.Slots.{Pair, Stored}
 use Rattle.audit_io.specs.Tries.{Try}
 use Rattle.audit_model.specs.declared.outcome.Outcome.{Outcome}
-use Rattle.audit_model.specs.declared.setting.Command.{Command}
 use Rattle.audit_model.specs.declared.outcome.Serial.{Serial}
 use Rattle.audit_model.specs.declared.setting.Ask.{Ask}
 use Rattle.audit_model.specs.declared.fault.CkptFault.{CkptFault}
@@ -36,7 +35,7 @@ use Rattle.audit_statement.specs.Chain.{AreHonestOf, ResumesHonestly, TriesOver}
 use Rattle.audit_io.specs.Told.{IfBothTold, IfTold}
 use Rattle.audit_statement.specs.Endings.{WritesReport, place_of}
 use Rattle.audit_statement.specs.Headline.{StartsWith, WritesOneThreads}
-use Rattle.audit_statement.specs.Rerun.{AreAlike, ChainsWriteOneReport, Event, HasWritten, IsEvent, IsLink, IsRunOver, Link, RerunsAreAlike, StopsKeepTheNewest, WroteOneThreads, asking, job_in, ran, rerun, slots_after, stopped}
+use Rattle.audit_statement.specs.Rerun.{AreAlike, ChainsWriteOneReport, Event, HasWritten, IsEvent, IsLink, IsRunOver, Link, Manner, RerunsAreAlike, StopsKeepTheNewest, WroteOneThreads, asking, job_in, ran, rerun, slots_after, stopped}
 use Rattle.audit_steps.proofs.Starting.{opening_told}
 use Rattle.audit_laws.proofs.Chained.{rises_or_not}
 use Rattle.audit_laws.proofs.Statuses.{job_is, report_of}
@@ -110,9 +109,9 @@ fits_by steps binned job o =
     || all_below (length job.setting.asks) (λ k. int_le (pos 1) (value_at o k) && int_le (value_at o k) (pos (job.setting.steps + 1))))
     && binned
 
-module _ (job : Job) (command : Command) (workers budget save_every : ℕ) (resume shift serial : Bool) where
+module _ (job : Job) (manner : Manner) where
   abbrev again : Job
-  again = rerun job command workers budget save_every resume shift serial
+  again = rerun job manner
 
   next_same : (plan : List ℕ) (d : ℕ) → next again plan d ≡ next job plan d
   unfolding next is_legal
@@ -131,13 +130,13 @@ module _ (job : Job) (command : Command) (workers budget save_every : ℕ) (resu
   by_same true false draws id = ap (λ (v : Visits). walk_by v job draws id) visit_same
   by_same false bins draws id = ap (λ (v : Visits). end_by v job draws id) visit_same
 
-  outcome_same : shift ≡ job.setting.shift → (draws : Draws) (id : ℕ) → outcome again draws id ≡ outcome job draws id
-  outcome_same same draws id = by_same (nat_lt id job.setting.walks) shift draws id ∙ ap (λ (b : Bool). outcome_with b job draws id) same
+  outcome_same : manner.shift ≡ job.setting.shift → (draws : Draws) (id : ℕ) → outcome again draws id ≡ outcome job draws id
+  outcome_same same draws id = by_same (nat_lt id job.setting.walks) manner.shift draws id ∙ ap (λ (b : Bool). outcome_with b job draws id) same
 
   whole_same : (draws : Draws) (id : ℕ) → whole again draws id ≡ whole job draws id
   whole_same draws id = by_same (nat_lt id job.setting.walks) true draws id
 
-  sequence_same : shift ≡ job.setting.shift → (draws : Draws) → sequence again draws ≡ sequence job draws
+  sequence_same : manner.shift ≡ job.setting.shift → (draws : Draws) → sequence again draws ≡ sequence job draws
   unfolding sequence
   sequence_same same draws = ap (λ (f : ℕ → Outcome). map_below (job.setting.walks + job.setting.ends) f) (fun_ext (λ id. outcome_same same draws id))
 
@@ -171,12 +170,12 @@ module _ (job : Job) (command : Command) (workers budget save_every : ℕ) (resu
   serial_same None = refl
   serial_same (Some found) = refl
 
-  report_same : shift ≡ job.setting.shift → (outcomes : List Outcome) (stops : List (List ℕ)) (serial : Option (ℕ × List ℕ))
+  report_same : manner.shift ≡ job.setting.shift → (outcomes : List Outcome) (stops : List (List ℕ)) (serial : Option (ℕ × List ℕ))
       → report again outcomes stops serial ≡ report job outcomes stops serial
   unfolding report
   report_same same outcomes stops serial =
-      ap (λ (tests : List ℕ). with_lines shift tests (serial_lines again serial)) (tests_same job.setting.stop outcomes stops)
-      ∙ ap (λ (rest : List ℕ). with_lines shift (test_lines job.setting.stop job outcomes stops) rest) (serial_same serial)
+      ap (λ (tests : List ℕ). with_lines manner.shift tests (serial_lines again serial)) (tests_same job.setting.stop outcomes stops)
+      ∙ ap (λ (rest : List ℕ). with_lines manner.shift (test_lines job.setting.stop job outcomes stops) rest) (serial_same serial)
       ∙ ap (λ (b : Bool). with_lines b (test_lines job.setting.stop job outcomes stops) (serial_lines job serial)) same
     where
       with_lines : Bool → List ℕ → List ℕ → List ℕ
@@ -216,14 +215,14 @@ module _ (job : Job) (command : Command) (workers budget save_every : ℕ) (resu
   stops_same outcomes = stops_by_same job.setting.stop outcomes
 
   -- the whole report: with the lines of the serial test exactly where this run asks for it
-  thread_report_is : shift ≡ job.setting.shift → (draws : Draws)
-      → thread_report again draws ≡ report job (sequence job draws) (stops_of job (sequence job draws)) (serial_by serial job draws)
+  thread_report_is : manner.shift ≡ job.setting.shift → (draws : Draws)
+      → thread_report again draws ≡ report job (sequence job draws) (stops_of job (sequence job draws)) (serial_by manner.serial job draws)
   unfolding thread_report
   thread_report_is same draws =
-      ap (λ (stops : List (List ℕ)). report again (sequence again draws) stops (serial_by serial again draws)) (stops_same (sequence again draws))
-      ∙ report_same same (sequence again draws) (stops_of job (sequence again draws)) (serial_by serial again draws)
-      ∙ ap (λ (os : List Outcome). report job os (stops_of job os) (serial_by serial again draws)) (sequence_same same draws)
-      ∙ ap (λ (found : Option (ℕ × List ℕ)). report job (sequence job draws) (stops_of job (sequence job draws)) found) (told_same serial draws)
+      ap (λ (stops : List (List ℕ)). report again (sequence again draws) stops (serial_by manner.serial again draws)) (stops_same (sequence again draws))
+      ∙ report_same same (sequence again draws) (stops_of job (sequence again draws)) (serial_by manner.serial again draws)
+      ∙ ap (λ (os : List Outcome). report job os (stops_of job os) (serial_by manner.serial again draws)) (sequence_same same draws)
+      ∙ ap (λ (found : Option (ℕ × List ℕ)). report job (sequence job draws) (stops_of job (sequence job draws)) found) (told_same manner.serial draws)
 
   steps_same : (b : Bool) → steps_of b again ≡ steps_of b job
   steps_same true = refl
@@ -283,36 +282,49 @@ module _ (job : Job) (command : Command) (workers budget save_every : ℕ) (resu
   }
 
 pub reruns_are_alike : RerunsAreAlike
-reruns_are_alike job command workers budget save_every resume shift serial = record {
-  same_digest = digest_same job command workers budget save_every resume shift serial;
-  same_whole = whole_same job command workers budget save_every resume shift serial;
-  same_fits = fits_same job command workers budget save_every resume shift serial;
-  same_serial = serially_same job command workers budget save_every resume shift serial;
-  same_honest = honest_same job command workers budget save_every resume shift serial;
-  same_outcome = outcome_same job command workers budget save_every resume shift serial;
-  same_sequence = sequence_same job command workers budget save_every resume shift serial;
-  same_stops = stops_same job command workers budget save_every resume shift serial;
-  same_report = report_same job command workers budget save_every resume shift serial;
+reruns_are_alike job manner = record {
+  same_digest = digest_same job manner;
+  same_whole = whole_same job manner;
+  same_fits = fits_same job manner;
+  same_serial = serially_same job manner;
+  same_honest = honest_same job manner;
+  same_outcome = outcome_same job manner;
+  same_sequence = sequence_same job manner;
+  same_stops = stops_same job manner;
+  same_report = report_same job manner;
 }
 
--- workers, budget, saving and resuming change nothing of the report
-thread_report_same : (job : Job) (command : Command) (workers budget save_every : ℕ) (resume shift serial : Bool) → shift ≡ job.setting.shift → (draws : Draws)
-    → thread_report (rerun job command workers budget save_every resume shift serial) draws ≡ thread_report (asking job shift serial) draws
-thread_report_same job command workers budget save_every resume shift serial same draws =
-    thread_report_is job command workers budget save_every resume shift serial same draws
-    ∙ sym (thread_report_is job job.setting.command job.setting.workers job.setting.budget job.setting.save_every job.setting.resume shift serial same draws)
+-- how the job itself is run, but that it asks for bins and for the serial test or does not
+abbrev own : Job → Bool → Bool → Manner
+own job shift serial = record {
+  command = job.setting.command;
+  workers = job.setting.workers;
+  budget = job.setting.budget;
+  save_every = job.setting.save_every;
+  resume = job.setting.resume;
+  shift = shift;
+  serial = serial;
+  parts = job.setting.parts;
+  part = job.setting.part;
+}
+
+-- how a job is run changes nothing of the report
+thread_report_same : (job : Job) (manner : Manner) → manner.shift ≡ job.setting.shift → (draws : Draws)
+    → thread_report (rerun job manner) draws ≡ thread_report (asking job manner.shift manner.serial) draws
+thread_report_same job manner same draws =
+    thread_report_is job manner same draws ∙ sym (thread_report_is job (own job manner.shift manner.serial) same draws)
 
 -- ---- a stop
 
 pub stops_keep_the_newest : SavesKeepTheNewest → StopsKeepTheNewest
-stops_keep_the_newest law job before after p told now t n q out =
+stops_keep_the_newest law job before after p status told now t n q out =
     law job (job_digest job) p q (place_of job p).0 (place_of job p).1 t.tries n refl t.in_turn out
 
 -- ---- chains
 
 -- the job is a rerun of its rerun
 back_again : (job : Job) (l : Link) → AreAlike (job_in job l) job
-back_again job l = reruns_are_alike (job_in job l) job.setting.command job.setting.workers job.setting.budget job.setting.save_every job.setting.resume job.setting.shift job.setting.serial
+back_again job l = reruns_are_alike (job_in job l) (own job job.setting.shift job.setting.serial)
 
 -- all that was tried, as it ended
 stopped_after : (tries : List Try) → stopped_in (length tries) tries ≡ tries
@@ -321,13 +333,13 @@ stopped_after (t ∷ tries) = ap (λ (ts : List Try). t ∷ ts) (stopped_after t
 
 module _ (law : SavesLeaveHonestSlots) (job : Job) (p : Pair) (l : Link) (honest : AreHonestOf job p) where
   honest_here : AreHonestOf (job_in job l) p
-  honest_here = honest_same job job.setting.command l.workers l.budget l.save_every l.resume l.shift l.serial p honest
+  honest_here = honest_same job l.manner p honest
 
   resumes : (o : IsRunOver job p l) → ResumesHonestly (job_in job l) l.before
   resumes o = λ _. subst (λ (s : Option Pair). IfTold s (AreHonestOf (job_in job l))) (sym o.found) honest_here
 
-  tries_of : (o : IsRunOver job p l) → TriesOver (job_in job l) l.before l.after p o.told o.now
-  tries_of o = both_told l.before.keeper.tried l.after.keeper.tried o.told o.now (TriesOver (job_in job l) l.before l.after p) o.told_is o.now_is (o.tried (job_in job l) p o.the_job o.found)
+  tries_of : (o : IsRunOver job p l) → TriesOver (job_in job l) l.before l.after p l.status o.told o.now
+  tries_of o = both_told l.before.keeper.tried l.after.keeper.tried o.told o.now (TriesOver (job_in job l) l.before l.after p l.status) o.told_is o.now_is (o.tried (job_in job l) p o.the_job o.found)
     where
       both_told : (a b : Option (List Try)) (x y : List Try) (P : List Try → List Try → Type 0) → a ≡ Some x → b ≡ Some y → IfBothTold a b P → P x y
       both_told a b x y P e f h = subst (λ (s : Option (List Try)). IfBothTold s (Some y) P) e (subst (λ (s : Option (List Try)). IfBothTold a s P) f h)
@@ -366,7 +378,7 @@ module _ (law : SavesLeaveHonestSlots) (job : Job) (p : Pair) (l : Link) (honest
   asked_alike : IsLink job p l → WritesOneThreads (job_in job l) l.before l.after → WroteOneThreads job l
   asked_alike link wrote =
       subst (λ (text : List ℕ). Appends l.before.out.bytes l.after.out.bytes text)
-      (thread_report_same (asking job l.shift l.serial) job.setting.command l.workers l.budget l.save_every l.resume l.shift l.serial refl (draw job.setting.key))
+      (thread_report_same (asking job l.manner.shift l.manner.serial) l.manner refl (draw job.setting.key))
       wrote
 
   link_wrote : IsLink job p l → HasWritten job (ran l)
@@ -376,7 +388,7 @@ module _ (law : SavesLeaveHonestSlots) (job : Job) (p : Pair) (l : Link) (honest
         asked_alike link (link.promised.written.save_failed (job_in job l) outcomes s (link.promised.chain.opens_right (job_in job l) outcomes s (resumes link.over)) z none);
   }
 
-event_stays : SavesLeaveHonestSlots → (job : Job) (p : Pair) (e : Event) → AreHonestOf job p → IsEvent job p e → AreHonestOf job (slots_after e)
+pub event_stays : SavesLeaveHonestSlots → (job : Job) (p : Pair) (e : Event) → AreHonestOf job p → IsEvent job p e → AreHonestOf job (slots_after e)
 event_stays law job p (ran l) honest is = link_stays law job p l honest is
 event_stays law job p (stopped l n q) honest is = stays_where law job p l honest is.over n q (is.carried (tries_of law job p l honest is.over))
 

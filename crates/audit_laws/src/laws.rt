@@ -1,12 +1,16 @@
 //! Laws of calls that ended and of the runs of one job, each the contract of a function that does nothing.
 
 ghost use Rattle.audit_laws.specs.Ended.{EndedCallsKeepTheirPromise};
+ghost use Rattle.audit_laws.specs.Lost.{StopsLoseNothing};
+ghost use Rattle.audit_laws.specs.Gathered.{GatheredRunsWriteOneReport, GatheringsReach};
 ghost use Rattle.audit_statement.specs.Rerun.{ChainsWriteOneReport, RerunsAreAlike, StopsKeepTheNewest};
 
 use ckpt_store::laws::{
-    honest_slots_open_right, right_outcomes_are_honest, saves_keep_the_newest,
-    saves_leave_honest_slots,
+    a_stop_in_a_save_leaves_honest_slots, honest_slots_open_right, right_outcomes_are_honest,
+    saves_keep_the_newest, saves_leave_honest_slots,
 };
+use gathered_slots::laws::honest_slots_give_honest_outcomes;
+use gathering::laws::unions_are_right;
 
 /// A call that ended for a reason, and left what that reason leaves, has kept all that the top call promises.
 pub fn ended_calls_keep_their_promise()
@@ -16,16 +20,24 @@ pub fn ended_calls_keep_their_promise()
     right_outcomes_are_honest();
 }
 
-/// The command, how many workers there are, the budget, and what is saved and resumed change nothing of a job's digest, of what its trajectories find,
-/// and of its report: so the report of one of several plans is the one that `run` gives for this plan alone. Whether it asks for bins changes nothing of its digest, of what its trajectories find with all their bins, and of which slots
-/// are honest.
+/// How a job is run, by which command, how many workers, with what budget, what is saved and resumed and which of how many parts is walked, changes
+/// nothing of its digest, of what its trajectories find, and of its report: so the report of one of several plans is the one that `run` gives for this
+/// plan alone. Whether it asks for bins changes nothing of its digest, of what its trajectories find with all their bins, and of which slots are honest.
 pub fn reruns_are_alike()
     ensures { RerunsAreAlike }
 {}
 
-/// A stop anywhere in a run, within a save or between two, keeps the newest slot of before or leaves a newer one: nothing that was saved is lost.
+/// A stop anywhere in a run, within a save or between two, keeps the newest slot of before or leaves a newer one.
 pub fn stops_keep_the_newest()
     ensures { StopsKeepTheNewest }
+{
+    saves_keep_the_newest();
+}
+
+/// Wherever a run is stopped, also within a save, at any byte, and whichever saves failed before, the newest slot is, or holds all of, each save
+/// that succeeded before, and it is the one with which the run opened, or holds all that it opened with: nothing that was saved is lost.
+pub fn stops_lose_nothing()
+    ensures { StopsLoseNothing }
 {
     saves_keep_the_newest();
 }
@@ -38,3 +50,20 @@ pub fn chains_write_one_report()
 {
     saves_leave_honest_slots();
 }
+
+/// Over any number of machines and folders, each of which has the slots that runs of the job, of any of its parts, have left there, ended or
+/// stopped, or into which others were gathered, to the end or not: the slots are honest, and each run from them that ends with status 0 has written the
+/// report of one thread.
+pub fn gathered_runs_write_one_report()
+    ensures { GatheredRunsWriteOneReport }
+{
+    honest_slots_give_honest_outcomes();
+    unions_are_right();
+    saves_leave_honest_slots();
+    a_stop_in_a_save_leaves_honest_slots();
+}
+
+/// What one call of `gathered_slots::whole::gather` leaves in slots that were reached, of folders that were, was reached.
+pub fn gatherings_reach()
+    ensures { GatheringsReach }
+{}

@@ -88,6 +88,13 @@ IsSettingOf Run s = IsRunSetting s
 IsSettingOf Make s = IsRunSetting s
 IsSettingOf Plans s = IsRunSetting s
 
+-- a part is one of the parts, and where there are several, what is walked of one is saved
+pub record IsPart (s : Setting) : Type 0 where
+  pub some : 1 ≤ s.parts
+  pub few : s.parts ≤ most_trajectories
+  pub one_of : s.part < s.parts
+  pub saves : 2 ≤ s.parts → 1 ≤ s.save_every
+
 -- a setting within its limits
 pub record IsSetting (s : Setting) : Type 0 where
   pub slack : s.slack ≤ 10000
@@ -95,6 +102,7 @@ pub record IsSetting (s : Setting) : Type 0 where
   pub max_cut : s.max_cut ≤ most_edges
   pub some_splits : 1 ≤ s.max_split
   pub few_splits : s.max_split ≤ most_districts
+  pub part : IsPart s
   pub command : IsSettingOf s.command s
 
 -- what the words see to beside the limits: a test that stops early has ends to test and neither saves nor resumes, and the run of the

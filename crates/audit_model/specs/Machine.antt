@@ -1,6 +1,6 @@
 -- The run of several workers as a machine: claims, posts, saves and halts, one at a time.
 -- This project's journal of one thread's run. It is lists of ids; the code has words, tickets and a slot.
-use Rattle.std.specs.Prelude.{◌≡◌, ◌<◌, ◌≤◌, ◌⊎◌, IsTrue, IsFalse, ℕ, ◌+◌, not, List, [], ◌∷◌, ◌++◌, length, take, replicate, slice_get, slice_set, Option, Some, None}
+use Rattle.std.specs.Prelude.{◌≡◌, ◌<◌, ◌≤◌, ◌⊎◌, IsTrue, IsFalse, ℕ, ◌+◌, not, List, [], ◌∷◌, ◌++◌, ◌&&◌, length, take, replicate, slice_get, slice_set, Option, Some, None}
 use Rattle.audit_model.specs.declared.outcome.Did.{Did}
 use Rattle.audit_model.specs.declared.outcome.Did.TheVariants.{Claimed, Empty, Posted, Idle, Saved, Halted}
 use Rattle.audit_model.specs.declared.outcome.Event.{Event}
@@ -8,11 +8,14 @@ use Rattle.audit_model.specs.declared.outcome.Event.TheVariants.{Claim, Post, Sa
 use Rattle.audit_model.specs.Apart.{AllApart}
 use Rattle.audit_model.specs.Below.{filter_below}
 use Rattle.audit_model.specs.Graph.{has}
+use Rattle.audit_model.specs.Run.{is_in_part}
 
--- how many ids there are, and how many of these a run may take; what was done when the run started, when it was last saved, and now;
+-- how many ids there are, in how many parts they are dealt and which of these is the run's, and how many of its ids a run may take; what was done when the run started, when it was last saved, and now;
 -- how many were claimed in this run; and which id each worker has open
 pub record Machine : Type 0 where
   pub total : ℕ
+  pub parts : ℕ
+  pub part : ℕ
   pub budget : ℕ
   pub start : List ℕ
   pub saved : List ℕ
@@ -22,7 +25,7 @@ pub record Machine : Type 0 where
 
 -- the ids that the run is to do, in rising order
 abbrev pub todo : Machine → List ℕ
-todo m = take m.budget (filter_below m.total (λ id. not (has m.start id)))
+todo m = take m.budget (filter_below m.total (λ id. not (has m.start id) && is_in_part m.parts m.part id))
 
 -- the worker claims the id, or there was none
 abbrev pub claimed : Machine → ℕ → Option ℕ → Machine × Did
@@ -47,10 +50,23 @@ step m (Post worker) = post m worker (slice_get m.held worker)
 step m Save = (record m { saved = m.done }, Saved (length m.done))
 step m Halt = (record m { start = m.saved; done = m.saved; next = 0; held = replicate (length m.held) None }, Halted)
 
--- a run that starts with these ids done and saved, and takes at most budget others
+-- a run of one part that starts with these ids done and saved, and takes at most budget others
+abbrev pub started_part : ℕ → ℕ → ℕ → ℕ → ℕ → List ℕ → Machine
+started_part parts part total budget workers ids = record {
+  total = total;
+  parts = parts;
+  part = part;
+  budget = budget;
+  start = ids;
+  saved = ids;
+  done = ids;
+  next = 0;
+  held = replicate workers None;
+}
+
+-- the same of all ids
 abbrev pub started : ℕ → ℕ → ℕ → List ℕ → Machine
-started total budget workers ids =
-    record { total = total; budget = budget; start = ids; saved = ids; done = ids; next = 0; held = replicate workers None }
+started total budget workers ids = started_part 1 0 total budget workers ids
 
 -- a run from nothing
 abbrev pub new_machine : ℕ → ℕ → Machine

@@ -1,7 +1,7 @@
 -- How the names that the words may set are spelled.
 use Rattle.std.specs.Prelude.{ℕ, List, codes}
 use Rattle.audit_model.specs.declared.fault.Name.{Name}
-use Rattle.audit_model.specs.declared.fault.Name.TheVariants.{Pop, First, Second, District, Size, Slack, Key, Walks, Steps, Ends, HubSteps, Ask, Workers, Budget, Save, Resume, MaxCut, Shift, Stop, Serial, Region, MaxSplit}
+use Rattle.audit_model.specs.declared.fault.Name.TheVariants.{Pop, First, Second, District, Size, Slack, Key, Walks, Steps, Ends, HubSteps, Ask, Workers, Budget, Save, Resume, MaxCut, Shift, Stop, Serial, Region, MaxSplit, Parts, Part}
 
 -- the spelling of a name
 abbrev pub name_text : Name → List ℕ
@@ -27,3 +27,5 @@ name_text Stop = codes "--stop"
 name_text Serial = codes "--serial"
 name_text Region = codes "--region"
 name_text MaxSplit = codes "--max-split"
+name_text Parts = codes "--parts"
+name_text Part = codes "--part"

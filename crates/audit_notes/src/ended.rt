@@ -24,7 +24,7 @@ pub enum Ended {
     ReadFault,
     WriteFault,
     LoadFault,
-    /// So many of all trajectories are done, and the budget is spent.
+    /// So many of all trajectories are done, and the rest is left to another run.
     Stopped { done: u32, total: u32 },
     /// No slot is intact, and one is not absent.
     Damaged(Slots),

@@ -5,7 +5,7 @@
 use audit_io::file_keeper::FileKeeper;
 use audit_io::gate::FreeGate;
 use audit_io::std_adapters::{ReadSource, WriteSink};
-use audit_run::audit::audit;
+use audit_run::plain::audit_plainly;
 use std::process::ExitCode;
 use std::rt::Env;
 use std::{env, io};
@@ -41,7 +41,7 @@ fn main(rt: HostRuntime) -> ExitCode {
     let mut graph = ReadSource::new(rt.stdin());
     let mut out = WriteSink::new(rt.stdout());
     let mut note = WriteSink::new(rt.stderr());
-    let (status, _keeper) = audit(
+    let (status, _keeper) = audit_plainly(
         &rt,
         rt.alloc(),
         words.as_slice(),

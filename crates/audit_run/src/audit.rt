@@ -30,8 +30,8 @@ fn names_plans(words: &[String]) -> bool
 ///
 /// The graph is read to its end, or to one byte more than 67,108,864; with several plans a table stands behind its first line feed. The text of a check,
 /// the report of a run, or one for each of several plans goes to `out`, and the reason of each status but 0 to `note`: 1 for refused words, 2 for a
-/// refused graph, table or plan, 3 for want of memory, 4 for a failed read, 5 for a failed write, 6 for a failed load of a checkpoint, 7 where the budget
-/// left trajectories to a later run, 8 for slots from which a run cannot go on, 9 for a failed save.
+/// refused graph, table or plan, 3 for want of memory, 4 for a failed read, 5 for a failed write, 6 for a failed load of a checkpoint, 7 where
+/// trajectories are left to another run, 8 for slots from which a run cannot go on, 9 for a failed save.
 pub fn audit<
     R: Threads + Wait + Sync,
     S: Source,

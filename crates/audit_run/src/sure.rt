@@ -15,8 +15,8 @@ use std::thread::Threads;
 
 /// Does what the words ask for where nothing outside fails, and answers the status and the keeper.
 ///
-/// Where words, graph and plan are accepted, the slots say how a run that resumes is to start, and the budget is enough for what they lack, the
-/// status is 0 or, for want of memory, 3, and no other. So it is where words, graph, regions, table and several plans are accepted.
+/// Where words, graph and plan are accepted, the slots say how a run that resumes is to start, and its part and its budget have all that they lack,
+/// the status is 0 or, for want of memory, 3, and no other. So it is where words, graph, regions, table and several plans are accepted.
 pub fn audit_surely<R: Threads + Wait + Sync, N: Sink, G: Gate + Sync>(
     rt: &R,
     alloc: Global,

@@ -1,5 +1,5 @@
 -- What a run leaves that saved while it walked, in the words of the call's contract.
-use Rattle.std.proofs.Common.{◌≡◌, ◌⊎◌, inl, inr, ℕ, ◌+◌, ◌-◌, ◌*◌, ◌%◌, ◌^◌, ◌<◌, ◌≤◌, ◌==◌, min, cond, List, [], ◌∷◌, ◌++◌, length, map, Option, Some, None, Result, Ok, Err, refl, sym, subst, ap, ◌∙◌, append_assoc, All, AllPairs, Contains, IsPermutation, arith}
+use Rattle.std.proofs.Common.{◌≡◌, ◌⊎◌, inl, inr, ℕ, ◌+◌, ◌-◌, ◌*◌, ◌%◌, ◌^◌, ◌<◌, ◌≤◌, ◌==◌, min, cond, List, [], ◌∷◌, ◌++◌, length, map, Option, Some, None, Result, Ok, Err, refl, sym, subst, ap, ◌∙◌, append_assoc, All, Contains, IsPermutation, arith}
 use Rattle.std.specs.Prelude.{IsFalse, IsTrue, OnOk}
 use Rattle.std.specs.List.{list_all}
 use Rattle.std.proofs.lemmas.List.{append-nil, length-map}
@@ -22,7 +22,8 @@ use Rattle.ckpt_store.specs.Fitting.{AreFit}
 use Rattle.ckpt_store.specs.Histories.{AreInTurn}
 use Rattle.ckpt_store.specs.Laws.{CheckpointsAreOurs}
 use Rattle.desk_crew.specs.Holding as crew
-use Rattle.desk_crew.specs.Ran.{HasRun, IsLater, IsRunTry, KeepsSome, failed_of}
+use Rattle.desk_crew.specs.InOrder.{AreSavesOf}
+use Rattle.desk_crew.specs.Ran.{HasRun, IsRunTry, KeepsSome, failed_of}
 use Rattle.draw_definitions.specs.Draw.{draw}
 use Rattle.outcome_book.specs.Booked.{by_id}
 use Rattle.tally_desk.specs.declared.entry.Entry.{Entry}
@@ -35,7 +36,7 @@ use Rattle.tally_desk.specs.Parts.{IsPlan, Parts, found}
 use Rattle.tally_desk.proofs.Booking.{booked_fit, by_id_fit}
 use Rattle.tally_desk.proofs.Todo.{todo_lacked, todo_within}
 use Rattle.tally_desk.proofs.Slotting.{moved_generation}
-use Rattle.audit_statement.specs.Endings.{HoldsPart, IsNewest, IsOpeningOrFound, IsPartly, IsTryOf, KeepsASlot, SavesInTurn, SavesInTurnAt, TriesOf, TriesTold, count_of_saves, full_of, last_place, place_of}
+use Rattle.audit_statement.specs.Endings.{HoldsPart, IsNewest, IsOpeningOrFound, IsPartly, IsTryOf, KeepsASlot, SavesInTurn, SavesInTurnAt, TriesOf, TriesTold, count_of_saves, first_place, full_of, last_place, place_of}
 use Rattle.audit_steps.specs.Runs.{AreAll, IsRunJob}
 use Rattle.audit_unsaved.specs.Ending.{SavesLast}
 use Rattle.claim_crew.proofs.Completing.{AreMapped, by_id-full}
@@ -176,15 +177,20 @@ module _ (parts : Parts) (plan : IsPlan parts) (todo_is : parts.todo ≡ run_ids
     holds = holds_part (length s.part) (saved_of s.part) (hold parts s.part plan s.of_todo);
   }
 
-  module _ (right : crew.RunTriesAreRight) (tries : List Try) (turn : AreInTurn job (job_digest job) parts.place.slot parts.place.generation tries) (each : All (IsRunTry parts) tries) (pairs : AllPairs IsLater tries)
+  module _ (right : crew.RunTriesAreRight) (tries : List Try) (turn : AreInTurn job (job_digest job) parts.place.slot parts.place.generation tries) (each : All (IsRunTry parts) tries)
+      (posted : List Entry) (all : IsPermutation (ids_of posted) parts.todo) (in_order : AreSavesOf job opening parts.save_every parts.place (ids_of posted) tries)
       (faults_now : ℕ) (covered : min (parts.keeper.save_faults + failed_of tries) (2 ^ 64 - 1) ≤ faults_now) where
+    exactly : (p : Pair) → IsAt p → AreSavesOf job opening job.setting.save_every (first_place job p) (ids_of posted) tries
+    exactly p at =
+        subst (λ (x : ℕ × Place). AreSavesOf job opening x.0 x.1 (ids_of posted) tries) (λ i. (every_is i, record { slot = (at i).0; generation = (at i).1 })) in_order
+
     tries_of : (p : Pair) → IsAt p → (told now : List Try) → now ≡ told ++ tries → TriesOf job opening p parts.keeper.save_faults faults_now told now
     tries_of p at told now is = record {
       tries = tries;
       appended = is;
       in_turn = subst (λ (x : ℕ × ℕ). AreInTurn job (job_digest job) x.0 x.1 tries) at turn;
       each = λ k d inside. of_try _ (each k d inside);
-      growing = pairs;
+      exact = record { walked = ids_of posted; all_walked = subst (IsPermutation (ids_of posted)) todo_is all; exactly = exactly p at };
       covered = covered;
       right = λ opening_right k d inside. right parts _ plan opening_right (each k d inside);
     }
@@ -242,7 +248,7 @@ module _ (parts : Parts) (keeper_now : Kept) (sorted : List Outcome) (result : R
         newest_is = on_ok result (newest_known parts.keeper.slots keeper_now.slots placed) turns;
         cause = h.cause;
         loads = h.loads;
-        tried = tries_told parts h.plan todo_is every_is ours_law hold right h.tries h.are_tries.in_turn h.are_tries.each h.are_tries.growing keeper_now.save_faults h.covered
+        tried = tries_told parts h.plan todo_is every_is ours_law hold right h.tries h.are_tries.in_turn h.are_tries.each h.posted h.all h.in_order keeper_now.save_faults h.covered
             parts.keeper.slots keeper_now.slots parts.keeper.tried keeper_now.tried parts.keeper.load_faults keeper_now.load_faults placed h.tried;
       }
     where

@@ -126,7 +126,7 @@ fn save_and_end<
     }
 }
 
-/// Takes the rest of the memory of a run that saves, walks as many trajectories as the budget allows and saves, and writes the report where all
+/// Takes the rest of the memory of a run that saves, walks as many trajectories of its part as the budget allows and saves, and writes the report where all
 /// are done.
 pub fn finish_saved<
     R: Threads + Wait + Sync,

@@ -69,7 +69,7 @@ fn finish<R: Threads + Wait + Sync, K: Sink, C: Keeper + Send, G: Gate + Sync>(
 ///
 /// The graph is read to its end, or to one byte more than 67,108,864. The text of a check or the report of a run goes to `out`, and the
 /// reason of each status but 0 to `note`: 1 for refused words, 2 for a refused graph or plan, 3 for want of memory, 4 for a failed read, 5 for a failed write,
-/// 6 for a failed load of a checkpoint, 7 where the budget left trajectories to a later run, 8 for slots from which a run cannot go on, 9 for a failed save.
+/// 6 for a failed load of a checkpoint, 7 where trajectories are left to another run, 8 for slots from which a run cannot go on, 9 for a failed save.
 pub fn audit_single<
     R: Threads + Wait + Sync,
     S: Source,

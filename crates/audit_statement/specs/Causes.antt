@@ -14,7 +14,7 @@ pub record IsTold (words : List (List ℕ)) (before : World) (setting : Setting)
   pub words_are : setting_of words ≡ Ok setting
   pub input : input_of setting before.source.bytes ≡ Some bytes
 
--- a walking command finds an opening, and the budget is enough for what it lacks
+-- a walking command finds an opening, and takes all that it lacks
 abbrev pub HasBudget : Bool → Job → World → Type 0
 HasBudget false job before = ⊤
 HasBudget true job before = (o : List Outcome) × TellsOpening job before.keeper.slots (Some o) × IsFalse (leaves_work job o)
@@ -41,7 +41,7 @@ pub record IsTheJob (words : List (List ℕ)) (before : World) (job : Job) : Typ
   pub told : IsTold words before job.setting bytes
   pub accepted : judged job.setting bytes ≡ Ok job
 
--- a walking command finds an opening, and the budget is below the number of ids that it lacks
+-- a walking command finds an opening, and takes fewer ids than it lacks
 pub record LeavesWork (words : List (List ℕ)) (before : World) : Type 0 where
   pub job : Job
   pub the_job : IsTheJob words before job

@@ -1,19 +1,19 @@
 -- Runs one after the other over the same slots.
-use Rattle.std.specs.Prelude.{◌≡◌, ℕ, ◌+◌, ◌-◌, ◌^◌, ◌≤◌, min, List, ◌++◌, Some, IsTrue}
-use Rattle.std.specs.List.{All, AllPairs}
+use Rattle.std.specs.Prelude.{◌≡◌, ℕ, ◌+◌, ◌-◌, ◌^◌, ◌<◌, ◌≤◌, ◌==◌, ◌&&◌, ◌||◌, min, Bool, true, false, List, [], ◌++◌, length, Some, IsTrue}
+use Rattle.std.specs.List.{All, AllPairs, Contains}
 use Rattle.audit_io.specs.Slots.{Pair}
 use Rattle.audit_io.specs.Tries.{Try}
 use Rattle.audit_model.specs.declared.outcome.Outcome.{Outcome}
 use Rattle.audit_model.specs.Job.{Job}
 use Rattle.audit_model.specs.Run.{IsRight}
-use Rattle.checkpoint_definitions.specs.Checkpoint.{job_digest}
+use Rattle.checkpoint_definitions.specs.Checkpoint.{IsCheckpoint, job_digest}
 use Rattle.ckpt_store.specs.Histories.{AreInTurn, IsRightSave}
 use Rattle.ckpt_store.specs.Laws.{AreHonest}
-use Rattle.desk_crew.specs.Ran.{IsLater, failed_of}
+use Rattle.desk_crew.specs.Ran.{failed_of}
 use Rattle.draw_definitions.specs.Draw.{draw}
 use Rattle.audit_statement.specs.Causes.{IsTheJob}
 use Rattle.audit_io.specs.Told.{IfBothTold, IfTold}
-use Rattle.audit_statement.specs.Endings.{IsTryOf, NoSaveFailed, place_of, TellsOpening}
+use Rattle.audit_statement.specs.Endings.{AreRunSaves, IsTryOf, NoSaveFailed, TellsOpening, count_of_saves, place_of, saves}
 use Rattle.audit_statement.specs.Headline.{StartsWith, WritesOneThreads}
 use Rattle.audit_statement.specs.World.{World}
 
@@ -25,23 +25,48 @@ AreHonestOf job p = AreHonest job (draw job.setting.key) (job_digest job) p
 abbrev pub ResumesHonestly : Job → World → Type 0
 ResumesHonestly job before = IsTrue job.setting.resume → IfTold before.keeper.slots (AreHonestOf job)
 
--- the saves of a run of the job over these slots, and whether each succeeded: they are all that its keeper was asked for; each went to the place of
--- these slots, which moved on after each that succeeded, with a checkpoint of the opening and of what the trajectories of ids find that the opening
--- lacks; each holds no less than those before it, and more than those of them that succeeded; the keeper's count covers those that failed; and where
--- the run resumes honestly, all of it was found by the job's trajectories
-pub record TriesOver (job : Job) (before after : World) (p : Pair) (told now : List Try) : Type 0 where
+-- the later save holds each outcome of the earlier one, and more where that one succeeded
+pub record IsHeldBy (job : Job) (earlier later : Try) : Type 0 where
+  pub first : List Outcome
+  pub first_generation : ℕ
+  pub first_is : IsCheckpoint earlier.bytes 2 (job_digest job) first_generation first
+  pub second : List Outcome
+  pub second_generation : ℕ
+  pub second_is : IsCheckpoint later.bytes 2 (job_digest job) second_generation second
+  pub held : All (Contains second) first
+  pub more : earlier.succeeded ≡ true → length first < length second
+
+-- the statuses with which a call ends that has walked: all was done, the text or a save failed, or work is left
+abbrev pub has_walked : ℕ → Bool
+has_walked status = (status == 0) || (status == 5) || (status == 7) || (status == 9)
+
+-- the saves are exactly those of a run that saves and has walked, and elsewhere there are none
+abbrev pub AreSavesWhere : Bool → Job → List Outcome → Pair → List Try → Type 0
+AreSavesWhere true job outcomes p tries = AreRunSaves job outcomes p tries
+AreSavesWhere false job outcomes p tries = tries ≡ []
+
+-- the saves of a call on the job over these slots, and whether each succeeded: they are all that its keeper was asked for, and exactly those of a run
+-- that starts with what these slots give; each went to the place of these slots, which moved on after each that succeeded, with a checkpoint of the
+-- opening and of what the trajectories of ids find that the opening lacks; each holds all that those before it hold, and more than those of them that
+-- succeeded; where all succeeded there are as many as a run makes; the keeper's count covers those that failed; and where the run resumes honestly, all
+-- of it was found by the job's trajectories
+pub record TriesOver (job : Job) (before after : World) (p : Pair) (status : ℕ) (told now : List Try) : Type 0 where
   pub tries : List Try
   pub appended : now ≡ told ++ tries
+  pub exactly : (outcomes : List Outcome) → TellsOpening job before.keeper.slots (Some outcomes)
+      → AreSavesWhere (saves job.setting && has_walked status) job outcomes p tries
   pub in_turn : AreInTurn job (job_digest job) (place_of job p).0 (place_of job p).1 tries
   pub each : (outcomes : List Outcome) → TellsOpening job before.keeper.slots (Some outcomes) → All (IsTryOf job outcomes) tries
-  pub growing : AllPairs IsLater tries
+  pub growing : AllPairs (IsHeldBy job) tries
+  pub counted : (outcomes : List Outcome) → TellsOpening job before.keeper.slots (Some outcomes) → IsTrue (saves job.setting && has_walked status)
+      → All (λ t. t.succeeded ≡ true) tries → length tries ≡ count_of_saves job outcomes
   pub covered : min (before.keeper.save_faults + failed_of tries) (2 ^ 64 - 1) ≤ after.keeper.save_faults
   pub right : ResumesHonestly job before → All (λ t. IsRightSave job (draw job.setting.key) (job_digest job) t.bytes) tries
 
 -- where the keeper tells, what it was asked to save
-abbrev pub TriedRightly : List (List ℕ) → World → World → Type 0
-TriedRightly words before after = (job : Job) (p : Pair) → IsTheJob words before job → before.keeper.slots ≡ Some p
-    → IfBothTold before.keeper.tried after.keeper.tried (TriesOver job before after p)
+abbrev pub TriedRightly : List (List ℕ) → World → World → ℕ → Type 0
+TriedRightly words before after status = (job : Job) (p : Pair) → IsTheJob words before job → before.keeper.slots ≡ Some p
+    → IfBothTold before.keeper.tried after.keeper.tried (TriesOver job before after p status)
 
 -- from honest slots a run starts with what its trajectories found, writes the report of one thread, and where no save failed leaves honest slots:
 -- so does the next run

@@ -1,6 +1,6 @@
 -- How a call may end: for each reason, what caused it, what it wrote, and what it left untouched.
-use Rattle.std.specs.Prelude.{◌≡◌, ◌⊎◌, ℕ, suc, ◌+◌, ◌-◌, ◌*◌, ◌%◌, ◌^◌, ◌<◌, ◌≤◌, ◌==◌, min, ◌&&◌, ◌||◌, Bool, true, false, not, IsTrue, IsFalse, nat_lt, List, [], ◌++◌, length, map, take, ⊤, Option, Some, None, Result, Ok, Err}
-use Rattle.std.specs.List.{list_all, All, AllPairs, Contains}
+use Rattle.std.specs.Prelude.{◌≡◌, ◌⊎◌, IsPermutation, ℕ, suc, ◌+◌, ◌-◌, ◌*◌, ◌%◌, ◌^◌, ◌<◌, ◌≤◌, ◌==◌, min, ◌&&◌, ◌||◌, Bool, true, false, not, IsTrue, IsFalse, nat_lt, List, [], ◌++◌, length, map, take, ⊤, Option, Some, None, Result, Ok, Err}
+use Rattle.std.specs.List.{list_all, All, Contains}
 use Rattle.std.specs.Io.KnownBytes.{Appends, IsAtEnd}
 use Rattle.audit_model.specs.declared.fault.WordFault.{WordFault}
 use Rattle.audit_model.specs.declared.outcome.Outcome.{Outcome}
@@ -8,16 +8,16 @@ use Rattle.audit_model.specs.declared.setting.Columns.{Columns}
 use Rattle.audit_model.specs.declared.setting.Command.{Command}
 use Rattle.audit_model.specs.declared.setting.Command.TheVariants.{Check, Run, Make, Plans}
 use Rattle.audit_model.specs.declared.setting.Setting.{Setting}
-use Rattle.audit_model.specs.Below.{filter_below}
 use Rattle.audit_model.specs.Job.{Job}
 use Rattle.audit_model.specs.JobOf.{IsJob}
 use Rattle.audit_model.specs.Apart.{AllApart}
-use Rattle.audit_model.specs.Run.{total, has_id, run_ids, full, fits, IsRight}
+use Rattle.audit_model.specs.Run.{total, has_id, lacking_ids, run_ids, full, fits, IsRight}
 use Rattle.audit_model.specs.Trajectory.{outcome}
 use Rattle.checkpoint_definitions.specs.Checkpoint.{IsCheckpoint, checkpoint, job_digest}
 use Rattle.ckpt_store.specs.declared.slots.Place.{Place}
 use Rattle.ckpt_store.specs.Histories.{AreInTurn, IsRightSave}
-use Rattle.desk_crew.specs.Ran.{IsLater, failed_of}
+use Rattle.desk_crew.specs.InOrder.{AreSavesOf}
+use Rattle.desk_crew.specs.Ran.{failed_of}
 use Rattle.draw_definitions.specs.Draw.{draw}
 use Rattle.note_definitions.specs.Note.{Ending, bad_words, too_many_bytes, bad_graph, bad_regions, bad_table, bad_plan, bad_plan_named, no_memory, read_fault, write_fault, load_fault, stopped, damaged, other_job, save_fault, note}
 use Rattle.text_definitions.specs.Report.{full_report, check_text}
@@ -94,13 +94,17 @@ pub record IsOpening (job : Job) (slots : Option Pair) (outcomes : List Outcome)
 
 -- how many ids the opening lacks
 abbrev pub lacking : Job → List Outcome → ℕ
-lacking job outcomes = length (filter_below (total job) (λ id. not (has_id outcomes id)))
+lacking job outcomes = length (lacking_ids job outcomes)
 
--- the budget is below that number
+-- how many of them the run walks: those of its part, as many as its budget allows
+abbrev pub to_walk : Job → List Outcome → ℕ
+to_walk job outcomes = length (run_ids job outcomes job.setting.budget)
+
+-- it walks fewer than the opening lacks
 abbrev pub leaves_work : Job → List Outcome → Bool
-leaves_work job outcomes = nat_lt job.setting.budget (lacking job outcomes)
+leaves_work job outcomes = nat_lt (to_walk job outcomes) (lacking job outcomes)
 
--- the outcomes of the opening, and of the first ids that it lacks
+-- the outcomes of the opening, and of the ids that the run takes
 abbrev pub full_of : Job → List Outcome → List Outcome
 full_of job outcomes = full job (draw job.setting.key) outcomes job.setting.budget
 
@@ -187,13 +191,16 @@ KeepsASlot job outcomes p q =
 abbrev pub place_of : Job → Pair → ℕ × ℕ
 place_of job p = save_place (slot_of job (job_digest job) p.zero_slot) (slot_of job (job_digest job) p.one_slot)
 
+abbrev pub first_place : Job → Pair → Place
+first_place job p = record { slot = (place_of job p).0; generation = (place_of job p).1 }
+
 -- how many saves a run makes: one each time that as many ids were walked as was asked for, and a last one where the last id had none
 abbrev pub count_of_saves : Job → List Outcome → ℕ
-count_of_saves job outcomes = saves_of (length (run_ids job outcomes job.setting.budget)) job.setting.save_every
+count_of_saves job outcomes = saves_of (to_walk job outcomes) job.setting.save_every
 
 -- the place of the last of them: after each the place moves to the other slot and the next generation of three in turn
 abbrev pub last_place : Job → List Outcome → Pair → Place
-last_place job outcomes p = moved (count_of_saves job outcomes - 1) (record { slot = (place_of job p).0; generation = (place_of job p).1 })
+last_place job outcomes p = moved (count_of_saves job outcomes - 1) (first_place job p)
 
 -- so many saves were made, the last at this place: it is the checkpoint of the opening and of all that was walked, is read as that, and is the
 -- newest; where it is the only one, the other slot is as it was, and elsewhere the other slot is the save before
@@ -217,15 +224,22 @@ pub record IsTryOf (job : Job) (outcomes : List Outcome) (t : Try) : Type 0 wher
   pub sound : IsCheckpoint t.bytes 2 (job_digest job) generation saved
   pub holds : HoldsPart job outcomes count saved
 
--- the saves of a run over these slots, and whether each succeeded: they are all that its keeper was asked for since; each went to the place
--- of these slots, which moved on after each that succeeded; each holds no less than those before it, and more than those of them that succeeded;
--- the keeper's count covers those that failed; and where the opening is right, so are they
+-- Exactly the saves of a run over these slots that starts with these outcomes. The ids that it walks were taken in in this order, each once. A save was
+-- tried each time that as many of them were as `--save` says, of the opening and of all that were taken in so far, and one more of all at the end, but
+-- where the last one was of all and succeeded. The first went to the place of these slots, and each later one to the place after the last that succeeded.
+pub record AreRunSaves (job : Job) (outcomes : List Outcome) (p : Pair) (tries : List Try) : Type 0 where
+  pub walked : List ℕ
+  pub all_walked : IsPermutation walked (run_ids job outcomes job.setting.budget)
+  pub exactly : AreSavesOf job outcomes job.setting.save_every (first_place job p) walked tries
+
+-- the saves of a run over these slots, and whether each succeeded: they are all that its keeper was asked for since, and exactly those of such a run;
+-- each is a checkpoint of the job; the keeper's count covers those that failed; and where the opening is right, so are they
 pub record TriesOf (job : Job) (outcomes : List Outcome) (p : Pair) (faults faults_now : ℕ) (told now : List Try) : Type 0 where
   pub tries : List Try
   pub appended : now ≡ told ++ tries
   pub in_turn : AreInTurn job (job_digest job) (place_of job p).0 (place_of job p).1 tries
   pub each : All (IsTryOf job outcomes) tries
-  pub growing : AllPairs IsLater tries
+  pub exact : AreRunSaves job outcomes p tries
   pub covered : min (faults + failed_of tries) (2 ^ 64 - 1) ≤ faults_now
   pub right : IsRight job (draw job.setting.key) outcomes → All (λ t. IsRightSave job (draw job.setting.key) (job_digest job) t.bytes) tries
 
@@ -293,7 +307,7 @@ pub record IsStopped (words : List (List ℕ)) (before after : World) (done all 
   pub prepared : IsPrepared words before.source after.source job
   pub saving : IsTrue (saves job.setting)
   pub stopped : StopsEarly job before after
-  pub done_is : done ≡ length stopped.outcomes + job.setting.budget
+  pub done_is : done ≡ length stopped.outcomes + to_walk job stopped.outcomes
   pub all_is : all ≡ total job
   pub saved : SavesAll ⊤ job before after
 

@@ -21,7 +21,7 @@ pub record KeepsItsPromise (words : List (List ℕ)) (before after : World) (not
   pub early : EndsEarly words before after status
   pub legal : VisitsLegal words before.source.bytes
   pub chain : StaysHonest words before after status
-  pub tried : TriedRightly words before after
+  pub tried : TriedRightly words before after status
   pub ends : EndsFor words before after note_before note_after status
   pub causes : HasCauses words before after status
   pub complete : IsComplete words before after status

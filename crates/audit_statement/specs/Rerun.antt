@@ -28,18 +28,33 @@ use Rattle.audit_statement.specs.World.{World}
 abbrev pub asking : Job → Bool → Bool → Job
 asking job shift serial = record job { setting = record job.setting { shift = shift; serial = serial } }
 
--- the same job in another run: by another command, as `run` of one plan in place of `plans` of several, with other workers, another budget, saving and
--- resuming or not, and asking for bins and for the serial test or not
-abbrev pub rerun : Job → Command → ℕ → ℕ → ℕ → Bool → Bool → Bool → Job
-rerun job command workers budget save_every resume shift serial = record job {
+-- How a job is run: by which command, as `run` of one plan in place of `plans` of several; by how many workers; how many trajectories it walks at most;
+-- after how many it saves, and whether it resumes; whether it asks for bins and for the serial test; and into how many parts the trajectories are
+-- divided, of which it walks which.
+pub record Manner : Type 0 where
+  pub command : Command
+  pub workers : ℕ
+  pub budget : ℕ
+  pub save_every : ℕ
+  pub resume : Bool
+  pub shift : Bool
+  pub serial : Bool
+  pub parts : ℕ
+  pub part : ℕ
+
+-- the same job in another run
+abbrev pub rerun : Job → Manner → Job
+rerun job manner = record job {
   setting = record job.setting {
-    command = command;
-    workers = workers;
-    budget = budget;
-    save_every = save_every;
-    resume = resume;
-    shift = shift;
-    serial = serial;
+    command = manner.command;
+    workers = manner.workers;
+    budget = manner.budget;
+    save_every = manner.save_every;
+    resume = manner.resume;
+    shift = manner.shift;
+    serial = manner.serial;
+    parts = manner.parts;
+    part = manner.part;
   };
 }
 
@@ -58,18 +73,17 @@ pub record AreAlike (job other : Job) : Type 0 where
   pub same_report : other.setting.shift ≡ job.setting.shift → (outcomes : List Outcome) (stops : List (List ℕ)) (serial : Option (ℕ × List ℕ))
       → report other outcomes stops serial ≡ report job outcomes stops serial
 
--- the command, workers, budget, saving, resuming and asking for the serial test change nothing of what a job finds, and bins nothing of what it holds
--- for its own
+-- how a job is run changes nothing of what it finds, and whether it asks for bins nothing of what it holds for its own
 abbrev pub RerunsAreAlike : Type 0
-RerunsAreAlike = (job : Job) (command : Command) (workers budget save_every : ℕ) (resume shift serial : Bool)
-    → AreAlike job (rerun job command workers budget save_every resume shift serial)
+RerunsAreAlike = (job : Job) (manner : Manner) → AreAlike job (rerun job manner)
 
 -- ---- a stop
 
 -- A stop keeps the newest slot of before, or leaves a newer one: the last save that succeeded, or a later one that failed and had left all its
 -- bytes. What failed or was cut off is asked to be no intact checkpoint.
 abbrev pub StopsKeepTheNewest : Type 0
-StopsKeepTheNewest = (job : Job) (before after : World) (p : Pair) (told now : List Try) (t : TriesOver job before after p told now) (n : ℕ) (q : Pair)
+StopsKeepTheNewest = (job : Job) (before after : World) (p : Pair) (status : ℕ) (told now : List Try)
+    (t : TriesOver job before after p status told now) (n : ℕ) (q : Pair)
     → AreCarriedOut IsNotIntact job (job_digest job) p (stopped_in n t.tries) q → KeepsNewest job (job_digest job) p (stopped_in n t.tries) q
 
 -- ---- chains
@@ -82,21 +96,16 @@ pub record Link : Type 0 where
   pub note_before : Stream
   pub note_after : Stream
   pub status : ℕ
-  pub workers : ℕ
-  pub budget : ℕ
-  pub save_every : ℕ
-  pub resume : Bool
-  pub shift : Bool
-  pub serial : Bool
+  pub manner : Manner
   pub slots : Pair
 
 -- the job as this run had it
 abbrev pub job_in : Job → Link → Job
-job_in job l = rerun job job.setting.command l.workers l.budget l.save_every l.resume l.shift l.serial
+job_in job l = rerun job l.manner
 
 -- a run of the job over these slots, of which its keeper told what was tried before and after it, and what was tried is as the top call promises
 pub record IsRunOver (job : Job) (p : Pair) (l : Link) : Type 0 where
-  pub tried : TriedRightly l.words l.before l.after
+  pub tried : TriedRightly l.words l.before l.after l.status
   pub the_job : IsTheJob l.words l.before (job_in job l)
   pub found : l.before.keeper.slots ≡ Some p
   pub told : List Try
@@ -109,15 +118,15 @@ pub record IsRunOver (job : Job) (p : Pair) (l : Link) : Type 0 where
 pub record IsLink (job : Job) (p : Pair) (l : Link) : Type 0 where
   pub over : IsRunOver job p l
   pub promised : KeepsItsPromise l.words l.before l.after l.note_before l.note_after l.status
-  pub walking : IsTrue (is_walking job.setting.command)
+  pub walking : IsTrue (is_walking l.manner.command)
   pub left : l.after.keeper.slots ≡ Some l.slots
-  pub carried : Rose l.before.keeper.save_faults l.after.keeper.save_faults → (t : TriesOver (job_in job l) l.before l.after p over.told over.now)
+  pub carried : Rose l.before.keeper.save_faults l.after.keeper.save_faults → (t : TriesOver (job_in job l) l.before l.after p l.status over.told over.now)
       → AreCarriedOut IsNotOurs (job_in job l) (job_digest (job_in job l)) p t.tries l.slots
 
 -- the run was stopped, when so many of its saves had ended, within the next one or before it, and left these slots
 pub record IsStop (job : Job) (p : Pair) (l : Link) (n : ℕ) (q : Pair) : Type 0 where
   pub over : IsRunOver job p l
-  pub carried : (t : TriesOver (job_in job l) l.before l.after p over.told over.now)
+  pub carried : (t : TriesOver (job_in job l) l.before l.after p l.status over.told over.now)
       → AreCarriedOut IsNotOurs (job_in job l) (job_digest (job_in job l)) p (stopped_in n t.tries) q
 
 pub data Event : Type 0 where
@@ -132,17 +141,18 @@ abbrev pub IsEvent : Job → Pair → Event → Type 0
 IsEvent job p (ran l) = IsLink job p l
 IsEvent job p (stopped l n q) = IsStop job p l n q
 
--- runs of the job, one after the other, each over the slots that the one before left
+-- runs of the job, of any of its parts, one after the other, each over the slots that the one before left
 abbrev pub IsChain : Job → Pair → List Event → Type 0
 IsChain job p [] = ⊤
 IsChain job p (e ∷ events) = IsEvent job p e × IsChain job (slots_after e) events
 
 -- the run wrote the report that one thread gives by walking each trajectory once, for the job that asks for bins and for the serial test exactly
--- where this run did: with what workers, budget, saves and openings it came to it, and what other runs of the chain asked for, changes nothing
+-- where this run did: by what command, with what workers, budget, parts, saves and openings it came to it, and what other runs of the chain asked for,
+-- changes nothing
 abbrev pub WroteOneThreads : Job → Link → Type 0
-WroteOneThreads job l = Appends l.before.out.bytes l.after.out.bytes (thread_report (asking job l.shift l.serial) (draw job.setting.key))
+WroteOneThreads job l = Appends l.before.out.bytes l.after.out.bytes (thread_report (asking job l.manner.shift l.manner.serial) (draw job.setting.key))
 
--- it did where it ended with status 0, and also with status 9, after a save that failed, where its budget left nothing
+-- it did where it ended with status 0, and also with status 9, after a save that failed, where it left nothing
 pub record WroteWhereDue (job : Job) (l : Link) : Type 0 where
   pub done : l.status ≡ 0 → WroteOneThreads job l
   pub save_failed : (outcomes : List Outcome) → StartsWith l.words l.before (job_in job l) outcomes → IsFalse (leaves_work (job_in job l) outcomes) → l.status ≡ 9
@@ -157,6 +167,6 @@ AllHaveWritten job [] = ⊤
 AllHaveWritten job (e ∷ events) = HasWritten job e × AllHaveWritten job events
 
 -- from honest slots, and so from absent ones and from those of the first version, each run of any chain that ended with status 0, or with status 9
--- and nothing left, has written one thread's report, whichever of the runs before it asked for bins
+-- and nothing left, has written one thread's report, whichever of the runs before it asked for bins, and whichever part each of them walked
 abbrev pub ChainsWriteOneReport : Type 0
 ChainsWriteOneReport = (job : Job) (p : Pair) (events : List Event) → AreHonestOf job p → IsChain job p events → AllHaveWritten job events

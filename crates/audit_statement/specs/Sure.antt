@@ -18,7 +18,7 @@ sure_world graph keeper = record {
   keeper = record { slots = Some keeper.slots; tried = Some keeper.tried; load_faults = 0; save_faults = 0 };
 }
 
--- words, graph and plan are accepted; a walking command finds an opening, and the budget is enough for what it lacks
+-- words, graph and plan are accepted; a walking command finds an opening, and takes all that it lacks
 pub record MayBegin (words : List (List ℕ)) (before : World) : Type 0 where
   pub job : Job
   pub bytes : List ℕ

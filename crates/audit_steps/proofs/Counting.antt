@@ -1,12 +1,16 @@
 -- How many outcomes a run has, and how many it lacks.
-use Rattle.std.proofs.Common.{◌≡◌, ◌⊎◌, inl, inr, ℕ, zero, suc, ◌+◌, ◌<◌, ◌≤◌, ◌||◌, not, Bool, true, false, cond, List, [], ◌∷◌, length, refl, sym, ap, ◌∙◌, length-append, All, arith}
+use Rattle.std.proofs.Common.{◌≡◌, ◌⊎◌, inl, inr, ℕ, zero, suc, ◌+◌, ◌<◌, ◌≤◌, ◌&&◌, ◌||◌, not, Bool, true, false, cond, List, [], ◌∷◌, length, min, take, refl, sym, ap, subst, ◌∙◌, length-append, All, arith}
 use Rattle.std.specs.Prelude.{◌==◌}
-use Rattle.std.proofs.lemmas.Bool.{cases_order, eq-eqb, ne_eqb, eqb-true}
-use Rattle.std.proofs.lemmas.List.{length-take}
+use Rattle.std.proofs.lemmas.Bool.{and_parts, cases_order, eq-eqb, ne_eqb, eqb-true}
+use Rattle.std.proofs.lemmas.List.{length-take, take_all}
 use Rattle.audit_model.specs.declared.outcome.Outcome.{Outcome}
 use Rattle.audit_model.specs.Below.{filter_below}
+use Rattle.audit_model.specs.Graph.{has}
 use Rattle.audit_model.specs.Job.{Job}
-use Rattle.audit_model.specs.Run.{total, has_id, run_ids}
+use Rattle.audit_model.specs.Run.{total, has_id, is_in_part, lacking_ids, part_ids, run_ids}
+use Rattle.model_laws.proofs.Below.{length-filter_below}
+use Rattle.model_laws.proofs.Connected.{filter_below-has}
+use Rattle.model_laws.proofs.Parts.{only_part}
 use Rattle.outcome_book.specs.Booked.{AreApart}
 use Rattle.audit_statement.specs.Endings.{lacking}
 
@@ -98,6 +102,80 @@ pub lacking_rest : (job : Job) (outcomes : List Outcome) → AreApart outcomes �
 lacking_rest job outcomes apart below =
     omega (arith, count-not (total job) (has_id outcomes), count-ids (total job) outcomes apart below)
 
--- how many ids are walked
-pub length-run_ids : (job : Job) (outcomes : List Outcome) (budget : ℕ) → budget ≤ lacking job outcomes → length (run_ids job outcomes budget) ≡ budget
-length-run_ids job outcomes budget few = omega (arith, few, length-take budget (filter_below (total job) (λ id. not (has_id outcomes id))))
+-- ---- tests of which one passes no more than the other
+
+one_fewer : (a b : Bool) → (a ≡ true → b ≡ true) → one_if a ≤ one_if b
+one_fewer true b f = subst (λ (c : Bool). 1 ≤ one_if c) (sym (f refl)) (omega arith)
+one_fewer false b f = omega arith
+
+one_back : (a b : Bool) → one_if b ≤ one_if a → b ≡ true → a ≡ true
+one_back true b few e = refl
+one_back false true few e = absurd (omega (arith, few))
+one_back false false few e = e
+
+count-fewer : (n : ℕ) (first second : ℕ → Bool) → ((k : ℕ) → first k ≡ true → second k ≡ true) → count n first ≤ count n second
+count-fewer zero first second each = omega arith
+count-fewer (suc n) first second each =
+    omega (arith, count_more n first, count_more n second, count-fewer n first second each, one_fewer (first n) (second n) (each n))
+
+-- where as many numbers pass the first test as the second, each that passes the second passes the first
+count-all : (n : ℕ) (first second : ℕ → Bool) → ((k : ℕ) → first k ≡ true → second k ≡ true) → count n second ≤ count n first
+    → (k : ℕ) → k < n → second k ≡ true → first k ≡ true
+count-all zero first second each few k inside passes = absurd (omega (arith, inside))
+count-all (suc n) first second each few k inside passes = by (cases_order k n) (λ fewer l. count-all n first second each fewer k l passes)
+  where
+    counted : (count n second ≤ count n first) × (one_if (second n) ≤ one_if (first n))
+    counted =
+        let fewer = count-fewer n first second each in
+        let one = one_fewer (first n) (second n) (each n) in (
+          omega (arith, few, count_more n first, count_more n second, fewer, one),
+          omega (arith, few, count_more n first, count_more n second, fewer, one),
+        )
+
+    by : (k ≡ n) ⊎ ((k < n) ⊎ (n < k)) → (count n second ≤ count n first → k < n → first k ≡ true) → first k ≡ true
+    by (inl same) rec = subst (λ j. first j ≡ true) (sym same) (one_back (first n) (second n) counted.1 (subst (λ j. second j ≡ true) same passes))
+    by (inr (inl before)) rec = rec counted.0 before
+    by (inr (inr after)) rec = absurd (omega (arith, inside, after))
+
+-- ---- what a run lacks, and what of it lies in its part
+
+module _ (job : Job) (outcomes : List Outcome) where
+  abbrev pub lacks : ℕ → Bool
+  lacks id = not (has_id outcomes id)
+
+  abbrev pub lies : ℕ → Bool
+  lies id = lacks id && is_in_part job.setting.parts job.setting.part id
+
+  -- what lies in the part is lacking
+  pub lies_lacks : (k : ℕ) → lies k ≡ true → lacks k ≡ true
+  lies_lacks k e = (and_parts (lacks k) (is_in_part job.setting.parts job.setting.part k) e).0
+
+  length-run_ids : (budget : ℕ) → length (run_ids job outcomes budget) ≡ min budget (count (total job) lies)
+  length-run_ids budget = length-take budget (filter_below (total job) lies)
+
+  -- no more ids are walked than are lacking
+  pub few_run_ids : (budget : ℕ) → length (run_ids job outcomes budget) ≤ lacking job outcomes
+  few_run_ids budget = omega (arith, length-run_ids budget, count-fewer (total job) lies lacks lies_lacks)
+
+  -- where as many are walked as are lacking, each lacking id is walked
+  pub walks_each : (budget : ℕ) → lacking job outcomes ≤ length (run_ids job outcomes budget)
+      → (id : ℕ) → id < total job → has_id outcomes id ≡ false → has (run_ids job outcomes budget) id ≡ true
+  walks_each budget all id below absent =
+      let many = length-run_ids budget in
+      let fewer = count-fewer (total job) lies lacks lies_lacks in
+      let whole : run_ids job outcomes budget ≡ filter_below (total job) lies =
+      take_all budget (filter_below (total job) lies) (omega (arith, all, many, fewer)) in
+      subst (λ (ids : List ℕ). has ids id ≡ true) (sym whole)
+      (filter_below-has (total job) lies id below (count-all (total job) lies lacks lies_lacks (omega (arith, all, many)) id below (ap not absent)))
+
+  -- with one part the first of what is lacking is walked
+  whole_part : (budget : ℕ) → job.setting.parts ≡ 1 → job.setting.part ≡ 0 → run_ids job outcomes budget ≡ take budget (lacking_ids job outcomes)
+  whole_part budget one first =
+      ap (λ n. part_ids n job.setting.part job outcomes budget) one
+      ∙ ap (λ k. part_ids 1 k job outcomes budget) first
+      ∙ only_part job outcomes budget
+
+  -- with one part and a budget for all ids, as many are walked as are lacking
+  pub walks_all : (budget : ℕ) → job.setting.parts ≡ 1 → job.setting.part ≡ 0 → total job ≤ budget → lacking job outcomes ≤ length (run_ids job outcomes budget)
+  walks_all budget one first enough =
+      omega (arith, enough, ap length (whole_part budget one first), length-take budget (lacking_ids job outcomes), length-filter_below (total job) lacks)

@@ -1,5 +1,5 @@
 -- The numbers below a bound that pass a test, and the first of them.
-use Rattle.std.proofs.Common.{◌≡◌, sym, subst, ℕ, ◌<◌, Bool, true, not, List, length, take, get_or, All, AllPairs, arith}
+use Rattle.std.proofs.Common.{◌≡◌, sym, subst, ℕ, ◌<◌, true, List, length, take, get_or, All, AllPairs, arith}
 use Rattle.std.proofs.lemmas.Bool.{not-true}
 use Rattle.std.proofs.lemmas.List.{get_or-take, length-take}
 use Rattle.audit_model.specs.declared.outcome.Outcome.{Outcome}
@@ -8,6 +8,7 @@ use Rattle.audit_model.specs.Job.{Job}
 use Rattle.audit_model.specs.Run.{total, has_id, run_ids}
 use Rattle.model_laws.proofs.Filtered.{each_passes, each_rises}
 use Rattle.claim_crew.specs.Walks.{IsTodo}
+use Rattle.audit_steps.proofs.Counting.{lies, lies_lacks}
 
 module _ {A : Type 0} (n : ℕ) (xs : List A) where
   inside_both : (k : ℕ) → k < length (take n xs) → (k < n) × (k < length xs)
@@ -27,15 +28,11 @@ module _ {A : Type 0} (n : ℕ) (xs : List A) where
 pub run_ids_fit : (job : Job) (kept : List Outcome) (budget : ℕ) → IsTodo job kept (run_ids job kept budget)
 run_ids_fit job kept budget = record {
   apart = λ i j d before inside same.
-      let less = first_pair budget (filter_below (total job) lacks) (λ x y. x < y) (each_rises (total job) lacks) i j d before inside in
+      let less = first_pair budget (filter_below (total job) (lies job kept)) (λ x y. x < y) (each_rises (total job) (lies job kept)) i j d before inside in
       absurd (omega (arith, less, same));
   within = λ k d inside. (passes k d inside).0;
-  absent = λ k d inside. not-true (has_id kept (get_or (run_ids job kept budget) k d)) (passes k d inside).1;
+  absent = λ k d inside. not-true (has_id kept (get_or (run_ids job kept budget) k d)) (lies_lacks job kept _ (passes k d inside).1);
 }
   where
-    lacks : ℕ → Bool
-    lacks id = not (has_id kept id)
-
-    passes : All (λ id. (id < total job) × (not (has_id kept id) ≡ true)) (run_ids job kept budget)
-    passes = first_pass budget (filter_below (total job) (λ id. not (has_id kept id))) (λ id. (id < total job) × (not (has_id kept id) ≡ true))
-        (each_passes (total job) (λ id. not (has_id kept id)))
+    passes : All (λ id. (id < total job) × (lies job kept id ≡ true)) (run_ids job kept budget)
+    passes = first_pass budget (filter_below (total job) (lies job kept)) (λ id. (id < total job) × (lies job kept id ≡ true)) (each_passes (total job) (lies job kept))

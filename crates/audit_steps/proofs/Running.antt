@@ -1,9 +1,9 @@
 -- What is known of a run.
-use Rattle.std.proofs.Common.{◌≡◌, ℕ, zero, suc, ◌+◌, ◌<◌, ◌≤◌, ◌||◌, not, Bool, true, false, List, [], ◌∷◌, ◌++◌, length, map, refl, sym, subst, ap, ◌∙◌, cond, length-append, get_or, min, Option, Some, None, All, AllPairs, arith}
+use Rattle.std.proofs.Common.{◌≡◌, ◌⊎◌, inl, inr, ℕ, zero, suc, ◌+◌, ◌<◌, ◌≤◌, ◌||◌, not, Bool, true, false, List, [], ◌∷◌, ◌++◌, length, map, refl, sym, subst, ap, ◌∙◌, cond, length-append, get_or, Option, Some, None, All, AllPairs, arith}
 use Rattle.std.specs.Prelude.{IsTrue, IsPermutation, ◌==◌, find}
 use Rattle.std.specs.List.{list_all}
-use Rattle.std.proofs.lemmas.Bool.{eqb-true, le-ltb, lt-ltb, ltb-true, and_from, and_parts, ne_eqb}
-use Rattle.std.proofs.lemmas.List.{get_or-map, map-append, length-map, length-take}
+use Rattle.std.proofs.lemmas.Bool.{cases_order, eqb-true, le-ltb, lt-ltb, ltb-true, and_from, and_parts, ne_eqb}
+use Rattle.std.proofs.lemmas.List.{get_or-map, map-append, length-map}
 use Rattle.std.proofs.lemmas.List.Elements.{All-append, All-map}
 use Rattle.std.proofs.lemmas.List.Sorted.{All-permutation, IsPermutation-sym, length_permutation}
 use Rattle.audit_model.specs.Apart.{AllApart}
@@ -24,10 +24,10 @@ use Rattle.model_laws.proofs.Lists.{find_passes}
 use Rattle.draw_definitions.specs.Draw.{draw}
 use Rattle.outcome_book.specs.Booked.{AreApart}
 use Rattle.report.specs.Outcomes.{AreOutcomesOf, AreStopsBy, AreStopsOf, reported, reported_by}
-use Rattle.audit_statement.specs.Endings.{is_walking, leaves_work, lacking, full_of}
+use Rattle.audit_statement.specs.Endings.{is_walking, leaves_work, lacking, to_walk, full_of}
 use Rattle.audit_steps.specs.Runs.{AcceptedJobsAreRuns, AreAll, IsRunJob}
 use Rattle.claim_crew.specs.Walks.{found}
-use Rattle.audit_steps.proofs.Counting.{lacking_rest}
+use Rattle.audit_steps.proofs.Counting.{few_run_ids, lacking_rest, walks_all}
 use Rattle.audit_steps.proofs.Starting.{every_id}
 use Rattle.audit_steps.proofs.Words.{accepted_words_are_even, accepted_words_cover, accepted_words_stop_alone}
 
@@ -64,19 +64,25 @@ reports_all job plain = ap (λ (n : ℕ). reported_by n job) plain
 
 -- no more ids are walked than there are
 pub few_ids : (job : Job) (outcomes : List Outcome) (budget : ℕ) → length (run_ids job outcomes budget) ≤ total job
-few_ids job outcomes budget =
-    omega (arith, length-take budget (filter_below (total job) (λ id. not (has_id outcomes id))), length-filter_below (total job) (λ id. not (has_id outcomes id)))
+few_ids job outcomes budget = omega (arith, few_run_ids job outcomes budget, length-filter_below (total job) (λ id. not (has_id outcomes id)))
 
 pub few_run_todo : (job : Job) → IsRunJob job → (ids : List ℕ) (outcomes : List Outcome) (budget : ℕ) → ids ≡ run_ids job outcomes budget → length ids ≤ 100000
 few_run_todo job run ids outcomes budget same = omega (arith, ap length same, few_ids job outcomes budget, (run_setting job run).few)
 
-few_run_ids : (job : Job) (outcomes : List Outcome) → length (run_ids job outcomes job.setting.budget) ≤ lacking job outcomes
-few_run_ids job outcomes = omega (arith, length-take job.setting.budget (filter_below (total job) (λ id. not (has_id outcomes id))))
+-- a run that saves nothing has one part
+pub one_part : (job : Job) → IsRunJob job → job.setting.save_every ≡ 0 → (job.setting.parts ≡ 1) × (job.setting.part ≡ 0)
+one_part job run none = by (cases_order job.setting.parts 1)
+  where
+    by : (job.setting.parts ≡ 1) ⊎ ((job.setting.parts < 1) ⊎ (1 < job.setting.parts)) → (job.setting.parts ≡ 1) × (job.setting.part ≡ 0)
+    by (inl one) = (one, omega (arith, one, run.sound.within.setting.part.one_of))
+    by (inr (inl fewer)) = absurd (omega (arith, fewer, run.sound.within.setting.part.some))
+    by (inr (inr more)) = absurd (omega (arith, none, run.sound.within.setting.part.saves (omega (arith, more))))
 
--- a budget for all ids leaves no work
-pub leaves_none : (job : Job) (outcomes : List Outcome) → total job ≤ job.setting.budget → leaves_work job outcomes ≡ false
-leaves_none job outcomes enough =
-    le-ltb job.setting.budget (lacking job outcomes) (omega (arith, enough, length-filter_below (total job) (λ id. not (has_id outcomes id))))
+-- so it leaves no work
+pub leaves_none : (job : Job) (outcomes : List Outcome) → IsRunJob job → job.setting.save_every ≡ 0 → leaves_work job outcomes ≡ false
+leaves_none job outcomes run none =
+    let whole = one_part job run none in
+    le-ltb (to_walk job outcomes) (lacking job outcomes) (walks_all job outcomes job.setting.budget whole.0 whole.1 (run.covered none))
 
 -- ---- outcomes that fit
 
@@ -154,7 +160,7 @@ are_all job run opening kept todo sorted same start ids within fullness moved ri
     let counted : length sorted ≡ length opening + length (run_ids job opening job.setting.budget) =
     omega (arith, length_permutation sorted (opening ++ map (found job) todo) here, length-append opening (map (found job) todo), length-map todo (found job), ap length ids) in
     let rest : lacking job opening + length opening ≡ total job = lacking_rest job opening (rising_apart opening start.rising) (all_below_total job opening start.fit) in
-    let few : length (run_ids job opening job.setting.budget) ≤ lacking job opening = few_run_ids job opening in
+    let few : length (run_ids job opening job.setting.budget) ≤ lacking job opening = few_run_ids job opening job.setting.budget in
     let most = (run_setting job run).few in
     record {
       full = fullness job.setting.budget (ids ∙ ap (λ os. run_ids job os job.setting.budget) (sym same)) ∙ ap (λ os. full job (draw job.setting.key) os job.setting.budget) same;
@@ -173,19 +179,13 @@ module _ (job : Job) (opening outcomes : List Outcome) (all : AreAll job opening
   rest_is : lacking job opening + length opening ≡ total job
   rest_is = lacking_rest job opening (rising_apart opening all.start.rising) (all_below_total job opening all.start.fit)
 
-  walked_is : length (run_ids job opening job.setting.budget) ≡ min job.setting.budget (lacking job opening)
-  walked_is = length-take job.setting.budget (filter_below (total job) (λ id. not (has_id opening id)))
-
-  -- fewer outcomes than trajectories: the budget was not enough
+  -- fewer outcomes than trajectories: not all that is lacking was walked
   pub short_leaves : length outcomes < total job → leaves_work job opening ≡ true
-  short_leaves short = lt-ltb job.setting.budget (lacking job opening) (omega (arith, short, all.count, rest_is, walked_is))
+  short_leaves short = lt-ltb (to_walk job opening) (lacking job opening) (omega (arith, short, all.count, rest_is))
 
-  pub short_count : length outcomes < total job → length outcomes ≡ length opening + job.setting.budget
-  short_count short = omega (arith, short, all.count, rest_is, walked_is)
-
-  -- an outcome for each trajectory: the budget was enough
+  -- an outcome for each trajectory: all that is lacking was walked
   pub whole_leaves : total job ≤ length outcomes → leaves_work job opening ≡ false
-  whole_leaves whole = le-ltb job.setting.budget (lacking job opening) (omega (arith, whole, all.count, rest_is, walked_is))
+  whole_leaves whole = le-ltb (to_walk job opening) (lacking job opening) (omega (arith, whole, all.count, rest_is))
 
 pub kept_id : (job : Job) (opening : List Outcome) (id : ℕ) → (outcome_from job (draw job.setting.key) opening id).id ≡ id
 kept_id job opening id = by (find (λ o. o.id == id) opening) refl

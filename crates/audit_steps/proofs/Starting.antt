@@ -6,16 +6,13 @@ use Rattle.audit_io.specs.Slots.{Pair}
 use Rattle.audit_model.specs.declared.outcome.Outcome.{Outcome}
 use Rattle.audit_model.specs.Job.{Job}
 use Rattle.ckpt_store.specs.Fitting.{AreFit}
-use Rattle.audit_statement.specs.Endings.{IsOpening, StartsFrom, TellsOpening, saves, leaves_work, lacking, Saw, opening_from}
+use Rattle.audit_statement.specs.Endings.{IsOpening, StartsFrom, TellsOpening, saves, leaves_work, lacking, to_walk, Saw, opening_from}
 use Rattle.audit_steps.specs.Runs.{IsRunJob}
 use Rattle.audit_io.specs.State.{Kept}
-use Rattle.std.proofs.lemmas.List.{take_all}
-use Rattle.audit_model.specs.Below.{filter_below}
 use Rattle.audit_model.specs.Graph.{has}
 use Rattle.audit_model.specs.Run.{total, has_id, run_ids, IsRight}
-use Rattle.model_laws.proofs.Connected.{filter_below-has}
+use Rattle.audit_steps.proofs.Counting.{walks_each}
 use Rattle.audit_model.specs.Trajectory.{Draws}
-use Rattle.claim_crew.specs.Walks.{found}
 
 -- ---- whether it saves
 
@@ -96,9 +93,8 @@ or_else false b f = f refl
 pub every_id : (job : Job) (outcomes : List Outcome) → leaves_work job outcomes ≡ false → (id : ℕ) → id < total job
     → (has_id outcomes id || has (run_ids job outcomes job.setting.budget) id) ≡ true
 every_id job outcomes none id below =
-    let ids : run_ids job outcomes job.setting.budget ≡ filter_below (total job) (λ i. not (has_id outcomes i)) = take_all _ _ (ltb-false job.setting.budget (lacking job outcomes) none) in
     or_else (has_id outcomes id) (has (run_ids job outcomes job.setting.budget) id)
-    (λ e. subst (λ (xs : List ℕ). has xs id ≡ true) (sym ids) (filter_below-has (total job) (λ i. not (has_id outcomes i)) id below (ap not e)))
+    (walks_each job outcomes job.setting.budget (ltb-false (to_walk job outcomes) (lacking job outcomes) none) id below)
 
 pub same_kept : (k l : Kept) → l.slots ≡ k.slots → l.tried ≡ k.tried → l.load_faults ≡ k.load_faults → l.save_faults ≡ k.save_faults → l ≡ k
 same_kept k l slots tried loads saves i = record { slots = slots i; tried = tried i; load_faults = loads i; save_faults = saves i }

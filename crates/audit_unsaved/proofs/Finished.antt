@@ -19,7 +19,7 @@ use Rattle.audit_steps.specs.Calls.{Finishes}
 use Rattle.audit_notes.specs.Said.{WritesAllOf}
 use Rattle.audit_io.specs.State.{Kept, Stream}
 use Rattle.audit_statement.specs.World.{World, world}
-use Rattle.audit_steps.proofs.Running.{leaves_none, short_count, short_leaves, whole_leaves}
+use Rattle.audit_steps.proofs.Running.{leaves_none, short_leaves, whole_leaves}
 use Rattle.audit_steps.proofs.Starting.{saves_some}
 use Rattle.audit_steps.proofs.Leaving.{left, saved_left}
 
@@ -172,7 +172,7 @@ module _ (job : Job) (run : IsRunJob job) (opening outcomes : List Outcome) (all
 module _ (job : Job) (run : IsRunJob job) (opening outcomes : List Outcome) (all : AreAll job opening outcomes) (out : Stream) (k l : Kept) (opened : IsOpening job k.slots opening) (short : length outcomes < total job) where
   -- only a run that saves leaves work
   saving : saves job.setting ≡ true
-  saving = saves_some job run (λ e. true_false (sym (short_leaves job opening outcomes all short) ∙ leaves_none job opening (run.covered e)))
+  saving = saves_some job run (λ e. true_false (sym (short_leaves job opening outcomes all short) ∙ leaves_none job opening run e))
     where
       true_false : true ≡ false → ⊥
       true_false e = cc
@@ -189,7 +189,7 @@ module _ (job : Job) (run : IsRunJob job) (opening outcomes : List Outcome) (all
           prepared = p;
           saving = saving;
           stopped = stops_early before after;
-          done_is = short_count job opening outcomes all short;
+          done_is = all.count;
           all_is = refl;
           saved = saves_all job run opening outcomes all out out k l opened before after ⊤ (Ok tt) (λ _. refl) last;
         };

@@ -31,7 +31,7 @@ pub enum Finished {
     Done,
     /// The report was not written whole.
     WriteFault,
-    /// So many of all trajectories are done, and the budget is spent.
+    /// So many of all trajectories are done, and the rest is left to another run.
     Stopped { done: u32, total: u32 },
     /// A save failed.
     SaveFault,

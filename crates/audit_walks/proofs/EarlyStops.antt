@@ -11,13 +11,14 @@ use Rattle.audit_model.specs.declared.outcome.Outcome.{Outcome}
 use Rattle.audit_model.specs.Below.{filter_below, map_below}
 use Rattle.audit_model.specs.Graph.{has}
 use Rattle.audit_model.specs.Job.{Job}
-use Rattle.audit_model.specs.Run.{fits, full, has_id, run_ids, total}
+use Rattle.audit_model.specs.Run.{fits, full, has_id, part_ids, run_ids, total}
 use Rattle.audit_model.specs.Stopping.{placed_asks}
 use Rattle.audit_model.specs.Trajectory.{Draws, outcome, outcome_by, sequence, tally}
 use Rattle.claim_crew.specs.Walks.{found}
 use Rattle.draw_definitions.specs.Draw.{draw}
 use Rattle.hex.specs.Hex.{encode_lower}
 use Rattle.model_laws.proofs.Fitting as fitting
+use Rattle.model_laws.proofs.Parts.{only_part}
 use Rattle.model_laws.proofs.Resumed.{full_is_sequence}
 use Rattle.model_laws.proofs.Below.{length-map_below, get_or-map_below}
 use Rattle.report.specs.Outcomes.{AreOutcomesOf, AreStopsBy, AreStopsOf, IsStop, reported_by}
@@ -25,7 +26,7 @@ use Rattle.stopping_crew.specs.Rounds.{AreParts, StopsInTime, ends_after, found_
 use Rattle.text_definitions.specs.Report.{graph_line, line, population_line, report, rule_lines, serial_lines, setting_line, shift_line, stop_line, test_lines, title_line, walk_line, walk_lines}
 use Rattle.audit_steps.specs.Runs.{AreAll, IsRunJob}
 use Rattle.audit_steps.proofs.Starting.{every_id, none_right, none_fit}
-use Rattle.audit_steps.proofs.Running.{are_all, fit_list, leaves_none, run_setting}
+use Rattle.audit_steps.proofs.Running.{are_all, fit_list, leaves_none, one_part, run_setting}
 
 -- ---- lists by place
 
@@ -137,15 +138,21 @@ all_below-filter : (n : ℕ) → filter_below n (λ id. true) ≡ map_below n (�
 all_below-filter zero = refl
 all_below-filter (suc n) = ap (λ xs. xs ++ n ∷ []) (all_below-filter n)
 
--- with nothing to start with and a budget for all, every id is walked
-pub all_ids_walked : (job : Job) → total job ≤ job.setting.budget → run_ids job [] job.setting.budget ≡ map_below (total job) (λ id. id)
-all_ids_walked job enough =
-    ap (take job.setting.budget) (all_below-filter (total job))
+-- with nothing to start with, one part and a budget for all, every id is walked
+all_ids_walked : (job : Job) → job.setting.parts ≡ 1 → job.setting.part ≡ 0 → total job ≤ job.setting.budget → run_ids job [] job.setting.budget ≡ map_below (total job) (λ id. id)
+all_ids_walked job one first enough =
+    ap (λ n. part_ids n job.setting.part job [] job.setting.budget) one
+    ∙ ap (λ k. part_ids 1 k job [] job.setting.budget) first
+    ∙ only_part job [] job.setting.budget
+    ∙ ap (take job.setting.budget) (all_below-filter (total job))
     ∙ take_all job.setting.budget (map_below (total job) (λ id. id)) (omega (arith, length-map_below (total job) (λ id. id), enough))
 
 module _ (job : Job) (run : IsRunJob job) (some : 1 ≤ job.setting.stop) where
   pub covered : total job ≤ job.setting.budget
   covered = run.covered (run.alone some).no_saves
+
+  pub all_walked : run_ids job [] job.setting.budget ≡ map_below (total job) (λ id. id)
+  all_walked = let whole = one_part job run (run.alone some).no_saves in all_ids_walked job whole.0 whole.1 covered
 
   found_by_one : map (found job) (map_below (total job) (λ id. id)) ≡ sequence job (draw job.setting.key)
   unfolding found sequence
@@ -161,14 +168,14 @@ module _ (job : Job) (run : IsRunJob job) (some : 1 ≤ job.setting.stop) where
 
   one_is_full : (budget : ℕ) → map_below (total job) (λ id. id) ≡ run_ids job [] budget → sequence job (draw job.setting.key) ≡ full job (draw job.setting.key) [] budget
   one_is_full budget ids = sym (full_is_sequence job (draw job.setting.key) [] (none_right job (draw job.setting.key)) budget (λ id inside.
-      subst (λ (xs : List ℕ). (has_id [] id || has xs id) ≡ true) (all_ids_walked job covered ∙ ids)
-      (every_id job [] (leaves_none job [] covered) id inside)))
+      subst (λ (xs : List ℕ). (has_id [] id || has xs id) ≡ true) (all_walked ∙ ids)
+      (every_id job [] (leaves_none job [] run (run.alone some).no_saves) id inside)))
 
   -- what one thread finds are all outcomes of a run that starts with none
   pub one_finds_all : AreAll job [] (sequence job (draw job.setting.key))
   one_finds_all =
       are_all job run [] [] (map_below (total job) (λ id. id)) (sequence job (draw job.setting.key)) refl (none_fit job)
-      (sym (all_ids_walked job covered))
+      (sym all_walked)
       (λ k d inside. let long = length-map_below (total job) (λ id. id) in let at = get_or-map_below (total job) (λ id. id) k d (omega (arith, inside, long)) in omega (arith, inside, long, at))
       one_is_full
       (subst (λ (os : List Outcome). IsPermutation (sequence job (draw job.setting.key)) os) (sym found_by_one) (IsPermutation-refl (sequence job (draw job.setting.key))))

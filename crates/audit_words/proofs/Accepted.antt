@@ -1,17 +1,17 @@
 -- The setting of good values is within the limits.
-use Rattle.std.proofs.Common.{◌≡◌, ◌≢◌, ◌∙◌, ℕ, ◌+◌, ◌≤◌, true, List, [], length, ap, arith, refl, subst, sym, Result, Ok, Err}
-use Rattle.std.proofs.lemmas.Bool.{and_parts, false≢true, leb-true}
-use Rattle.std.specs.Prelude.{nat_le, is_some, unwrap_or}
+use Rattle.std.proofs.Common.{◌≡◌, ◌≢◌, ◌∙◌, ℕ, ◌+◌, ◌≤◌, true, List, [], length, ap, arith, refl, subst, sym, Result, Ok, Err, inl, inr}
+use Rattle.std.proofs.lemmas.Bool.{and_parts, false≢true, leb-true, ltb-true, eqb-true, or_cases}
+use Rattle.std.specs.Prelude.{◌==◌, nat_le, nat_lt, is_some, unwrap_or}
 use Rattle.std.specs.List.{AllPairs}
 use Rattle.std.specs.Result.{result_ok}
 use Rattle.hex.specs.Hex.{decode_sized}
 use Rattle.hex.proofs.HexLemmas.{decode_sized-ok, decode_sized-twice, decode_of-ok}
-use Rattle.audit_model.specs.Limits.{IsSetting, IsSettingOf, IsRunSetting}
-use Rattle.audit_model.specs.declared.fault.Name.TheVariants.{Slack, Key, Walks, Steps, Ends, HubSteps, Ask, Workers, MaxCut, MaxSplit}
+use Rattle.audit_model.specs.Limits.{IsPart, IsSetting, IsSettingOf, IsRunSetting}
+use Rattle.audit_model.specs.declared.fault.Name.TheVariants.{Slack, Key, Walks, Steps, Ends, HubSteps, Ask, Workers, MaxCut, MaxSplit, Parts, Part, Save}
 use Rattle.audit_model.specs.declared.setting.Ask.{Ask as AskOf}
 use Rattle.audit_model.specs.declared.setting.Command.{Command}
 use Rattle.audit_model.specs.declared.setting.Command.TheVariants.{Check, Run, Make, Plans}
-use Rattle.word_definitions.specs.Words.{NameAndValue, are_asks, as_run, asks_of, has_walks, is_good, is_number, number_at, parts_between, setting_for, text_of}
+use Rattle.word_definitions.specs.Words.{NameAndValue, are_asks, as_run, asks_of, has_walks, is_good, is_number, number_at, parts_between, saves_parts, setting_for, text_of}
 use Rattle.audit_words.specs.Judged.{AreGood, AreReadable}
 use Rattle.audit_words.proofs.Asking.{length-asks_of, AllPairs-asks_of}
 use Rattle.audit_words.proofs.Goodness.{asks_of-some, number-bounds, split-bounds}
@@ -83,6 +83,24 @@ IsRunSetting-made words run = record {
   few_workers = run.few_workers;
 }
 
+IsPart-made : (words : List NameAndValue) → IsPart (as_run Make words) → IsPart (setting_for Make words)
+IsPart-made words p = record { some = p.some; few = p.few; one_of = p.one_of; saves = p.saves }
+
+IsPart-good : (command : Command) (words : List NameAndValue) → AreGood words → IsPart (as_run command words)
+IsPart-good command words good =
+    let parts = and_parts (is_number 1 100000 (text_of Check words Parts)) (saves_parts Check words) good.parts in
+    let bounds = number-bounds 1 100000 (text_of Check words Parts) parts.0 in
+    let part = and_parts (is_number 0 100000 (text_of Check words Part)) (nat_lt (number_at Check words Part) (number_at Check words Parts)) good.part in
+    record {
+      some = bounds.0;
+      few = bounds.1;
+      one_of = ltb-true (number_at Check words Part) (number_at Check words Parts) part.1;
+      saves = λ several. elim (or_cases (number_at Check words Parts == 1) (nat_le 1 (number_at Check words Save)) parts.1) [
+        | inl one ↦ absurd (omega (arith, several, eqb-true (number_at Check words Parts) 1 one))
+        | inr saved ↦ leb-true 1 (number_at Check words Save) saved
+      ];
+    }
+
 IsSetting-run : (command : Command) (words : List NameAndValue) → AreGood words → is_good Check words MaxSplit ≡ true → IsSettingOf command (as_run command words) → IsSetting (as_run command words)
 IsSetting-run command words good split is = record {
   slack = (number-bounds 0 10000 (text_of Check words Slack) good.slack).1;
@@ -90,6 +108,7 @@ IsSetting-run command words good split is = record {
   max_cut = (number-bounds 0 400000 (text_of Check words MaxCut) good.max_cut).1;
   some_splits = (split-bounds words split).0;
   few_splits = (split-bounds words split).1;
+  part = IsPart-good command words good;
   command = is;
 }
 
@@ -100,6 +119,7 @@ IsSetting-good Check words good = record {
   max_cut = (number-bounds 0 400000 (text_of Check words MaxCut) good.1).1;
   some_splits = (split-bounds words good.2).0;
   few_splits = (split-bounds words good.2).1;
+  part = record { some = omega arith; few = omega arith; one_of = omega arith; saves = λ several. absurd (omega (arith, several)) };
   command = record {
     no_walks = refl;
     no_steps = refl;
@@ -117,6 +137,7 @@ IsSetting-good Make words good = record {
   max_cut = (number-bounds 0 400000 (text_of Check words MaxCut) good.0.max_cut).1;
   some_splits = omega arith;
   few_splits = omega arith;
+  part = IsPart-made words (IsPart-good Make words good.0);
   command = IsRunSetting-made words (IsRunSetting-good Make words good.0);
 }
 IsSetting-good Plans words good = IsSetting-run Plans words good.0 good.1 (IsRunSetting-good Plans words good.0)

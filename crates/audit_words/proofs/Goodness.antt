@@ -4,7 +4,7 @@ use Rattle.std.proofs.lemmas.Bool.{and_parts, false≢true, leb-true}
 use Rattle.std.specs.Prelude.{◌&&◌, nat_le, is_some, unwrap_or}
 use Rattle.std.specs.List.{filter_map}
 use Rattle.audit_model.specs.declared.fault.Name.{Name}
-use Rattle.audit_model.specs.declared.fault.Name.TheVariants.{Pop, Size, Slack, Key, Walks, Steps, Ends, HubSteps, Ask, Workers, Budget, Save, Resume, MaxCut, Shift, Stop, Serial, Region, MaxSplit}
+use Rattle.audit_model.specs.declared.fault.Name.TheVariants.{Pop, Size, Slack, Key, Walks, Steps, Ends, HubSteps, Ask, Workers, Budget, Save, Resume, MaxCut, Shift, Stop, Serial, Region, MaxSplit, Parts, Part}
 use Rattle.audit_model.specs.declared.fault.WordFault.TheVariants.{BadValue}
 use Rattle.audit_model.specs.declared.setting.Ask.{Ask as AskOf}
 use Rattle.audit_model.specs.declared.setting.Command.TheVariants.{Check, Run, Make, Plans}
@@ -12,7 +12,7 @@ use Rattle.audit_model.specs.declared.setting.Command.{Command}
 use Rattle.model_laws.proofs.Options.{some_from}
 use Rattle.word_definitions.specs.Words.{NameAndValue, all_different, are_asks, ask_of, asks_of, command_of, has_split, is_good, is_number, names_of, number_at, number_of, parts_between, text_of}
 use Rattle.audit_words.specs.Judged.{AreGood, AreReadable, fault_of_pairs, fault_of_values}
-use Rattle.audit_words.proofs.Unnamed.{good_budget, good_resume, good_save}
+use Rattle.audit_words.proofs.Unnamed.{good_budget, good_part, good_parts, good_resume, good_save}
 use Rattle.audit_words.proofs.Asking.{filter_map-ask_of}
 
 -- a number within bounds
@@ -62,8 +62,9 @@ find-all good (name ∷ names) h (suc k) l = find-all good names (find-last good
 abbrev names_before : List Name → List Name
 names_before more = Slack ∷ Key ∷ Walks ∷ Steps ∷ Ends ∷ HubSteps ∷ Ask ∷ Workers ∷ Budget ∷ Save ∷ Resume ∷ MaxCut ∷ Shift ∷ Stop ∷ Serial ∷ more
 
-AreGood-values : (words : List NameAndValue) (more : List Name) → option_map BadValue (find (λ name. not (is_good Check words name)) (names_before more)) ≡ None → AreGood words
-AreGood-values words more h =
+AreGood-values : (words : List NameAndValue) (more : List Name) → option_map BadValue (find (λ name. not (is_good Check words name)) (names_before more)) ≡ None
+    → is_good Check words Parts ≡ true → is_good Check words Part ≡ true → AreGood words
+AreGood-values words more h parts part =
     let good = find-all (is_good Check words) (names_before more) h in
     record {
       slack = good 0 (omega arith);
@@ -81,6 +82,8 @@ AreGood-values words more h =
       shift = good 12 (omega arith);
       stop = good 13 (omega arith);
       serial = good 14 (omega arith);
+      parts = parts;
+      part = part;
     }
 
 -- where no value of a command that a word spells is bad, those of its setting are good
@@ -90,11 +93,12 @@ AreReadable-good word Check words spells faultless h =
     let good = find-all (is_good Check words) (names_of Check) h in
     (good 4 (omega arith), good 5 (omega arith), good 7 (omega arith))
 AreReadable-good word Run words spells faultless h =
-    let good = find-all (is_good Check words) (names_before (Region ∷ MaxSplit ∷ [])) h in
-    (AreGood-values words (Region ∷ MaxSplit ∷ []) h, good 16 (omega arith))
+    let good = find-all (is_good Check words) (names_before (Region ∷ MaxSplit ∷ Parts ∷ Part ∷ [])) h in
+    (AreGood-values words (Region ∷ MaxSplit ∷ Parts ∷ Part ∷ []) h (good 17 (omega arith)) (good 18 (omega arith)), good 16 (omega arith))
 AreReadable-good word Make words spells faultless h =
     let size = find-last (is_good Make words) Size (drop 1 (names_of Make)) h in
-    (AreGood-values words [] size.1, size.0)
+    let good = find-all (is_good Check words) (names_before (Parts ∷ Part ∷ [])) size.1 in
+    (AreGood-values words (Parts ∷ Part ∷ []) size.1 (good 15 (omega arith)) (good 16 (omega arith)), size.0)
 AreReadable-good word Plans words spells faultless h =
     let good = find-all (is_good Plans words) (names_of Plans) h in (
       record {
@@ -113,6 +117,8 @@ AreReadable-good word Plans words spells faultless h =
         shift = good 13 (omega arith);
         stop = good 14 (omega arith);
         serial = good 15 (omega arith);
+        parts = good_parts words faultless;
+        part = good_part words faultless;
       },
       good 17 (omega arith),
     )

@@ -3,7 +3,7 @@ use Rattle.std.proofs.Common.{◌≡◌, ℕ, zero, suc, ◌<◌, Bool, true, fa
 use Rattle.std.proofs.lemmas.Bool.{and_parts, both_ways, false≢true, not-true, or_cases}
 use Rattle.std.specs.Prelude.{◌&&◌, ◌||◌}
 use Rattle.audit_model.specs.declared.fault.Name.{Name}
-use Rattle.audit_model.specs.declared.fault.Name.TheVariants.{Pop, Walks, Steps, Ends, Budget, Save, Stop, Serial}
+use Rattle.audit_model.specs.declared.fault.Name.TheVariants.{Pop, Walks, Steps, Ends, Budget, Save, Stop, Serial, Parts, Part}
 use Rattle.audit_model.specs.declared.setting.Command.{Command}
 use Rattle.audit_model.specs.declared.setting.Command.TheVariants.{Check, Run, Make, Plans}
 use Rattle.word_definitions.specs.Words.{NameAndValue, is_good, names_of}
@@ -61,7 +61,20 @@ on_ends _ = false
 
 abbrev on_save : Name → Bool
 on_save Stop = true
+on_save Parts = true
 on_save _ = false
+
+abbrev is_parts : Name → Bool
+is_parts Parts = true
+is_parts _ = false
+
+abbrev on_parts : Name → Bool
+on_parts Part = true
+on_parts _ = false
+
+is_parts-Parts : (name : Name) → is_parts name ≡ true → name ≡ Parts
+is_parts-Parts Parts h = refl
+is_parts-Parts _ h = absurd (false≢true h)
 
 is_walks-Walks : (name : Name) → is_walks name ≡ true → name ≡ Walks
 is_walks-Walks Walks h = refl
@@ -84,6 +97,7 @@ record IsOrdered (names : List Name) : Type 0 where
   walks : leads is_walks on_walks names ≡ true
   steps : leads is_steps on_steps names ≡ true
   ends : leads is_ends on_ends names ≡ true
+  parts : leads is_parts on_parts names ≡ true
 
 module _ (command : Command) (words : List NameAndValue) (names : List Name) (k : ℕ) (inside : k < length names) (below : (j : ℕ) → j < k → is_good command words (get_or names j Pop) ≡ true) (ordered : IsOrdered names) where
   good_leader : (first second : Name → Bool) (name : Name) → leads first second names ≡ true → ((n : Name) → first n ≡ true → n ≡ name) → second (get_or names k Pop) ≡ true → is_good command words name ≡ true
@@ -100,6 +114,9 @@ module _ (command : Command) (words : List NameAndValue) (names : List Name) (k 
   good_ends : on_ends (get_or names k Pop) ≡ true → is_good Check words Ends ≡ true
   good_ends rests = good_leader is_ends on_ends Ends ordered.ends is_ends-Ends rests
 
+  good_parts : on_parts (get_or names k Pop) ≡ true → is_good Check words Parts ≡ true
+  good_parts rests = good_leader is_parts on_parts Parts ordered.parts is_parts-Parts rests
+
   saved_before : leads is_save on_save names ≡ true → on_save (get_or names k Pop) ≡ true → is_good Check words Save ≡ true
   saved_before led rests = good_leader is_save on_save Save led is_save-Save rests
 
@@ -108,13 +125,15 @@ module _ (command : Command) (words : List NameAndValue) (names : List Name) (k 
   rests saved Budget is = (good_walks (ap on_walks is), good_ends (ap on_ends is))
   rests saved Stop is = (good_ends (ap on_ends is), saved (ap on_save is))
   rests saved Serial is = good_steps (ap on_steps is)
+  rests saved Parts is = saved (ap on_save is)
+  rests saved Part is = good_parts (ap on_parts is)
   rests saved _ is = tt
 
 is_ordered : (command : Command) → IsOrdered (names_of command)
-is_ordered Check = record { walks = refl; steps = refl; ends = refl }
-is_ordered Run = record { walks = refl; steps = refl; ends = refl }
-is_ordered Make = record { walks = refl; steps = refl; ends = refl }
-is_ordered Plans = record { walks = refl; steps = refl; ends = refl }
+is_ordered Check = record { walks = refl; steps = refl; ends = refl; parts = refl }
+is_ordered Run = record { walks = refl; steps = refl; ends = refl; parts = refl }
+is_ordered Make = record { walks = refl; steps = refl; ends = refl; parts = refl }
+is_ordered Plans = record { walks = refl; steps = refl; ends = refl; parts = refl }
 
 -- where a name rests on how often a run saves, that stands before it, or the command does not take it
 saved_by : (command : Command) (words : List NameAndValue) (k : ℕ) → k < length (names_of command) → fault_of_pairs command words ≡ None

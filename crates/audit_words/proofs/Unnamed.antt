@@ -2,12 +2,12 @@
 use Rattle.std.proofs.Common.{◌≡◌, ◌∙◌, ℕ, zero, suc, ◌+◌, ◌<◌, arith, Bool, true, false, not, cond, List, [], ◌∷◌, length, find, ap, refl, subst, sym, Option, Some, None, inl, inr}
 use Rattle.std.proofs.lemmas.Bool.{and_parts, cases_eq}
 use Rattle.std.proofs.lemmas.Slice.Eq.{bytes_eq-Decides}
-use Rattle.std.specs.Prelude.{◌&&◌, ◌||◌, nat_le, unwrap_or, bytes_eq, codes, option_and_then}
+use Rattle.std.specs.Prelude.{◌&&◌, ◌||◌, ◌==◌, nat_le, nat_lt, unwrap_or, bytes_eq, codes, option_and_then}
 use Rattle.std.specs.Fmt.{digits}
 use Rattle.std.specs.List.{slice_index_or}
 use Rattle.std.specs.Option.{option_or}
 use Rattle.audit_model.specs.declared.fault.Name.{Name}
-use Rattle.audit_model.specs.declared.fault.Name.TheVariants.{Budget, Ends, Save, Resume, Walks}
+use Rattle.audit_model.specs.declared.fault.Name.TheVariants.{Budget, Ends, Save, Resume, Walks, Parts, Part}
 use Rattle.audit_model.specs.declared.setting.Command.TheVariants.{Check, Plans}
 use Rattle.audit_model.specs.First.{first_some_below}
 use Rattle.audit_model.specs.Names.{name_text}
@@ -55,6 +55,23 @@ module _ (words : List NameAndValue) (faultless : fault_of_pairs Plans words ≡
 
   pub budget_is : text_of Check words Budget ≡ codes "100000"
   budget_is = defaulted Budget refl
+
+  pub parts_is : text_of Check words Parts ≡ codes "1"
+  parts_is = defaulted Parts refl
+
+  pub part_is : text_of Check words Part ≡ codes "0"
+  part_is = defaulted Part refl
+
+  pub good_parts : is_good Check words Parts ≡ true
+  unfolding digits
+  good_parts =
+      subst (λ (parts : List ℕ). (is_number 1 100000 parts && ((unwrap_or (number_of parts) 0 == 1) || nat_le 1 (number_at Check words Save))) ≡ true) (sym parts_is) refl
+
+  pub good_part : is_good Check words Part ≡ true
+  unfolding digits
+  good_part =
+      subst (λ (part : List ℕ). (is_number 0 100000 part && nat_lt (unwrap_or (number_of part) 0) (unwrap_or (number_of (text_of Check words Parts)) 0)) ≡ true) (sym part_is)
+      (subst (λ (parts : List ℕ). (is_number 0 100000 (codes "0") && nat_lt (unwrap_or (number_of (codes "0")) 0) (unwrap_or (number_of parts) 0)) ≡ true) (sym parts_is) refl)
 
   pub good_save : is_good Check words Save ≡ true
   unfolding digits

@@ -2,7 +2,7 @@
 use Rattle.std.specs.Prelude.{◌≡◌, true, not, is_none, find, List, length, Option, option_map}
 use Rattle.audit_model.specs.First.{first_some_below}
 use Rattle.audit_model.specs.declared.fault.Name.{Name}
-use Rattle.audit_model.specs.declared.fault.Name.TheVariants.{Size, Slack, Key, Walks, Steps, Ends, HubSteps, Ask, Workers, Budget, Save, Resume, MaxCut, Shift, Stop, Serial, MaxSplit}
+use Rattle.audit_model.specs.declared.fault.Name.TheVariants.{Size, Slack, Key, Walks, Steps, Ends, HubSteps, Ask, Workers, Budget, Save, Resume, MaxCut, Shift, Stop, Serial, MaxSplit, Parts, Part}
 use Rattle.audit_model.specs.declared.fault.WordFault.{WordFault}
 use Rattle.audit_model.specs.declared.fault.WordFault.TheVariants.{MissingName, BadValue}
 use Rattle.audit_model.specs.declared.setting.Command.{Command}
@@ -27,6 +27,8 @@ RestsOnGood words Ends = is_good Check words Walks ≡ true
 RestsOnGood words Budget = (is_good Check words Walks ≡ true) × (is_good Check words Ends ≡ true)
 RestsOnGood words Stop = (is_good Check words Ends ≡ true) × (is_good Check words Save ≡ true)
 RestsOnGood words Serial = is_good Check words Steps ≡ true
+RestsOnGood words Parts = is_good Check words Save ≡ true
+RestsOnGood words Part = is_good Check words Parts ≡ true
 RestsOnGood words _ = Unit {0}
 
 -- each value that a run on any graph takes, beside the columns, is good
@@ -46,6 +48,8 @@ pub record AreGood (words : List NameAndValue) : Type 0 where
   pub shift : is_good Check words Shift ≡ true
   pub stop : is_good Check words Stop ≡ true
   pub serial : is_good Check words Serial ≡ true
+  pub parts : is_good Check words Parts ≡ true
+  pub part : is_good Check words Part ≡ true
 
 -- the values from which the setting of a command is made are good
 abbrev pub AreReadable : Command → List NameAndValue → Type 0

@@ -1,6 +1,6 @@
 //! What the words give for each name, and whether it may be.
 
-ghost use Rattle.std.specs.Prelude.{◌≡◌, ◌+◌, ◌^◌, ◌<◌};
+ghost use Rattle.std.specs.Prelude.{◌≡◌, ◌+◌, ◌^◌, ◌<◌, nat_lt};
 ghost use Rattle.audit_model.specs.Power.{is_power_of_two};
 ghost use Rattle.audit_model.specs.declared.fault.Name.TheVariants as name;
 ghost use Rattle.audit_model.specs.declared.setting.Command.TheVariants as command;
@@ -87,6 +87,24 @@ fn has_split(words: &[String]) -> bool
     number_at(words, Name::MaxSplit) == 200 || !text_of(words, Name::Region).is_empty()
 }
 
+/// Whether what is walked of one of several parts is saved.
+fn saves_parts(words: &[String]) -> bool
+    requires parts { definition.number_at command.Check (pairs_in words.now) name.Parts < 2 ^ 32 }
+    requires save { definition.number_at command.Check (pairs_in words.now) name.Save < 2 ^ 32 }
+    ensures { result ≡ definition.saves_parts command.Check (pairs_in words.now) }
+{
+    number_at(words, Name::Parts) == 1 || 1 <= number_at(words, Name::Save)
+}
+
+/// Whether the part is one of the parts.
+fn is_part(words: &[String]) -> bool
+    requires part { definition.number_at command.Check (pairs_in words.now) name.Part < 2 ^ 32 }
+    requires parts { definition.number_at command.Check (pairs_in words.now) name.Parts < 2 ^ 32 }
+    ensures { result ≡ nat_lt (definition.number_at command.Check (pairs_in words.now) name.Part) (definition.number_at command.Check (pairs_in words.now) name.Parts) }
+{
+    number_at(words, Name::Part) < number_at(words, Name::Parts)
+}
+
 /// Whether the value of a name, given or by default, is one that it may have.
 pub fn is_good(command: Command, words: &[String], name: Name) -> bool
     requires { RestsOnGood (pairs_in words.now) name }
@@ -112,5 +130,7 @@ pub fn is_good(command: Command, words: &[String], name: Name) -> bool
         Name::Stop => is_number(0, 100_000, text) && stops_alone(words),
         Name::Serial => is_answer(text) && divides_draws(words),
         Name::MaxSplit => is_number(1, 200, text) && has_split(words),
+        Name::Parts => is_number(1, 100_000, text) && saves_parts(words),
+        Name::Part => is_number(0, 100_000, text) && is_part(words),
     }
 }

@@ -17,7 +17,7 @@ const OF_CHECK: [Name; 8] = [
     Name::MaxSplit,
 ];
 
-const OF_RUN: [Name; 21] = [
+const OF_RUN: [Name; 23] = [
     Name::Pop,
     Name::First,
     Name::Second,
@@ -39,9 +39,11 @@ const OF_RUN: [Name; 21] = [
     Name::Serial,
     Name::Region,
     Name::MaxSplit,
+    Name::Parts,
+    Name::Part,
 ];
 
-const OF_MAKE: [Name; 16] = [
+const OF_MAKE: [Name; 18] = [
     Name::Size,
     Name::Slack,
     Name::Key,
@@ -58,6 +60,8 @@ const OF_MAKE: [Name; 16] = [
     Name::Shift,
     Name::Stop,
     Name::Serial,
+    Name::Parts,
+    Name::Part,
 ];
 
 const OF_PLANS: [Name; 18] = [
@@ -87,10 +91,10 @@ pub fn default_of(name: Name) -> Option<&'static str>
 {
     match name {
         Name::Slack => Some("500"),
-        Name::Walks | Name::Workers => Some("1"),
+        Name::Walks | Name::Workers | Name::Parts => Some("1"),
         Name::Steps | Name::HubSteps => Some("1000"),
         Name::Budget => Some("100000"),
-        Name::Ends | Name::Save | Name::Stop => Some("0"),
+        Name::Ends | Name::Save | Name::Stop | Name::Part => Some("0"),
         Name::Resume | Name::Shift | Name::Serial => Some("no"),
         Name::MaxCut => Some("400000"),
         Name::Region => Some(""),

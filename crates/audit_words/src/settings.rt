@@ -80,6 +80,8 @@ fn check_setting(alloc: Global, words: &[String]) -> Result<Setting, Memory>
         serial: false,
         region: copied(alloc, text_of(words, Name::Region))?,
         max_split: number_at(words, Name::MaxSplit),
+        parts: 1,
+        part: 0,
     })
 }
 
@@ -117,6 +119,8 @@ fn run_setting(
         serial: text_of(words, Name::Serial) == "yes",
         region,
         max_split,
+        parts: number_at(words, Name::Parts),
+        part: number_at(words, Name::Part),
     })
 }
 

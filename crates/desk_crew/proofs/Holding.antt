@@ -64,7 +64,7 @@ module _ (parts : Parts) (plan : IsPlan parts) where
     apart : AreApart all
     apart = apart_from part [] of_todo (subst AreApart (sym (append-nil parts.opening)) plan.book.apart)
 
-    moved_all : IsPermutation all saved
+    pub moved_all : IsPermutation all saved
     moved_all = by_id-permutation (total parts.job) all apart below
 
     abbrev IsOf : Outcome → Type 0

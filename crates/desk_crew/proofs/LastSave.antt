@@ -20,7 +20,7 @@ use Rattle.ckpt_store.specs.Laws.{IsNewestForFitJobs}
 use Rattle.outcome_book.specs.Booked.{Booked, IsBook, by_id}
 use Rattle.tally_desk.specs.declared.entry.Entry.{Entry}
 use Rattle.tally_desk.specs.declared.handing.Kept.{Kept}
-use Rattle.tally_desk.specs.Entries.{id_of, ids_of, saves, up_to_save}
+use Rattle.tally_desk.specs.Entries.{id_of, ids_of, saves, tickets_of, up_to_save}
 use Rattle.tally_desk.specs.Homes.{IsSaveOf, SlotsAs, booked, moved, tries}
 use Rattle.tally_desk.specs.InTurn.{AreUnfailed, EndsSaves, SavesInTurn, SavesRest, UnfailedRunsSaveInTurn}
 use Rattle.tally_desk.specs.Parts.{Parts, IsPlaceFor}
@@ -31,7 +31,8 @@ use Rattle.tally_desk.proofs.Trying.{tried_then}
 use Rattle.tally_desk.proofs.Turning.{counts_more}
 use Rattle.desk_crew.specs.Ran.{BothSaved, HasRun, KeepsSome, failed_of}
 use Rattle.desk_crew.specs.Saves.{IsClosedWith, SavesLast, rest_tries, run_tries}
-use Rattle.desk_crew.proofs.Growing.{failed_run, growing}
+use Rattle.desk_crew.proofs.Failing.{failed_run}
+use Rattle.desk_crew.proofs.Ordering.{are_saves}
 use Rattle.desk_crew.proofs.Tried.{are_run_tries}
 
 -- ---- counts of faults
@@ -100,9 +101,12 @@ module _ {C : Type 0} (state : C → KeeperState) (parts : Parts) (v : PassView)
   of_todo : (id : ℕ) → times id (ids_of posted) ≤ times id parts.todo
   of_todo id = omega (arith, same_times id)
 
+  pub in_order : tickets_of posted ≡ range_with_len 0 (length posted)
+  in_order = k.closed.in_order ∙ ap (range_with_len 0) (length_permutation _ _ k.closed.all ∙ length-map posted id_of)
+
   unfailed : kept.failed_saves ≡ 0 → AreUnfailed parts posted
   unfailed none = record {
-    in_order = k.closed.in_order ∙ ap (range_with_len 0) (length_permutation _ _ k.closed.all ∙ length-map posted id_of);
+    in_order = in_order;
     of_todo = of_todo;
     due = k.closed.due;
     none_missed = sym k.closed.kept.failed_is ∙ none;
@@ -265,7 +269,7 @@ module _ {C : Type 0} (state : C → KeeperState) (law : UnfailedRunsSaveInTurn)
     keeps = keeps_by state parts v kept digest k parts.keeper.slots (state kept.keeper).slots (state now.keeper).slots k.closed.kept.told rest_other;
     tries = run_tries kept.last_saved (is_ok rest) parts all_posted;
     tried = rest_tried;
-    are_tries = are_run_tries parts k.closed.plan kept.last_saved (is_ok rest) all_posted (of_todo state parts v kept digest k) k.closed.kept.sound k.closed.due
-        (growing parts k.closed.plan kept.last_saved (is_ok rest) all_posted (of_todo state parts v kept digest k) k.closed.kept.sound k.closed.last rest_sound) rest_sound;
+    are_tries = are_run_tries parts k.closed.plan kept.last_saved (is_ok rest) all_posted (of_todo state parts v kept digest k) k.closed.kept.sound k.closed.due rest_sound;
+    in_order = are_saves parts k.closed.plan kept.last_saved (is_ok rest) all_posted (of_todo state parts v kept digest k) (in_order state parts v kept digest k) k.closed.kept.sound k.closed.due k.closed.last rest_sound;
     covered = rest_covered;
   }

@@ -1,6 +1,7 @@
 pub mod Crossing
+pub mod Failing
 pub mod Found
-pub mod Growing
 pub mod Holding
 pub mod LastSave
+pub mod Ordering
 pub mod Tried

@@ -1,6 +1,6 @@
 -- The saves that a run tried are in turn, and each is a checkpoint of the opening and of posts.
 use Rattle.std.proofs.Common.{◌≡◌, ℕ, ◌+◌, ◌-◌, ◌%◌, ◌≤◌, Bool, true, false, cond, List, [], ◌∷◌, ◌++◌, map, refl, sym, ap, ◌∙◌, subst, append_assoc, arith}
-use Rattle.std.specs.List.{All, AllPairs}
+use Rattle.std.specs.List.{All}
 use Rattle.std.specs.Prelude.{◌==◌}
 use Rattle.std.proofs.lemmas.Bool.{true≢false}
 use Rattle.std.proofs.lemmas.List.{append-nil, map-append}
@@ -19,7 +19,7 @@ use Rattle.tally_desk.specs.Homes.{IsSound, Made, booked, made, made_after, made
 use Rattle.tally_desk.specs.Parts.{IsPlan, Parts}
 use Rattle.tally_desk.proofs.Booking.{booked_fit, by_id_fit}
 use Rattle.tally_desk.proofs.Marking.{next_turn}
-use Rattle.desk_crew.specs.Ran.{AreRunTries, IsLater, IsRunTry}
+use Rattle.desk_crew.specs.Ran.{AreRunTries, IsRunTry}
 use Rattle.desk_crew.specs.Saves.{rest_tries, run_tries}
 
 module _ (parts : Parts) (plan : IsPlan parts) where
@@ -123,12 +123,10 @@ module _ (parts : Parts) (plan : IsPlan parts) where
       IsCheckpoint (checkpoint 2 (job_digest parts.job) generation (by_id (total parts.job) (booked parts posted))) 2 (job_digest parts.job) generation (by_id (total parts.job) (booked parts posted))
 
   pub are_run_tries : (last_saved succeeded : Bool) (posted : List Entry) → OfTodo posted → All (IsSound parts.job) (made parts posted) → AreDue parts posted
-      → AllPairs IsLater (run_tries last_saved succeeded parts posted)
       → (last_saved ≡ false → IsSoundAt (moved (saves posted) parts.place).generation posted) → AreRunTries parts (run_tries last_saved succeeded parts posted)
-  are_run_tries last_saved succeeded posted of_todo sound due pairs rest_sound = record {
+  are_run_tries last_saved succeeded posted of_todo sound due rest_sound = record {
     in_turn = in_turn_then posted [] (rest_tries last_saved succeeded parts posted) of_todo sound due (rest_in_turn last_saved rest_sound);
     each = All-append (IsRunTry parts) (tries parts posted) (rest_tries last_saved succeeded parts posted) (each_try posted [] of_todo sound) (rest_each last_saved rest_sound);
-    growing = pairs;
   }
     where
       rest_in_turn : (b : Bool) → (b ≡ false → IsSoundAt (moved (saves posted) parts.place).generation posted) → InTurnFrom (saves posted) (rest_tries b succeeded parts posted)

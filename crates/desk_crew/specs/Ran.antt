@@ -1,5 +1,5 @@
 -- What a run leaves that saves while it walks, in terms of the posts at its desk.
-use Rattle.std.specs.Prelude.{◌≡◌, ℕ, ◌+◌, ◌-◌, ◌^◌, ◌<◌, ◌≤◌, ◌⊎◌, min, not, true, List, length, count_by, Result, OnOk, IsErr, IsOk, IsPermutation}
+use Rattle.std.specs.Prelude.{◌≡◌, ℕ, ◌+◌, ◌-◌, ◌^◌, ◌<◌, ◌≤◌, ◌⊎◌, min, not, List, count_by, Result, OnOk, IsErr, IsOk, IsPermutation}
 use Rattle.std.specs.List.{All, AllPairs}
 use Rattle.audit_io.specs.declared.source.Failed.{Failed}
 use Rattle.audit_io.specs.Faults.{HasCause}
@@ -16,6 +16,7 @@ use Rattle.outcome_book.specs.Booked.{IsBook, by_id}
 use Rattle.tally_desk.specs.declared.entry.Entry.{Entry}
 use Rattle.tally_desk.specs.Entries.{ids_of}
 use Rattle.audit_io.specs.State.{Kept}
+use Rattle.desk_crew.specs.InOrder.{AreSavesOf}
 use Rattle.audit_io.specs.Told.{IfBothTold}
 use Rattle.tally_desk.specs.Homes.{booked}
 use Rattle.tally_desk.specs.InTurn.{IsPartSave, SavesInTurn}
@@ -53,20 +54,14 @@ pub record IsRunTry (parts : Parts) (t : Try) : Type 0 where
   pub sound : IsCheckpoint (checkpoint 2 (job_digest parts.job) generation (by_id (total parts.job) (booked parts part)))
       2 (job_digest parts.job) generation (by_id (total parts.job) (booked parts part))
 
--- a later save is no shorter than one before it, and longer where that one succeeded
-pub record IsLater (earlier later : Try) : Type 0 where
-  pub no_shorter : length earlier.bytes ≤ length later.bytes
-  pub longer : earlier.succeeded ≡ true → length earlier.bytes < length later.bytes
-
 -- how many of them failed
 abbrev pub failed_of : List Try → ℕ
 failed_of tries = count_by (λ t. not t.succeeded) tries
 
--- all saves of the run: each is a checkpoint of the opening and of posts, at the place after the last that succeeded, and each later one holds more
+-- all saves of the run: each is a checkpoint of the opening and of posts, at the place after the last that succeeded
 pub record AreRunTries (parts : Parts) (tries : List Try) : Type 0 where
   pub in_turn : AreInTurn parts.job (job_digest parts.job) parts.place.slot parts.place.generation tries
   pub each : All (IsRunTry parts) tries
-  pub growing : AllPairs IsLater tries
 
 -- what a run leaves: its posts, all outcomes by rising id, and what is known of the keeper
 pub record HasRun (parts : Parts) (keeper_now : Kept) (sorted : List Outcome)
@@ -85,4 +80,5 @@ pub record HasRun (parts : Parts) (keeper_now : Kept) (sorted : List Outcome)
   pub tries : List Try
   pub tried : keeper_now.tried ≡ tried_all parts.keeper.tried tries
   pub are_tries : AreRunTries parts tries
+  pub in_order : AreSavesOf parts.job parts.opening parts.save_every parts.place (ids_of posted) tries
   pub covered : min (parts.keeper.save_faults + failed_of tries) (2 ^ 64 - 1) ≤ keeper_now.save_faults

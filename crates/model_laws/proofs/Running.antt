@@ -1,14 +1,15 @@
 -- What holds of a run after any events.
 use Rattle.std.proofs.Common.{◌≡◌, ℕ, zero, suc, ◌<◌, Bool, true, false, cond, not, List, [], ◌∷◌, ◌++◌, length, take, replicate, Option, Some, None, refl, sym, ap, ◌∙◌, subst, inl, inr, arith, append_assoc}
-use Rattle.std.specs.Prelude.{◌==◌, ◌⊎◌, slice_get, slice_set}
-use Rattle.std.proofs.lemmas.Bool.{or_left, or_right, cases_eq, eq-eqb, both_ways, false_from_ne_true, not-true}
+use Rattle.std.specs.Prelude.{◌==◌, ◌&&◌, ◌⊎◌, slice_get, slice_set}
+use Rattle.std.proofs.lemmas.Bool.{and_parts, or_left, or_right, cases_eq, eq-eqb, both_ways, false_from_ne_true, not-true}
 use Rattle.std.proofs.lemmas.List.{append-nil}
 use Rattle.audit_model.specs.declared.outcome.Event.{Event}
 use Rattle.audit_model.specs.declared.outcome.Event.TheVariants.{Claim, Post, Save, Halt}
 use Rattle.audit_model.specs.Apart.{AllApart}
 use Rattle.audit_model.specs.Below.{filter_below}
 use Rattle.audit_model.specs.Graph.{has}
-use Rattle.audit_model.specs.Machine.{Machine, started, todo, claimed, claim, post, step, state_after, IsFront, IsOpen, IsAt, IsRun}
+use Rattle.audit_model.specs.Machine.{Machine, started_part, todo, claimed, claim, post, step, state_after, IsFront, IsOpen, IsAt, IsRun}
+use Rattle.audit_model.specs.Run.{is_in_part}
 use Rattle.model_laws.proofs.Connected.{has-append_left, has-append_right, has-append_parts, has-filter_below}
 use Rattle.model_laws.proofs.Lists.{has_one, apart_more, has-take}
 use Rattle.std.proofs.lemmas.Option.{none-some, same_Some}
@@ -50,13 +51,13 @@ apart_front [] ys a = tt
 apart_front (x ∷ xs) ys a =
     (false_from_ne_true (has xs x) (λ there. both_ways (has (xs ++ ys) x) a.0 (has-append_left xs ys x there)), apart_front xs ys a.1)
 
-apart-take : (n : ℕ) (xs : List ℕ) → AllApart xs → AllApart (take n xs)
+pub apart-take : (n : ℕ) (xs : List ℕ) → AllApart xs → AllApart (take n xs)
 apart-take zero xs a = tt
 apart-take (suc n) [] a = tt
 apart-take (suc n) (x ∷ xs) a =
     (false_from_ne_true (has (take n xs) x) (λ there. both_ways (has xs x) a.0 (has-take n xs x there)), apart-take n xs a.1)
 
-apart-filter_below : (n : ℕ) (test : ℕ → Bool) → AllApart (filter_below n test)
+pub apart-filter_below : (n : ℕ) (test : ℕ → Bool) → AllApart (filter_below n test)
 apart-filter_below zero test = tt
 apart-filter_below (suc n) test = by (apart-filter_below n test) (test n)
   where
@@ -70,15 +71,20 @@ apart-filter_below (suc n) test = by (apart-filter_below n test) (test n)
 
 -- ---- what is to do
 
-todo_apart : (m : Machine) → AllApart (todo m)
-todo_apart m = apart-take m.budget (filter_below m.total (λ id. not (has m.start id))) (apart-filter_below m.total (λ id. not (has m.start id)))
+module _ (m : Machine) where
+  may_do : ℕ → Bool
+  may_do id = not (has m.start id) && is_in_part m.parts m.part id
 
--- an id that is to do is below the total, and was not done at the start
-pub at_is_new : (m : Machine) (k id : ℕ) → IsAt m k id → (id < m.total) × (has m.start id ≡ false)
-at_is_new m k id h =
-    let found = has-filter_below m.total (λ i. not (has m.start i)) id
-    (has-take m.budget (filter_below m.total (λ i. not (has m.start i))) id (get_has (todo m) k id h)) in
-    (found.0, not-true (has m.start id) found.1)
+  todo_apart : AllApart (todo m)
+  unfolding may_do
+  todo_apart = apart-take m.budget (filter_below m.total may_do) (apart-filter_below m.total may_do)
+
+  -- an id that is to do is below the total, and was not done at the start
+  pub at_is_new : (k id : ℕ) → IsAt m k id → (id < m.total) × (has m.start id ≡ false)
+  unfolding may_do
+  at_is_new k id h =
+      let found = has-filter_below m.total may_do id (has-take m.budget (filter_below m.total may_do) id (get_has (todo m) k id h)) in
+      (found.0, not-true (has m.start id) (and_parts (not (has m.start id)) (is_in_part m.parts m.part id) found.1).0)
 
 -- ---- each event
 
@@ -253,8 +259,8 @@ events_keep m [] run = run
 events_keep m (event ∷ events) run = events_keep (step m event).0 events (step_keeps m event run)
 
 -- a run begins right from any different ids below the total
-pub fresh_run : (total budget workers : ℕ) (ids : List ℕ) → AllApart ids → ((id : ℕ) → has ids id ≡ true → id < total) → IsRun (started total budget workers ids)
-fresh_run total budget workers ids apart below = record {
+pub fresh_run : (parts part total budget workers : ℕ) (ids : List ℕ) → AllApart ids → ((id : ℕ) → has ids id ≡ true → id < total) → IsRun (started_part parts part total budget workers ids)
+fresh_run parts part total budget workers ids apart below = record {
   apart = apart;
   below = below;
   start_front = ([], sym (append-nil ids));
@@ -263,5 +269,5 @@ fresh_run total budget workers ids apart below = record {
   opened = λ w id h. absurd (get-replicate workers w id h);
   not_both = λ w id h. absurd (get-replicate workers w id h);
   one_worker = λ v w id h g. absurd (get-replicate workers v id h);
-  ahead = λ k id l h. (at_is_new (started total budget workers ids) k id h).1;
+  ahead = λ k id l h. (at_is_new (started_part parts part total budget workers ids) k id h).1;
 }

@@ -1,20 +1,20 @@
 //! Laws of the definitions, each the contract of a function that does nothing.
 
-ghost use Rattle.std.specs.Prelude.{◌||◌, ◌≡◌, None, true, false, [], slice_index, length, IsFalse, ℕ, ◌+◌, ◌-◌, ◌*◌, ◌/◌, ◌^◌, ◌<◌, ◌≤◌, nat_le, Bool, List, ◌++◌, ℤ, ◌↔◌, IsTrue};
+ghost use Rattle.std.specs.Prelude.{◌||◌, ◌≡◌, None, true, false, [], slice_index, length, take, IsFalse, ℕ, ◌+◌, ◌-◌, ◌*◌, ◌/◌, ◌%◌, ◌&&◌, ◌^◌, ◌<◌, ◌≤◌, nat_le, Bool, List, ◌++◌, ℤ, ◌↔◌, IsTrue};
 ghost use Rattle.audit_model.specs.Apart.{AllApart};
 ghost use Rattle.audit_model.specs.Graph.{Graph, IsIn, count_edges, has};
 ghost use Rattle.audit_model.specs.Job.{Job, rules, total_population};
 ghost use Rattle.audit_model.specs.JobOf.{lacks_votes, plan_fault};
 ghost use Rattle.audit_model.specs.Least.{IsLeast};
 ghost use Rattle.audit_model.specs.Local.{IsLocal, IsSimple, MayLeave};
-ghost use Rattle.audit_model.specs.Machine.{Machine, IsRun, started, state_after};
+ghost use Rattle.audit_model.specs.Machine.{Machine, IsRun, started_part, state_after};
 ghost use Rattle.audit_model.specs.declared.outcome.Event.{Event};
 ghost use Rattle.audit_model.specs.declared.rules.Rules.{Rules};
 ghost use Rattle.audit_model.specs.Meets.{Meets, meets_rules};
 ghost use Rattle.audit_model.specs.Path.{HasPath, IsConnected, is_connected, reached};
 ghost use Rattle.audit_model.specs.Plan.{in_district, cut_edges, IsBalanced, IsLegal, is_legal, least_population, greatest_population};
 ghost use Rattle.audit_model.specs.declared.outcome.Outcome.{Outcome};
-ghost use Rattle.audit_model.specs.Run.{total, has_id, run_ids, full, fits, taken_up, IsHonest, IsRight};
+ghost use Rattle.audit_model.specs.Run.{total, has_id, is_in_part, lacking_ids, part_ids, run_ids, full, fits, taken_up, IsHonest, IsRight};
 ghost use Rattle.audit_model.specs.Step.{next, ways, mirrored};
 ghost use Rattle.audit_model.specs.declared.setting.Tail.{Tail};
 ghost use Rattle.audit_model.specs.Stopping.{count_in_tail, stop};
@@ -131,6 +131,17 @@ pub fn resumed_runs_add_up()
         full job draws opening budget ≡ sequence job draws }
 {}
 
+/// The parts of what is to be walked: a part takes, where its budget allows, those of all ids that lie in it, each once, and the only part of
+/// one takes all. An id lies in the part of its remainder and in no other, so all parts together take each id once.
+pub fn parts_make_the_whole()
+    ensures each { (parts part : ℕ) (job : Job) (opening : List Outcome) (id : ℕ) →
+        has (part_ids parts part job opening (total job)) id ≡ (has (lacking_ids job opening) id && is_in_part parts part id) }
+    ensures within { (parts part : ℕ) (job : Job) (opening : List Outcome) (budget id : ℕ) → IsTrue (has (part_ids parts part job opening budget) id) →
+        (id < total job) × (IsFalse (has_id opening id) × (id % parts ≡ part)) }
+    ensures once { (parts part : ℕ) (job : Job) (opening : List Outcome) (budget : ℕ) → AllApart (part_ids parts part job opening budget) }
+    ensures one { (job : Job) (opening : List Outcome) (budget : ℕ) → part_ids 1 0 job opening budget ≡ take budget (lacking_ids job opening) }
+{}
+
 /// Where enough values are in the tail, no value after them changes where a test stops that stops early.
 pub fn stops_are_settled()
     ensures { (tail : Tail) (start : ℤ) (values later : List ℤ) (enough : ℕ) → enough ≤ count_in_tail tail start values →
@@ -139,7 +150,7 @@ pub fn stops_are_settled()
 
 /// After any events, halts among them, the ids of a run are as they should be.
 pub fn runs_stay_right()
-    ensures start { (total budget workers : ℕ) (ids : List ℕ) → AllApart ids → ((id : ℕ) → IsTrue (has ids id) → id < total) →
-        IsRun (started total budget workers ids) }
+    ensures start { (parts part total budget workers : ℕ) (ids : List ℕ) → AllApart ids → ((id : ℕ) → IsTrue (has ids id) → id < total) →
+        IsRun (started_part parts part total budget workers ids) }
     ensures events { (m : Machine) (events : List Event) → IsRun m → IsRun (state_after m events) }
 {}

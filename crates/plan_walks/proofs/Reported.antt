@@ -45,7 +45,7 @@ unfolding thread_report
 alone job by plain outcomes all =
     let draws = draw job.setting.key in
     let whole : full_of job [] ≡ sequence job draws =
-    full_is_sequence job draws [] (none_right job draws) job.setting.budget (every_id job [] (leaves_none job [] (by.run.covered by.unsaved))) in
+    full_is_sequence job draws [] (none_right job draws) job.setting.budget (every_id job [] (leaves_none job [] by.run by.unsaved)) in
     plain_report job plain draws outcomes ∙ ap (λ (os : List Outcome). full_report job draws os) (all.full ∙ whole)
 
 -- the report on the outlier trajectories and on where the tests stop is the one of one thread
@@ -100,5 +100,5 @@ unfolding sequence
 all_told job by outcomes all =
     let draws = draw job.setting.key in
     let whole : full_of job [] ≡ sequence job draws =
-    full_is_sequence job draws [] (none_right job draws) job.setting.budget (every_id job [] (leaves_none job [] (by.run.covered by.unsaved))) in
+    full_is_sequence job draws [] (none_right job draws) job.setting.budget (every_id job [] (leaves_none job [] by.run by.unsaved)) in
     omega (arith, ap length (all.full ∙ whole), length-below (total job) (outcome job draws))

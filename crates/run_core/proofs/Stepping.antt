@@ -1,10 +1,11 @@
 -- What is kept at each event.
 use Rattle.std.proofs.Common.{◌≡◌, ℕ, ◌+◌, ◌-◌, ◌<◌, ◌≤◌, Bool, true, false, not, ◌||◌, List, [], ◌∷◌, ◌++◌, length, take, drop, get_or, set, replicate, Option, Some, None, All, refl, sym, ap, ◌∙◌, subst, arith, length-append, length-set}
-use Rattle.std.specs.Prelude.{◌==◌, slice_get}
-use Rattle.std.proofs.lemmas.Bool.{false≢true}
+use Rattle.std.specs.Prelude.{◌==◌, ◌%◌, ◌&&◌, slice_get}
+use Rattle.std.proofs.lemmas.Bool.{eq-eqb, false≢true}
 use Rattle.std.proofs.lemmas.List.{append-nil, length-take-le, length-replicate, get_or-replicate, take_all, take-append-le}
 use Rattle.std.proofs.lemmas.List.Folds.{list_any-append}
 use Rattle.std.proofs.lemmas.Option.{slice_get-get_or, slice_get_past}
+use Rattle.std.proofs.Math.Nat.{mod-one}
 use Rattle.audit_model.specs.declared.outcome.Did.{Did}
 use Rattle.audit_model.specs.declared.outcome.Did.TheVariants.{Claimed, Empty, Posted, Saved, Halted}
 use Rattle.audit_model.specs.declared.outcome.Event.TheVariants.{Claim, Post, Save, Halt}
@@ -12,6 +13,7 @@ use Rattle.audit_model.specs.Apart.{AllApart}
 use Rattle.audit_model.specs.Below.{filter_below}
 use Rattle.audit_model.specs.Graph.{has}
 use Rattle.audit_model.specs.Machine.{Machine, todo, claimed, claim, post, step, IsRun, new_machine}
+use Rattle.audit_model.specs.Run.{is_in_part}
 use Rattle.model_laws.proofs.Running.{fresh_run, at_is_new, get-replicate, step_keeps}
 use Rattle.model_laws.proofs.Below.{length-filter_below, filter_below_same}
 use Rattle.model_laws.proofs.Lists.{apart_le, has-take}
@@ -38,7 +40,7 @@ opening_is_run m o = record {
     none_open w id h = get-replicate (length m.held) w id (subst (λ xs. slice_get xs w ≡ Some (Some id)) o.held h)
 
 pub fresh_is_run : (total workers : ℕ) → IsRun (new_machine total workers)
-fresh_is_run total workers = fresh_run total total workers [] tt (λ id h. absurd (false≢true h))
+fresh_is_run total workers = fresh_run 1 0 total total workers [] tt (λ id h. absurd (false≢true h))
 
 -- ---- answers
 
@@ -53,9 +55,17 @@ post_by m w o e = ap (post m w) (sym e)
 
 -- ---- what is to do
 
-todo_is : (m : Machine) → m.budget ≡ m.total → todo m ≡ filter_below m.total (λ id. not (has m.start id))
-todo_is m same = take_all m.budget (filter_below m.total (λ id. not (has m.start id)))
-    (omega (arith, same, length-filter_below m.total (λ id. not (has m.start id))))
+and_true : (a b : Bool) → b ≡ true → (a && b) ≡ a
+and_true true b e = e
+and_true false b e = refl
+
+-- every id lies in the one part
+todo_is : (total started saved : ℕ) (done : List ℕ) (next : ℕ) (held : List (Option ℕ))
+    → todo (machine total started saved done next held) ≡ filter_below total (λ id. not (has (take started done) id))
+todo_is total started saved done next held =
+    ap (take total) (filter_below_same total (λ id. not (has (take started done) id) && is_in_part 1 0 id) (λ id. not (has (take started done) id))
+    (λ id l. and_true (not (has (take started done) id)) (is_in_part 1 0 id) (eq-eqb (id % 1) 0 (mod-one id))))
+    ∙ take_all total (filter_below total (λ id. not (has (take started done) id))) (length-filter_below total (λ id. not (has (take started done) id)))
 
 -- no more ids are done than there are
 pub done_le : (m : Machine) → IsRun m → length m.done ≤ m.total
@@ -94,11 +104,11 @@ module _ (total started saved : ℕ) (done : List ℕ) (next : ℕ) (held : List
 
   module _ (w id : ℕ) (open_id : slice_get held w ≡ Some (Some id)) where
     fronts : machine total started saved (done ++ id ∷ []) next (set held w None)
-        ≡ record { total = total; budget = total; start = take started done; saved = take saved done; done = done ++ id ∷ []; next = next; held = set held w None }
+        ≡ record { total = total; parts = 1; part = 0; budget = total; start = take started done; saved = take saved done; done = done ++ id ∷ []; next = next; held = set held w None }
     fronts =
-        ap (λ s. record { total = total; budget = total; start = s; saved = take saved (done ++ id ∷ []); done = done ++ id ∷ []; next = next; held = set held w None })
+        ap (λ s. record { total = total; parts = 1; part = 0; budget = total; start = s; saved = take saved (done ++ id ∷ []); done = done ++ id ∷ []; next = next; held = set held w None })
         (take-append-le started done (id ∷ []) (omega (arith, kept.start_saved, kept.saved_done)))
-        ∙ ap (λ s. record { total = total; budget = total; start = take started done; saved = s; done = done ++ id ∷ []; next = next; held = set held w None })
+        ∙ ap (λ s. record { total = total; parts = 1; part = 0; budget = total; start = take started done; saved = s; done = done ++ id ∷ []; next = next; held = set held w None })
         (take-append-le saved done (id ∷ []) kept.saved_done)
 
     pub post_is : (machine total started saved (done ++ id ∷ []) next (set held w None), Posted id) ≡ step (machine total started saved done next held) (Post w)
@@ -126,9 +136,9 @@ module _ (total started saved : ℕ) (done : List ℕ) (next : ℕ) (held : List
 
   pub save_is : (count : ℕ) → count ≡ length done → (machine total started count done next held, Saved count) ≡ step (machine total started saved done next held) Save
   save_is count is =
-      ap (λ s. (record { total = total; budget = total; start = take started done; saved = s; done = done; next = next; held = held }, Saved count))
+      ap (λ s. (record { total = total; parts = 1; part = 0; budget = total; start = take started done; saved = s; done = done; next = next; held = held }, Saved count))
       (take_all count done (omega (arith, is)))
-      ∙ ap (λ c. (record { total = total; budget = total; start = take started done; saved = done; done = done; next = next; held = held }, Saved c)) is
+      ∙ ap (λ c. (record { total = total; parts = 1; part = 0; budget = total; start = take started done; saved = done; done = done; next = next; held = held }, Saved c)) is
 
   pub kept_save : (count : ℕ) → count ≡ length done → IsKept (machine total started count done next held) started count ids marks
   kept_save count is = record {
@@ -150,8 +160,8 @@ module _ (total started saved : ℕ) (done : List ℕ) (next : ℕ) (held : List
 
     pub halt_is : (machine total saved saved (take saved done) 0 nobody, Halted) ≡ step (machine total started saved done next held) Halt
     halt_is =
-        ap (λ s. (record { total = total; budget = total; start = s; saved = s; done = take saved done; next = 0; held = nobody }, Halted)) again
-        ∙ ap (λ h. (record { total = total; budget = total; start = take saved done; saved = take saved done; done = take saved done; next = 0; held = h }, Halted))
+        ap (λ s. (record { total = total; parts = 1; part = 0; budget = total; start = s; saved = s; done = take saved done; next = 0; held = nobody }, Halted)) again
+        ∙ ap (λ h. (record { total = total; parts = 1; part = 0; budget = total; start = take saved done; saved = take saved done; done = take saved done; next = 0; held = h }, Halted))
         (none ∙ ap (λ n. replicate n None) (sym kept.workers))
 
     pub kept_halt : (new_ids : List ℕ) (new_marks : List Bool) → length new_marks ≡ total
@@ -167,7 +177,7 @@ module _ (total started saved : ℕ) (done : List ℕ) (next : ℕ) (held : List
       ids =
           listed ∙ filter_below_same total (λ id. not (get_or new_marks id false)) (λ id. not (has (take saved (take saved done)) id))
           (λ id l. ap not (marked id l ∙ ap (λ xs. has xs id) (sym again)))
-          ∙ sym (todo_is (machine total saved saved (take saved done) 0 nobody) refl);
+          ∙ sym (todo_is total saved saved (take saved done) 0 nobody);
       width = width;
       marks = λ id l. marked id l ∙ ap (λ xs. has xs id) (sym again);
     }
@@ -216,7 +226,7 @@ kept_new total done held ids marks small empty none unmarked listed = (
     ids =
         listed
         ∙ filter_below_same (length marks) (λ id. not (get_or marks id false)) (λ id. true) (λ id l. ap not (no_mark id (omega (arith, l, width))))
-        ∙ sym (todo_is (machine (length marks) 0 0 done 0 held) refl);
+        ∙ sym (todo_is (length marks) 0 0 done 0 held);
     width = refl;
     marks = λ id l. no_mark id (omega (arith, l, width));
   },
@@ -231,6 +241,6 @@ kept_new total done held ids marks small empty none unmarked listed = (
 
     fresh : machine (length marks) 0 0 done 0 held ≡ new_machine total 32
     fresh =
-        ap (λ n. record { total = n; budget = n; start = []; saved = []; done = done; next = 0; held = held }) width
-        ∙ ap (λ d. record { total = total; budget = total; start = []; saved = []; done = d; next = 0; held = held }) empty
-        ∙ ap (λ h. record { total = total; budget = total; start = []; saved = []; done = []; next = 0; held = h }) none
+        ap (λ n. record { total = n; parts = 1; part = 0; budget = n; start = []; saved = []; done = done; next = 0; held = held }) width
+        ∙ ap (λ d. record { total = total; parts = 1; part = 0; budget = total; start = []; saved = []; done = d; next = 0; held = held }) empty
+        ∙ ap (λ h. record { total = total; parts = 1; part = 0; budget = total; start = []; saved = []; done = []; next = 0; held = h }) none

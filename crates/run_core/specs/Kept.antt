@@ -5,10 +5,10 @@ use Rattle.audit_model.specs.Graph.{has}
 use Rattle.audit_model.specs.Machine.{Machine, IsRun, todo}
 use Rattle.audit_model.specs.Limits.{most_trajectories, most_workers}
 
--- the machine of these ids: what was done at the start and what was saved are as many of the first ids that are done
+-- the machine of these ids, all in one part: what was done at the start and what was saved are as many of the first ids that are done
 abbrev pub machine : ℕ → ℕ → ℕ → List ℕ → ℕ → List (Option ℕ) → Machine
 machine total started saved done next held =
-    record { total = total; budget = total; start = take started done; saved = take saved done; done = done; next = next; held = held }
+    record { total = total; parts = 1; part = 0; budget = total; start = take started done; saved = take saved done; done = done; next = next; held = held }
 
 -- the machine is one of a run of 32 workers; the ids to do are listed, and the ids that were done at the start are marked
 pub record IsKept (m : Machine) (started saved : ℕ) (listed : List ℕ) (marked : List Bool) : Type 0 where

@@ -13,7 +13,7 @@ use Rattle.audit_model.specs.declared.outcome.Outcome.{Outcome}
 use Rattle.audit_model.specs.Below.{filter_below, map_below}
 use Rattle.audit_model.specs.Graph.{has}
 use Rattle.audit_model.specs.Machine.{Machine, claim, claimed, post, state_after, step, todo}
-use Rattle.audit_model.specs.Run.{total, has_id}
+use Rattle.audit_model.specs.Run.{total, has_id, is_in_part}
 use Rattle.model_laws.specs.Times.{times}
 use Rattle.model_laws.proofs.Times.{one, one_same, times-cons, times_push}
 use Rattle.model_laws.proofs.Below.{length-map_below, map_below_same}
@@ -106,8 +106,11 @@ module _ (parts : Parts) (plan : IsPlan parts) where
 
   pub todo_is : (drawn : ℕ) (l : List Entry) → todo (machine_of parts drawn l) ≡ parts.todo
   todo_is drawn l =
-      let lacked = filter_below (total parts.job) (λ id. not (has_id parts.opening id)) in
-      ap (take (length parts.todo)) (filter_same (total parts.job) (λ id. not (has (opening_ids parts) id)) (λ id. not (has_id parts.opening id)) (λ id. ap not (has_ids parts.opening id)))
+      let s = parts.job.setting in
+      let lacked = filter_below (total parts.job) (λ id. not (has_id parts.opening id) && is_in_part s.parts s.part id) in
+      ap (take (length parts.todo))
+      (filter_same (total parts.job) (λ id. not (has (opening_ids parts) id) && is_in_part s.parts s.part id) (λ id. not (has_id parts.opening id) && is_in_part s.parts s.part id)
+      (λ id. ap (λ (b : Bool). not b && is_in_part s.parts s.part id) (has_ids parts.opening id)))
       ∙ ap (λ (xs : List ℕ). take (length xs) lacked) plan.todo.1 ∙ take_again plan.todo.0 lacked ∙ sym plan.todo.1
 
   abbrev at : ℕ → ℕ

@@ -27,29 +27,29 @@ marked v (e ∷ l) due none =
       marked v l (λ k d inside. due (suc k) d (omega arith)) (omega (arith, none, cut)),
     )
 
-first_ticket : (e : Entry) (l : List Entry) (a : ℕ) → tickets_of (e ∷ l) ≡ range_with_len a (length (e ∷ l)) → e.ticket ≡ a
+pub first_ticket : (e : Entry) (l : List Entry) (a : ℕ) → tickets_of (e ∷ l) ≡ range_with_len a (length (e ∷ l)) → e.ticket ≡ a
 first_ticket e l a is = ap (λ (xs : List ℕ). get_or xs 0 0) is
 
-other_tickets : (e : Entry) (l : List Entry) (a : ℕ) → tickets_of (e ∷ l) ≡ range_with_len a (length (e ∷ l)) → tickets_of l ≡ range_with_len (a + 1) (length l)
+pub other_tickets : (e : Entry) (l : List Entry) (a : ℕ) → tickets_of (e ∷ l) ≡ range_with_len a (length (e ∷ l)) → tickets_of l ≡ range_with_len (a + 1) (length l)
 other_tickets e l a is = ap (drop 1) is
 
 module _ (v : ℕ) (some_v : 1 ≤ v) where
   -- after q whole groups and r posts, the next post completes a group or does not
-  due_next : (e : Entry) (q r : ℕ) → e.ticket ≡ q * v + r → r + 1 ≡ v → is_due v e ≡ true
+  pub due_next : (e : Entry) (q r : ℕ) → e.ticket ≡ q * v + r → r + 1 ≡ v → is_due v e ≡ true
   due_next e q r ticket full =
       let turn : e.ticket + 1 ≡ suc q * v + 0 = omega (arith, ticket, full, suc-mul q v) in
       eq-eqb ((e.ticket + 1) % v) 0 (ap (λ (z : ℕ). z % v) turn ∙ mod-mul-add (suc q) v 0 (omega arith))
 
-  due_later : (e : Entry) (q r : ℕ) → e.ticket ≡ q * v + r → r + 1 < v → is_due v e ≡ false
+  pub due_later : (e : Entry) (q r : ℕ) → e.ticket ≡ q * v + r → r + 1 < v → is_due v e ≡ false
   due_later e q r ticket less =
       let turn : e.ticket + 1 ≡ q * v + (r + 1) = omega (arith, ticket) in
       let left : (e.ticket + 1) % v ≡ r + 1 = ap (λ (z : ℕ). z % v) turn ∙ mod-mul-add q v (r + 1) less in
       ne_eqb ((e.ticket + 1) % v) 0 (λ none. absurd (omega (arith, none, left)))
 
-  next_less : (r : ℕ) → r < v → (r + 1 ≡ v → ⊥) → r + 1 < v
+  pub next_less : (r : ℕ) → r < v → (r + 1 ≡ v → ⊥) → r + 1 < v
   next_less r l differ = dite (dec_le v (r + 1)) (λ le. absurd (differ (omega arith))) (λ not_le. lt_of_not-le not_le)
 
-  next_group : (q r : ℕ) → r + 1 ≡ v → q * v + r + 1 ≡ suc q * v + 0
+  pub next_group : (q r : ℕ) → r + 1 ≡ v → q * v + r + 1 ≡ suc q * v + 0
   next_group q r full = omega (arith, full, suc-mul q v)
 
   counts : (l : List Entry) (q r : ℕ) → r < v → tickets_of l ≡ range_with_len (q * v + r) (length l) → Marked v l → saves l + q ≡ (q * v + r + length l) / v

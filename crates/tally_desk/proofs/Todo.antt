@@ -1,10 +1,10 @@
--- The ids to do: they differ, are below the total, and the opening lacks them.
+-- The ids to do: they differ, are below the total, and the opening lacks them. That they lie in the job's part is not needed here.
 use Rattle.std.proofs.Common.{◌≡◌, ℕ, zero, suc, ◌+◌, ◌<◌, ◌≤◌, not, Bool, true, false, cond, [], ◌∷◌, length, refl, sym, ap, ◌∙◌, ⊎_elim, arith}
-use Rattle.std.specs.Prelude.{◌==◌}
-use Rattle.std.proofs.lemmas.Bool.{not-true, eqb-true, cases_Bool}
+use Rattle.std.specs.Prelude.{◌==◌, ◌&&◌}
+use Rattle.std.proofs.lemmas.Bool.{and_parts, not-true, eqb-true, cases_Bool}
 use Rattle.std.proofs.lemmas.List.Sums.{sum_by-take-le}
 use Rattle.audit_model.specs.Below.{filter_below}
-use Rattle.audit_model.specs.Run.{total, has_id}
+use Rattle.audit_model.specs.Run.{total, has_id, is_in_part}
 use Rattle.model_laws.specs.Times.{times, once_below}
 use Rattle.model_laws.proofs.Times.{one, times-append, times-cons, length-apart, below_from_once}
 use Rattle.tally_desk.specs.Parts.{Parts, IsPlan}
@@ -39,7 +39,7 @@ filter_passes x (suc n) test some_here = by (times x (filter_below n test)) refl
 
 module _ (parts : Parts) (plan : IsPlan parts) where
   abbrev lacks : ℕ → Bool
-  lacks id = not (has_id parts.opening id)
+  lacks id = not (has_id parts.opening id) && is_in_part parts.job.setting.parts parts.job.setting.part id
 
   todo_taken : (x : ℕ) → times x parts.todo ≤ times x (filter_below (total parts.job) lacks)
   todo_taken x = omega (arith, ap (times x) plan.todo.1, sum_by-take-le (one x) (filter_below (total parts.job) lacks) plan.todo.0)
@@ -54,7 +54,9 @@ module _ (parts : Parts) (plan : IsPlan parts) where
   todo_within x some_here = below_from_once x (total parts.job) (omega (arith, some_here, todo_below_total x))
 
   pub todo_lacked : (x : ℕ) → 0 < times x parts.todo → has_id parts.opening x ≡ false
-  todo_lacked x some_here = not-true (has_id parts.opening x) (filter_passes x (total parts.job) lacks (omega (arith, some_here, todo_taken x)))
+  todo_lacked x some_here = not-true (has_id parts.opening x)
+      (and_parts (not (has_id parts.opening x)) (is_in_part parts.job.setting.parts parts.job.setting.part x)
+      (filter_passes x (total parts.job) lacks (omega (arith, some_here, todo_taken x)))).0
 
   pub todo_few : length parts.todo ≤ total parts.job
   todo_few = length-apart (total parts.job) parts.todo todo_below_total

@@ -31,6 +31,8 @@ open_at parts next posted place =
 abbrev pub machine_of : Parts → ℕ → List Entry → Machine
 machine_of parts drawn posted = record {
   total = total parts.job;
+  parts = parts.job.setting.parts;
+  part = parts.job.setting.part;
   budget = length parts.todo;
   start = opening_ids parts;
   saved = opening_ids parts ++ ids_of (up_to_save (saves posted) posted);

@@ -34,7 +34,7 @@ found job id = outcome job (draw job.setting.key) id
 abbrev pub IsPlaceFor : Job → Option Pair → Place → Type 0
 IsPlaceFor job slots place = IfTold slots (λ p. place_for job (job_digest job) p ≡ (place.slot, place.generation))
 
--- the ids are the first of those below the job's total that the opening lacks, by rising id
+-- the ids are the first of those below the job's total that the opening lacks and that lie in the job's part, by rising id
 abbrev pub IsTodoFor : Job → List Outcome → List ℕ → Type 0
 IsTodoFor job opening todo = (budget : ℕ) × (todo ≡ run_ids job opening budget)
 

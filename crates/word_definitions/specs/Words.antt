@@ -1,12 +1,12 @@
 -- The setting that the words of a command line give, or the first fault in them.
 -- This project's grammar. The definition looks at the whole list; the code reads from left to right.
-use Rattle.std.specs.Prelude.{ℕ, ◌+◌, ◌-◌, ◌*◌, ◌==◌, ◌&&◌, ◌||◌, Bool, true, false, not, cond, nat_le, List, [], ◌∷◌, ◌++◌, length, find, fold, replicate, codes, decimal, bytes_eq, Option, Some, None, is_some, is_none, unwrap_or, option_map, option_and_then, Result, Ok, Err}
+use Rattle.std.specs.Prelude.{ℕ, ◌+◌, ◌-◌, ◌*◌, ◌==◌, ◌&&◌, ◌||◌, Bool, true, false, not, cond, nat_le, nat_lt, List, [], ◌∷◌, ◌++◌, length, find, fold, replicate, codes, decimal, bytes_eq, Option, Some, None, is_some, is_none, unwrap_or, option_map, option_and_then, Result, Ok, Err}
 use Rattle.std.specs.Result.{result_ok}
 use Rattle.std.specs.List.{list_any, slice_index_or}
 use Rattle.std.specs.Option.{option_or}
 use Rattle.hex.specs.Hex.{decode_sized}
 use Rattle.audit_model.specs.declared.fault.Name.{Name}
-use Rattle.audit_model.specs.declared.fault.Name.TheVariants.{Pop, First, Second, District, Size, Slack, Key, Walks, Steps, Ends, HubSteps, Ask, Workers, Budget, Save, Resume, MaxCut, Shift, Stop, Serial, Region, MaxSplit}
+use Rattle.audit_model.specs.declared.fault.Name.TheVariants.{Pop, First, Second, District, Size, Slack, Key, Walks, Steps, Ends, HubSteps, Ask, Workers, Budget, Save, Resume, MaxCut, Shift, Stop, Serial, Region, MaxSplit, Parts, Part}
 use Rattle.audit_model.specs.declared.fault.WordFault.{WordFault}
 use Rattle.audit_model.specs.declared.fault.WordFault.TheVariants.{NoCommand, UnknownCommand, UnknownName, Twice, NoValue, MissingName, BadValue}
 use Rattle.audit_model.specs.declared.setting.Ask.{Ask as AskOf}
@@ -29,8 +29,8 @@ use Rattle.audit_model.specs.Limits.{most_trajectories, most_districts, most_ste
 abbrev pub names_of : Command → List Name
 names_of Check = Pop ∷ First ∷ Second ∷ District ∷ Slack ∷ MaxCut ∷ Region ∷ MaxSplit ∷ []
 names_of Run =
-    Pop ∷ First ∷ Second ∷ District ∷ Slack ∷ Key ∷ Walks ∷ Steps ∷ Ends ∷ HubSteps ∷ Ask ∷ Workers ∷ Budget ∷ Save ∷ Resume ∷ MaxCut ∷ Shift ∷ Stop ∷ Serial ∷ Region ∷ MaxSplit ∷ []
-names_of Make = Size ∷ Slack ∷ Key ∷ Walks ∷ Steps ∷ Ends ∷ HubSteps ∷ Ask ∷ Workers ∷ Budget ∷ Save ∷ Resume ∷ MaxCut ∷ Shift ∷ Stop ∷ Serial ∷ []
+    Pop ∷ First ∷ Second ∷ District ∷ Slack ∷ Key ∷ Walks ∷ Steps ∷ Ends ∷ HubSteps ∷ Ask ∷ Workers ∷ Budget ∷ Save ∷ Resume ∷ MaxCut ∷ Shift ∷ Stop ∷ Serial ∷ Region ∷ MaxSplit ∷ Parts ∷ Part ∷ []
+names_of Make = Size ∷ Slack ∷ Key ∷ Walks ∷ Steps ∷ Ends ∷ HubSteps ∷ Ask ∷ Workers ∷ Budget ∷ Save ∷ Resume ∷ MaxCut ∷ Shift ∷ Stop ∷ Serial ∷ Parts ∷ Part ∷ []
 names_of Plans =
     Pop ∷ First ∷ Second ∷ District ∷ Slack ∷ Key ∷ Walks ∷ Steps ∷ Ends ∷ HubSteps ∷ Ask ∷ Workers ∷ MaxCut ∷ Shift ∷ Stop ∷ Serial ∷ Region ∷ MaxSplit ∷ []
 
@@ -58,6 +58,8 @@ default_of Stop = Some (codes "0")
 default_of Serial = Some (codes "no")
 default_of Region = Some []
 default_of MaxSplit = Some (codes "200")
+default_of Parts = Some (codes "1")
+default_of Part = Some (codes "0")
 
 -- ---- values
 
@@ -198,6 +200,10 @@ module _ (command : Command) (words : List NameAndValue) where
   abbrev pub has_split : Bool
   has_split = (number_at MaxSplit == most_districts) || not (length (text_of Region) == 0)
 
+  -- what is walked of one of several parts is saved
+  abbrev pub saves_parts : Bool
+  saves_parts = (number_at Parts == 1) || nat_le 1 (number_at Save)
+
   -- whether the value of a name is one that it may have
   abbrev pub is_good : Name → Bool
   is_good Pop = true
@@ -222,6 +228,8 @@ module _ (command : Command) (words : List NameAndValue) where
   is_good Serial = is_yes_or_no Serial && divides_draws
   is_good Region = true
   is_good MaxSplit = is_number 1 most_districts (text_of MaxSplit) && has_split
+  is_good Parts = is_number 1 most_trajectories (text_of Parts) && saves_parts
+  is_good Part = is_number 0 most_trajectories (text_of Part) && nat_lt (number_at Part) (number_at Parts)
 
   -- the first fault, in the order of the refusals
   abbrev pub fault_of : Option WordFault
@@ -254,6 +262,8 @@ module _ (command : Command) (words : List NameAndValue) where
     serial = is_yes Serial;
     region = text_of Region;
     max_split = number_at MaxSplit;
+    parts = number_at Parts;
+    part = number_at Part;
   }
 
 -- with what a command fixes
@@ -279,6 +289,8 @@ setting_for Check words = record {
   serial = false;
   region = text_of Check words Region;
   max_split = number_at Check words MaxSplit;
+  parts = 1;
+  part = 0;
 }
 setting_for Run words = as_run Run words
 setting_for Make words = record (as_run Make words) {

@@ -3,7 +3,7 @@
 ghost use Rattle.std.specs.Prelude.{◌≡◌, ◌-◌, ◌^◌, [], ◌∷◌, Some, None, map, true, false, pos, negsuc};
 ghost use Rattle.audit_model.specs.declared.setting.Score.TheVariants.{Seats, MeanMedian, Gap, CutEdges};
 ghost use Rattle.audit_model.specs.declared.setting.Tail.TheVariants.{Low, High};
-ghost use Rattle.worked_examples.specs.Jobs.{run_of, path_of_four, cycle_of_four, path_of_three, job_of_four, job_of_three, job_of_three_districts, ring_of_six, grid_of_nine, triangle, first_draws, first_draws_alone};
+ghost use Rattle.worked_examples.specs.Jobs.{run_of, path_of_four, cycle_of_four, path_of_three, job_of_four, job_of_three, job_of_three_districts, ring_of_six, grid_of_nine, triangle, first_draws, first_draws_alone, found_once};
 ghost use Rattle.audit_model.specs.declared.outcome.Event.TheVariants as event;
 ghost use Rattle.audit_model.specs.declared.outcome.Did.TheVariants as did;
 ghost use Rattle.audit_model.specs.declared.fault.PlanFault.TheVariants.{OutOfBounds, Disconnected};
@@ -11,6 +11,7 @@ ghost use Rattle.audit_model.specs.JobOf.{plan_fault};
 ghost use Rattle.audit_model.specs.Machine.{new_machine, answers_to};
 ghost use Rattle.audit_model.specs.Local.{is_mate, stays_behind};
 ghost use Rattle.audit_model.specs.Path.{is_connected};
+ghost use Rattle.audit_model.specs.Run.{part_ids, run_ids};
 ghost use Rattle.audit_model.specs.Step.{next, mirrored};
 ghost use Rattle.audit_model.specs.Plan.{is_legal};
 ghost use Rattle.audit_model.specs.Proposal.{proposal};
@@ -152,4 +153,15 @@ pub fn small_sums()
 pub fn small_ranks()
     ensures low { rank_among Low (negsuc 0) 0 (record { id = 1; moved = 0; values = negsuc 6 ∷ []; bins = no_bins } ∷ record { id = 2; moved = 0; values = pos 5 ∷ []; bins = no_bins } ∷ record { id = 3; moved = 0; values = negsuc 0 ∷ []; bins = no_bins } ∷ []) ≡ 3 }
     ensures high { rank_among High (negsuc 0) 0 (record { id = 1; moved = 0; values = negsuc 6 ∷ []; bins = no_bins } ∷ record { id = 2; moved = 0; values = pos 5 ∷ []; bins = no_bins } ∷ record { id = 3; moved = 0; values = negsuc 0 ∷ []; bins = no_bins } ∷ []) ≡ 3 }
+{}
+
+/// Ten trajectories in three parts, of which that with id 4 is done: each part takes what is left of its remainder, the first of it where the budget is
+/// smaller, and one part takes all that is left.
+pub fn parts_of_ten()
+    ensures first { part_ids 3 0 (job_of_four path_of_four (run_of 5000 6 8 4 1000 [])) ((record found_once { id = 4 }) ∷ []) 100 ≡ 0 ∷ 3 ∷ 6 ∷ 9 ∷ [] }
+    ensures second { part_ids 3 1 (job_of_four path_of_four (run_of 5000 6 8 4 1000 [])) ((record found_once { id = 4 }) ∷ []) 100 ≡ 1 ∷ 7 ∷ [] }
+    ensures third { part_ids 3 2 (job_of_four path_of_four (run_of 5000 6 8 4 1000 [])) ((record found_once { id = 4 }) ∷ []) 100 ≡ 2 ∷ 5 ∷ 8 ∷ [] }
+    ensures budget { part_ids 3 0 (job_of_four path_of_four (run_of 5000 6 8 4 1000 [])) ((record found_once { id = 4 }) ∷ []) 2 ≡ 0 ∷ 3 ∷ [] }
+    ensures whole { run_ids (job_of_four path_of_four (run_of 5000 6 8 4 1000 [])) ((record found_once { id = 4 }) ∷ []) 100
+        ≡ 0 ∷ 1 ∷ 2 ∷ 3 ∷ 5 ∷ 6 ∷ 7 ∷ 8 ∷ 9 ∷ [] }
 {}

@@ -1,11 +1,11 @@
 use Rattle.std.proofs.Common.{◌∙◌, arith}
-use Rattle.audit_walks.proofs.EarlyStops.{all_ids_walked, covered, stops_told, walks_first}
+use Rattle.audit_walks.proofs.EarlyStops.{all_walked, stops_told, walks_first}
 use Rattle.audit_steps.proofs.Running.{run_setting}
 use Rattle.audit_walks.proofs.stopping.walk_early.Goals as goal
 
 pub walk_to_stops-stops-requires-clause-ids : goal.walk_to_stops-stops-requires-clause-ids
 walk_to_stops-stops-requires-clause-ids g c κs within =
-    c.as_slice.ensures ∙ c.requires.ready.ids ∙ all_ids_walked c.args.job.now (covered c.args.job.now c.requires.run c.requires.early)
+    c.as_slice.ensures ∙ c.requires.ready.ids ∙ all_walked c.args.job.now c.requires.run c.requires.early
 
 pub returns : goal.returns
 returns g c =

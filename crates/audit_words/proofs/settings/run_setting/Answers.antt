@@ -1,6 +1,6 @@
 use Rattle.std.proofs.Common.{◌≡◌, ◌∙◌, ℕ, List, [], ap, arith, refl, sym}
 use Rattle.std.proofs.lemmas.Bool.{and_parts}
-use Rattle.std.specs.Prelude.{codes, bytes_eq, unwrap_or}
+use Rattle.std.specs.Prelude.{codes, bytes_eq, nat_lt, unwrap_or}
 use Rattle.std.specs.Result.{result_ok}
 use Rattle.std.specs.List.{filter_map}
 use Rattle.hex.specs.Hex.{decode_sized}
@@ -36,4 +36,8 @@ returns c =
     let resume : c.eq.result ≡ bytes_eq (text name.Resume) (codes "yes") = c.eq.ensures ∙ ap (λ t. bytes_eq t (codes "yes")) c.text_of-3.ensures in
     let shift : c.eq-2.result ≡ bytes_eq (text name.Shift) (codes "yes") = c.eq-2.ensures ∙ ap (λ t. bytes_eq t (codes "yes")) c.text_of-4.ensures in
     let serial : c.eq-3.result ≡ bytes_eq (text name.Serial) (codes "yes") = c.eq-3.ensures ∙ ap (λ t. bytes_eq t (codes "yes")) c.text_of-5.ensures in
-    rw (slack, key, walks, steps, ends, hub_steps, asks, workers, budget, save, resume, max_cut, shift, stop, serial) refl
+    let parts : c.number_at-11.result ≡ number name.Parts =
+    c.number_at-11.ensures (omega (arith, (number-bounds 1 100000 (text name.Parts) (and_parts (definition.is_number 1 100000 (text name.Parts)) (definition.saves_parts command.Check (pairs_in c.args.words.now)) c.requires.parts).0).1)) in
+    let part : c.number_at-12.result ≡ number name.Part =
+    c.number_at-12.ensures (omega (arith, (number-bounds 0 100000 (text name.Part) (and_parts (definition.is_number 0 100000 (text name.Part)) (nat_lt (number name.Part) (number name.Parts)) c.requires.part).0).1)) in
+    rw (slack, key, walks, steps, ends, hub_steps, asks, workers, budget, save, resume, max_cut, shift, stop, serial, parts, part) refl

@@ -1,0 +1,146 @@
+-- What one call gathers of folders that were reached leaves slots that were reached.
+use Rattle.std.proofs.Common.{◌≡◌, ◌∙◌, ℕ, zero, suc, ◌<◌, Bool, true, false, List, [], ◌∷◌, Option, Some, None, refl, sym, subst, arith}
+use Rattle.std.proofs.lemmas.List.Elements.{All-head, All-tail}
+use Rattle.audit_io.specs.Slots.{HoldsBytes, KeepsOther, Pair, other_stored, stored}
+use Rattle.audit_io.specs.State.{Kept}
+use Rattle.audit_io.specs.Told.{IfBothTold, IfTold}
+use Rattle.audit_model.specs.declared.outcome.Outcome.{Outcome}
+use Rattle.audit_model.specs.Job.{Job}
+use Rattle.checkpoint_definitions.specs.Checkpoint.{checkpoint, job_digest}
+use Rattle.checkpoint_definitions.specs.Slots.{IsAfterStop, Slot, absent, broken, newest, opening_of, other, ours, outcomes_of_slot, place_beside, slot_of}
+use Rattle.gathered_slots.specs.declared.finding.Finding.{Finding}
+use Rattle.gathered_slots.specs.declared.finding.Finding.TheVariants as finding
+use Rattle.gathered_slots.specs.Findings.{AreFound, Finds, HasSeen, IsFound}
+use Rattle.gathered_slots.specs.Gives.{Gives, damaged, gives, has_broken, nothing, other_job, outcomes, slot_gives, slots_give}
+use Rattle.gathered_slots.specs.Whole.{HasBegun, IsSavedIf, IsSavedUnion}
+use Rattle.audit_laws.specs.Gathered.{AreAllReached, AreGathered, AreReached, GatheringsReach, Hold, IsSavedOver, after_gathering, begun, held, united}
+
+-- ---- what slots give and what they hold
+
+slot_holds : (slot : Slot) (os : List Outcome) → slot_gives slot ≡ outcomes os → outcomes_of_slot slot ≡ Some os
+slot_holds absent os e = cc
+slot_holds (broken f) os e = cc
+slot_holds (other d g) os e = cc
+slot_holds (ours g kept) os e = cc
+
+slots_hold : (first second : Slot) (n : Option ℕ) (os : List Outcome) → slots_give first second n ≡ outcomes os → opening_of first second n ≡ Some os
+slots_hold first second (Some zero) os e = slot_holds first os e
+slots_hold first second (Some (suc n)) os e = slot_holds second os e
+slots_hold absent absent None os e = cc
+slots_hold absent (broken f) None os e = cc
+slots_hold absent (other d g) None os e = cc
+slots_hold absent (ours g kept) None os e = cc
+slots_hold (broken f) second None os e = cc
+slots_hold (other d g) second None os e = cc
+slots_hold (ours g kept) second None os e = cc
+
+module _ (job : Job) where
+  abbrev digest : List ℕ
+  digest = job_digest job
+
+  given_is_held : (p : Pair) (os : List Outcome) → gives job digest p ≡ outcomes os → Hold job p os
+  given_is_held p os e = slots_hold (slot_of job digest p.zero_slot) (slot_of job digest p.one_slot) (newest (slot_of job digest p.zero_slot) (slot_of job digest p.one_slot)) os e
+
+  -- nothing was gathered at first
+  nothing_gathered : AreGathered job []
+  nothing_gathered =
+      let none : Pair = record { zero_slot = None; one_slot = None } in
+      held none [] (begun none (record { zero_slot = tt; one_slot = tt })) refl
+
+  -- ---- what is found in one folder
+
+  same_gathered : (before after : List Outcome) → AreGathered job before → after ≡ before → AreGathered job after
+  same_gathered before after b same = subst (AreGathered job) (sym same) b
+
+  found_so : (given : Gives) (bad : Bool) (what : Finding) (before after : List Outcome) → AreGathered job before
+      → ((os : List Outcome) → given ≡ outcomes os → AreGathered job os) → Finds before given bad what after → AreGathered job after
+  found_so (outcomes os) bad (finding.Added count new beside) before after b of f = united before os after b (of os refl) f.0.union
+  found_so (outcomes os) bad (finding.Differs id) before after b of f = same_gathered before after b f.same
+  found_so nothing bad finding.Nothing before after b of f = same_gathered before after b f
+  found_so other_job bad finding.OtherJob before after b of f = same_gathered before after b f
+  found_so damaged bad finding.Damaged before after b of f = same_gathered before after b f
+  found_so given bad what before after b of f = absurd f
+
+  seen_so : (p : Pair) (bad : Bool) (what : Finding) (before after : List Outcome) → AreReached job p → AreGathered job before
+      → Finds before (gives job digest p) bad what after → AreGathered job after
+  seen_so p bad what before after reached b f = found_so (gives job digest p) bad what before after b (λ os e. held p os reached (given_is_held p os e)) f
+
+  seen_is : (told : Option Pair) (p seen : Pair) → told ≡ Some p → IfTold told (λ x. seen ≡ x) → seen ≡ p
+  seen_is None p seen e same = cc
+  seen_is (Some x) p seen e same = (let is : x ≡ p = cc in same ∙ is)
+
+  from_seen : (told : Option Pair) (p : Pair) (what : Finding) (before after : List Outcome) → told ≡ Some p → AreReached job p → AreGathered job before
+      → HasSeen job digest told before what after → AreGathered job after
+  from_seen told p what before after is reached b s =
+      seen_so s.pair (has_broken job digest s.pair) what before after (subst (AreReached job) (sym (seen_is told p s.pair is s.same)) reached) b s.finds
+
+  from_found : (told : Option Pair) (p : Pair) (what : Finding) (before after : List Outcome) → told ≡ Some p → AreReached job p → AreGathered job before
+      → IsFound job digest told before what after → AreGathered job after
+  from_found told p finding.Unread before after is reached b f = same_gathered before after b f
+  from_found told p what before after is reached b f = from_seen told p what before after is reached b f
+
+  -- ---- what is found in all
+
+  from_all : (folders : List (Option Pair)) (found : List Finding) (before after : List Outcome) → AreAllReached job folders → AreGathered job before
+      → AreFound job digest folders before found after → AreGathered job after
+  from_all [] [] before after all b f = same_gathered before after b f
+  from_all (told ∷ folders) (what ∷ found) before after all b f =
+      let first = All-head (λ (x : Option Pair). (p : Pair) × (x ≡ Some p) × AreReached job p) told folders all in
+      from_all folders found f.0 after (All-tail (λ (x : Option Pair). (p : Pair) × (x ≡ Some p) × AreReached job p) told folders all)
+      (from_found told first.0 what before f.0 first.1 first.2 b f.1) f.2
+  from_all folders found before after all b f = absurd f
+
+  from_begun : (told : Option Pair) (p : Pair) (place : ℕ × ℕ) (own : Finding) (start : List Outcome) → told ≡ Some p → AreReached job p
+      → HasBegun job digest told place own start → AreGathered job start
+  from_begun told p place own start is reached h =
+      seen_so h.pair (has_broken job digest h.pair) own [] start (subst (AreReached job) (sym (seen_is told p h.pair is h.same)) reached) nothing_gathered h.finds
+
+  -- ---- the save
+
+  place_below : (first second : Slot) (n : Option ℕ) → (place_beside first second n).0 < 2
+  place_below first second None = omega arith
+  place_below first second (Some n) = omega arith
+
+  told_bytes : (slots : Option Pair) (q : Pair) (number : ℕ) (bytes : List ℕ) → slots ≡ Some q → HoldsBytes slots number bytes → stored q number ≡ Some bytes
+  told_bytes None q number bytes e h = cc
+  told_bytes (Some x) q number bytes e h = (let is : x ≡ q = cc in subst (λ (y : Pair). stored y number ≡ Some bytes) is h)
+
+  told_other : (old new : Option Pair) (p q : Pair) (number : ℕ) → old ≡ Some p → new ≡ Some q → KeepsOther old new number → other_stored q number ≡ other_stored p number
+  told_other old new p q number e f h =
+      subst (λ (x : Option Pair). IfBothTold x (Some q) (λ p q. other_stored q number ≡ other_stored p number)) e
+      (subst (λ (x : Option Pair). IfBothTold old x (λ p q. other_stored q number ≡ other_stored p number)) f h)
+
+  beside_so : (number : ℕ) (p q : Pair) → other_stored q number ≡ other_stored p number → IsAfterStop number p.zero_slot p.one_slot q.zero_slot q.one_slot
+  beside_so zero p q e = e
+  beside_so (suc n) p q e = e
+
+  saved_over : (place : ℕ × ℕ) (os : List Outcome) (before after : Kept) (p q : Pair) → place.0 < 2 → before.slots ≡ Some p → after.slots ≡ Some q
+      → IsSavedUnion digest place os before after → IsSavedOver job os p q
+  saved_over place os before after p q below was is s = record {
+    save = record { slot = place.0; bytes = checkpoint 2 digest place.1 os; succeeded = true };
+    generation = place.1;
+    sound = s.sound;
+    carried = record {
+      slot = below;
+      beside = beside_so place.0 p q (told_other before.slots after.slots p q place.0 was is s.other);
+      ended = told_bytes after.slots q place.0 (checkpoint 2 digest place.1 os) is s.bytes;
+    };
+  }
+
+  saved_if : (b : Bool) (place : ℕ × ℕ) (os : List Outcome) (before after : Kept) (p q : Pair) → place.0 < 2 → before.slots ≡ Some p → after.slots ≡ Some q
+      → AreReached job p → AreGathered job os → IsSavedIf b digest place os before after → AreReached job q
+  saved_if true place os before after p q below was is reached gathered s = after_gathering p q os reached gathered (saved_over place os before after p q below was is s)
+  saved_if false place os before after p q below was is reached gathered s =
+      let e : Some p ≡ Some q = sym was ∙ sym s.slots ∙ is in
+      let same : p ≡ q = cc in
+      subst (AreReached job) same reached
+
+pub gatherings_reach : GatheringsReach
+gatherings_reach job saves before after folders told p q g was is reached all =
+    let below : g.place.0 < 2 =
+    subst (λ (x : ℕ × ℕ). x.0 < 2) (sym g.own.place_is)
+    (place_below job (slot_of job (job_digest job) g.own.pair.zero_slot) (slot_of job (job_digest job) g.own.pair.one_slot)
+    (newest (slot_of job (job_digest job) g.own.pair.zero_slot) (slot_of job (job_digest job) g.own.pair.one_slot))) in
+    saved_if job told.saved g.place g.all before after p q below was is reached
+    (from_all job folders told.folders g.start g.all all (from_begun job before.slots p g.place told.own g.start was reached g.own) g.each)
+    g.saved

@@ -1,0 +1,62 @@
+-- One job in parts, on many machines: folders of which each is left by runs, and some by gatherings of others.
+-- This project's. A folder stands for its two slots. Into a folder others may be gathered that were gathered into themselves.
+use Rattle.std.specs.Prelude.{◌≡◌, ℕ, Bool, List, Option, Some}
+use Rattle.std.specs.List.{All}
+use Rattle.audit_io.specs.Slots.{Pair}
+use Rattle.audit_io.specs.State.{Kept}
+use Rattle.audit_io.specs.Tries.{Try}
+use Rattle.audit_model.specs.declared.outcome.Outcome.{Outcome}
+use Rattle.audit_model.specs.Job.{Job}
+use Rattle.checkpoint_definitions.specs.Checkpoint.{IsCheckpoint, job_digest}
+use Rattle.checkpoint_definitions.specs.Slots.{newest, opening_of, slot_of}
+use Rattle.ckpt_store.specs.Histories.{IsCarriedOut}
+use Rattle.ckpt_store.specs.Laws.{IsNotOurs}
+use Rattle.audit_statement.specs.Chain.{AreHonestOf}
+use Rattle.audit_statement.specs.Rerun.{AllHaveWritten, Event, IsChain, IsEvent, slots_after}
+use Rattle.gathered_slots.specs.declared.told.Told.{Told}
+use Rattle.gathered_slots.specs.Whole.{IsGathering}
+use Rattle.gathering.specs.Union.{IsUnion}
+
+-- the newest of these slots holds these outcomes of the job, and none where both are absent
+abbrev pub Hold : Job → Pair → List Outcome → Type 0
+Hold job p outcomes =
+    opening_of (slot_of job (job_digest job) p.zero_slot) (slot_of job (job_digest job) p.one_slot)
+    (newest (slot_of job (job_digest job) p.zero_slot) (slot_of job (job_digest job) p.one_slot)) ≡ Some outcomes
+
+-- one save of these outcomes over the first slots, to either of them, left the second ones: it left its bytes where it succeeded, and where it failed or
+-- was cut off, what was there, its first bytes or all of them, or no checkpoint of the job
+pub record IsSavedOver (job : Job) (outcomes : List Outcome) (p q : Pair) : Type 0 where
+  pub save : Try
+  pub generation : ℕ
+  pub sound : IsCheckpoint save.bytes 2 (job_digest job) generation outcomes
+  pub carried : IsCarriedOut IsNotOurs job (job_digest job) p q save
+
+mutual
+  -- these slots come from absent ones, or from honest ones, by runs of the job, of any of its parts, that ended or were stopped anywhere, and by
+  -- gatherings that ended or were stopped anywhere
+  pub data AreReached (job : Job) : Pair → Type 0 where
+    begun : (p : Pair) → AreHonestOf job p → AreReached job p
+    after_run : (p : Pair) (e : Event) → AreReached job p → IsEvent job p e → AreReached job (slots_after e)
+    after_gathering : (p q : Pair) (outcomes : List Outcome) → AreReached job p → AreGathered job outcomes → IsSavedOver job outcomes p q → AreReached job q
+
+  -- these outcomes are held by slots that were reached so, or are the union of such
+  pub data AreGathered (job : Job) : List Outcome → Type 0 where
+    held : (p : Pair) (outcomes : List Outcome) → AreReached job p → Hold job p outcomes → AreGathered job outcomes
+    united : (some others both : List Outcome) → AreGathered job some → AreGathered job others → IsUnion some others both → AreGathered job both
+
+-- Over any number of machines, folders, halts, kills and gatherings: slots that were reached are honest, and each run of any chain from them that ended
+-- with status 0, or with status 9 and nothing left, has written one thread's report.
+abbrev pub GatheredRunsWriteOneReport : Type 0
+GatheredRunsWriteOneReport = (job : Job) (p : Pair) → AreReached job p
+    → AreHonestOf job p × ((events : List Event) → IsChain job p events → AllHaveWritten job events)
+
+-- the slots of each folder are told, and were reached
+abbrev pub AreAllReached : Job → List (Option Pair) → Type 0
+AreAllReached job folders = All (λ (told : Option Pair). (p : Pair) × (told ≡ Some p) × AreReached job p) folders
+
+-- What one call gathers of folders that were reached, into slots that were, is such a gathering, whatever it found: the slots that it leaves were
+-- reached.
+abbrev pub GatheringsReach : Type 0
+GatheringsReach = (job : Job) (saves : Bool) (before after : Kept) (folders : List (Option Pair)) (told : Told) (p q : Pair)
+    → IsGathering job (job_digest job) saves before after folders told → before.slots ≡ Some p → after.slots ≡ Some q
+    → AreReached job p → AreAllReached job folders → AreReached job q

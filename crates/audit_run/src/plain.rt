@@ -1,0 +1,49 @@
+//! The audit, and what a run with none of the features that may be left out has done.
+
+ghost use Rattle.audit_statement.specs.Whole.{KeepsEachPromise};
+ghost use Rattle.audit_statement.specs.World.{world};
+ghost use Rattle.audit_words.specs.Spoken.{spoken};
+ghost use Rattle.plain_statement.specs.Audited.{AuditsPlainly};
+ghost use Rattle.plain_statement.specs.Ended.{EndsPlainly};
+
+use crate::audit::audit;
+use audit_io::gate::Gate;
+use audit_io::keeper::Keeper;
+use audit_io::sink::Sink;
+use audit_io::source::Source;
+use plain_statement::laws::{promised_calls_audit_plainly, promised_calls_end_plainly};
+use std::alloc::Global;
+use std::sync::Wait;
+use std::thread::Threads;
+
+/// Does what the words ask for, and answers the status and the keeper. It is `audit`; its first clause says for a run with none of the features that may
+/// be left out, all at once, what status 0 means, and its second that status 0 comes where nothing stands in the way.
+pub fn audit_plainly<
+    R: Threads + Wait + Sync,
+    S: Source,
+    K: Sink,
+    N: Sink,
+    C: Keeper + Send,
+    G: Gate + Sync,
+>(
+    rt: &R,
+    alloc: Global,
+    words: &[String],
+    graph: &mut S,
+    out: &mut K,
+    note: &mut N,
+    keeper: C,
+    gate: &G,
+) -> (u8, C)
+    ensures plain { AuditsPlainly (spoken words.now) (S.state graph.old).bytes (K.state out.old).bytes (K.state out.new).bytes result.0 }
+    ensures ends { let before = world (S.state graph.old) (K.state out.old) (C.state keeper) in
+        let after = world (S.state graph.new) (K.state out.new) (C.state result.1) in
+        EndsPlainly (spoken words.now) before after result.0 }
+    ensures kept { let before = world (S.state graph.old) (K.state out.old) (C.state keeper) in
+        let after = world (S.state graph.new) (K.state out.new) (C.state result.1) in
+        KeepsEachPromise (spoken words.now) before after (N.state note.old) (N.state note.new) result.0 }
+{
+    promised_calls_audit_plainly();
+    promised_calls_end_plainly();
+    audit(rt, alloc, words, graph, out, note, keeper, gate)
+}

@@ -1,0 +1,4 @@
+mod Found
+mod Gathered
+mod Rising
+mod Untouched

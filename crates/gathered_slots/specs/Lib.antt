@@ -1,0 +1,5 @@
+pub mod Findings
+pub mod Fit
+pub mod Gives
+pub mod Laws
+pub mod Whole

@@ -1,0 +1,4 @@
+mod Adding
+mod Same
+mod Tables
+mod Unions

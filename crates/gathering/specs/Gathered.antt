@@ -1,0 +1,7 @@
+-- What was gathered: outcomes by rising id, of ids below a total.
+use Rattle.std.specs.Prelude.{ℕ, List}
+use Rattle.audit_model.specs.declared.outcome.Outcome.{Outcome}
+
+pub record Gathered : Type 0 where
+  pub total : ℕ
+  pub outcomes : List Outcome

@@ -1,0 +1,4 @@
+pub mod Gathered
+pub mod Laws
+pub mod Placed
+pub mod Union

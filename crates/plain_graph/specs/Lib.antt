@@ -1,0 +1,4 @@
+pub mod Determined
+pub mod Given
+pub mod Taken
+pub mod Valid

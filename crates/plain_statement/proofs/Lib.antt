@@ -1,0 +1,6 @@
+mod Ending
+mod Judged
+mod One
+mod Plainly
+mod Reported
+mod Saying
