@@ -108,7 +108,12 @@ def bad_name(setting):
         if setting.given.get(name, "no") not in ("yes", "no"):
             return name
     serial, plans = setting.given.get("--serial", "no"), setting.steps + 1
-    return None if serial == "no" or serial == "yes" and plans & plans - 1 == 0 else "--serial"
+    if serial != "no" and not (serial == "yes" and plans & plans - 1 == 0):
+        return "--serial"
+    parts, part = setting.given.get("--parts", "1"), setting.given.get("--part", "0")
+    if not is_number(parts) or parts == "0" or parts != "1" and save == "0":
+        return "--parts"
+    return None if is_number(part) and int(part) < int(parts) else "--part"
 
 
 def saved_in_turn(every, slots, keeper, wanted, founds):
@@ -150,7 +155,8 @@ def walked(setting, job, slots, keeper, room):
     if job.stop:
         text = report_of(job, *setting.trajectories(), [every[number] for number in sorted(every)])
         return End(0, begun(setting, job, every), text, "")
-    todo = [number for number in every if number not in found][:int(setting.given.get("--budget", "100000"))]
+    parts, part = int(setting.given.get("--parts", "1")), int(setting.given.get("--part", "0"))
+    todo = [number for number in every if number not in found and number % parts == part][:int(setting.given.get("--budget", "100000"))]
     posts = [{number: every[number] for number in todo[:count]} for count in range(len(todo) + 1)]
     founds = [{**found, **post} for post in posts]
     is_saved = saved_in_turn(int(setting.given.get("--save", "0")), slots, keeper, wanted, founds)

@@ -1,16 +1,20 @@
 #!/usr/bin/env python3
-"""Which modules of definitions does the contract of the top call rest on, and does docs/DEFINITIONS.md list them all?
+"""Which definitions does the contract of the top call rest on, and do the documents say them as they stand?
 
-From the names that stand in the contract of `audit`, and from the traits of its arguments, it follows the imports of this repository's own
-modules in specs/ and prints each module that it comes to. With the word `check` it prints nothing where the document lists exactly these,
-and else what is missing there or stands there in vain; then it ends with status 1.
+With no word it prints each module of definitions of this repository that the names in the contract of `audit`, and in the traits of its
+arguments, come to by imports. `path CRATE.MODULE.NAME` prints each definition that a name comes to, `count` how many definitions and lines
+each clause takes. `page` writes the quotes in docs/THE_CLAIM.md and the counts in docs/CLAIMS.md anew, behind their marks.
+
+`check` prints nothing where docs/DEFINITIONS.md lists exactly those modules, the plain statement takes at most 130 definitions of 600 lines,
+without the words of the command line, docs/THE_CLAIM.md quotes each definition that it comes to, and all quotes and counts are as `page`
+writes them. Else it prints what is not so, and ends with status 1.
 """
 import os
 import re
 import sys
 
-TOP = os.path.join(os.path.dirname(os.path.abspath(__file__)), "..")
-CRATES = os.path.join(TOP, "crates")
+from reading_path import CRATES, TOP, Path, fields_of
+
 IMPORT = re.compile(r"^(?:ghost |pub )*use Rattle\.(\w+)\.specs\.([\w.]+?)(?:\.\{(.*?)\}| as (\w+))?;?$")
 
 
@@ -32,18 +36,19 @@ def is_own(crate, module):
     return not module.startswith("declared") and os.path.exists(os.path.join(CRATES, crate, "specs", module + ".antt"))
 
 
-def contract_of_audit():
-    """The contract of the top call."""
-    text = text_of("audit_run", "src", "audit.rt")
-    return text, text[text.index("pub fn audit<"):]
+def contracts_of_audit():
+    """The contracts of the top call: that of `audit`, and that of `audit_plainly`, which is `audit` with more clauses."""
+    for file, name in (("audit.rt", "audit"), ("plain.rt", "audit_plainly")):
+        text = text_of("audit_run", "src", file)
+        yield text, text[text.index("pub fn %s<" % name):]
 
 
 def starts():
-    """The modules that the contract of the top call names, and those that the traits of its arguments name."""
-    text, contract = contract_of_audit()
-    for crate, module, names in imports(text):
-        if is_own(crate, module) and any(re.search(r"\b%s\b" % re.escape(n), contract) for n in names):
-            yield crate, module
+    """The modules that the contracts of the top call name, and those that the traits of its arguments name."""
+    for text, contract in contracts_of_audit():
+        for crate, module, names in imports(text):
+            if is_own(crate, module) and any(re.search(r"\b%s\b" % re.escape(n), contract) for n in names):
+                yield crate, module
     for trait in ("source", "sink", "keeper", "gate"):
         for crate, module, _ in imports(text_of("audit_io", "src", trait + ".rt")):
             if is_own(crate, module):
@@ -73,20 +78,160 @@ def listed():
     return found
 
 
+# ---- how much there is to read
+
+PLAIN = ("plain_statement", "Audited", "AuditsPlainly")
+WORDS = [("plain_statement", "Said"), ("word_definitions", "Words")]
+MOST_DEFINITIONS, MOST_LINES = 130, 600
+RECORDS = [("Promise", "KeepsItsPromise", "one plan"), ("Several", "KeepsPlansPromise", "several plans")]
+
+
+def plain_fault():
+    """Why the plain statement is too long to be read in an hour, without the words of the command line, if it is."""
+    path = Path([PLAIN], WORDS)
+    if len(path.found) > MOST_DEFINITIONS or path.lines() > MOST_LINES:
+        yield "the plain statement takes %d definitions of %d lines, more than %d of %d" % (len(path.found), path.lines(), MOST_DEFINITIONS, MOST_LINES)
+
+
+def count_row(name, path):
+    return "| %s | %s | %s | %d |" % (name, format(len(path.found), ","), format(path.lines(), ","), len(path.kit))
+
+
+def count_table():
+    """How much each clause takes, as the lines of a table."""
+    yield "| what is read | definitions | lines | names of the kit |"
+    yield "|---|---|---|---|"
+    yield count_row("`plain` of `audit_plainly`", Path([PLAIN]))
+    yield count_row("the same without the words of the command line", Path([PLAIN], WORDS))
+    yield count_row("`ends` of `audit_plainly`, with the grammar of the words", Path([("plain_statement", "Ended", "EndsPlainly")]))
+    for module, record, kind in RECORDS:
+        for field, roots in fields_of("audit_statement", module, record):
+            yield count_row("`%s` of %s" % (field, kind), Path(roots))
+        yield count_row("all of these, `%s`" % record, Path([("audit_statement", module, record)]))
+    yield count_row("all that `audit` promises, `KeepsEachPromise`", Path([("audit_statement", "Whole", "KeepsEachPromise")]))
+
+
+# ---- what the documents quote
+
+QUOTING = [os.path.join(TOP, "docs", "THE_CLAIM.md"), os.path.join(TOP, "docs", "CLAIMS.md")]
+MARK = re.compile(r"<!-- (quote|counts|contract)(?: (.*?))? -->$")
+
+
+def quoted_names(words):
+    """The definitions that a mark asks for: a crate, and then modules, each with its names."""
+    crate, module = None, None
+    for word in words.split():
+        if word.endswith(":"):
+            crate, module = word[:-1].split(".", 1)
+        else:
+            yield crate, module, word
+
+
+def quote(words):
+    """The text of these definitions, each with the line over it that names what it depends on."""
+    yield "```text"
+    shown, first = [], True
+    for crate, module, name in quoted_names(words):
+        path = Path([], ())
+        path.visit(crate, module, name)
+        definition = path.found[next(iter(path.found))]
+        over = [line for _, line in definition.over]
+        if not first:
+            yield ""
+        if over != shown[:len(over)] or len(over) > len(shown):
+            yield from (line for k, line in enumerate(over) if shown[k:k + 1] != [line])
+        shown, first = over, False
+        yield from definition.lines
+    yield "```"
+
+
+def contract():
+    """The contract of the function that `main` calls, as it stands."""
+    text = list(contracts_of_audit())[-1][1]
+    return ["```text"] + text[:text.index("\n{\n")].split("\n") + ["```"]
+
+
+def renewed(text):
+    """The document with what its marks ask for written anew."""
+    lines, out, at = text.split("\n"), [], 0
+    while at < len(lines):
+        out.append(lines[at])
+        found = MARK.match(lines[at])
+        at += 1
+        if found and found.group(1) != "counts":
+            out.extend(quote(found.group(2)) if found.group(1) == "quote" else contract())
+            at = lines.index("```", at) + 1 if lines[at:at + 1] == ["```text"] else at
+        elif found:
+            out.extend(count_table())
+            while at < len(lines) and lines[at].startswith("|"):
+                at += 1
+    return "\n".join(out)
+
+
+def quotes_in(text):
+    for line in text.split("\n"):
+        found = MARK.match(line)
+        if found and found.group(1) == "quote":
+            yield from quoted_names(found.group(2))
+
+
+def stale():
+    """What the documents do not quote, or not as it stands."""
+    for path in QUOTING:
+        with open(path, encoding="utf-8") as file:
+            text = file.read()
+        if renewed(text) != text:
+            yield "%s is not what `definitions.py page` writes" % os.path.relpath(path, TOP)
+        if path == QUOTING[0]:
+            shown = {(c, "declared" if m.startswith("declared") else m, n) for c, m, n in quotes_in(text)}
+            for key in sorted(set(Path([PLAIN]).found) - shown):
+                yield "docs/THE_CLAIM.md does not quote " + ".".join(key)
+
+
+def write_page():
+    for path in QUOTING:
+        with open(path, encoding="utf-8") as file:
+            text = file.read()
+        with open(path, "w", encoding="utf-8") as file:
+            file.write(renewed(text))
+
+
+# ---- the list of modules
+
+
+def unlisted():
+    """What docs/DEFINITIONS.md does not list, or lists in vain."""
+    modules, documented = reached(), listed()
+    for crate, module in sorted(modules - documented):
+        yield "docs/DEFINITIONS.md does not list %s %s" % (crate, module)
+    for crate, module in sorted(m for m in documented if not is_own(*m)):
+        yield "docs/DEFINITIONS.md lists what is not there: %s %s" % (crate, module)
+
+
+def show_path(name):
+    """The definitions that one name comes to, with their lines."""
+    path = Path([tuple(name.split("."))])
+    for key in sorted(path.found):
+        print("%4d %s" % (len(path.found[key].lines), ".".join(key)))
+    print("%d definitions, %d lines, %d names of the kit" % (len(path.found), path.lines(), len(path.kit)))
+
+
 def main():
-    modules = reached()
-    if sys.argv[1:] != ["check"]:
-        for crate, module in sorted(modules):
+    word = sys.argv[1] if len(sys.argv) > 1 else ""
+    if word == "check":
+        faults = list(unlisted()) + list(plain_fault()) + list(stale())
+        print("\n".join(faults), end="\n" if faults else "")
+        return 1 if faults else 0
+    if word == "page":
+        write_page()
+    elif word == "count":
+        print("\n".join(count_table()))
+    elif word == "path":
+        show_path(sys.argv[2])
+    else:
+        for crate, module in sorted(reached()):
             print(crate, module)
-        return 0
-    documented = listed()
-    missing = sorted(modules - documented)
-    unknown = sorted(m for m in documented if not is_own(*m))
-    for crate, module in missing:
-        print("docs/DEFINITIONS.md does not list", crate, module)
-    for crate, module in unknown:
-        print("docs/DEFINITIONS.md lists what is not there:", crate, module)
-    return 1 if missing or unknown else 0
+    return 0
 
 
 if __name__ == "__main__":

@@ -2,15 +2,19 @@
 # Runs the real program where files, folder and output are not as they have to be, as any user can have them, and compares status, note,
 # report and files with what they have to be.
 #
-# Says nothing and ends with 0 where all is as it has to be; else it says in one line on standard error what is not, and ends with 1.
+# Ends with 0 where all is as it has to be; else it says in one line on standard error what is not, and ends with 1. Its last line counts
+# the runs that were as they had to be.
 # The program is crates/audit_program/out/audit_program, which rt ci and rt run leave there; where it is not there, rt run builds it.
 
 here=$(cd "$(dirname "$0")" && pwd) || exit 1
 crate=$here/../crates/audit_program
 program=${1:-$crate/out/audit_program}
 
+passed=0
+
 fail() {
     echo "file_faults: $1" >&2
+    trap 'rm -rf "$room"; echo "file_faults.sh: $passed passed, 1 failed"' EXIT
     exit 1
 }
 
@@ -20,7 +24,7 @@ if [ ! -x "$program" ]; then
 fi
 program=$(realpath "$program")
 room=$(mktemp -d) || fail "no temporary folder"
-trap 'rm -rf "$room"' EXIT
+trap 'rm -rf "$room"; echo "file_faults.sh: $passed passed, 0 failed"' EXIT
 
 words=(run --pop pop --first a --second b --district d --slack 5000
     --key 0000000000000000000000000000000000000000000000000000000000000000
@@ -43,6 +47,7 @@ run() {
 ended() {
     [ "$1" -eq "$2" ] || fail "the $name run ended with status $1 and not $2: $(head -c 200 "$room/$name.note")"
     [ "$(cat "$room/$name.note")" = "$3" ] || fail "the $name run's note is: $(head -c 200 "$room/$name.note")"
+    passed=$((passed + 1))
 }
 
 # The run wrote the whole report, or nothing.
@@ -131,6 +136,23 @@ head -c 10 <pipe >/dev/null &
 ended $? 5 "write fault"
 wait
 
+# A pipe that answers that it would have to wait, for output and for input: each is a failed call.
+unwaiting='import fcntl, os, sys
+stream = int(sys.argv[1])
+fcntl.fcntl(stream, fcntl.F_SETFL, fcntl.fcntl(stream, fcntl.F_GETFL) | os.O_NONBLOCK)
+os.execv(sys.argv[2], sys.argv[2:])'
+mkfifo slow
+sleep 60 <slow &
+python3 -c "$unwaiting" 1 "$program" run "${words[@]:1:12}" --walks 5000 --steps 8 --ask gap:low,cut-edges:low <"$here/cycle.json" \
+    >slow 2>"$room/$name.note"
+ended $? 5 "write fault"
+{ kill $! && wait $!; } 2>/dev/null
+sleep 60 >slow &
+python3 -c "$unwaiting" 0 "$program" "${words[@]}" <slow >"$room/$name.out" 2>"$room/$name.note"
+ended $? 4 "read fault"
+nothing
+{ kill $! && wait $!; } 2>/dev/null
+
 # Standard input: a folder, and closed.
 "$program" "${words[@]}" <"$room" >"$room/$name.out" 2>"$room/$name.note"
 ended $? 4 "read fault"
@@ -144,3 +166,8 @@ nothing
 [ $? -eq 1 ] || fail "refused words without a note did not end with status 1"
 "$program" "${words[@]}" <"$here/cycle.json" >/dev/full 2>&-
 [ $? -eq 5 ] || fail "a failed write without a note did not end with status 5"
+
+# Words that are no text: a byte that no UTF-8 has.
+"$program" check --pop $'\xff' </dev/null >"$room/$name.out" 2>"$room/$name.note"
+ended $? 1 "words: not text"
+nothing

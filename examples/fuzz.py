@@ -100,6 +100,9 @@ def saving(chance):
         words += ["--save", chance.choice(["1", "2", "3", "100"])]
         if chance.random() < 0.6:
             words += ["--budget", str(chance.randint(0, 6))]
+        if chance.random() < 0.3:
+            parts = chance.choice((1, 2, 3, 7))
+            words += ["--parts", str(parts), "--part", str(chance.randrange(parts))]
     if chance.random() < 0.8:
         words += ["--resume", "yes"]
     return words

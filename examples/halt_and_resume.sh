@@ -3,15 +3,19 @@
 #
 # Two runs end with their budget used up, and the third, resumed, writes the report; each saves after every second walk, and at its end. Then
 # runs go on from a checkpoint of the first version of the format, without the tally of seats and with it.
-# Says nothing and ends with 0 where all is as it has to be; else it says in one line on standard error what is not, and ends with 1.
+# Ends with 0 where all is as it has to be; else it says in one line on standard error what is not, and ends with 1. Its last line counts
+# the runs that were as they had to be.
 # The program is crates/audit_program/out/audit_program, which rt ci and rt run leave there; where it is not there, rt run builds it.
 
 here=$(cd "$(dirname "$0")" && pwd) || exit 1
 crate=$here/../crates/audit_program
 program=$crate/out/audit_program
 
+passed=0
+
 fail() {
     echo "halt_and_resume: $1" >&2
+    trap 'rm -rf "$room"; echo "halt_and_resume.sh: $passed passed, 1 failed"' EXIT
     exit 1
 }
 
@@ -27,6 +31,7 @@ run() {
     local status=$?
     [ $status -eq "$wanted" ] || fail "the $name run ended with status $status and not $wanted: $(head -c 200 "$room/$name.note")"
     [ "$(cat "$room/$name.note")" = "$note" ] || fail "the $name run's note is: $(head -c 200 "$room/$name.note")"
+    passed=$((passed + 1))
 }
 
 if [ ! -x "$program" ]; then
@@ -34,7 +39,7 @@ if [ ! -x "$program" ]; then
     [ -x "$program" ] || fail "rt run in crates/audit_program did not build the program"
 fi
 room=$(mktemp -d) || fail "no temporary folder"
-trap 'rm -rf "$room"' EXIT
+trap 'rm -rf "$room"; echo "halt_and_resume.sh: $passed passed, 0 failed"' EXIT
 mkdir "$room/slots" || fail "no folder for the slots"
 
 # The file of a slot has to have this many bytes.

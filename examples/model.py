@@ -22,20 +22,20 @@ SCORES = ("seats", "mean-median", "gap", "cut-edges")
 TAILS = ("low", "high")
 BASE = ("--pop", "--first", "--second", "--district")
 TABLE = (*BASE, "--size", "--slack", "--key", "--walks", "--steps", "--ends", "--hub-steps", "--ask", "--workers", "--budget",
-         "--save", "--resume", "--max-cut", "--shift", "--stop", "--serial", "--region", "--max-split")
+         "--save", "--resume", "--max-cut", "--shift", "--stop", "--serial", "--region", "--max-split", "--parts", "--part")
 RULES_OF_REGIONS = ("--region", "--max-split")
 COMMANDS = {
     "check": (*BASE, "--slack", "--max-cut", *RULES_OF_REGIONS),
     "run": tuple(name for name in TABLE if name != "--size"),
     "make": tuple(name for name in TABLE if name not in BASE and name not in RULES_OF_REGIONS),
-    "plans": tuple(name for name in TABLE if name not in ("--size", "--budget", "--save", "--resume")),
+    "plans": tuple(name for name in TABLE if name not in ("--size", "--budget", "--save", "--resume", "--parts", "--part")),
 }
 DEFAULTS = {"--slack": "500", "--walks": "1", "--steps": "1000", "--ends": "0", "--hub-steps": "1000", "--workers": "1",
             "--budget": "100000", "--save": "0", "--resume": "no", "--max-cut": "400000", "--shift": "no", "--stop": "0",
-            "--serial": "no", "--region": "", "--max-split": "200"}
+            "--serial": "no", "--region": "", "--max-split": "200", "--parts": "1", "--part": "0"}
 RANGES = {"--size": (1, 30), "--slack": (0, 10000), "--walks": (0, 100000), "--steps": (1, BILLION), "--ends": (0, 100000),
           "--hub-steps": (1, BILLION), "--workers": (1, 32), "--budget": (0, 100000), "--save": (0, 100000), "--max-cut": (0, MOST_CUT),
-          "--stop": (0, 100000), "--max-split": (1, 200)}
+          "--stop": (0, 100000), "--max-split": (1, 200), "--parts": (1, 100000), "--part": (0, 99999)}
 NO_BINS = (0,) * 9
 ALL_ASKS = {f"{score}:{tail}": (score, tail) for score in SCORES for tail in TAILS}
 
@@ -123,6 +123,10 @@ class Setting:
             return text == "200" or self.value["--region"] != ""
         if name == "--stop" and self.of("--stop"):
             return self.of("--ends") >= 1 and self.of("--save") == 0 and self.value["--resume"] != "yes"
+        if name == "--parts":
+            return self.of("--parts") == 1 or self.of("--save") >= 1
+        if name == "--part":
+            return self.of("--part") < self.of("--parts")
         return True
 
     def numbers(self):
@@ -138,6 +142,7 @@ class Setting:
         self.total = self.walks + self.ends
         self.asks = [ALL_ASKS[ask] for ask in value["--ask"].split(",")]
         self.budget, self.save, self.workers, self.stop = (self.of(name) for name in ("--budget", "--save", "--workers", "--stop"))
+        self.parts, self.part = self.of("--parts"), self.of("--part")
         self.resume, self.shift, self.serial = (value[name] == "yes" for name in ("--resume", "--shift", "--serial"))
         self.size = self.of("--size") if self.command == "make" else 0
 
@@ -547,11 +552,12 @@ def asked(job, key):
 
 def stop_of(values, start, tail, enough):
     """The least number of values of which so many are in the tail, and their part; or all values, and one more than those in the tail."""
-    inside = [is_inside(value, start, tail) for value in values]
-    for place in range(len(values) + 1):
-        if sum(inside[:place]) == enough:
+    count = 0
+    for place, value in enumerate(values, 1):
+        count += is_inside(value, start, tail)
+        if count == enough:
             return place, enough, place
-    return len(values), sum(inside) + 1, len(values) + 1
+    return len(values), count + 1, len(values) + 1
 
 
 def serial(job):
@@ -711,7 +717,7 @@ def run(job, slots):
     setting, digest = job.setting, job.digest()
     seen = [looked(setting, digest, data) for data in slots] if setting.save or setting.resume else None
     found = opening(seen, digest, setting) if setting.resume else {}
-    todo = [one for one in range(setting.total) if one not in found][:setting.budget]
+    todo = [one for one in range(setting.part, setting.total, setting.parts) if one not in found][:setting.budget]
     every = asked(job, digest) if todo else []
     slots, counts = list(slots), []
     if setting.save:

@@ -1,17 +1,20 @@
 """Refuses the program one allocation after the other, and sees that nothing is lost.
 
-Usage: python3 refused_memory.py PROGRAM
+Usage: python3 refused_memory.py PROGRAM [DRAWN [SEED]]
 Builds a small library with gcc that stands before the C library's allocations and refuses the one with a given number, or that one and all
 after it, and runs the program under it for each number from 1 until a run ends in which none was refused: over an outlier trajectory, the
 parallel test, the serial test with the tally of seats, a run of three workers, a run with regions, one that stops early, one of several plans,
 a made grid, each run of a chain that is halted and resumed, and one that goes on from the first version of the format with the tally. The
 status must be 3 or the run's own; after 3 the output must be empty and both files as before; else output, note and files must be those of the
 run with all its memory.
+With a number only so many allocations of each run are refused, alone and with all after them by turns, drawn each from an equal part of those
+that the run makes.
 Prints how many runs there were, and each that is not so; ends with 1 where there is one.
 """
 import json
 import os
 import pathlib
+import random
 import shutil
 import subprocess
 import sys
@@ -26,21 +29,29 @@ LIBRARY = r"""
 #include <stdlib.h>
 #include <string.h>
 #include <stdatomic.h>
+#include <sys/mman.h>
 #include <unistd.h>
 
-static atomic_long count;
+static atomic_long own;
+static atomic_long *count = &own;
 static long number = -1;
 static int all;
 
 static long read_number(void) {
-    const char *said = getenv("REFUSE");
+    const char *said = getenv("REFUSE"), *file = getenv("ALLOCATIONS");
+    int fd = file ? open(file, O_RDWR | O_CREAT | O_TRUNC, 0600) : -1;
+    if (fd >= 0 && ftruncate(fd, sizeof own) == 0) {
+        void *shared = mmap(NULL, sizeof own, PROT_READ | PROT_WRITE, MAP_SHARED, fd, 0);
+        if (shared != MAP_FAILED) count = shared;
+    }
+    if (fd >= 0) close(fd);
     all = getenv("REFUSE_ALL") != NULL;
     return said ? atol(said) : 0;
 }
 
 static int refused(void) {
     if (number < 0) number = read_number();
-    long now = atomic_fetch_add(&count, 1) + 1;
+    long now = atomic_fetch_add(count, 1) + 1;
     if (number == 0 || now < number || (now > number && !all)) return 0;
     const char *mark = getenv("REFUSED_MARK");
     int fd = mark ? open(mark, O_CREAT | O_WRONLY, 0600) : -1;
@@ -152,6 +163,7 @@ class Room:
 
     def __init__(self, program, folder):
         self.program, self.library, self.mark, self.slots = program, built(folder), folder / "mark", folder / "slots"
+        self.counted = folder / "counted"
         self.slots.mkdir()
 
     def hold(self, held):
@@ -167,10 +179,14 @@ class Room:
         """Status, output, note, files, and whether an allocation was refused."""
         self.hold(held)
         self.mark.unlink(missing_ok=True)
-        given = {**os.environ, "LD_PRELOAD": str(self.library), "REFUSE": str(number), "REFUSED_MARK": str(self.mark)}
+        given = {**os.environ, "LD_PRELOAD": str(self.library), "REFUSE": str(number), "REFUSED_MARK": str(self.mark),
+                 "ALLOCATIONS": str(self.counted)}
         if is_all:
             given["REFUSE_ALL"] = "1"
-        done = subprocess.run([self.program, *words], input=graph, capture_output=True, cwd=self.slots, env=given, timeout=60, check=False)
+        try:
+            done = subprocess.run([self.program, *words], input=graph, capture_output=True, cwd=self.slots, env=given, timeout=20, check=False)
+        except subprocess.TimeoutExpired:
+            return "none after 20 seconds", b"", b"", held, self.mark.exists()
         return done.returncode, done.stdout, done.stderr, self.held(), self.mark.exists()
 
 
@@ -184,34 +200,56 @@ def wrong(end, own, held):
     return None if end[:4] == own[:4] else f"status {status}, and not all as with all memory: {note}"
 
 
-def tried(room, name, words, graph, held):
-    """Tries each number, and answers how many runs there were, how many ended with 3, and those that are wrong."""
-    own = room.run(words, graph, held)
-    count, threes, found = 0, 0, []
-    for is_all in (False, True):
-        number, is_refused = 0, True
-        while is_refused:
-            number += 1
-            end = room.run(words, graph, held, number, is_all)
-            is_refused = end[4]
-            count, threes = count + is_refused, threes + (end[0] == 3)
-            why = wrong(end, own, held)
-            if why:
-                found.append(f"{name}, allocation {number}{' and all after it' if is_all else ''}: {why}")
-    return own, count, threes, found
+def drawn_of(made, most, draw):
+    """A few of so many allocations, each from an equal part of them, and whether all after it are refused too."""
+    parts = min(most, made)
+    return [(draw.randint(made * part // parts + 1, made * (part + 1) // parts), part % 2 == 1) for part in range(parts)]
 
 
-def main(program):
-    program = os.path.abspath(program)
+class Tries:
+    """How many runs of one job there were with refused memory, how many ended with 3, and those that are wrong."""
+
+    def __init__(self, room, name, words, graph, held):
+        self.room, self.name, self.job, self.held = room, name, (words, graph, held), held
+        self.own = room.run(*self.job)
+        self.made = int.from_bytes(room.counted.read_bytes(), sys.byteorder)
+        self.count, self.threes, self.found = 0, 0, []
+
+    def refuse(self, number, is_all):
+        """Makes the run without an allocation, and answers whether there was one to refuse."""
+        end = self.room.run(*self.job, number, is_all)
+        self.count, self.threes = self.count + end[4], self.threes + (end[0] == 3)
+        why = wrong(end, self.own, self.held)
+        if why:
+            self.found.append(f"{self.name}, allocation {number}{' and all after it' if is_all else ''}: {why}")
+        return end[4]
+
+    def refuse_each(self):
+        for is_all in (False, True):
+            number = 1
+            while self.refuse(number, is_all):
+                number += 1
+
+
+def main(program, most="0", seed="1"):
+    if shutil.which("gcc") is None:
+        print("no memory refused: gcc is not installed")
+        return 0
+    program, draw = os.path.abspath(program), random.Random(int(seed))
     count, threes, found = 0, 0, []
     with tempfile.TemporaryDirectory() as name:
         room = Room(program, pathlib.Path(name))
         for name, chain in runs().items():
             held = {"audit-0.ckpt": (HERE / "version_1.ckpt").read_bytes()} if name == OLD else {}
             for place, (words, graph) in enumerate(chain):
-                own, more, with_three, wrongs = tried(room, f"{name} {place + 1}", words, graph, held)
-                print(f"{name} {place + 1}: status {own[0]}, {more} runs with refused memory, {with_three} of them with status 3", flush=True)
-                count, threes, held, found = count + more, threes + with_three, own[3], found + wrongs
+                tries = Tries(room, f"{name} {place + 1}", words, graph, held)
+                if int(most):
+                    for number, is_all in drawn_of(tries.made, int(most), draw):
+                        tries.refuse(number, is_all)
+                else:
+                    tries.refuse_each()
+                print(f"{tries.name}: status {tries.own[0]}, {tries.count} runs with refused memory, {tries.threes} of them with status 3", flush=True)
+                count, threes, held, found = count + tries.count, threes + tries.threes, tries.own[3], found + tries.found
     for one in found:
         print("WRONG:", one)
     print(f"{count} runs with refused memory, {threes} with status 3 and all others with their own; {len(found)} wrong")

@@ -163,6 +163,8 @@ def injected(room):
     for when, number in ((1, 1), (2, 2)):
         run(f"the folder of save {number} is not synced", fresh, absent, "fsync", room.slots, f"error=EIO:when={when}", fault,
             saved(fresh, absent, {number: whole}))
+    for path in (*NAMES, room.slots):
+        run(f"the closing of {path} fails", fresh, absent, "close", path, "error=EIO", done, saved(fresh, absent, {}))
     run("no save is synced", fresh, absent, "fsync", NAMES[0], "error=EIO", fault, saved(fresh, absent, dict.fromkeys(range(1, 9), whole)))
     run("the folder is never synced", fresh, absent, "fsync", room.slots, "error=EIO", fault, saved(fresh, absent, dict.fromkeys(range(1, 9), whole)))
     run("a new file is refused", fresh, absent, "openat", NAMES[0], "error=EACCES:when=2", fault, saved(fresh, absent, {1: lambda data: None}))

@@ -1,0 +1,238 @@
+#!/bin/bash
+# Walks one job in three parts, as three processes side by side in three folders, gathers what they found and writes the one report, with
+# the real programs over real files. One of the three is killed twice in mid-run and started again. The report has to be, byte for byte,
+# that of one run. Then folders that cannot be gathered, each of which has to be told of in a line while nothing is saved.
+#
+# Usage: examples/gather_parts.sh [PROGRAM GATHERER]
+# Its last line counts the runs and gatherings that were as they have to be. Where one is not, it says so in one line on standard error, and
+# ends with 1.
+# The programs are those that rt ci and rt run leave in out/; where one is not there, rt run builds it.
+
+here=$(cd "$(dirname "$0")" && pwd) || exit 1
+passed=0
+
+fail() {
+    echo "gather_parts: $1" >&2
+    told="gather_parts.sh: $passed passed, 1 failed"
+    exit 1
+}
+
+# The built program of a crate.
+built() {
+    local program=$here/../crates/$1/out/$1
+    [ -x "$program" ] || (cd "$here/../crates/$1" && rt run </dev/null >/dev/null 2>&1)
+    [ -x "$program" ] || fail "rt run in crates/$1 did not build the program"
+    realpath "$program"
+}
+
+program=$(realpath "${1:-$(built audit_program)}") || exit 1
+gatherer=$(realpath "${2:-$(built audit_gather)}") || exit 1
+room=$(mktemp -d) || fail "no temporary folder"
+trap 'kill -9 $(jobs -p) 2>/dev/null; rm -rf "$room"; echo "${told:-gather_parts.sh: $passed passed, 0 failed}"' EXIT
+cd "$room" || exit 1
+key=0000000000000000000000000000000000000000000000000000000000000000
+
+# Makes a run in the folder $2; it has to end with the status $3 and the note $4. Its name is $1, and its words are those of the job.
+run() {
+    local name=$1 folder=$2 wanted=$3 note=$4
+    shift 4
+    mkdir -p "$folder"
+    (cd "$folder" && "$program" "${words[@]}" "$@" <"$graph" >"$room/$name.out" 2>"$room/$name.note")
+    ended $? "$name" "$wanted" "$note"
+}
+
+ended() {
+    [ "$1" -eq "$3" ] || fail "the $2 run ended with status $1 and not $3: $(head -c 300 "$room/$2.note")"
+    [ "$(cat "$room/$2.note")" = "$4" ] || fail "the $2 run's note is: $(head -c 300 "$room/$2.note")"
+    passed=$((passed + 1))
+}
+
+# Gathers in the folder $2; it has to end with the status $3, and to write the text $4 where that is 0, else this note. Its name is $1.
+gather() {
+    local name=$1 folder=$2 wanted=$3 text=$4 said=out
+    shift 4
+    mkdir -p "$folder"
+    (cd "$folder" && "$gatherer" "$@" "${words[@]}" <"$graph" >"$room/$name.out" 2>"$room/$name.note")
+    local status=$?
+    [ $status -eq "$wanted" ] || fail "the $name gathering ended with status $status and not $wanted: $(head -c 300 "$room/$name.note")"
+    [ "$wanted" -eq 0 ] || said=note
+    [ "$(cat "$room/$name.$said")" = "$text" ] || fail "the $name gathering says: $(head -c 500 "$room/$name.$said" | tr '\n' '|')"
+    passed=$((passed + 1))
+}
+
+# The files of the folder are these.
+holds() {
+    [ "$(ls "$1" | tr '\n' ' ')" = "$2" ] || fail "the folder $1 holds: $(ls "$1" | tr '\n' ' ')"
+}
+
+sum_of() {
+    cat "$1"/audit-*.ckpt 2>/dev/null | sha256sum
+}
+
+# ---- three parts side by side
+
+graph=/dev/null
+words=(make --size 3 --slack 1000 --walks 18 --steps 1500000 --ends 6 --hub-steps 200000 --ask cut-edges:low,seats:low --key $key)
+
+# Starts the run of the part $1 in its folder, and leaves its process's number in `started`.
+start() {
+    mkdir -p "part-$1"
+    (cd "part-$1" && exec "$program" "${words[@]}" --save 1 --resume yes --parts 3 --part "$1" <"$graph" >"$room/part-$1.out" 2>"$room/part-$1.note") &
+    started=$!
+}
+
+# Waits until both slots of the part $1 are there, so that one of them is whole, and are no longer as they were.
+wait_for_save() {
+    local tries=0
+    while [ ! -e "part-$1/audit-1.ckpt" ] || [ "$(sum_of "part-$1")" = "$2" ]; do
+        kill -0 "$started" 2>/dev/null || fail "the run of part $1 ended before it was killed: $(cat "$room/part-$1.note")"
+        [ $((tries += 1)) -lt 6000 ] || fail "the run of part $1 does not save"
+        sleep 0.01
+    done
+}
+
+start 0
+zero=$started
+start 2
+two=$started
+start 1
+wait_for_save 1 "$(sum_of nowhere)"
+run second part-1 6 "checkpoint load fault" --save 1 --resume yes --parts 3 --part 1
+[ ! -s second.out ] || fail "a second run in one folder wrote a report"
+kill -9 "$started"
+wait "$started" 2>/dev/null
+[ $? -eq 137 ] || fail "the run of part 1 ended before it was killed"
+start 1
+wait_for_save 1 "$(sum_of part-1)"
+kill -9 "$started"
+wait "$started" 2>/dev/null
+[ $? -eq 137 ] || fail "the run of part 1 ended before it was killed again"
+start 1
+for part in 0 1 2; do
+    case $part in
+        0) wait "$zero" ;;
+        1) wait "$started" ;;
+        2) wait "$two" ;;
+    esac
+    ended $? part-$part 7 "stopped: 8 of 24 done"
+    [ ! -s part-$part.out ] || fail "the run of part $part wrote a report"
+done
+gather parts all 0 $'working folder: no checkpoint\nfolder ../part-0: 8 outcomes, 8 new\nfolder ../part-1: 8 outcomes, 8 new\nfolder ../part-2: 8 outcomes, 8 new\ndone: 24 of 24' \
+    ../part-0 ../part-1 ../part-2
+holds all "audit-0.ckpt "
+run gathered all 0 "" --save 1 --resume yes
+run whole once 0 "" --workers 4
+[ -s whole.out ] || fail "the run without saving wrote no report"
+cmp -s gathered.out whole.out || fail "the report of the gathered parts is not that of one run"
+
+# ---- a small job: what folders may hold
+
+graph=$here/cycle.json
+words=(run --pop pop --first a --second b --district d --slack 5000 --key $key --walks 12 --steps 8 --ask gap:low)
+run small once 0 ""
+run part part-3 1 "words: bad value for --part" --save 1 --parts 3 --part 3
+for part in 0 1 2; do
+    run small-$part small-$part 7 "stopped: 4 of 12 done" --save 1 --parts 3 --part $part
+done
+run half half 7 "stopped: 2 of 12 done" --save 1 --parts 3 --part 2 --budget 2
+run other other 7 "stopped: 4 of 12 done" --save 1 --parts 3 --part 0 --hub-steps 999
+mkdir empty
+
+# Holds the lock of a folder, as a run does, and lets it go.
+hold() {
+    exec 9<"$1" && flock -n 9 || fail "the folder $1 cannot be locked"
+}
+let_go() {
+    exec 9<&-
+}
+
+# Halfway folders and an empty one, looked at: nothing is saved, and a run that holds a folder is not in the way.
+hold small-0
+gather look look 0 $'working folder: no checkpoint\nfolder ../small-0: 4 outcomes, 4 new\nfolder ../half: 2 outcomes, 2 new\nfolder ../empty: no checkpoint\nfolder ../other: another job\'s checkpoint\nfolder ../small-0/: 4 outcomes, 0 new\ndone: 6 of 12' \
+    --look yes ../small-0 ../half ../empty ../other ../small-0/
+let_go
+holds look ""
+
+# The same folders, to be gathered: each that cannot be is told of.
+gather refused refused 10 $'gather: folder ../empty: no checkpoint\ngather: folder ../other: another job\'s checkpoint\ngather: folder ../nowhere: no checkpoint' \
+    ../small-0 ../half ../empty ../other ../nowhere
+holds refused ""
+[ ! -s refused.out ] || fail "the refused gathering tells of what it has not gathered"
+
+# A folder that a run holds, and the working folder that a run holds.
+hold small-0
+gather held refused 10 'gather: folder ../small-0: a run holds it' ../small-0 ../small-1
+let_go
+holds refused ""
+mkdir busy
+hold busy
+gather busy busy 6 'checkpoint load fault' ../small-0 ../small-1
+let_go
+holds busy ""
+
+# A slot that is damaged beside an intact one, and one without.
+cp -r small-1 bad && printf x >>bad/audit-0.ckpt
+cp -r half worse && printf x >worse/audit-0.ckpt && printf x >worse/audit-1.ckpt
+gather worse refused 10 'gather: folder ../worse: no slot is intact' ../small-0 ../bad ../worse
+holds refused ""
+newest=$(cd bad && "$gatherer" --look yes . "${words[@]}" <"$graph" | tail -n 1)
+gather bad some 0 $'working folder: no checkpoint\nfolder ../small-0: 4 outcomes, 4 new\nfolder ../bad: '"${newest:6:1}"$' outcomes, '"${newest:6:1}"$' new, one slot is damaged\ndone: '$((4 + ${newest:6:1}))' of 12' \
+    ../small-0 ../bad
+run some some 0 "" --save 1 --resume yes
+cmp -s some.out small.out || fail "the report over a folder with a damaged slot is not that of one run"
+
+# The working folder's own slots: damaged beside an intact one, none intact, and another job's.
+cp -r small-0 own && printf x >>own/audit-0.ckpt
+own=$(cd own && "$gatherer" --look yes "${words[@]}" <"$graph" | tail -n 1)
+gather own own 0 $'working folder: '"${own:6:1}"$' outcomes, one slot is damaged\nfolder ../small-1: 4 outcomes, 4 new\ndone: '$((4 + ${own:6:1}))' of 12' ../small-1
+run own own 0 "" --save 1 --resume yes
+cmp -s own.out small.out || fail "the report over an own slot that was damaged is not that of one run"
+before=$(sum_of worse)
+gather own-worse worse 10 'gather: working folder: no slot is intact' ../small-0
+[ "$(sum_of worse)" = "$before" ] || fail "a gathering over damaged slots changed them"
+before=$(sum_of other)
+gather own-other other 10 $'gather: working folder: another job\'s checkpoint' ../small-0
+[ "$(sum_of other)" = "$before" ] || fail "a gathering over another job's slots changed them"
+
+# One id with two outcomes that differ: the first outcome of the folder has moved otherwise, under a digest that is right.
+cp -r small-1 wrong
+python3 - "$here" wrong/audit-0.ckpt wrong/audit-1.ckpt <<'END' || fail "no checkpoint with another outcome"
+import sys
+sys.path.insert(0, sys.argv[1])
+from model import sealed
+for name in sys.argv[2:]:
+    data = bytearray(open(name, "rb").read())
+    data[52 + 11] ^= 1
+    open(name, "wb").write(sealed(bytes(data[:-32])))
+END
+gather differs refused 10 'gather: outcome 1 differs in ../small-1 and ../wrong' ../small-0 ../small-1 ../small-2 ../wrong
+holds refused ""
+gather wrong-alone look 0 $'working folder: no checkpoint\nfolder ../wrong: 4 outcomes, 4 new\ndone: 4 of 12' --look yes ../wrong
+
+# Gathered twice, and the working folder among the folders: nothing is new.
+gather again all-small 0 $'working folder: no checkpoint\nfolder ../small-0: 4 outcomes, 4 new\nfolder ../half: 2 outcomes, 2 new\ndone: 6 of 12' ../small-0 ../half
+gather again all-small 0 $'working folder: 6 outcomes\nfolder .: 6 outcomes, 0 new\nfolder ../small-2: 4 outcomes, 2 new\nfolder ../small-1: 4 outcomes, 4 new\ndone: 12 of 12' \
+    . ../small-2 ../small-1
+run again all-small 0 "" --save 1 --resume yes
+cmp -s again.out small.out || fail "the report of folders that were gathered twice is not that of one run"
+
+# Of a bare outcome and a whole one the whole one is taken.
+run binned once 0 "" --shift yes
+run bare bare 7 "stopped: 4 of 12 done" --save 1 --parts 3 --part 0
+run whole-0 whole-0 7 "stopped: 4 of 12 done" --save 1 --parts 3 --part 0 --shift yes
+run whole-1 whole-1 7 "stopped: 4 of 12 done" --save 1 --parts 3 --part 1 --shift yes
+gather shift shift 0 $'working folder: no checkpoint\nfolder ../bare: 4 outcomes, 4 new\nfolder ../whole-0: 4 outcomes, 0 new\nfolder ../whole-1: 4 outcomes, 4 new\ndone: 8 of 12' \
+    ../bare ../whole-0 ../whole-1
+run shift shift 0 "" --save 1 --resume yes --shift yes
+cmp -s shift.out binned.out || fail "the report with the tally over gathered folders is not that of one run"
+
+# Words that are refused.
+words=()
+for bad in "--look" "--look maybe" "no-folder"; do
+    case $bad in
+        no-folder) "$gatherer" run --pop pop </dev/null >bad.out 2>bad.note ;;
+        *) "$gatherer" $bad run --pop pop </dev/null >bad.out 2>bad.note ;;
+    esac
+    [ $? -eq 1 ] || fail "the words $bad are not refused"
+    passed=$((passed + 1))
+done

@@ -1,0 +1,131 @@
+"""Takes inputs that are as great as they may be, and others that are one greater: the first are accepted, the others refused by their note. And
+makes a run of three million steps on 100,000 units in 5000 regions, of which about every second moves one: with a look at all units at each move it
+would not end in time.
+
+Usage: python3 limits.py PROGRAM
+       python3 limits.py walk
+What each must print follows from how it is built; how many steps of the run move is what the second prints, by a plain loop over the draws.
+Prints one line, and one for each input that is not so; ends with 1 where there is one.
+"""
+import json
+import os
+import pathlib
+import subprocess
+import sys
+
+import model
+
+CYCLE = (pathlib.Path(__file__).resolve().parent / "cycle.json").read_bytes()
+COLUMNS = "--pop pop --first a --second b --district d --slack".split()
+CHECK = ["check", *COLUMNS, "5000"]
+KEY = "0" * 64
+STEPS, UNITS = 3000000, 100000
+MOVES = 1500103
+SECONDS = 60
+
+
+# ---- the inputs
+
+def graph(nodes, adjacency):
+    return json.dumps({"nodes": nodes, "adjacency": adjacency}, separators=(",", ":")).encode()
+
+
+def node(at, district, region=0):
+    return {"id": at, "pop": 1, "a": 1, "b": 1, "d": district, "r": region}
+
+
+def path(count, district):
+    return graph([node(at, district(at)) for at in range(count)], [[{"id": at + 1}] if at + 1 < count else [] for at in range(count)])
+
+
+def dense(edges, units=895):
+    """So many edges: all pairs of units that are one apart, then all that are two apart, and so on."""
+    adjacency, left = [[] for _ in range(units)], edges
+    for step in range(1, units):
+        for unit in range(min(left, units - step)):
+            adjacency[unit].append({"id": unit + step})
+        left -= min(left, units - step)
+    return graph([node(at, at * 2 // units) for at in range(units)], adjacency)
+
+
+def two_hubs():
+    """Two units that are neighbours, each in a district of its own, and others, each of which has these two as its neighbours, by turns in one
+    district and in the other. Each of the others may change its district at any time, and the first two never may."""
+    adjacency = [[{"id": 1}], [], *[[{"id": 0}, {"id": 1}]] * (UNITS - 2)]
+    return graph([node(at, at % 2, at * 5000 // UNITS) for at in range(UNITS)], adjacency)
+
+
+def moves():
+    """How many steps of the run on this graph move a unit."""
+    plan, moved = [at % 2 for at in range(UNITS)], 0
+    for draw in model.draws(bytes.fromhex(KEY), 0, STEPS):
+        unit, district = divmod(draw % (2 * UNITS), 2)
+        if draw < 2 ** 64 // (2 * UNITS) * (2 * UNITS) and unit > 1 and plan[unit] != district:
+            plan[unit], moved = district, moved + 1
+    return moved
+
+
+# ---- what they print
+
+def checked(units, edges, districts, low, high, more=""):
+    return 0, f"plan-check 1\nunits {units} edges {edges} districts {districts}\npopulation {units} slack 5000 low {low} high {high}\n{more}end\n", ""
+
+
+def refused(note):
+    return 2, "", f"graph: {note}\n"
+
+
+def walked():
+    head = (f"district-audit 1\nkey {KEY}\nunits {UNITS} edges {2 * UNITS - 3} districts 2\npopulation {UNITS} slack 10000 low 0 high {UNITS}\n"
+            f"max-split 2 regions 5000\nwalks 1 steps {STEPS} ends 0 hub-steps 1000\n")
+    line = f"walk 0 moved {MOVES} cut-edges low start {UNITS - 1}/1 count {STEPS + 1} of {STEPS + 1} bound 1.414213563\n"
+    return 0, head + line + "end\n", ""
+
+
+def cases():
+    """The name of each input, the words, the input, and its end."""
+    most = 67108864
+    for more in (0, 1):
+        own = checked(4, 4, 2, 1, 3) if not more else refused("more than 67108864 bytes")
+        yield f"{most + more} bytes", CHECK, CYCLE + b" " * (most + more - len(CYCLE)), own
+    one_line = CYCLE.replace(b"\n", b"")
+    yield f"{most + 1} bytes of several plans", ["plans", *CHECK[1:], "--key", KEY, "--ask", "gap:low"], \
+        one_line + b"\n" * (most + 1 - len(one_line)), refused("more than 67108864 bytes")
+    yield "100000 units", CHECK, path(100000, lambda at: at // 50000), checked(100000, 99999, 2, 25000, 75000)
+    yield "100001 units", CHECK, path(100001, lambda at: at // 50001), refused("100001 units, more than 100000")
+    yield "400000 edges", CHECK, dense(400000), checked(895, 400000, 2, 224, 671)
+    yield "400001 edges", CHECK, dense(400001), refused("400001 edges, more than 400000")
+    yield "200 districts", CHECK, path(200, lambda at: at), checked(200, 199, 200, 1, 1)
+    yield "201 districts", CHECK, path(201, lambda at: at), refused("201 districts, not 2 to 200")
+    yield "one district", CHECK, path(200, lambda at: 0), refused("1 districts, not 2 to 200")
+    for count in (5000, 5001):
+        own = checked(5000, 4999, 2, 1250, 3750, "max-split 200 regions 5000\n") if count == 5000 else refused("5001 regions, more than 5000")
+        yield f"{count} regions", [*CHECK, "--region", "id"], path(count, lambda at, half=count // 2: min(at // half, 1)), own
+    yield "three million steps", ["run", *COLUMNS, "10000", "--key", KEY, "--steps", str(STEPS), "--ask", "cut-edges:low", "--region", "r",
+                              "--max-split", "2"], two_hubs(), walked()
+
+
+def ended(program, words, given):
+    try:
+        end = subprocess.run([program, *words], input=given, capture_output=True, timeout=SECONDS, check=False)
+    except subprocess.TimeoutExpired:
+        return f"nothing after {SECONDS} seconds", "", ""
+    return end.returncode, end.stdout.decode(), end.stderr.decode()
+
+
+def main(program):
+    if program == "walk":
+        print(moves())
+        return 0
+    count, wrong = 0, 0
+    for name, words, given, wanted in cases():
+        found, count = ended(os.path.abspath(program), words, given), count + 1
+        if found != wanted:
+            print(f"WRONG: {name}: {str(found)[:300]} and not {str(wanted)[:300]}")
+            wrong += 1
+    print(f"{count} inputs at the limits, {wrong} not as they have to be")
+    return 1 if wrong else 0
+
+
+if __name__ == "__main__":
+    sys.exit(main(*sys.argv[1:]))

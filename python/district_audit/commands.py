@@ -1,0 +1,220 @@
+"""The commands: district-audit-prepare, district-audit-picture and district-audit-run."""
+from __future__ import annotations
+
+import argparse
+import signal
+import subprocess
+import sys
+import typing
+
+from . import labels as naming
+from . import progress as bars
+from .errors import PrepareRefused, ProgramMissing, ReportRefused
+from .preparing import Prepared
+from .preparing import prepare as prepared_of
+from .program import found, stop
+from .report import Report
+
+PREPARE = """Turns a file that GerryChain or networkx wrote into one that the auditor accepts, and tells of everything that it changed.
+
+FILE is JSON in networkx's adjacency layout (which GerryChain's Graph.to_json writes) or in its node-link layout; a name that ends with
+.graphml or .gml is read by networkx, where that is installed. Nothing else is needed but Python itself.
+
+--numbers says what becomes of a number in a column of people or votes that is not whole:
+    error    it is refused (the default); a whole number that is written as a float, as 12.0, is none of these
+    nearest  the nearest whole number, halves to the even one
+    floor    the greatest whole number that is not above it
+--missing says what becomes of a value that is absent, null, NaN or an empty text:
+    error    it is refused (the default)
+    zero     0, in a column of people or votes; a missing district or region is refused
+    drop     its unit is left out, and the unit's edges with it
+A column that no unit has is refused, whatever is said.
+--slack is that of the audit, in hundredths of a percent of the ideal population, 500 if it is not given.
+--region keeps a column of regions, as counties, and tells among how many districts the most split one lies; --max-split is that of the audit,
+200 if it is not given. --fill-region makes one region of all units that have none, --own-region makes each of them a region of its own.
+--join makes two units neighbours, as an island and what it belongs to; it may be said again.
+--keep keeps a further column, as it is; all others are left out. --all prints every id where else the first ten are.
+
+The graph goes to --out, or to standard output; what was changed, and what the auditor would refuse, to standard error.
+Ends with 0 where the auditor accepts the file, with 1 where it was written and would be refused, and with 2 where it was not written.
+"""
+PICTURE = """Draws a report of the auditor as one picture, in PNG and in SVG.
+
+REPORT is a file with a report, or - for standard input; NAME.png and NAME.svg are written. matplotlib is needed.
+
+The picture shows, for each question and walk, which part of the visited plans is at least as extreme as the enacted plan, and the bound
+that follows; for each rank test the rank of the enacted plan among its trajectories; and, where the report has one, the histogram of seats.
+All is black, grey and white: shapes and words tell things apart. A text that is no whole report is refused.
+"""
+RUN = """Usage: district-audit-run WORDS < GRAPH > REPORT
+
+Runs the auditor with these words, which are those of `run`, or of `make` where that is the first of them. Standard output, status and note
+are the program's own. Where it saves and standard error is a terminal, a bar shows how far it is. Where it refuses the graph, a second line
+says in the graph's own ids and labels what its numbers stand for. Ctrl-C ends it, and tells how to go on.
+"""
+
+
+def tell(text: str) -> None:
+    print("prepare: " + text, file=sys.stderr)
+
+
+# ---- prepare
+
+def prepare_words() -> argparse.ArgumentParser:
+    parser = argparse.ArgumentParser(description=PREPARE, formatter_class=argparse.RawDescriptionHelpFormatter)
+    parser.add_argument("file")
+    for column in ("pop", "first", "second", "district"):
+        parser.add_argument("--" + column, required=True)
+    parser.add_argument("--numbers", choices=("error", "nearest", "floor"), default="error")
+    parser.add_argument("--missing", choices=("error", "zero", "drop"), default="error")
+    parser.add_argument("--slack", type=int, default=500)
+    parser.add_argument("--region")
+    parser.add_argument("--max-split", type=int, default=200)
+    ways = parser.add_mutually_exclusive_group()
+    ways.add_argument("--fill-region", metavar="LABEL")
+    ways.add_argument("--own-region", action="store_true")
+    parser.add_argument("--join", nargs=2, metavar=("A", "B"), action="append", default=[])
+    parser.add_argument("--keep", action="append", default=[])
+    parser.add_argument("--out")
+    parser.add_argument("--all", action="store_true")
+    return parser
+
+
+def told(ready: Prepared, everything: bool) -> None:
+    """Prints what was changed, what looks wrong, what there is, and what the auditor would refuse."""
+    for change in ready.changes:
+        tell(change.text(everything))
+    for warning in ready.warnings:
+        tell("warning: " + warning)
+    for note in ready.notes:
+        tell(note)
+    for refusal in ready.refusals:
+        tell("the auditor would refuse it: " + refusal)
+
+
+def prepare(words: typing.Sequence[str] | None = None) -> int:
+    """district-audit-prepare; answers the status."""
+    args = prepare_words().parse_args(words)
+    try:
+        ready = prepared_of(
+            args.file, population=args.pop, first=args.first, second=args.second, district=args.district, region=args.region,
+            numbers=args.numbers, missing=args.missing, join=args.join, keep=args.keep, fill_region=args.fill_region,
+            own_region=args.own_region, slack=args.slack, max_split=args.max_split, show_all=args.all)
+        told(ready, args.all)
+        if args.out:
+            with open(args.out, "wb") as file:
+                file.write(ready.data)
+        else:
+            sys.stdout.buffer.write(ready.data)
+            sys.stdout.flush()
+    except (PrepareRefused, OSError) as why:
+        faults = why.faults if isinstance(why, PrepareRefused) else []
+        some = faults if args.all else faults[:10]
+        for fault in some:
+            tell(fault)
+        tell("not written: %s%s" % (why, ", of which these are the first" if len(some) < len(faults) else ""))
+        return 2
+    return 1 if ready.refusals else 0
+
+
+# ---- picture
+
+def picture(words: typing.Sequence[str] | None = None) -> int:
+    """district-audit-picture; answers the status."""
+    parser = argparse.ArgumentParser(description=PICTURE, formatter_class=argparse.RawDescriptionHelpFormatter)
+    parser.add_argument("report", metavar="REPORT")
+    parser.add_argument("name", metavar="NAME")
+    args = parser.parse_args(words)
+    try:
+        if args.report == "-":
+            text = sys.stdin.read()
+        else:
+            with open(args.report, encoding="ascii", newline="") as file:
+                text = file.read()
+        Report.parse(text).plot(args.name)
+    except ImportError:
+        print("picture: matplotlib is missing (Debian: python3-matplotlib; else: pip install matplotlib)", file=sys.stderr)
+        return 3
+    except ReportRefused as why:
+        print("picture: not drawn: this is no whole report: %s" % why, file=sys.stderr)
+        return 2
+    except (OSError, ValueError) as why:
+        print("picture: not drawn: %s" % why, file=sys.stderr)
+        return 2
+    return 0
+
+
+# ---- run
+
+def value_of(words: typing.Sequence[str], name: str, default: str) -> str:
+    """The value of a word, for showing alone: what the words say, the program decides."""
+    pairs = dict(zip(words[1::2], words[2::2]))
+    return pairs.get(name, default)
+
+
+def total_of(words: typing.Sequence[str]) -> int:
+    counts = (value_of(words, "--walks", "1"), value_of(words, "--ends", "0"))
+    return sum(int(count) for count in counts if count.isascii() and count.isdigit())
+
+
+def run(words: typing.Sequence[str] | None = None) -> int:
+    """district-audit-run; answers the status."""
+    words = list(sys.argv[1:] if words is None else words)
+    if words[:1] in ([], ["-h"], ["--help"]):
+        print(RUN, file=sys.stderr)
+        return 0 if words else 1
+    if words[0] not in ("run", "make"):
+        words.insert(0, "run")
+    saves = value_of(words, "--save", "0") != "0"
+    try:
+        program = found("audit")
+        slots = found("slots") if saves and sys.stderr.isatty() else None
+    except ProgramMissing as why:
+        print("district-audit-run: %s" % why, file=sys.stderr)
+        return 127
+    data = sys.stdin.buffer.read() if words[0] == "run" else b""
+    watch = None
+    if slots is not None:
+        path = slots
+        watch = bars.Watch(lambda: bars.look(path, words, data, None), total_of(words), value_of(words, "--resume", "no") == "yes", bars.PlainBar())
+    return passed_through([program, *words], data, watch, saves)
+
+
+def passed_through(command: list[str], data: bytes, watch: bars.Watch | None, saves: bool) -> int:
+    """Runs the program on our own outputs, and adds lines on standard error alone."""
+    signal.signal(signal.SIGTERM, lambda number, _frame: sys.exit(128 + number))
+    with subprocess.Popen(command, stdin=subprocess.PIPE, stderr=subprocess.PIPE) as process:
+        try:
+            note = noted(process, data, watch)
+        except SystemExit:
+            stop(process)
+            raise
+        except KeyboardInterrupt:
+            stop(process)
+            print("\ndistrict-audit-run: stopped; %s" % (
+                "the same command with --resume yes goes on in this folder" if saves else "nothing was saved (--save 1 saves after each trajectory)"),
+                file=sys.stderr)
+            return 130
+    if watch is not None:
+        watch.end()
+    sys.stderr.buffer.write(note)
+    sys.stderr.flush()
+    if process.returncode == 2:
+        line = note.decode("utf-8", "surrogateescape").removesuffix("\n")
+        names = {"district": value_of(command[1:], "--district", ""), "region": value_of(command[1:], "--region", "")}
+        said = naming.said_in_labels(line, naming.labels_of(data, names))
+        if said:
+            print("district-audit-run: " + said, file=sys.stderr)
+    return process.returncode if process.returncode >= 0 else 128 - process.returncode
+
+
+def noted(process: subprocess.Popen[bytes], data: bytes, watch: bars.Watch | None) -> bytes:
+    """What the program writes on standard error."""
+    first: bytes | None = data
+    while True:
+        try:
+            return process.communicate(first, timeout=0.1)[1]
+        except subprocess.TimeoutExpired:
+            first = None
+            if watch is not None:
+                watch()

@@ -1,0 +1,162 @@
+"""Graphs as people have them: objects of networkx or GerryChain, files of JSON, GraphML or GML, and bytes."""
+from __future__ import annotations
+
+import decimal
+import json
+import math
+import numbers
+import os
+import typing
+
+from .errors import PrepareRefused
+
+SHOWN = 10
+
+Label = typing.Union[int, str]
+Pair = typing.Tuple[object, object]
+
+
+class Raw(typing.NamedTuple):
+    """A graph before anything of it is changed."""
+
+    nodes: list[dict[str, object]]
+    """The attributes of each unit, its id among them, as `id`."""
+    pairs: list[Pair]
+    """The ids that are neighbours, as they stand in the graph."""
+    is_directed: bool
+
+
+def shown(ids: typing.Iterable[object], everything: bool = False) -> str:
+    """Some ids, or all."""
+    told = [as_json(one) for one in ids]
+    some = told if everything or len(told) <= SHOWN else told[:SHOWN] + ["and %d more" % (len(told) - SHOWN)]
+    return ", ".join(some)
+
+
+def as_json(value: object) -> str:
+    """A value in one line, for people."""
+    return json.dumps(value, ensure_ascii=False, default=str)
+
+
+# ---- reading
+
+def raw_of(graph: object) -> Raw:
+    """A graph of any kind that `prepare` takes; PrepareRefused where it cannot be read."""
+    if isinstance(graph, (bytes, bytearray, memoryview)):
+        return of_root(parsed(bytes(graph), "the graph"), "the graph")
+    if isinstance(graph, (str, os.PathLike)):
+        return of_file(os.fspath(graph))
+    if isinstance(graph, dict):
+        return of_root(graph, "the graph")
+    if hasattr(graph, "nodes") and hasattr(graph, "adjacency"):
+        return of_object(graph)
+    raise PrepareRefused("a graph is an object with nodes(data=True) and adjacency(), a path, or bytes, and this is %s" % type(graph).__name__)
+
+
+def of_object(graph: typing.Any) -> Raw:
+    """An object of networkx or of GerryChain."""
+    nodes = [{**attributes, "id": node} for node, attributes in graph.nodes(data=True)]
+    pairs = [(node, other) for node, others in graph.adjacency() for other in others]
+    is_directed = getattr(graph, "is_directed", None)
+    return Raw(nodes, pairs, bool(is_directed()) if callable(is_directed) else False)
+
+
+def of_file(name: str) -> Raw:
+    """A file; GraphML and GML are read by networkx."""
+    if name.endswith((".graphml", ".gml")):
+        try:
+            import networkx
+        except ImportError:
+            raise PrepareRefused("networkx is missing, which reads %s (a .json file needs nothing)" % name) from None
+        try:
+            return of_object(networkx.read_graphml(name) if name.endswith(".graphml") else networkx.read_gml(name))
+        except Exception as error:  # networkx and its readers of XML have many
+            raise PrepareRefused("%s cannot be read: %s" % (name, error)) from error
+    try:
+        with open(name, "rb") as file:
+            data = file.read()
+    except OSError as error:
+        raise PrepareRefused("%s cannot be read: %s" % (name, error)) from error
+    return of_root(parsed(data, name), name)
+
+
+def parsed(data: bytes, name: str) -> object:
+    try:
+        return json.loads(data.decode("utf-8-sig"))
+    except ValueError as error:
+        raise PrepareRefused("%s cannot be read: %s" % (name, error)) from error
+
+
+def of_root(root: object, name: str) -> Raw:
+    """The root object of networkx's adjacency or node-link layout."""
+    nodes = root.get("nodes") if isinstance(root, dict) else None
+    if not isinstance(root, dict) or not isinstance(nodes, list) or not all(isinstance(node, dict) for node in nodes):
+        raise PrepareRefused("%s is no graph of networkx: it has no list `nodes` of objects" % name)
+    return Raw(nodes, list(pairs_of(root, nodes)), bool(root.get("directed")))
+
+
+def pairs_of(root: dict[str, typing.Any], nodes: list[dict[str, object]]) -> typing.Iterator[Pair]:
+    if isinstance(root.get("adjacency"), list):
+        if len(root["adjacency"]) != len(nodes):
+            raise PrepareRefused("%d nodes and %d adjacency entries" % (len(nodes), len(root["adjacency"])))
+        for node, entries in zip(nodes, root["adjacency"]):
+            for entry in entries:
+                yield hashable(node.get("id")), hashable(entry.get("id"))
+        return
+    for key in ("links", "edges"):
+        if isinstance(root.get(key), list):
+            for entry in root[key]:
+                yield hashable(entry.get("source")), hashable(entry.get("target"))
+            return
+    raise PrepareRefused("there is neither a list `adjacency` nor one of `links` or `edges`")
+
+
+def hashable(value: object) -> object:
+    """An id that JSON has as a list, as a grid's pairs are, is a tuple to networkx."""
+    return tuple(map(hashable, value)) if isinstance(value, list) else value
+
+
+# ---- values
+
+def is_missing(value: object) -> bool:
+    """Whether a value is absent, null, NaN, an empty text, or one of pandas' missing values."""
+    if value is None or isinstance(value, str) and value == "" or type(value).__name__ in ("NAType", "NaTType"):
+        return True
+    return isinstance(value, (numbers.Real, decimal.Decimal)) and not isinstance(value, numbers.Rational) and math.isnan(value)
+
+
+def is_whole(value: object) -> bool:
+    """Whether it is a whole number, of Python or of numpy."""
+    return isinstance(value, numbers.Integral) and not isinstance(value, bool)
+
+
+def plain(value: object) -> Label | None:
+    """A text, or a whole number that fits 64 bits, which the auditor takes as an id or a label; else None."""
+    if isinstance(value, str):
+        return str(value)
+    if is_whole(value) and -2 ** 63 <= int(typing.cast(int, value)) < 2 ** 64:
+        return int(typing.cast(int, value))
+    return None
+
+
+def as_text(value: object) -> str:
+    """Another kind of id or label as a text; a float that is whole as its digits."""
+    if isinstance(value, str):
+        return str(value)
+    if is_whole(value):
+        return str(int(typing.cast(int, value)))
+    if isinstance(value, numbers.Real) and not isinstance(value, bool) and math.isfinite(value) and value == math.floor(value):
+        return str(math.floor(value))
+    return json.dumps(value, default=str)
+
+
+def renamed(values: typing.Sequence[object]) -> tuple[typing.Callable[[object], Label], bool]:
+    """A function from raw ids or labels to those that are written, and whether they were changed: all to texts where one has to be."""
+    if all(plain(value) is not None for value in values):
+        return (lambda value: typing.cast(Label, plain(value))), False
+    return as_text, True
+
+
+def in_order(labels: typing.Iterable[Label]) -> list[Label]:
+    """Different labels as the auditor numbers them from 0: in rising order, whole numbers before texts."""
+    return sorted(set(labels), key=lambda label: (isinstance(label, str), label))

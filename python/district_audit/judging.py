@@ -1,0 +1,126 @@
+"""For what the auditor would refuse a plan, told in the user's labels before it is asked.
+
+This is a look ahead, for people who mend a file: whether a plan is legal, the program says.
+"""
+from __future__ import annotations
+
+import functools
+import typing
+
+from .graphs import SHOWN, Label, as_json, in_order, shown
+
+if typing.TYPE_CHECKING:
+    from .preparing import Choices
+
+MOST_UNITS, MOST_EDGES, MOST_REGIONS = 100_000, 400_000, 5000
+
+
+def parts_of(members: typing.Iterable[Label], neighbours: dict[Label, list[Label]]) -> list[list[Label]]:
+    """The connected parts of some units, greatest first."""
+    left, parts = dict.fromkeys(members), []
+    while left:
+        part, todo = [], [left.popitem()[0]]
+        while todo:
+            unit = todo.pop()
+            part.append(unit)
+            for other in neighbours[unit]:
+                if other in left:
+                    del left[other]
+                    todo.append(other)
+        parts.append(part)
+    return sorted(parts, key=len, reverse=True)
+
+
+class Judged:
+    """What there is, and for what the auditor would refuse it."""
+
+    def __init__(self, rows: dict[Label, dict[str, typing.Any]], neighbours: dict[Label, list[Label]], choices: Choices) -> None:
+        self.rows, self.neighbours, self.choices = rows, neighbours, choices
+        self.notes: list[str] = []
+        self.refusals: list[str] = []
+        self.place = {unit: i for i, unit in enumerate(rows)}
+        self.members: dict[Label, list[Label]] = {}
+        for unit, row in rows.items():
+            self.members.setdefault(row[choices.district], []).append(unit)
+        self.districts = in_order(self.members)
+        self.number = {label: i for i, label in enumerate(self.districts)}
+        self.regions = in_order(row[choices.region] for row in rows.values()) if choices.region else []
+        self.shown = functools.partial(shown, everything=choices.show_all)
+        self.tell_parts()
+        self.judge_districts()
+        self.judge_sizes()
+        if choices.region:
+            self.judge_regions(choices.region)
+
+    def named(self, district: Label) -> str:
+        return "district %s" % as_json(district)
+
+    def number_of(self, district: Label) -> str:
+        """The auditor's number of a district, where its label is another."""
+        number = self.number[district]
+        return "" if district == number else " (the auditor's district %d)" % number
+
+    def ordered(self, units: typing.Iterable[Label]) -> list[Label]:
+        return sorted(units, key=self.place.__getitem__)
+
+    def tell_parts(self) -> None:
+        """Units without a neighbour, other small parts of the graph, and districts that no walk can change."""
+        alone = [unit for unit in self.rows if not self.neighbours[unit]]
+        if alone:
+            self.notes.append("units without a neighbour: %d: %s" % (len(alone), self.shown(alone)))
+        parts = parts_of(self.rows, self.neighbours)
+        if len(parts) < 2:
+            return
+        self.notes.append("the graph is in %d parts, and a district lies in one of them (--join A B makes neighbours of two units)" % len(parts))
+        small = [part for part in parts[1:] if len(part) > 1]
+        for part in small[:SHOWN]:
+            self.notes.append("a part of %d units: %s" % (len(part), self.shown(self.ordered(part))))
+        if len(small) > SHOWN:
+            self.notes.append("and %d further small parts" % (len(small) - SHOWN))
+        for part in parts:
+            labels = {self.rows[unit][self.choices.district] for unit in part}
+            if len(labels) == 1 and len(self.members[min(labels, key=str)]) == len(part):
+                self.notes.append("district %s is a part of its own, of %d units: no walk can change it" % (as_json(min(labels, key=str)), len(part)))
+
+    def judge_districts(self) -> None:
+        choices = self.choices
+        for label, members in self.members.items():
+            for part in parts_of(members, self.neighbours)[1:]:
+                self.refusals.append("%s is in several parts; %d of its %d units lie apart: %s%s" % (
+                    self.named(label), len(part), len(members), self.shown(self.ordered(part)), self.number_of(label)))
+        total = sum(row[choices.population] for row in self.rows.values())
+        if self.members:
+            shares = 10000 * len(self.members)
+            low, high = -(-(10000 - choices.slack) * total // shares), (10000 + choices.slack) * total // shares
+            for label, members in self.members.items():
+                people = sum(self.rows[unit][choices.population] for unit in members)
+                if not low <= people <= high:
+                    self.refusals.append("%s has %d people, outside %d to %d (--slack %d)%s" % (
+                        self.named(label), people, low, high, choices.slack, self.number_of(label)))
+        edges = sum(len(those) for those in self.neighbours.values()) // 2
+        self.notes.append("%d units, %d edges, %d districts, %d people" % (len(self.rows), edges, len(self.members), total))
+
+    def judge_sizes(self) -> None:
+        edges = sum(len(those) for those in self.neighbours.values()) // 2
+        if not 2 <= len(self.members) <= 200:
+            self.refusals.append("%d districts, not 2 to 200" % len(self.members))
+        for count, what, most in ((len(self.rows), "units", MOST_UNITS), (edges, "edges", MOST_EDGES), (len(self.regions), "regions", MOST_REGIONS)):
+            if count > most:
+                self.refusals.append("%d %s, more than %d" % (count, what, most))
+
+    def judge_regions(self, column: str) -> None:
+        """How far the regions are split."""
+        choices = self.choices
+        split: dict[Label, set[Label]] = {}
+        for row in self.rows.values():
+            split.setdefault(row[column], set()).add(row[choices.district])
+        if not split:
+            return
+        widest = max(split, key=lambda label: len(split[label]))
+        self.notes.append("%d regions in %s; %s lies in the most districts, %d" % (len(split), column, as_json(widest), len(split[widest])))
+        over = [label for label, districts in split.items() if len(districts) > choices.max_split]
+        if over:
+            numbers = [i for i, label in enumerate(self.regions) if label in set(over)]
+            told = ", ".join(map(str, numbers[:SHOWN])) + (" and %d more" % (len(numbers) - SHOWN) if len(numbers) > SHOWN else "")
+            self.refusals.append("regions that lie in more than %d districts: %d: %s (the auditor's numbers: %s)" % (
+                choices.max_split, len(over), self.shown(over), told))

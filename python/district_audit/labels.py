@@ -1,0 +1,66 @@
+"""What the numbers in a line of the program stand for, in the user's own ids and labels."""
+from __future__ import annotations
+
+import csv
+import io
+import json
+import re
+import typing
+
+from .graphs import Label, as_json, in_order, plain
+
+# The words before a number in the program's lines, and what they count.
+COUNTED = re.compile(r"\b(units?|nodes?|district|region) ([0-9]+)(?: and ([0-9]+))?")
+
+
+class Labels(typing.NamedTuple):
+    """Ids and labels in the order by which the program counts them from 0."""
+
+    units: typing.Sequence[object]
+    districts: typing.Sequence[object]
+    regions: typing.Sequence[object]
+
+
+def labels_of(data: bytes, columns: typing.Mapping[str, object]) -> Labels:
+    """The ids and labels of the program's input, as far as it can be read; `columns` has the names by the words district and region."""
+    try:
+        root = json.loads(data.decode("utf-8"))
+        nodes = [node if isinstance(node, dict) else {} for node in root["nodes"]]
+    except (ValueError, KeyError, TypeError):
+        return Labels([], [], [])
+
+    def column(name: object) -> typing.Sequence[object]:
+        labels = [plain(node.get(name)) for node in nodes] if name else [None]
+        return [] if None in labels else in_order(typing.cast(typing.List[Label], labels))
+
+    return Labels([node.get("id") for node in nodes], column(columns.get("district")), column(columns.get("region")))
+
+
+def plan_labels(table: str, name: str) -> typing.Sequence[object]:
+    """The labels of the first plan of this name in a table of plans, in their order by bytes; none where it cannot be read."""
+    records = [row for row in csv.reader(io.StringIO(table, newline="")) if row]
+    if not records or name not in records[0][1:]:
+        return []
+    place = records[0].index(name, 1)
+    labels = {row[place] for row in records[1:] if len(row) > place}
+    return sorted(labels, key=lambda label: label.encode("utf-8", "surrogateescape"))
+
+
+def said_in_labels(line: str, labels: Labels, table: str = "") -> str:
+    """What the numbers of a line stand for, as 'region 5 is "Kings"; unit 2 is "v"'; '' where nothing is known, or the label is the number.
+
+    `table` is the table of plans, whose labels count in a line on one of its plans.
+    """
+    kind, _, rest = line.partition(":")
+    if kind.startswith("plan "):
+        labels = labels._replace(districts=plan_labels(table, kind[len("plan "):]))
+    elif kind not in ("plan", "graph", "table"):
+        return ""
+    lists = {"unit": labels.units, "node": labels.units, "district": labels.districts, "region": labels.regions}
+    said = []
+    for what, *found in COUNTED.findall(rest):
+        known = lists[what.rstrip("s")]
+        for number in (int(one) for one in found if one):
+            if number < len(known) and known[number] != number:
+                said.append("%s %d is %s" % (what.rstrip("s"), number, as_json(known[number])))
+    return "; ".join(dict.fromkeys(said))

@@ -1,0 +1,123 @@
+"""How far a run is, by the second program, `audit_slots`: it tells how many trajectories are saved, and nothing of what was found, since
+whoever looks at a test before its end, and may stop it there, spoils it."""
+from __future__ import annotations
+
+import re
+import subprocess
+import sys
+import time
+import typing
+
+from .program import PathLike
+
+WIDTH = 40
+
+
+class Bar(typing.Protocol):
+    """What draws: it is told how many of how many are done, again and again, and once that the run has ended."""
+
+    def show(self, done: int, total: int) -> None: ...
+
+    def end(self) -> None: ...
+
+
+class PlainBar:
+    """A bar in one line of a terminal, by Python alone; elsewhere a line each time that the number changes."""
+
+    def __init__(self, stream: typing.TextIO | None = None) -> None:
+        self.stream = stream or sys.stderr
+        self.is_terminal = self.stream.isatty()
+        self.last: tuple[int, int] | None = None
+
+    def show(self, done: int, total: int) -> None:
+        if (done, total) == self.last:
+            return
+        self.last = done, total
+        text = "done %d of %d" % (done, total)
+        if self.is_terminal:
+            full = WIDTH * done // max(total, 1)
+            self.stream.write("\r[%s%s] %s " % ("#" * full, "." * (WIDTH - full), text))
+        else:
+            self.stream.write(text + "\n")
+        self.stream.flush()
+
+    def end(self) -> None:
+        if self.is_terminal and self.last is not None:
+            self.stream.write("\n")
+            self.stream.flush()
+
+
+class TqdmBar:
+    """The same by tqdm, which also draws in notebooks."""
+
+    def __init__(self, tqdm: typing.Any) -> None:
+        self.tqdm, self.bar = tqdm, None
+
+    def show(self, done: int, total: int) -> None:
+        if self.bar is None:
+            self.bar = self.tqdm(total=total, unit="walk", desc="done")
+        self.bar.n = done
+        self.bar.refresh()
+
+    def end(self) -> None:
+        if self.bar is not None:
+            self.bar.close()
+
+
+def new_bar() -> Bar:
+    """tqdm's bar where it is installed, else a plain one."""
+    try:
+        from tqdm.auto import tqdm
+    except ImportError:
+        return PlainBar()
+    return TqdmBar(tqdm)
+
+
+class Look(typing.NamedTuple):
+    """What `audit_slots` tells."""
+
+    slots: str
+    """Its lines on the slots, which change with each save."""
+    done: int | None
+    """How many trajectories of this job are in the newest slot; None where no slot is of this job."""
+    total: int | None
+
+
+def look(program: str, words: typing.Sequence[str], data: bytes, folder: PathLike | None) -> Look:
+    """Asks once how far the run in a folder is; its words are those of the run."""
+    told = subprocess.run([program, *words], cwd=folder, input=data, stdout=subprocess.PIPE, stderr=subprocess.DEVNULL, check=False)
+    text = told.stdout.decode("utf-8", "replace")
+    found = re.search(r"^done: ([0-9]+) of ([0-9]+)$", text, re.MULTILINE)
+    slots = "\n".join(line for line in text.splitlines() if line.startswith("slot "))
+    return Look(slots, int(found[1]), int(found[2])) if found else Look(slots, None, None)
+
+
+class Watch:
+    """Looks now and then how far a run is, and draws it. A look takes as long as reading the graph does, and less than a tenth of the time
+    goes to it."""
+
+    def __init__(self, ask: typing.Callable[[], Look], total: int, is_resumed: bool, bar: Bar) -> None:
+        self.ask, self.total, self.bar = ask, total, bar
+        self.is_resumed = is_resumed
+        self.due = 0.0
+        self.done = 0
+        # What stood there before the run is its own only where it goes on from it.
+        self.before = None if is_resumed else ask().slots
+
+    def __call__(self, _process: object = None) -> None:
+        if time.monotonic() < self.due:
+            return
+        began = time.monotonic()
+        self.take(self.ask())
+        self.due = time.monotonic() + max(0.5, 9 * (time.monotonic() - began))
+
+    def take(self, seen: Look) -> None:
+        if seen.slots != self.before and seen.done is not None and seen.total is not None:
+            self.before = None
+            self.done, self.total = seen.done, seen.total
+        self.bar.show(self.done, self.total)
+
+    def end(self) -> None:
+        """A last look, and the bar's end."""
+        self.take(self.ask())
+        self.bar.end()

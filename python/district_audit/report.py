@@ -1,0 +1,579 @@
+"""The program's texts as values: reports, check texts, and the reports of several plans.
+
+Reading is strict: a text that the program cannot have written is refused, with the number of its line. `str` of what was read is the text
+again, byte for byte. Counts are `int`, scores `Start` (which is never shortened; its `fraction` is a `Fraction`), and bounds and p-values
+`Decimal` with the report's nine places, which are rounded up.
+"""
+from __future__ import annotations
+
+import dataclasses
+import html
+import math
+import re
+import typing
+from decimal import Decimal
+from fractions import Fraction
+
+from .errors import ReportRefused
+
+if typing.TYPE_CHECKING:
+    import matplotlib.figure
+    import pandas
+
+BILLION = 10 ** 9
+MOST_UNITS, MOST_EDGES, MOST_DISTRICTS, MOST_REGIONS, MOST_TRAJECTORIES, MOST_CUT, MOST_SLACK = 100_000, 400_000, 200, 5000, 100_000, 400_000, 10_000
+SCORES = ("seats", "mean-median", "gap", "cut-edges")
+TAILS = ("low", "high")
+# What the nine numbers of a line `shift` stand for.
+SEATS = ("-4 or fewer", "-3", "-2", "-1", "0", "+1", "+2", "+3", "+4 or more")
+
+NUMBER = "(0|[1-9][0-9]*)"
+WHOLE = "(0|-?[1-9][0-9]*)"
+NINE = r"((?:0|[1-9][0-9]*)\.[0-9]{9})"
+ASK = "(%s) (%s) start %s/%s" % ("|".join(SCORES), "|".join(TAILS), WHOLE, NUMBER)
+
+
+# ---- what a report has
+
+@dataclasses.dataclass(frozen=True)
+class Rules:
+    """Which plans are legal, beside that every district is contiguous."""
+
+    slack: int
+    """How far a district may be from the ideal population, in hundredths of a percent."""
+    low: int
+    """The least population of a district that is within the bounds, in people."""
+    high: int
+    """The greatest."""
+    max_cut: int | None = None
+    """How many edges between two districts a plan may have; None: any number."""
+    max_split: int | None = None
+    """Among how many districts a region may be split; None: there are no regions."""
+    regions: int | None = None
+    """How many regions there are; None: no column of regions was named."""
+
+
+@dataclasses.dataclass(frozen=True)
+class Setting:
+    """What was walked."""
+
+    walks: int
+    """How many outlier trajectories."""
+    steps: int
+    """The steps of each."""
+    ends: int
+    """How many trajectories of the parallel test."""
+    hub_steps: int
+    """The steps to the hub, and of each of these trajectories."""
+    stop: int = 0
+    """After how many ends in the tail a test stops; 0: none stops early."""
+
+
+@dataclasses.dataclass(frozen=True)
+class Start:
+    """The start plan's score, as the report writes it: it is never shortened."""
+
+    numerator: int
+    denominator: int
+
+    @property
+    def fraction(self) -> Fraction:
+        return Fraction(self.numerator, self.denominator)
+
+    def __str__(self) -> str:
+        return "%d/%d" % (self.numerator, self.denominator)
+
+
+@dataclasses.dataclass(frozen=True)
+class Line:
+    """What each line of a test has: its question, and the start plan's score."""
+
+    score: str
+    """seats, mean-median, gap or cut-edges."""
+    tail: str
+    """low or high."""
+    start: Start
+
+    @property
+    def ask(self) -> str:
+        """The question, as the word --ask has it."""
+        return "%s:%s" % (self.score, self.tail)
+
+    def words(self) -> str:
+        return "%s %s start %s" % (self.score, self.tail, self.start)
+
+
+@dataclasses.dataclass(frozen=True)
+class Walk(Line):
+    """One outlier trajectory and one question."""
+
+    number: int
+    """Which trajectory, from 0."""
+    moved: int
+    """How many of its steps changed the plan."""
+    count: int
+    """How many of the visited plans, the start plan among them, are in the tail."""
+    of: int
+    """How many were visited: one more than the steps."""
+    bound: Decimal
+    """The square root of 2 count/of, rounded up at nine places."""
+
+    @property
+    def part(self) -> Fraction:
+        """Which part of the visited plans is in the tail."""
+        return Fraction(self.count, self.of)
+
+    def __str__(self) -> str:
+        return "walk %d moved %d %s count %d of %d bound %s" % (self.number, self.moved, self.words(), self.count, self.of, self.bound)
+
+
+@dataclasses.dataclass(frozen=True)
+class Ends(Line):
+    """The parallel test of one question."""
+
+    rank: int
+    """One more than the number of ends in the tail."""
+    of: int
+    """One more than the number of ends."""
+    p: Decimal
+    """rank/of, rounded up at nine places."""
+
+    def __str__(self) -> str:
+        return "ends %s rank %d of %d p %s" % (self.words(), self.rank, self.of, self.p)
+
+
+@dataclasses.dataclass(frozen=True)
+class Stop(Line):
+    """The sequential test of one question."""
+
+    place: int
+    """After how many ends it stops."""
+    top: int
+    """The value is top/of."""
+    of: int
+    p: Decimal
+    """The value, rounded up at nine places."""
+
+    def __str__(self) -> str:
+        return "stop %s place %d value %d/%d p %s" % (self.words(), self.place, self.top, self.of, self.p)
+
+
+@dataclasses.dataclass(frozen=True)
+class Serial(Line):
+    """The serial test of one question."""
+
+    place: int
+    """The start plan's place in the run, from 0."""
+    rank: int
+    """How many plans of the run, the start plan once among them, are in the tail."""
+    of: int
+    """How many plans the run has."""
+    p: Decimal
+    """rank/of, rounded up at nine places."""
+
+    def __str__(self) -> str:
+        return "serial %s place %d rank %d of %d p %s" % (self.words(), self.place, self.rank, self.of, self.p)
+
+
+@dataclasses.dataclass(frozen=True)
+class Shift:
+    """How the seats of the first party differ from the start plan's, over all visited plans; `SEATS` names the nine numbers."""
+
+    counts: tuple[int, ...]
+
+    def __str__(self) -> str:
+        return "shift " + " ".join(map(str, self.counts))
+
+
+# ---- reading lines
+
+def refuse(number: int, why: str) -> typing.NoReturn:
+    raise ReportRefused(number, why)
+
+
+class Reader:
+    """The lines of a text, one after the other."""
+
+    def __init__(self, lines: typing.Sequence[str], number: int = 1) -> None:
+        self.lines, self.place, self.first = lines, 0, number
+
+    @property
+    def number(self) -> int:
+        """The number of the next line."""
+        return self.first + self.place
+
+    def next(self) -> str | None:
+        return self.lines[self.place] if self.place < len(self.lines) else None
+
+    def begins(self, word: str) -> bool:
+        line = self.next()
+        return line is not None and line.split(" ")[0] == word
+
+    def take(self, form: str, example: str) -> list[str]:
+        """What the groups of a regular expression have in the next line, which all of it has to be like."""
+        line = self.next()
+        if line is None:
+            refuse(self.number, "the text ends where a line `%s` has to stand" % example)
+        found = re.fullmatch(form, line)
+        if found is None:
+            refuse(self.number, "it is not as a line `%s` is" % example)
+        self.place += 1
+        return list(found.groups())
+
+    def numbers(self, form: str, example: str) -> list[int]:
+        return [int(word) for word in self.take(form.replace("N", NUMBER), example)]
+
+    def ask_that(self, holds: bool, why: str) -> None:
+        """Refuses the line that was taken last where something does not hold."""
+        if not holds:
+            refuse(self.number - 1, why)
+
+
+def lines_of(text: str) -> list[str]:
+    """The lines of a text whose last line ends with a line feed."""
+    lines = text.split("\n")
+    if lines[-1] != "":
+        refuse(len(lines), "the text ends within a line")
+    return lines[:-1]
+
+
+class Head(typing.NamedTuple):
+    units: int
+    edges: int
+    districts: int
+    population: int
+    rules: Rules
+
+    def lines(self) -> list[str]:
+        rules = self.rules
+        lines = ["units %d edges %d districts %d" % self[:3],
+                 "population %d slack %d low %d high %d" % (self.population, rules.slack, rules.low, rules.high)]
+        lines += [] if rules.max_cut is None else ["max-cut %d" % rules.max_cut]
+        return lines + ([] if rules.regions is None else ["max-split %d regions %d" % (rules.max_split or 0, rules.regions)])
+
+
+def head_of(lines: Reader) -> Head:
+    units, edges, districts = lines.numbers("units N edges N districts N", "units n edges e districts D")
+    lines.ask_that(2 <= districts <= MOST_DISTRICTS and districts <= units <= MOST_UNITS, "there are no so many units or districts")
+    lines.ask_that(units - districts <= edges <= min(MOST_EDGES, units * (units - 1) // 2), "contiguous districts have another number of edges")
+    population, slack, low, high = lines.numbers("population N slack N low N high N", "population t slack b low l high h")
+    lines.ask_that(population <= BILLION * units and slack <= MOST_SLACK, "population or slack is too great")
+    shares = 10_000 * districts
+    lines.ask_that(low == -(-(10_000 - slack) * population // shares) and high == (10_000 + slack) * population // shares and low <= high,
+                   "the bounds are not those of the population and the slack")
+    max_cut = max_split = regions = None
+    if lines.begins("max-cut"):
+        max_cut, = lines.numbers("max-cut N", "max-cut c")
+        lines.ask_that(max_cut < MOST_CUT, "such a limit is not written")
+    if lines.begins("max-split"):
+        max_split, regions = lines.numbers("max-split N regions N", "max-split s regions q")
+        lines.ask_that(1 <= max_split <= MOST_DISTRICTS and 1 <= regions <= min(MOST_REGIONS, units), "the limit or the number of regions is out of range")
+    return Head(units, edges, districts, population, Rules(slack, low, high, max_cut, max_split, regions))
+
+
+def setting_of(lines: Reader) -> Setting:
+    walks, steps, ends, hub_steps = lines.numbers("walks N steps N ends N hub-steps N", "walks M steps k ends m hub-steps r")
+    lines.ask_that(1 <= walks + ends <= MOST_TRAJECTORIES and 1 <= steps <= BILLION and 1 <= hub_steps <= BILLION, "a number is out of range")
+    stop = 0
+    if lines.begins("stop") and len((lines.next() or "").split(" ")) == 2:
+        stop, = lines.numbers("stop N", "stop h")
+        lines.ask_that(1 <= stop <= MOST_TRAJECTORIES and ends >= 1, "no test stops so")
+    return Setting(walks, steps, ends, hub_steps, stop)
+
+
+def rounded_up(top: int, of: int) -> Decimal:
+    """top/of, rounded up at nine places, as the report writes it."""
+    whole, rest = divmod(-(-top * BILLION // of), BILLION)
+    return Decimal("%d.%09d" % (whole, rest))
+
+
+def bound_of(count: int, of: int) -> Decimal:
+    """The square root of 2 count/of, rounded up at nine places."""
+    least = -(-2 * count * BILLION * BILLION // of)
+    root = math.isqrt(least)
+    whole, rest = divmod(root if root * root >= least else root + 1, BILLION)
+    return Decimal("%d.%09d" % (whole, rest))
+
+
+class Tests:
+    """The lines of the tests. All have the same questions, in the same order, and the same start."""
+
+    def __init__(self, lines: Reader, head: Head, setting: Setting) -> None:
+        self.lines, self.head, self.setting = lines, head, setting
+        self.starts: dict[str, Start] = {}
+        self.asks = self.asked()
+
+    def asked(self) -> list[tuple[str, str]]:
+        """The questions, from the lines of the first trajectory, or of the first test where nothing is walked from the start."""
+        first = "walk 0 " if self.setting.walks else "stop " if self.setting.stop else "ends "
+        asks: list[tuple[str, str]] = []
+        for number, line in enumerate(self.lines.lines[self.lines.place:], self.lines.number):
+            found = re.search(" (%s) (%s) start " % ("|".join(SCORES), "|".join(TAILS)), line)
+            if not line.startswith(first) or found is None:
+                break
+            if (found[1], found[2]) in asks or len(asks) == 4:
+                refuse(number, "a question is asked twice, or there are more than four")
+            asks.append((found[1], found[2]))
+        if not asks:
+            refuse(self.lines.number, "a line that begins with `%s` has to stand here" % first.strip())
+        return asks
+
+    def line(self, ask: tuple[str, str], form: str, example: str) -> tuple[Start, list[str]]:
+        """The next line: the start's score, and what stands before and behind it. In the form A stands for the question, N for a number and
+        Z for a number with nine places."""
+        at = form[:form.index("A")].count("N")
+        words = self.lines.take(form.replace("N", NUMBER).replace("Z", NINE).replace("A", ASK), example)
+        score, tail, top, below = words[at:at + 4]
+        self.lines.ask_that((score, tail) == ask, "it is %s:%s's turn here" % ask)
+        return self.start(score, int(top), int(below)), words[:at] + words[at + 4:]
+
+    def start(self, score: str, top: int, below: int) -> Start:
+        """The start's score, where it is one that a legal plan of this report may have."""
+        head, start = self.head, Start(top, below)
+        if score in ("seats", "cut-edges"):
+            most = head.districts if score == "seats" else head.edges if head.rules.max_cut is None else min(head.edges, head.rules.max_cut)
+            is_good = below == 1 and 0 <= top <= most
+        elif score == "mean-median":
+            is_good = below == 2 * head.districts * BILLION and abs(top) <= below
+        else:
+            is_good = 0 < below <= 4 * BILLION * head.units and below % 2 == 0 and 2 * abs(top) <= below
+        self.lines.ask_that(is_good, "no plan has such a score")
+        self.lines.ask_that(self.starts.setdefault(score, start) == start, "the start has another score than above")
+        return start
+
+    def both_tails(self, found: typing.Sequence[Line], counts: typing.Sequence[int], least: int) -> None:
+        """Where a score is asked for in both tails, each plan is in one of them, and one that is equal in both."""
+        for one, count in zip(found, counts):
+            for other, others in zip(found, counts):
+                if one.score == other.score and one.tail == "low" and other.tail == "high":
+                    self.lines.ask_that(count + others >= least, "some plan is in neither tail of %s" % one.score)
+
+    def walks(self) -> tuple[Walk, ...]:
+        found: list[Walk] = []
+        for number in range(self.setting.walks):
+            found += self.walk(number)
+        return tuple(found)
+
+    def walk(self, number: int) -> list[Walk]:
+        """The lines of one trajectory."""
+        found: list[Walk] = []
+        for ask in self.asks:
+            start, words = self.line(ask, "walk N moved N A count N of N bound Z", "walk j moved v SCORE TAIL start x/y count c of q bound z")
+            walk = Walk(*ask, start, *map(int, words[:4]), bound=Decimal(words[4]))
+            found.append(walk)
+            self.lines.ask_that(walk.number == number, "it is walk %d's turn here" % number)
+            self.lines.ask_that(walk.moved == found[0].moved and walk.moved <= self.setting.steps, "no such number of steps moved")
+            self.lines.ask_that(walk.of == self.setting.steps + 1 and 1 <= walk.count <= walk.of, "no so many plans are visited")
+            self.lines.ask_that(walk.moved > 0 or walk.count == walk.of, "nothing moved, and so all plans are the start")
+            self.lines.ask_that(walk.bound == bound_of(walk.count, walk.of), "the bound is not that of the count")
+        self.both_tails(found, [walk.count for walk in found], self.setting.steps + 2)
+        return found
+
+    def shift(self, walks: tuple[Walk, ...]) -> Shift:
+        counts = self.lines.numbers("shift" + 9 * " N", "shift " + " ".join("c" * 9))
+        setting = self.setting
+        self.lines.ask_that(sum(counts) == setting.walks * (setting.steps + 1) and counts[4] >= setting.walks,
+                            "the numbers do not add up to the plans that are visited")
+        for tail, part in (("low", counts[:5]), ("high", counts[4:])):
+            told = [walk.count for walk in walks if walk.ask == "seats:" + tail]
+            self.lines.ask_that(not told or sum(told) == sum(part), "the numbers are not those of the lines on seats:%s" % tail)
+        return Shift(tuple(counts))
+
+    def stops(self) -> tuple[Stop, ...]:
+        found, enough, ends = [], self.setting.stop, self.setting.ends
+        for ask in self.asks:
+            start, words = self.line(ask, "stop A place N value N/N p Z", "stop SCORE TAIL start x/y place l value t/o p z")
+            stop = Stop(*ask, start, *map(int, words[:3]), p=Decimal(words[3]))
+            early = stop.top == enough and stop.of == stop.place and enough <= stop.place <= ends
+            late = 1 <= stop.top <= enough and stop.of == ends + 1 and stop.place == ends
+            self.lines.ask_that(early or late, "no test stops so")
+            self.lines.ask_that(stop.p == rounded_up(stop.top, stop.of), "p is not that of the value")
+            found.append(stop)
+        return tuple(found)
+
+    def ends(self) -> tuple[Ends, ...]:
+        found, of = [], self.setting.ends + 1
+        for ask in self.asks:
+            start, words = self.line(ask, "ends A rank N of N p Z", "ends SCORE TAIL start x/y rank g of q p z")
+            one = Ends(*ask, start, *map(int, words[:2]), p=Decimal(words[2]))
+            self.rank_that_is(one.rank, one.of, of, one.p)
+            found.append(one)
+        self.both_tails(found, [one.rank for one in found], of + 1)
+        return tuple(found)
+
+    def serial(self) -> tuple[Serial, ...]:
+        found, of = [], self.setting.steps + 1
+        for ask in self.asks:
+            start, words = self.line(ask, "serial A place N rank N of N p Z", "serial SCORE TAIL start x/y place t rank g of q p z")
+            one = Serial(*ask, start, *map(int, words[:3]), p=Decimal(words[3]))
+            found.append(one)
+            self.lines.ask_that(of & of - 1 == 0, "a serial run has a power of two of plans")
+            self.lines.ask_that(one.place == found[0].place and one.place < of, "the start has no such place")
+            self.rank_that_is(one.rank, one.of, of, one.p)
+        self.both_tails(found, [one.rank for one in found], of + 1)
+        return tuple(found)
+
+    def rank_that_is(self, rank: int, told: int, of: int, p: Decimal) -> None:
+        self.lines.ask_that(told == of and 1 <= rank <= of, "there is no such rank")
+        self.lines.ask_that(p == rounded_up(rank, of), "p is not that of the rank")
+
+
+# ---- the texts
+
+def table(rows: typing.Sequence[typing.Sequence[object]], titles: typing.Sequence[str]) -> str:
+    """A plain table in HTML."""
+    cells = "".join("<tr>%s</tr>" % "".join("<td>%s</td>" % html.escape("" if it is None else str(it)) for it in row) for row in rows)
+    return "<table><thead><tr>%s</tr></thead><tbody>%s</tbody></table>" % ("".join("<th>%s</th>" % html.escape(title) for title in titles), cells)
+
+
+@dataclasses.dataclass(frozen=True)
+class PlanCheck:
+    """The text of `check`: the plan is legal. Populations are numbers of people."""
+
+    units: int
+    edges: int
+    districts: int
+    population: int
+    rules: Rules
+
+    @classmethod
+    def parse(cls, text: str) -> PlanCheck:
+        """The check text as a value; ReportRefused where the program cannot have written it."""
+        lines = Reader(lines_of(text))
+        lines.take("plan-check 1", "plan-check 1")
+        head = head_of(lines)
+        finish(lines)
+        return cls(*head)
+
+    def __str__(self) -> str:
+        head = Head(self.units, self.edges, self.districts, self.population, self.rules)
+        return "\n".join(["plan-check 1", *head.lines(), "end", ""])
+
+
+def finish(lines: Reader) -> None:
+    """The last line, and nothing behind it."""
+    lines.take("end", "end")
+    if lines.next() is not None:
+        refuse(lines.number, "something stands behind the line `end`")
+
+
+COLUMNS = ("test", "walk", "ask", "start", "moved", "place", "count", "of", "bound", "p")
+
+
+@dataclasses.dataclass(frozen=True)
+class Report:
+    """A report. `str` of it is its text, byte for byte."""
+
+    key: str
+    """The key's 64 hexadecimal digits."""
+    units: int
+    edges: int
+    districts: int
+    population: int
+    """In people."""
+    rules: Rules
+    setting: Setting
+    walks: tuple[Walk, ...]
+    """A line for each outlier trajectory and question."""
+    shift: Shift | None
+    """The histogram of seats, where it was asked for."""
+    stops: tuple[Stop, ...]
+    """The sequential tests, one for each question; empty where nothing stops early."""
+    ends: tuple[Ends, ...]
+    """The parallel tests, one for each question; empty where there are no ends."""
+    serial: tuple[Serial, ...]
+    """The serial tests, one for each question; empty where it was not asked for."""
+
+    @classmethod
+    def parse(cls, text: str) -> Report:
+        """The report as a value; ReportRefused, with the number of the line, where the program cannot have written the text."""
+        lines = Reader(lines_of(text))
+        report = cls.read(lines)
+        if lines.next() is not None:
+            refuse(lines.number, "something stands behind the line `end`")
+        return report
+
+    @classmethod
+    def parse_plans(cls, text: str) -> list[tuple[str, Report]]:
+        """The text of `plans`: for each plan its name and its report, in order. Names may be equal."""
+        lines, found = Reader(lines_of(text)), []
+        while lines.next() is not None:
+            name, = lines.take("plan (.*)", "plan NAME")
+            found.append((name, cls.read(lines)))
+        if not found:
+            refuse(1, "there is no plan")
+        return found
+
+    @classmethod
+    def read(cls, lines: Reader) -> Report:
+        """The next report of some lines."""
+        version, = lines.take("district-audit ([12])", "district-audit 1")
+        key, = lines.take("key ([0-9a-f]{64})", "key K")
+        head, setting = head_of(lines), setting_of(lines)
+        tests = Tests(lines, head, setting)
+        walks = tests.walks()
+        shift = tests.shift(walks) if version == "2" else None
+        stops = tests.stops() if setting.stop else ()
+        ends = tests.ends() if setting.ends and not setting.stop else ()
+        serial = tests.serial() if lines.begins("serial") else ()
+        lines.take("end", "end")
+        return cls(key, *head, setting, walks, shift, stops, ends, serial)
+
+    def __str__(self) -> str:
+        setting = self.setting
+        head = Head(self.units, self.edges, self.districts, self.population, self.rules)
+        lines = ["district-audit %d" % (1 if self.shift is None else 2), "key " + self.key, *head.lines(),
+                 "walks %d steps %d ends %d hub-steps %d" % (setting.walks, setting.steps, setting.ends, setting.hub_steps)]
+        lines += ["stop %d" % setting.stop] if setting.stop else []
+        lines += map(str, self.walks)
+        lines += [] if self.shift is None else [str(self.shift)]
+        lines += map(str, (*self.stops, *self.ends, *self.serial))
+        return "\n".join([*lines, "end", ""])
+
+    @property
+    def asks(self) -> tuple[str, ...]:
+        """The questions, in the order in which they were asked."""
+        return tuple(dict.fromkeys(line.ask for line in (*self.walks, *self.stops, *self.ends)))
+
+    def rows(self) -> list[tuple[object, ...]]:
+        """A row for each line of a test, with the columns `COLUMNS`; what a test does not have is None."""
+        rows: list[tuple[object, ...]] = []
+        rows += [("walk", it.number, it.ask, it.start, it.moved, None, it.count, it.of, it.bound, None) for it in self.walks]
+        rows += [("stop", None, it.ask, it.start, None, it.place, it.top, it.of, None, it.p) for it in self.stops]
+        rows += [("ends", None, it.ask, it.start, None, None, it.rank, it.of, None, it.p) for it in self.ends]
+        return rows + [("serial", None, it.ask, it.start, None, it.place, it.rank, it.of, None, it.p) for it in self.serial]
+
+    def to_frame(self, exact: bool = False) -> pandas.DataFrame:
+        """A pandas DataFrame with a row for each line of a test. `count` is the count of a walk, the rank of a parallel or serial test, and
+        the top of a sequential test's value. Starts, bounds and p-values are floats; with exact=True they are Fraction and Decimal.
+
+        ImportError where pandas is not installed.
+        """
+        import pandas
+
+        def plain(value: object) -> object:
+            if isinstance(value, Start):
+                value = value.fraction
+            return float(value) if isinstance(value, (Fraction, Decimal)) and not exact else value
+
+        return pandas.DataFrame([[plain(value) for value in row] for row in self.rows()], columns=list(COLUMNS))
+
+    def plot(self, name: str | None = None) -> matplotlib.figure.Figure:
+        """A picture of the report, as a matplotlib figure; with a name it is written to NAME.png and NAME.svg, too.
+
+        ImportError where matplotlib is not installed.
+        """
+        from . import picture
+        figure = picture.draw(self)
+        if name is not None:
+            picture.save(figure, name)
+        return figure
+
+    def _repr_html_(self) -> str:
+        rules = self.rules
+        limits = "" if rules.max_cut is None else "; at most %d cut edges" % rules.max_cut
+        limits += "" if rules.regions is None else "; %d regions, each in at most %s districts" % (rules.regions, rules.max_split)
+        about = "%d units, %d edges, %d districts, %d people; %d to %d people a district%s; key %s" % (
+            self.units, self.edges, self.districts, self.population, rules.low, rules.high, limits, self.key)
+        shift = "" if self.shift is None else table([self.shift.counts], ["seats " + word for word in SEATS])
+        return "<p>%s</p>%s%s" % (html.escape(about), table(self.rows(), COLUMNS), shift)

@@ -1,0 +1,105 @@
+"""The words of the program, as keyword arguments."""
+from __future__ import annotations
+
+import hashlib
+import typing
+
+Ask = typing.Union[str, typing.Sequence[str]]
+Key = typing.Union[str, bytes]
+
+
+class CheckWords(typing.TypedDict, total=False):
+    """The words of `check`. Each is named as the program's word is, with `_` for `-`; docs/FORMATS.md has their ranges and defaults."""
+
+    pop: str
+    """The column of populations. `population` may be said for it."""
+    first: str
+    """The column of the first party's votes."""
+    second: str
+    """The column of the second party's votes."""
+    district: str
+    """The column of districts; left out where `assignment` is given."""
+    slack: int
+    """How far a district may be from the ideal population, in hundredths of a percent: 0 to 10000, 500 where it is left out."""
+    region: str
+    """The column of regions, as counties."""
+    max_split: int
+    """Among how many districts a region may be split: 1 to 200."""
+    max_cut: int
+    """How many edges between two districts a plan may have: 0 to 400000."""
+
+
+class PlansWords(CheckWords, total=False):
+    """The words of `plans`."""
+
+    key: Key
+    """The key of all draws: 64 hexadecimal digits, or 32 bytes."""
+    ask: Ask
+    """1 to 4 questions, as "gap:low,cut-edges:high" or as a list of such."""
+    walks: int
+    """How many outlier trajectories: 0 to 100000, 1 where it is left out."""
+    steps: int
+    """The steps of each: 1 to 1000000000, 1000 where it is left out."""
+    ends: int
+    """How many trajectories of the parallel test: 0 to 100000, 0 where it is left out."""
+    hub_steps: int
+    """The steps to the hub, and of each of these trajectories: 1 to 1000000000, 1000 where it is left out."""
+    workers: int
+    """How many threads walk: 1 to 32. The report does not depend on it."""
+    shift: bool
+    """Whether the report tells how the visited plans' seats differ from the start's."""
+    stop: int
+    """After how many ends in the tail a test stops early: 0 to 100000; 0 stops none."""
+    serial: bool
+    """Whether the serial test is made; the number of steps plus 1 has to be a power of two then."""
+
+
+class RunWords(PlansWords, total=False):
+    """The words of `run`."""
+
+    budget: int
+    """How many trajectories this run walks at most: 0 to 100000."""
+    save: int
+    """After how many trajectories a checkpoint is saved each time: 0 to 100000; 0 saves nothing."""
+    resume: bool
+    """Whether the run goes on from the newest checkpoint of its folder."""
+    parts: int
+    """Into how many parts the trajectories are dealt: 1 to 100000. The report does not depend on it."""
+    part: int
+    """Which of these parts this run walks, from 0."""
+
+
+class MakeWords(RunWords, total=False):
+    """The words of `make`, which has no graph, and so neither columns nor regions."""
+
+    size: int
+    """The size of the grid: 1 to 30."""
+
+
+def key_of(text: str) -> str:
+    """A key from an announced text: the 64 hexadecimal digits of the SHA-256 of its bytes in UTF-8."""
+    return hashlib.sha256(text.encode("utf-8")).hexdigest()
+
+
+def word_of(value: object) -> str:
+    """A value as the program takes it: yes or no, digits, hexadecimal digits, or parts joined by commas."""
+    if isinstance(value, bool):
+        return "yes" if value else "no"
+    if isinstance(value, (bytes, bytearray)):
+        return bytes(value).hex()
+    if isinstance(value, (list, tuple)):
+        return ",".join(str(part) for part in value)
+    return str(value)
+
+
+def words_of(command: str, given: typing.Mapping[str, object]) -> list[str]:
+    """The words of a call: the command, and for each value that is not None its name and the value. Which names there are, and which
+    values are good, the program says."""
+    named = dict(given)
+    if "population" in named and "pop" not in named:
+        named["pop"] = named.pop("population")
+    words = [command]
+    for name, value in named.items():
+        if value is not None:
+            words += ["--" + name.replace("_", "-"), word_of(value)]
+    return words

@@ -1,0 +1,351 @@
+"""Calls of the real program: what they answer, each exception, progress, and Ctrl-C."""
+import io
+import json
+import pathlib
+import signal
+import subprocess
+import sys
+import textwrap
+import time
+import unittest
+import warnings
+
+import common
+import district_audit
+from district_audit import commands, progress
+from district_audit.words import words_of
+
+CYCLE = common.EXAMPLES / "cycle.json"
+# A run that takes long enough to be stopped in its midst, and saves often.
+LONG = {**common.WALK, "walks": 20000, "steps": 20000}
+GRID = dict(pop="TOTPOP", first="DEM", second="REP")
+ROUGH = dict(GRID, district="CD")
+
+
+class Calls(common.ProgramCase):
+    def test_words_are_named_as_the_programs_are(self):
+        self.assertEqual(words_of("run", {"population": "P", "hub_steps": 3, "shift": True, "resume": False, "key": b"\x0a" * 32,
+                                          "ask": ["gap:low", "seats:high"], "stop": None}),
+                         ["run", "--hub-steps", "3", "--shift", "yes", "--resume", "no", "--key", "0a" * 32, "--ask", "gap:low,seats:high", "--pop", "P"])
+        self.assertEqual(district_audit.key_of("abc"), "ba7816bf8f01cfea414140de5dae2223b00361a396177a9cb410ff61f20015ad")
+
+    def test_check_of_each_kind_of_graph(self):
+        wanted = "plan-check 1\nunits 4 edges 4 districts 2\npopulation 4 slack 5000 low 1 high 3\nend\n"
+        ready = district_audit.prepare(CYCLE, **common.COLUMNS)
+        for graph in (CYCLE, str(CYCLE), CYCLE.read_bytes(), ready, common.StandInGraph(common.example("cycle.json"))):
+            words = {"slack": 5000} if graph is ready else common.WORDS
+            self.assertEqual(str(district_audit.check(graph, program=self.program, **words)), wanted)
+        self.assertEqual(str(district_audit.check(CYCLE, program=self.program, population="pop", first="a", second="b", district="d", slack=5000)), wanted)
+
+    def test_bytes_go_as_they_are(self):
+        """A float is no whole number to the program, and the package makes none of it unasked."""
+        data = CYCLE.read_bytes().replace(b'"pop": 1', b'"pop": 1.0')
+        self.assertNotEqual(data, CYCLE.read_bytes())
+        with self.assertRaises(district_audit.GraphRefused):
+            district_audit.check(data, program=self.program, **common.WORDS)
+        district_audit.check(data, program=self.program, **common.WORDS, missing="error")
+
+    def test_run_of_a_networkx_graph(self):
+        networkx = common.needs("networkx")
+        graph = networkx.readwrite.json_graph.adjacency_graph(common.example("grid.json"))
+        report = district_audit.run(graph, program=self.program, **ROUGH, slack=1000, key="2b7e151628aed2a6abf7158809cf4f3c762e7160f38b4da56a784d9045190cfe",
+                                    walks=2, steps=100000, ends=99, hub_steps=10000, workers=4, ask=["seats:low", "gap:high", "cut-edges:low"])
+        text = (common.TOP / "README.md").read_text(encoding="utf-8")
+        self.assertIn("```\n%s```" % report, text, "the report is not the one that the README prints")
+
+    def test_an_assignment_stands_for_a_column(self):
+        root = common.example("grid.json")
+        words = dict(slack=1000, key=common.KEY, steps=500, ask="cut-edges:low,seats:high", program=self.program)
+        report = district_audit.run(common.EXAMPLES / "grid.json", **ROUGH, **words)
+        partition = common.StandInPartition({node["id"]: node["CD"] for node in root["nodes"]})
+        self.assertEqual(district_audit.run(common.StandInGraph(root), **GRID, assignment=partition, **words), report)
+        self.assertEqual(district_audit.run(district_audit.prepare(common.EXAMPLES / "grid.json", population="TOTPOP", first="DEM", second="REP", district="CD"),
+                                            assignment=partition, **words), report)
+
+    def test_make(self):
+        report = district_audit.make(size=1, slack=5000, steps=100, ask="cut-edges:low", key=common.KEY, program=self.program, shift=True)
+        self.assertEqual((report.units, report.edges, report.districts, sum(report.shift.counts)), (100, 180, 10, 101))
+
+    def test_plans_of_a_file_a_dict_and_a_frame(self):
+        words = dict(ROUGH, slack=1000, key=common.KEY, steps=300, ask="cut-edges:low", program=self.program)
+        of_file = district_audit.plans(common.EXAMPLES / "grid.json", common.EXAMPLES / "plans.csv", **words)
+        self.assertEqual([name for name, _ in of_file], ["CD", "blocks", "columns"])
+        rows = [line.split(",") for line in (common.EXAMPLES / "plans.csv").read_text(encoding="utf-8").splitlines()[1:]]
+        blocks, columns = {int(row[0]): row[1] for row in rows}, {int(row[0]): row[2] for row in rows}
+        of_dict = district_audit.plans(common.EXAMPLES / "grid.json", {"blocks": blocks, "columns": common.StandInPartition(columns)}, **words)
+        self.assertEqual(of_dict, of_file)
+        pandas = common.needs("pandas")
+        frame = pandas.read_csv(common.EXAMPLES / "plans.csv", index_col="id")
+        self.assertEqual(district_audit.plans(common.EXAMPLES / "grid.json", frame, **words), of_file)
+        with self.assertRaises(ValueError):
+            district_audit.plans(common.EXAMPLES / "grid.json", {"blocks": blocks, "columns": {0: 1}}, **words)
+
+    def test_changed_values_are_warned_of(self):
+        root = common.example("cycle.json")
+        root["nodes"][0]["a"] = None
+        with self.assertWarns(district_audit.GraphChanged) as caught:
+            district_audit.check(common.StandInGraph(root), program=self.program, missing="zero", **common.WORDS)
+        self.assertIn("column a: missing values made 0: 1 unit", str(caught.warning))
+        with warnings.catch_warnings():
+            warnings.simplefilter("error")
+            district_audit.check(common.StandInGraph(common.example("cycle.json")), program=self.program, missing="zero", **common.WORDS)
+
+    def test_parts_do_not_change_the_report(self):
+        """Three runs of a part each in one folder: the last finds nothing left."""
+        words = dict(common.WALK, program=self.program, folder=self.folder, save=1, resume=True, parts=3)
+        try:
+            for part in (2, 0):
+                with self.assertRaises(district_audit.WorkLeft):
+                    district_audit.run(CYCLE, part=part, **words)
+        except district_audit.WordsRefused as why:
+            self.fail("the program that is tried has no parts: %s" % why)
+        self.assertEqual(district_audit.run(CYCLE, part=1, **words), district_audit.run(CYCLE, program=self.program, **common.WALK))
+
+
+class Exceptions(common.ProgramCase):
+    """One type for each status of the program, each with the program's line."""
+
+    def refused(self, kind, line, call=district_audit.check, graph=CYCLE, program=None, **words):
+        with self.assertRaises(kind) as caught:
+            call(graph, program=program or self.program, **words)
+        error = caught.exception
+        self.assertIs(type(error), kind)
+        self.assertEqual(error.line, line)
+        return error
+
+    def test_1_words(self):
+        error = self.refused(district_audit.WordsRefused, "words: bad value for --slack", **{**common.WORDS, "slack": 10001})
+        self.assertEqual((error.status, str(error)), (1, "words: bad value for --slack"))
+        self.refused(district_audit.WordsRefused, "words: unknown name --hub-stops", hub_stops=3, **common.WORDS)
+        self.refused(district_audit.WordsRefused, "words: --key is missing", call=district_audit.run, ask="gap:low", **common.WORDS)
+
+    def test_2_graph_in_the_users_labels(self):
+        root = common.example("cycle.json")
+        district_of = [node["d"] for node in root["nodes"]]
+        self.refused(district_audit.GraphRefused, "graph: not JSON", graph=b"[", **common.WORDS)
+        error = self.refused(district_audit.GraphRefused, "graph: node 2 has no whole number from 0 to 1000000000 in column a",
+                             graph=json.dumps({**root, "nodes": [{**node, "a": 0.5} if place == 2 else node for place, node in enumerate(root["nodes"])]}).encode(),
+                             **common.WORDS)
+        self.assertEqual(error.labels, "node 2 is %s" % json.dumps(root["nodes"][2]["id"]))
+        crossed = {node["id"]: name for node, name in zip(root["nodes"], "QRQR")}
+        words = {name: column for name, column in common.WORDS.items() if name != "district"}
+        error = self.refused(district_audit.GraphRefused, "plan: district 0 has no path from unit 0 to unit 2", graph=common.StandInGraph(root), assignment=crossed, **words)
+        ids = [json.dumps(node["id"]) for node in root["nodes"]]
+        self.assertEqual(error.labels, 'district 0 is "Q"; unit 0 is %s; unit 2 is %s' % (ids[0], ids[2]))
+        self.assertIn(error.labels, str(error))
+        self.assertEqual(len(set(district_of)), 2)
+
+    def test_2_region_by_its_name(self):
+        root = common.example("counties.json")
+        for node, name in zip(root["nodes"], ("Kings", "Kings", "Queens", "Queens")):
+            node["county"] = name
+            node["d"] = {"Kings": "x", "Queens": "y"}[name] if node is not root["nodes"][1] else "y"
+        error = self.refused(district_audit.GraphRefused, "plan: region 0 lies in 2 districts, more than 1", graph=json.dumps(root).encode(),
+                             region="county", max_split=1, **common.WORDS)
+        self.assertEqual(error.labels, 'region 0 is "Kings"')
+
+    def test_2_a_plan_of_a_table(self):
+        crossed = {node["id"]: name for node, name in zip(common.example("cycle.json")["nodes"], "QRQR")}
+        with self.assertRaises(district_audit.GraphRefused) as caught:
+            district_audit.plans(CYCLE, {"odd": crossed}, program=self.program, key=common.KEY, ask="gap:low", **common.WORDS)
+        self.assertEqual(caught.exception.line, "plan odd: district 0 has no path from unit 0 to unit 2")
+        self.assertIn('district 0 is "Q"', caught.exception.labels)
+
+    def test_3_memory(self):
+        graph = {"nodes": [{"id": place, "pop": 1, "a": 1, "b": 1, "d": place % 2} for place in range(100000)], "adjacency": [[] for _ in range(100000)]}
+        error = self.refused(district_audit.MemoryRefused, "memory", graph=json.dumps(graph).encode(), program=self.wrapper("ulimit -v 60000; exec PROGRAM"), **common.WORDS)
+        self.assertIsInstance(error, MemoryError)
+
+    def test_4_and_5_reading_and_writing(self):
+        self.refused(district_audit.ReadFault, "read fault", program=self.wrapper("exec PROGRAM </"), **common.WORDS)
+        self.refused(district_audit.WriteFault, "write fault", program=self.wrapper("exec PROGRAM >/dev/full"), **common.WORDS)
+
+    def test_6_and_8_checkpoints(self):
+        (self.folder / "audit-0.ckpt").mkdir()
+        words = dict(common.WALK, call=district_audit.run, folder=self.folder, save=2, resume=True)
+        self.refused(district_audit.CheckpointUnreadable, "checkpoint load fault", **words)
+        (self.folder / "audit-0.ckpt").rmdir()
+        (self.folder / "audit-1.ckpt").write_bytes(b"")
+        self.refused(district_audit.CheckpointRefused, "checkpoint: slot 0 absent, slot 1 too short", **words)
+
+    def test_7_work_left(self):
+        words = dict(common.WALK, folder=self.folder, save=2, budget=5)
+        error = self.refused(district_audit.WorkLeft, "stopped: 5 of 12 done", call=district_audit.run, **words)
+        self.assertEqual((error.done, error.total), (5, 12))
+        report = district_audit.run(CYCLE, program=self.program, **{**words, "budget": 12}, resume=True)
+        self.assertEqual(report, district_audit.run(CYCLE, program=self.program, **common.WALK))
+
+    def test_9_saving(self):
+        (self.folder / "audit-0.ckpt").symlink_to("/dev/full")
+        error = self.refused(district_audit.SaveFault, "checkpoint save fault", call=district_audit.run, folder=self.folder, save=2, **common.WALK)
+        self.assertEqual(error.report, district_audit.run(CYCLE, program=self.program, **common.WALK))
+
+    def test_programs_that_are_not_there_or_do_not_end_by_themselves(self):
+        with self.assertRaises(district_audit.ProgramMissing):
+            district_audit.check(CYCLE, program="/there/is/none", **common.WORDS)
+        with common.environment(PATH=str(self.folder), DISTRICT_AUDIT=None), self.assertRaises(district_audit.ProgramMissing):
+            district_audit.check(CYCLE, **common.WORDS)
+        with self.assertRaises(district_audit.ProgramFailed) as caught:
+            district_audit.check(CYCLE, program=self.wrapper("kill -9 $$"), **common.WORDS)
+        self.assertEqual(caught.exception.status, -9)
+        with self.assertRaises(district_audit.ReportRefused):
+            district_audit.check(CYCLE, program=self.wrapper("echo plan-check 2"), **common.WORDS)
+
+    def test_the_program_is_found_by_name(self):
+        (self.folder / "district-audit").symlink_to(self.program)
+        with common.environment(PATH="%s:/usr/bin:/bin" % self.folder, DISTRICT_AUDIT=None):
+            self.assertEqual(district_audit.check(CYCLE, **common.WORDS).units, 4)
+
+
+class Noted:
+    """A bar that notes what it is told."""
+
+    def __init__(self):
+        self.shown, self.ended = [], False
+
+    def show(self, done, total):
+        self.shown.append((done, total))
+
+    def end(self):
+        self.ended = True
+
+
+class Progress(common.ProgramCase):
+    def setUp(self):
+        super().setUp()
+        self.slots = common.built("audit_slots", "DISTRICT_AUDIT_SLOTS")
+
+    def run_with(self, **words):
+        bar = Noted()
+        before, progress.new_bar = progress.new_bar, lambda: bar
+        self.addCleanup(setattr, progress, "new_bar", before)
+        try:
+            report = district_audit.run(CYCLE, program=self.program, slots=self.slots, folder=self.folder, progress=True, **words)
+        finally:
+            progress.new_bar = before
+        return report, bar
+
+    def test_the_bar_ends_at_the_whole(self):
+        report, bar = self.run_with(**{**common.WALK, "steps": 2000}, save=1)
+        self.assertEqual((bar.shown[-1], bar.ended), ((12, 12), True))
+        self.assertEqual(report, district_audit.run(CYCLE, program=self.program, **{**common.WALK, "steps": 2000}))
+
+    def test_an_earlier_run_counts_only_where_it_is_resumed(self):
+        with self.assertRaises(district_audit.WorkLeft):
+            district_audit.run(CYCLE, program=self.program, folder=self.folder, save=1, budget=5, **common.WALK)
+        seen = progress.look(self.slots, words_of("run", common.WALK), CYCLE.read_bytes(), self.folder)
+        self.assertEqual((seen.done, seen.total), (5, 12))
+        for is_resumed, done in ((True, 5), (False, 0)):
+            bar = Noted()
+            progress.Watch(lambda: seen, 12, is_resumed, bar)()
+            self.assertEqual(bar.shown, [(done, 12)])
+
+    def test_it_never_tells_what_was_found(self):
+        """All that is asked is `audit_slots`, and of its text only the slots' lines and `done` are looked at."""
+        seen = progress.look(self.slots, words_of("run", common.WALK), CYCLE.read_bytes(), self.folder)
+        self.assertEqual(seen, progress.Look("slot 0: absent\nslot 1: absent", 0, 12))
+
+    def test_it_needs_save(self):
+        with self.assertRaises(ValueError):
+            district_audit.run(CYCLE, program=self.program, progress=True, **common.WALK)
+
+    def test_bars(self):
+        stream = io.StringIO()
+        bar = progress.PlainBar(stream)
+        for done in (0, 37, 37, 101):
+            bar.show(done, 101)
+        bar.end()
+        self.assertEqual(stream.getvalue(), "done 0 of 101\ndone 37 of 101\ndone 101 of 101\n")
+        stream = io.StringIO()
+        stream.isatty = lambda: True
+        bar = progress.PlainBar(stream)
+        bar.show(50, 100)
+        bar.end()
+        self.assertEqual(stream.getvalue(), "\r[%s%s] done 50 of 100 \n" % ("#" * 20, "." * 20))
+
+    def test_tqdm_where_it_is(self):
+        tqdm = common.needs("tqdm")
+        stream = io.StringIO()
+        bar = progress.TqdmBar(lambda **said: tqdm.tqdm(file=stream, **said))
+        bar.show(37, 101)
+        bar.end()
+        self.assertIn("37/101", stream.getvalue())
+
+    def test_ctrl_c_stops_and_tells_how_to_go_on(self):
+        """A run of hours is interrupted after its second save; the same call with resume=True goes on from there."""
+        script = textwrap.dedent("""
+            import sys
+            import district_audit
+            district_audit.run(%r, program=%r, slots=%r, folder=%r, progress=True, save=1, **%r)
+        """) % (str(CYCLE), self.program, self.slots, str(self.folder), LONG)
+        with subprocess.Popen([sys.executable, "-c", script], stderr=subprocess.PIPE, text=True, start_new_session=True,
+                              env={"PYTHONPATH": str(common.TOP / "python"), "PATH": "/usr/bin:/bin"}) as process:
+            end = time.monotonic() + 60
+            while not (self.folder / "audit-1.ckpt").exists() and time.monotonic() < end and process.poll() is None:
+                time.sleep(0.05)
+            process.send_signal(signal.SIGINT)
+            said = process.communicate(timeout=60)[1]
+        self.assertIn("Interrupted: stopped: ", said)
+        self.assertIn(" of 20000 done; the same call with resume=True goes on in the same folder", said)
+        saved = sorted((path.name, path.stat().st_mtime_ns) for path in self.folder.glob("*.ckpt"))
+        time.sleep(0.3)
+        self.assertEqual(saved, sorted((path.name, path.stat().st_mtime_ns) for path in self.folder.glob("*.ckpt")), "the program runs on")
+        with self.assertRaises(district_audit.WorkLeft) as caught:
+            district_audit.run(CYCLE, program=self.program, folder=self.folder, save=1, resume=True, budget=1, **LONG)
+        self.assertGreaterEqual(caught.exception.done, 2)
+
+
+class Commands(common.ProgramCase):
+    """district-audit-run, as it is called on a command line."""
+
+    WORDS = ["--pop", "pop", "--first", "a", "--second", "b", "--district", "d", "--slack", "5000", "--key", common.KEY, "--steps", "8", "--ask", "gap:low"]
+
+    def called(self, *words, graph=CYCLE):
+        return subprocess.run([sys.executable, "-c", "import sys; from district_audit.commands import run; sys.exit(run())", *words], cwd=self.folder,
+                              input=graph.read_bytes() if isinstance(graph, pathlib.Path) else graph, stdout=subprocess.PIPE, stderr=subprocess.PIPE, check=False,
+                              env={"PYTHONPATH": str(common.TOP / "python"), "PATH": "/usr/bin:/bin", "DISTRICT_AUDIT": self.program})
+
+    def test_all_is_passed_through(self):
+        direct = subprocess.run([self.program, "run", *self.WORDS], input=CYCLE.read_bytes(), stdout=subprocess.PIPE, check=True).stdout
+        for words in (self.WORDS, ["run", *self.WORDS]):
+            told = self.called(*words)
+            self.assertEqual((told.returncode, told.stdout, told.stderr), (0, direct, b""))
+        told = self.called(*self.WORDS, "--walks", "12", "--save", "2", "--budget", "5")
+        self.assertEqual((told.returncode, told.stdout, told.stderr), (7, b"", b"stopped: 5 of 12 done\n"))
+        told = self.called("make", "--size", "1", "--slack", "5000", "--key", common.KEY, "--ask", "gap:low", graph=b"")
+        self.assertEqual((told.returncode, told.stdout[:16]), (0, b"district-audit 1"))
+
+    def test_refusals_are_said_in_labels_too(self):
+        root = common.example("cycle.json")
+        for node, name in zip(root["nodes"], "QRQR"):
+            node["d"] = name
+        told = self.called(*self.WORDS, graph=json.dumps(root).encode())
+        first, second = told.stderr.decode().splitlines()
+        self.assertEqual((told.returncode, first), (2, "plan: district 0 has no path from unit 0 to unit 2"))
+        self.assertIn('district-audit-run: district 0 is "Q"; ', second)
+
+    def test_ctrl_c_and_a_signal_to_end(self):
+        for number, status, said in ((signal.SIGINT, 130, b"the same command with --resume yes goes on"), (signal.SIGTERM, 143, b"")):
+            words = [*self.WORDS[:-4], "--steps", "20000", "--ask", "gap:low", "--walks", "20000", "--save", "1"]
+            process = subprocess.Popen([sys.executable, "-c", "import sys; from district_audit.commands import run; sys.exit(run())", *words], cwd=self.folder,
+                                       stdin=subprocess.PIPE, stdout=subprocess.PIPE, stderr=subprocess.PIPE, start_new_session=True,
+                                       env={"PYTHONPATH": str(common.TOP / "python"), "PATH": "/usr/bin:/bin", "DISTRICT_AUDIT": self.program})
+            process.stdin.write(CYCLE.read_bytes())
+            process.stdin.close()
+            process.stdin = None
+            end = time.monotonic() + 60
+            while not (self.folder / "audit-1.ckpt").exists() and time.monotonic() < end and process.poll() is None:
+                time.sleep(0.05)
+            process.send_signal(number)
+            note = process.communicate(timeout=60)[1]
+            self.assertEqual(process.returncode, status)
+            self.assertIn(said, note)
+            for path in self.folder.glob("*.ckpt"):
+                path.unlink()
+
+    def test_the_total_of_the_bar(self):
+        self.assertEqual((commands.total_of(["run", "--walks", "3", "--ends", "9"]), commands.total_of(["run"])), (12, 1))
+
+
+if __name__ == "__main__":
+    unittest.main()

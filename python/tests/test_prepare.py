@@ -1,0 +1,213 @@
+"""Preparing graphs: what is changed is told, what looks wrong is warned of, and what cannot be is refused."""
+import decimal
+import json
+import pathlib
+import tempfile
+import unittest
+
+import common
+from district_audit import PrepareRefused, prepare
+
+ROUGH = dict(population="TOTPOP", first="DEM", second="REP", district="CD")
+
+
+def square(**changed):
+    """Four units round a square; for each name of a column the values that stand there instead."""
+    columns = {"pop": [1, 1, 1, 1], "a": [1, 2, 3, 4], "b": [4, 3, 2, 1], "d": ["x", "x", "y", "y"], **changed}
+    nodes = [{"id": unit, **{name: values[place] for name, values in columns.items() if values[place] is not None}}
+             for place, unit in enumerate("stuv")]
+    return {"nodes": nodes, "adjacency": [[{"id": "t"}], [{"id": "u"}], [{"id": "v"}], [{"id": "s"}]]}
+
+
+def prepared(root, **said):
+    return prepare(json.dumps(root).encode(), **{**common.COLUMNS, "slack": 5000, **said})
+
+
+class Changes(unittest.TestCase):
+    def refused(self, why, root, **said):
+        with self.assertRaises(PrepareRefused) as caught:
+            prepared(root, **said)
+        self.assertIn(why, "\n".join([str(caught.exception), *caught.exception.faults]))
+        return caught.exception
+
+    def test_a_good_graph_stays_as_it_is(self):
+        data, changes = prepared(square())
+        self.assertEqual(changes, [])
+        self.assertEqual([(node["id"], node["pop"], node["d"]) for node in json.loads(data)["nodes"]],
+                         [("s", 1, "x"), ("t", 1, "x"), ("u", 1, "y"), ("v", 1, "y")])
+        self.assertEqual(json.loads(data)["adjacency"][0], [{"id": "t"}, {"id": "v"}])
+        self.assertNotIn(b"\n", data)
+
+    def test_rough_numbers_by_each_rule(self):
+        rough = common.EXAMPLES / "rough.json"
+        with self.assertRaises(PrepareRefused) as caught:
+            prepare(rough, **ROUGH)
+        self.assertEqual((str(caught.exception), len(caught.exception.faults)), ("16 values are refused", 16))
+        ready = prepare(rough, **ROUGH, numbers="nearest", missing="zero")
+        told = [str(change) for change in ready.changes]
+        self.assertIn("column TOTPOP: fractions made whole by `nearest`: 14 units, which changes the column's sum by -7: "
+                      "0, 7, 16, 25, 34, 43, 52, 59, 61, 68, and 4 more", told)
+        self.assertIn("column DEM: missing values made 0: 1 unit: 42", told)
+        self.assertEqual((ready.notes, ready.refusals, ready.warnings), (["100 units, 180 edges, 5 districts, 10000 people"], [], []))
+        self.assertEqual(prepare(rough, **ROUGH, numbers="floor", missing="drop").notes, ["99 units, 176 edges, 5 districts, 9900 people"])
+
+    def test_numbers_of_each_kind(self):
+        """Halves go to the even number; texts, decimals and great numbers are read exactly."""
+        for value, rule, whole in ((2.5, "nearest", 2), (3.5, "nearest", 4), (2.9, "floor", 2), ("7", "error", 7), ("7.0", "error", 7), (1e9, "error", 10 ** 9)):
+            with self.subTest(value=value, rule=rule):
+                ready = prepared(square(a=[value, 2, 3, 4]), numbers=rule)
+                self.assertEqual(json.loads(ready.data)["nodes"][0]["a"], whole)
+        for value in (-1, 10 ** 9 + 1, True, "x", [1], "inf"):
+            with self.subTest(value=value):
+                self.refused("1 values are refused", square(a=[value, 2, 3, 4]), numbers="nearest")
+
+    def test_a_column_that_no_unit_has_is_refused_whatever_is_said(self):
+        for missing in ("error", "zero", "drop"):
+            self.refused("no unit has a column popp; the columns are a, b, d, pop", square(), population="popp", missing=missing)
+        self.refused("no unit has a column county", square(), region="county", missing="drop")
+        self.refused("no unit has a column area", square(), keep=["area"])
+        root = square()
+        for node in root["nodes"]:
+            node["a"] = None
+        self.refused("no unit has a value in the column a", root, missing="zero")
+
+    def test_missing_regions_have_three_answers(self):
+        root = square(county=["k", None, None, "k"])
+        why = self.refused("unit \"t\" has no county (choose --fill-region LABEL, --own-region or --missing drop)", root, region="county", missing="zero")
+        self.assertEqual(len(why.faults), 2)
+        filled = prepared(root, region="county", fill_region="rest")
+        self.assertEqual(filled.regions, ["k", "rest"])
+        self.assertIn('column county: missing regions made "rest": 2 units: "t", "u"', [str(change) for change in filled.changes])
+        self.assertEqual(len(prepared(root, region="county", own_region=True).regions), 3)
+        self.assertEqual(prepared(root, region="county", missing="drop").units, ["s", "v"])
+        self.refused("unit \"t\" has no d (choose --missing drop)", square(d=["x", None, "y", "y"]), missing="zero")
+
+    def test_shares_and_percentages_are_warned_of(self):
+        ready = prepared(square(a=[0.753, 0.25, 0.5, 0.9]), numbers="nearest")
+        self.assertIn("column a looks like shares and not like counts", ready.warnings[0])
+        ready = prepared(square(a=[75.3, 25.5, 50, 90], b=[24.7, 74.5, 50, 10]), numbers="nearest")
+        self.assertIn("columns a and b look like percentages", ready.warnings[-1])
+        ready = prepared(square(a=[1.4, 2.4, 3.4, 4.4]), numbers="nearest")
+        self.assertIn("column a: making its values whole changes them by 13.8 percent in all", ready.warnings)
+        self.assertEqual(prepared(square(a=[100.4, 200.4, 300, 400]), numbers="nearest").warnings, [])
+        self.assertEqual(prepared(square(a=[0, 1, 1, 0])).warnings, [])
+
+    def test_parts_are_told_and_joined(self):
+        """Two islands, each a whole district, and one unit with no neighbour."""
+        nodes = [{"id": place, "pop": 1, "a": 1, "b": 1, "d": place // 2} for place in range(7)]
+        root = {"nodes": nodes, "adjacency": [[{"id": 1}], [], [{"id": 3}], [], [{"id": 5}], [], []]}
+        ready = prepared(root, slack=10000)
+        self.assertIn("units without a neighbour: 1: 6", ready.notes)
+        self.assertIn("the graph is in 4 parts, and a district lies in one of them (--join A B makes neighbours of two units)", ready.notes)
+        self.assertEqual(sum(note.startswith("a part of 2 units: ") for note in ready.notes), 2)
+        self.assertEqual(sum("is a part of its own, of 2 units: no walk can change it" in note for note in ready.notes), 3)
+        joined = prepared(root, slack=10000, join=[("5", "6"), (1, 2), (2, 3)])
+        self.assertIn("the graph is in 2 parts, and a district lies in one of them (--join A B makes neighbours of two units)", joined.notes)
+        self.assertEqual([str(change) for change in joined.changes], ["units 5 and 6 made neighbours", "units 1 and 2 made neighbours", "units 2 and 3 were neighbours already"])
+        self.refused('"9", which is to be joined, is no unit', root, join=[("9", "1")])
+        self.refused("1 cannot be joined to itself", root, join=[(1, 1)])
+
+    def test_what_the_auditor_would_refuse_has_its_number(self):
+        ready = prepare(common.EXAMPLES / "apart.json", **common.COLUMNS)
+        self.assertIn("district 1 is in several parts; 1 of its 2 units lie apart: \"w\" (the auditor's district 0)", ready.refusals)
+        split = prepared(square(county=["k", "l", "k", "l"]), region="county", max_split=1)
+        self.assertEqual(split.refusals, ["regions that lie in more than 1 districts: 2: \"k\", \"l\" (the auditor's numbers: 0, 1)"])
+
+    def test_edges(self):
+        root = square()
+        root["adjacency"][0].append({"id": "s"})
+        self.assertEqual([str(change) for change in prepared(root).changes], ['edges from a unit to itself, left out: 1 unit: "s"'])
+        root["adjacency"][0].append({"id": "w"})
+        self.refused('an edge names "w", which is no unit', root)
+        self.refused("4 nodes and 3 adjacency entries", {**square(), "adjacency": [[], [], []]})
+        self.refused("there is neither a list `adjacency` nor one of `links` or `edges`", {"nodes": square()["nodes"]})
+        links = {"nodes": square()["nodes"], "links": [{"source": one, "target": other} for one, other in ("st", "tu", "uv", "vs")]}
+        self.assertEqual(prepared(links).data, prepared(square()).data)
+
+    def test_ids(self):
+        self.refused("several units have the same id: \"s\"", {"nodes": [{"id": "s", "pop": 1, "a": 1, "b": 1, "d": 1}] * 2, "adjacency": [[], []]})
+        self.refused("node 0 has no id", {"nodes": [{"pop": 1, "a": 1, "b": 1, "d": 1}], "adjacency": [[]]})
+        root = square()
+        for place, node in enumerate(root["nodes"]):
+            node["id"] = float(place)
+        root["adjacency"] = [[{"id": (place + 1) % 4}] for place in range(4)]
+        ready = prepared(root)
+        self.assertEqual(ready.units, ["0", "1", "2", "3"])
+        self.assertIn("ids: some are neither texts nor whole numbers, so all are written as texts", [str(change) for change in ready.changes])
+
+    def test_what_is_no_graph(self):
+        for graph, why in ((b"[]", "is no graph of networkx"), (b"{", "cannot be read"), ("/there/is/none.json", "cannot be read"), (7, "and this is int")):
+            with self.subTest(graph=graph), self.assertRaises(PrepareRefused) as caught:
+                prepare(graph, **common.COLUMNS)
+            self.assertIn(why, str(caught.exception))
+        self.refused("numbers is one of error, nearest, floor, and not 'round'", square(), numbers="round")
+
+
+class Objects(unittest.TestCase):
+    """Graphs that are no files."""
+
+    def test_networkx(self):
+        networkx = common.needs("networkx")
+        graph = networkx.grid_2d_graph(3, 4)
+        for unit in graph.nodes:
+            graph.nodes[unit].update(pop=decimal.Decimal(2), a=1.0, b=float("nan"), d=unit[0])
+        graph.add_edge((0, 0), (0, 0))
+        graph.nodes[(0, 0)]["b"] = 3
+        ready = prepare(graph, **common.COLUMNS, missing="zero", slack=5000)
+        self.assertEqual(ready.notes, ["12 units, 17 edges, 3 districts, 24 people"])
+        self.assertEqual(ready.units[1], "[0, 1]")
+        self.assertEqual(ready.districts, [0, 1, 2])
+        same = networkx.readwrite.json_graph.adjacency_data(graph)
+        self.assertEqual(prepare(json.dumps(same, default=float).encode(), **common.COLUMNS, missing="zero", slack=5000).data, ready.data)
+
+    def test_networkx_graphml(self):
+        networkx = common.needs("networkx")
+        graph = networkx.cycle_graph(4)
+        for unit in graph.nodes:
+            graph.nodes[unit].update(pop=1, a=1, b=2, d=unit // 2)
+        with tempfile.TemporaryDirectory() as room:
+            path = pathlib.Path(room) / "cycle.graphml"
+            networkx.write_graphml(graph, path)
+            self.assertEqual(prepare(path, **common.COLUMNS, slack=5000).notes, ["4 units, 4 edges, 2 districts, 4 people"])
+            path.write_text("no xml")
+            with self.assertRaises(PrepareRefused):
+                prepare(path, **common.COLUMNS)
+
+    def test_numbers_and_missing_values_of_pandas(self):
+        pandas = common.needs("pandas")
+        networkx = common.needs("networkx")
+        frame = pandas.DataFrame({"pop": [1, 2, 3], "a": [1.0, None, 2.0], "b": pandas.array([1, None, 2], dtype="Int64"), "d": ["x", "y", "y"]})
+        graph = networkx.path_graph(3)
+        for name in frame:
+            networkx.set_node_attributes(graph, dict(frame[name]), name)
+        nodes = json.loads(prepare(graph, **common.COLUMNS, missing="zero").data)["nodes"]
+        self.assertEqual(nodes[1], {"pop": 2, "a": 0, "b": 0, "d": "y", "id": 1})
+
+    def test_stand_in_of_gerrychain(self):
+        """An object with the documented attributes alone, as GerryChain's Graph has them."""
+        graph = common.StandInGraph(common.example("grid.json"))
+        ready = prepare(graph, **ROUGH)
+        self.assertEqual(ready.notes, ["300 units, 563 edges, 6 districts, 30000 people"])
+        self.assertEqual(ready.data, prepare(common.EXAMPLES / "grid.json", **ROUGH).data)
+
+    def test_assignments(self):
+        columns = {name: column for name, column in ROUGH.items() if name != "district"}
+        root = common.example("grid.json")
+        districts = {node["id"]: node["CD"] for node in root["nodes"]}
+        wanted = prepare(common.EXAMPLES / "grid.json", **ROUGH).data.replace(b'"CD"', b'"assignment"')
+        for assignment in (districts, common.StandInAssignment(districts), common.StandInPartition(districts)):
+            self.assertEqual(prepare(common.StandInGraph(root), **columns, assignment=assignment).data, wanted)
+        with self.assertRaises(PrepareRefused) as caught:
+            prepare(common.StandInGraph(root), **columns, assignment={**districts, "none": 1})
+        self.assertEqual(str(caught.exception), 'the assignment names what is no unit: "none"')
+        with self.assertRaises(PrepareRefused) as caught:
+            prepare(common.StandInGraph(root), **columns, assignment={0: 1})
+        self.assertEqual(str(caught.exception), "299 values are refused")
+        with self.assertRaises(PrepareRefused):
+            prepare(common.StandInGraph(root), **ROUGH, assignment=districts)
+        with self.assertRaises(PrepareRefused):
+            prepare(common.StandInGraph(root), **columns)
+
+
+if __name__ == "__main__":
+    unittest.main()
