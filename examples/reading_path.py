@@ -89,9 +89,9 @@ class Module:
 
     @staticmethod
     def goes_on(line, name, indent):
-        """The line is still the definition's: it stands further in, or is an equation of the name."""
+        """The line is still the definition's: it stands further in, is an equation of the name, or closes a record."""
         deep = indent_of(line)
-        equation = not line.strip().startswith("--") and re.match(r"%s(\s|$)" % re.escape(name), line.strip())
+        equation = not line.strip().startswith("--") and re.match(r"(%s(\s|$)|\}$)" % re.escape(name), line.strip())
         return deep > indent or (deep == indent and bool(equation))
 
 
