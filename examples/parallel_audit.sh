@@ -10,10 +10,10 @@
 program=$HOME/bin/district-audit      # as examples/install.sh leaves it
 gatherer=$HOME/bin/audit_gather
 graph=graph.json                      # in this folder
-parts=20                              # at most as many as there are trajectories
+parts=20                              # at most as many as there are trajectories; not to be changed midway
 cores=2                               # of each part
 together=4                            # parts at one time on each machine
-time=86400                            # seconds of each part: what is not done by then is started again
+time=86400                            # seconds of each part, more than its longest trajectory: what is not done by then is started again
 machines=()                           # as (--sshlogin one,two)
 words=(run --pop TOTPOP --first DEM --second REP --district CD
     --key 2b7e151628aed2a6abf7158809cf4f3c762e7160f38b4da56a784d9045190cfe
@@ -30,10 +30,13 @@ mapfile -t folders < <(for ((part = 0; part < parts; part++)); do echo "../part-
 # nothing was saved, so the file is taken away.
 walk() {
     mkdir -p "part-$1" && cd "part-$1" || exit 1
-    "$program" "${words[@]}" "${saving[@]}" --resume yes --workers "$cores" --parts "$parts" --part "$1" <"$folder/$graph" >report.new 2>note
-    local status=$?
-    cat note >&2
-    case $(cat note) in "checkpoint: slot 0 "*", slot 1 absent") rm audit-0.ckpt ;; esac
+    local status
+    while :; do
+        "$program" "${words[@]}" "${saving[@]}" --resume yes --workers "$cores" --parts "$parts" --part "$1" <"$folder/$graph" >report.new 2>note
+        status=$?
+        cat note >&2
+        case $status,$(cat note) in 8,"checkpoint: slot 0 "*", slot 1 absent") rm audit-0.ckpt || exit ;; *) break ;; esac
+    done
     [ $status -eq 7 ] || [ $status -eq 0 ] || exit $status
 }
 
@@ -53,6 +56,10 @@ while ! parallel --will-cite "${machines[@]}" --jobs "$together" --timeout "$tim
 done
 
 cd all || exit 1
+# A gathering that died within the first save of all left a part of one file here.
+case $("$gatherer" --look yes "${folders[@]}" "${words[@]}" <"$folder/$graph") in
+    "working folder: no slot is intact"*) rm -f audit-[01].ckpt ;;
+esac
 "$gatherer" "${folders[@]}" "${words[@]}" <"$folder/$graph" || exit
 "$program" "${words[@]}" "${saving[@]}" --resume yes --workers "$cores" <"$folder/$graph" >"$folder/report.new" || exit
 mv "$folder/report.new" "$folder/report"

@@ -5,14 +5,15 @@
 # Copy this file into the folder of the audit, on a disk that all machines see, with the graph, change what stands between the two lines
 # below, and start it there:  bash slurm_audit.sh start
 # The parts' checkpoints are in part-0, part-1 and so on, those of all in `all`, and the report is `report`, which is made only where all is done.
+# `start` prints the number of the job that gathers. To stop all, cancel that job first and then the array, since it queues the next one.
 
 # ---- change from here
 program=$HOME/bin/district-audit      # as examples/install.sh leaves it
 gatherer=$HOME/bin/audit_gather
 graph=graph.json                      # in this folder
-parts=20                              # at most as many as there are trajectories
+parts=20                              # at most as many as there are trajectories; not to be changed midway
 cores=8                               # of each part
-time=24:00:00                         # of each part: what is not done by then is queued again
+time=24:00:00                         # of each part, more than its longest trajectory: what is not done by then is queued again
 words=(run --pop TOTPOP --first DEM --second REP --district CD
     --key 2b7e151628aed2a6abf7158809cf4f3c762e7160f38b4da56a784d9045190cfe
     --walks 8 --steps 1000000000 --ends 999 --hub-steps 10000000 --ask gap:high,mean-median:high)
@@ -27,7 +28,7 @@ mapfile -t folders < <(for ((part = 0; part < parts; part++)); do echo "../part-
 
 # What the jobs write besides their reports is in `log`.
 submit() {
-    mkdir -p log
+    mkdir -p "$folder/log"
     sbatch --parsable --output="$folder/log/%x-%A-%a.out" "$@"
 }
 
@@ -42,10 +43,13 @@ queue() {
 # nothing was saved, so the file is taken away.
 walk() {
     mkdir -p "part-$1" && cd "part-$1" || exit 1
-    "$program" "${words[@]}" "${saving[@]}" --resume yes --workers "$cores" --parts "$parts" --part "$1" <"$folder/$graph" >report.new 2>note
-    local status=$?
-    cat note >&2
-    case $(cat note) in "checkpoint: slot 0 "*", slot 1 absent") rm audit-0.ckpt ;; esac
+    local status
+    while :; do
+        "$program" "${words[@]}" "${saving[@]}" --resume yes --workers "$cores" --parts "$parts" --part "$1" <"$folder/$graph" >report.new 2>note
+        status=$?
+        cat note >&2
+        case $status,$(cat note) in 8,"checkpoint: slot 0 "*", slot 1 absent") rm audit-0.ckpt || exit ;; *) break ;; esac
+    done
     [ $status -eq 7 ] || [ $status -eq 0 ] || exit $status
 }
 
@@ -63,13 +67,15 @@ gather() {
         queue
         return
     fi
+    # A gathering that died within the first save of all left a part of one file here.
+    case $(cat told) in "working folder: no slot is intact"*) rm -f audit-[01].ckpt ;; esac
     "$gatherer" "${folders[@]}" "${words[@]}" <"$folder/$graph" || exit
     "$program" "${words[@]}" "${saving[@]}" --resume yes --workers "$cores" <"$folder/$graph" >"$folder/report.new" || exit
     mv "$folder/report.new" "$folder/report"
 }
 
 case ${1:-} in
-    start) queue ;;
+    start) rm -f all/before; queue ;;
     walk) walk "$SLURM_ARRAY_TASK_ID" ;;
     gather) gather ;;
     *)

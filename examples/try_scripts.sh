@@ -306,6 +306,9 @@ saving=(--save 1)
 END
     cp grid.json "$room/parallel/graph.json"
     set_job parallel_audit.sh "$room/job" "$room/parallel/parallel_audit.sh"
+    # A part, and the gathering, died within the first save of all.
+    mkdir "$room/parallel/part-3" "$room/parallel/all"
+    head -c 50 version_1.ckpt | tee "$room/parallel/part-3/audit-0.ckpt" >"$room/parallel/all/audit-0.ckpt"
     if command -v parallel >/dev/null; then
         bash "$room/parallel/parallel_audit.sh" >"$room/told" 2>&1
         same "$room/parallel/report" "$room/one_report" "parallel_audit.sh does not write the report of one run: $(tail -n 1 "$room/told")"
