@@ -22,6 +22,11 @@ GRID = dict(pop="TOTPOP", first="DEM", second="REP")
 ROUGH = dict(GRID, district="CD")
 
 
+def interruptible():
+    """In a child: an interrupt ends it, also where the tests themselves run in the background, where it is ignored."""
+    signal.signal(signal.SIGINT, signal.SIG_DFL)
+
+
 class Calls(common.ProgramCase):
     def test_words_are_named_as_the_programs_are(self):
         self.assertEqual(words_of("run", {"population": "P", "hub_steps": 3, "shift": True, "resume": False, "key": b"\x0a" * 32,
@@ -279,7 +284,7 @@ class Progress(common.ProgramCase):
             district_audit.run(%r, program=%r, slots=%r, folder=%r, progress=True, save=1, **%r)
         """) % (str(CYCLE), self.program, self.slots, str(self.folder), LONG)
         with subprocess.Popen([sys.executable, "-c", script], stderr=subprocess.PIPE, text=True, start_new_session=True,
-                              env={"PYTHONPATH": str(common.TOP / "python"), "PATH": "/usr/bin:/bin"}) as process:
+                              preexec_fn=interruptible, env={"PYTHONPATH": str(common.TOP / "python"), "PATH": "/usr/bin:/bin"}) as process:
             end = time.monotonic() + 60
             while not (self.folder / "audit-1.ckpt").exists() and time.monotonic() < end and process.poll() is None:
                 time.sleep(0.05)
@@ -329,7 +334,7 @@ class Commands(common.ProgramCase):
             words = [*self.WORDS[:-4], "--steps", "20000", "--ask", "gap:low", "--walks", "20000", "--save", "1"]
             process = subprocess.Popen([sys.executable, "-c", "import sys; from district_audit.commands import run; sys.exit(run())", *words], cwd=self.folder,
                                        stdin=subprocess.PIPE, stdout=subprocess.PIPE, stderr=subprocess.PIPE, start_new_session=True,
-                                       env={"PYTHONPATH": str(common.TOP / "python"), "PATH": "/usr/bin:/bin", "DISTRICT_AUDIT": self.program})
+                                       preexec_fn=interruptible, env={"PYTHONPATH": str(common.TOP / "python"), "PATH": "/usr/bin:/bin", "DISTRICT_AUDIT": self.program})
             process.stdin.write(CYCLE.read_bytes())
             process.stdin.close()
             process.stdin = None
