@@ -50,11 +50,16 @@ leave() {
 
 # Proves all crates, by as many provers at once as there are processors, and tells of each that is done.
 prove() {
-    local line done=0 count
+    local line done=0 count read=0
+    echo "install: the texts of the programs are read first, which takes some minutes where nothing was proved before"
     count=$(grep -c '^[a-z]' "$here/../crates.txt")
     (cd "$here/.." && rt all check --jobs "$(nproc)" </dev/null 2>&1; echo "ended $?") | tee "$room/proofs" | while read -r line; do
         case $line in
             '== summary') ;;
+            only=*)
+                read=$((read + 1))
+                echo "install: $read texts read"
+                ;;
             '== '*)
                 done=$((done + 1))
                 echo "install: $done of $count crates: ${line#== }"
