@@ -1,9 +1,20 @@
 //! Whole audits over sources, sinks and keepers in memory: one for each line of the files `cases`, `slots`, `graphs` and `sure`, and many for
 //! each line of `faults`, with what they answer. The crate `case_lines` says what a line has, and what is printed for it.
+//!
+//! After them public calls that no command of the auditor makes, calls whose answer no contract says, and the auditor's outside over real files:
+//! each call is made once, and what it answers is printed. At last walks of which it is shown how many steps searched.
 #![tactic(auto)]
 
+mod calls;
+mod flips;
+mod jobs;
+mod searches;
+mod shown;
+
+use crate::calls::show_calls;
 use audit_io::stop_keeper::StopKeeper;
 use audit_io::sure_keeper::SureKeeper;
+use audit_run::Runtime;
 use audit_run::audit::audit;
 use audit_run::sure::audit_surely;
 use case_lines::lines::{Kind, run_file};
@@ -35,15 +46,18 @@ fn run_surely<R: Threads + Wait + Sync + AllocGlobal>(
     case: &mut SureCase,
     keeper: SureKeeper,
 ) -> (u8, SureKeeper) {
+    let lent = Runtime {
+        threads: rt,
+        alloc: rt.alloc(),
+        gate: &case.gate,
+    };
     audit_surely(
-        rt,
-        rt.alloc(),
+        &lent,
         case.words.as_slice(),
         &mut case.source,
         &mut case.out,
         &mut case.note,
         keeper,
-        &case.gate,
     )
 }
 
@@ -54,5 +68,7 @@ fn main(rt: HostRuntime) -> Result<(), Fail> {
     run_file(&rt, &whole, Kind::Keeping, "slots")?;
     run_file(&rt, &whole, Kind::Graphs, "graphs")?;
     run_file(&rt, &whole, Kind::Faults, "faults")?;
-    sure::run_file(&rt, &surely, "sure")
+    sure::run_file(&rt, &surely, "sure")?;
+    show_calls(&rt)?;
+    Ok(())
 }

@@ -3,7 +3,7 @@ use Rattle.std.proofs.Common.{◌≡◌, ◌⊎◌, inl, inr, ℕ, ◌<◌, ◌�
 use Rattle.audit_model.specs.declared.fault.GraphFault.TheVariants as graph
 use Rattle.audit_model.specs.declared.fault.PlanFault.TheVariants as plan
 use Rattle.audit_model.specs.declared.fault.RegionFault.TheVariants as region
-use Rattle.audit_notes.specs.Ended.{graph_ended, plan_ended, region_ended}
+use Rattle.report.specs.Ended.{graph_ended, plan_ended, region_ended}
 use Rattle.audit_input.specs.Steps.{IsJudged, JudgedSo}
 use Rattle.std.proofs.lemmas.Bool.{lt-ltb, le-ltb}
 use Rattle.audit_model.specs.declared.fault.GraphFault.{GraphFault}
@@ -14,53 +14,63 @@ use Rattle.audit_model.specs.Job.{Job}
 use Rattle.audit_model.specs.JobOf.{IsJob, job_from, job_of}
 use Rattle.audit_model.specs.Limits.{AreRegions, AreWithin, IsSetting, IsWithinLimits}
 use Rattle.audit_model.specs.Parsed.{Parsed}
-use Rattle.model_laws.proofs.Jobs.{setting_of_job}
-use Rattle.note_definitions.specs.Note.{too_many_bytes, bad_graph, bad_regions, bad_plan}
-use Rattle.graph_definitions.specs.Reading.{reading}
-use Rattle.audit_statement.specs.Accepted.{judged, most_bytes, regions_by}
+use Rattle.audit_model.proofs.Jobs.{setting_of_job}
+use Rattle.audit_statement.specs.Note.{too_many_bytes, bad_graph, bad_regions, bad_plan}
+use Rattle.audit_statement.specs.Reading.{reading}
+use Rattle.audit_statement.specs.Accepted.{judged, most_bytes}
+use Rattle.audit_statement.specs.Regions.{regions_by}
 
+-- too many bytes are refused before they are read
 pub judged_many : (setting : Setting) (bytes : List ℕ) → most_bytes < length bytes → judged setting bytes ≡ Err too_many_bytes
 unfolding judged
 judged_many setting bytes many = rw (lt-ltb most_bytes (length bytes) many)
 
+-- few enough bytes that are no graph are refused as such
 pub judged_graph : (setting : Setting) (bytes : List ℕ) (f : GraphFault) → length bytes ≤ most_bytes
     → reading bytes setting.columns ≡ Err f → judged setting bytes ≡ Err (bad_graph f)
 unfolding judged
 judged_graph setting bytes f few r = rw (le-ltb most_bytes (length bytes) few, r)
 
+-- a graph whose regions are refused is refused for them
 pub judged_regions : (setting : Setting) (bytes : List ℕ) (p : Parsed) (f : RegionFault) → length bytes ≤ most_bytes
     → reading bytes setting.columns ≡ Ok p → regions_by setting.region bytes ≡ Err f → judged setting bytes ≡ Err (bad_regions setting.region f)
 unfolding judged
 judged_regions setting bytes p f few r q = rw (le-ltb most_bytes (length bytes) few, r, q)
 
+-- a graph whose job is refused is refused for its plan
 pub judged_plan : (setting : Setting) (bytes : List ℕ) (p : Parsed) (regions : List ℕ) (f : PlanFault) → length bytes ≤ most_bytes
     → reading bytes setting.columns ≡ Ok p → regions_by setting.region bytes ≡ Ok regions → job_of p setting regions ≡ Err f → judged setting bytes ≡ Err (bad_plan f)
 unfolding judged
 judged_plan setting bytes p regions f few r q j = rw (le-ltb most_bytes (length bytes) few, r, q, j)
 
+-- what is accepted of the bytes is the job
 pub judged_job : (setting : Setting) (bytes : List ℕ) (p : Parsed) (regions : List ℕ) (job : Job) → length bytes ≤ most_bytes
     → reading bytes setting.columns ≡ Ok p → regions_by setting.region bytes ≡ Ok regions → job_of p setting regions ≡ Ok job → judged setting bytes ≡ Ok job
 unfolding judged
 judged_job setting bytes p regions job few r q j = rw (le-ltb most_bytes (length bytes) few, r, q, j)
 
+-- how a refused plan ends the call, or want of memory for it
 pub judged_plan_end : (setting : Setting) (bytes : List ℕ) (p : Parsed) (regions : List ℕ) (f : PlanFault) → length bytes ≤ most_bytes
     → reading bytes setting.columns ≡ Ok p → regions_by setting.region bytes ≡ Ok regions → (f ≡ plan.Memory) ⊎ (job_of p setting regions ≡ Err f) → JudgedSo setting bytes (plan_ended f)
 judged_plan_end setting bytes p regions plan.Memory few r q j = tt
 judged_plan_end setting bytes p regions f few r q (inl e) = cc
 judged_plan_end setting bytes p regions f few r q (inr j) = judged_plan setting bytes p regions f few r q j
 
+-- how refused regions end the call, or want of memory for them
 pub judged_regions_end : (setting : Setting) (bytes : List ℕ) (p : Parsed) (f : RegionFault) → length bytes ≤ most_bytes
     → reading bytes setting.columns ≡ Ok p → (f ≡ region.Memory) ⊎ (regions_by setting.region bytes ≡ Err f) → JudgedSo setting bytes (region_ended setting.region f)
 judged_regions_end setting bytes p region.Memory few r q = tt
 judged_regions_end setting bytes p f few r (inl e) = cc
 judged_regions_end setting bytes p f few r (inr q) = judged_regions setting bytes p f few r q
 
+-- how a refused graph ends the call, or want of memory for it
 pub judged_graph_end : (setting : Setting) (bytes : List ℕ) (f : GraphFault) → length bytes ≤ most_bytes
     → (f ≡ graph.Memory) ⊎ (reading bytes setting.columns ≡ Err f) → JudgedSo setting bytes (graph_ended setting.columns f)
 judged_graph_end setting bytes graph.Memory few r = tt
 judged_graph_end setting bytes f few (inl e) = cc
 judged_graph_end setting bytes f few (inr r) = (judged_graph setting bytes f few r, refl)
 
+-- no regions are regions of any graph
 pub no_regions : (units : ℕ) → AreRegions units []
 no_regions units = record { width = inl refl; few = λ k d inside. absurd (omega arith) }
 
@@ -69,6 +79,7 @@ pub within_limits : (p : Parsed) (setting : Setting) (regions : List ℕ) → Ar
     → IsWithinLimits (job_from p setting regions)
 within_limits p setting regions input within are = record { input = input; setting = within; regions = are }
 
+-- the job that was made is the one that the bytes give
 pub is_judged : (setting : Setting) (bytes : List ℕ) (p : Parsed) (regions : List ℕ) (job : Job) → length bytes ≤ most_bytes
     → reading bytes setting.columns ≡ Ok p → regions_by setting.region bytes ≡ Ok regions → job_of p setting regions ≡ Ok job → IsJob job → IsJudged setting bytes job
 is_judged setting bytes p regions job few r q j sound = record { judged_so = judged_job setting bytes p regions job few r q j; same = setting_of_job p setting regions job j; sound = sound }

@@ -1,4 +1,6 @@
 mod Judging
 mod Making
 mod Preparing
+mod Refused
+mod Started
 mod Streams

@@ -6,15 +6,17 @@ use Rattle.audit_model.specs.declared.fault.Name.TheVariants.{Size}
 use Rattle.audit_model.specs.declared.setting.Command.{Command}
 use Rattle.audit_model.specs.declared.setting.Command.TheVariants.{Check, Run, Make, Plans}
 use Rattle.audit_model.specs.declared.setting.Setting.{Setting}
-use Rattle.word_definitions.specs.Words.{NameAndValue, text_of, number_of, fault_of, setting_for, setting_of}
+use Rattle.audit_statement.specs.Words.{NameAndValue, text_of, number_of, fault_of, setting_for, setting_of}
 use Rattle.grid_maker.specs.Columns.{grid_columns}
 use Rattle.audit_input.specs.Steps.{IsMaking}
-use Rattle.audit_steps.proofs.Words.{accepted_words, good}
+use Rattle.audit_laws.proofs.Words.{accepted_words, good}
 
+-- a number that was tested is from 1 to 30
 bounded : (o : Option ℕ) → unwrap_or (option_map (λ n. nat_le 1 n && nat_le n 30) o) false ≡ true → (1 ≤ unwrap_or o 0) × (unwrap_or o 0 ≤ 30)
 bounded None h = cc
 bounded (Some n) h = let p = and_parts (nat_le 1 n) (nat_le n 30) h in (leb-true 1 n p.0, leb-true n 30 p.1)
 
+-- the words of a grid are accepted only with a size from 1 to 30
 sized_by : (command : Command) (words : List NameAndValue) (setting : Setting) → fault_of command words ≡ None
     → setting_for command words ≡ setting → setting.command ≡ Make → (1 ≤ setting.size) × (setting.size ≤ 30)
 sized_by Check words setting faultless same make =
@@ -26,6 +28,7 @@ sized_by Run words setting faultless same make =
 sized_by Make words setting faultless same make =
     subst (λ (n : ℕ). (1 ≤ n) × (n ≤ 30)) (ap (λ (s : Setting). s.size) same) (bounded (number_of (text_of Make words Size)) (good Make words 0 Size faultless refl))
 
+-- the setting of a grid names its own columns and no regions
 made_by : (command : Command) (words : List NameAndValue) (setting : Setting) → setting_for command words ≡ setting → setting.command ≡ Make
     → (setting.columns ≡ grid_columns) × (setting.region ≡ [])
 made_by Check words setting same make =

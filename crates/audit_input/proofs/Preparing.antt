@@ -4,14 +4,14 @@ use Rattle.audit_model.specs.declared.fault.WordFault.{WordFault}
 use Rattle.audit_model.specs.declared.setting.Command.{Command}
 use Rattle.audit_model.specs.declared.setting.Command.TheVariants.{Check, Run, Make, Plans}
 use Rattle.audit_model.specs.declared.setting.Setting.{Setting}
-use Rattle.word_definitions.specs.Words.{setting_of}
-use Rattle.audit_notes.specs.declared.ended.Ended.TheVariants as ended
+use Rattle.audit_statement.specs.Words.{setting_of}
+use Rattle.report.specs.declared.ended.Ended.TheVariants as ended
 use Rattle.audit_statement.specs.Accepted.{input_by}
 use Rattle.audit_statement.specs.Endings.{LeavesUntouched, SameUnless, TakesTooMany, no_marks, passes, is_reading}
 use Rattle.audit_input.specs.Steps.{ReadsTooMany}
-use Rattle.audit_steps.specs.Calls.{RunsTo}
-use Rattle.audit_io.specs.State.{Kept, Stream}
-use Rattle.audit_io.specs.Told.{IfTold}
+use Rattle.audit_laws.specs.Calls.{RunsTo}
+use Rattle.audit_model.specs.State.{Kept, Stream}
+use Rattle.audit_model.specs.Told.{IfTold}
 use Rattle.audit_statement.specs.World.{world}
 use Rattle.audit_input.proofs.Judging.{judged_many}
 

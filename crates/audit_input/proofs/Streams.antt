@@ -5,8 +5,8 @@ use Rattle.std.specs.Io.KnownBytes.{Consumes, IsAtEnd}
 use Rattle.audit_statement.specs.Accepted.{most_bytes}
 use Rattle.audit_statement.specs.Endings.{TakesTooMany}
 use Rattle.audit_input.specs.Steps.{ReadsTooMany}
-use Rattle.audit_io.specs.State.{Stream}
-use Rattle.audit_io.specs.Told.{IfTold}
+use Rattle.audit_model.specs.State.{Stream}
+use Rattle.audit_model.specs.Told.{IfTold}
 
 -- at the end, what was consumed is all that was left
 pub consumed_all : (a c : Option (List ℕ)) (xs : List ℕ) → Consumes a c xs → IsAtEnd c → IfTold a (λ left. left ≡ xs)
@@ -19,10 +19,12 @@ abbrev pub left_or : Option (List ℕ) → List ℕ → List ℕ
 left_or None xs = xs
 left_or (Some left) xs = left
 
+-- the told bytes are what was left
 pub left_is : (a : Option (List ℕ)) (xs : List ℕ) → IfTold a (λ left. left ≡ left_or a xs)
 left_is None xs = tt
 left_is (Some left) xs = refl
 
+-- where much was consumed, much was left
 pub left_many : (a c : Option (List ℕ)) (xs : List ℕ) (n : ℕ) → Consumes a c xs → n < length xs → n < length (left_or a xs)
 left_many None c xs n p h = h
 left_many (Some u) None xs n p h = absurd p

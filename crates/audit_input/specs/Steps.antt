@@ -4,20 +4,20 @@ use Rattle.std.specs.Io.KnownBytes.{IsAtEnd}
 use Rattle.audit_model.specs.Job.{Job}
 use Rattle.audit_model.specs.JobOf.{IsJob}
 use Rattle.audit_model.specs.Room.{RoomyBytes}
-use Rattle.audit_io.specs.Faults.{Rose}
-use Rattle.audit_notes.specs.declared.ended.Ended.{Ended}
+use Rattle.audit_model.specs.Faults.{Rose}
+use Rattle.report.specs.declared.ended.Ended.{Ended}
 use Rattle.audit_input.specs.declared.reading.ReadEnd.{ReadEnd}
 use Rattle.audit_input.specs.declared.reading.ReadEnd.TheVariants as read
-use Rattle.audit_notes.specs.declared.ended.Ended.TheVariants as ended
+use Rattle.report.specs.declared.ended.Ended.TheVariants as ended
 use Rattle.grid_maker.specs.Columns.{grid_columns}
-use Rattle.note_definitions.specs.Note.{bad_graph, bad_regions, bad_plan}
-use Rattle.word_definitions.specs.Words.{setting_of}
+use Rattle.audit_statement.specs.Note.{bad_graph, bad_regions, bad_plan}
+use Rattle.audit_statement.specs.Words.{setting_of}
 use Rattle.audit_model.specs.declared.setting.Setting.{Setting}
-use Rattle.audit_statement.specs.Accepted.{most_bytes, input_of, judged}
-use Rattle.audit_statement.specs.Endings.{IsPrepared, IsReadBy, TakesTooMany, is_reading}
-use Rattle.audit_steps.specs.Calls.{RunsTo}
-use Rattle.audit_io.specs.State.{Kept, Stream}
-use Rattle.audit_io.specs.Told.{IfTold}
+use Rattle.audit_statement.specs.Accepted.{most_bytes, judged}
+use Rattle.audit_statement.specs.Endings.{IsPrepared, TakesTooMany}
+use Rattle.audit_laws.specs.Calls.{RunsTo}
+use Rattle.audit_model.specs.State.{Kept, Stream}
+use Rattle.audit_model.specs.Told.{IfTold}
 use Rattle.audit_statement.specs.World.{world}
 
 -- all that was left, and nothing is left now
@@ -46,29 +46,13 @@ abbrev pub Prepares : List (List ℕ) → Stream → Stream → Result Job Ended
 Prepares words before after (Ok job) = IsPrepared words before after job
 Prepares words before after (Err why) = (out : Stream) (keeper : Kept) → RunsTo words (world before out keeper) (world after out keeper) why
 
--- the bytes of the graph were read or made
-pub record HasInput (setting : Setting) (before after : Stream) (bytes : List ℕ) : Type 0 where
-  pub given : IfTold (input_of setting before.bytes) (λ input. input ≡ bytes)
-  pub read : IsReadBy (is_reading setting.command) before after
-
 -- why there is no job of these bytes
 abbrev pub JudgedSo : Setting → List ℕ → Ended → Type 0
 JudgedSo setting bytes ended.NoMemory = ⊤
 JudgedSo setting bytes (ended.BadGraph f columns) = (judged setting bytes ≡ Err (bad_graph f)) × (columns ≡ setting.columns)
 JudgedSo setting bytes (ended.BadRegions f column) = judged setting bytes ≡ Err (bad_regions column f)
 JudgedSo setting bytes (ended.BadPlan f) = judged setting bytes ≡ Err (bad_plan f)
-JudgedSo setting bytes (ended.BadTable f) = ⊥
-JudgedSo setting bytes (ended.BadPlanNamed name f) = ⊥
-JudgedSo setting bytes ended.Done = ⊥
-JudgedSo setting bytes (ended.BadWords f) = ⊥
-JudgedSo setting bytes ended.TooManyBytes = ⊥
-JudgedSo setting bytes ended.ReadFault = ⊥
-JudgedSo setting bytes ended.WriteFault = ⊥
-JudgedSo setting bytes ended.LoadFault = ⊥
-JudgedSo setting bytes (ended.Stopped done total) = ⊥
-JudgedSo setting bytes (ended.Damaged slots) = ⊥
-JudgedSo setting bytes (ended.OtherJob found wanted) = ⊥
-JudgedSo setting bytes ended.SaveFault = ⊥
+JudgedSo setting bytes _ = ⊥
 
 -- the job of these bytes, with its setting and within the limits
 pub record IsJudged (setting : Setting) (bytes : List ℕ) (job : Job) : Type 0 where

@@ -7,15 +7,16 @@ ghost use Rattle.audit_model.specs.Limits.{AreRegions, AreWithin, IsSetting};
 ghost use Rattle.audit_model.specs.Parsed.{Parsed};
 ghost use Rattle.dual_graph.specs.Read.{parsed_of};
 ghost use Rattle.dual_json.specs.Numbered.{IsGraphText};
-ghost use Rattle.graph_definitions.specs.Reading.{reading};
+ghost use Rattle.audit_statement.specs.Reading.{reading};
 ghost use Rattle.audit_model.specs.declared.setting.Command.TheVariants as command;
-ghost use Rattle.audit_statement.specs.Accepted.{most_bytes, regions_by};
-ghost use Rattle.audit_notes.specs.Ended.{word_ended, graph_ended, region_ended, plan_ended};
+ghost use Rattle.audit_statement.specs.Accepted.{most_bytes};
+ghost use Rattle.audit_statement.specs.Regions.{regions_by};
+ghost use Rattle.report.specs.Ended.{word_ended, graph_ended, region_ended, plan_ended};
 ghost use Rattle.audit_statement.specs.Endings.{is_reading};
 ghost use Rattle.audit_input.specs.Steps.{IsMaking, Prepares, PreparesFor, Judges};
-ghost use Rattle.audit_io.specs.State.{Stream};
+ghost use Rattle.audit_model.specs.State.{Stream};
 ghost use Rattle.audit_words.specs.Spoken.{spoken};
-ghost use Rattle.draw_definitions.specs.Grid.{grid};
+ghost use Rattle.audit_statement.specs.Grid.{grid};
 
 use crate::reading::{ReadEnd, read_source};
 use audit_io::source::Source;
@@ -23,13 +24,13 @@ use audit_model::fault::{GraphFault, PlanFault, RegionFault, WordFault};
 use audit_model::lists::UnitList;
 use audit_model::setting::{Columns, Command, Setting};
 use audit_model::text::Text;
-use audit_notes::ended::Ended;
 use audit_words::read;
 use dual_graph::parsed::Parsed as ReadParsed;
 use dual_json::{read_graph, read_regions};
 use grid_maker::laws::grids_are_short;
 use grid_maker::made::read_made;
 use plan_core::job::Job;
+use report::ended::Ended;
 use std::alloc::Global;
 
 /// How refused words end a call, and want of memory for them.
@@ -160,24 +161,15 @@ fn prepare_read<S: Source>(alloc: Global, setting: Setting, source: &mut S) -> R
     }
 }
 
-// The job of the grid or of what the source has, as the command asks, or why there is none.
-fn prepare_for<S: Source>(alloc: Global, setting: Setting, source: &mut S) -> Result<Job, Ended>
-    requires within { IsSetting setting }
-    requires made { setting.command ≡ command.Make → IsMaking setting }
-    ensures { PreparesFor setting (S.state source.old) (S.state source.new) result }
-{
-    match setting.command {
-        Command::Check | Command::Run | Command::Plans => prepare_read(alloc, setting, source),
-        Command::Make => prepare_grid(alloc, setting),
-    }
-}
-
 /// The job that the words and the source give, or why there is none. The graph of `make` is a grid, and the source is left alone.
 pub fn prepare<S: Source>(alloc: Global, words: &[String], source: &mut S) -> Result<Job, Ended>
     ensures { Prepares (spoken words.now) (S.state source.old) (S.state source.new) result }
 {
     match read(alloc, words) {
-        Ok(setting) => prepare_for(alloc, setting, source),
+        Ok(setting) => match setting.command {
+            Command::Check | Command::Run | Command::Plans => prepare_read(alloc, setting, source),
+            Command::Make => prepare_grid(alloc, setting),
+        },
         Err(fault) => Err(word_end(fault)),
     }
 }

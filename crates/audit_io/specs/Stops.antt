@@ -1,10 +1,10 @@
 -- What a keeper that stops does.
 use Rattle.std.specs.Prelude.{◌≡◌, ℕ, zero, suc, ◌+◌, ◌-◌, ◌^◌, ◌/◌, ◌↔◌, min, Bool, true, false, List, [], ◌∷◌, ◌++◌, length, take, Some, Result, OnOk, OnErr, IsErr, is_ok}
 use Rattle.std.specs.List.{Contains}
-use Rattle.audit_io.specs.Faults.{HasCause}
+use Rattle.audit_model.specs.Faults.{HasCause}
 use Rattle.audit_io.specs.Mem.{MemorySlots}
-use Rattle.audit_io.specs.Slots.{HoldsBytes, KeepsOther, Pair, stored}
-use Rattle.audit_io.specs.Tries.{try_of}
+use Rattle.audit_model.specs.Pair.{HoldsBytes, KeepsOther, Pair, stored}
+use Rattle.audit_model.specs.Tries.{try_of}
 
 -- the slots with these bytes in the slot with this number
 abbrev pub with_bytes : Pair → ℕ → List ℕ → Pair

@@ -4,17 +4,18 @@ ghost use Rattle.std.specs.Prelude.{◌≡◌, ◌⊎◌, ◌↔◌, ◌<◌, fa
 ghost use Rattle.std.specs.IoError.{error_kind};
 ghost use Rattle.std.specs.Io.KnownBytes.{Appends};
 ghost use Rattle.audit_io.specs.Files.{ReadsWithin, LoadsFile, file_name};
-ghost use Rattle.audit_io.specs.Slots.{LoadsWithin};
+ghost use Rattle.audit_io.specs.Loads.{LoadsWithin};
 
 use crate::again::read_again;
 use crate::folder_lock::{Taken, lock_folder};
 use crate::keeper::{Keeper, LoadError};
+use crate::slot_files::{Known, open_slot, save_slot};
 use crate::source::Failed;
 use audit_model::buffers::Bytes;
-use std::fs::{File, OpenFile};
-use std::io::{ErrorKind, Read, Write};
+use std::fs::File;
+use std::io;
+use std::io::{ErrorKind, Read};
 use std::rt::Files;
-use std::{fs, io};
 
 // The most bytes of one read.
 const PIECE: usize = 4096;
@@ -27,11 +28,15 @@ const PIECE: usize = 4096;
 ///
 /// Its first call takes the lock of the working folder, where the system has such locks, and holds it as long as the keeper lives. Where another
 /// keeper holds it the call fails, and touches no file.
+///
+/// A slot has to be a plain file, or a link to one, and the two slots two files: a folder, a pipe, a device, a link to nothing or to the other slot is
+/// not opened, and the call fails. Before its first save it waits until the system has stored the other slot's file and the folder, since another
+/// process may have ended before they were.
 #[derive(Drop)]
 pub struct FileKeeper<R: Files<File = File> + Drop> {
     files: R,
     folder: Folder,
-    settled: bool,
+    known: Known,
     load_faults: u64,
     save_faults: u64,
 }
@@ -56,7 +61,7 @@ impl<R: Files<File = File> + Drop> FileKeeper<R> {
         FileKeeper {
             files,
             folder: Folder::Untaken,
-            settled: false,
+            known: Known::new(),
             load_faults: 0,
             save_faults: 0,
         }
@@ -70,7 +75,7 @@ impl<R: Files<File = File> + Drop> Keeper for FileKeeper<R> {
     /// none; a file that was read is there, whatever its length. Want of memory, the system's too, is `Memory`.
     fn load(&mut self, slot: u8, limit: u64, room: &mut Bytes) -> Result<bool, LoadError> {
         let loaded = match take_folder(&self.files, &mut self.folder) {
-            Ok(()) => load_opened(fs::open(&self.files, name_of(slot)), limit, room),
+            Ok(()) => load_opened(open_slot(&self.files, slot), limit, room),
             Err(Taken) => refuse(room),
         };
         if loaded == Err(LoadError::Failed) {
@@ -82,7 +87,7 @@ impl<R: Files<File = File> + Drop> Keeper for FileKeeper<R> {
     /// Makes the file where there is none, and touches no other. Want of memory is `Failed`.
     fn save(&mut self, slot: u8, bytes: &[u8]) -> Result<(), Failed> {
         let saved = match take_folder(&self.files, &mut self.folder) {
-            Ok(()) => save_file(&self.files, name_of(slot), bytes, &mut self.settled).is_ok(),
+            Ok(()) => save_slot(&self.files, slot, bytes, &mut self.known).is_ok(),
             Err(Taken) => false,
         };
         if saved {
@@ -111,17 +116,6 @@ fn refuse(room: &mut Bytes) -> Result<bool, LoadError>
 {
     room.clear();
     Err(LoadError::Failed)
-}
-
-// The file of a slot.
-fn name_of(slot: u8) -> &'static str
-    requires { slot < 2 }
-    ensures { result.now ≡ file_name slot }
-{
-    match slot {
-        0 => "audit-0.ckpt",
-        _ => "audit-1.ckpt",
-    }
 }
 
 // What an error of the file system is for a load.
@@ -187,42 +181,4 @@ pub fn load_opened<F: Read + Drop>(
             Err(cause_of(&error))
         }
     }
-}
-
-// Writes all bytes, and waits until the system has stored them.
-fn store<F: Write + OpenFile>(file: &mut F, bytes: &[u8]) -> io::Result<()>
-    ensures { OnOk result (Appends (F.contents file.old) (F.contents file.new) bytes.now) }
-{
-    file.write_all(bytes)?;
-    file.sync_all()
-}
-
-// Opens the file to write it from its start, and answers whether it is new.
-fn make_file<R: Files>(files: &R, name: &str) -> io::Result<(R::File, bool)> {
-    match File::create_new(files, name) {
-        Ok(file) => Ok((file, true)),
-        Err(error) => {
-            if error.kind() != ErrorKind::AlreadyExists {
-                return Err(error);
-            }
-            Ok((fs::create(files, name)?, false))
-        }
-    }
-}
-
-// Makes the file hold exactly these bytes, and waits until the system has stored them. Where the folder is not known to be stored with all
-// files that were made in it, it waits for that, too.
-fn save_file<R: Files>(files: &R, name: &str, bytes: &[u8], settled: &mut bool) -> io::Result<()>
-    ensures { OnOk result (settled.new ≡ true) }
-{
-    let (mut file, is_new) = make_file(files, name)?;
-    if is_new {
-        *settled = false;
-    }
-    store(&mut file, bytes)?;
-    if !*settled {
-        fs::open(files, ".")?.sync_all()?;
-        *settled = true;
-    }
-    Ok(())
 }

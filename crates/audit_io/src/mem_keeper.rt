@@ -1,10 +1,11 @@
 //! A keeper in memory, of which some calls fail.
 
 ghost use Rattle.std.specs.Prelude.{◌≡◌, ◌<◌, ◌≤◌, ◌+◌, ◌-◌, ◌^◌, ◌/◌, ◌↔◌, ◌∷◌, [], ◌++◌, IfOk, OnOk, OnErr, IsErr, Err, Some, option_map, Contains, min, take, length, is_ok};
-ghost use Rattle.audit_io.specs.Faults.{HasCause, HasLoadCause};
-ghost use Rattle.audit_io.specs.Slots.{Loads, LoadsWithin, KeepsOther, HoldsBytes, stored};
+ghost use Rattle.audit_model.specs.Faults.{HasCause};
+ghost use Rattle.audit_io.specs.Loads.{HasLoadCause, Loads, LoadsWithin};
+ghost use Rattle.audit_model.specs.Pair.{KeepsOther, HoldsBytes, stored};
 ghost use Rattle.audit_io.specs.Stops.{with_part, with_try};
-ghost use Rattle.audit_io.specs.Tries.{try_of};
+ghost use Rattle.audit_model.specs.Tries.{try_of};
 ghost use Rattle.audit_model.specs.Limits.{most_saved_bytes};
 
 use crate::keeper::{Keeper, LoadError};

@@ -2,7 +2,7 @@
 
 ghost use Rattle.std.specs.Prelude.{◌≡◌, ◌+◌, ◌-◌, ◌^◌, ◌≤◌, ◌<◌, ◌⊎◌, ◌↔◌, [], min, IsErr, IfOk, OnErr, Some, Contains, length};
 ghost use Rattle.std.specs.Io.KnownBytes.{WriteAppends};
-ghost use Rattle.audit_io.specs.Faults.{HasCause};
+ghost use Rattle.audit_model.specs.Faults.{HasCause};
 
 use crate::sink::Sink;
 use crate::source::Failed;

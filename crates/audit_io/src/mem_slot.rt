@@ -1,7 +1,7 @@
 //! One slot in memory.
 
 ghost use Rattle.std.specs.Prelude.{◌≡◌, ◌≤◌, length, IfOk, Some, option_map};
-ghost use Rattle.audit_io.specs.Slots.{Loads, LoadsWithin, IsFaultless};
+ghost use Rattle.audit_io.specs.Loads.{Loads, LoadsWithin, IsFaultless};
 ghost use Rattle.audit_model.specs.Limits.{most_saved_bytes};
 
 use crate::keeper::LoadError;
@@ -22,7 +22,7 @@ pub struct MemSlot {
 
 impl Model for MemSlot {
     ghost use Rattle.std.specs.Prelude.{◌+◌, ◌≤◌, length};
-    ghost use Rattle.audit_io.specs.Slots.{Stored, stored_if};
+    ghost use Rattle.audit_model.specs.Pair.{Stored, stored_if};
     ghost use Rattle.audit_model.specs.Limits.{most_saved_bytes};
 
     ghost Value = { Stored };

@@ -3,7 +3,7 @@
 ghost use Rattle.std.specs.Prelude.{◌≡◌, ◌+◌, ◌-◌, ◌^◌, ◌≤◌, min, IfOk, IsErr, ◌↔◌, Some, Contains, length, ◌<◌};
 ghost use Rattle.std.specs.Io.{ReadsAtMost};
 ghost use Rattle.std.specs.Io.KnownBytes.{ReadConsumes};
-ghost use Rattle.audit_io.specs.Faults.{HasCause};
+ghost use Rattle.audit_model.specs.Faults.{HasCause};
 
 use crate::copying::give;
 use crate::source::{Failed, Source};

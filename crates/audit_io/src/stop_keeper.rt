@@ -1,10 +1,11 @@
 //! A keeper in memory that stops within a save.
 
 ghost use Rattle.std.specs.Prelude.{◌≡◌, ◌<◌, ◌≤◌, ◌+◌, ◌-◌, ◌^◌, ◌∷◌, [], ◌++◌, false, IsErr, OnOk, Some, min, length, is_ok};
-ghost use Rattle.audit_io.specs.Faults.{HasCause, HasLoadCause};
-ghost use Rattle.audit_io.specs.Slots.{HoldsBytes, KeepsOther};
+ghost use Rattle.audit_model.specs.Faults.{HasCause};
+ghost use Rattle.audit_io.specs.Loads.{HasLoadCause};
+ghost use Rattle.audit_model.specs.Pair.{HoldsBytes, KeepsOther};
 ghost use Rattle.audit_io.specs.Stops.{HasPassed, after_refused};
-ghost use Rattle.audit_io.specs.Tries.{try_of};
+ghost use Rattle.audit_model.specs.Tries.{try_of};
 ghost use Rattle.audit_model.specs.Limits.{most_saved_bytes};
 
 use crate::keeper::{Keeper, LoadError};

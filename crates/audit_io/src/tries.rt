@@ -2,7 +2,7 @@
 
 ghost use Rattle.std.specs.Prelude.{◌≡◌, List, [], ◌∷◌, ◌++◌};
 ghost use Rattle.std.specs.Borrow.{ftrue};
-ghost use Rattle.audit_io.specs.Tries.{Try, try_of};
+ghost use Rattle.audit_model.specs.Tries.{Try, try_of};
 
 use std::marker::Model;
 

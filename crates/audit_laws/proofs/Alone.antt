@@ -3,15 +3,16 @@ use Rattle.std.proofs.Common.{◌≡◌, ◌≢◌, ℕ, Bool, true, false, List
 use Rattle.std.proofs.lemmas.Bool.{and_right}
 use Rattle.audit_model.specs.declared.fault.WordFault.{WordFault}
 use Rattle.audit_model.specs.declared.setting.Setting.{Setting}
-use Rattle.note_definitions.specs.Note.{Ending, write_fault, load_fault, stopped, save_fault}
-use Rattle.word_definitions.specs.Words.{setting_of}
+use Rattle.audit_statement.specs.Note.{Ending, write_fault, load_fault, stopped, save_fault}
+use Rattle.audit_statement.specs.Words.{setting_of}
 use Rattle.audit_statement.specs.Status.{status_of}
 use Rattle.audit_statement.specs.Endings.{Cause, EndsFor, IsLoadFault, LeavesUntouched, SameUnless, marks_of, passes, is_reading, saves, loads}
 use Rattle.audit_statement.specs.Left.{LeavesAlone}
-use Rattle.audit_io.specs.State.{Stream}
+use Rattle.audit_model.specs.State.{Stream}
 use Rattle.audit_statement.specs.World.{World}
-use Rattle.audit_steps.proofs.Telling.{same_setting}
+use Rattle.audit_laws.proofs.Telling.{same_setting}
 
+-- a value that changes only where a test passes is the same where it fails
 same_at : {A : Type 0} (b : Bool) (x y : A) → b ≡ false → SameUnless b x y → y ≡ x
 same_at true x y e s = cc
 same_at false x y e s = s
@@ -21,6 +22,7 @@ passes_none : (test : Setting → Bool) (r : Result Setting WordFault) → IsErr
 passes_none test (Ok s) h = cc
 passes_none test (Err f) h = refl
 
+-- where a test of the setting fails, the words that give the setting do not pass it
 passes_not : (test : Setting → Bool) (words : List (List ℕ)) (s : Setting) → setting_of words ≡ Ok s → IsFalse (test s) → passes test (setting_of words) ≡ false
 passes_not test words s e off = subst (λ (r : Result Setting WordFault). passes test r ≡ false) (sym e) off
 
@@ -75,6 +77,7 @@ module _ (words : List (List ℕ)) (before after : World) where
     not_loading = unloaded r c u;
   }
 
+-- a call that ends in one of the ways leaves alone what its words do not ask for
 pub leaves_alone : (words : List (List ℕ)) (before after : World) (n m : Stream) (status : ℕ) → EndsFor words before after n m status → LeavesAlone words before after status
 leaves_alone words before after n m status e =
     subst (λ (s : ℕ). LeavesAlone words before after s) (sym e.status_is) (alone_at words before after e.reason e.cause e.untouched)

@@ -2,17 +2,17 @@
 use Rattle.std.proofs.Common.{◌≡◌, ◌⊎◌, inl, inr, ℕ, ◌&&◌, Bool, true, false, IsTrue, List, Option, Some, None, Ok, Err, refl, sym, subst, ap, ◌∙◌}
 use Rattle.audit_model.specs.declared.setting.Setting.{Setting}
 use Rattle.audit_model.specs.Job.{Job}
-use Rattle.note_definitions.specs.Note.{Ending, bad_words, too_many_bytes, bad_graph, bad_regions, bad_table, bad_plan, bad_plan_named, no_memory, read_fault, write_fault, load_fault, stopped, damaged, other_job, save_fault}
-use Rattle.word_definitions.specs.Words.{setting_of}
+use Rattle.audit_statement.specs.Note.{Ending, bad_words, too_many_bytes, bad_graph, bad_regions, bad_table, bad_plan, bad_plan_named, no_memory, read_fault, write_fault, load_fault, stopped, damaged, other_job, save_fault}
+use Rattle.audit_statement.specs.Words.{setting_of}
 use Rattle.audit_statement.specs.Accepted.{IsAccepted, IsRefused, judged, input_of}
 use Rattle.audit_statement.specs.Causes.{IsTold, MayEndWell, IsComplete, HasBudget}
 use Rattle.audit_statement.specs.Status.{status_of}
 use Rattle.audit_statement.specs.Endings.{Cause, EndsFor, TellsOpening, leaves_work, is_walking, IsStopped, IsSlotsFault}
-use Rattle.audit_io.specs.State.{Stream}
+use Rattle.audit_model.specs.State.{Stream}
 use Rattle.audit_statement.specs.World.{World}
-use Rattle.audit_steps.proofs.Telling.{known_at, same_setting}
-use Rattle.audit_steps.proofs.Starting.{opening_known, undefined_known}
-use Rattle.audit_io.specs.Slots.{Pair}
+use Rattle.audit_laws.proofs.Telling.{known_at, same_setting}
+use Rattle.audit_laws.proofs.Starting.{opening_known, undefined_known}
+use Rattle.audit_model.specs.Pair.{Pair}
 
 -- a refusal of what is told is a refusal of the told bytes
 pub refused_at : (words : List (List ℕ)) (before : World) (setting : Setting) (bytes : List ℕ) (ending : Ending)
@@ -48,6 +48,7 @@ same_job words before job other bytes told ok accepted =
     let ok' : judged job.setting bytes ≡ Ok other = accepted_at words before job.setting bytes other told accepted in
     cc
 
+-- where an 'and' is true, its first part is
 pub both_left : (a b : Bool) → IsTrue (a && b) → a ≡ true
 both_left true b h = refl
 both_left false b h = cc
@@ -64,6 +65,7 @@ not_stopped words before after done all m s =
     let enough : leaves_work m.job has.0 ≡ false = has.2 in
     cc
 
+-- a call that may end well has no fault of a slot
 pub not_undefined : (words : List (List ℕ)) (before after : World) (found : Job → Pair → Type 0) → MayEndWell words before after
     → IsSlotsFault words before after found → ⊥
 not_undefined words before after found m s =
@@ -74,6 +76,7 @@ not_undefined words before after found m s =
     let none : Some has.0 ≡ None = undefined_known s.job before.keeper.slots (Some has.0) (found s.job) told s.seen in
     cc
 
+-- a cause of a call that may end well gives status 0 or 3
 pub completes : (words : List (List ℕ)) (before after : World) (reason : Option Ending) → Cause words before after reason
     → MayEndWell words before after → (status_of reason ≡ 0) ⊎ (status_of reason ≡ 3)
 completes words before after None c m = inl refl
@@ -93,5 +96,6 @@ completes words before after (Some (damaged zero one)) c m = absurd (not_undefin
 completes words before after (Some (other_job found wanted)) c m = absurd (not_undefined words before after _ m c)
 completes words before after (Some save_fault) c m = absurd (m.saves c.rose)
 
+-- a call that ends in one of the ways and may end well has done all, or memory was wanting
 pub is_complete : (words : List (List ℕ)) (before after : World) (n m : Stream) (status : ℕ) → EndsFor words before after n m status → IsComplete words before after status
 is_complete words before after n m status e = λ well. subst (λ (s : ℕ). (s ≡ 0) ⊎ (s ≡ 3)) (sym e.status_is) (completes words before after e.reason e.cause well)

@@ -4,41 +4,42 @@ use Rattle.std.specs.Prelude.{◌==◌, find, IsTrue, ⊤}
 use Rattle.std.proofs.lemmas.Bool.{cases_order, eqb-true, ne_eqb, true≢false}
 use Rattle.std.proofs.lemmas.List.{append-nil, get_or-map, length-map}
 use Rattle.std.proofs.lemmas.List.Elements.{All-contains, All-map, All-nil}
-use Rattle.audit_io.specs.Faults.{Rose}
-use Rattle.audit_io.specs.Slots.{Pair, stored}
-use Rattle.audit_io.specs.Tries.{Try}
+use Rattle.audit_model.specs.Faults.{Rose}
+use Rattle.audit_model.specs.Pair.{Pair, stored}
+use Rattle.audit_model.specs.Tries.{Try}
 use Rattle.audit_model.specs.declared.outcome.Outcome.{Outcome}
 use Rattle.audit_model.specs.Below.{filter_below}
 use Rattle.audit_model.specs.Graph.{has}
 use Rattle.audit_model.specs.Job.{Job}
 use Rattle.audit_model.specs.Run.{total, has_id, run_ids, kept_or, outcome_from, full, IsRight}
 use Rattle.audit_model.specs.Trajectory.{outcome}
-use Rattle.model_laws.proofs.Filtered.{each_passes, each_rises}
-use Rattle.model_laws.proofs.Lists.{find_passes}
-use Rattle.checkpoint_definitions.specs.Checkpoint.{job_digest}
-use Rattle.checkpoint_definitions.specs.Slots.{IsHonestSlot, opening, slot_of}
-use Rattle.ckpt_store.specs.declared.slots.Place.{Place}
-use Rattle.ckpt_store.specs.Histories.{IsRightSave}
+use Rattle.audit_model.proofs.Filtered.{each_passes, each_rises}
+use Rattle.audit_model.proofs.ListFacts.{find_passes}
+use Rattle.audit_statement.specs.Checkpoint.{job_digest}
+use Rattle.audit_statement.specs.Slots.{IsHonestSlot, opening, slot_of}
+use Rattle.audit_model.specs.declared.place.Place.{Place}
+use Rattle.audit_statement.specs.Histories.{IsRightSave}
 use Rattle.ckpt_store.specs.Laws.{HonestSlotsOpenRight, RightIsHonest}
-use Rattle.draw_definitions.specs.Draw.{draw}
-use Rattle.tally_desk.specs.InTurn.{saves_of}
-use Rattle.word_definitions.specs.Words.{setting_of}
-use Rattle.note_definitions.specs.Note.{Ending, write_fault, stopped, save_fault}
+use Rattle.audit_statement.specs.Draw.{draw}
+use Rattle.audit_statement.specs.InOrder.{saves_of}
+use Rattle.audit_statement.specs.Words.{setting_of}
+use Rattle.audit_statement.specs.Note.{Ending, write_fault, stopped, save_fault}
 use Rattle.audit_statement.specs.Causes.{IsTheJob}
 use Rattle.audit_statement.specs.Chain.{AreHonestOf, AreSavesWhere, StaysHonest, TriedRightly, TriesOver, has_walked}
 use Rattle.audit_statement.specs.Status.{status_of}
 use Rattle.audit_laws.proofs.Held.{as_many_as_due, later_hold_more}
-use Rattle.audit_io.specs.State.{Stream}
-use Rattle.audit_io.specs.Told.{IfBothTold, IfTold}
+use Rattle.audit_model.specs.State.{Stream}
+use Rattle.audit_model.specs.Told.{IfBothTold, IfTold}
 use Rattle.audit_statement.specs.Endings.{Cause, EndsFor, IsOpening, IsOpeningOrFound, IsPartly, IsPrepared, IsTryOf, LeavesUntouched, NoSaveFailed, SameUnless, SavesAll, SavesInTurn, SavesInTurnAt, SavesWhere, TriesOf, TriesTold, count_of_saves, full_of, last_place, marks_of, StartsFrom, TellsOpening, is_walking, passes, saves}
 use Rattle.audit_statement.specs.Headline.{WritesWhole}
 use Rattle.audit_statement.specs.World.{World}
-use Rattle.audit_steps.proofs.Starting.{none_right, opening_known, opening_told}
-use Rattle.audit_steps.proofs.Running.{kept_id, rising_apart}
+use Rattle.audit_laws.proofs.Starting.{none_right, opening_known, opening_told}
+use Rattle.audit_laws.proofs.Running.{kept_id, rising_apart}
 use Rattle.audit_laws.proofs.Statuses.{job_is}
 
 -- ---- all outcomes of a run are right where those of its opening are
 
+-- what holds of all outcomes holds of the one that is found
 find_all : (P : Outcome → Type 0) (test : Outcome → Bool) (os : List Outcome) (o : Outcome) → All P os → find test os ≡ Some o → P o
 find_all P test [] o all e = cc
 find_all P test (x ∷ xs) o all e = by (test x) refl (find_all P test xs o (λ k d inside. all (suc k) d (omega arith)))
@@ -107,6 +108,7 @@ module _ (law : HonestSlotsOpenRight) (job : Job) where
 
 -- ---- what a run leaves
 
+-- a count rose or did not
 pub rises_or_not : (before now : ℕ) → Rose before now ⊎ (Rose before now → ⊥)
 rises_or_not before now = by (cases_order (min (before + 1) (2 ^ 64 - 1)) now)
   where
@@ -115,6 +117,7 @@ rises_or_not before now = by (cases_order (min (before + 1) (2 ^ 64 - 1)) now)
     by (inr (inl l)) = inl (omega arith)
     by (inr (inr l)) = inr (λ r. absurd (omega arith))
 
+-- what holds where two values are told holds of the two
 both_known : {A : Type 0} (a b : Option A) (p q : A) (P : A → A → Type 0) → a ≡ Some p → b ≡ Some q → IfBothTold a b P → P p q
 both_known a b p q P e f h = subst (λ x. IfBothTold x (Some q) P) e (subst (λ y. IfBothTold a y P) f h)
 
@@ -123,6 +126,7 @@ either_way : (n : ℕ) → ((n == 0) || not (n == 0)) ≡ true
 either_way zero = refl
 either_way (suc n) = ap (λ (b : Bool). b || not b) (ne_eqb (suc n) 0 (λ e. absurd (omega (arith, e))))
 
+-- whatever the number of posts, at least one save is tried
 some_save : (posts every : ℕ) → 1 ≤ saves_of posts every
 some_save posts every = by (posts / every) refl
   where
@@ -204,6 +208,7 @@ module _ (law : HonestSlotsOpenRight) (honestly : RightIsHonest) (words : List (
   stays_at job t (Some save_fault) c u = λ honest calm. absurd (calm c.rose)
   stays_at job t r c u = unchanged job u.slots
 
+-- a call that ends in one of the ways, from honest slots, leaves honest slots
 pub stays_honest : HonestSlotsOpenRight → RightIsHonest → (words : List (List ℕ)) (before after : World) (n m : Stream) (status : ℕ) → EndsFor words before after n m status
     → WritesWhole words before after status → StaysHonest words before after status
 stays_honest law honestly words before after n m status e w = record {
@@ -306,5 +311,6 @@ module _ (law : HonestSlotsOpenRight) (words : List (List ℕ)) (before after : 
   tried_at job t (Some save_fault) e c u = subst Tried (job_is words before after job c.job t c.prepared) (tried_all_of c.job c.outcomes c.saving (ap has_walked e) c.opened c.tried)
   tried_at job t r e c u = tried_none job (idle_at (saves job.setting) (ap has_walked e)) u.tried u.save_faults
 
+-- each save that such a call tried is of right outcomes
 pub tried_rightly : HonestSlotsOpenRight → (words : List (List ℕ)) (before after : World) (n m : Stream) (status : ℕ) → EndsFor words before after n m status → TriedRightly words before after status
 tried_rightly law words before after n m status e job p t was = tried_at law words before after p status was job t e.reason e.status_is e.cause e.untouched

@@ -1,28 +1,30 @@
 -- What one call gathers of folders that were reached leaves slots that were reached.
 use Rattle.std.proofs.Common.{◌≡◌, ◌∙◌, ℕ, zero, suc, ◌<◌, Bool, true, false, List, [], ◌∷◌, Option, Some, None, refl, sym, subst, arith}
 use Rattle.std.proofs.lemmas.List.Elements.{All-head, All-tail}
-use Rattle.audit_io.specs.Slots.{HoldsBytes, KeepsOther, Pair, other_stored, stored}
-use Rattle.audit_io.specs.State.{Kept}
-use Rattle.audit_io.specs.Told.{IfBothTold, IfTold}
+use Rattle.audit_model.specs.Pair.{HoldsBytes, KeepsOther, Pair, other_stored, stored}
+use Rattle.audit_model.specs.State.{Kept}
+use Rattle.audit_model.specs.Told.{IfBothTold, IfTold}
 use Rattle.audit_model.specs.declared.outcome.Outcome.{Outcome}
 use Rattle.audit_model.specs.Job.{Job}
-use Rattle.checkpoint_definitions.specs.Checkpoint.{checkpoint, job_digest}
-use Rattle.checkpoint_definitions.specs.Slots.{IsAfterStop, Slot, absent, broken, newest, opening_of, other, ours, outcomes_of_slot, place_beside, slot_of}
-use Rattle.gathered_slots.specs.declared.finding.Finding.{Finding}
-use Rattle.gathered_slots.specs.declared.finding.Finding.TheVariants as finding
-use Rattle.gathered_slots.specs.Findings.{AreFound, Finds, HasSeen, IsFound}
-use Rattle.gathered_slots.specs.Gives.{Gives, damaged, gives, has_broken, nothing, other_job, outcomes, slot_gives, slots_give}
-use Rattle.gathered_slots.specs.Whole.{HasBegun, IsSavedIf, IsSavedUnion}
+use Rattle.audit_statement.specs.Checkpoint.{checkpoint, job_digest}
+use Rattle.audit_statement.specs.Slots.{IsAfterStop, Slot, absent, broken, newest, opening_of, other, ours, outcomes_of_slot, place_beside, slot_of}
+use Rattle.ckpt_store.specs.declared.finding.Finding.{Finding}
+use Rattle.ckpt_store.specs.declared.finding.Finding.TheVariants as finding
+use Rattle.ckpt_store.specs.Findings.{AreFound, Finds, HasSeen, IsFound}
+use Rattle.ckpt_store.specs.Gives.{Gives, damaged, gives, has_broken, nothing, other_job, outcomes, slot_gives, slots_give}
+use Rattle.ckpt_store.specs.Whole.{HasBegun, IsSavedIf, IsSavedUnion}
 use Rattle.audit_laws.specs.Gathered.{AreAllReached, AreGathered, AreReached, GatheringsReach, Hold, IsSavedOver, after_gathering, begun, held, united}
 
 -- ---- what slots give and what they hold
 
+-- a slot that gives outcomes holds them
 slot_holds : (slot : Slot) (os : List Outcome) → slot_gives slot ≡ outcomes os → outcomes_of_slot slot ≡ Some os
 slot_holds absent os e = cc
 slot_holds (broken f) os e = cc
 slot_holds (other d g) os e = cc
 slot_holds (ours g kept) os e = cc
 
+-- slots that give outcomes open with them
 slots_hold : (first second : Slot) (n : Option ℕ) (os : List Outcome) → slots_give first second n ≡ outcomes os → opening_of first second n ≡ Some os
 slots_hold first second (Some zero) os e = slot_holds first os e
 slots_hold first second (Some (suc n)) os e = slot_holds second os e
@@ -135,6 +137,7 @@ module _ (job : Job) where
       let same : p ≡ q = cc in
       subst (AreReached job) same reached
 
+-- what a gathering leaves of folders that were reached was reached
 pub gatherings_reach : GatheringsReach
 gatherings_reach job saves before after folders told p q g was is reached all =
     let below : g.place.0 < 2 =

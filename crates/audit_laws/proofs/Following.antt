@@ -5,7 +5,7 @@ use Rattle.audit_statement.specs.Early.{EndsEarly}
 use Rattle.audit_statement.specs.Endings.{EndsFor}
 use Rattle.audit_statement.specs.Headline.{WritesWhole}
 use Rattle.audit_statement.specs.Left.{LeavesAlone}
-use Rattle.audit_io.specs.State.{Stream}
+use Rattle.audit_model.specs.State.{Stream}
 use Rattle.audit_statement.specs.World.{World}
 use Rattle.audit_laws.proofs.Alone.{leaves_alone}
 use Rattle.audit_laws.proofs.Causing.{is_complete}
@@ -20,6 +20,7 @@ pub record Follows (words : List (List ℕ)) (before after : World) (status : �
   pub left_alone : LeavesAlone words before after status
   pub early : EndsEarly words before after status
 
+-- how a call ended follows from what it read and what failed
 pub follows : (words : List (List ℕ)) (before after : World) (n m : Stream) (status : ℕ) → EndsFor words before after n m status → Follows words before after status
 follows words before after n m status e = record {
   written = writes_whole words before after n m status e;

@@ -3,25 +3,25 @@ use Rattle.std.proofs.Common.{◌≡◌, ◌⊎◌, inl, inr, ◌∙◌, ℕ, Bo
 use Rattle.std.proofs.lemmas.Bool.{cases_lt}
 use Rattle.std.proofs.lemmas.List.{take_all}
 use Rattle.std.proofs.lemmas.Slice.Eq.{bytes_eq-Decides}
-use Rattle.audit_io.specs.Slots.{Pair, Stored, stored}
+use Rattle.audit_model.specs.Pair.{Pair, Stored, stored}
 use Rattle.audit_model.specs.declared.outcome.Outcome.{Outcome}
 use Rattle.audit_model.specs.First.{first_below}
 use Rattle.audit_model.specs.Job.{Job}
 use Rattle.audit_model.specs.Run.{IsHonest}
 use Rattle.audit_model.specs.Trajectory.{Draws}
-use Rattle.checkpoint_definitions.specs.Checkpoint.{IsCheckpoint, job_digest}
-use Rattle.checkpoint_definitions.specs.Slots.{IsHonestSlot, slot_of}
+use Rattle.audit_statement.specs.Checkpoint.{IsCheckpoint, job_digest}
+use Rattle.audit_statement.specs.Slots.{IsHonestSlot, slot_of, IsNotOurs}
 use Rattle.ckpt_format.specs.declared.decode.Checkpoint.{Checkpoint}
 use Rattle.ckpt_format.proofs.Made.{none-from_checkpoint}
 use Rattle.ckpt_format.proofs.Stated.{checkpoints_are_read, checkpoints_have_length}
-use Rattle.ckpt_store.specs.Fitting.{is_unfit, judged_digest, judged_ours}
-use Rattle.ckpt_store.specs.Histories.{IsEnded, SavesLeaveHonestSlots}
-use Rattle.ckpt_store.specs.Laws.{IsNotOurs, StopsLeaveHonestSlots}
+use Rattle.ckpt_store.specs.Fitting.{is_unfit, slot_judged_digest, slot_judged_ours}
+use Rattle.audit_statement.specs.Histories.{IsEnded}
+use Rattle.ckpt_store.specs.Laws.{SavesLeaveHonestSlots, StopsLeaveHonestSlots}
 use Rattle.ckpt_store.proofs.Judged.{slot_of_read}
 use Rattle.ckpt_store.proofs.Prefixes.{cut_is_broken}
-use Rattle.draw_definitions.specs.Draw.{draw}
-use Rattle.gathered_slots.specs.Laws.{HonestSlotsGiveHonestOutcomes}
-use Rattle.gathering.specs.Laws.{UnionsAreHonest}
+use Rattle.audit_statement.specs.Draw.{draw}
+use Rattle.ckpt_store.specs.GatheredLaws.{HonestSlotsGiveHonestOutcomes}
+use Rattle.outcome_book.specs.Laws.{UnionsAreHonest}
 use Rattle.audit_statement.specs.Chain.{AreHonestOf}
 use Rattle.audit_laws.specs.Gathered.{AreGathered, AreReached, GatheredRunsWriteOneReport, IsSavedOver, after_gathering, after_run, begun, held, united}
 use Rattle.audit_laws.proofs.Reruns.{chains_write_one_report, event_stays}
@@ -35,7 +35,7 @@ module _ (job : Job) (draws : Draws) (digest : List ℕ) (generation : ℕ) (out
   abbrev kept : Checkpoint
   kept = record { version = 2; digest = digest; generation = generation; outcomes = record { items = outcomes; spare = 0 } }
 
-  judged_honest : (unfit : Option ℕ) → IsHonestSlot job draws (judged_ours kept unfit)
+  judged_honest : (unfit : Option ℕ) → IsHonestSlot job draws (slot_judged_ours kept unfit)
   judged_honest None = honest
   judged_honest (Some place) = tt
 
@@ -43,7 +43,7 @@ module _ (job : Job) (draws : Draws) (digest : List ℕ) (generation : ℕ) (out
   whole_is_honest bytes is =
       let size = (checkpoints_have_length bytes 2 digest generation outcomes is).1 in
       let read = slot_of_read job digest bytes kept size (none-from_checkpoint bytes 2 digest generation outcomes is) (checkpoints_are_read bytes 2 digest generation outcomes is) in
-      subst (IsHonestSlot job draws) (sym (ap (judged_digest job kept) ((bytes_eq-Decides digest digest).1 refl)) ∙ read)
+      subst (IsHonestSlot job draws) (sym (ap (slot_judged_digest job kept) ((bytes_eq-Decides digest digest).1 refl)) ∙ read)
       (judged_honest (first_below (length outcomes) (is_unfit job outcomes)))
 
   -- what a save of them may leave in its slot
@@ -65,6 +65,7 @@ module _ (job : Job) (draws : Draws) (digest : List ℕ) (generation : ℕ) (out
   ended_leave false bytes before after sound (inr (inl first)) = first_leave bytes before after first.0 sound first.1
   ended_leave false bytes before after sound (inr (inr none)) = inr (inl none)
 
+-- a gathering of honest outcomes leaves honest slots
 gathering_stays : StopsLeaveHonestSlots → (job : Job) (outcomes : List Outcome) (p q : Pair) → IsHonest job (draw job.setting.key) outcomes → IsSavedOver job outcomes p q
     → AreHonestOf job p → AreHonestOf job q
 gathering_stays law job outcomes p q honest s slots =
@@ -89,6 +90,7 @@ module _ (gives : HonestSlotsGiveHonestOutcomes) (unite : UnionsAreHonest) (save
     gathered_is_honest outcomes (united some others _ one other is) =
         unite job (draw job.setting.key) some others outcomes (gathered_is_honest some one) (gathered_is_honest others other) is
 
+-- over any number of folders and gatherings, each run that ends well has written one thread's report
 pub gathered_runs_write_one_report : HonestSlotsGiveHonestOutcomes → UnionsAreHonest → SavesLeaveHonestSlots → StopsLeaveHonestSlots → GatheredRunsWriteOneReport
 gathered_runs_write_one_report gives unite saves stops job p reached =
     let honest = reached_is_honest gives unite saves stops job p reached in

@@ -4,21 +4,21 @@ use Rattle.std.proofs.lemmas.Bool.{ne_eqb}
 use Rattle.std.proofs.lemmas.List.{length-map, length-take, map-append}
 use Rattle.std.proofs.lemmas.List.Elements.{All-cons, All-contains_itself, All-head, All-nil, All-tail, Contains-append_left}
 use Rattle.std.proofs.lemmas.List.Sorted.{All-permutation, Contains-permutation, length_permutation}
-use Rattle.audit_io.specs.Slots.{Pair}
-use Rattle.audit_io.specs.Tries.{Try}
+use Rattle.audit_model.specs.Pair.{Pair}
+use Rattle.audit_model.specs.Tries.{Try}
 use Rattle.audit_model.specs.declared.outcome.Outcome.{Outcome}
 use Rattle.audit_model.specs.Job.{Job}
 use Rattle.audit_model.specs.Run.{run_ids}
 use Rattle.audit_model.specs.Trajectory.{outcome}
-use Rattle.ckpt_store.specs.declared.slots.Place.{Place}
-use Rattle.draw_definitions.specs.Draw.{draw}
-use Rattle.desk_crew.specs.InOrder.{AreSavesFrom, IsSaveOfIds, last_succeeded_from, place_after, taken_in}
-use Rattle.tally_desk.specs.InTurn.{saves_of}
+use Rattle.audit_model.specs.declared.place.Place.{Place}
+use Rattle.audit_statement.specs.Draw.{draw}
+use Rattle.audit_statement.specs.InOrder.{AreSavesFrom, IsSaveOfIds, last_succeeded_from, place_after, taken_in, saves_of}
 use Rattle.audit_statement.specs.Chain.{IsHeldBy}
 use Rattle.audit_statement.specs.Endings.{AreRunSaves, count_of_saves, first_place}
 
 -- ---- lists
 
+-- an item that is related to all others, before items that are related by pairs, leaves all related by pairs
 pairs_cons : {A : Type 0} (R : A → A → Type 0) (x : A) (xs : List A) → All (R x) xs → AllPairs R xs → AllPairs R (x ∷ xs)
 pairs_cons R x xs first rest zero zero d before inside = absurd (omega arith)
 pairs_cons R x xs first rest zero (suc j) d before inside = first j d (omega arith)
@@ -32,6 +32,7 @@ take_more (suc a) zero l le = absurd (omega arith)
 take_more (suc a) (suc b) [] le = ([], refl)
 take_more (suc a) (suc b) (x ∷ l) le = let more = take_more a b l (omega arith) in (more.0, ap (λ xs. x ∷ xs) more.1)
 
+-- more groups of a size have no fewer members
 more_groups : (every n m : ℕ) → n ≤ m → n * every ≤ m * every
 more_groups every zero m le = (let none : 0 * every ≡ 0 = omega arith in omega (arith, none))
 more_groups every (suc n) zero le = absurd (omega arith)

@@ -2,23 +2,26 @@
 use Rattle.std.proofs.Common.{◌≡◌, ◌⊎◌, inl, inr, ℕ, zero, suc, ◌<◌, ◌≤◌, true, List, [], ◌∷◌, ◌++◌, get_or, length, refl, sym, ◌∙◌, subst, All, AllPairs, Contains, arith}
 use Rattle.std.proofs.lemmas.Bool.{true≢false}
 use Rattle.std.proofs.lemmas.List.Elements.{All-cons, All-head, All-nil, All-tail}
-use Rattle.audit_io.specs.Slots.{Pair}
-use Rattle.audit_io.specs.Tries.{Try}
+use Rattle.audit_model.specs.Pair.{Pair}
+use Rattle.audit_model.specs.Tries.{Try}
 use Rattle.audit_model.specs.declared.outcome.Outcome.{Outcome}
 use Rattle.audit_model.specs.Job.{Job}
-use Rattle.checkpoint_definitions.specs.Checkpoint.{IsCheckpoint, job_digest}
-use Rattle.ckpt_store.specs.Histories.{HasFailed, KeepsNewest, SavesKeepTheNewest, stopped_in}
+use Rattle.audit_statement.specs.Checkpoint.{IsCheckpoint, job_digest}
+use Rattle.audit_statement.specs.Histories.{HasFailed, KeepsNewest, stopped_in}
+use Rattle.ckpt_store.specs.Laws.{SavesKeepTheNewest}
 use Rattle.audit_statement.specs.Chain.{IsHeldBy}
 use Rattle.audit_statement.specs.Endings.{IsTryOf, place_of}
 use Rattle.audit_laws.specs.Lost.{AreHeldIn, IsKeptIn, KeepsOpening, StopsLoseNothing}
 
 -- ---- a run that was stopped
 
+-- a run that is stopped has tried no more saves than one that is not
 stopped_length : (n : ℕ) (tries : List Try) → length (stopped_in n tries) ≤ length tries
 stopped_length n [] = omega arith
 stopped_length zero (t ∷ tries) = omega arith
 stopped_length (suc n) (t ∷ tries) = let rest = stopped_length n tries in omega (arith, rest)
 
+-- each save of a run that is stopped has the bytes of that of one that is not
 stopped_bytes : (n : ℕ) (tries : List Try) (k : ℕ) (d : Try) → k < length (stopped_in n tries) → (get_or (stopped_in n tries) k d).bytes ≡ (get_or tries k d).bytes
 stopped_bytes n [] k d inside = absurd (omega arith)
 stopped_bytes zero (t ∷ tries) zero d inside = refl
@@ -119,6 +122,7 @@ module _ (job : Job) where
         held = of.1.2;
       })
 
+-- no stop loses what was saved before
 pub stops_lose_nothing : SavesKeepTheNewest → StopsLoseNothing
 stops_lose_nothing law job before after p status told now t n q out =
     let keeps = law job (job_digest job) p q (place_of job p).0 (place_of job p).1 t.tries n refl t.in_turn out in

@@ -7,17 +7,17 @@ use Rattle.audit_model.specs.declared.setting.Command.TheVariants.{Check}
 use Rattle.audit_model.specs.Job.{Job}
 use Rattle.audit_model.specs.Run.{IsRight}
 use Rattle.audit_model.specs.Trajectory.{sequence}
-use Rattle.model_laws.proofs.Resumed.{full_is_sequence}
-use Rattle.draw_definitions.specs.Draw.{draw}
-use Rattle.note_definitions.specs.Note.{Ending, save_fault}
-use Rattle.text_definitions.specs.Report.{full_report, thread_report, check_text}
+use Rattle.audit_model.proofs.Resumed.{full_is_sequence}
+use Rattle.audit_statement.specs.Draw.{draw}
+use Rattle.audit_statement.specs.Note.{Ending, save_fault}
+use Rattle.audit_statement.specs.Report.{full_report, thread_report, check_text}
 use Rattle.audit_statement.specs.Causes.{IsTheJob}
 use Rattle.audit_statement.specs.Status.{status_of}
 use Rattle.audit_statement.specs.Endings.{Cause, EndsFor, WritesReport, WritesText, WritesOrStops, leaves_work, full_of}
 use Rattle.audit_statement.specs.Headline.{WritesOneThreads, StartsWith, WritesWhole}
-use Rattle.audit_io.specs.State.{Stream}
+use Rattle.audit_model.specs.State.{Stream}
 use Rattle.audit_statement.specs.World.{World}
-use Rattle.audit_steps.proofs.Starting.{every_id}
+use Rattle.audit_laws.proofs.Starting.{every_id}
 use Rattle.audit_laws.proofs.Statuses.{zero_only, job_is, report_of, opening_is, opening_at}
 
 module _ (words : List (List ℕ)) (before after : World) where
@@ -67,6 +67,7 @@ module _ (words : List (List ℕ)) (before after : World) where
       whole_report c.whole job c.job outcomes s (job_is words before after job c.job s.the_job c.prepared) none c.written
   nine_report job outcomes s none r c z = absurd (omega arith)
 
+-- a call that ends in one of the ways has written its text whole where its status says so
 pub writes_whole : (words : List (List ℕ)) (before after : World) (n m : Stream) (status : ℕ) → EndsFor words before after n m status → WritesWhole words before after status
 writes_whole words before after n m status e =
     subst (λ (s : ℕ). WritesWhole words before after s) (sym e.status_is) (record {

@@ -3,21 +3,21 @@ use Rattle.std.proofs.Common.{◌≡◌, ℕ, ◌<◌, ◌&&◌, Bool, true, fal
 use Rattle.std.proofs.lemmas.Bool.{and_right, both_ways}
 use Rattle.audit_model.specs.declared.setting.Setting.{Setting}
 use Rattle.audit_model.specs.Job.{Job}
-use Rattle.draw_definitions.specs.Draw.{draw}
-use Rattle.note_definitions.specs.Note.{Ending, load_fault, stopped, damaged, other_job, save_fault}
-use Rattle.word_definitions.specs.Words.{setting_of}
+use Rattle.audit_statement.specs.Draw.{draw}
+use Rattle.audit_statement.specs.Note.{Ending, load_fault, stopped, damaged, other_job, save_fault}
+use Rattle.audit_statement.specs.Words.{setting_of}
 use Rattle.audit_statement.specs.Causes.{IsTheJob}
 use Rattle.audit_statement.specs.Early.{EndsEarly}
 use Rattle.audit_statement.specs.Status.{status_of}
 use Rattle.audit_statement.specs.Endings.{Cause, EndsFor, is_walking, loads, StartsFrom, saves}
 use Rattle.audit_statement.specs.Headline.{StartsWith, WritesWhole}
 use Rattle.audit_statement.specs.Left.{LeavesAlone}
-use Rattle.audit_steps.specs.Runs.{StopsAlone}
-use Rattle.audit_io.specs.State.{Stream}
+use Rattle.audit_laws.specs.Runs.{StopsAlone}
+use Rattle.audit_model.specs.State.{Stream}
 use Rattle.audit_statement.specs.World.{World}
-use Rattle.audit_steps.proofs.Telling.{same_setting}
-use Rattle.audit_steps.proofs.Starting.{none_right, same_kept}
-use Rattle.audit_steps.proofs.Words.{accepted_words_stop_alone}
+use Rattle.audit_laws.proofs.Telling.{same_setting}
+use Rattle.audit_laws.proofs.Starting.{none_right, same_kept}
+use Rattle.audit_laws.proofs.Words.{accepted_words_stop_alone}
 
 module _ (setting : Setting) (alone : StopsAlone setting) where
   saves_nothing : saves setting ≡ false
@@ -53,6 +53,7 @@ module _ (words : List (List ℕ)) (before after : World) (setting : Setting) (e
   below_six (Some save_fault) c = absurd (here c.job.setting saves c.prepared.accepted.words_are (saves_nothing setting alone) c.saving)
   below_six r c = omega arith
 
+-- a call whose tests stop early has written when each of them stops
 pub ends_early : (words : List (List ℕ)) (before after : World) (n m : Stream) (status : ℕ) → EndsFor words before after n m status
     → WritesWhole words before after status → LeavesAlone words before after status → EndsEarly words before after status
 ends_early words before after n m status ends whole left = record {

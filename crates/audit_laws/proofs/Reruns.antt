@@ -8,9 +8,9 @@ use Rattle.audit_model.specs.Graph.{count_edges}
 use Rattle.std.specs.Ordering.{int_eq}
 use Rattle.std.specs.Io.KnownBytes.{Appends}
 use Rattle.std.proofs.Math.Path.{fun_ext}
-use Rattle.audit_io.specs.Faults.{Rose}
-use Rattle.audit_io.specs.Slots.{Pair, Stored}
-use Rattle.audit_io.specs.Tries.{Try}
+use Rattle.audit_model.specs.Faults.{Rose}
+use Rattle.audit_model.specs.Pair.{Pair, Stored}
+use Rattle.audit_model.specs.Tries.{Try}
 use Rattle.audit_model.specs.declared.outcome.Outcome.{Outcome}
 use Rattle.audit_model.specs.declared.outcome.Serial.{Serial}
 use Rattle.audit_model.specs.declared.setting.Ask.{Ask}
@@ -24,19 +24,19 @@ use Rattle.audit_model.specs.Serially.{place_and_ranks, serial_by, serial_of, se
 use Rattle.audit_model.specs.Step.{next}
 use Rattle.audit_model.specs.Stopping.{stops_by, stops_of}
 use Rattle.audit_model.specs.Trajectory.{Draws, bare, bin_of, four_values, in_tail, no_bins, outcome, outcome_by, outcome_with, plan_seats, plan_value, sequence, value_at, visit, whole}
-use Rattle.checkpoint_definitions.specs.Checkpoint.{checkpoint_fault, digest_name, edge_bytes, has_rules, job_digest, rule_bytes, score_code, stated_count, tail_code, unit_bytes}
-use Rattle.checkpoint_definitions.specs.Slots.{IsHonestSlot, Slot, absent, broken, checkpoint_limit, other, ours, outcome_in, slot_of, slot_of_bytes, slot_of_checkpoint, slot_of_digest, slot_of_ours}
-use Rattle.ckpt_store.specs.Histories.{AreCarriedOut, SavesKeepTheNewest, SavesLeaveHonestSlots, stopped_in}
-use Rattle.ckpt_store.specs.Laws.{IsNotOurs}
-use Rattle.draw_definitions.specs.Draw.{draw}
+use Rattle.audit_statement.specs.Checkpoint.{checkpoint_fault, digest_name, edge_bytes, has_rules, job_digest, rule_bytes, score_code, stated_count, tail_code, unit_bytes}
+use Rattle.audit_statement.specs.Slots.{IsHonestSlot, Slot, absent, broken, checkpoint_limit, other, ours, outcome_in, slot_of, slot_of_bytes, slot_of_checkpoint, slot_of_digest, slot_of_ours, IsNotOurs}
+use Rattle.audit_statement.specs.Histories.{AreCarriedOut, stopped_in}
+use Rattle.ckpt_store.specs.Laws.{SavesKeepTheNewest, SavesLeaveHonestSlots}
+use Rattle.audit_statement.specs.Draw.{draw}
 use Rattle.hex.specs.Hex.{encode_lower}
-use Rattle.text_definitions.specs.Report.{ends_lines, graph_line, line, population_line, report, rule_lines, serial_lines, setting_line, shift_line, stop_line, test_lines, thread_report, title_line, walk_lines}
+use Rattle.audit_statement.specs.Report.{ends_lines, graph_line, line, population_line, report, rule_lines, serial_lines, setting_line, shift_line, stop_line, test_lines, thread_report, title_line, walk_lines}
 use Rattle.audit_statement.specs.Chain.{AreHonestOf, ResumesHonestly, TriesOver}
-use Rattle.audit_io.specs.Told.{IfBothTold, IfTold}
+use Rattle.audit_model.specs.Told.{IfBothTold, IfTold}
 use Rattle.audit_statement.specs.Endings.{WritesReport, place_of}
 use Rattle.audit_statement.specs.Headline.{StartsWith, WritesOneThreads}
-use Rattle.audit_statement.specs.Rerun.{AreAlike, ChainsWriteOneReport, Event, HasWritten, IsEvent, IsLink, IsRunOver, Link, Manner, RerunsAreAlike, StopsKeepTheNewest, WroteOneThreads, asking, job_in, ran, rerun, slots_after, stopped}
-use Rattle.audit_steps.proofs.Starting.{opening_told}
+use Rattle.audit_statement.specs.Rerun.{FindTheSame, ChainsWriteOneReport, Event, HasWritten, IsEvent, IsLink, IsRunOver, Link, Manner, RerunsAreAlike, StopsKeepTheNewest, WroteOneThreads, asking, job_in, ran, rerun, slots_after, stopped}
+use Rattle.audit_laws.proofs.Starting.{opening_told}
 use Rattle.audit_laws.proofs.Chained.{rises_or_not}
 use Rattle.audit_laws.proofs.Statuses.{job_is, report_of}
 
@@ -281,6 +281,7 @@ module _ (job : Job) (manner : Manner) where
     one_slot = subst (IsHonestSlot again (draw job.setting.key)) (sym (slot_same p.one_slot)) (honest_slot (draw job.setting.key) _ h.one_slot);
   }
 
+-- how a job is run changes nothing of what it finds
 pub reruns_are_alike : RerunsAreAlike
 reruns_are_alike job manner = record {
   same_digest = digest_same job manner;
@@ -316,6 +317,7 @@ thread_report_same job manner same draws =
 
 -- ---- a stop
 
+-- a stop keeps the newest slot, or leaves a newer one
 pub stops_keep_the_newest : SavesKeepTheNewest → StopsKeepTheNewest
 stops_keep_the_newest law job before after p status told now t n q out =
     law job (job_digest job) p q (place_of job p).0 (place_of job p).1 t.tries n refl t.in_turn out
@@ -323,7 +325,7 @@ stops_keep_the_newest law job before after p status told now t n q out =
 -- ---- chains
 
 -- the job is a rerun of its rerun
-back_again : (job : Job) (l : Link) → AreAlike (job_in job l) job
+back_again : (job : Job) (l : Link) → FindTheSame (job_in job l) job
 back_again job l = reruns_are_alike (job_in job l) (own job job.setting.shift job.setting.serial)
 
 -- all that was tried, as it ended
@@ -388,14 +390,17 @@ module _ (law : SavesLeaveHonestSlots) (job : Job) (p : Pair) (l : Link) (honest
         asked_alike link (link.promised.written.save_failed (job_in job l) outcomes s (link.promised.chain.opens_right (job_in job l) outcomes s (resumes link.over)) z none);
   }
 
+-- each event leaves honest slots honest
 pub event_stays : SavesLeaveHonestSlots → (job : Job) (p : Pair) (e : Event) → AreHonestOf job p → IsEvent job p e → AreHonestOf job (slots_after e)
 event_stays law job p (ran l) honest is = link_stays law job p l honest is
 event_stays law job p (stopped l n q) honest is = stays_where law job p l honest is.over n q (is.carried (tries_of law job p l honest is.over))
 
+-- a run that ends well, from honest slots, has written one thread's report
 event_wrote : SavesLeaveHonestSlots → (job : Job) (p : Pair) (e : Event) → AreHonestOf job p → IsEvent job p e → HasWritten job e
 event_wrote law job p (ran l) honest is = link_wrote law job p l honest is
 event_wrote law job p (stopped l n q) honest is = tt
 
+-- so has each run of any chain
 pub chains_write_one_report : SavesLeaveHonestSlots → ChainsWriteOneReport
 chains_write_one_report law job p [] honest chain = tt
 chains_write_one_report law job p (e ∷ events) honest chain = (

@@ -6,24 +6,26 @@ use Rattle.audit_model.specs.declared.setting.Setting.{Setting}
 use Rattle.audit_model.specs.declared.outcome.Outcome.{Outcome}
 use Rattle.audit_model.specs.declared.setting.Command.{Command}
 use Rattle.audit_model.specs.declared.setting.Command.TheVariants.{Check, Run, Make, Plans}
-use Rattle.audit_io.specs.Slots.{Pair}
+use Rattle.audit_model.specs.Pair.{Pair}
 use Rattle.audit_model.specs.Job.{Job}
-use Rattle.model_laws.proofs.Results.{err_is_err, ok_is_no_err}
-use Rattle.note_definitions.specs.Note.{Ending, bad_words, too_many_bytes, bad_graph, bad_regions, bad_table, bad_plan, bad_plan_named, no_memory, read_fault, write_fault, load_fault, stopped, damaged, other_job, save_fault}
-use Rattle.word_definitions.specs.Words.{setting_of}
+use Rattle.audit_model.proofs.Results.{err_is_err, ok_is_no_err}
+use Rattle.audit_statement.specs.Note.{Ending, bad_words, too_many_bytes, bad_graph, bad_regions, bad_table, bad_plan, bad_plan_named, no_memory, read_fault, write_fault, load_fault, stopped, damaged, other_job, save_fault}
+use Rattle.audit_statement.specs.Words.{setting_of}
 use Rattle.audit_statement.specs.Accepted.{IsAccepted, IsRefused, judged}
 use Rattle.audit_statement.specs.Causes.{IsTold, IsTheJob, LeavesWork, LacksOpening, HasCauses}
 use Rattle.audit_statement.specs.Status.{status_of}
 use Rattle.audit_statement.specs.Endings.{Cause, EndsFor, LeavesUntouched, marks_of, IsDone, IsReadFault, IsWriteFault, IsLoadFault, IsSaveFault, IsStopped, IsPrepared, IsOpening, IsSlotsFault, WritesReport, WritesText, WritesOrStops, TellsOpening, leaves_work, is_walking}
-use Rattle.audit_io.specs.State.{Stream}
+use Rattle.audit_model.specs.State.{Stream}
 use Rattle.audit_statement.specs.World.{World}
 use Rattle.audit_laws.proofs.Causing.{same_job, not_refused, refused_at, accepted_at}
-use Rattle.audit_steps.proofs.Starting.{opening_known, undefined_known}
+use Rattle.audit_laws.proofs.Starting.{opening_known, undefined_known}
 
+-- an input that is refused has no job
 pub refused_is_err : (words : List (List ℕ)) (before : World) (setting : Setting) (bytes : List ℕ) (ending : Ending)
     → IsTold words before setting bytes → IsRefused words before.source.bytes ending → IsErr (judged setting bytes)
 refused_is_err words before setting bytes ending told refused = err_is_err _ ending (refused_at words before setting bytes ending told refused)
 
+-- an input that is accepted has a job
 pub accepted_is_no_err : (words : List (List ℕ)) (before : World) (setting : Setting) (bytes : List ℕ) (job : Job)
     → IsTold words before setting bytes → IsAccepted words before.source.bytes job → IsErr (judged setting bytes) → ⊥
 accepted_is_no_err words before setting bytes job told accepted = ok_is_no_err _ job (accepted_at words before setting bytes job told accepted)
@@ -252,6 +254,7 @@ module _ (words : List (List ℕ)) (before after : World) where
     eight = eight r c;
   }
 
+-- each status of a call that ends in one of the ways has its cause
 pub has_causes : (words : List (List ℕ)) (before after : World) (n m : Stream) (status : ℕ) → EndsFor words before after n m status → HasCauses words before after status
 has_causes words before after n m status e =
     subst (λ (s : ℕ). HasCauses words before after s) (sym e.status_is) (causes_at words before after e.reason e.cause e.untouched)

@@ -22,30 +22,24 @@ use Rattle.audit_model.specs.Label.{same_label, label_before}
 use Rattle.audit_model.specs.Parsed.{Parsed}
 use Rattle.audit_model.specs.Plan.{IsLegal}
 use Rattle.audit_model.specs.Trajectory.{hub}
-use Rattle.model_laws.proofs.Accepted.{accepted_is_legal}
-use Rattle.model_laws.proofs.Connected.{grows}
-use Rattle.model_laws.proofs.Mirror.{visit_stays_legal}
-use Rattle.model_laws.proofs.Below.{length-map_below, get_or-map_below, any_below_some}
-use Rattle.model_laws.proofs.Labels.{same_equal, same_itself}
-use Rattle.draw_definitions.specs.Draw.{draw}
-use Rattle.graph_definitions.specs.Reading.{Document, node_count, label_at, label_count, is_new_label, district_at, parsed, document, refusal, bad_part, accepted_or, of_root, of_json, reading}
-use Rattle.audit_statement.specs.Accepted.{IsAccepted, from_job, from_regions, from_parsed, from_bytes, judged, most_bytes, regions_by}
+use Rattle.audit_model.proofs.Accepted.{accepted_is_legal}
+use Rattle.audit_model.proofs.Connected.{grows}
+use Rattle.audit_model.proofs.Mirror.{visit_stays_legal}
+use Rattle.audit_model.proofs.Below.{length-map_below, get_or-map_below, any_below_some}
+use Rattle.audit_model.proofs.Labels.{same_equal}
+use Rattle.audit_laws.proofs.Judged.{from_job_is}
+use Rattle.audit_laws.proofs.Reading.{not_before_itself}
+use Rattle.audit_statement.specs.Draw.{draw}
+use Rattle.audit_statement.specs.Reading.{Document, node_count, label_at, label_count, is_new_label, district_at, parsed, document, refusal, bad_part, accepted_or, of_root, of_json, reading}
+use Rattle.audit_statement.specs.Accepted.{IsAccepted, from_job, from_regions, from_parsed, from_bytes, judged, most_bytes}
+use Rattle.audit_statement.specs.Regions.{regions_by}
 use Rattle.audit_statement.specs.Visits.{VisitsLegal}
 
 -- ---- labels
 
-eq_is_not_lt : (o : Ordering) → is_eq o ≡ true → is_lt o ≡ false
-eq_is_not_lt Less e = cc
-eq_is_not_lt Equal e = refl
-eq_is_not_lt Greater e = cc
-
--- no label is before itself
-not_before_itself : (a : Label) → label_before a a ≡ false
-not_before_itself (Whole a) = eq_is_not_lt (int_cmp a a) (same_itself (Whole a))
-not_before_itself (Word s) = eq_is_not_lt (slice_cmp nat_cmp s s) (same_itself (Word s))
-
 -- ---- the districts of the start plan
 
+-- a place below the bound is one of the list of values
 below_length : (x n : ℕ) (f : ℕ → Label) → x < n → x < length (map_below n f)
 below_length x n f l = omega (arith, l, length-map_below n f)
 
@@ -90,28 +84,34 @@ pub record IsReadOf (p : Parsed) (columns : Columns) : Type 0 where
   pub of : Document
   pub same : parsed of columns ≡ p
 
+-- what is accepted is what was read
 accepted_is : (p q : Parsed) (fault : Option GraphFault) → accepted_or p fault ≡ Ok q → p ≡ q
 accepted_is p q None e = cc
 accepted_is p q (Some f) e = cc
 
+-- what is read of a root is read of these columns
 of_root_is : (columns : Columns) (root : Data) (part : Option Part) (p : Parsed) → of_root columns root part ≡ Ok p → IsReadOf p columns
 of_root_is columns root None p e = record { of = document root; same = accepted_is _ p (refusal (document root) columns) e }
 of_root_is columns root (Some f) p e = cc
 
+-- what is read of JSON is read of these columns
 of_json_is : (columns : Columns) (root : Option Data) (p : Parsed) → of_json columns root ≡ Ok p → IsReadOf p columns
 of_json_is columns None p e = cc
 of_json_is columns (Some root) p e = of_root_is columns root (bad_part root) p e
 
+-- what a reading accepts is read of these columns
 read_is : (bytes : List ℕ) (columns : Columns) (p : Parsed) → reading bytes columns ≡ Ok p → IsReadOf p columns
 unfolding reading
 read_is bytes columns p e = of_json_is columns (cond (is_utf8 bytes) (read bytes) None) p e
 
 -- ---- the job
 
+-- a job that is made and has no fault is the one that is made
 made_is : (made job : Job) (fault : Option PlanFault) → job_or made fault ≡ Ok job → (fault ≡ None) × (made ≡ job)
 made_is made job None e = (refl, cc)
 made_is made job (Some f) e = cc
 
+-- the start plan of a job that is made of what is read is legal
 job_is_legal : (p : Parsed) (setting : Setting) (regions : List ℕ) (job : Job) → IsReadOf p setting.columns → job_of p setting regions ≡ Ok job → IsLegal job job.start
 unfolding job_of
 job_is_legal p setting regions job r e =
@@ -120,23 +120,23 @@ job_is_legal p setting regions job r e =
     subst (λ (j : Job). IsLegal j j.start) made.1
     (subst (λ (q : Parsed). IsLegal (job_from q setting regions) q.start) r.same (read_start_is_legal r.of setting.columns setting regions none))
 
-from_job_is : (r : Result Job PlanFault) (job : Job) → from_job r ≡ Ok job → r ≡ Ok job
-from_job_is (Ok made) job e = cc
-from_job_is (Err f) job e = cc
-
+-- the start plan of a job that is judged with its regions is legal
 from_regions_is : (setting : Setting) (p : Parsed) (r : Result (List ℕ) RegionFault) (job : Job) → IsReadOf p setting.columns → from_regions setting p r ≡ Ok job → IsLegal job job.start
 from_regions_is setting p (Ok regions) job read e = job_is_legal p setting regions job read (from_job_is (job_of p setting regions) job e)
 from_regions_is setting p (Err f) job read e = cc
 
+-- the start plan of a job that is judged of what is read is legal
 from_parsed_is : (setting : Setting) (bytes : List ℕ) (r : Result Parsed GraphFault) (job : Job) → reading bytes setting.columns ≡ r → from_parsed setting bytes r ≡ Ok job
     → IsLegal job job.start
 from_parsed_is setting bytes (Ok p) job is e = from_regions_is setting p (regions_by setting.region bytes) job (read_is bytes setting.columns p is) e
 from_parsed_is setting bytes (Err f) job is e = cc
 
+-- the start plan of a job that is judged of bytes is legal
 from_bytes_is : (setting : Setting) (bytes : List ℕ) (many : Bool) (job : Job) → from_bytes setting bytes many ≡ Ok job → IsLegal job job.start
 from_bytes_is setting bytes true job e = cc
 from_bytes_is setting bytes false job e = from_parsed_is setting bytes (reading bytes setting.columns) job refl e
 
+-- the start plan of each job that is accepted is legal
 accepted_start_is_legal : (setting : Setting) (bytes : List ℕ) (job : Job) → judged setting bytes ≡ Ok job → IsLegal job job.start
 unfolding judged
 accepted_start_is_legal setting bytes job e = from_bytes_is setting bytes (nat_lt most_bytes (length bytes)) job e

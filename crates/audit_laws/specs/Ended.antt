@@ -2,7 +2,7 @@
 use Rattle.std.specs.Prelude.{ℕ, List}
 use Rattle.audit_statement.specs.Endings.{EndsFor}
 use Rattle.audit_statement.specs.Promise.{KeepsItsPromise}
-use Rattle.audit_io.specs.State.{Stream}
+use Rattle.audit_model.specs.State.{Stream}
 use Rattle.audit_statement.specs.World.{World}
 
 -- a call that ended as it is to has kept all that the top call promises

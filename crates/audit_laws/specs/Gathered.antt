@@ -2,20 +2,19 @@
 -- This project's. A folder stands for its two slots. Into a folder others may be gathered that were gathered into themselves.
 use Rattle.std.specs.Prelude.{◌≡◌, ℕ, Bool, List, Option, Some}
 use Rattle.std.specs.List.{All}
-use Rattle.audit_io.specs.Slots.{Pair}
-use Rattle.audit_io.specs.State.{Kept}
-use Rattle.audit_io.specs.Tries.{Try}
+use Rattle.audit_model.specs.Pair.{Pair}
+use Rattle.audit_model.specs.State.{Kept}
+use Rattle.audit_model.specs.Tries.{Try}
 use Rattle.audit_model.specs.declared.outcome.Outcome.{Outcome}
 use Rattle.audit_model.specs.Job.{Job}
-use Rattle.checkpoint_definitions.specs.Checkpoint.{IsCheckpoint, job_digest}
-use Rattle.checkpoint_definitions.specs.Slots.{newest, opening_of, slot_of}
-use Rattle.ckpt_store.specs.Histories.{IsCarriedOut}
-use Rattle.ckpt_store.specs.Laws.{IsNotOurs}
+use Rattle.audit_statement.specs.Checkpoint.{IsCheckpoint, job_digest}
+use Rattle.audit_statement.specs.Slots.{newest, opening_of, slot_of, IsNotOurs}
+use Rattle.audit_statement.specs.Histories.{IsCarriedOut}
 use Rattle.audit_statement.specs.Chain.{AreHonestOf}
 use Rattle.audit_statement.specs.Rerun.{AllHaveWritten, Event, IsChain, IsEvent, slots_after}
-use Rattle.gathered_slots.specs.declared.told.Told.{Told}
-use Rattle.gathered_slots.specs.Whole.{IsGathering}
-use Rattle.gathering.specs.Union.{IsUnion}
+use Rattle.ckpt_store.specs.declared.told.Told.{Told}
+use Rattle.ckpt_store.specs.Whole.{IsGathering}
+use Rattle.outcome_book.specs.Union.{IsUnion}
 
 -- the newest of these slots holds these outcomes of the job, and none where both are absent
 abbrev pub Hold : Job → Pair → List Outcome → Type 0

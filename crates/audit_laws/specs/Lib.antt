@@ -1,3 +1,12 @@
+pub mod Calls
+pub mod Determined
 pub mod Ended
-pub mod Lost
 pub mod Gathered
+pub mod Jobs
+pub mod Lines
+pub mod Lost
+pub mod One
+pub mod Promised
+pub mod Runs
+pub mod Taken
+pub mod Texts

@@ -1,12 +1,12 @@
 -- Nothing that was saved is lost.
 use Rattle.std.specs.Prelude.{◌≡◌, ◌⊎◌, ℕ, true, List, Some}
 use Rattle.std.specs.List.{All, Contains}
-use Rattle.audit_io.specs.Slots.{Pair}
-use Rattle.audit_io.specs.Tries.{Try}
+use Rattle.audit_model.specs.Pair.{Pair}
+use Rattle.audit_model.specs.Tries.{Try}
 use Rattle.audit_model.specs.declared.outcome.Outcome.{Outcome}
 use Rattle.audit_model.specs.Job.{Job}
-use Rattle.checkpoint_definitions.specs.Checkpoint.{IsCheckpoint, job_digest}
-use Rattle.ckpt_store.specs.Histories.{AreCarriedOut, IsNotIntact, newest_bytes, stopped_in}
+use Rattle.audit_statement.specs.Checkpoint.{IsCheckpoint, job_digest}
+use Rattle.audit_statement.specs.Histories.{AreCarriedOut, IsNotIntact, newest_bytes, stopped_in}
 use Rattle.audit_statement.specs.Chain.{TriesOver}
 use Rattle.audit_statement.specs.Endings.{TellsOpening}
 use Rattle.audit_statement.specs.World.{World}

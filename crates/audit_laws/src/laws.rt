@@ -5,12 +5,12 @@ ghost use Rattle.audit_laws.specs.Lost.{StopsLoseNothing};
 ghost use Rattle.audit_laws.specs.Gathered.{GatheredRunsWriteOneReport, GatheringsReach};
 ghost use Rattle.audit_statement.specs.Rerun.{ChainsWriteOneReport, RerunsAreAlike, StopsKeepTheNewest};
 
+use ckpt_store::gathered_laws::honest_slots_give_honest_outcomes;
 use ckpt_store::laws::{
     a_stop_in_a_save_leaves_honest_slots, honest_slots_open_right, right_outcomes_are_honest,
     saves_keep_the_newest, saves_leave_honest_slots,
 };
-use gathered_slots::laws::honest_slots_give_honest_outcomes;
-use gathering::laws::unions_are_right;
+use outcome_book::union_laws::unions_are_right;
 
 /// A call that ended for a reason, and left what that reason leaves, has kept all that the top call promises.
 pub fn ended_calls_keep_their_promise()
@@ -63,7 +63,7 @@ pub fn gathered_runs_write_one_report()
     a_stop_in_a_save_leaves_honest_slots();
 }
 
-/// What one call of `gathered_slots::whole::gather` leaves in slots that were reached, of folders that were, was reached.
+/// What one call of `ckpt_store::whole::gather` leaves in slots that were reached, of folders that were, was reached.
 pub fn gatherings_reach()
     ensures { GatheringsReach }
 {}

@@ -1,9 +1,17 @@
-//! What follows from how calls ended: laws of the definitions of the top call's contract.
+//! What follows from how calls ended: laws of the definitions of the top call's contract, up to the plain statement of what a call does, and
+//! below `examples` small cases of all definitions. No function here does anything: each is a contract.
 #![tactic(auto)]
 
+pub mod examples;
+pub mod graph_laws;
 pub mod laws;
+pub mod plain_laws;
+pub mod step_laws;
 
+pub use graph_laws::{given_jobs_are_of_one_graph, given_jobs_are_taken, read_jobs_are_given};
 pub use laws::{
     chains_write_one_report, ended_calls_keep_their_promise, gathered_runs_write_one_report,
     gatherings_reach, reruns_are_alike, stops_keep_the_newest, stops_lose_nothing,
 };
+pub use plain_laws::{promised_calls_audit_plainly, promised_calls_end_plainly, reports_are_one};
+pub use step_laws::accepted_jobs_are_runs;

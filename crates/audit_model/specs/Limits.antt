@@ -1,5 +1,5 @@
 -- The limits within which a graph, its counts and regions, its start plan and a setting are accepted.
-use Rattle.std.specs.Prelude.{◌≡◌, ◌≢◌, ◌⊎◌, ℕ, ◌+◌, ◌^◌, ◌<◌, ◌≤◌, true, false, IsTrue, List, [], length, slice_index}
+use Rattle.std.specs.Prelude.{◌≡◌, ◌≢◌, ◌⊎◌, ℕ, ◌+◌, ◌^◌, ◌<◌, ◌≤◌, true, List, [], length, slice_index}
 use Rattle.std.specs.List.{All, AllPairs}
 use Rattle.audit_model.specs.declared.outcome.Counts.{Counts}
 use Rattle.audit_model.specs.declared.setting.Command.{Command}
@@ -7,7 +7,6 @@ use Rattle.audit_model.specs.declared.setting.Command.TheVariants.{Check, Run, M
 use Rattle.audit_model.specs.declared.setting.Setting.{Setting}
 use Rattle.audit_model.specs.Graph.{Graph, IsGraph, count_edges}
 use Rattle.audit_model.specs.Job.{Job}
-use Rattle.audit_model.specs.Power.{is_power_of_two}
 
 -- the most units, edges, districts and regions of a graph
 abbrev pub most_units : ℕ
@@ -89,7 +88,7 @@ IsSettingOf Make s = IsRunSetting s
 IsSettingOf Plans s = IsRunSetting s
 
 -- a part is one of the parts, and where there are several, what is walked of one is saved
-pub record IsPart (s : Setting) : Type 0 where
+pub record HasPart (s : Setting) : Type 0 where
   pub some : 1 ≤ s.parts
   pub few : s.parts ≤ most_trajectories
   pub one_of : s.part < s.parts
@@ -102,16 +101,8 @@ pub record IsSetting (s : Setting) : Type 0 where
   pub max_cut : s.max_cut ≤ most_edges
   pub some_splits : 1 ≤ s.max_split
   pub few_splits : s.max_split ≤ most_districts
-  pub part : IsPart s
+  pub part : HasPart s
   pub command : IsSettingOf s.command s
-
--- what the words see to beside the limits: a test that stops early has ends to test and neither saves nor resumes, and the run of the
--- serial test has as many plans as a power of two
-pub record AreTestsSound (s : Setting) : Type 0 where
-  pub some_ends : 1 ≤ s.stop → 1 ≤ s.ends
-  pub no_saves : 1 ≤ s.stop → s.save_every ≡ 0
-  pub fresh : 1 ≤ s.stop → s.resume ≡ false
-  pub even : IsTrue s.serial → IsTrue (is_power_of_two (s.steps + 1))
 
 -- no regions, or one of at most 5,000 for each unit
 pub record AreRegions (units : ℕ) (regions : List ℕ) : Type 0 where

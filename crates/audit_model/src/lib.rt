@@ -1,12 +1,15 @@
-//! The plain types of a districting audit, and the definitions that its contracts cite.
+//! The plain types of a districting audit, the definitions that contracts cite and that need no other crate, the laws of these
+//! definitions, and the lemmas that several crates need, each once.
 #![tactic(auto)]
 
 pub mod buffers;
 pub mod copies;
 pub mod fault;
+pub mod laws;
 pub mod lists;
 pub mod memory;
 pub mod outcome;
+pub mod place;
 pub mod plans;
 pub mod rules;
 pub mod setting;
@@ -15,11 +18,16 @@ pub mod text;
 
 pub use buffers::{Bytes, OutcomeList};
 pub use fault::{
-    CkptFault, Column, GraphFault, Name, Part, PlanFault, RegionFault, TableFault, WordFault,
+    CkptFault, Column, GraphFault, Name, Part, PlanFault, PlansFault, RegionFault, TableFault,
+    WordFault,
+};
+pub use laws::{
+    bare_outcomes_have_no_bins, honest_runs_go_on_rightly, visits_stay_legal, ways_are_symmetric,
 };
 pub use lists::{AskList, LabelList, NumList, UnitList};
 pub use memory::Memory;
 pub use outcome::{Counts, Did, Event, Outcome, Serial, Stop, SumsView};
+pub use place::Place;
 pub use plans::{Assigned, AssignedList};
 pub use rules::Rules;
 pub use setting::{Ask, Columns, Command, Label, Score, Setting, Tail};

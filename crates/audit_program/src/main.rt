@@ -4,7 +4,9 @@
 
 use audit_io::file_keeper::FileKeeper;
 use audit_io::gate::FreeGate;
+use audit_io::patient::Patient;
 use audit_io::std_adapters::{ReadSource, WriteSink};
+use audit_run::Runtime;
 use audit_run::plain::audit_plainly;
 use std::process::ExitCode;
 use std::rt::Env;
@@ -38,18 +40,22 @@ fn main(rt: HostRuntime) -> ExitCode {
             };
         }
     };
-    let mut graph = ReadSource::new(rt.stdin());
-    let mut out = WriteSink::new(rt.stdout());
-    let mut note = WriteSink::new(rt.stderr());
+    let mut graph = ReadSource::new(Patient::of_reader(rt.stdin(), &rt));
+    let mut out = WriteSink::new(Patient::of_writer(rt.stdout(), &rt));
+    let mut note = WriteSink::new(Patient::of_writer(rt.stderr(), &rt));
+    let gate = FreeGate::new();
+    let lent = Runtime {
+        threads: &rt,
+        alloc: rt.alloc(),
+        gate: &gate,
+    };
     let (status, _keeper) = audit_plainly(
-        &rt,
-        rt.alloc(),
+        &lent,
         words.as_slice(),
         &mut graph,
         &mut out,
         &mut note,
         FileKeeper::new(&rt),
-        &FreeGate::new(),
     );
     ExitCode::from(status)
 }

@@ -1,1 +1,9 @@
+mod Ending
+mod Following
+mod Likeness
+mod Pairing
+mod Placing
+mod Preparing
 mod Surely
+mod Visiting
+mod Words

@@ -1,15 +1,15 @@
 -- Where no count rises, whatever may begin ends well.
 use Rattle.std.proofs.Common.{ℕ, List, arith}
-use Rattle.audit_io.specs.Faults.{Rose}
-use Rattle.audit_io.specs.Mem.{SureSlots}
+use Rattle.audit_model.specs.Faults.{Rose}
+use Rattle.audit_model.specs.State.{SureSlots, Stream}
 use Rattle.audit_statement.specs.Sure.{EachEndsSurely, sure_world}
 use Rattle.audit_statement.specs.Whole.{KeepsEachPromise}
-use Rattle.audit_io.specs.State.{Stream}
 
 -- a count of 0 did not rise
 never : Rose 0 0 → ⊥
 never h = absurd (omega arith)
 
+-- a call over a world that never fails ends surely where it may
 pub surely : (words : List (List ℕ)) (graph graph' : List ℕ) (keeper keeper' : SureSlots) (n m : Stream) (status : ℕ)
     → KeepsEachPromise words (sure_world graph keeper) (sure_world graph' keeper') n m status → EachEndsSurely words (sure_world graph keeper) status
 surely words graph graph' keeper keeper' n m status kept = record {

@@ -6,12 +6,13 @@ ghost use Rattle.audit_statement.specs.Whole.{KeepsEachPromise};
 ghost use Rattle.audit_statement.specs.World.{world};
 ghost use Rattle.audit_words.specs.Spoken.{spoken};
 
+use crate::several::audit_plans;
+use crate::single::audit_single;
 use audit_io::gate::Gate;
 use audit_io::keeper::Keeper;
 use audit_io::sink::Sink;
 use audit_io::source::Source;
-use audit_plans::several::audit_plans;
-use audit_single::single::audit_single;
+use claim_counter::runtime::Runtime;
 use std::alloc::Global;
 use std::sync::Wait;
 use std::thread::Threads;
@@ -24,6 +25,33 @@ fn names_plans(words: &[String]) -> bool
         return false;
     };
     word.as_str() == "plans"
+}
+
+// Does what the words ask for: on several plans, or on one.
+pub(crate) fn audit_by<
+    R: Threads + Wait + Sync,
+    S: Source,
+    K: Sink,
+    N: Sink,
+    C: Keeper + Send,
+    G: Gate + Sync,
+>(
+    rt: &Runtime<'_, R, G>,
+    words: &[String],
+    graph: &mut S,
+    out: &mut K,
+    note: &mut N,
+    keeper: C,
+) -> (u8, C)
+    ensures { let before = world (S.state graph.old) (K.state out.old) (C.state keeper) in
+        let after = world (S.state graph.new) (K.state out.new) (C.state result.1) in
+        KeepsEachPromise (spoken words.now) before after (N.state note.old) (N.state note.new) result.0 }
+{
+    if names_plans(words) {
+        let status = audit_plans(rt, words, graph, out, note);
+        return (status, keeper);
+    }
+    audit_single(rt, words, graph, out, note, keeper)
 }
 
 /// Does what the words ask for, and answers the status and the keeper.
@@ -53,9 +81,10 @@ pub fn audit<
         let after = world (S.state graph.new) (K.state out.new) (C.state result.1) in
         KeepsEachPromise (spoken words.now) before after (N.state note.old) (N.state note.new) result.0 }
 {
-    if names_plans(words) {
-        let status = audit_plans(rt, alloc, words, graph, out, note, gate);
-        return (status, keeper);
-    }
-    audit_single(rt, alloc, words, graph, out, note, keeper, gate)
+    let rt = Runtime {
+        threads: rt,
+        alloc,
+        gate,
+    };
+    audit_by(&rt, words, graph, out, note, keeper)
 }

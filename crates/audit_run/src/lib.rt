@@ -1,9 +1,23 @@
 //! The audit as one call.
+//!
+//! `audit` hands the command on several plans to `several`, and every other to `single`. Of one plan: `single` makes the job, writes the text of a check or does
+//! the rest of a run (`run`), and tells why it ended. Of several: `plan_jobs` makes the jobs, `benches` the judges of each, and `plan_reports` takes all
+//! memory, and walks and tells one plan after the other. `plain` and `sure` are the same call with more said of it.
 #![tactic(auto)]
 
 pub mod audit;
+pub mod benches;
 pub mod plain;
+pub mod plan_jobs;
+pub mod plan_reports;
+pub mod run;
+pub mod several;
+pub mod single;
 pub mod sure;
 
+pub use claim_counter::runtime::Runtime;
 pub use plain::audit_plainly;
+pub use run::finish_run;
+pub use several::audit_plans;
+pub use single::audit_single;
 pub use sure::audit_surely;

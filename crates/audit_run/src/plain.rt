@@ -3,20 +3,20 @@
 ghost use Rattle.audit_statement.specs.Whole.{KeepsEachPromise};
 ghost use Rattle.audit_statement.specs.World.{world};
 ghost use Rattle.audit_words.specs.Spoken.{spoken};
-ghost use Rattle.plain_statement.specs.Audited.{AuditsPlainly};
-ghost use Rattle.plain_statement.specs.Ended.{EndsPlainly};
+ghost use Rattle.audit_statement.specs.Audited.{AuditsPlainly};
+ghost use Rattle.audit_statement.specs.PlainlyEnded.{EndsPlainly};
 
-use crate::audit::audit;
+use crate::audit::audit_by;
 use audit_io::gate::Gate;
 use audit_io::keeper::Keeper;
 use audit_io::sink::Sink;
 use audit_io::source::Source;
-use plain_statement::laws::{promised_calls_audit_plainly, promised_calls_end_plainly};
-use std::alloc::Global;
+use audit_laws::plain_laws::{promised_calls_audit_plainly, promised_calls_end_plainly};
+use claim_counter::runtime::Runtime;
 use std::sync::Wait;
 use std::thread::Threads;
 
-/// Does what the words ask for, and answers the status and the keeper. It is `audit`; its first clause says for a run with none of the features that may
+/// Does what the words ask for, and answers the status and the keeper. It is what `audit` does; its first clause says for a run with none of the features that may
 /// be left out, all at once, what status 0 means, and its second that status 0 comes where nothing stands in the way.
 pub fn audit_plainly<
     R: Threads + Wait + Sync,
@@ -26,14 +26,12 @@ pub fn audit_plainly<
     C: Keeper + Send,
     G: Gate + Sync,
 >(
-    rt: &R,
-    alloc: Global,
+    rt: &Runtime<'_, R, G>,
     words: &[String],
     graph: &mut S,
     out: &mut K,
     note: &mut N,
     keeper: C,
-    gate: &G,
 ) -> (u8, C)
     ensures plain { AuditsPlainly (spoken words.now) (S.state graph.old).bytes (K.state out.old).bytes (K.state out.new).bytes result.0 }
     ensures ends { let before = world (S.state graph.old) (K.state out.old) (C.state keeper) in
@@ -45,5 +43,5 @@ pub fn audit_plainly<
 {
     promised_calls_audit_plainly();
     promised_calls_end_plainly();
-    audit(rt, alloc, words, graph, out, note, keeper, gate)
+    audit_by(rt, words, graph, out, note, keeper)
 }

@@ -4,12 +4,12 @@ ghost use Rattle.audit_statement.specs.Sure.{EachEndsSurely, sure_world};
 ghost use Rattle.audit_statement.specs.Whole.{KeepsEachPromise};
 ghost use Rattle.audit_words.specs.Spoken.{spoken};
 
-use crate::audit::audit;
+use crate::audit::audit_by;
 use audit_io::gate::Gate;
 use audit_io::sink::Sink;
 use audit_io::sure::{SureSink, SureSource};
 use audit_io::sure_keeper::SureKeeper;
-use std::alloc::Global;
+use claim_counter::runtime::Runtime;
 use std::sync::Wait;
 use std::thread::Threads;
 
@@ -18,18 +18,16 @@ use std::thread::Threads;
 /// Where words, graph and plan are accepted, the slots say how a run that resumes is to start, and its part and its budget have all that they lack,
 /// the status is 0 or, for want of memory, 3, and no other. So it is where words, graph, regions, table and several plans are accepted.
 pub fn audit_surely<R: Threads + Wait + Sync, N: Sink, G: Gate + Sync>(
-    rt: &R,
-    alloc: Global,
+    rt: &Runtime<'_, R, G>,
     words: &[String],
     graph: &mut SureSource,
     out: &mut SureSink,
     note: &mut N,
     keeper: SureKeeper,
-    gate: &G,
 ) -> (u8, SureKeeper)
     ensures complete { EachEndsSurely (spoken words.now) (sure_world graph.old keeper) result.0 }
     ensures kept { KeepsEachPromise (spoken words.now) (sure_world graph.old keeper) (sure_world graph.new result.1)
         (N.state note.old) (N.state note.new) result.0 }
 {
-    audit(rt, alloc, words, graph, out, note, keeper, gate)
+    audit_by(rt, words, graph, out, note, keeper)
 }

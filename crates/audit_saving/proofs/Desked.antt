@@ -6,42 +6,41 @@ use Rattle.std.proofs.lemmas.List.{append-nil, length-map}
 use Rattle.std.proofs.lemmas.List.Elements.{Contains-append_right, Contains-get_or}
 use Rattle.std.proofs.lemmas.List.Sorted.{IsPermutation-append_right, IsPermutation-map, IsPermutation-sym, IsPermutation-trans, length_permutation, sum_by-IsPermutation}
 use Rattle.audit_io.specs.declared.source.Failed.{Failed}
-use Rattle.audit_io.specs.Slots.{Pair, Stored, stored}
-use Rattle.audit_io.specs.State.{Kept}
-use Rattle.audit_io.specs.Tries.{Try, tried_all}
+use Rattle.audit_model.specs.Pair.{Pair, Stored, stored}
+use Rattle.audit_model.specs.State.{Kept}
+use Rattle.audit_model.specs.Tries.{Try, tried_all}
 use Rattle.audit_model.specs.declared.outcome.Outcome.{Outcome}
 use Rattle.audit_model.specs.Job.{Job}
-use Rattle.audit_model.specs.Run.{fits, has_id, run_ids, total}
+use Rattle.audit_model.specs.Run.{fits, has_id, run_ids, total, by_id}
 use Rattle.audit_model.specs.Trajectory.{outcome}
-use Rattle.model_laws.specs.Times.{times}
-use Rattle.model_laws.proofs.Times.{cut_at}
-use Rattle.checkpoint_definitions.specs.Checkpoint.{IsCheckpoint, checkpoint, job_digest}
-use Rattle.checkpoint_definitions.specs.Slots.{ours, slot_of}
-use Rattle.ckpt_store.specs.declared.slots.Place.{Place}
+use Rattle.audit_model.specs.Times.{times}
+use Rattle.audit_model.proofs.Times.{cut_at}
+use Rattle.audit_statement.specs.Checkpoint.{IsCheckpoint, checkpoint, job_digest}
+use Rattle.audit_statement.specs.Slots.{ours, slot_of}
+use Rattle.audit_model.specs.declared.place.Place.{Place}
 use Rattle.ckpt_store.specs.Fitting.{AreFit}
-use Rattle.ckpt_store.specs.Histories.{AreInTurn}
+use Rattle.audit_statement.specs.Histories.{AreInTurn}
 use Rattle.ckpt_store.specs.Laws.{CheckpointsAreOurs}
-use Rattle.desk_crew.specs.Holding as crew
-use Rattle.desk_crew.specs.InOrder.{AreSavesOf}
-use Rattle.desk_crew.specs.Ran.{HasRun, IsRunTry, KeepsSome, failed_of}
-use Rattle.draw_definitions.specs.Draw.{draw}
-use Rattle.outcome_book.specs.Booked.{by_id}
+use Rattle.tally_desk.specs.Holding as crew
+use Rattle.audit_statement.specs.InOrder.{AreSavesOf, failed_of, moved, saves_of}
+use Rattle.tally_desk.specs.Ran.{HasRun, IsRunTry, KeepsSome}
+use Rattle.audit_statement.specs.Draw.{draw}
 use Rattle.tally_desk.specs.declared.entry.Entry.{Entry}
-use Rattle.tally_desk.specs.Entries.{id_of, ids_of}
-use Rattle.audit_io.specs.Told.{IfBothTold, IfTold}
-use Rattle.tally_desk.specs.Homes.{IsSaveOf, booked, moved}
-use Rattle.tally_desk.specs.InTurn.{IsPartSave, saves_of}
+use Rattle.tally_desk.specs.Entries.{posted_id, ids_of}
+use Rattle.audit_model.specs.Told.{IfBothTold, IfTold}
+use Rattle.tally_desk.specs.Homes.{IsSaveOf, booked}
+use Rattle.tally_desk.specs.InTurn.{IsPartSave}
 use Rattle.tally_desk.specs.InTurn as desk
-use Rattle.tally_desk.specs.Parts.{IsPlan, Parts, found}
+use Rattle.tally_desk.specs.Parts.{IsPlan, Parts}
 use Rattle.tally_desk.proofs.Booking.{booked_fit, by_id_fit}
 use Rattle.tally_desk.proofs.Todo.{todo_lacked, todo_within}
 use Rattle.tally_desk.proofs.Slotting.{moved_generation}
 use Rattle.audit_statement.specs.Endings.{HoldsPart, IsNewest, IsOpeningOrFound, IsPartly, IsTryOf, KeepsASlot, SavesInTurn, SavesInTurnAt, TriesOf, TriesTold, count_of_saves, first_place, full_of, last_place, place_of}
-use Rattle.audit_steps.specs.Runs.{AreAll, IsRunJob}
-use Rattle.audit_unsaved.specs.Ending.{SavesLast}
-use Rattle.claim_crew.proofs.Completing.{AreMapped, by_id-full}
-use Rattle.claim_crew.specs.Walks as walks
-use Rattle.audit_steps.proofs.Running.{are_all, rising_apart}
+use Rattle.audit_laws.specs.Runs.{AreAll, IsRunJob}
+use Rattle.audit_walks.specs.Ending.{SavesLast}
+use Rattle.claim_counter.proofs.Completing.{AreMapped, by_id-full}
+use Rattle.claim_counter.specs.Walks.{found}
+use Rattle.audit_laws.proofs.Running.{are_all, rising_apart}
 use Rattle.audit_saving.proofs.Saved.{newest_below, place_is_beside}
 
 -- what holds of both where the first is told
@@ -50,6 +49,7 @@ known_map None b R P Q r f h = tt
 known_map (Some p) None R P Q r f h = h
 known_map (Some p) (Some q) R P Q r f h = f p q r h
 
+-- what follows where all went well
 on_ok : {A B : Type 0} (result : Result (Unit {0}) Failed) → (A → B) → OnOk result A → OnOk result B
 on_ok (Ok done) f a = f a
 on_ok (Err failed) f a = tt
@@ -59,6 +59,7 @@ tried_some : (told : List Try) (tries : List Try) → tried_all (Some told) trie
 tried_some told [] = ap (λ (ts : List Try). Some ts) (sym (append-nil told))
 tried_some told (t ∷ tries) = tried_some (told ++ t ∷ []) tries ∙ ap (λ (ts : List Try). Some ts) (append_assoc told (t ∷ []) tries)
 
+-- what is counted in a list is there
 contains_at : (x : ℕ) (xs : List ℕ) → 0 < times x xs → Contains xs x
 contains_at x xs some_here =
     let cut = cut_at x xs some_here in
@@ -90,7 +91,7 @@ module _ (parts : Parts) (plan : IsPlan parts) (todo_is : parts.todo ≡ run_ids
     is_found o is,
   )
 
-  holds_part : (count : ℕ) (saved : List Outcome) → crew.HoldsPart parts count saved → HoldsPart job opening count saved
+  holds_part : (count : ℕ) (saved : List Outcome) → crew.HoldsOpeningAndPart parts count saved → HoldsPart job opening count saved
   holds_part count saved h = record { each = λ k d inside. of_desk _ (h.each k d inside); opening_kept = h.opening_kept; counted = h.counted }
 
   part_fits : (part : List Entry) → ((id : ℕ) → times id (ids_of part) ≤ times id parts.todo) → IsTrue (list_all (fits job) (saved_of part))
@@ -108,7 +109,7 @@ module _ (parts : Parts) (plan : IsPlan parts) (todo_is : parts.todo ≡ run_ids
     bytes_are = s.saved.bytes;
     sound = s.saved.sound;
     slot_is = read_as generation s.part slot s.of_todo s.saved;
-    holds = holds_part count (saved_of s.part) (subst (λ (n : ℕ). crew.HoldsPart parts n (saved_of s.part)) s.counted (hold parts s.part plan s.of_todo));
+    holds = holds_part count (saved_of s.part) (subst (λ (n : ℕ). crew.HoldsOpeningAndPart parts n (saved_of s.part)) s.counted (hold parts s.part plan s.of_todo));
   }
 
   -- ---- a slot is kept
@@ -136,9 +137,9 @@ module _ (parts : Parts) (plan : IsPlan parts) (todo_is : parts.todo ≡ run_ids
     of_todo id = let same = sum_by-IsPermutation (λ (y : ℕ). cond (y == id) 1 0) (ids_of posted) parts.todo all in omega (arith, same)
 
     count_is : length posted ≡ length (run_ids job opening job.setting.budget)
-    count_is = sym (length-map posted id_of) ∙ sym (length_permutation (ids_of posted) parts.todo all) ∙ ap length todo_is
+    count_is = sym (length-map posted posted_id) ∙ sym (length_permutation (ids_of posted) parts.todo all) ∙ ap length todo_is
 
-    in_turn_at : (p q : Pair) (at : Place) (count : ℕ) → desk.SavesInTurnAt parts p q posted at count → SavesInTurnAt job opening p q at count
+    in_turn_at : (p q : Pair) (at : Place) (count : ℕ) → desk.RunSavesInTurnAt parts p q posted at count → SavesInTurnAt job opening p q at count
     in_turn_at p q at count s = record {
       last = s.last.bytes ∙ ap (λ (os : List Outcome). Some (checkpoint 2 (job_digest job) at.generation os)) whole;
       last_is = read_as at.generation posted (stored q at.slot) of_todo s.last ∙ ap (ours at.generation) whole;
@@ -152,13 +153,13 @@ module _ (parts : Parts) (plan : IsPlan parts) (todo_is : parts.todo ≡ run_ids
     saves_are : saves_of (length posted) parts.save_every ≡ count_of_saves job opening
     saves_are i = saves_of (count_is i) (every_is i)
 
-    place_is : (p : Pair) → IsAt p → desk.last_place parts posted ≡ last_place job opening p
+    place_is : (p : Pair) → IsAt p → desk.last_save_place parts posted ≡ last_place job opening p
     place_is p at i = moved (saves_are i - 1) (record { slot = (at i).0; generation = (at i).1 })
 
-    in_turn : (p q : Pair) → IsAt p → desk.SavesInTurn parts p q posted → SavesInTurn job opening p q
+    in_turn : (p q : Pair) → IsAt p → desk.RunSavesInTurn parts p q posted → SavesInTurn job opening p q
     in_turn p q at s =
         subst (λ (x : Place × ℕ). SavesInTurnAt job opening p q x.0 x.1) (λ i. (place_is p at i, saves_are i))
-        (in_turn_at p q (desk.last_place parts posted) (saves_of (length posted) parts.save_every) s)
+        (in_turn_at p q (desk.last_save_place parts posted) (saves_of (length posted) parts.save_every) s)
 
   newest_in : (p q : Pair) → IsAt p → SavesInTurn job opening p q → IsNewest job (full_of job opening) q
   newest_in p q at s =
@@ -226,7 +227,7 @@ module _ (parts : Parts) (keeper_now : Kept) (sorted : List Outcome) (result : R
 
   pub all_outcomes : AreMapped → IsRunJob parts.job → AreFit parts.job parts.opening → All (λ id. id < total parts.job) parts.todo → All (λ id. IsFalse (has_id parts.opening id)) parts.todo
       → AreAll parts.job parts.opening sorted
-  unfolding walks.found found
+  unfolding found
   all_outcomes mapped run fit within absent =
       are_all parts.job run parts.opening parts.opening parts.todo sorted refl fit todo_is within
       (λ budget ids.
@@ -239,7 +240,7 @@ module _ (parts : Parts) (keeper_now : Kept) (sorted : List Outcome) (result : R
       → SavesLast parts.job parts.opening parts.keeper keeper_now result
   saves_last ours_law hold right every_is placed whole =
       let turns = on_ok result
-      (known_map parts.keeper.slots keeper_now.slots (IsAt parts h.plan todo_is every_is ours_law hold) (λ p q. desk.SavesInTurn parts p q h.posted) (SavesInTurn parts.job parts.opening) placed
+      (known_map parts.keeper.slots keeper_now.slots (IsAt parts h.plan todo_is every_is ours_law hold) (λ p q. desk.RunSavesInTurn parts p q h.posted) (SavesInTurn parts.job parts.opening) placed
       (in_turn parts h.plan todo_is every_is ours_law hold h.posted h.all (sym h.sorted_is ∙ whole))) h.in_turn in
       record {
         kept = known_map parts.keeper.slots keeper_now.slots (IsAt parts h.plan todo_is every_is ours_law hold) (KeepsSome parts) (KeepsASlot parts.job parts.opening) placed

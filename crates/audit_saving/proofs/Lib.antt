@@ -1,3 +1,5 @@
 mod Desked
 mod Placing
+mod Reported
 mod Saved
+mod Turning

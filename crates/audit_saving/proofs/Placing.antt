@@ -1,12 +1,13 @@
 -- Where a run saves.
 use Rattle.std.proofs.Common.{◌≡◌, ℕ, zero, suc, ◌≤◌, Bool, true, false, Option, Some, None, refl, sym, arith}
-use Rattle.audit_io.specs.Told.{IfTold}
-use Rattle.audit_io.specs.Slots.{Pair}
+use Rattle.audit_model.specs.Told.{IfTold}
+use Rattle.audit_model.specs.Pair.{Pair}
 use Rattle.audit_model.specs.Job.{Job}
-use Rattle.audit_opening.specs.declared.opening.Target.{Target}
+use Rattle.audit_input.specs.declared.opening.Target.{Target}
 use Rattle.audit_statement.specs.Endings.{place_of, saves}
-use Rattle.audit_opening.specs.Opening.{IsPlaced}
-use Rattle.audit_steps.proofs.Starting.{saves_not}
+use Rattle.audit_input.specs.Opening.{IsTargetFor}
+use Rattle.audit_laws.specs.Runs.{IsRunJob}
+use Rattle.audit_laws.proofs.Starting.{saves_not}
 
 -- a run that saves has a number after which it does
 pub saves_every : (job : Job) → saves job.setting ≡ true → 1 ≤ job.setting.save_every
@@ -21,9 +22,18 @@ saves_every job is = by job.setting.save_every refl
     by (suc n) e = omega arith
 
 -- the place that was told
-pub place_told_for : (job : Job) (slots : Option Pair) (t : Target) → IsPlaced job slots t → IfTold slots (λ p. place_of job p ≡ (t.place.slot, t.place.generation))
+pub place_told_for : (job : Job) (slots : Option Pair) (t : Target) → IsTargetFor job slots t → IfTold slots (λ p. place_of job p ≡ (t.place.slot, t.place.generation))
 place_told_for job None t placed = tt
 place_told_for job (Some p) t placed = sym placed.told
 
-pub placed_known : (job : Job) (slots : Option Pair) (t : Target) → IsPlaced job slots t → IfTold slots (λ p. (t.place.slot, t.place.generation) ≡ place_of job p)
+-- the place is the one that the keeper tells
+pub placed_known : (job : Job) (slots : Option Pair) (t : Target) → IsTargetFor job slots t → IfTold slots (λ p. (t.place.slot, t.place.generation) ≡ place_of job p)
 placed_known job slots t placed = placed.told
+
+-- of a run that saves no test stops early
+pub saved_plain : (job : Job) → IsRunJob job → saves job.setting ≡ true → job.setting.stop ≡ 0
+saved_plain job run is = by job.setting.stop refl
+  where
+    by : (n : ℕ) → job.setting.stop ≡ n → job.setting.stop ≡ 0
+    by zero none = none
+    by (suc n) e = absurd (omega (arith, saves_every job is, (run.alone (omega (arith, e))).no_saves))

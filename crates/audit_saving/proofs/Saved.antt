@@ -1,7 +1,7 @@
 -- The newest slot, and the place beside it.
 use Rattle.std.proofs.Common.{◌≡◌, ◌⊎◌, inl, inr, ℕ, ◌+◌, ◌-◌, Bool, true, false, cond, Option, Some, None, sym, ap}
 use Rattle.std.specs.Prelude.{◌==◌, ◌%◌}
-use Rattle.checkpoint_definitions.specs.Slots.{Slot, generation_of, newest, newest_of, save_place, place_beside}
+use Rattle.audit_statement.specs.Slots.{Slot, generation_of, newest, newest_of, save_place, place_beside}
 
 -- the newest slot is slot 0 or slot 1
 pub newest_below : (first second : Slot) (n : ℕ) → newest first second ≡ Some n → (n ≡ 0) ⊎ (n ≡ 1)

@@ -1,1 +1,3 @@
+pub mod Paired
+pub mod Plans
 pub mod Saving

@@ -1,12 +1,15 @@
--- What a run that saves takes beside what each run holds.
+-- What a run takes that saves.
 use Rattle.std.specs.Prelude.{ℕ, ◌+◌, ◌*◌, ◌≤◌, Bool, List, length}
-use Rattle.audit_model.specs.declared.rules.Rules.{Rules}
 use Rattle.audit_model.specs.Job.{Job}
 use Rattle.audit_model.specs.Run.{total}
-use Rattle.desk_crew.specs.Crews.{IsCrew as IsDeskCrew}
-use Rattle.audit_saving.specs.declared.saving.Saving.{Saving}
+use Rattle.tally_desk.specs.Crews.{IsDeskCrew}
+use Rattle.audit_walks.specs.Ready.{IsReadyFor}
+use Rattle.audit_walks.specs.Serially.{IsTester}
+use Rattle.audit_saving.specs.declared.saving.SavedMeans.{SavedMeans}
 
--- workers over a desk, and room for a checkpoint of all outcomes
-pub record IsSavingFor {J : Type 0} (keeps : J → Type 0) (stands : J → List ℕ → Type 0) (takes : J → ℕ → ℕ → Bool) (by : J → Rules) (job : Job) (s : Saving J) : Type 0 where
-  pub crew : IsDeskCrew job keeps stands takes by job.setting.workers s.crew
-  pub room : 84 + 80 * total job ≤ length s.room.items + s.room.spare
+-- what each run holds, workers over a desk, room for a checkpoint of all outcomes, and what makes the serial test
+pub record IsSavedMeansFor {J : Type 0} (job : Job) (m : SavedMeans J) : Type 0 where
+  pub ready : IsReadyFor job m.ready
+  pub crew : IsDeskCrew job job.setting.workers m.crew
+  pub room : 84 + 80 * total job ≤ length m.room.items + m.room.spare
+  pub tester : IsTester job m.tester

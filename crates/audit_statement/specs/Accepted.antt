@@ -1,5 +1,5 @@
 -- Which words, graphs and plans are accepted, and as which job.
-use Rattle.std.specs.Prelude.{◌≡◌, ℕ, Bool, true, false, nat_lt, List, [], ◌∷◌, length, Option, Some, Result, Ok, Err}
+use Rattle.std.specs.Prelude.{◌≡◌, ℕ, Bool, true, false, nat_lt, List, [], length, Option, Some, Result, Ok, Err}
 use Rattle.audit_model.specs.declared.fault.GraphFault.{GraphFault}
 use Rattle.audit_model.specs.declared.fault.PlanFault.{PlanFault}
 use Rattle.audit_model.specs.declared.fault.RegionFault.{RegionFault}
@@ -11,12 +11,12 @@ use Rattle.audit_model.specs.declared.setting.Setting.{Setting}
 use Rattle.audit_model.specs.Job.{Job}
 use Rattle.audit_model.specs.JobOf.{job_of}
 use Rattle.audit_model.specs.Parsed.{Parsed}
-use Rattle.draw_definitions.specs.Grid.{grid}
-use Rattle.note_definitions.specs.Note.{Ending, too_many_bytes, bad_graph, bad_regions, bad_plan}
-use Rattle.graph_definitions.specs.Reading.{reading}
-use Rattle.graph_definitions.specs.Regions.{region_reading}
-use Rattle.word_definitions.specs.Words.{setting_of}
-use Rattle.audit_io.specs.Told.{IfTold}
+use Rattle.audit_statement.specs.Grid.{grid}
+use Rattle.audit_statement.specs.Note.{Ending, too_many_bytes, bad_graph, bad_regions, bad_plan}
+use Rattle.audit_statement.specs.Reading.{reading}
+use Rattle.audit_statement.specs.Regions.{regions_by}
+use Rattle.audit_statement.specs.Words.{setting_of}
+use Rattle.audit_model.specs.Told.{IfTold}
 
 -- the most bytes of a graph
 abbrev pub most_bytes : ℕ
@@ -33,24 +33,22 @@ input_by Plans setting left = left
 abbrev pub input_of : Setting → Option (List ℕ) → Option (List ℕ)
 input_of setting left = input_by setting.command setting left
 
--- the regions of the units of a text that is a graph, and none where no column is named
-abbrev pub regions_by : List ℕ → List ℕ → Result (List ℕ) RegionFault
-regions_by [] bytes = Ok []
-regions_by (c ∷ column) bytes = region_reading bytes (c ∷ column)
-
 -- each step of the reading, and the reason where it refuses
 abbrev pub from_job : Result Job PlanFault → Result Job Ending
 from_job (Ok job) = Ok job
 from_job (Err f) = Err (bad_plan f)
 
+-- over these regions
 abbrev pub from_regions : Setting → Parsed → Result (List ℕ) RegionFault → Result Job Ending
 from_regions setting parsed (Ok regions) = from_job (job_of parsed setting regions)
 from_regions setting parsed (Err f) = Err (bad_regions setting.region f)
 
+-- over what was read of the graph
 abbrev pub from_parsed : Setting → List ℕ → Result Parsed GraphFault → Result Job Ending
 from_parsed setting bytes (Ok parsed) = from_regions setting parsed (regions_by setting.region bytes)
 from_parsed setting bytes (Err f) = Err (bad_graph f)
 
+-- of bytes that are too many, or are not
 abbrev pub from_bytes : Setting → List ℕ → Bool → Result Job Ending
 from_bytes setting bytes true = Err too_many_bytes
 from_bytes setting bytes false = from_parsed setting bytes (reading bytes setting.columns)
@@ -83,5 +81,6 @@ abbrev pub columns_in : Result Setting WordFault → Columns
 columns_in (Ok setting) = setting.columns
 columns_in (Err f) = no_columns
 
+-- the columns of these words
 abbrev pub columns_of : List (List ℕ) → Columns
 columns_of words = columns_in (setting_of words)

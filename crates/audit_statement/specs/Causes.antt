@@ -3,8 +3,8 @@ use Rattle.std.specs.Prelude.{◌≡◌, ◌≢◌, ◌⊎◌, ℕ, ◌<◌, Boo
 use Rattle.audit_model.specs.declared.outcome.Outcome.{Outcome}
 use Rattle.audit_model.specs.declared.setting.Setting.{Setting}
 use Rattle.audit_model.specs.Job.{Job}
-use Rattle.word_definitions.specs.Words.{setting_of}
-use Rattle.audit_io.specs.Faults.{Rose}
+use Rattle.audit_statement.specs.Words.{setting_of}
+use Rattle.audit_model.specs.Faults.{Rose}
 use Rattle.audit_statement.specs.Accepted.{judged, input_of}
 use Rattle.audit_statement.specs.Endings.{is_walking, TellsOpening, leaves_work, IsDone, IsReadFault, IsWriteFault, IsLoadFault, IsSaveFault, IsSlotsFault, IsStopped}
 use Rattle.audit_statement.specs.World.{World}

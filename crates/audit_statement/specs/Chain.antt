@@ -1,18 +1,18 @@
 -- Runs one after the other over the same slots.
 use Rattle.std.specs.Prelude.{◌≡◌, ℕ, ◌+◌, ◌-◌, ◌^◌, ◌<◌, ◌≤◌, ◌==◌, ◌&&◌, ◌||◌, min, Bool, true, false, List, [], ◌++◌, length, Some, IsTrue}
 use Rattle.std.specs.List.{All, AllPairs, Contains}
-use Rattle.audit_io.specs.Slots.{Pair}
-use Rattle.audit_io.specs.Tries.{Try}
+use Rattle.audit_model.specs.Pair.{Pair}
+use Rattle.audit_model.specs.Tries.{Try}
 use Rattle.audit_model.specs.declared.outcome.Outcome.{Outcome}
 use Rattle.audit_model.specs.Job.{Job}
 use Rattle.audit_model.specs.Run.{IsRight}
-use Rattle.checkpoint_definitions.specs.Checkpoint.{IsCheckpoint, job_digest}
-use Rattle.ckpt_store.specs.Histories.{AreInTurn, IsRightSave}
-use Rattle.ckpt_store.specs.Laws.{AreHonest}
-use Rattle.desk_crew.specs.Ran.{failed_of}
-use Rattle.draw_definitions.specs.Draw.{draw}
+use Rattle.audit_statement.specs.Checkpoint.{IsCheckpoint, job_digest}
+use Rattle.audit_statement.specs.Histories.{AreInTurn, IsRightSave}
+use Rattle.audit_statement.specs.Slots.{AreHonest}
+use Rattle.audit_statement.specs.InOrder.{failed_of}
+use Rattle.audit_statement.specs.Draw.{draw}
 use Rattle.audit_statement.specs.Causes.{IsTheJob}
-use Rattle.audit_io.specs.Told.{IfBothTold, IfTold}
+use Rattle.audit_model.specs.Told.{IfBothTold, IfTold}
 use Rattle.audit_statement.specs.Endings.{AreRunSaves, IsTryOf, NoSaveFailed, TellsOpening, count_of_saves, place_of, saves}
 use Rattle.audit_statement.specs.Headline.{StartsWith, WritesOneThreads}
 use Rattle.audit_statement.specs.World.{World}

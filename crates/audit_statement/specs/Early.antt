@@ -2,7 +2,7 @@
 use Rattle.std.specs.Prelude.{◌≡◌, ℕ, ◌<◌, ◌≤◌, List, Ok}
 use Rattle.audit_model.specs.declared.setting.Setting.{Setting}
 use Rattle.audit_model.specs.Job.{Job}
-use Rattle.word_definitions.specs.Words.{setting_of}
+use Rattle.audit_statement.specs.Words.{setting_of}
 use Rattle.audit_statement.specs.Causes.{IsTheJob}
 use Rattle.audit_statement.specs.Headline.{WritesOneThreads}
 use Rattle.audit_statement.specs.World.{World}

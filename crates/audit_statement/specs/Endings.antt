@@ -13,25 +13,22 @@ use Rattle.audit_model.specs.JobOf.{IsJob}
 use Rattle.audit_model.specs.Apart.{AllApart}
 use Rattle.audit_model.specs.Run.{total, has_id, lacking_ids, run_ids, full, fits, IsRight}
 use Rattle.audit_model.specs.Trajectory.{outcome}
-use Rattle.checkpoint_definitions.specs.Checkpoint.{IsCheckpoint, checkpoint, job_digest}
-use Rattle.ckpt_store.specs.declared.slots.Place.{Place}
-use Rattle.ckpt_store.specs.Histories.{AreInTurn, IsRightSave}
-use Rattle.desk_crew.specs.InOrder.{AreSavesOf}
-use Rattle.desk_crew.specs.Ran.{failed_of}
-use Rattle.draw_definitions.specs.Draw.{draw}
-use Rattle.note_definitions.specs.Note.{Ending, bad_words, too_many_bytes, bad_graph, bad_regions, bad_table, bad_plan, bad_plan_named, no_memory, read_fault, write_fault, load_fault, stopped, damaged, other_job, save_fault, note}
-use Rattle.text_definitions.specs.Report.{full_report, check_text}
-use Rattle.checkpoint_definitions.specs.Slots.{Slot, other, ours, slot_of, opening, newest, save_place, slot_at}
-use Rattle.word_definitions.specs.Words.{setting_of}
-use Rattle.tally_desk.specs.Homes.{moved}
-use Rattle.tally_desk.specs.InTurn.{saves_of}
-use Rattle.audit_io.specs.Faults.{Rose}
-use Rattle.audit_io.specs.Slots.{Pair, stored}
-use Rattle.audit_io.specs.Tries.{Try}
+use Rattle.audit_statement.specs.Checkpoint.{IsCheckpoint, checkpoint, job_digest}
+use Rattle.audit_model.specs.declared.place.Place.{Place}
+use Rattle.audit_statement.specs.Histories.{AreInTurn, IsRightSave}
+use Rattle.audit_statement.specs.InOrder.{AreSavesOf, failed_of, moved, saves_of}
+use Rattle.audit_statement.specs.Draw.{draw}
+use Rattle.audit_statement.specs.Note.{Ending, bad_words, too_many_bytes, bad_graph, bad_regions, bad_table, bad_plan, bad_plan_named, no_memory, read_fault, write_fault, load_fault, stopped, damaged, other_job, save_fault, note}
+use Rattle.audit_statement.specs.Report.{full_report, check_text}
+use Rattle.audit_statement.specs.Slots.{Slot, other, ours, slot_of, opening, newest, save_place, slot_at}
+use Rattle.audit_statement.specs.Words.{setting_of}
+use Rattle.audit_model.specs.Faults.{Rose}
+use Rattle.audit_model.specs.Pair.{Pair, stored}
+use Rattle.audit_model.specs.Tries.{Try}
 use Rattle.audit_statement.specs.Accepted.{IsAccepted, IsRefused, columns_of, most_bytes}
 use Rattle.audit_statement.specs.Status.{status_of}
-use Rattle.audit_io.specs.State.{Kept, Stream}
-use Rattle.audit_io.specs.Told.{IfTold, IfBothTold}
+use Rattle.audit_model.specs.State.{Kept, Stream}
+use Rattle.audit_model.specs.Told.{IfTold, IfBothTold}
 use Rattle.audit_statement.specs.World.{World}
 
 -- ---- what the words ask for
@@ -54,6 +51,7 @@ is_walking Plans = true
 abbrev pub saves : Setting → Bool
 saves setting = is_walking setting.command && not (setting.save_every == 0)
 
+-- and it loads, where it resumes or saves
 abbrev pub loads : Setting → Bool
 loads setting = is_walking setting.command && (setting.resume || not (setting.save_every == 0))
 
@@ -191,6 +189,7 @@ KeepsASlot job outcomes p q =
 abbrev pub place_of : Job → Pair → ℕ × ℕ
 place_of job p = save_place (slot_of job (job_digest job) p.zero_slot) (slot_of job (job_digest job) p.one_slot)
 
+-- the same as one place
 abbrev pub first_place : Job → Pair → Place
 first_place job p = record { slot = (place_of job p).0; generation = (place_of job p).1 }
 
@@ -211,6 +210,7 @@ pub record SavesInTurnAt (job : Job) (outcomes : List Outcome) (p q : Pair) (at 
   pub only : count ≡ 1 → stored q (1 - at.slot) ≡ stored p (1 - at.slot)
   pub before_last : 1 < count → IsPartly job outcomes ((count - 1) * job.setting.save_every) ((at.generation + 2) % 3) (stored q (1 - at.slot))
 
+-- all saves of the run were made in turn
 abbrev pub SavesInTurn : Job → List Outcome → Pair → Pair → Type 0
 SavesInTurn job outcomes p q = SavesInTurnAt job outcomes p q (last_place job outcomes p) (count_of_saves job outcomes)
 
@@ -257,6 +257,7 @@ pub record SavesAll (made : Type 0) (job : Job) (before after : World) : Type 0 
   pub newest_is : made → IfBothTold before.keeper.slots after.keeper.slots (λ p q. IsNewest job (full_of job outcomes) q)
   pub tried : TriesTold job outcomes before.keeper after.keeper
 
+-- a run that does not save leaves the slots as they were
 abbrev pub SavesWhere : Bool → Type 0 → Job → World → World → Type 0
 SavesWhere false made job before after = after.keeper.slots ≡ before.keeper.slots
 SavesWhere true made job before after = SavesAll made job before after
@@ -277,18 +278,21 @@ pub record IsTooMany (words : List (List ℕ)) (before after : World) : Type 0 w
   pub refused : IsRefused words before.source.bytes too_many_bytes
   pub taken : TakesTooMany (is_reading refused.setting.command) before.source.bytes after.source.bytes
 
+-- the text was written whole, and all saves were made
 pub record IsDone (words : List (List ℕ)) (before after : World) : Type 0 where
   pub job : Job
   pub prepared : IsPrepared words before.source after.source job
   pub written : WritesText job.setting.command true job before after
   pub saved : SavesWhere (saves job.setting) ⊤ job before after
 
+-- the source is read, and a read failed
 pub record IsReadFault (words : List (List ℕ)) (before after : World) : Type 0 where
   pub setting : Setting
   pub words_are : setting_of words ≡ Ok setting
   pub reading : IsTrue (is_reading setting.command)
   pub rose : Rose before.source.faults after.source.faults
 
+-- a part of the text was written, and a write failed
 pub record IsWriteFault (words : List (List ℕ)) (before after : World) : Type 0 where
   pub job : Job
   pub prepared : IsPrepared words before.source after.source job
@@ -296,12 +300,14 @@ pub record IsWriteFault (words : List (List ℕ)) (before after : World) : Type 
   pub saved : SavesWhere (saves job.setting) (NoSaveFailed before after) job before after
   pub rose : Rose before.out.faults after.out.faults
 
+-- the run loads, and a load failed
 pub record IsLoadFault (words : List (List ℕ)) (before after : World) : Type 0 where
   pub job : Job
   pub prepared : IsPrepared words before.source after.source job
   pub loading : IsTrue (loads job.setting)
   pub rose : Rose before.keeper.load_faults after.keeper.load_faults
 
+-- work is left: so many of all trajectories are done and saved
 pub record IsStopped (words : List (List ℕ)) (before after : World) (done all : ℕ) : Type 0 where
   pub job : Job
   pub prepared : IsPrepared words before.source after.source job
@@ -332,11 +338,12 @@ pub record IsOtherJob (found wanted : List ℕ) (job : Job) (p : Pair) : Type 0 
   pub newest_is : newest (slot_of job (job_digest job) p.zero_slot) (slot_of job (job_digest job) p.one_slot) ≡ Some number
   pub found_is : slot_at (slot_of job (job_digest job) p.zero_slot) (slot_of job (job_digest job) p.one_slot) number ≡ other found generation
 
--- a save failed; all else is done as without it
+-- the report was written whole, or work is left
 abbrev pub WritesOrStops : Bool → Job → World → World → Type 0
 WritesOrStops true job before after = WritesReport true job before after
 WritesOrStops false job before after = StopsEarly job before after
 
+-- a save failed; all else is done as without it
 pub record IsSaveFault (words : List (List ℕ)) (before after : World) : Type 0 where
   pub job : Job
   pub prepared : IsPrepared words before.source after.source job
@@ -384,9 +391,11 @@ pub record EndingMarks : Type 0 where
   pub load_failed : Bool
   pub save_failed : Bool
 
+-- none of these
 abbrev pub no_marks : EndingMarks
 no_marks = record { wrote = false; saved = false; read_failed = false; write_failed = false; load_failed = false; save_failed = false }
 
+-- the marks of each ending
 abbrev pub marks_of : Option Ending → EndingMarks
 marks_of None = record no_marks { wrote = true; saved = true }
 marks_of (Some (bad_words f)) = no_marks
@@ -424,6 +433,7 @@ pub record AddsLine (before after : Stream) (line : List ℕ) : Type 0 where
   pub added : (Appends before.bytes after.bytes line × (after.faults ≡ before.faults))
       ⊎ (AppendsPart before.bytes after.bytes line × Rose before.faults after.faults)
 
+-- nothing is told where all was done, and elsewhere the line of the ending
 abbrev pub TellsWhy : Columns → Stream → Stream → Option Ending → Type 0
 TellsWhy columns before after None = after ≡ before
 TellsWhy columns before after (Some ending) = AddsLine before after (note columns ending)

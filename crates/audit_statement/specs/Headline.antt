@@ -5,8 +5,8 @@ use Rattle.audit_model.specs.declared.outcome.Outcome.{Outcome}
 use Rattle.audit_model.specs.declared.setting.Command.TheVariants.{Check}
 use Rattle.audit_model.specs.Job.{Job}
 use Rattle.audit_model.specs.Run.{IsRight}
-use Rattle.draw_definitions.specs.Draw.{draw}
-use Rattle.text_definitions.specs.Report.{full_report, thread_report, check_text}
+use Rattle.audit_statement.specs.Draw.{draw}
+use Rattle.audit_statement.specs.Report.{full_report, thread_report, check_text}
 use Rattle.audit_statement.specs.Causes.{IsTheJob}
 use Rattle.audit_statement.specs.Endings.{is_walking, TellsOpening, leaves_work, full_of}
 use Rattle.audit_statement.specs.World.{World}

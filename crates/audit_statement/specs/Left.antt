@@ -1,7 +1,7 @@
 -- What a call leaves as it was, in terms of its status and of the words.
 use Rattle.std.specs.Prelude.{◌≡◌, ◌≢◌, ℕ, List, IsFalse, Ok, IsErr}
 use Rattle.audit_model.specs.declared.setting.Setting.{Setting}
-use Rattle.word_definitions.specs.Words.{setting_of}
+use Rattle.audit_statement.specs.Words.{setting_of}
 use Rattle.audit_statement.specs.Endings.{is_reading, saves, loads}
 use Rattle.audit_statement.specs.World.{World}
 

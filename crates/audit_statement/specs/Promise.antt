@@ -10,7 +10,7 @@ use Rattle.audit_statement.specs.Endings.{EndsFor}
 use Rattle.audit_statement.specs.Headline.{WritesWhole}
 use Rattle.audit_statement.specs.Left.{LeavesAlone}
 use Rattle.audit_statement.specs.Visits.{VisitsLegal}
-use Rattle.audit_io.specs.State.{Stream}
+use Rattle.audit_model.specs.State.{Stream}
 use Rattle.audit_statement.specs.World.{World}
 
 -- with status 0 the report of one thread was written; tests that stop early stop where one thread's do; every visited plan is legal; from honest slots

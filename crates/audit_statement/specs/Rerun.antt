@@ -1,9 +1,9 @@
 -- Runs of one job, and chains of them over the same slots.
 use Rattle.std.specs.Prelude.{◌≡◌, ℕ, Bool, IsTrue, IsFalse, List, [], ◌∷◌, ⊤, Option, Some}
 use Rattle.std.specs.Io.KnownBytes.{Appends}
-use Rattle.audit_io.specs.Faults.{Rose}
-use Rattle.audit_io.specs.Slots.{Pair}
-use Rattle.audit_io.specs.Tries.{Try}
+use Rattle.audit_model.specs.Faults.{Rose}
+use Rattle.audit_model.specs.Pair.{Pair}
+use Rattle.audit_model.specs.Tries.{Try}
 use Rattle.audit_model.specs.declared.outcome.Outcome.{Outcome}
 use Rattle.audit_model.specs.declared.setting.Command.{Command}
 use Rattle.audit_model.specs.Job.{Job}
@@ -11,17 +11,17 @@ use Rattle.audit_model.specs.Run.{fits}
 use Rattle.audit_model.specs.Serially.{serial_of}
 use Rattle.audit_model.specs.Stopping.{stops_of}
 use Rattle.audit_model.specs.Trajectory.{Draws, outcome, sequence, whole}
-use Rattle.checkpoint_definitions.specs.Checkpoint.{job_digest}
-use Rattle.ckpt_store.specs.Histories.{AreCarriedOut, IsNotIntact, KeepsNewest, stopped_in}
-use Rattle.ckpt_store.specs.Laws.{IsNotOurs}
-use Rattle.draw_definitions.specs.Draw.{draw}
-use Rattle.text_definitions.specs.Report.{report, thread_report}
+use Rattle.audit_statement.specs.Checkpoint.{job_digest}
+use Rattle.audit_statement.specs.Histories.{AreCarriedOut, IsNotIntact, KeepsNewest, stopped_in}
+use Rattle.audit_statement.specs.Slots.{IsNotOurs}
+use Rattle.audit_statement.specs.Draw.{draw}
+use Rattle.audit_statement.specs.Report.{report, thread_report}
 use Rattle.audit_statement.specs.Causes.{IsTheJob}
 use Rattle.audit_statement.specs.Chain.{AreHonestOf, TriedRightly, TriesOver}
 use Rattle.audit_statement.specs.Endings.{is_walking, leaves_work}
 use Rattle.audit_statement.specs.Headline.{StartsWith}
 use Rattle.audit_statement.specs.Promise.{KeepsItsPromise}
-use Rattle.audit_io.specs.State.{Stream}
+use Rattle.audit_model.specs.State.{Stream}
 use Rattle.audit_statement.specs.World.{World}
 
 -- the same job, where it asks for bins or does not, and for the serial test or does not
@@ -61,7 +61,7 @@ rerun job manner = record job {
 -- Both have the same digest, each trajectory finds the same, with all its bins, in both, so does the serial test, whether it is asked for or not,
 -- what is honest for one is honest for the other, and tests that stop early stop at the same places. Where both ask for bins, or neither, they have
 -- the same outcomes and the same report on what is found.
-pub record AreAlike (job other : Job) : Type 0 where
+pub record FindTheSame (job other : Job) : Type 0 where
   pub same_digest : job_digest other ≡ job_digest job
   pub same_whole : (draws : Draws) (id : ℕ) → whole other draws id ≡ whole job draws id
   pub same_fits : (o : Outcome) → fits other o ≡ fits job o
@@ -75,7 +75,7 @@ pub record AreAlike (job other : Job) : Type 0 where
 
 -- how a job is run changes nothing of what it finds, and whether it asks for bins nothing of what it holds for its own
 abbrev pub RerunsAreAlike : Type 0
-RerunsAreAlike = (job : Job) (manner : Manner) → AreAlike job (rerun job manner)
+RerunsAreAlike = (job : Job) (manner : Manner) → FindTheSame job (rerun job manner)
 
 -- ---- a stop
 
@@ -129,14 +129,17 @@ pub record IsStop (job : Job) (p : Pair) (l : Link) (n : ℕ) (q : Pair) : Type 
   pub carried : (t : TriesOver (job_in job l) l.before l.after p l.status over.told over.now)
       → AreCarriedOut IsNotOurs (job_in job l) (job_digest (job_in job l)) p (stopped_in n t.tries) q
 
+-- a run as it ended, or one that was stopped when so many of its saves had ended, and the slots that it left
 pub data Event : Type 0 where
   ran : Link → Event
   stopped : Link → ℕ → Pair → Event
 
+-- the slots that it left
 abbrev pub slots_after : Event → Pair
 slots_after (ran l) = l.slots
 slots_after (stopped l n q) = q
 
+-- it is a run of the job over these slots, to its end or not
 abbrev pub IsEvent : Job → Pair → Event → Type 0
 IsEvent job p (ran l) = IsLink job p l
 IsEvent job p (stopped l n q) = IsStop job p l n q
@@ -158,10 +161,12 @@ pub record WroteWhereDue (job : Job) (l : Link) : Type 0 where
   pub save_failed : (outcomes : List Outcome) → StartsWith l.words l.before (job_in job l) outcomes → IsFalse (leaves_work (job_in job l) outcomes) → l.status ≡ 9
       → WroteOneThreads job l
 
+-- a run as it ended has written its report, where it was due
 abbrev pub HasWritten : Job → Event → Type 0
 HasWritten job (ran l) = WroteWhereDue job l
 HasWritten job (stopped l n q) = ⊤
 
+-- so have all
 abbrev pub AllHaveWritten : Job → List Event → Type 0
 AllHaveWritten job [] = ⊤
 AllHaveWritten job (e ∷ events) = HasWritten job e × AllHaveWritten job events

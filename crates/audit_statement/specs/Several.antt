@@ -2,23 +2,23 @@
 use Rattle.std.specs.Prelude.{◌≡◌, ◌≢◌, ◌⊎◌, ℕ, ◌<◌, ◌≤◌, Bool, true, false, nat_lt, List, [], ◌∷◌, length, codes, bytes_eq, ⊤, Option, Some, None, Result, Ok, Err, IsErr}
 use Rattle.std.specs.List.{All}
 use Rattle.std.specs.Io.KnownBytes.{Appends, IsAtEnd}
-use Rattle.audit_io.specs.Faults.{Rose}
+use Rattle.audit_model.specs.Faults.{Rose}
 use Rattle.audit_model.specs.declared.setting.Setting.{Setting}
 use Rattle.audit_model.specs.Job.{Job}
 use Rattle.audit_model.specs.Plan.{IsLegal}
 use Rattle.audit_model.specs.Trajectory.{hub, visit}
-use Rattle.draw_definitions.specs.Draw.{draw}
-use Rattle.note_definitions.specs.Note.{Ending, bad_words, too_many_bytes, bad_graph, bad_regions, bad_table, bad_plan, bad_plan_named, no_memory, read_fault, write_fault, load_fault, stopped, damaged, other_job, save_fault}
-use Rattle.plan_jobs.specs.declared.fault.PlansFault.{PlansFault}
-use Rattle.plan_jobs.specs.declared.fault.PlansFault.TheVariants as fault
-use Rattle.plan_jobs.specs.Reading.{Jobs, jobs_reading}
-use Rattle.text_definitions.specs.Report.{plans_text}
-use Rattle.word_definitions.specs.Words.{setting_of}
+use Rattle.audit_statement.specs.Draw.{draw}
+use Rattle.audit_statement.specs.Note.{Ending, bad_words, too_many_bytes, bad_graph, bad_regions, bad_table, bad_plan, bad_plan_named, no_memory, read_fault, write_fault, load_fault, stopped, damaged, other_job, save_fault}
+use Rattle.audit_model.specs.declared.fault.PlansFault.{PlansFault}
+use Rattle.audit_model.specs.declared.fault.PlansFault.TheVariants as fault
+use Rattle.audit_statement.specs.Jobs.{Jobs, jobs_reading}
+use Rattle.audit_statement.specs.Report.{plans_text}
+use Rattle.audit_statement.specs.Words.{setting_of}
 use Rattle.audit_statement.specs.Accepted.{columns_of, most_bytes}
 use Rattle.audit_statement.specs.Endings.{AppendsPart, SameUnless, TakesTooMany, TellsWhy}
 use Rattle.audit_statement.specs.Status.{status_of}
-use Rattle.audit_io.specs.State.{Stream}
-use Rattle.audit_io.specs.Told.{IfTold}
+use Rattle.audit_model.specs.State.{Stream}
+use Rattle.audit_model.specs.Told.{IfTold}
 use Rattle.audit_statement.specs.World.{World}
 
 -- whether the words are those of the command on several plans
@@ -37,10 +37,12 @@ ending_for setting (fault.Own f) = bad_plan f
 ending_for setting (fault.Other name f) = bad_plan_named name f
 ending_for setting fault.Memory = no_memory
 
+-- the jobs, or the refusal in the words of the note
 abbrev pub from_jobs : Setting → Result Jobs PlansFault → Result Jobs Ending
 from_jobs setting (Ok jobs) = Ok jobs
 from_jobs setting (Err f) = Err (ending_for setting f)
 
+-- of bytes that are too many, or are not
 abbrev pub from_size : Setting → List ℕ → Bool → Result Jobs Ending
 from_size setting bytes true = Err too_many_bytes
 from_size setting bytes false = from_jobs setting (jobs_reading setting bytes)
@@ -134,6 +136,7 @@ pub record PlansMarks : Type 0 where
   pub wrote : Bool
   pub write_failed : Bool
 
+-- the marks of each ending
 abbrev pub plans_marks : Option Ending → PlansMarks
 plans_marks None = record { read = true; read_failed = false; wrote = true; write_failed = false }
 plans_marks (Some (bad_words f)) = record { read = false; read_failed = false; wrote = false; write_failed = false }

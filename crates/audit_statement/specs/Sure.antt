@@ -2,12 +2,12 @@
 use Rattle.std.specs.Prelude.{◌≡◌, ◌⊎◌, ℕ, true, false, List, Some, None, Ok}
 use Rattle.audit_model.specs.declared.setting.Setting.{Setting}
 use Rattle.audit_model.specs.Job.{Job}
-use Rattle.audit_io.specs.Mem.{SureSlots}
+use Rattle.audit_model.specs.State.{SureSlots}
 use Rattle.audit_statement.specs.Accepted.{judged}
 use Rattle.audit_statement.specs.Causes.{HasBudget, IsTold}
 use Rattle.audit_statement.specs.Endings.{is_walking}
 use Rattle.audit_statement.specs.Several.{AreTheJobs, names_plans}
-use Rattle.plan_jobs.specs.Reading.{Jobs}
+use Rattle.audit_statement.specs.Jobs.{Jobs}
 use Rattle.audit_statement.specs.World.{World}
 
 -- the outside: these bytes to read, an output that tells nothing, these slots, and no fault

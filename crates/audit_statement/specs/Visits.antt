@@ -3,7 +3,7 @@ use Rattle.std.specs.Prelude.{ℕ, List, Option}
 use Rattle.audit_model.specs.Job.{Job}
 use Rattle.audit_model.specs.Plan.{IsLegal}
 use Rattle.audit_model.specs.Trajectory.{hub, visit}
-use Rattle.draw_definitions.specs.Draw.{draw}
+use Rattle.audit_statement.specs.Draw.{draw}
 use Rattle.audit_statement.specs.Accepted.{IsAccepted}
 
 -- every plan that is visited from the start plan or from the hub of an accepted job, on any stream and after any number of steps, is

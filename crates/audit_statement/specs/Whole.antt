@@ -2,7 +2,7 @@
 use Rattle.std.specs.Prelude.{◌≡◌, ℕ, true, false, List}
 use Rattle.audit_statement.specs.Promise.{KeepsItsPromise}
 use Rattle.audit_statement.specs.Several.{KeepsPlansPromise, names_plans}
-use Rattle.audit_io.specs.State.{Stream}
+use Rattle.audit_model.specs.State.{Stream}
 use Rattle.audit_statement.specs.World.{World}
 
 -- where the first word is not that of the command on several plans, what is promised of one plan, also of words that are refused; and where it is, what

@@ -14,22 +14,23 @@ use Rattle.audit_model.specs.Job.{Job}
 use Rattle.audit_model.specs.Run.{fits, full, has_id, part_ids, run_ids, total}
 use Rattle.audit_model.specs.Stopping.{placed_asks}
 use Rattle.audit_model.specs.Trajectory.{Draws, outcome, outcome_by, sequence, tally}
-use Rattle.claim_crew.specs.Walks.{found}
-use Rattle.draw_definitions.specs.Draw.{draw}
+use Rattle.claim_counter.specs.Walks.{found}
+use Rattle.audit_statement.specs.Draw.{draw}
 use Rattle.hex.specs.Hex.{encode_lower}
-use Rattle.model_laws.proofs.Fitting as fitting
-use Rattle.model_laws.proofs.Parts.{only_part}
-use Rattle.model_laws.proofs.Resumed.{full_is_sequence}
-use Rattle.model_laws.proofs.Below.{length-map_below, get_or-map_below}
-use Rattle.report.specs.Outcomes.{AreOutcomesOf, AreStopsBy, AreStopsOf, IsStop, reported_by}
-use Rattle.stopping_crew.specs.Rounds.{AreParts, StopsInTime, ends_after, found_below}
-use Rattle.text_definitions.specs.Report.{graph_line, line, population_line, report, rule_lines, serial_lines, setting_line, shift_line, stop_line, test_lines, title_line, walk_line, walk_lines}
-use Rattle.audit_steps.specs.Runs.{AreAll, IsRunJob}
-use Rattle.audit_steps.proofs.Starting.{every_id, none_right, none_fit}
-use Rattle.audit_steps.proofs.Running.{are_all, fit_list, leaves_none, one_part, run_setting}
+use Rattle.audit_model.proofs.Fitting as fitting
+use Rattle.audit_model.proofs.Parts.{only_part}
+use Rattle.audit_model.proofs.Resumed.{full_is_sequence}
+use Rattle.audit_model.proofs.Below.{length-map_below, get_or-map_below}
+use Rattle.report.specs.Outcomes.{AreOutcomesOf, AreStopsBy, AreStopsOf, IsStopOf, reported_by}
+use Rattle.sequential_test.specs.Rounds.{AreParts, StopsInTime, ends_after, found_below}
+use Rattle.audit_statement.specs.Report.{graph_line, line, population_line, report, rule_lines, serial_lines, setting_line, shift_line, stop_line, test_lines, title_line, walk_line, walk_lines}
+use Rattle.audit_laws.specs.Runs.{AreAll, IsRunJob}
+use Rattle.audit_laws.proofs.Starting.{every_id, none_right, none_fit}
+use Rattle.audit_laws.proofs.Running.{are_all, fit_list, leaves_none, one_part, run_setting}
 
 -- ---- lists by place
 
+-- a map of what a function gives below a number
 map-below : {A B : Type 0} (n : ℕ) (g : A → B) (f : ℕ → A) → map g (map_below n f) ≡ map_below n (λ k. g (f k))
 map-below zero g f = refl
 map-below (suc n) g f = map-append g (map_below n f) (f n ∷ []) ∙ ap (λ xs. xs ++ g (f n) ∷ []) (map-below n g f)
@@ -134,6 +135,7 @@ module _ (job : Job) (draws : Draws) where
 
 -- ---- all that one thread finds
 
+-- a test that all pass keeps all
 all_below-filter : (n : ℕ) → filter_below n (λ id. true) ≡ map_below n (λ id. id)
 all_below-filter zero = refl
 all_below-filter (suc n) = ap (λ xs. xs ++ n ∷ []) (all_below-filter n)
@@ -187,7 +189,7 @@ module _ (job : Job) (run : IsRunJob job) (some : 1 ≤ job.setting.stop) where
 
   -- ---- what the report is on
 
-  reports_walks : reported_by job.setting.stop job ≡ job.setting.walks
+  pub reports_walks : reported_by job.setting.stop job ≡ job.setting.walks
   reports_walks = by job.setting.stop some
     where
       by : (h : ℕ) → 1 ≤ h → reported_by h job ≡ job.setting.walks
@@ -218,7 +220,7 @@ module _ (job : Job) (run : IsRunJob job) (some : 1 ≤ job.setting.stop) where
         each = λ k d inside.
             let within : k < length job.setting.asks = omega (arith, inside, length-take (length job.setting.asks) stops) in
             let p = parts k within in
-            subst (IsStop job.setting.ends)
+            subst (IsStopOf job.setting.ends)
             (sym (get_or-take (length job.setting.asks) stops k d within ∙ get_or_default stops k d [] (omega (arith, within, enough))))
             (record { place = p.place; some = p.some; part = p.part; of = p.of });
       }

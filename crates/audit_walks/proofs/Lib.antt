@@ -1,4 +1,6 @@
+mod Finished
+mod Testing
 pub mod EarlyStops
 pub mod Plain
 pub mod Splitting
-mod Testing
+pub mod Telling

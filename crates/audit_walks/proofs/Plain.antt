@@ -5,7 +5,7 @@ use Rattle.audit_model.specs.Job.{Job}
 use Rattle.audit_model.specs.Serially.{serial_told}
 use Rattle.audit_model.specs.Stopping.{stops_by, stops_of}
 use Rattle.audit_model.specs.Trajectory.{Draws}
-use Rattle.text_definitions.specs.Report.{full_report, report}
+use Rattle.audit_statement.specs.Report.{full_report, report}
 
 -- no test stops early
 pub plain_report : (job : Job) → job.setting.stop ≡ 0 → (draws : Draws) (outcomes : List Outcome)

@@ -1,21 +1,20 @@
 -- The serial test of a run.
 use Rattle.std.proofs.Common.{◌≡◌, ℕ, ◌≤◌, Bool, true, false, List, Some, refl, sym, subst}
-use Rattle.audit_model.specs.declared.rules.Rules.{Rules}
 use Rattle.audit_model.specs.declared.outcome.Serial.{Serial}
 use Rattle.audit_model.specs.Job.{Job}
 use Rattle.audit_model.specs.Serially.{place_and_ranks}
 use Rattle.report.specs.Outcomes.{IsSerialBy, IsSerialOf}
 use Rattle.serial_test.specs.Ranks.{HasRanks}
-use Rattle.walker.specs.declared.walker.Walker.{Walker}
-use Rattle.audit_walks.specs.Serially.{IsMadeFor, IsTester, IsTesterBy}
+use Rattle.flip_kernel.specs.Held.{Held}
+use Rattle.audit_walks.specs.Serially.{IsTester, IsTesterBy}
 
-module _ {J : Type 0} (keeps : J → Type 0) (stands : J → List ℕ → Type 0) (takes : J → ℕ → ℕ → Bool) (by : J → Rules) (job : Job) (w : Walker J) where
-  asked_by : (b : Bool) → IsTesterBy b keeps stands takes by job (Some w) → (b ≡ true) × IsMadeFor keeps stands takes by job w
+module _ (job : Job) (w : Held) where
+  asked_by : (b : Bool) → IsTesterBy b job (Some w) → (b ≡ true) × (w.job ≡ job)
   asked_by true t = (refl, t)
   asked_by false t = absurd t
 
   -- where there is a walker for it, the test is asked for
-  pub asked : IsTester keeps stands takes by job (Some w) → (job.setting.serial ≡ true) × IsMadeFor keeps stands takes by job w
+  pub asked : IsTester job (Some w) → (job.setting.serial ≡ true) × (w.job ≡ job)
   asked t = asked_by job.setting.serial t
 
 -- what the test finds is a place and ranks of the job

@@ -1,4 +1,6 @@
+pub mod Ending
+pub mod Found
 pub mod Guards
+pub mod Means
 pub mod Ready
 pub mod Serially
-pub mod Stopped

@@ -2,9 +2,7 @@
 
 ghost use Rattle.std.specs.Prelude.{◌≡◌, ◌<◌, IfOk};
 ghost use Rattle.audit_model.specs.Run.{total};
-ghost use Rattle.ckpt_store.specs.Fitting.{AreFit};
-ghost use Rattle.audit_steps.specs.Runs.{IsRunJob};
-ghost use Rattle.audit_walks.specs.Ready.{IsReadyFor};
+ghost use Rattle.audit_walks.specs.Ready.{IsReadyFor, IsStartOf};
 
 use crate::todo::todo_of;
 use audit_model::buffers::{Bytes, OutcomeList};
@@ -28,8 +26,7 @@ pub struct Ready {
 
 // The book of a run that starts with these outcomes.
 fn book_of(alloc: Global, job: &Job, outcomes: &[Outcome]) -> Result<Book, Memory>
-    requires run { IsRunJob job.now }
-    requires fit { AreFit job.now outcomes.now }
+    requires { IsStartOf job.now outcomes.now }
     ensures total { IfOk result (λ b. b.total ≡ total job.now) }
     ensures outcomes { IfOk result (λ b. b.outcomes ≡ outcomes.now) }
 {
@@ -42,9 +39,9 @@ fn book_of(alloc: Global, job: &Job, outcomes: &[Outcome]) -> Result<Book, Memor
 
 /// What a run holds that starts with these outcomes. The only error is want of memory.
 pub fn make_ready(alloc: Global, job: &Job, outcomes: &[Outcome]) -> Result<Ready, Memory>
-    requires run { IsRunJob job.now }
-    requires fit { AreFit job.now outcomes.now }
-    ensures { IfOk result (IsReadyFor job.now outcomes.now) }
+    requires { IsStartOf job.now outcomes.now }
+    ensures ready { IfOk result (IsReadyFor job.now) }
+    ensures outcomes { IfOk result (λ r. r.book.outcomes ≡ outcomes.now) }
 {
     let book = book_of(alloc, job, outcomes)?;
     let todo = todo_of(alloc, job, &book, job.setting().budget)?;

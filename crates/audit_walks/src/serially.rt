@@ -2,10 +2,10 @@
 
 ghost use Rattle.std.specs.Prelude.{◌≡◌, IfOk};
 ghost use Rattle.audit_model.specs.Serially.{serial_told};
-ghost use Rattle.draw_definitions.specs.Draw.{draw};
+ghost use Rattle.audit_statement.specs.Draw.{draw};
 ghost use Rattle.report.specs.Outcomes.{IsSerialOf};
-ghost use Rattle.walker.specs.Judges.{IsJudgeFor};
-ghost use Rattle.audit_steps.specs.Runs.{IsRunJob};
+ghost use Rattle.flip_kernel.specs.Judged.{IsJudgeFor};
+ghost use Rattle.audit_laws.specs.Runs.{IsRunJob};
 ghost use Rattle.audit_walks.specs.Serially.{IsTester};
 
 use audit_model::memory::Memory;
@@ -21,8 +21,8 @@ pub fn make_tester<J: Judge>(
     job: &Job,
     judge: J,
 ) -> Result<Option<Walker<J>>, Memory>
-    requires { IsJudgeFor job.now J.keeps J.takes J.rules judge }
-    ensures { IfOk result (IsTester J.keeps J.stands J.takes J.rules job.now) }
+    requires { IsJudgeFor job.now (J.judging judge) }
+    ensures { IfOk result (IsTester job.now) }
 {
     if !job.setting().serial {
         return Ok(None);
@@ -34,7 +34,7 @@ pub fn make_tester<J: Judge>(
 /// The place and the ranks that the serial test finds, where it is asked for. It takes no memory.
 pub fn test_serially<J: Judge>(job: &Job, tester: Option<Walker<J>>) -> Option<(u32, [u64; 4])>
     requires run { IsRunJob job.now }
-    requires tester { IsTester J.keeps J.stands J.takes J.rules job.now tester }
+    requires tester { IsTester job.now tester }
     ensures found { result ≡ serial_told job.now (draw job.now.setting.key) }
     ensures within { IsSerialOf job.now result }
 {

@@ -3,7 +3,7 @@
 ghost use Rattle.std.specs.Prelude.{◌≡◌, ◌≤◌, IfOk};
 ghost use Rattle.audit_model.specs.JobOf.{IsJob};
 ghost use Rattle.audit_model.specs.Run.{total, is_in_part, run_ids};
-ghost use Rattle.claim_crew.specs.Walks.{IsTodo};
+ghost use Rattle.claim_counter.specs.Walks.{IsTodo};
 
 use audit_model::lists::UnitList;
 use audit_model::memory::Memory;

@@ -1,40 +1,39 @@
-//! Walks what is to be walked of a run that saves nothing.
+//! Walks a run that saves nothing: in one piece, or until each of its tests has stopped.
 
-ghost use Rattle.std.specs.Prelude.{◌+◌, ◌<◌, length};
-ghost use Rattle.ckpt_store.specs.Fitting.{AreFit};
-ghost use Rattle.claim_crew.specs.Crews.{IsCrew};
-ghost use Rattle.audit_steps.specs.Runs.{IsRunJob};
-ghost use Rattle.audit_walks.specs.Ready.{HasWalked, IsReadyFor};
+ghost use Rattle.std.specs.Prelude.{◌≡◌, false, length};
+ghost use Rattle.audit_statement.specs.Endings.{IsOpening, saves};
+ghost use Rattle.audit_laws.specs.Calls.{Finishes};
+ghost use Rattle.audit_model.specs.State.{Kept};
+ghost use Rattle.audit_walks.specs.Ending.{ended_as};
+ghost use Rattle.audit_walks.specs.Found.{HasFound};
+ghost use Rattle.audit_walks.specs.Means.{AreWorkersFor, AreWorkersForAll, AreWorkersForStops, IsMeansFor};
+ghost use Rattle.audit_walks.specs.Ready.{IsReadyFor};
 
+use crate::ending::{Finished, end_run};
+use crate::found::Found;
+use crate::means::{Means, Workers};
 use crate::ready::Ready;
 use audit_io::gate::Gate;
-use audit_model::buffers::{Bytes, OutcomeList};
-use claim_crew::crew::Crew;
-use claim_crew::walking::walk_run;
+use audit_io::sink::Sink;
+use claim_counter::crew::Crew;
+use claim_counter::runtime::Runtime;
+use claim_counter::walking::walk_run;
 use flip_guard::judge::Judge;
 use plan_core::job::Job;
+use sequential_test::crew::StoppingCrew;
+use sequential_test::walking::walk_to_stops;
 use std::thread::Threads;
 
-/// All outcomes of a run by rising id, and room for the report on them.
-#[derive(Drop)]
-pub struct Walked {
-    pub sorted: OutcomeList,
-    pub text: Bytes,
-}
-
-/// Walks what is to be walked. It takes no memory.
-pub fn walk<R: Threads + Sync, J: Judge + Send, G: Gate + Sync>(
-    rt: &R,
+// Walks all that is to be walked.
+fn walk_all<R: Threads + Sync, J: Judge + Send, G: Gate + Sync>(
+    rt: &Runtime<'_, R, G>,
     job: &Job,
     ready: Ready,
     crew: Crew<J>,
-    gate: &G,
-) -> Walked
-    requires run { IsRunJob job.now }
-    requires fit { AreFit job.now ready.book.outcomes }
-    requires ready { IsReadyFor job.now ready.book.outcomes ready }
-    requires crew { IsCrew J.keeps J.stands J.takes J.rules job.now (length ready.todo) job.now.setting.workers crew }
-    ensures { HasWalked job.now ready.book.outcomes result }
+) -> Found
+    requires ready { IsReadyFor job.now ready }
+    requires workers { AreWorkersForAll job.now (length ready.todo) crew }
+    ensures { HasFound job.now ready.book.outcomes result }
 {
     let Ready {
         mut book,
@@ -42,6 +41,71 @@ pub fn walk<R: Threads + Sync, J: Judge + Send, G: Gate + Sync>(
         mut sorted,
         text,
     } = ready;
-    walk_run(rt, job, todo.as_slice(), gate, crew, &mut book, &mut sorted);
-    Walked { sorted, text }
+    walk_run(rt, job, todo.as_slice(), crew, &mut book, &mut sorted);
+    Found::all(sorted, text)
+}
+
+// Walks all outlier trajectories, and then ends in rounds, until every test has stopped.
+fn walk_early<R: Threads + Sync, J: Judge + Send, G: Gate + Sync>(
+    rt: &Runtime<'_, R, G>,
+    job: &Job,
+    ready: Ready,
+    crew: StoppingCrew<J>,
+) -> Found
+    requires ready { IsReadyFor job.now ready }
+    requires workers { AreWorkersForStops job.now crew }
+    ensures { HasFound job.now ready.book.outcomes result }
+{
+    let Ready {
+        mut book,
+        todo,
+        mut sorted,
+        text,
+    } = ready;
+    let stops = walk_to_stops(rt, job, todo.as_slice(), crew, &mut book, &mut sorted);
+    let setting = job.setting();
+    Found {
+        sorted,
+        listed: setting.walks as usize,
+        stops,
+        told: setting.asks.len(),
+        text,
+    }
+}
+
+/// Walks what is to be walked, with these workers. It takes no memory.
+pub fn walk<R: Threads + Sync, J: Judge + Send, G: Gate + Sync>(
+    rt: &Runtime<'_, R, G>,
+    job: &Job,
+    ready: Ready,
+    workers: Workers<J>,
+) -> Found
+    requires ready { IsReadyFor job.now ready }
+    requires workers { AreWorkersFor job.now (length ready.todo) workers }
+    ensures { HasFound job.now ready.book.outcomes result }
+{
+    match workers {
+        Workers::All(crew) => walk_all(rt, job, ready, crew),
+        Workers::Early(crew) => walk_early(rt, job, ready, crew),
+    }
+}
+
+/// Walks what is to be walked of a run that saves nothing, and writes the report. It takes no memory.
+pub fn finish_unsaved<R: Threads + Sync, K: Sink, J: Judge + Send, G: Gate + Sync>(
+    rt: &Runtime<'_, R, G>,
+    job: &Job,
+    means: Means<J>,
+    out: &mut K,
+) -> Finished
+    requires unsaved { saves job.now.setting ≡ false }
+    requires means { IsMeansFor job.now means }
+    ensures { (k : Kept) → IsOpening job.now k.slots means.ready.book.outcomes → Finishes job.now (K.state out.old) (K.state out.new) k k (ended_as result) }
+{
+    let Means {
+        ready,
+        workers,
+        tester,
+    } = means;
+    let found = walk(rt, job, ready, workers);
+    end_run(job, found, tester, Ok(()), out)
 }

@@ -6,17 +6,18 @@ use Rattle.std.specs.List.{AllPairs}
 use Rattle.std.specs.Result.{result_ok}
 use Rattle.hex.specs.Hex.{decode_sized}
 use Rattle.hex.proofs.HexLemmas.{decode_sized-ok, decode_sized-twice, decode_of-ok}
-use Rattle.audit_model.specs.Limits.{IsPart, IsSetting, IsSettingOf, IsRunSetting}
+use Rattle.audit_model.specs.Limits.{HasPart, IsSetting, IsSettingOf, IsRunSetting}
 use Rattle.audit_model.specs.declared.fault.Name.TheVariants.{Slack, Key, Walks, Steps, Ends, HubSteps, Ask, Workers, MaxCut, MaxSplit, Parts, Part, Save}
 use Rattle.audit_model.specs.declared.setting.Ask.{Ask as AskOf}
 use Rattle.audit_model.specs.declared.setting.Command.{Command}
 use Rattle.audit_model.specs.declared.setting.Command.TheVariants.{Check, Run, Make, Plans}
-use Rattle.word_definitions.specs.Words.{NameAndValue, are_asks, as_run, asks_of, has_walks, is_good, is_number, number_at, parts_between, saves_parts, setting_for, text_of}
+use Rattle.audit_statement.specs.Words.{NameAndValue, are_asks, as_run, asks_of, has_walks, is_good, is_number, number_named, parts_between, saves_parts, setting_for, text_of}
 use Rattle.audit_words.specs.Judged.{AreGood, AreReadable}
 use Rattle.audit_words.proofs.Asking.{length-asks_of, AllPairs-asks_of}
 use Rattle.audit_words.proofs.Goodness.{asks_of-some, number-bounds, split-bounds}
 use Rattle.audit_words.proofs.Parting.{parts_between-some}
 
+-- a result that tests as a success is one
 value_of_ok : {A E : Type 0} (r : Result A E) → is_some (result_ok r) ≡ true → (x : A) × (r ≡ Ok x)
 value_of_ok (Ok x) h = (x, refl)
 value_of_ok (Err e) h = absurd (false≢true h)
@@ -36,6 +37,7 @@ record AreAsked (asks : List AskOf) : Type 0 where
   few : length asks ≤ 4
   apart : AllPairs (λ a b. a ≢ b) asks
 
+-- asks in a good text are at most four, and differ
 AreAsked-good : (text : List ℕ) → are_asks text ≡ true → AreAsked (unwrap_or (asks_of (parts_between 44 text)) [])
 AreAsked-good text h =
     let asked = asks_of-some text h in
@@ -46,17 +48,18 @@ AreAsked-good text h =
       apart = AllPairs-asks_of (parts_between 44 text) asked.0 asked.1 asked.3;
     })
 
+-- good words give a run a setting within its limits
 pub IsRunSetting-good : (command : Command) (words : List NameAndValue) → AreGood words → IsRunSetting (as_run command words)
 IsRunSetting-good command words good =
     let ends = and_parts (is_number 0 100000 (text_of Check words Ends)) (has_walks Check words) good.ends in
-    let walks = and_parts (nat_le 1 (number_at Check words Walks + number_at Check words Ends)) (nat_le (number_at Check words Walks + number_at Check words Ends) 100000) ends.1 in
+    let walks = and_parts (nat_le 1 (number_named Check words Walks + number_named Check words Ends)) (nat_le (number_named Check words Walks + number_named Check words Ends) 100000) ends.1 in
     let steps = number-bounds 1 1000000000 (text_of Check words Steps) good.steps in
     let hub_steps = number-bounds 1 1000000000 (text_of Check words HubSteps) good.hub_steps in
     let asked = AreAsked-good (text_of Check words Ask) good.ask in
     let workers = number-bounds 1 32 (text_of Check words Workers) good.workers in
     record {
-      some = leb-true 1 (number_at Check words Walks + number_at Check words Ends) walks.0;
-      few = leb-true (number_at Check words Walks + number_at Check words Ends) 100000 walks.1;
+      some = leb-true 1 (number_named Check words Walks + number_named Check words Ends) walks.0;
+      few = leb-true (number_named Check words Walks + number_named Check words Ends) 100000 walks.1;
       some_steps = steps.0;
       few_steps = steps.1;
       some_hub_steps = hub_steps.0;
@@ -68,6 +71,7 @@ IsRunSetting-good command words good =
       few_workers = workers.1;
     }
 
+-- the setting of a made grid is within the limits where that of a run is
 IsRunSetting-made : (words : List NameAndValue) → IsRunSetting (as_run Make words) → IsRunSetting (setting_for Make words)
 IsRunSetting-made words run = record {
   some = run.some;
@@ -83,24 +87,27 @@ IsRunSetting-made words run = record {
   few_workers = run.few_workers;
 }
 
-IsPart-made : (words : List NameAndValue) → IsPart (as_run Make words) → IsPart (setting_for Make words)
-IsPart-made words p = record { some = p.some; few = p.few; one_of = p.one_of; saves = p.saves }
+-- the part is one of the parts for a made grid as for a run
+HasPart-made : (words : List NameAndValue) → HasPart (as_run Make words) → HasPart (setting_for Make words)
+HasPart-made words p = record { some = p.some; few = p.few; one_of = p.one_of; saves = p.saves }
 
-IsPart-good : (command : Command) (words : List NameAndValue) → AreGood words → IsPart (as_run command words)
-IsPart-good command words good =
+-- of good words, the part is one of the parts
+HasPart-good : (command : Command) (words : List NameAndValue) → AreGood words → HasPart (as_run command words)
+HasPart-good command words good =
     let parts = and_parts (is_number 1 100000 (text_of Check words Parts)) (saves_parts Check words) good.parts in
     let bounds = number-bounds 1 100000 (text_of Check words Parts) parts.0 in
-    let part = and_parts (is_number 0 100000 (text_of Check words Part)) (nat_lt (number_at Check words Part) (number_at Check words Parts)) good.part in
+    let part = and_parts (is_number 0 100000 (text_of Check words Part)) (nat_lt (number_named Check words Part) (number_named Check words Parts)) good.part in
     record {
       some = bounds.0;
       few = bounds.1;
-      one_of = ltb-true (number_at Check words Part) (number_at Check words Parts) part.1;
-      saves = λ several. elim (or_cases (number_at Check words Parts == 1) (nat_le 1 (number_at Check words Save)) parts.1) [
-        | inl one ↦ absurd (omega (arith, several, eqb-true (number_at Check words Parts) 1 one))
-        | inr saved ↦ leb-true 1 (number_at Check words Save) saved
+      one_of = ltb-true (number_named Check words Part) (number_named Check words Parts) part.1;
+      saves = λ several. elim (or_cases (number_named Check words Parts == 1) (nat_le 1 (number_named Check words Save)) parts.1) [
+        | inl one ↦ absurd (omega (arith, several, eqb-true (number_named Check words Parts) 1 one))
+        | inr saved ↦ leb-true 1 (number_named Check words Save) saved
       ];
     }
 
+-- good words give a command a setting within all limits
 IsSetting-run : (command : Command) (words : List NameAndValue) → AreGood words → is_good Check words MaxSplit ≡ true → IsSettingOf command (as_run command words) → IsSetting (as_run command words)
 IsSetting-run command words good split is = record {
   slack = (number-bounds 0 10000 (text_of Check words Slack) good.slack).1;
@@ -108,10 +115,11 @@ IsSetting-run command words good split is = record {
   max_cut = (number-bounds 0 400000 (text_of Check words MaxCut) good.max_cut).1;
   some_splits = (split-bounds words split).0;
   few_splits = (split-bounds words split).1;
-  part = IsPart-good command words good;
+  part = HasPart-good command words good;
   command = is;
 }
 
+-- words whose values are good give a setting within all limits
 pub IsSetting-good : (command : Command) (words : List NameAndValue) → AreReadable command words → IsSetting (setting_for command words)
 IsSetting-good Check words good = record {
   slack = (number-bounds 0 10000 (text_of Check words Slack) good.0).1;
@@ -137,7 +145,7 @@ IsSetting-good Make words good = record {
   max_cut = (number-bounds 0 400000 (text_of Check words MaxCut) good.0.max_cut).1;
   some_splits = omega arith;
   few_splits = omega arith;
-  part = IsPart-made words (IsPart-good Make words good.0);
+  part = HasPart-made words (HasPart-good Make words good.0);
   command = IsRunSetting-made words (IsRunSetting-good Make words good.0);
 }
 IsSetting-good Plans words good = IsSetting-run Plans words good.0 good.1 (IsRunSetting-good Plans words good.0)

@@ -7,8 +7,8 @@ use Rattle.std.proofs.lemmas.Slice.Eq.{bytes_eq-Decides}
 use Rattle.std.specs.Prelude.{bytes_eq}
 use Rattle.std.specs.List.{All, AllPairs, cons_option, filter_map, list_any}
 use Rattle.audit_model.specs.declared.setting.Ask.{Ask}
-use Rattle.model_laws.proofs.Lists.{find_passes}
-use Rattle.word_definitions.specs.Words.{ask_of, ask_text, all_asks, asks_of, with_ask, all_different}
+use Rattle.audit_model.proofs.ListFacts.{find_passes}
+use Rattle.audit_statement.specs.Words.{ask_of, ask_text, all_asks, asks_of, with_ask, all_different}
 
 -- the word of an ask spells it
 spelled : (word : List ℕ) (ask : Ask) → ask_of word ≡ Some ask → ask_text ask ≡ word

@@ -9,17 +9,20 @@ find-skips p [] i d h e = absurd (omega arith)
 find-skips p (x ∷ xs) zero d h e = rw e refl
 find-skips p (x ∷ xs) (suc i) d h e = find-skips p xs i d (omega arith) e
 
+-- a search from a place whose item passes finds this item
 pub find-stops : {X : Type 0} (p : X → Bool) (xs : List X) (i : ℕ) (d : X) → i < length xs → p (get_or xs i d) ≡ true → find p (drop i xs) ≡ Some (get_or xs i d)
 find-stops p [] i d h e = absurd (omega arith)
 find-stops p (x ∷ xs) zero d h e = rw e refl
 find-stops p (x ∷ xs) (suc i) d h e = find-stops p xs i d (omega arith) e
 
+-- a search from the end finds nothing
 pub find-end : {X : Type 0} (p : X → Bool) (xs : List X) (i : ℕ) → length xs ≤ i → find p (drop i xs) ≡ None
 find-end p [] zero h = refl
 find-end p [] (suc i) h = refl
 find-end p (x ∷ xs) zero h = absurd (omega arith)
 find-end p (x ∷ xs) (suc i) h = find-end p xs i (omega arith)
 
+-- one number more that gives nothing leaves nothing found
 pub first_some_below-none : {A : Type 0} (k m : ℕ) (f : ℕ → Option A) → m ≡ suc k → first_some_below k f ≡ None → f k ≡ None → first_some_below m f ≡ None
 first_some_below-none k m f e none here = rw (e, none, here) refl
 
@@ -29,6 +32,7 @@ find-failing p [] k d inside below fails = absurd (omega arith)
 find-failing p (x ∷ xs) zero d inside below fails = rw fails refl
 find-failing p (x ∷ xs) (suc k) d inside below fails = let here : p x ≡ true = below 0 (omega arith) in rw here (find-failing p xs k d (omega arith) (λ j less. below (suc j) (omega arith)) fails)
 
+-- where each item passes, none that fails is found
 pub find-no_failing : {X : Type 0} (p : X → Bool) (xs : List X) (d : X) → ((j : ℕ) → j < length xs → p (get_or xs j d) ≡ true) → find (λ x. not (p x)) xs ≡ None
 find-no_failing p [] d all = refl
 find-no_failing p (x ∷ xs) d all = let here : p x ≡ true = all 0 (omega arith) in rw here (find-no_failing p xs d (λ j less. all (suc j) (omega arith)))

@@ -9,8 +9,8 @@ use Rattle.audit_model.specs.declared.fault.WordFault.TheVariants.{BadValue}
 use Rattle.audit_model.specs.declared.setting.Ask.{Ask as AskOf}
 use Rattle.audit_model.specs.declared.setting.Command.TheVariants.{Check, Run, Make, Plans}
 use Rattle.audit_model.specs.declared.setting.Command.{Command}
-use Rattle.model_laws.proofs.Options.{some_from}
-use Rattle.word_definitions.specs.Words.{NameAndValue, all_different, are_asks, ask_of, asks_of, command_of, has_split, is_good, is_number, names_of, number_at, number_of, parts_between, text_of}
+use Rattle.audit_model.proofs.Options.{some_from}
+use Rattle.audit_statement.specs.Words.{NameAndValue, all_different, are_asks, ask_of, asks_of, command_of, has_split, is_good, is_number, names_of, number_named, number_of, parts_between, text_of}
 use Rattle.audit_words.specs.Judged.{AreGood, AreReadable, fault_of_pairs, fault_of_values}
 use Rattle.audit_words.proofs.Unnamed.{good_budget, good_part, good_parts, good_resume, good_save}
 use Rattle.audit_words.proofs.Asking.{filter_map-ask_of}
@@ -20,11 +20,12 @@ bounded : (o : Option ℕ) (low high : ℕ) → unwrap_or (option_map (λ n. nat
 bounded None low high h = absurd (false≢true h)
 bounded (Some n) low high h = let both = and_parts (nat_le low n) (nat_le n high) h in (leb-true low n both.0, leb-true n high both.1)
 
+-- a text that is a number within bounds stands for one within them
 pub number-bounds : (low high : ℕ) (text : List ℕ) → is_number low high text ≡ true → (low ≤ unwrap_or (number_of text) 0) × (unwrap_or (number_of text) 0 ≤ high)
 number-bounds low high text h = bounded (number_of text) low high h
 
 -- the districts of a region are from 1 to 200
-pub split-bounds : (words : List NameAndValue) → is_good Check words MaxSplit ≡ true → (1 ≤ number_at Check words MaxSplit) × (number_at Check words MaxSplit ≤ 200)
+pub split-bounds : (words : List NameAndValue) → is_good Check words MaxSplit ≡ true → (1 ≤ number_named Check words MaxSplit) × (number_named Check words MaxSplit ≤ 200)
 split-bounds words good =
     number-bounds 1 200 (text_of Check words MaxSplit) (and_parts (is_number 1 200 (text_of Check words MaxSplit)) (has_split Check words) good).0
 
@@ -38,6 +39,7 @@ asks_of-some text h =
     let asks = some_from (asks_of parts) some.0 in
     (asks.0, asks.1, leb-true (length parts) 4 some.1, both.1)
 
+-- the asks that are read from a good text are all of them
 pub asks_of-good : (text : List ℕ) → are_asks text ≡ true → filter_map ask_of (parts_between 44 text) ≡ unwrap_or (asks_of (parts_between 44 text)) []
 asks_of-good text h =
     let some = asks_of-some text h in
@@ -48,6 +50,7 @@ passed : (good : Bool) (name : Name) (o : Option Name) → option_map BadValue (
 passed true name o h = (refl, h)
 passed false name o h = absurd (cc)
 
+-- where no name is bad, the first is good and none of the others is bad
 find-last : (good : Name → Bool) (name : Name) (names : List Name) → option_map BadValue (find (λ n. not (good n)) (name ∷ names)) ≡ None
     → (good name ≡ true) × (option_map BadValue (find (λ n. not (good n)) names) ≡ None)
 find-last good name names h = passed (good name) name (find (λ n. not (good n)) names) h
@@ -62,6 +65,7 @@ find-all good (name ∷ names) h (suc k) l = find-all good names (find-last good
 abbrev names_before : List Name → List Name
 names_before more = Slack ∷ Key ∷ Walks ∷ Steps ∷ Ends ∷ HubSteps ∷ Ask ∷ Workers ∷ Budget ∷ Save ∷ Resume ∷ MaxCut ∷ Shift ∷ Stop ∷ Serial ∷ more
 
+-- where no name of a run is bad, and the parts are good, all values are good
 AreGood-values : (words : List NameAndValue) (more : List Name) → option_map BadValue (find (λ name. not (is_good Check words name)) (names_before more)) ≡ None
     → is_good Check words Parts ≡ true → is_good Check words Part ≡ true → AreGood words
 AreGood-values words more h parts part =

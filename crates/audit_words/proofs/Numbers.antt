@@ -8,7 +8,7 @@ use Rattle.std.proofs.lemmas.Bool.{and_parts, leb-true, le-leb, false≢true, ca
 use Rattle.std.proofs.lemmas.Fmt.{parse-decimal, digits_value-decimal}
 use Rattle.std.proofs.lemmas.Slice.Eq.{bytes_eq-Decides}
 use Rattle.std.proofs.lemmas.Str.Parse.{IsNumeralModel, numerals_by_fold}
-use Rattle.word_definitions.specs.Words.{digits_value, number_of, is_number}
+use Rattle.audit_statement.specs.Words.{digits_value, number_of, is_number}
 
 -- the digits' value, from the left
 own : IsNumeralModel (λ ds. all_ascii_digits ds ≡ true) digits_value
@@ -20,6 +20,7 @@ tested : (b : Bool) (n low high : ℕ) → unwrap_or (option_map (λ m. nat_le l
 tested true n low high h = let parts = and_parts (nat_le low n) (nat_le n high) h in (refl, leb-true low n parts.0, leb-true n high parts.1)
 tested false n low high h = absurd (false≢true h)
 
+-- a number that is given and lies within bounds is kept
 passed : (b : Bool) (n low high : ℕ) → b ≡ true → low ≤ n → n ≤ high → cond (unwrap_or (option_map (λ m. nat_le low m && nat_le m high) (cond b (Some n) None)) false) (cond b (Some n) None) None ≡ Some n
 passed true n low high e l u = rw (le-leb low n l, le-leb n high u) refl
 passed false n low high e l u = absurd (false≢true e)

@@ -6,7 +6,7 @@ use Rattle.audit_model.specs.declared.fault.Name.{Name}
 use Rattle.audit_model.specs.declared.fault.Name.TheVariants.{Pop, Walks, Steps, Ends, Budget, Save, Stop, Serial, Parts, Part}
 use Rattle.audit_model.specs.declared.setting.Command.{Command}
 use Rattle.audit_model.specs.declared.setting.Command.TheVariants.{Check, Run, Make, Plans}
-use Rattle.word_definitions.specs.Words.{NameAndValue, is_good, names_of}
+use Rattle.audit_statement.specs.Words.{NameAndValue, is_good, names_of}
 use Rattle.audit_words.specs.Judged.{RestsOnGood, fault_of_pairs}
 use Rattle.audit_words.proofs.Unnamed.{good_save}
 
@@ -15,6 +15,7 @@ abbrev leads : (Name → Bool) → (Name → Bool) → List Name → Bool
 leads first second [] = true
 leads first second (name ∷ names) = not (second name) && (first name || leads first second names)
 
+-- before the second of two names stands the first
 leader : (first second : Name → Bool) (names : List Name) (k : ℕ) → leads first second names ≡ true → k < length names → second (get_or names k Pop) ≡ true
     → (j : ℕ) × (j < k) × (first (get_or names j Pop) ≡ true)
 leader first second [] k h inside is = absurd (omega arith)
@@ -72,22 +73,27 @@ abbrev on_parts : Name → Bool
 on_parts Part = true
 on_parts _ = false
 
+-- the name that tests as that of the parts is that of the parts
 is_parts-Parts : (name : Name) → is_parts name ≡ true → name ≡ Parts
 is_parts-Parts Parts h = refl
 is_parts-Parts _ h = absurd (false≢true h)
 
+-- the name that tests as that of the walks is that of the walks
 is_walks-Walks : (name : Name) → is_walks name ≡ true → name ≡ Walks
 is_walks-Walks Walks h = refl
 is_walks-Walks _ h = absurd (false≢true h)
 
+-- the name that tests as that of the steps is that of the steps
 is_steps-Steps : (name : Name) → is_steps name ≡ true → name ≡ Steps
 is_steps-Steps Steps h = refl
 is_steps-Steps _ h = absurd (false≢true h)
 
+-- the name that tests as that of the ends is that of the ends
 is_ends-Ends : (name : Name) → is_ends name ≡ true → name ≡ Ends
 is_ends-Ends Ends h = refl
 is_ends-Ends _ h = absurd (false≢true h)
 
+-- the name that tests as that of the saves is that of the saves
 is_save-Save : (name : Name) → is_save name ≡ true → name ≡ Save
 is_save-Save Save h = refl
 is_save-Save _ h = absurd (false≢true h)
@@ -129,6 +135,7 @@ module _ (command : Command) (words : List NameAndValue) (names : List Name) (k 
   rests saved Part is = good_parts (ap on_parts is)
   rests saved _ is = tt
 
+-- among the names of each command, each stands behind those that its value rests on
 is_ordered : (command : Command) → IsOrdered (names_of command)
 is_ordered Check = record { walks = refl; steps = refl; ends = refl; parts = refl }
 is_ordered Run = record { walks = refl; steps = refl; ends = refl; parts = refl }

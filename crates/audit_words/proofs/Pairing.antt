@@ -1,6 +1,6 @@
 -- Where the words of a pair stand among the words.
 use Rattle.std.proofs.Common.{◌≡◌, ℕ, zero, suc, ◌+◌, ◌*◌, ◌<◌, ◌≤◌, List, [], ◌∷◌, length, get_or, refl, arith, Some, None}
-use Rattle.word_definitions.specs.Words.{pairs}
+use Rattle.audit_statement.specs.Words.{pairs}
 
 -- half as many pairs as words, rounded up
 pub pairs-lower : (words : List (List ℕ)) → length words ≤ 2 * length (pairs words)
@@ -8,6 +8,7 @@ pairs-lower [] = omega arith
 pairs-lower (name ∷ []) = omega arith
 pairs-lower (name ∷ value ∷ rest) = let h = pairs-lower rest in omega arith
 
+-- twice the pairs are at most one more than the words
 pub pairs-upper : (words : List (List ℕ)) → 2 * length (pairs words) ≤ length words + 1
 pairs-upper [] = omega arith
 pairs-upper (name ∷ []) = omega arith

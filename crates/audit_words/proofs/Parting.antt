@@ -6,7 +6,7 @@ use Rattle.std.proofs.lemmas.List.Splits.{slice_split_first, slice_split_none}
 use Rattle.std.specs.Prelude.{◌==◌, ◌&&◌, bytes_eq, nat_le, is_some}
 use Rattle.std.specs.List.{list_any, slice_split, onto_first, position_or_len, before_first, after_first}
 use Rattle.audit_model.specs.declared.setting.Ask.{Ask}
-use Rattle.word_definitions.specs.Words.{parts_between, starts_with_byte, ask_of, asks_of, with_ask, all_different}
+use Rattle.audit_statement.specs.Words.{parts_between, starts_with_byte, ask_of, asks_of, with_ask, all_different}
 
 -- a part that begins with a byte, in either word
 starts_with_byte-onto : (c : ℕ) (parts : List (List ℕ)) → starts_with_byte c parts ≡ onto_first c parts
@@ -34,6 +34,7 @@ starts_with_byte-some : (c : ℕ) (parts : List (List ℕ)) → 0 < length (star
 starts_with_byte-some c [] = omega arith
 starts_with_byte-some c (part ∷ parts) = omega arith
 
+-- each text has a part between commas
 pub parts_between-some : (text : List ℕ) → 0 < length (parts_between 44 text)
 parts_between-some [] = omega arith
 parts_between-some (c ∷ rest) = cond_both (c == 44) ([] ∷ parts_between 44 rest) (starts_with_byte c (parts_between 44 rest)) (λ parts. 0 < length parts)
@@ -47,27 +48,32 @@ are_within room parts = is_some (asks_of parts) && nat_le (length parts) room &&
 abbrev within : Option Ask → Option (List Ask) → Bool → Bool → Bool → Bool
 within ask asks few among different = is_some (with_ask ask asks) && few && (not among && different)
 
+-- where the last part is an ask, the asks are within their limits
 within-last : (ask : Option Ask) → within ask (Some []) true false true ≡ is_some ask
 within-last None = refl
 within-last (Some ask) = refl
 
+-- a part that stands again later makes the asks bad
 within-twice : (ask : Option Ask) (asks : Option (List Ask)) (few different : Bool) → within ask asks few true different ≡ false
 within-twice None asks few different = refl
 within-twice (Some ask) None few different = refl
 within-twice (Some ask) (Some asks) true different = refl
 within-twice (Some ask) (Some asks) false different = refl
 
+-- one part more is judged by itself and by those after it
 within-more : (ask : Option Ask) (asks : Option (List Ask)) (few different : Bool) → is_some ask ≡ true → within ask asks few false different ≡ (is_some asks && few && different)
 within-more None asks few different good = absurd (false≢true good)
 within-more (Some ask) None few different good = refl
 within-more (Some ask) (Some asks) few different good = refl
 
+-- there is room for one more where less than the room is taken
 one_more : (n less room : ℕ) → suc less ≡ room → nat_le (suc n) room ≡ nat_le n less
 one_more n less room one = elim (cases_lt less n) [
   | inl many ↦ lt-leb (suc n) room (omega arith) ∙ sym (lt-leb n less many)
   | inr few ↦ le-leb (suc n) room (omega arith) ∙ sym (le-leb n less few)
 ]
 
+-- a last part is good exactly where it is an ask
 pub are_within-last : (room : ℕ) (word : List ℕ) → 0 < room → are_within room (word ∷ []) ≡ is_some (ask_of word)
 are_within-last room word some = ap (λ few. within (ask_of word) (Some []) few false true) (le-leb 1 room some) ∙ within-last (ask_of word)
 
@@ -86,10 +92,12 @@ module _ (word : List ℕ) (parts : List (List ℕ)) where
       ∙ within-more (ask_of word) (asks_of parts) (nat_le (length (word ∷ parts)) room) (all_different parts) good
       ∙ ap (λ few. is_some (asks_of parts) && few && all_different parts) (one_more (length parts) less room one)
 
+-- where there are too many, the asks are bad
 no_room : (asks : Bool) (few different : Bool) → few ≡ false → (asks && few && different) ≡ false
 no_room true few different none = rw none refl
 no_room false few different none = refl
 
+-- with no room left, no part is good
 pub are_within-full : (text : List ℕ) → are_within 0 (parts_between 44 text) ≡ false
 are_within-full text =
     no_room (is_some (asks_of (parts_between 44 text))) (nat_le (length (parts_between 44 text)) 0) (all_different (parts_between 44 text)) (lt-leb (length (parts_between 44 text)) 0 (parts_between-some text))

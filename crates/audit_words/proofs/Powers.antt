@@ -7,8 +7,9 @@ use Rattle.std.proofs.Math.Nat.{pow-suc}
 use Rattle.std.proofs.lemmas.Bool.{cases_Bool, cases_eq, eq-eqb, eqb-true}
 use Rattle.std.proofs.lemmas.Nat.{zero_from_ones}
 use Rattle.audit_model.specs.Power as definition
-use Rattle.model_laws.proofs.Below.{any_below_some, any_below_from}
+use Rattle.audit_model.proofs.Below.{any_below_some, any_below_from}
 
+-- a power of two has a single one among its binary digits
 ones_of_power : (k : ℕ) → ones (2 ^ k) ≡ 1
 unfolding ones
 ones_of_power zero = refl
@@ -19,6 +20,7 @@ ones_of_power (suc k) =
     let rest : ones (2 ^ suc k / 2) ≡ 1 = ap ones half ∙ ones_of_power k in
     ones_step (2 ^ suc k) ∙ omega (arith, last, rest)
 
+-- a number with a single one among its binary digits is a power of two
 power_of_one : (m n : ℕ) → n < 2 ^ m → ones n ≡ 1 → (k : ℕ) × (k < m) × (2 ^ k ≡ n)
 unfolding ones
 power_of_one zero n small one =

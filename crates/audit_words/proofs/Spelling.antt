@@ -1,9 +1,10 @@
 -- Words that spell none of the things that are looked for.
 use Rattle.std.proofs.Common.{◌≡◌, ℕ, List, None, refl, sym}
 use Rattle.std.specs.Prelude.{codes}
-use Rattle.model_laws.proofs.Lists.{bytes_other}
-use Rattle.word_definitions.specs.Words.{ask_of}
+use Rattle.audit_model.proofs.ListFacts.{bytes_other}
+use Rattle.audit_statement.specs.Words.{ask_of}
 
+-- a word that is none of the eight spellings is no ask
 pub ask_of-other : (word : List ℕ) → (word ≡ codes "seats:low" → ⊥) → (word ≡ codes "seats:high" → ⊥)
     → (word ≡ codes "mean-median:low" → ⊥) → (word ≡ codes "mean-median:high" → ⊥) → (word ≡ codes "gap:low" → ⊥) → (word ≡ codes "gap:high" → ⊥)
     → (word ≡ codes "cut-edges:low" → ⊥) → (word ≡ codes "cut-edges:high" → ⊥) → ask_of word ≡ None

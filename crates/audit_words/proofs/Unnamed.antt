@@ -11,17 +11,11 @@ use Rattle.audit_model.specs.declared.fault.Name.TheVariants.{Budget, Ends, Save
 use Rattle.audit_model.specs.declared.setting.Command.TheVariants.{Check, Plans}
 use Rattle.audit_model.specs.First.{first_some_below}
 use Rattle.audit_model.specs.Names.{name_text}
-use Rattle.model_laws.proofs.Options.{option_or_none}
-use Rattle.word_definitions.specs.Words.{NameAndValue, default_of, has_walks, is_good, is_number, known_fault, name_of, number_at, number_of, pair_at, pair_fault, text_of}
+use Rattle.audit_model.proofs.First.{first_some_below_none}
+use Rattle.audit_statement.specs.Words.{NameAndValue, default_of, has_walks, is_good, is_number, known_fault, name_of, number_named, number_of, word_pair, pair_fault, text_of}
 use Rattle.audit_words.specs.Judged.{fault_of_pairs}
 
-all_none : {A : Type 0} (n : ℕ) (f : ℕ → Option A) → first_some_below n f ≡ None → (k : ℕ) → k < n → f k ≡ None
-all_none zero f h k l = absurd (omega (arith, l))
-all_none (suc n) f h k l = let both = option_or_none (first_some_below n f) (f n) h in elim (cases_eq k n) [
-  | inl e ↦ subst (λ m. f m ≡ None) (sym e) both.1
-  | inr e ↦ all_none n f both.0 k (omega (arith, l, e))
-]
-
+-- where no pair has the name, none is found
 no_such : (text : List ℕ) (words : List NameAndValue) → ((k : ℕ) → k < length words → bytes_eq (slice_index_or words k ([], None)).0 text ≡ false)
     → find (λ (pair : NameAndValue). bytes_eq pair.0 text) words ≡ None
 no_such text [] h = refl
@@ -30,16 +24,16 @@ no_such text (p ∷ ps) h =
 
 module _ (words : List NameAndValue) (faultless : fault_of_pairs Plans words ≡ None) where
   -- a word that spells no name stands in no pair
-  not_there : (text : List ℕ) → name_of Plans words text ≡ None → (k : ℕ) → k < length words → bytes_eq (pair_at Plans words k).0 text ≡ false
-  not_there text unnamed k l = by (bytes_eq (pair_at Plans words k).0 text) refl
+  not_there : (text : List ℕ) → name_of Plans words text ≡ None → (k : ℕ) → k < length words → bytes_eq (word_pair Plans words k).0 text ≡ false
+  not_there text unnamed k l = by (bytes_eq (word_pair Plans words k).0 text) refl
     where
-      by : (b : Bool) → bytes_eq (pair_at Plans words k).0 text ≡ b → bytes_eq (pair_at Plans words k).0 text ≡ false
+      by : (b : Bool) → bytes_eq (word_pair Plans words k).0 text ≡ b → bytes_eq (word_pair Plans words k).0 text ≡ false
       by false e = e
       by true e =
-          let same : (pair_at Plans words k).0 ≡ text = (bytes_eq-Decides (pair_at Plans words k).0 text).0 e in
+          let same : (word_pair Plans words k).0 ≡ text = (bytes_eq-Decides (word_pair Plans words k).0 text).0 e in
           let fault : pair_fault Plans words k ≡ known_fault Plans words k None =
           ap (λ t. known_fault Plans words k (name_of Plans words t)) same ∙ ap (known_fault Plans words k) unnamed in
-          let none = all_none (length words) (pair_fault Plans words) faultless k l in
+          let none = first_some_below_none (length words) (pair_fault Plans words) k faultless l in
           let impossible : None ≡ known_fault Plans words k None = sym none ∙ fault in cc
 
   defaulted : (name : Name) → name_of Plans words (name_text name) ≡ None → text_of Check words name ≡ unwrap_or (default_of name) []
@@ -65,7 +59,7 @@ module _ (words : List NameAndValue) (faultless : fault_of_pairs Plans words ≡
   pub good_parts : is_good Check words Parts ≡ true
   unfolding digits
   good_parts =
-      subst (λ (parts : List ℕ). (is_number 1 100000 parts && ((unwrap_or (number_of parts) 0 == 1) || nat_le 1 (number_at Check words Save))) ≡ true) (sym parts_is) refl
+      subst (λ (parts : List ℕ). (is_number 1 100000 parts && ((unwrap_or (number_of parts) 0 == 1) || nat_le 1 (number_named Check words Save))) ≡ true) (sym parts_is) refl
 
   pub good_part : is_good Check words Part ≡ true
   unfolding digits
@@ -84,8 +78,8 @@ module _ (words : List NameAndValue) (faultless : fault_of_pairs Plans words ≡
   unfolding digits
   good_budget ends =
       let walks = and_parts (is_number 0 100000 (text_of Check words Ends)) (has_walks Check words) ends in
-      let few = and_parts (nat_le 1 (number_at Check words Walks + number_at Check words Ends)) (nat_le (number_at Check words Walks + number_at Check words Ends) 100000) walks.1 in
-      enough (number_at Check words Walks + number_at Check words Ends) few.1
+      let few = and_parts (nat_le 1 (number_named Check words Walks + number_named Check words Ends)) (nat_le (number_named Check words Walks + number_named Check words Ends) 100000) walks.1 in
+      enough (number_named Check words Walks + number_named Check words Ends) few.1
     where
       enough : (n : ℕ) → nat_le n 100000 ≡ true
           → (is_number 0 100000 (text_of Check words Budget) && (not (is_number 0 0 (text_of Check words Save)) || nat_le n (unwrap_or (number_of (text_of Check words Budget)) 0))) ≡ true

@@ -7,7 +7,7 @@ use Rattle.audit_model.specs.declared.fault.WordFault.{WordFault}
 use Rattle.audit_model.specs.declared.fault.WordFault.TheVariants.{MissingName, BadValue}
 use Rattle.audit_model.specs.declared.setting.Command.{Command}
 use Rattle.audit_model.specs.declared.setting.Command.TheVariants.{Check, Run, Make, Plans}
-use Rattle.word_definitions.specs.Words.{NameAndValue, pair_fault, value_of, is_good, names_of}
+use Rattle.audit_statement.specs.Words.{NameAndValue, pair_fault, given_or_default, is_good, names_of}
 
 -- the fault of the first pair that has one
 abbrev pub fault_of_pairs : Command → List NameAndValue → Option WordFault
@@ -15,7 +15,7 @@ fault_of_pairs command words = first_some_below (length words) (pair_fault comma
 
 -- the first name that is missing
 abbrev pub fault_of_names : Command → List NameAndValue → Option WordFault
-fault_of_names command words = option_map MissingName (find (λ name. is_none (value_of command words name)) (names_of command))
+fault_of_names command words = option_map MissingName (find (λ name. is_none (given_or_default command words name)) (names_of command))
 
 -- the first name whose value is bad
 abbrev pub fault_of_values : Command → List NameAndValue → Option WordFault

@@ -3,7 +3,7 @@ use Rattle.std.specs.Prelude.{◌≡◌, ◌⊎◌, ℕ, List, String, map, stri
 use Rattle.std.specs.Result.{MatchResult}
 use Rattle.audit_model.specs.declared.fault.WordFault.{WordFault}
 use Rattle.audit_model.specs.declared.fault.WordFault.TheVariants.{Memory}
-use Rattle.word_definitions.specs.Words.{NameAndValue, pairs}
+use Rattle.audit_statement.specs.Words.{NameAndValue, pairs}
 
 -- the bytes of each word
 abbrev pub spoken : {A : Type 0} → List (String A) → List (List ℕ)

@@ -2,8 +2,8 @@
 
 ghost use Rattle.std.specs.Prelude.{◌≡◌, IfOk, bytes_eq};
 ghost use Rattle.std.specs.List.{list_any, filter_map};
-ghost use Rattle.word_definitions.specs.Words as definition;
-ghost use Rattle.word_definitions.specs.Words.{parts_between};
+ghost use Rattle.audit_statement.specs.Words as definition;
+ghost use Rattle.audit_statement.specs.Words.{parts_between};
 
 use audit_model::lists::AskList;
 use audit_model::memory::Memory;

@@ -1,7 +1,7 @@
 //! The table of names.
 
 ghost use Rattle.std.specs.Prelude.{◌≡◌, [], option_map};
-ghost use Rattle.word_definitions.specs.Words as definition;
+ghost use Rattle.audit_statement.specs.Words as definition;
 
 use audit_model::fault::Name;
 use audit_model::setting::Command;

@@ -5,7 +5,7 @@ ghost use Rattle.std.specs.List.{slice_index_or};
 ghost use Rattle.audit_model.specs.Below.{any_below};
 ghost use Rattle.audit_model.specs.declared.setting.Command.TheVariants as command;
 ghost use Rattle.audit_words.specs.Spoken.{pairs_in};
-ghost use Rattle.word_definitions.specs.Words as definition;
+ghost use Rattle.audit_statement.specs.Words as definition;
 
 use crate::names::default_of;
 use audit_model::fault::Name;
@@ -64,7 +64,7 @@ pub fn given(words: &[String], name: Name) -> Option<&str>
 
 /// The value given for the name, or its default.
 pub fn value_of(words: &[String], name: Name) -> Option<&str>
-    ensures { option_map (λ s. s.now) result ≡ definition.value_of command.Check (pairs_in words.now) name }
+    ensures { option_map (λ s. s.now) result ≡ definition.given_or_default command.Check (pairs_in words.now) name }
 {
     match given(words, name) {
         Some(value) => Some(value),

@@ -6,7 +6,7 @@ ghost use Rattle.audit_model.specs.declared.setting.Command.TheVariants as comma
 ghost use Rattle.audit_model.specs.declared.setting.Command.TheVariants.{Check};
 ghost use Rattle.audit_words.specs.Judged.{AreGood, AreReadable};
 ghost use Rattle.audit_words.specs.Spoken.{pairs_in};
-ghost use Rattle.word_definitions.specs.Words as definition;
+ghost use Rattle.audit_statement.specs.Words as definition;
 
 use crate::asks::asks_of;
 use crate::fields::number_at;
@@ -85,22 +85,28 @@ fn check_setting(alloc: Global, words: &[String]) -> Result<Setting, Memory>
     })
 }
 
+/// The graph of a run: its columns, its regions and the limit of their splits where it is read, and its size where it is made.
+#[derive(Drop)]
+struct Ground {
+    columns: Columns,
+    size: u32,
+    region: Text,
+    max_split: u32,
+}
+
 /// The setting of a run, on a graph that is read or made.
 fn run_setting(
     alloc: Global,
     command: Command,
     words: &[String],
-    columns: Columns,
-    size: u32,
-    region: Text,
-    max_split: u32,
+    ground: Ground,
 ) -> Result<Setting, Memory>
     requires { AreGood (pairs_in words.now) }
-    ensures { IfOk result (λ setting. setting ≡ record (definition.as_run command (pairs_in words.now)) { columns = columns; size = size; region = region; max_split = max_split }) }
+    ensures { IfOk result (λ setting. setting ≡ record (definition.as_run command (pairs_in words.now)) { columns = ground.columns; size = ground.size; region = ground.region; max_split = ground.max_split }) }
 {
     Ok(Setting {
         command,
-        columns,
+        columns: ground.columns,
         slack: number_at(words, Name::Slack),
         key: key_of(text_of(words, Name::Key)).unwrap(),
         walks: number_at(words, Name::Walks),
@@ -112,13 +118,13 @@ fn run_setting(
         budget: number_at(words, Name::Budget),
         save_every: number_at(words, Name::Save),
         resume: text_of(words, Name::Resume) == "yes",
-        size,
+        size: ground.size,
         max_cut: number_at(words, Name::MaxCut),
         shift: text_of(words, Name::Shift) == "yes",
         stop: number_at(words, Name::Stop),
         serial: text_of(words, Name::Serial) == "yes",
-        region,
-        max_split,
+        region: ground.region,
+        max_split: ground.max_split,
         parts: number_at(words, Name::Parts),
         part: number_at(words, Name::Part),
     })
@@ -130,10 +136,13 @@ fn read_setting(alloc: Global, command: Command, words: &[String]) -> Result<Set
     requires max_split { definition.is_good Check (pairs_in words.now) name.MaxSplit ≡ true }
     ensures { IfOk result (λ setting. setting ≡ definition.as_run command (pairs_in words.now)) }
 {
-    let columns = columns_of(alloc, words)?;
-    let region = copied(alloc, text_of(words, Name::Region))?;
-    let max_split = number_at(words, Name::MaxSplit);
-    run_setting(alloc, command, words, columns, 0, region, max_split)
+    let ground = Ground {
+        columns: columns_of(alloc, words)?,
+        size: 0,
+        region: copied(alloc, text_of(words, Name::Region))?,
+        max_split: number_at(words, Name::MaxSplit),
+    };
+    run_setting(alloc, command, words, ground)
 }
 
 /// The setting of a run on a grid that is made, which has no regions.
@@ -142,10 +151,13 @@ fn made_setting(alloc: Global, words: &[String]) -> Result<Setting, Memory>
     requires size { definition.is_good command.Make (pairs_in words.now) name.Size ≡ true }
     ensures { IfOk result (λ setting. setting ≡ definition.setting_for command.Make (pairs_in words.now)) }
 {
-    let columns = columns_of_grid(alloc)?;
-    let size = number_at(words, Name::Size);
-    let region = Text::new(alloc);
-    run_setting(alloc, Command::Make, words, columns, size, region, 200)
+    let ground = Ground {
+        columns: columns_of_grid(alloc)?,
+        size: number_at(words, Name::Size),
+        region: Text::new(alloc),
+        max_split: 200,
+    };
+    run_setting(alloc, Command::Make, words, ground)
 }
 
 /// The setting that the values give.

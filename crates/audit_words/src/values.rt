@@ -3,7 +3,7 @@
 ghost use Rattle.std.specs.Prelude.{◌≡◌, ◌||◌, None, cond, codes, bytes_eq};
 ghost use Rattle.std.specs.Result.{result_ok};
 ghost use Rattle.hex.specs.Hex.{decode_sized};
-ghost use Rattle.word_definitions.specs.Words as definition;
+ghost use Rattle.audit_statement.specs.Words as definition;
 
 use audit_model::setting::Command;
 use hex::FromHex;

@@ -5,8 +5,8 @@ ghost use Rattle.audit_model.specs.Limits.{IsSetting};
 ghost use Rattle.audit_model.specs.declared.fault.WordFault.TheVariants as fault;
 ghost use Rattle.audit_words.specs.Judged.{fault_of_pairs, fault_of_names, fault_of_values};
 ghost use Rattle.audit_words.specs.Spoken.{spoken, pairs_in, Tells};
-ghost use Rattle.word_definitions.specs.Words as definition;
-ghost use Rattle.word_definitions.specs.Words.{setting_of};
+ghost use Rattle.audit_statement.specs.Words as definition;
+ghost use Rattle.audit_statement.specs.Words.{setting_of};
 
 use crate::fields::is_good;
 use crate::names::{command_of, name_of, names_of};

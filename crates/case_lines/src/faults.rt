@@ -11,8 +11,8 @@ use crate::streams::{number, word};
 use std::str::SplitWhitespace;
 use std::test::Fail;
 
-/// The most runs of a line.
-pub const MOST_RUNS: u64 = 1000;
+/// The number that no run of a line has any more.
+pub const PAST_RUNS: u64 = 1000;
 
 /// The room for the output.
 const ROOM: usize = 4000;

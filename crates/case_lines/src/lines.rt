@@ -1,6 +1,6 @@
 //! The runs of the lines of a file.
 
-use crate::faults::{MOST_RUNS, said_in, setup_of};
+use crate::faults::{PAST_RUNS, said_in, setup_of};
 use crate::given::case_of;
 use crate::graphs::WORDS;
 use crate::held::{absent, keeper_of};
@@ -47,36 +47,42 @@ fn said_of<'a>(
     }
 }
 
-// The status of a run, which leaves there what is in its slots.
-fn status_of<A: Fn(&mut Case, StopKeeper) -> (u8, StopKeeper)>(
-    audit: &A,
-    case: &mut Case,
-    keeper: StopKeeper,
-    left: &mut MemKeeper,
-) -> u8
-    requires { A.IsAlwaysCallable audit.now }
-{
-    let (status, keeper) = audit(case, keeper);
-    *left = keeper.into_inner();
-    status
+// What a run is given, and its keeper over what the run before left.
+fn ready(
+    rt: &HostRuntime,
+    said: &Said<'_>,
+    parts: SplitWhitespace<'_>,
+    left: &MemKeeper,
+) -> Result<(Case, StopKeeper), Fail> {
+    let keeper = keeper_of(rt, &said.held, &said.saves, [left.slot(0), left.slot(1)])?;
+    with_keeper(rt, said, parts, keeper)
 }
 
-// Makes a run over what the run before left, and shows its end.
-fn run_over<A: Fn(&mut Case, StopKeeper) -> (u8, StopKeeper)>(
+fn with_keeper(
     rt: &HostRuntime,
-    audit: &A,
     said: &Said<'_>,
-    case: &mut Case,
-    left: &mut MemKeeper,
-) -> Result<u8, Fail>
-    requires { A.IsAlwaysCallable audit.now }
-{
-    let keeper = keeper_of(rt, &said.held, &said.saves, [left.slot(0), left.slot(1)])?;
-    let status = status_of(audit, case, keeper, left);
+    parts: SplitWhitespace<'_>,
+    keeper: StopKeeper,
+) -> Result<(Case, StopKeeper), Fail> {
+    match case_of(rt, &said.given, parts) {
+        Ok(case) => Ok((case, keeper)),
+        Err(fail) => Err(fail),
+    }
+}
+
+// Shows the end of a run, and answers its status.
+fn shown(
+    rt: &HostRuntime,
+    status: u8,
+    said: &Said<'_>,
+    case: &Case,
+    left: &MemKeeper,
+) -> Result<u8, Fail> {
     show_run(rt, status, said.is_told, case, left)?;
     Ok(status)
 }
 
+// Makes a run over what the run before left, and leaves there what is in its slots.
 fn run_said<A: Fn(&mut Case, StopKeeper) -> (u8, StopKeeper)>(
     rt: &HostRuntime,
     audit: &A,
@@ -86,50 +92,29 @@ fn run_said<A: Fn(&mut Case, StopKeeper) -> (u8, StopKeeper)>(
 ) -> Result<u8, Fail>
     requires { A.IsAlwaysCallable audit.now }
 {
-    let mut case = case_of(rt, &said.given, parts)?;
-    run_over(rt, audit, said, &mut case, left)
+    let (mut case, keeper) = ready(rt, said, parts, left)?;
+    let (status, keeper) = audit(&mut case, keeper);
+    *left = keeper.into_inner();
+    shown(rt, status, said, &case, left)
 }
 
-// Makes the run with this number of a line.
-fn run_once<A: Fn(&mut Case, StopKeeper) -> (u8, StopKeeper)>(
-    rt: &HostRuntime,
-    audit: &A,
-    kind: Kind,
-    line: &str,
-    run: u64,
-    left: &mut MemKeeper,
-) -> Result<u8, Fail>
-    requires { A.IsAlwaysCallable audit.now }
-{
-    let mut parts = line.split_whitespace();
-    let said = said_of(kind, line, run, &mut parts)?;
-    run_said(rt, audit, &said, parts, left)
-}
-
-fn show_number(rt: &HostRuntime, run: u64) -> io::Result<()> {
-    println!(rt; "run {run}")
-}
-
-// Makes one run of a line after the other, until one ends with status 0 or 7.
-fn run_each<A: Fn(&mut Case, StopKeeper) -> (u8, StopKeeper)>(
-    rt: &HostRuntime,
-    audit: &A,
-    line: &str,
-    left: &mut MemKeeper,
-) -> Result<(), Fail>
-    requires { A.IsAlwaysCallable audit.now }
-{
-    for run in 1..MOST_RUNS {
-        show_number(rt, run)?;
-        let status = run_once(rt, audit, Kind::Faults, line, run, left)?;
-        if status == 0 || status == 7 {
-            return Ok(());
-        }
+// The number that no run of a line has any more; the first has number 1.
+fn past_runs(kind: Kind) -> u64 {
+    match kind {
+        Kind::Plain | Kind::Keeping | Kind::Graphs => 2,
+        Kind::Faults => PAST_RUNS,
     }
-    Ok(())
 }
 
-// Makes the one run of a line, or one after the other.
+// Shows the number of a run, where a line has many.
+fn show_number(rt: &HostRuntime, kind: Kind, run: u64) -> io::Result<()> {
+    match kind {
+        Kind::Plain | Kind::Keeping | Kind::Graphs => Ok(()),
+        Kind::Faults => println!(rt; "run {run}"),
+    }
+}
+
+// Makes the runs of a line, until one ends with status 0 or 7.
 fn run_line<A: Fn(&mut Case, StopKeeper) -> (u8, StopKeeper)>(
     rt: &HostRuntime,
     audit: &A,
@@ -140,10 +125,15 @@ fn run_line<A: Fn(&mut Case, StopKeeper) -> (u8, StopKeeper)>(
     requires { A.IsAlwaysCallable audit.now }
 {
     rt.println(line)?;
-    if matches!(kind, Kind::Faults) {
-        return run_each(rt, audit, line, left);
+    for run in 1..past_runs(kind) {
+        show_number(rt, kind, run)?;
+        let mut parts = line.split_whitespace();
+        let said = said_of(kind, line, run, &mut parts)?;
+        let status = run_said(rt, audit, &said, parts, left)?;
+        if status == 0 || status == 7 {
+            return Ok(());
+        }
     }
-    run_once(rt, audit, kind, line, 0, left)?;
     Ok(())
 }
 
@@ -152,26 +142,14 @@ fn run_lines<A: Fn(&mut Case, StopKeeper) -> (u8, StopKeeper)>(
     audit: &A,
     kind: Kind,
     lines: &str,
-    left: &mut MemKeeper,
-) -> Result<(), Fail>
-    requires { A.IsAlwaysCallable audit.now }
-{
-    for line in lines.lines() {
-        run_line(rt, audit, kind, line, left)?;
-    }
-    Ok(())
-}
-
-fn run_text<A: Fn(&mut Case, StopKeeper) -> (u8, StopKeeper)>(
-    rt: &HostRuntime,
-    audit: &A,
-    kind: Kind,
-    lines: &str,
 ) -> Result<(), Fail>
     requires { A.IsAlwaysCallable audit.now }
 {
     let mut left = absent(rt.alloc())?;
-    run_lines(rt, audit, kind, lines, &mut left)
+    for line in lines.lines() {
+        run_line(rt, audit, kind, line, &mut left)?;
+    }
+    Ok(())
 }
 
 /// Makes the runs of each line of a file.
@@ -184,5 +162,5 @@ pub fn run_file<A: Fn(&mut Case, StopKeeper) -> (u8, StopKeeper)>(
     requires { A.IsAlwaysCallable audit.now }
 {
     let lines = text_of(rt, file)?;
-    run_text(rt, audit, kind, lines.as_str())
+    run_lines(rt, audit, kind, lines.as_str())
 }

@@ -12,7 +12,6 @@ use crate::streams::{bytes_of, text_of, word, words_of};
 use audit_io::sure::{SureSink, SureSource};
 use audit_io::sure_keeper::SureKeeper;
 use std::alloc::Global;
-use std::io;
 use std::str::SplitWhitespace;
 use std::test::Fail;
 
@@ -52,50 +51,43 @@ fn keeper_of(rt: &HostRuntime, zero: &str, one: &str) -> Result<SureKeeper, Fail
 }
 
 // Shows the status, the ids that the gate was told, and the note.
-fn show(rt: &HostRuntime, status: u8, case: &SureCase) -> io::Result<()> {
+fn show(rt: &HostRuntime, status: u8, case: &SureCase) -> Result<(), Fail> {
     show_end(rt, status, true, &case.gate)?;
-    rt.write_all(case.note.bytes())
-}
-
-fn status_of<A: Fn(&mut SureCase, SureKeeper) -> (u8, SureKeeper)>(
-    audit: &A,
-    case: &mut SureCase,
-    keeper: SureKeeper,
-) -> u8
-    requires { A.IsAlwaysCallable audit.now }
-{
-    let (status, _keeper) = audit(case, keeper);
-    status
-}
-
-// Makes a run over a keeper whose slots hold what these words say.
-fn run_over<A: Fn(&mut SureCase, SureKeeper) -> (u8, SureKeeper)>(
-    rt: &HostRuntime,
-    audit: &A,
-    zero: &str,
-    one: &str,
-    case: &mut SureCase,
-) -> Result<(), Fail>
-    requires { A.IsAlwaysCallable audit.now }
-{
-    let keeper = keeper_of(rt, zero, one)?;
-    let status = status_of(audit, case, keeper);
-    show(rt, status, case)?;
+    rt.write_all(case.note.bytes())?;
     Ok(())
 }
 
-fn run_slots<A: Fn(&mut SureCase, SureKeeper) -> (u8, SureKeeper)>(
+fn ready(
     rt: &HostRuntime,
-    audit: &A,
     zero: &str,
     one: &str,
     file: &str,
     parts: SplitWhitespace<'_>,
-) -> Result<(), Fail>
-    requires { A.IsAlwaysCallable audit.now }
-{
-    let mut case = case_of(rt, file, parts)?;
-    run_over(rt, audit, zero, one, &mut case)
+) -> Result<(SureCase, SureKeeper), Fail> {
+    let keeper = keeper_of(rt, zero, one)?;
+    with_keeper(rt, file, parts, keeper)
+}
+
+fn with_keeper(
+    rt: &HostRuntime,
+    file: &str,
+    parts: SplitWhitespace<'_>,
+    keeper: SureKeeper,
+) -> Result<(SureCase, SureKeeper), Fail> {
+    match case_of(rt, file, parts) {
+        Ok(case) => Ok((case, keeper)),
+        Err(fail) => Err(fail),
+    }
+}
+
+// What the run of a line is given, and its keeper.
+fn ready_by(rt: &HostRuntime, line: &str) -> Result<(SureCase, SureKeeper), Fail> {
+    rt.println(line)?;
+    let mut parts = line.split_whitespace();
+    let zero = word(&mut parts);
+    let one = word(&mut parts);
+    let file = word(&mut parts);
+    ready(rt, zero, one, file, parts)
 }
 
 // Makes the run of one line.
@@ -106,12 +98,9 @@ fn run_line<A: Fn(&mut SureCase, SureKeeper) -> (u8, SureKeeper)>(
 ) -> Result<(), Fail>
     requires { A.IsAlwaysCallable audit.now }
 {
-    rt.println(line)?;
-    let mut parts = line.split_whitespace();
-    let zero = word(&mut parts);
-    let one = word(&mut parts);
-    let file = word(&mut parts);
-    run_slots(rt, audit, zero, one, file, parts)
+    let (mut case, keeper) = ready_by(rt, line)?;
+    let (status, _keeper) = audit(&mut case, keeper);
+    show(rt, status, &case)
 }
 
 /// Makes the run of each line of a file.

@@ -2,7 +2,7 @@
 #![tactic(auto)]
 
 ghost use Rattle.std.specs.Prelude.{◌≡◌, ◌+◌, ◌<◌, ◌^◌};
-ghost use Rattle.draw_definitions.specs.Draw.{draw};
+ghost use Rattle.audit_statement.specs.Draw.{draw};
 
 use rand_chacha::ChaCha20Rng;
 use rand_core::SeedableRng;

@@ -3,12 +3,14 @@ use Rattle.std.proofs.Common.{◌≡◌, ℕ, ◌+◌, ◌<◌, List, [], ◌++�
 use Rattle.std.proofs.lemmas.List.{flat_map_more, take_more}
 use Rattle.std.specs.List.{flat_map}
 use Rattle.audit_model.specs.Room.{RoomyBytes}
-use Rattle.ckpt_format.specs.Written.{Appends}
+use Rattle.ckpt_format.specs.Written.{AppendsBytes}
 
-pub appends_none : (a : RoomyBytes) → Appends a a []
+-- nothing appended
+pub appends_none : (a : RoomyBytes) → AppendsBytes a a []
 appends_none a = record { items = sym (append-nil a.items); spare = omega arith }
 
-pub appends_then : (a b c : RoomyBytes) (xs ys : List ℕ) → Appends a b xs → Appends b c ys → Appends a c (xs ++ ys)
+-- one part appended after the other
+pub appends_then : (a b c : RoomyBytes) (xs ys : List ℕ) → AppendsBytes a b xs → AppendsBytes b c ys → AppendsBytes a c (xs ++ ys)
 appends_then a b c xs ys first second = record {
   items = second.items ∙ ap (λ (zs : List ℕ). zs ++ ys) first.items ∙ append_assoc a.items xs ys;
   spare = omega (arith, first.spare, second.spare, length-append xs ys);
@@ -16,12 +18,12 @@ appends_then a b c xs ys first second = record {
 
 -- one more piece of each item of a list
 pub appends_more : {X : Type 0} (f : X → List ℕ) (xs : List X) (i : ℕ) (d : X) (a b c : RoomyBytes) → i < length xs
-    → Appends a b (flat_map f (take i xs)) → Appends b c (f (get_or xs i d)) → Appends a c (flat_map f (take (i + 1) xs))
+    → AppendsBytes a b (flat_map f (take i xs)) → AppendsBytes b c (f (get_or xs i d)) → AppendsBytes a c (flat_map f (take (i + 1) xs))
 appends_more f xs i d a b c l first second =
     let next : flat_map f (take i xs) ++ f (get_or xs i d) ≡ flat_map f (take (i + 1) xs) =
     flat_map_more f [] (take i xs) (get_or xs i d) ∙ ap (flat_map f) (sym (take_more xs i d l)) in
-    subst (Appends a c) next (appends_then a b c (flat_map f (take i xs)) (f (get_or xs i d)) first second)
+    subst (AppendsBytes a c) next (appends_then a b c (flat_map f (take i xs)) (f (get_or xs i d)) first second)
 
 -- the room stays
-pub appends_room : (a b : RoomyBytes) (xs : List ℕ) → Appends a b xs → length b.items + b.spare ≡ length a.items + a.spare
+pub appends_room : (a b : RoomyBytes) (xs : List ℕ) → AppendsBytes a b xs → length b.items + b.spare ≡ length a.items + a.spare
 appends_room a b xs done = omega (arith, done.spare, ap length done.items, length-append a.items xs)

@@ -4,10 +4,11 @@ use Rattle.std.specs.Prelude.{slice_range}
 use Rattle.std.proofs.lemmas.Bool.{cases_lt}
 use Rattle.std.proofs.lemmas.List.{get_or-take, get_or-drop, get_or_past, length-take, length-take-le, drop_at, take_all}
 use Rattle.std.proofs.lemmas.List.Folds.{drop_split}
-use Rattle.model_laws.proofs.Lists.{part-front}
+use Rattle.audit_model.proofs.ListFacts.{part-front}
 
 -- ---- parts
 
+-- how long a part of a list is
 pub length-part : {X : Type 0} (xs : List X) (a b : ℕ) → a ≤ b → b ≤ length xs → length (slice_range xs a b) ≡ b - a
 length-part xs a b l m = length-take-le (b - a) (drop a xs) (omega (arith, length-drop a xs))
 
@@ -39,6 +40,7 @@ join-parts xs a b c l m n =
 abbrev pub AreBytes : List ℕ → Type 0
 AreBytes xs = (i : ℕ) → get_or xs i 0 < 256
 
+-- a part of bytes is bytes
 pub part-bytes : (xs : List ℕ) (a b : ℕ) → AreBytes xs → AreBytes (slice_range xs a b)
 part-bytes xs a b each i = elim (cases_lt i (b - a)) [
   | inl l ↦ subst (λ n. n < 256) (sym (get_or-take (b - a) (drop a xs) i 0 l ∙ get_or-drop a xs i 0)) (each (a + i))

@@ -8,8 +8,8 @@ use Rattle.std.proofs.lemmas.List.Elements.{filter_more}
 use Rattle.sha2.specs.declared.Sha256.{Sha256}
 use Rattle.audit_model.specs.Below.{filter_below}
 use Rattle.audit_model.specs.Graph.{Graph, IsGraph, has}
-use Rattle.model_laws.proofs.Below.{filter_below_cut}
-use Rattle.model_laws.proofs.Lists.{has_at, at_has}
+use Rattle.audit_model.proofs.Below.{filter_below_cut}
+use Rattle.audit_model.proofs.ListFacts.{has_at, at_has}
 use Rattle.ckpt_format.specs.Hashed.{Hashes, edges_from, pair_bytes}
 use Rattle.ckpt_format.proofs.Hashing.{hashes_same, hashes_then}
 
@@ -17,6 +17,7 @@ use Rattle.ckpt_format.proofs.Hashing.{hashes_same, hashes_then}
 abbrev pub Rises : List ℕ → Type 0
 Rises row = (k : ℕ) → k + 1 < length row → get_or row k 0 < get_or row (k + 1) 0
 
+-- in a rising row a later number is greater
 rises_far : (row : List ℕ) (j k : ℕ) → Rises row → j < k → k < length row → get_or row j 0 < get_or row k 0
 rises_far row j zero rises l m = absurd (omega arith)
 rises_far row j (suc k) rises l m =
@@ -75,6 +76,7 @@ filter_below-listed test row n rises below =
 abbrev pub greater : ℕ → List ℕ → List ℕ
 greater u row = flat_map (pair_bytes u) (filter (nat_lt u) row)
 
+-- a neighbour that is greater is taken in
 pub hashes_edge : (u : ℕ) (row : List ℕ) (i : ℕ) (a b c : Sha256) → i < length row → u < get_or row i 0
     → Hashes a b (greater u (take i row)) → Hashes b c (pair_bytes u (get_or row i 0)) → Hashes a c (greater u (take (i + 1) row))
 hashes_edge u row i a b c l less first second =
@@ -84,6 +86,7 @@ hashes_edge u row i a b c l less first second =
     ∙ ap (flat_map (pair_bytes u)) (sym (filter_more (nat_lt u) row i 0 l ∙ ap (λ b. filter (nat_lt u) (take i row) ++ cond b (x ∷ []) []) (lt-ltb u x less))) in
     hashes_same a c _ _ next (hashes_then a b c (greater u (take i row)) (pair_bytes u x) first second)
 
+-- one that is not greater is passed over
 pub hashes_no_edge : (u : ℕ) (row : List ℕ) (i : ℕ) (a b : Sha256) → i < length row → get_or row i 0 ≤ u
     → Hashes a b (greater u (take i row)) → Hashes a b (greater u (take (i + 1) row))
 hashes_no_edge u row i a b l less first =
@@ -92,6 +95,7 @@ hashes_no_edge u row i a b l less first =
     ap (flat_map (pair_bytes u)) (sym (filter_more (nat_lt u) row i 0 l ∙ ap (λ b. filter (nat_lt u) (take i row) ++ cond b (x ∷ []) []) (le-ltb u x less) ∙ append-nil (filter (nat_lt u) (take i row)))) in
     hashes_same a b _ _ next first
 
+-- the greater neighbours of a unit in its row are its edges to greater units
 pub edges_are_greater : (g : Graph) (u : ℕ) → IsGraph g → greater u (slice_index_or g.neighbours u []) ≡ edges_from g u
 edges_are_greater g u sound =
     let row = slice_index_or g.neighbours u [] in

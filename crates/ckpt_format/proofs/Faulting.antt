@@ -8,12 +8,13 @@ use Rattle.std.proofs.lemmas.Slice.Eq.{bytes_eq-Decides}
 use Rattle.sha2.specs.Sha256.{sha256}
 use Rattle.audit_model.specs.declared.fault.CkptFault.TheVariants.{TooShort, BadMagic, BadVersion, BadGeneration, BadCount, BadOrder, BadDigest}
 use Rattle.audit_model.specs.First.{first_below}
-use Rattle.model_laws.proofs.Options.{or_of_none, some_is_not_none, option_or_none, option_map_none, cond_some_none, cond_none}
-use Rattle.checkpoint_definitions.specs.Checkpoint.{checkpoint_fault, number_at, outcome_size, stated_count, stated_version}
-use Rattle.ckpt_format.specs.Faults.{length_fault, magic_fault, version_fault, generation_fault, count_fault, order_fault, digest_fault, head_fault, is_unordered}
+use Rattle.audit_model.proofs.Options.{or_of_none, some_is_not_none, option_or_none, option_map_none, cond_some_none, cond_none}
+use Rattle.audit_statement.specs.Checkpoint.{checkpoint_fault, number_at, outcome_size, stated_count, stated_version}
+use Rattle.ckpt_format.specs.Faults.{length_fault, magic_fault, version_fault, generation_fault, outcome_count_fault, order_fault, digest_fault, head_fault, is_unordered}
 
 -- ---- one after another
 
+-- the first fault of several, in two groups or in one
 or_in_turn : {A : Type 0} (l m v g c o d : Option A)
     → option_or l (option_or m (option_or v (option_or g (option_or c (option_or o (option_or d None))))))
     ≡ option_or l (option_or (option_or m (option_or v (option_or g (option_or c None)))) (option_or o d))
@@ -30,13 +31,15 @@ or_in_turn None None None None None None None = refl
 pub fault_is : (bytes : List ℕ) → checkpoint_fault bytes ≡ option_or (length_fault bytes) (option_or (head_fault bytes) (option_or (order_fault bytes (stated_count bytes)) (digest_fault bytes)))
 unfolding checkpoint_fault
 fault_is bytes = or_in_turn (length_fault bytes) (magic_fault bytes) (version_fault (stated_version bytes)) (generation_fault (number_at w32 44 bytes))
-    (count_fault (stated_version bytes) (stated_count bytes) (length bytes)) (order_fault bytes (stated_count bytes)) (digest_fault bytes)
+    (outcome_count_fault (stated_version bytes) (stated_count bytes) (length bytes)) (order_fault bytes (stated_count bytes)) (digest_fault bytes)
 
+-- of too few bytes the fault is their number
 pub fault_of_few : (bytes : List ℕ) → length bytes < 84 → checkpoint_fault bytes ≡ Some (TooShort (length bytes))
 fault_of_few bytes few =
     let rest = option_or (head_fault bytes) (option_or (order_fault bytes (stated_count bytes)) (digest_fault bytes)) in
     fault_is bytes ∙ ap (λ o. option_or o rest) (cond-true (nat_lt (length bytes) 84) (Some (TooShort (length bytes))) None (lt-ltb (length bytes) 84 few))
 
+-- of enough bytes the fault is the first of the others
 pub fault_of_many : (bytes : List ℕ) → 84 ≤ length bytes
     → checkpoint_fault bytes ≡ option_or (head_fault bytes) (option_or (order_fault bytes (stated_count bytes)) (digest_fault bytes))
 fault_of_many bytes many =
@@ -45,12 +48,13 @@ fault_of_many bytes many =
 
 -- ---- what no fault says
 
+-- where there is no fault, what is asked for holds
 else_none : {A : Type 0} (b : Bool) (x : A) → cond b None (Some x) ≡ None → b ≡ true
 else_none true x h = refl
 else_none false x h = absurd (some_is_not_none x h)
 
 -- the number of outcomes fits the length
-pub count_is_right : (version count size : ℕ) → count_fault version count size ≡ None → (count ≤ 100000) × (size ≡ 84 + outcome_size version * count)
+pub count_is_right : (version count size : ℕ) → outcome_count_fault version count size ≡ None → (count ≤ 100000) × (size ≡ 84 + outcome_size version * count)
 count_is_right version count size none =
     let right = 84 + outcome_size version * count in
     let parts = or_parts (nat_lt 100000 count) (not (size == right)) (cond_some_none _ (BadCount count size) none) in
@@ -75,12 +79,13 @@ pub record HasHead (bytes : List ℕ) : Type 0 where
   pub few : stated_count bytes ≤ 100000
   pub size : length bytes ≡ 84 + outcome_size (stated_version bytes) * stated_count bytes
 
+-- without a fault of the head, the head is as it has to be
 pub head_is_right : (bytes : List ℕ) → head_fault bytes ≡ None → HasHead bytes
 head_is_right bytes none =
     let magic = option_or_none (magic_fault bytes) _ none in
     let version = option_or_none (version_fault (stated_version bytes)) _ magic.1 in
     let generation = option_or_none (generation_fault (number_at w32 44 bytes)) _ version.1 in
-    let count = option_or_none (count_fault (stated_version bytes) (stated_count bytes) (length bytes)) None generation.1 in
+    let count = option_or_none (outcome_count_fault (stated_version bytes) (stated_count bytes) (length bytes)) None generation.1 in
     let right = count_is_right (stated_version bytes) (stated_count bytes) (length bytes) count.0 in
     let small : number_at w32 44 bytes ≤ 2 = ltb-false 2 (number_at w32 44 bytes) (cond_some_none _ (BadGeneration (number_at w32 44 bytes)) generation.0) in
     record {
@@ -97,6 +102,7 @@ pub record IsFaultless (bytes : List ℕ) : Type 0 where
   pub ordered : first_below (stated_count bytes) (is_unordered bytes) ≡ None
   pub last : drop (length bytes - 32) bytes ≡ sha256 (take (length bytes - 32) bytes)
 
+-- without any fault all that is asked for holds
 pub IsFaultless-from_none : (bytes : List ℕ) → checkpoint_fault bytes ≡ None → IsFaultless bytes
 IsFaultless-from_none bytes none =
     let tail = option_or (order_fault bytes (stated_count bytes)) (digest_fault bytes) in
@@ -111,28 +117,33 @@ IsFaultless-from_none bytes none =
       last = (bytes_eq-Decides found computed).0 (else_none (bytes_eq found computed) (BadDigest found computed) order.1);
     }
 
+-- where what is asked for holds, there is no fault
 else_is_none : {A : Type 0} (b : Bool) (x : A) → b ≡ true → cond b None (Some x) ≡ None
 else_is_none true x h = refl
 else_is_none false x h = absurd (false≢true h)
 
-no_count_fault : (version count size : ℕ) → count ≤ 100000 → size ≡ 84 + outcome_size version * count → count_fault version count size ≡ None
+-- a number of outcomes that is small and fills the bytes is no fault
+no_count_fault : (version count size : ℕ) → count ≤ 100000 → size ≡ 84 + outcome_size version * count → outcome_count_fault version count size ≡ None
 no_count_fault version count size few same =
     let right = 84 + outcome_size version * count in
     cond_none (nat_lt 100000 count || not (size == right)) (BadCount count size)
     (or_from (nat_lt 100000 count) (not (size == right)) (le-ltb 100000 count few) (not_from_true (size == right) (eq-eqb size right same)))
 
+-- version 1 or 2 is no fault
 no_version_fault : (version : ℕ) → (version ≡ 1) ⊎ (version ≡ 2) → version_fault version ≡ None
 no_version_fault version (inl one) = subst (λ v. version_fault v ≡ None) (sym one) refl
 no_version_fault version (inr two) = subst (λ v. version_fault v ≡ None) (sym two) refl
 
+-- a head that is as it has to be has no fault
 no_head_fault : (bytes : List ℕ) → HasHead bytes → head_fault bytes ≡ None
 no_head_fault bytes head =
     or_of_none (magic_fault bytes) _ (else_is_none (bytes_eq (take 8 bytes) (codes "DISTCKPT")) BadMagic ((bytes_eq-Decides (take 8 bytes) (codes "DISTCKPT")).1 head.magic))
     (or_of_none (version_fault (stated_version bytes)) _ (no_version_fault (stated_version bytes) head.version)
     (or_of_none (generation_fault (number_at w32 44 bytes)) _
     (cond_none (nat_lt 2 (number_at w32 44 bytes)) (BadGeneration (number_at w32 44 bytes)) (le-ltb 2 (number_at w32 44 bytes) (omega (arith, head.generation))))
-    (or_of_none (count_fault (stated_version bytes) (stated_count bytes) (length bytes)) None (no_count_fault (stated_version bytes) (stated_count bytes) (length bytes) head.few head.size) refl)))
+    (or_of_none (outcome_count_fault (stated_version bytes) (stated_count bytes) (length bytes)) None (no_count_fault (stated_version bytes) (stated_count bytes) (length bytes) head.few head.size) refl)))
 
+-- where all that is asked for holds, there is no fault
 pub none-from_IsFaultless : (bytes : List ℕ) → IsFaultless bytes → checkpoint_fault bytes ≡ None
 none-from_IsFaultless bytes right =
     let size = right.head.size in

@@ -8,15 +8,18 @@ use Rattle.sha2.specs.declared.Sha256.{Sha256}
 use Rattle.audit_model.specs.Below.{map_below}
 use Rattle.audit_model.specs.Job.{Job, rules}
 use Rattle.audit_model.specs.Graph.{count_edges}
-use Rattle.checkpoint_definitions.specs.Checkpoint.{job_bytes, edge_bytes, has_rules, rule_bytes, unit_bytes}
+use Rattle.audit_statement.specs.Checkpoint.{job_bytes, edge_bytes, has_rules, rule_bytes, unit_bytes}
 use Rattle.ckpt_format.specs.Hashed.{Hashes, ask_bytes, counts_bytes, limit_bytes, setting_bytes}
 
+-- nothing taken in
 pub hashes_none : (a : Sha256) → Hashes a a []
 hashes_none a = record { taken = λ before held. subst (Holds256 a) (sym (append-nil before)) held }
 
+-- the same bytes, written in another way
 pub hashes_same : (a b : Sha256) (xs ys : List ℕ) → xs ≡ ys → Hashes a b xs → Hashes a b ys
 hashes_same a b xs ys same one = subst (Hashes a b) same one
 
+-- one part taken in after the other
 pub hashes_then : (a b c : Sha256) (xs ys : List ℕ) → Hashes a b xs → Hashes b c ys → Hashes a c (xs ++ ys)
 hashes_then a b c xs ys first second = record {
   taken = λ before held. subst (Holds256 c) (append_assoc before xs ys) (second.taken (before ++ xs) (first.taken before held));
@@ -39,6 +42,7 @@ hashes_next f n a b c first second =
     flat_map_more f [] (map_below n (λ u. u)) n ∙ ap (flat_map f) (sym numbers) in
     hashes_same a c _ _ next (hashes_then a b c (flat_map f (map_below n (λ u. u))) (f n) first second)
 
+-- the parts of a job's digest, with those of the setting together or each alone
 grouped : (c e u s k w t n h q a r : List ℕ) → c ++ e ++ u ++ (s ++ k ++ w ++ t ++ n ++ h ++ q ++ a) ++ r ≡ c ++ e ++ u ++ s ++ k ++ w ++ t ++ n ++ h ++ q ++ a ++ r
 grouped c e u s k w t n h q a r = simp append_assoc
 

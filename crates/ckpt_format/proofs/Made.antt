@@ -10,10 +10,10 @@ use Rattle.audit_model.specs.Below.{map_below}
 use Rattle.audit_model.specs.declared.outcome.Outcome.{Outcome}
 use Rattle.std.proofs.lemmas.List.Elements.{All-from_recursion}
 use Rattle.audit_model.specs.Trajectory.{no_bins}
-use Rattle.model_laws.proofs.Below.{length-map_below, get_or-map_below}
-use Rattle.model_laws.proofs.First.{none_first_below}
-use Rattle.checkpoint_definitions.specs.Checkpoint.{AreRising, HoldsBins, IsCheckpoint, IsOutcome, checkpoint, checkpoint_body, checkpoint_fault, has_bins, number_at, outcome_bytes, outcome_size, stated_count, stated_id, stated_version}
-use Rattle.checkpoint_definitions.specs.Slots.{outcome_in, outcomes_in}
+use Rattle.audit_model.proofs.Below.{length-map_below, get_or-map_below}
+use Rattle.audit_model.proofs.First.{none_first_below}
+use Rattle.audit_statement.specs.Checkpoint.{AreRising, HoldsBins, IsCheckpoint, IsOutcome, checkpoint, checkpoint_body, checkpoint_fault, has_bins, number_at, outcome_bytes, outcome_size, stated_count, stated_id, stated_version}
+use Rattle.audit_statement.specs.Slots.{outcome_in, outcomes_in}
 use Rattle.ckpt_format.specs.Faults.{is_unordered}
 use Rattle.ckpt_format.specs.Laws.{StandsIn}
 use Rattle.ckpt_format.proofs.Cutting.{part-mid}
@@ -25,21 +25,27 @@ use Rattle.ckpt_format.proofs.Faulting.{none-from_IsFaultless}
 
 -- ---- the parts, each with what stands before it
 
+-- the digest between what stands before and behind it
 digest_apart : (m v d g c o s : List ℕ) → m ++ v ++ d ++ g ++ c ++ o ++ s ≡ (m ++ v) ++ d ++ (g ++ c ++ o ++ s)
 digest_apart m v d g c o s = simp append_assoc
 
+-- the version, so
 version_apart : (m v d g c o s : List ℕ) → m ++ v ++ d ++ g ++ c ++ o ++ s ≡ m ++ (v ++ (d ++ g ++ c ++ o ++ s))
 version_apart m v d g c o s = simp append_assoc
 
+-- the generation, so
 generation_apart : (m v d g c o s : List ℕ) → m ++ v ++ d ++ g ++ c ++ o ++ s ≡ (m ++ v ++ d) ++ (g ++ (c ++ o ++ s))
 generation_apart m v d g c o s = simp append_assoc
 
+-- the number of outcomes, so
 count_apart : (m v d g c o s : List ℕ) → m ++ v ++ d ++ g ++ c ++ o ++ s ≡ (m ++ v ++ d ++ g) ++ (c ++ (o ++ s))
 count_apart m v d g c o s = simp append_assoc
 
+-- the outcomes, so
 outcomes_apart : (m v d g c o s : List ℕ) → m ++ v ++ d ++ g ++ c ++ o ++ s ≡ (m ++ v ++ d ++ g ++ c) ++ (o ++ s)
 outcomes_apart m v d g c o s = simp append_assoc
 
+-- the format's name, so
 magic_apart : (m v d g c o s : List ℕ) → m ++ v ++ d ++ g ++ c ++ o ++ s ≡ m ++ (v ++ d ++ g ++ c ++ o ++ s)
 magic_apart m v d g c o s = simp append_assoc
 
@@ -51,10 +57,12 @@ held_at version outcomes k d (inl two) l = subst (λ v. AreHeld (has_bins v) (ge
 held_at version outcomes k d (inr (one, each)) l =
     subst (λ v. AreHeld (has_bins v) (get_or outcomes k d).bins) (sym one) (All-from_recursion (λ o. o.bins ≡ no_bins) outcomes each k d l)
 
+-- a version with which bins are held or left out fits four bytes
 version_below : (version : ℕ) (outcomes : List Outcome) → HoldsBins version outcomes → version < 2 ^ 32
 version_below version outcomes (inl two) = omega (arith, two)
 version_below version outcomes (inr (one, each)) = omega (arith, one)
 
+-- the outcomes that were written are read again
 outcomes_reread : (bytes p q : List ℕ) (version : ℕ) (outcomes : List Outcome) → bytes ≡ p ++ (flat_map (outcome_bytes version) outcomes ++ q) → length p ≡ 52
     → stated_version bytes ≡ version → HoldsBins version outcomes → AllByRecursion IsOutcome outcomes → map_below (length outcomes) (outcome_in bytes) ≡ outcomes
 outcomes_reread bytes p q version outcomes is e states held each =
@@ -78,6 +86,7 @@ pub record IsMade (bytes : List ℕ) (version : ℕ) (digest : List ℕ) (genera
   pub stands : StandsIn bytes version digest generation outcomes
   pub last : drop (length bytes - 32) bytes ≡ sha256 (take (length bytes - 32) bytes)
 
+-- a checkpoint, part by part
 spelled : (version : ℕ) (digest : List ℕ) (generation : ℕ) (outcomes : List Outcome)
     → checkpoint version digest generation outcomes
     ≡ codes "DISTCKPT" ++ to_be_bytes w32 version ++ digest ++ to_be_bytes w32 generation ++ to_be_bytes w32 (length outcomes)
@@ -85,6 +94,7 @@ spelled : (version : ℕ) (digest : List ℕ) (generation : ℕ) (outcomes : Lis
 unfolding checkpoint
 spelled version digest generation outcomes = refl
 
+-- a checkpoint has each part at its place
 pub IsMade-from_checkpoint : (bytes : List ℕ) (version : ℕ) (digest : List ℕ) (generation : ℕ) (outcomes : List Outcome)
     → IsCheckpoint bytes version digest generation outcomes → IsMade bytes version digest generation outcomes
 IsMade-from_checkpoint bytes version digest generation outcomes is =
@@ -123,6 +133,7 @@ IsMade-from_checkpoint bytes version digest generation outcomes is =
 
 -- ---- no fault
 
+-- rising ids that are stated have no fault of order
 in_order : (bytes : List ℕ) (ids : List ℕ) (place : ℕ) → AreRising ids → length ids ≡ stated_count bytes → ((k : ℕ) → k < stated_count bytes → get_or ids k 0 ≡ stated_id bytes k)
     → place < stated_count bytes → is_unordered bytes place ≡ false
 in_order bytes ids zero rising many each l = refl
@@ -133,10 +144,12 @@ in_order bytes ids (suc k) rising many each l =
     subst (λ n. stated_id bytes n < stated_id bytes (suc k)) (sym before) (omega (arith, next, each k (omega arith), each (suc k) l)) in
     and_right (nat_lt 0 (suc k)) (nat_le (stated_id bytes (suc k)) (stated_id bytes (suc k - 1))) (lt-leb (stated_id bytes (suc k)) (stated_id bytes (suc k - 1)) above)
 
+-- the version is 1 or 2
 known : (stated version : ℕ) (outcomes : List Outcome) → stated ≡ version → HoldsBins version outcomes → (stated ≡ 1) ⊎ (stated ≡ 2)
 known stated version outcomes is (inl two) = inr (is ∙ two)
 known stated version outcomes is (inr (one, each)) = inl (is ∙ one)
 
+-- so a checkpoint has no fault
 pub none-from_checkpoint : (bytes : List ℕ) (version : ℕ) (digest : List ℕ) (generation : ℕ) (outcomes : List Outcome)
     → IsCheckpoint bytes version digest generation outcomes → checkpoint_fault bytes ≡ None
 none-from_checkpoint bytes version digest generation outcomes is =

@@ -11,9 +11,9 @@ use Rattle.std.proofs.lemmas.List.Elements.{All-from_get_or, All-from_recursion,
 use Rattle.audit_model.specs.Below.{map_below}
 use Rattle.audit_model.specs.declared.outcome.Outcome.{Outcome}
 use Rattle.audit_model.specs.Trajectory.{no_bins}
-use Rattle.model_laws.proofs.Below.{length-map_below, get_or-map_below}
-use Rattle.checkpoint_definitions.specs.Checkpoint.{IsOutcome, bin_bytes, number_at}
-use Rattle.checkpoint_definitions.specs.Slots.{bins_at}
+use Rattle.audit_model.proofs.Below.{length-map_below, get_or-map_below}
+use Rattle.audit_statement.specs.Checkpoint.{IsOutcome, bin_bytes, number_at}
+use Rattle.audit_statement.specs.Slots.{bins_at}
 use Rattle.ckpt_format.specs.Written.{bytes_by, size_by}
 use Rattle.ckpt_format.proofs.Cutting.{AreBytes, join-parts, length-part, part-bytes, part-mid}
 use Rattle.ckpt_format.proofs.Pieces.{piece_apart, pieces_joined}
@@ -32,23 +32,29 @@ outcome_by with_bins bytes at = record {
 
 -- ---- bytes, read and written again
 
+-- four bytes are a number below 2 ^ 32
 number_below_32 : (bs : List ℕ) → AreBytes bs → from_be_bytes w32 bs < 2 ^ 32
 number_below_32 bs each = omega (arith, each 0, each 1, each 2, each 3)
 
+-- eight bytes are a number below 2 ^ 64
 number_below_64 : (bs : List ℕ) → AreBytes bs → from_be_bytes w64 bs < 2 ^ 64
 number_below_64 bs each = omega (arith, each 0, each 1, each 2, each 3, each 4, each 5, each 6, each 7)
 
+-- so are four bytes at a place
 pub number_at-below_32 : (bytes : List ℕ) (at : ℕ) → AreBytes bytes → number_at w32 at bytes < 2 ^ 32
 number_at-below_32 bytes at each = number_below_32 (slice_range bytes at (at + 4)) (part-bytes bytes at (at + 4) each)
 
+-- and eight
 pub number_at-below_64 : (bytes : List ℕ) (at : ℕ) → AreBytes bytes → number_at w64 at bytes < 2 ^ 64
 number_at-below_64 bytes at each = number_below_64 (slice_range bytes at (at + 8)) (part-bytes bytes at (at + 8) each)
 
+-- the number at a place, written again, is its four bytes
 pub rewritten_32 : (bytes : List ℕ) (a b : ℕ) → AreBytes bytes → a + 4 ≡ b → b ≤ length bytes → to_be_bytes w32 (number_at w32 a bytes) ≡ slice_range bytes a b
 rewritten_32 bytes a b each e l =
     let four : length (slice_range bytes a (a + 4)) ≡ 4 = length-part bytes a (a + 4) (omega arith) (omega arith) ∙ omega arith in
     be_bytes_4 (slice_range bytes a (a + 4)) (number_at w32 a bytes) four (part-bytes bytes a (a + 4) each) refl ∙ ap (slice_range bytes a) e
 
+-- or its eight
 pub rewritten_64 : (bytes : List ℕ) (a b : ℕ) → AreBytes bytes → a + 8 ≡ b → b ≤ length bytes → to_be_bytes w64 (number_at w64 a bytes) ≡ slice_range bytes a b
 rewritten_64 bytes a b each e l =
     let eight : length (slice_range bytes a (a + 8)) ≡ 8 = length-part bytes a (a + 8) (omega arith) (omega arith) ∙ omega arith in
@@ -69,6 +75,7 @@ join_four xs a b c d e ab bc cd de l =
     ∙ ap (λ (ys : List ℕ). slice_range xs a b ++ ys) (join-parts xs b c e bc (omega arith) l)
     ∙ join-parts xs a b e ab (omega arith) l
 
+-- four values are written one after the other
 values_of_four : (f : ℤ → List ℕ) (v w x y : ℤ) (a b c d : List ℕ) → f v ≡ a → f w ≡ b → f x ≡ c → f y ≡ d
     → flat_map f (v ∷ w ∷ x ∷ y ∷ []) ≡ a ++ (b ++ (c ++ (d ++ [])))
 values_of_four f v w x y a b c d p q r s = rw (p, q, r, s)
@@ -143,11 +150,13 @@ outcome_by-IsOutcome with_bins bytes a each = record {
 
 -- ---- numbers, written and read again
 
+-- a number that was written in four bytes is read again
 pub reread_32 : (p q : List ℕ) (n a : ℕ) → n < 2 ^ 32 → length p ≡ a → number_at w32 a (p ++ (to_be_bytes w32 n ++ q)) ≡ n
 reread_32 p q n a l e =
     ap (number_at w32 a) (sym (append_assoc p (to_be_bytes w32 n) q))
     ∙ ap (from_be_bytes w32) (part-mid p (to_be_bytes w32 n) q a (a + 4) e refl) ∙ from_be_bytes-to_be_bytes_4 n l
 
+-- or in eight
 pub reread_64 : (p q : List ℕ) (n a : ℕ) → n < 2 ^ 64 → length p ≡ a → number_at w64 a (p ++ (to_be_bytes w64 n ++ q)) ≡ n
 reread_64 p q n a l e =
     ap (number_at w64 a) (sym (append_assoc p (to_be_bytes w64 n) q))
@@ -159,6 +168,7 @@ spelled v = to_be_bytes w64 (cast_unsigned w64 v)
 abbrev value_at : ℕ → List ℕ → ℤ
 value_at a bytes = cast_signed w64 (number_at w64 a bytes)
 
+-- so is a value, which may be negative
 reread_value : (p q : List ℕ) (v : ℤ) (a : ℕ) → FitsSigned w64 v → length p ≡ a → value_at a (p ++ (spelled v ++ q)) ≡ v
 reread_value p q v a fits e =
     let small = (Fits-of_z {w = w64} {z = v} fits).fits in
@@ -168,12 +178,15 @@ reread_value p q v a fits e =
 second_of : (p v w x y q : List ℕ) → p ++ ((v ++ (w ++ (x ++ (y ++ [])))) ++ q) ≡ (p ++ v) ++ (w ++ (x ++ (y ++ q)))
 second_of p v w x y q = simp append_assoc
 
+-- the third of four values between others
 third_of : (p v w x y q : List ℕ) → p ++ ((v ++ (w ++ (x ++ (y ++ [])))) ++ q) ≡ (p ++ v ++ w) ++ (x ++ (y ++ q))
 third_of p v w x y q = simp append_assoc
 
+-- the fourth
 fourth_of : (p v w x y q : List ℕ) → p ++ ((v ++ (w ++ (x ++ (y ++ [])))) ++ q) ≡ (p ++ v ++ w ++ x) ++ (y ++ q)
 fourth_of p v w x y q = simp append_assoc
 
+-- the first
 first_of : (p v w x y q : List ℕ) → p ++ ((v ++ (w ++ (x ++ (y ++ [])))) ++ q) ≡ p ++ (v ++ (w ++ (x ++ (y ++ q))))
 first_of p v w x y q = simp append_assoc
 
@@ -223,6 +236,7 @@ abbrev pub AreHeld : Bool → List ℕ → Type 0
 AreHeld true bins = ⊤
 AreHeld false bins = bins ≡ no_bins
 
+-- the bins that were written are read again, and are 0 where none were
 reread_bins : (with_bins : Bool) (p q bins : List ℕ) (a : ℕ) → length bins ≡ 9 → AllByRecursion (λ n. n < 2 ^ 32) bins → AreHeld with_bins bins → length p ≡ a
     → bins_at with_bins (p ++ (bin_bytes with_bins bins ++ q)) a ≡ bins
 reread_bins true p q bins a nine each held e =
@@ -233,19 +247,24 @@ reread_bins false p q bins a nine each held e = sym held
 outcome_apart : (p i m v b q : List ℕ) → p ++ (i ++ m ++ v ++ b ++ q) ≡ p ++ (i ++ (m ++ (v ++ (b ++ q))))
 outcome_apart p i m v b q = simp append_assoc
 
+-- the moves of an outcome between what stands before and behind them
 moved_apart : (p i m v b q : List ℕ) → p ++ (i ++ m ++ v ++ b ++ q) ≡ (p ++ i) ++ (m ++ (v ++ (b ++ q)))
 moved_apart p i m v b q = simp append_assoc
 
+-- the values, so
 values_apart : (p i m v b q : List ℕ) → p ++ (i ++ m ++ v ++ b ++ q) ≡ (p ++ i ++ m) ++ (v ++ (b ++ q))
 values_apart p i m v b q = simp append_assoc
 
+-- the bins, so
 bins_apart : (p i m v b q : List ℕ) → p ++ (i ++ m ++ v ++ b ++ q) ≡ (p ++ i ++ m ++ v) ++ (b ++ q)
 bins_apart p i m v b q = simp append_assoc
 
+-- outcomes with the same parts are the same
 same_outcome : (i j m n : ℕ) (v w : List ℤ) (b c : List ℕ) → i ≡ j → m ≡ n → v ≡ w → b ≡ c
     → let left : Outcome = record { id = i; moved = m; values = v; bins = b } in let right : Outcome = record { id = j; moved = n; values = w; bins = c } in left ≡ right
 same_outcome i j m n v w b c e f g h = rw (e, f, g, h)
 
+-- an outcome that was written is read again
 pub reread_outcome : (with_bins : Bool) (p q : List ℕ) (o : Outcome) (a : ℕ) → IsOutcome o → AreHeld with_bins o.bins → length p ≡ a
     → outcome_by with_bins (p ++ (bytes_by with_bins o ++ q)) a ≡ o
 reread_outcome with_bins p q o a is held e =

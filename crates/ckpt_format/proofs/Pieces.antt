@@ -26,6 +26,7 @@ pub record IsApart (bytes : List ℕ) (at : ℕ) (piece : List ℕ) : Type 0 whe
   pub spelled : bytes ≡ front ++ (piece ++ back)
   pub size : length front ≡ at
 
+-- one of several pieces of one length between what stands before and behind it
 pub piece_apart : {X : Type 0} (f : X → List ℕ) (n : ℕ) (p q : List ℕ) (xs : List X) (a k : ℕ) (d : X)
     → AllByRecursion (λ x. length (f x) ≡ n) xs → length p ≡ a → k < length xs
     → IsApart (p ++ (flat_map f xs ++ q)) (a + n * k) (f (get_or xs k d))

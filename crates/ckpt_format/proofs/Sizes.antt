@@ -8,8 +8,8 @@ use Rattle.sha2.specs.Sha256.{sha256}
 use Rattle.sha2.proofs.Facts256.{length-sha256}
 use Rattle.audit_model.specs.Room.{RoomyBytes}
 use Rattle.audit_model.specs.declared.outcome.Outcome.{Outcome}
-use Rattle.checkpoint_definitions.specs.Checkpoint.{IsOutcome, bin_bytes, checkpoint, checkpoint_body, has_bins, outcome_bytes, outcome_size}
-use Rattle.ckpt_format.specs.Written.{Appends, bytes_by, head_bytes, size_by}
+use Rattle.audit_statement.specs.Checkpoint.{IsOutcome, bin_bytes, checkpoint, checkpoint_body, has_bins, outcome_bytes, outcome_size}
+use Rattle.ckpt_format.specs.Written.{AppendsBytes, bytes_by, head_bytes, size_by}
 
 -- pieces of one length
 pub length-pieces : {X : Type 0} (f : X → List ℕ) (n : ℕ) (xs : List X) → AllByRecursion (λ x. length (f x) ≡ n) xs → length (flat_map f xs) ≡ n * length xs
@@ -29,7 +29,7 @@ length-even_pieces f n (x ∷ xs) each =
 
 -- the room that is left for the rest of the pieces
 pub room_for_next : {X : Type 0} (f : X → List ℕ) (n : ℕ) (xs : List X) (i : ℕ) (a b : RoomyBytes) → i < length xs
-    → length (flat_map f (take i xs)) ≡ n * length (take i xs) → n * length xs ≤ a.spare → Appends a b (flat_map f (take i xs)) → n ≤ b.spare
+    → length (flat_map f (take i xs)) ≡ n * length (take i xs) → n * length xs ≤ a.spare → AppendsBytes a b (flat_map f (take i xs)) → n ≤ b.spare
 room_for_next f n xs i a b l even room done =
     let part : length (take i xs) ≡ i = length-take-le i xs (omega arith) in
     let used : length (flat_map f (take i xs)) ≡ n * i = rw part at even in
@@ -44,6 +44,7 @@ length-bare_bytes o four =
     let head : length (to_be_bytes w32 o.id ++ to_be_bytes w64 o.moved) ≡ 12 = refl in
     omega (arith, four, values, head, length-append (to_be_bytes w32 o.id ++ to_be_bytes w64 o.moved) (flat_map (λ v. to_be_bytes w64 (cast_unsigned w64 v)) o.values))
 
+-- how many bytes an outcome has with its bins and without
 length-bin_bytes : (with_bins : Bool) (bins : List ℕ) → length bins ≡ 9 → 44 + length (bin_bytes with_bins bins) ≡ size_by with_bins
 length-bin_bytes true bins nine = let numbers = length-even_pieces (to_be_bytes w32) 4 bins (λ n. refl) in omega (arith, nine, numbers)
 length-bin_bytes false bins nine = refl
@@ -86,6 +87,7 @@ length-checkpoint_body version digest generation outcomes wide each =
     let whole = length-append (head_bytes version digest generation (length outcomes)) (flat_map (outcome_bytes version) outcomes) in
     omega (arith, whole, length-head_bytes version digest generation (length outcomes) wide, length-outcomes version outcomes each)
 
+-- how many bytes a checkpoint has
 pub length-checkpoint : (version : ℕ) (digest : List ℕ) (generation : ℕ) (outcomes : List Outcome) → length digest ≡ 32 → AllByRecursion IsOutcome outcomes
     → length (checkpoint version digest generation outcomes) ≡ 84 + outcome_size version * length outcomes
 unfolding checkpoint

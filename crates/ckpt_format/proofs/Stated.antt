@@ -7,8 +7,8 @@ use Rattle.std.proofs.lemmas.Bool.{cases_lt}
 use Rattle.std.proofs.lemmas.List.{get_or-map, get_or_past, length-map}
 use Rattle.audit_model.specs.declared.outcome.Outcome.{Outcome}
 use Rattle.std.proofs.Math.Nat.{mul-le-mul_left}
-use Rattle.checkpoint_definitions.specs.Checkpoint.{has_bins, number_at, outcome_size, stated_version}
-use Rattle.checkpoint_definitions.specs.Slots.{outcome_at, outcomes_in}
+use Rattle.audit_statement.specs.Checkpoint.{has_bins, number_at, outcome_size, stated_version}
+use Rattle.audit_statement.specs.Slots.{outcome_at, outcomes_in}
 use Rattle.ckpt_format.specs.Laws.{FaultlessAreCheckpoints, CheckpointsAreRead, CheckpointsAreDetermined, CheckpointsHaveLength, RisingPairsRise}
 use Rattle.ckpt_format.proofs.Cutting.{AreBytes}
 use Rattle.ckpt_format.proofs.Faulting.{IsFaultless-from_none}
@@ -16,12 +16,14 @@ use Rattle.ckpt_format.proofs.Made.{IsMade-from_checkpoint, none-from_checkpoint
 use Rattle.ckpt_format.proofs.Sizes.{few_bytes}
 use Rattle.ckpt_format.proofs.Whole.{read_as_checkpoint, rising_from_places}
 
+-- numbers that are each below 256 are bytes
 AreBytes-from_All : (bytes : List ℕ) → All (λ b. b < 256) bytes → AreBytes bytes
 AreBytes-from_All bytes each k = elim (cases_lt k (length bytes)) [
   | inl l ↦ each k 0 l
   | inr l ↦ subst (λ n. n < 256) (sym (get_or_past bytes k 0 l)) (omega arith)
 ]
 
+-- the law on bytes without a fault
 pub faultless_are_checkpoints : FaultlessAreCheckpoints
 faultless_are_checkpoints bytes each = (
   λ none.
@@ -30,15 +32,18 @@ faultless_are_checkpoints bytes each = (
   λ some. none-from_checkpoint bytes some.0 some.1 some.2 some.3 some.4,
 )
 
+-- the law on what stands at the places
 pub checkpoints_are_read : CheckpointsAreRead
 checkpoints_are_read bytes version digest generation outcomes is = (IsMade-from_checkpoint bytes version digest generation outcomes is).stands
 
+-- two checkpoints of the same bytes have the same parts, since both are read from them
 pub checkpoints_are_determined : CheckpointsAreDetermined
 checkpoints_are_determined bytes version version' digest digest' generation generation' outcomes outcomes' is is' =
     let stands = checkpoints_are_read bytes version digest generation outcomes is in
     let stands' = checkpoints_are_read bytes version' digest' generation' outcomes' is' in
     (sym stands.version_at ∙ stands'.version_at, sym stands.digest_at ∙ stands'.digest_at, sym stands.generation_at ∙ stands'.generation_at, sym stands.outcomes_at ∙ stands'.outcomes_at)
 
+-- the law on the number of bytes
 pub checkpoints_have_length : CheckpointsHaveLength
 checkpoints_have_length bytes version digest generation outcomes is =
     let size = (IsMade-from_checkpoint bytes version digest generation outcomes is).size in
@@ -46,6 +51,7 @@ checkpoints_have_length bytes version digest generation outcomes is =
     let most : outcome_size version * length outcomes ≤ outcome_size version * 100000 = mul-le-mul_left (outcome_size version) is.few in
     (size, omega (arith, few.1, most))
 
+-- the law on ids of which each is below all later ones
 pub rising_pairs_rise : RisingPairsRise
 rising_pairs_rise outcomes pairs =
     let id = λ (o : Outcome). o.id in

@@ -13,10 +13,10 @@ use Rattle.audit_model.specs.Below.{map_below}
 use Rattle.audit_model.specs.First.{first_below}
 use Rattle.audit_model.specs.declared.outcome.Outcome.{Outcome}
 use Rattle.audit_model.specs.Trajectory.{no_bins}
-use Rattle.model_laws.proofs.Below.{length-map_below, get_or-map_below}
-use Rattle.model_laws.proofs.First.{first_below_none}
-use Rattle.checkpoint_definitions.specs.Checkpoint.{AreRising, HoldsBins, IsCheckpoint, IsOutcome, checkpoint, checkpoint_body, has_bins, number_at, outcome_bytes, outcome_size, outcome_start, stated_count, stated_id, stated_version}
-use Rattle.checkpoint_definitions.specs.Slots.{bins_at, outcome_in, outcomes_in}
+use Rattle.audit_model.proofs.Below.{length-map_below, get_or-map_below}
+use Rattle.audit_model.proofs.First.{first_below_none}
+use Rattle.audit_statement.specs.Checkpoint.{AreRising, HoldsBins, IsCheckpoint, IsOutcome, checkpoint, checkpoint_body, has_bins, number_at, outcome_bytes, outcome_size, outcome_start, stated_count, stated_id, stated_version}
+use Rattle.audit_statement.specs.Slots.{bins_at, outcome_in, outcomes_in}
 use Rattle.ckpt_format.specs.Faults.{is_unordered}
 use Rattle.ckpt_format.proofs.Cutting.{AreBytes, join-parts, part-bytes, length-part}
 use Rattle.ckpt_format.proofs.Faulting.{HasHead}
@@ -25,11 +25,13 @@ use Rattle.ckpt_format.proofs.Pieces.{pieces_joined}
 
 -- ---- ids that rise
 
+-- ids rise where each is below the one behind it
 pub rising_from_places : (ids : List ℕ) → ((k : ℕ) → suc k < length ids → get_or ids k 0 < get_or ids (suc k) 0) → AreRising ids
 rising_from_places [] each = tt
 rising_from_places (x ∷ []) each = tt
 rising_from_places (x ∷ y ∷ rest) each = (each 0 (omega arith), rising_from_places (y ∷ rest) (λ k l. each (suc k) (omega arith)))
 
+-- and where they rise, each is
 pub rising_at : (ids : List ℕ) (k : ℕ) → AreRising ids → suc k < length ids → get_or ids k 0 < get_or ids (suc k) 0
 rising_at [] k rising l = absurd (omega arith)
 rising_at (x ∷ []) k rising l = absurd (omega arith)
@@ -74,6 +76,7 @@ body_rewritten bytes each head =
     join_six bytes (codes "DISTCKPT") (to_be_bytes w32 (stated_version bytes)) (slice_range bytes 12 44) (to_be_bytes w32 (number_at w32 44 bytes)) (to_be_bytes w32 (length (outcomes_in bytes)))
     (flat_map (outcome_bytes (stated_version bytes)) (outcomes_in bytes)) (outcome_start bytes (stated_count bytes)) (omega arith) (omega arith) (sym head.magic) version refl generation counted outcomes
 
+-- the bytes of a head that is right are those of a checkpoint of what they state
 rewritten : (bytes : List ℕ) → AreBytes bytes → HasHead bytes → drop (length bytes - 32) bytes ≡ sha256 (take (length bytes - 32) bytes)
     → bytes ≡ checkpoint (stated_version bytes) (slice_range bytes 12 44) (number_at w32 44 bytes) (outcomes_in bytes)
 unfolding checkpoint
@@ -133,6 +136,7 @@ outcomes_in-bare bytes one =
     ap (λ (o : Outcome). o.bins) (get_or-map_below count outcome k (outcome 0) (omega (arith, length-map_below count outcome)))
     ∙ ap (λ v. bins_at (has_bins v) bytes (outcome_start bytes k + 44)) one))
 
+-- what is read has bins in the second version, and none in the first
 bins_held : (bytes : List ℕ) → (stated_version bytes ≡ 1) ⊎ (stated_version bytes ≡ 2) → HoldsBins (stated_version bytes) (outcomes_in bytes)
 bins_held bytes (inl one) = inr (one, outcomes_in-bare bytes one)
 bins_held bytes (inr two) = inl two

@@ -8,12 +8,13 @@ use Rattle.audit_model.specs.Room.{RoomyBytes}
 use Rattle.audit_model.specs.declared.outcome.Outcome.{Outcome}
 use Rattle.audit_model.specs.Run.{is_bare}
 use Rattle.audit_model.specs.Trajectory.{no_bins}
-use Rattle.checkpoint_definitions.specs.Checkpoint.{IsOutcome, checkpoint, checkpoint_body, outcome_bytes}
-use Rattle.ckpt_format.specs.Written.{Appends, head_bytes}
+use Rattle.audit_statement.specs.Checkpoint.{IsOutcome, checkpoint, checkpoint_body, outcome_bytes}
+use Rattle.ckpt_format.specs.Written.{AppendsBytes, head_bytes}
 
+-- head, outcomes and digest, appended in turn, are the checkpoint
 pub written : (start a b c : RoomyBytes) (version : ℕ) (digest : List ℕ) (generation : ℕ) (outcomes : List Outcome) → start.items ≡ []
-    → Appends start a (head_bytes version digest generation (length outcomes)) → Appends a b (flat_map (outcome_bytes version) outcomes)
-    → Appends b c (sha256 b.items) → c.items ≡ checkpoint version digest generation outcomes
+    → AppendsBytes start a (head_bytes version digest generation (length outcomes)) → AppendsBytes a b (flat_map (outcome_bytes version) outcomes)
+    → AppendsBytes b c (sha256 b.items) → c.items ≡ checkpoint version digest generation outcomes
 unfolding checkpoint
 written start a b c version digest generation outcomes empty head rest last =
     let front : a.items ≡ head_bytes version digest generation (length outcomes) =

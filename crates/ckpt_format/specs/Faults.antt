@@ -5,7 +5,7 @@ use Rattle.sha2.specs.Sha256.{sha256}
 use Rattle.audit_model.specs.declared.fault.CkptFault.{CkptFault}
 use Rattle.audit_model.specs.declared.fault.CkptFault.TheVariants.{TooShort, BadMagic, BadVersion, BadGeneration, BadCount, BadOrder, BadDigest}
 use Rattle.audit_model.specs.First.{first_some, first_below}
-use Rattle.checkpoint_definitions.specs.Checkpoint.{number_at, outcome_size, stated_count, stated_id, stated_version, bare_length, version_place, generation_place}
+use Rattle.audit_statement.specs.Checkpoint.{number_at, outcome_size, stated_count, stated_id, stated_version, bare_length, version_place, generation_place}
 use Rattle.audit_model.specs.Limits.{most_trajectories}
 
 abbrev pub length_fault : List ℕ → Option CkptFault
@@ -20,8 +20,8 @@ version_fault version = cond ((version == 1) || (version == 2)) None (Some (BadV
 abbrev pub generation_fault : ℕ → Option CkptFault
 generation_fault generation = cond (nat_lt 2 generation) (Some (BadGeneration generation)) None
 
-abbrev pub count_fault : ℕ → ℕ → ℕ → Option CkptFault
-count_fault version count size = cond (nat_lt most_trajectories count || not (size == bare_length + outcome_size version * count)) (Some (BadCount count size)) None
+abbrev pub outcome_count_fault : ℕ → ℕ → ℕ → Option CkptFault
+outcome_count_fault version count size = cond (nat_lt most_trajectories count || not (size == bare_length + outcome_size version * count)) (Some (BadCount count size)) None
 
 -- the outcome at a place has an id that is not greater than the one before it
 abbrev pub is_unordered : List ℕ → ℕ → Bool
@@ -42,5 +42,5 @@ head_fault bytes = first_some (
     magic_fault bytes
     ∷ version_fault (stated_version bytes)
     ∷ generation_fault (number_at w32 generation_place bytes)
-    ∷ count_fault (stated_version bytes) (stated_count bytes) (length bytes)
+    ∷ outcome_count_fault (stated_version bytes) (stated_count bytes) (length bytes)
     ∷ [])

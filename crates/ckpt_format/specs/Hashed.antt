@@ -8,7 +8,7 @@ use Rattle.audit_model.specs.declared.setting.Ask.{Ask}
 use Rattle.audit_model.specs.declared.setting.Setting.{Setting}
 use Rattle.audit_model.specs.Below.{filter_below}
 use Rattle.audit_model.specs.Graph.{Graph, adjacent}
-use Rattle.checkpoint_definitions.specs.Checkpoint.{digest_name, region_bytes, score_code, tail_code}
+use Rattle.audit_statement.specs.Checkpoint.{digest_name, region_bytes, score_code, tail_code}
 use Rattle.audit_model.specs.Limits.{most_edges}
 
 -- the hasher took in these bytes

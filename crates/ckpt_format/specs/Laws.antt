@@ -3,8 +3,8 @@ use Rattle.std.specs.Prelude.{◌≡◌, ℕ, ◌+◌, ◌*◌, ◌<◌, ◌≤�
 use Rattle.std.specs.Int.{w32}
 use Rattle.std.specs.List.{All, AllPairs}
 use Rattle.audit_model.specs.declared.outcome.Outcome.{Outcome}
-use Rattle.checkpoint_definitions.specs.Checkpoint.{AreRising, IsCheckpoint, checkpoint_fault, number_at, outcome_size, stated_version, digest_place, generation_place, bare_length}
-use Rattle.checkpoint_definitions.specs.Slots.{outcomes_in, checkpoint_limit}
+use Rattle.audit_statement.specs.Checkpoint.{AreRising, IsCheckpoint, checkpoint_fault, number_at, outcome_size, stated_version, digest_place, generation_place, bare_length}
+use Rattle.audit_statement.specs.Slots.{outcomes_in, checkpoint_limit}
 
 -- the bytes are the checkpoint of some version, digest, generation and outcomes
 abbrev pub IsSomeCheckpoint : List ℕ → Type 0

@@ -3,10 +3,10 @@ use Rattle.std.specs.Prelude.{◌≡◌, ℕ, ◌+◌, Bool, cond, List, ◌++�
 use Rattle.std.specs.Int.{w32, w64, to_be_bytes, cast_unsigned}
 use Rattle.audit_model.specs.Room.{RoomyBytes}
 use Rattle.audit_model.specs.declared.outcome.Outcome.{Outcome}
-use Rattle.checkpoint_definitions.specs.Checkpoint.{bin_bytes}
+use Rattle.audit_statement.specs.Checkpoint.{bin_bytes}
 
 -- the bytes were appended, and took no more than the room that there was
-pub record Appends (old new : RoomyBytes) (bytes : List ℕ) : Type 0 where
+pub record AppendsBytes (old new : RoomyBytes) (bytes : List ℕ) : Type 0 where
   pub items : new.items ≡ old.items ++ bytes
   pub spare : new.spare + length bytes ≡ old.spare
 

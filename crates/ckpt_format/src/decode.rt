@@ -3,8 +3,8 @@
 ghost use Rattle.std.specs.Prelude.{◌≡◌, ◌≤◌, ◌⊎◌, Err, None, Some, length, IfOk, IfErr, IfSome, OnOk};
 ghost use Rattle.audit_model.specs.Below.{map_below};
 ghost use Rattle.audit_model.specs.declared.fault.CkptFault.TheVariants as fault;
-ghost use Rattle.checkpoint_definitions.specs.Checkpoint.{IsCheckpoint, checkpoint_fault, outcome_start};
-ghost use Rattle.checkpoint_definitions.specs.Slots.{outcome_in};
+ghost use Rattle.audit_statement.specs.Checkpoint.{IsCheckpoint, checkpoint_fault, outcome_start};
+ghost use Rattle.audit_statement.specs.Slots.{outcome_in};
 
 use crate::fault::fault_of;
 use crate::places::{COUNT, DIGEST, GENERATION, VERSION, array_at, outcome_in, u32_at};

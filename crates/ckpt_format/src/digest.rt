@@ -5,8 +5,8 @@ ghost use Rattle.std.specs.Int.{w32, w64, to_be_bytes};
 ghost use Rattle.audit_model.specs.Below.{map_below};
 ghost use Rattle.audit_model.specs.Graph.{IsGraph, count_edges};
 ghost use Rattle.audit_model.specs.JobOf.{IsJob};
-ghost use Rattle.checkpoint_definitions.specs.Checkpoint as definition;
-ghost use Rattle.checkpoint_definitions.specs.Checkpoint.{digest_name, edge_bytes, region_bytes, unit_bytes, score_code, tail_code};
+ghost use Rattle.audit_statement.specs.Checkpoint as definition;
+ghost use Rattle.audit_statement.specs.Checkpoint.{digest_name, edge_bytes, region_bytes, unit_bytes, score_code, tail_code};
 ghost use Rattle.ckpt_format.specs.Hashed.{Hashes, ask_bytes, counts_bytes, edges_from, has_limits, limit_bytes, setting_bytes};
 
 use audit_model::rules::Rules;

@@ -5,8 +5,8 @@ ghost use Rattle.std.specs.List.{AllByRecursion, list_all};
 ghost use Rattle.std.specs.Int.{w32, w64, to_be_bytes, cast_unsigned};
 ghost use Rattle.sha2.specs.Sha256.{sha256};
 ghost use Rattle.audit_model.specs.Run.{is_bare};
-ghost use Rattle.checkpoint_definitions.specs.Checkpoint.{AreRising, HoldsBins, IsCheckpoint, IsOutcome, bin_bytes, checkpoint, outcome_bytes, outcome_size, bare_length, outcomes_place};
-ghost use Rattle.ckpt_format.specs.Written.{Appends, bytes_by, head_bytes, size_by};
+ghost use Rattle.audit_statement.specs.Checkpoint.{AreRising, HoldsBins, IsCheckpoint, IsOutcome, bin_bytes, checkpoint, outcome_bytes, outcome_size, bare_length, outcomes_place};
+ghost use Rattle.ckpt_format.specs.Written.{AppendsBytes, bytes_by, head_bytes, size_by};
 ghost use Rattle.audit_model.specs.Limits.{most_trajectories};
 
 use audit_model::buffers::Bytes;
@@ -67,7 +67,7 @@ fn encode_as(version: u32, digest: &[u8; 32], generation: u8, outcomes: &[Outcom
 /// Appends what stands before the outcomes.
 fn append_head(out: &mut Bytes, version: u32, digest: &[u8; 32], generation: u8, count: u32)
     requires { outcomes_place ≤ out.old.spare }
-    ensures { Appends out.old out.new (head_bytes version digest.now generation count) }
+    ensures { AppendsBytes out.old out.new (head_bytes version digest.now generation count) }
 {
     append(out, &MAGIC);
     append_u32(out, version);
@@ -79,7 +79,7 @@ fn append_head(out: &mut Bytes, version: u32, digest: &[u8; 32], generation: u8,
 /// Appends the outcomes.
 fn append_outcomes(out: &mut Bytes, version: u32, outcomes: &[Outcome])
     requires { outcome_size version * length outcomes.now ≤ out.old.spare }
-    ensures bytes { Appends out.old out.new (flat_map (outcome_bytes version) outcomes.now) }
+    ensures bytes { AppendsBytes out.old out.new (flat_map (outcome_bytes version) outcomes.now) }
     ensures sound { AllByRecursion IsOutcome outcomes.now }
 {
     for outcome in outcomes {
@@ -90,7 +90,7 @@ fn append_outcomes(out: &mut Bytes, version: u32, outcomes: &[Outcome])
 /// Appends an outcome: its id, its moves and its values, and its bins where they are written.
 fn append_outcome(out: &mut Bytes, with_bins: bool, outcome: &Outcome)
     requires { size_by with_bins ≤ out.old.spare }
-    ensures bytes { Appends out.old out.new (bytes_by with_bins outcome.now) }
+    ensures bytes { AppendsBytes out.old out.new (bytes_by with_bins outcome.now) }
     ensures sound { IsOutcome outcome.now }
 {
     append_u32(out, outcome.id);
@@ -102,7 +102,7 @@ fn append_outcome(out: &mut Bytes, with_bins: bool, outcome: &Outcome)
 /// Appends bins where they are written.
 fn append_bins(out: &mut Bytes, with_bins: bool, bins: &[u32; 9])
     requires { IsTrue with_bins → 36 ≤ out.old.spare }
-    ensures bytes { Appends out.old out.new (bin_bytes with_bins bins.now) }
+    ensures bytes { AppendsBytes out.old out.new (bin_bytes with_bins bins.now) }
     ensures sound { AllByRecursion (λ n. n < 2 ^ 32) bins.now }
 {
     if with_bins {
@@ -113,7 +113,7 @@ fn append_bins(out: &mut Bytes, with_bins: bool, bins: &[u32; 9])
 /// Appends numbers.
 fn append_numbers(out: &mut Bytes, numbers: &[u32])
     requires { 4 * length numbers.now ≤ out.old.spare }
-    ensures { Appends out.old out.new (flat_map (to_be_bytes w32) numbers.now) }
+    ensures { AppendsBytes out.old out.new (flat_map (to_be_bytes w32) numbers.now) }
 {
     for number in numbers {
         append_u32(out, *number);
@@ -123,7 +123,7 @@ fn append_numbers(out: &mut Bytes, numbers: &[u32])
 /// Appends values.
 fn append_values(out: &mut Bytes, values: &[i64])
     requires { 8 * length values.now ≤ out.old.spare }
-    ensures bytes { Appends out.old out.new (flat_map (λ v. to_be_bytes w64 (cast_unsigned w64 v)) values.now) }
+    ensures bytes { AppendsBytes out.old out.new (flat_map (λ v. to_be_bytes w64 (cast_unsigned w64 v)) values.now) }
     ensures sound { AllByRecursion (FitsSigned w64) values.now }
 {
     for value in values {
@@ -134,7 +134,7 @@ fn append_values(out: &mut Bytes, values: &[i64])
 /// Appends the four bytes of a number.
 fn append_u32(out: &mut Bytes, number: u32)
     requires { 4 ≤ out.old.spare }
-    ensures { Appends out.old out.new (to_be_bytes w32 number) }
+    ensures { AppendsBytes out.old out.new (to_be_bytes w32 number) }
 {
     append(out, &number.to_be_bytes());
 }
@@ -142,7 +142,7 @@ fn append_u32(out: &mut Bytes, number: u32)
 /// Appends the eight bytes of a number.
 fn append_u64(out: &mut Bytes, number: u64)
     requires { 8 ≤ out.old.spare }
-    ensures { Appends out.old out.new (to_be_bytes w64 number) }
+    ensures { AppendsBytes out.old out.new (to_be_bytes w64 number) }
 {
     append(out, &number.to_be_bytes());
 }
@@ -150,7 +150,7 @@ fn append_u64(out: &mut Bytes, number: u64)
 /// Appends the eight bytes of a number, which may be negative.
 fn append_i64(out: &mut Bytes, number: i64)
     requires { 8 ≤ out.old.spare }
-    ensures { Appends out.old out.new (to_be_bytes w64 (cast_unsigned w64 number)) }
+    ensures { AppendsBytes out.old out.new (to_be_bytes w64 (cast_unsigned w64 number)) }
 {
     append(out, &number.to_be_bytes());
 }
@@ -158,7 +158,7 @@ fn append_i64(out: &mut Bytes, number: i64)
 /// Appends the digest of all bytes so far.
 fn append_digest(out: &mut Bytes)
     requires { 32 ≤ out.old.spare }
-    ensures { Appends out.old out.new (sha256 out.old.items) }
+    ensures { AppendsBytes out.old out.new (sha256 out.old.items) }
 {
     let digest = Sha256::digest(out.as_slice());
     append(out, &digest);
@@ -167,7 +167,7 @@ fn append_digest(out: &mut Bytes)
 /// Appends bytes for which there is room.
 fn append(out: &mut Bytes, bytes: &[u8])
     requires { length bytes.now ≤ out.old.spare }
-    ensures { Appends out.old out.new bytes.now }
+    ensures { AppendsBytes out.old out.new bytes.now }
 {
     // There is room, so it takes no memory and cannot fail.
     let _ = out.append(bytes);

@@ -2,8 +2,8 @@
 
 ghost use Rattle.std.specs.Prelude.{◌≡◌, ◌+◌, ◌≤◌, length};
 ghost use Rattle.audit_model.specs.First.{first_below};
-ghost use Rattle.checkpoint_definitions.specs.Checkpoint.{checkpoint_fault, outcome_start, stated_id, bare_length};
-ghost use Rattle.ckpt_format.specs.Faults.{count_fault, order_fault, digest_fault, head_fault, is_unordered};
+ghost use Rattle.audit_statement.specs.Checkpoint.{checkpoint_fault, outcome_start, stated_id, bare_length};
+ghost use Rattle.ckpt_format.specs.Faults.{outcome_count_fault, order_fault, digest_fault, head_fault, is_unordered};
 
 use crate::encode::MAGIC;
 use crate::places::{COUNT, GENERATION, VERSION, array_at, outcome_size, outcome_start, u32_at};
@@ -47,7 +47,7 @@ fn head_fault(bytes: &[u8]) -> Option<CkptFault>
 
 /// The fault of a number of outcomes in so many bytes.
 fn count_fault(version: u32, count: u32, length: u64) -> Option<CkptFault>
-    ensures { result ≡ count_fault version count length }
+    ensures { result ≡ outcome_count_fault version count length }
 {
     if count > 100_000 || length != 84 + outcome_size(version) as u64 * u64::from(count) {
         Some(CkptFault::BadCount { count, length })

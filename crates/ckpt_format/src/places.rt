@@ -3,8 +3,8 @@
 ghost use Rattle.std.specs.Prelude.{◌≡◌, ◌+◌, ◌*◌, ◌≤◌, IsTrue, length, slice_range};
 ghost use Rattle.std.specs.Int.{w32, w64, cast_signed};
 ghost use Rattle.audit_model.specs.Below.{map_below};
-ghost use Rattle.checkpoint_definitions.specs.Checkpoint.{number_at, outcome_size, outcome_start, stated_version, digest_place};
-ghost use Rattle.checkpoint_definitions.specs.Slots.{bins_at, outcome_at, outcome_in};
+ghost use Rattle.audit_statement.specs.Checkpoint.{number_at, outcome_size, outcome_start, stated_version, digest_place};
+ghost use Rattle.audit_statement.specs.Slots.{bins_at, outcome_at, outcome_in};
 
 use audit_model::outcome::Outcome;
 

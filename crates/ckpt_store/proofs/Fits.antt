@@ -11,7 +11,7 @@ use Rattle.audit_model.specs.First.{first_below}
 use Rattle.audit_model.specs.Job.{Job}
 use Rattle.audit_model.specs.Run.{fits}
 use Rattle.audit_model.specs.Trajectory.{value_at}
-use Rattle.model_laws.proofs.First.{first_below_none}
+use Rattle.audit_model.proofs.First.{first_below_none}
 use Rattle.ckpt_store.specs.Fitting.{is_unfit, is_unfit_one}
 
 -- the first elements all pass where the elements at the first places do
@@ -22,6 +22,7 @@ all_taken p xs d (suc n) l =
     ∙ list_all_more p xs n d (omega arith)
     ∙ ap (λ b. b && p (get_or xs n d)) (all_taken p xs d n (omega arith))
 
+-- the outcome at a place is unfit where it does not fit the job
 pub is_unfit_at : (job : Job) (outcomes : List Outcome) (k : ℕ) (d : Outcome) → k < length outcomes → is_unfit job outcomes k ≡ not (fits job (get_or outcomes k d))
 is_unfit_at job outcomes k d l = ap (is_unfit_one job) (slice_get-get_or outcomes k d l)
 
@@ -34,9 +35,11 @@ all_fit job outcomes none k d l =
 pub unfit_here : (job : Job) (outcomes : List Outcome) (k : ℕ) (d : Outcome) (fit : Bool) → k < length outcomes → fit ≡ fits job (get_or outcomes k d) → fit ≡ false → is_unfit job outcomes k ≡ true
 unfit_here job outcomes k d fit l is fails = is_unfit_at job outcomes k d l ∙ ap not (sym is ∙ fails)
 
+-- it is not unfit where it fits
 pub fit_here : (job : Job) (outcomes : List Outcome) (k : ℕ) (d : Outcome) (fit : Bool) → k < length outcomes → fit ≡ fits job (get_or outcomes k d) → fit ≡ true → is_unfit job outcomes k ≡ false
 fit_here job outcomes k d fit l is passes = is_unfit_at job outcomes k d l ∙ ap not (sym is ∙ passes)
 
+-- where no place is unfit, all outcomes fit
 pub all_fit_of : (job : Job) (xs ys : List Outcome) → ys ≡ xs → None ≡ first_below (length ys) (is_unfit job ys) → All (λ o. IsTrue (fits job o)) xs
 all_fit_of job xs ys e none = all_fit job xs (subst (λ (os : List Outcome). first_below (length os) (is_unfit job os) ≡ None) e (sym none))
 

@@ -10,10 +10,10 @@ use Rattle.audit_model.specs.declared.fault.CkptFault.TheVariants.{TooLong, Unfi
 use Rattle.audit_model.specs.First.{first_below}
 use Rattle.audit_model.specs.Job.{Job}
 use Rattle.audit_model.specs.Run.{fits}
-use Rattle.model_laws.proofs.Below.{length-map_below, get_or-map_below}
-use Rattle.model_laws.proofs.First.{first_below_none}
-use Rattle.checkpoint_definitions.specs.Checkpoint.{IsCheckpoint, checkpoint_fault, number_at, stated_count, stated_version}
-use Rattle.checkpoint_definitions.specs.Slots.{broken, checkpoint_limit, outcome_in, outcomes_in, slot_of, slot_of_bytes, slot_of_checkpoint, slot_of_digest, slot_of_ours}
+use Rattle.audit_model.proofs.Below.{length-map_below, get_or-map_below}
+use Rattle.audit_model.proofs.First.{first_below_none}
+use Rattle.audit_statement.specs.Checkpoint.{IsCheckpoint, checkpoint_fault, number_at, stated_count, stated_version}
+use Rattle.audit_statement.specs.Slots.{broken, checkpoint_limit, outcome_in, outcomes_in, slot_of, slot_of_bytes, slot_of_checkpoint, slot_of_digest, slot_of_ours}
 use Rattle.ckpt_format.specs.Laws.{CheckpointsAreRead, FaultlessAreCheckpoints, IsSomeCheckpoint}
 use Rattle.ckpt_store.specs.Laws.{IsReadFrom, SlotsAreWhatTheyAre}
 use Rattle.ckpt_store.proofs.Ours.{checkpoints_are_ours}
@@ -68,5 +68,6 @@ module _ (faultless : FaultlessAreCheckpoints) (read : CheckpointsAreRead) (job 
   from_length true e = is_broken (TooLong checkpoint_limit) e
   from_length false e = from_fault (checkpoint_fault bytes) refl e
 
+-- each kind of slot says what its bytes are
 pub slots_are_what_they_are : FaultlessAreCheckpoints → CheckpointsAreRead → SlotsAreWhatTheyAre
 slots_are_what_they_are faultless read job digest bytes each = from_length faultless read job digest bytes each (nat_lt checkpoint_limit (length bytes)) refl

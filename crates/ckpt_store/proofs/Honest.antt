@@ -3,14 +3,15 @@ use Rattle.std.proofs.Common.{◌≡◌, ℕ, zero, suc, ◌<◌, ◌⊎◌, Boo
 use Rattle.std.specs.Prelude.{option_map}
 use Rattle.std.proofs.lemmas.List.Elements.{All-nil}
 use Rattle.std.proofs.lemmas.Option.{none-some, same_Some}
-use Rattle.audit_io.specs.Slots.{Stored}
+use Rattle.audit_model.specs.Pair.{Stored}
 use Rattle.audit_model.specs.declared.outcome.Outcome.{Outcome}
 use Rattle.audit_model.specs.Job.{Job}
 use Rattle.audit_model.specs.Run.{IsHonest, IsRight, taken_up, total}
 use Rattle.audit_model.specs.Trajectory.{Draws, bare, outcome_with, whole}
-use Rattle.checkpoint_definitions.specs.Slots.{IsHonestSlot, Slot, absent, broken, newest, opening_of, other, ours, outcomes_of_slot, slot_of}
-use Rattle.ckpt_store.specs.Laws.{HonestSlotsOpenRight, IsNotOurs, RightIsHonest, StopsLeaveHonestSlots}
+use Rattle.audit_statement.specs.Slots.{IsHonestSlot, Slot, absent, broken, newest, opening_of, other, ours, outcomes_of_slot, slot_of, IsNotOurs}
+use Rattle.ckpt_store.specs.Laws.{HonestSlotsOpenRight, RightIsHonest, StopsLeaveHonestSlots}
 
+-- no outcomes are honest
 nothing_is_honest : (job : Job) (draws : Draws) → IsHonest job draws []
 nothing_is_honest job draws = record {
   apart = λ i j d l m. absurd (omega arith);
@@ -25,6 +26,7 @@ honest_from_slot job draws (broken f) outcomes honest is = absurd (none-some out
 honest_from_slot job draws (other d g) outcomes honest is = absurd (none-some outcomes is)
 honest_from_slot job draws (ours g os) outcomes honest is = subst (IsHonest job draws) (same_Some os outcomes is) honest
 
+-- what is taken from honest slots is honest
 honest_from_opening : (job : Job) (draws : Draws) (first second : Slot) (number : Option ℕ) (outcomes : List Outcome)
     → IsHonestSlot job draws first → IsHonestSlot job draws second → opening_of first second number ≡ Some outcomes → IsHonest job draws outcomes
 honest_from_opening job draws first second (Some zero) outcomes one two is = honest_from_slot job draws first outcomes one is
@@ -42,6 +44,7 @@ abbrev pub GoesOnRightly : Type 0
 GoesOnRightly = (job : Job) (draws : Draws) (outcomes : List Outcome) → IsHonest job draws outcomes
     → IsRight job draws (taken_up job.setting.shift job.setting.walks outcomes)
 
+-- what a run may start with of honest outcomes is right
 right_from_taken : GoesOnRightly → (job : Job) (draws : Draws) (held : Option (List Outcome)) (outcomes : List Outcome)
     → ((os : List Outcome) → held ≡ Some os → IsHonest job draws os) → option_map (taken_up job.setting.shift job.setting.walks) held ≡ Some outcomes
     → IsRight job draws outcomes
@@ -49,6 +52,7 @@ right_from_taken law job draws None outcomes honest is = absurd (none-some outco
 right_from_taken law job draws (Some os) outcomes honest is =
     subst (IsRight job draws) (same_Some (taken_up job.setting.shift job.setting.walks os) outcomes is) (law job draws os (honest os refl))
 
+-- the law on what a run starts with
 pub honest_slots_open_right : GoesOnRightly → HonestSlotsOpenRight
 honest_slots_open_right law job draws first second outcomes one two is =
     right_from_taken law job draws (opening_of first second (newest first second)) outcomes
@@ -60,11 +64,13 @@ honest_slots_open_right law job draws first second outcomes one two is =
 abbrev pub BareHaveNoBins : Type 0
 BareHaveNoBins = (job : Job) (draws : Draws) (id : ℕ) → bare (whole job draws id) ≡ outcome_with false job draws id
 
+-- what a trajectory finds is honest, whether it has bins or not
 found_by : BareHaveNoBins → (job : Job) (draws : Draws) (shift : Bool) (o : Outcome) → o ≡ outcome_with shift job draws o.id
     → (o ≡ whole job draws o.id) ⊎ (o ≡ bare (whole job draws o.id))
 found_by law job draws true o is = inl is
 found_by law job draws false o is = inr (is ∙ sym (law job draws o.id))
 
+-- so what all find is honest
 pub right_is_honest : BareHaveNoBins → RightIsHonest
 right_is_honest law job draws outcomes right = record {
   apart = right.apart;
@@ -74,6 +80,7 @@ right_is_honest law job draws outcomes right = record {
 
 -- ---- a stop in a save
 
+-- a slot without a checkpoint of the job is honest
 honest_where_not_ours : (job : Job) (draws : Draws) (slot : Slot) → IsNotOurs slot → IsHonestSlot job draws slot
 honest_where_not_ours job draws absent none = tt
 honest_where_not_ours job draws (broken f) none = tt
@@ -85,6 +92,7 @@ same_is_honest : (job : Job) (draws : Draws) (digest : List ℕ) (before after :
     → IsHonestSlot job draws (slot_of job digest before) → IsHonestSlot job draws (slot_of job digest after)
 same_is_honest job draws digest before after same honest = subst (λ (s : Stored). IsHonestSlot job draws (slot_of job digest s)) (sym same) honest
 
+-- the law on a stop within one save
 pub stops_leave_honest_slots : StopsLeaveHonestSlots
 stops_leave_honest_slots job draws digest before after zero kept (inl same) honest = record {
   zero_slot = same_is_honest job draws digest before.zero_slot after.zero_slot same honest.zero_slot;

@@ -10,13 +10,13 @@ use Rattle.audit_model.specs.declared.outcome.Outcome.{Outcome}
 use Rattle.audit_model.specs.First.{first_below}
 use Rattle.audit_model.specs.Job.{Job}
 use Rattle.audit_model.specs.Run.{fits}
-use Rattle.model_laws.proofs.Below.{length-map_below, get_or-map_below}
-use Rattle.model_laws.proofs.First.{first_below_same}
-use Rattle.checkpoint_definitions.specs.Checkpoint.{checkpoint_fault, number_at, stated_count}
-use Rattle.checkpoint_definitions.specs.Slots.{ours, other, checkpoint_limit, outcome_in, outcomes_in, slot_of, slot_of_bytes, slot_of_checkpoint, slot_of_digest, slot_of_ours}
+use Rattle.audit_model.proofs.Below.{length-map_below, get_or-map_below}
+use Rattle.audit_model.proofs.First.{first_below_same}
+use Rattle.audit_statement.specs.Checkpoint.{checkpoint_fault, number_at, stated_count}
+use Rattle.audit_statement.specs.Slots.{ours, other, checkpoint_limit, outcome_in, outcomes_in, slot_of, slot_of_bytes, slot_of_checkpoint, slot_of_digest, slot_of_ours}
 use Rattle.ckpt_format.specs.declared.decode.Checkpoint.{Checkpoint}
 use Rattle.ckpt_format.specs.Laws.{StandsIn}
-use Rattle.ckpt_store.specs.Fitting.{HasFitOutcomes, is_unfit, judged, judged_digest, judged_ours}
+use Rattle.ckpt_store.specs.Fitting.{HasFitOutcomes, is_unfit, slot_judged, slot_judged_digest, slot_judged_ours}
 use Rattle.ckpt_store.specs.View.{slot_view}
 use Rattle.ckpt_store.specs.declared.slots.Slot as program
 use Rattle.ckpt_store.specs.declared.slots.Slot.TheVariants as slot
@@ -33,12 +33,14 @@ first_same job bytes =
     (λ k l. sym (is_unfit_at job (outcomes_in bytes) k (outcome 0) (omega (arith, many)) ∙ ap (λ (o : Outcome). not (fits job o)) (get_or-map_below count outcome k (outcome 0) l)))
     ∙ ap (λ n. first_below n (is_unfit job (outcomes_in bytes))) (sym many)
 
-by_first : (bytes : List ℕ) (c : Checkpoint) → StandsIn bytes c.version c.digest c.generation c.outcomes.items → (o : Option ℕ) → slot_of_ours bytes o ≡ judged_ours c o
+-- a checkpoint of the job's digest, by its first outcome that does not fit
+by_first : (bytes : List ℕ) (c : Checkpoint) → StandsIn bytes c.version c.digest c.generation c.outcomes.items → (o : Option ℕ) → slot_of_ours bytes o ≡ slot_judged_ours c o
 by_first bytes c stands None =
     ap (λ g. ours g (outcomes_in bytes)) stands.generation_at ∙ ap (λ (os : List Outcome). ours c.generation os) stands.outcomes_at
 by_first bytes c stands (Some place) = refl
 
-by_digest : (job : Job) (bytes : List ℕ) (c : Checkpoint) → StandsIn bytes c.version c.digest c.generation c.outcomes.items → (b : Bool) → slot_of_digest job bytes b ≡ judged_digest job c b
+-- a checkpoint, by whether its digest is the job's
+by_digest : (job : Job) (bytes : List ℕ) (c : Checkpoint) → StandsIn bytes c.version c.digest c.generation c.outcomes.items → (b : Bool) → slot_of_digest job bytes b ≡ slot_judged_digest job c b
 by_digest job bytes c stands false =
     ap (λ (d : List ℕ). other d (number_at w32 44 bytes)) stands.digest_at ∙ ap (λ g. other c.digest g) stands.generation_at
 by_digest job bytes c stands true =
@@ -53,7 +55,7 @@ slot_of_fault job digest bytes o l e =
 
 -- the slot of a checkpoint
 pub slot_of_read : (job : Job) (digest bytes : List ℕ) (c : Checkpoint) → length bytes ≤ checkpoint_limit → checkpoint_fault bytes ≡ None
-    → StandsIn bytes c.version c.digest c.generation c.outcomes.items → judged job digest c ≡ slot_of job digest (Some bytes)
+    → StandsIn bytes c.version c.digest c.generation c.outcomes.items → slot_judged job digest c ≡ slot_of job digest (Some bytes)
 slot_of_read job digest bytes c l e stands =
     sym (slot_of_fault job digest bytes None l e
     ∙ ap (λ (d : List ℕ). slot_of_digest job bytes (bytes_eq d digest)) stands.digest_at
@@ -67,6 +69,7 @@ slot_of_broken job digest bytes fault (Err e) l why is known = tt
 slot_of_broken job digest bytes fault (Ok s) l (inl short) is known = absurd (known short)
 slot_of_broken job digest bytes fault (Ok s) l (inr e) is known = ap slot_view is ∙ sym (slot_of_fault job digest bytes (Some fault) l e)
 
+-- a broken slot has no outcomes that do not fit
 pub broken_is_fit : (job : Job) (fault : CkptFault) (r : Result program.Slot Memory) → IfOk r (λ s. s ≡ slot.Broken fault) → IfOk r (λ s. HasFitOutcomes job s)
 broken_is_fit job fault (Err e) is = tt
 broken_is_fit job fault (Ok s) is = subst (HasFitOutcomes job) (sym is) tt

@@ -5,15 +5,15 @@ use Rattle.std.specs.List.{All, list_all}
 use Rattle.std.proofs.lemmas.Bool.{cases_lt}
 use Rattle.std.proofs.lemmas.List.{take_all}
 use Rattle.std.proofs.lemmas.List.Elements.{All-cons, All-nil}
-use Rattle.audit_io.specs.Slots.{Pair, Stored, stored}
-use Rattle.audit_io.specs.Tries.{Try}
+use Rattle.audit_model.specs.Pair.{Pair, Stored, stored}
+use Rattle.audit_model.specs.Tries.{Try}
 use Rattle.audit_model.specs.declared.outcome.Outcome.{Outcome}
 use Rattle.audit_model.specs.Job.{Job}
 use Rattle.audit_model.specs.Run.{fits}
-use Rattle.checkpoint_definitions.specs.Checkpoint.{IsCheckpoint, checkpoint}
-use Rattle.checkpoint_definitions.specs.Slots.{IsAfterStop, Slot, generation_after, generation_of, newest_of, place_beside, slot_at, slot_of}
-use Rattle.ckpt_store.specs.Histories.{AreCarriedOut, AreInTurn, HasFailed, IsCarriedOut, IsEnded, IsLatest, IsNotIntact, IsSaveAt, KeepsNewest, SavesKeepTheNewest, bytes_at, newest_bytes, stopped_in}
-use Rattle.ckpt_store.specs.Laws.{IsSavedAs, newest_for, place_for}
+use Rattle.audit_statement.specs.Checkpoint.{IsCheckpoint, checkpoint}
+use Rattle.audit_statement.specs.Slots.{IsAfterStop, Slot, generation_after, generation_of, newest_of, place_beside, slot_at, slot_of, newest_for, place_for}
+use Rattle.audit_statement.specs.Histories.{AreCarriedOut, AreInTurn, HasFailed, IsCarriedOut, IsEnded, IsLatest, IsNotIntact, IsSaveAt, KeepsNewest, bytes_at, newest_bytes, stopped_in}
+use Rattle.ckpt_store.specs.Laws.{SavesKeepTheNewest, IsSavedAs}
 use Rattle.ckpt_store.proofs.Prefixes.{cut_is_broken}
 use Rattle.ckpt_store.proofs.Turns.{place_by_generations, place_of, saved_slots_are_newest}
 
@@ -27,6 +27,7 @@ beside_of (suc n) first second = first
 abbrev number_if : ℕ → Option ℕ → Option ℕ
 number_if n generation = option_map (λ (_ : ℕ). n) generation
 
+-- of two slots in turn the newest is the one beside the place of the next save
 newest_by_turn : (g h : ℕ) (follows : Bool) → let at : ℕ × ℕ = cond follows (0, (h + 1) % 3) (1, (g + 1) % 3) in
     cond follows (Some 1) (Some 0) ≡ number_if (1 - at.0) (beside_of at.0 (Some g) (Some h))
 newest_by_turn g h true = refl
@@ -39,24 +40,29 @@ newest_by_place None (Some h) = refl
 newest_by_place (Some g) None = refl
 newest_by_place (Some g) (Some h) = newest_by_turn g h (h == (g + 1) % 3)
 
+-- the place is slot 0 or slot 1
 below_two : (g h : ℕ) (follows : Bool) → let at : ℕ × ℕ = cond follows (0, (h + 1) % 3) (1, (g + 1) % 3) in at.0 < 2
 below_two g h true = omega arith
 below_two g h false = omega arith
 
+-- so it is whatever the slots are
 place_below : (first second : Option ℕ) → (place_of first second).0 < 2
 place_below None None = omega arith
 place_below None (Some h) = omega arith
 place_below (Some g) None = omega arith
 place_below (Some g) (Some h) = below_two g h (h == (g + 1) % 3)
 
+-- where slot 0 is not intact, slot 1 is the newest if it is
 alone_first : (g : Option ℕ) → newest_of None g ≡ number_if 1 g
 alone_first None = refl
 alone_first (Some g) = refl
 
+-- where slot 1 is not intact, slot 0 is
 alone_second : (g : Option ℕ) → newest_of g None ≡ number_if 0 g
 alone_second None = refl
 alone_second (Some g) = refl
 
+-- the newest bytes of two pairs are the same where their slots are
 bytes_where : (p q : Pair) (n : ℕ) (g : Option ℕ) → stored p n ≡ stored q n → bytes_at p (number_if n g) ≡ bytes_at q (number_if n g)
 bytes_where p q n None same = refl
 bytes_where p q n (Some g) same = same
@@ -250,6 +256,7 @@ stopped_in_turn job digest zero (t ∷ rest) number generation turn =
 stopped_in_turn job digest (suc n) (t ∷ rest) number generation turn =
     (turn.0, stopped_in_turn job digest n rest (cond t.succeeded (1 - number) number) (cond t.succeeded ((generation + 1) % 3) generation) turn.1)
 
+-- the law on saves in turn
 pub saves_keep_the_newest : SavesKeepTheNewest
 saves_keep_the_newest job digest before after number generation tries n at turn out =
     ended_keep job digest before after (stopped_in n tries)

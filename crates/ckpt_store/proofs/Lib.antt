@@ -1,10 +1,15 @@
+mod FoundSlots
+mod Gathered
+mod Rising
+mod Untouched
 pub mod Fits
+pub mod Found
 pub mod Honest
 pub mod Judged
-pub mod Ours
-pub mod Found
-pub mod Turns
 pub mod Keeping
+pub mod Ours
 pub mod Outlasted
 pub mod Prefixes
 pub mod Seen
+pub mod Turns
+pub mod Progressing

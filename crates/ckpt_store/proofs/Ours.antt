@@ -9,12 +9,12 @@ use Rattle.audit_model.specs.declared.outcome.Outcome.{Outcome}
 use Rattle.audit_model.specs.First.{first_below}
 use Rattle.audit_model.specs.Job.{Job}
 use Rattle.audit_model.specs.Run.{fits}
-use Rattle.model_laws.proofs.First.{none_first_below}
-use Rattle.checkpoint_definitions.specs.Slots.{outcome_at, ours}
+use Rattle.audit_model.proofs.First.{none_first_below}
+use Rattle.audit_statement.specs.Slots.{outcome_at, ours}
 use Rattle.ckpt_format.specs.declared.decode.Checkpoint.{Checkpoint}
 use Rattle.ckpt_format.proofs.Made.{none-from_checkpoint}
 use Rattle.ckpt_format.proofs.Stated.{checkpoints_are_read, checkpoints_have_length}
-use Rattle.ckpt_store.specs.Fitting.{is_unfit, judged, judged_digest, judged_ours}
+use Rattle.ckpt_store.specs.Fitting.{is_unfit, slot_judged, slot_judged_digest, slot_judged_ours}
 use Rattle.ckpt_store.specs.Laws.{CheckpointsAreOurs}
 use Rattle.ckpt_store.proofs.Fits.{is_unfit_at}
 use Rattle.ckpt_store.proofs.Judged.{slot_of_read}
@@ -27,10 +27,11 @@ none_unfit job outcomes fit =
     (λ k l. is_unfit_at job outcomes k d l ∙ not_from_true (fits job (get_or outcomes k d)) (AllPass-from_list_all (fits job) outcomes fit k d l))
 
 -- a checkpoint of the digest that is looked for
-judged_as_ours : (job : Job) (c : Checkpoint) → IsTrue (list_all (fits job) c.outcomes.items) → judged job c.digest c ≡ ours c.generation c.outcomes.items
+judged_as_ours : (job : Job) (c : Checkpoint) → IsTrue (list_all (fits job) c.outcomes.items) → slot_judged job c.digest c ≡ ours c.generation c.outcomes.items
 judged_as_ours job c fit =
-    ap (judged_digest job c) ((bytes_eq-Decides c.digest c.digest).1 refl) ∙ ap (judged_ours c) (none_unfit job c.outcomes.items fit)
+    ap (slot_judged_digest job c) ((bytes_eq-Decides c.digest c.digest).1 refl) ∙ ap (slot_judged_ours c) (none_unfit job c.outcomes.items fit)
 
+-- the bytes have no fault, the digest is the job's, and no outcome is unfit
 pub checkpoints_are_ours : CheckpointsAreOurs
 checkpoints_are_ours job bytes version digest generation outcomes is fit =
     let c : Checkpoint = record { version = version; digest = digest; generation = generation; outcomes = record { items = outcomes; spare = 0 } } in

@@ -4,13 +4,13 @@ use Rattle.std.specs.List.{All}
 use Rattle.std.proofs.lemmas.Bool.{cases_lt}
 use Rattle.std.proofs.lemmas.List.{take_all}
 use Rattle.std.proofs.lemmas.List.Elements.{All-cons, All-head, All-nil, All-tail}
-use Rattle.audit_io.specs.Slots.{Pair, Stored, stored}
-use Rattle.audit_io.specs.Tries.{Try}
+use Rattle.audit_model.specs.Pair.{Pair, Stored, stored}
+use Rattle.audit_model.specs.Tries.{Try}
 use Rattle.audit_model.specs.Job.{Job}
 use Rattle.audit_model.specs.Trajectory.{Draws}
-use Rattle.checkpoint_definitions.specs.Slots.{IsHonestSlot, Slot, slot_of}
-use Rattle.ckpt_store.specs.Histories.{AreCarriedOut, IsEnded, IsRightSave, SavesLeaveHonestSlots, stopped_in}
-use Rattle.ckpt_store.specs.Laws.{AreHonest, IsNotOurs, RightIsHonest}
+use Rattle.audit_statement.specs.Slots.{IsHonestSlot, Slot, slot_of, AreHonest, IsNotOurs}
+use Rattle.audit_statement.specs.Histories.{AreCarriedOut, IsEnded, IsRightSave, stopped_in}
+use Rattle.ckpt_store.specs.Laws.{SavesLeaveHonestSlots, RightIsHonest}
 use Rattle.ckpt_store.proofs.Honest.{stops_leave_honest_slots}
 use Rattle.ckpt_store.proofs.Ours.{checkpoints_are_ours}
 use Rattle.ckpt_store.proofs.Prefixes.{cut_is_broken}
@@ -64,6 +64,7 @@ stopped_right job draws digest (suc n) (t ∷ rest) right =
     let Right : Try → Type 0 = λ (x : Try). IsRightSave job draws digest x.bytes in
     All-cons Right t (stopped_in n rest) (All-head Right t rest right) (stopped_right job draws digest n rest (All-tail Right t rest right))
 
+-- one save after the other leaves honest slots
 pub saves_leave_honest_slots : RightIsHonest → SavesLeaveHonestSlots
 saves_leave_honest_slots law job draws digest before after tries n right out honest =
     outlast law job draws digest (stopped_in n tries) before after (stopped_right job draws digest n tries right) out honest

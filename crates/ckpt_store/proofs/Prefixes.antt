@@ -6,9 +6,9 @@ use Rattle.std.proofs.lemmas.List.{length-take-le, take-append-drop}
 use Rattle.audit_model.specs.declared.fault.CkptFault.{CkptFault}
 use Rattle.audit_model.specs.declared.outcome.Outcome.{Outcome}
 use Rattle.audit_model.specs.Job.{Job}
-use Rattle.model_laws.proofs.Lists.{part-front}
-use Rattle.checkpoint_definitions.specs.Checkpoint.{IsCheckpoint, checkpoint_fault, outcome_size, stated_count, stated_version}
-use Rattle.checkpoint_definitions.specs.Slots.{broken, checkpoint_limit, slot_of, slot_of_bytes, slot_of_checkpoint}
+use Rattle.audit_model.proofs.ListFacts.{part-front}
+use Rattle.audit_statement.specs.Checkpoint.{IsCheckpoint, checkpoint_fault, outcome_size, stated_count, stated_version}
+use Rattle.audit_statement.specs.Slots.{broken, checkpoint_limit, slot_of, slot_of_bytes, slot_of_checkpoint}
 use Rattle.ckpt_format.proofs.Faulting.{IsFaultless-from_none}
 use Rattle.ckpt_format.proofs.Made.{none-from_checkpoint}
 
@@ -22,9 +22,11 @@ same_part n a b bytes l m short =
 same_version : (n : ℕ) (bytes : List ℕ) → 52 ≤ n → n ≤ length bytes → stated_version (take n bytes) ≡ stated_version bytes
 same_version n bytes l m = ap (from_be_bytes w32) (same_part n 8 12 bytes (omega arith) (omega arith) m)
 
+-- the first bytes of a checkpoint state how many outcomes it has
 same_count : (n : ℕ) (bytes : List ℕ) → 52 ≤ n → n ≤ length bytes → stated_count (take n bytes) ≡ stated_count bytes
 same_count n bytes l m = ap (from_be_bytes w32) (same_part n 48 52 bytes (omega arith) (omega arith) m)
 
+-- a checkpoint that was cut short has a fault
 pub cut_has_a_fault : (bytes : List ℕ) (version : ℕ) (digest : List ℕ) (generation : ℕ) (outcomes : List Outcome) (n : ℕ)
     → IsCheckpoint bytes version digest generation outcomes → n < length bytes → checkpoint_fault (take n bytes) ≡ None → ⊥
 cut_has_a_fault bytes version digest generation outcomes n is short none =
@@ -37,14 +39,17 @@ cut_has_a_fault bytes version digest generation outcomes n is short none =
     let same : n ≡ length bytes = sym size ∙ stated ∙ sym whole in
     absurd (omega (arith, same, short))
 
+-- bytes with a fault are a broken slot
 broken_by_fault : (job : Job) (digest bytes : List ℕ) (f : Option CkptFault) → (f ≡ None → ⊥) → (g : CkptFault) × (slot_of_checkpoint job digest bytes f ≡ broken g)
 broken_by_fault job digest bytes None some = absurd (some refl)
 broken_by_fault job digest bytes (Some g) some = (g, refl)
 
+-- so they are whether they are too long or not
 broken_by_length : (job : Job) (digest bytes : List ℕ) (long : Bool) → (checkpoint_fault bytes ≡ None → ⊥) → (g : CkptFault) × (slot_of_bytes job digest bytes long ≡ broken g)
 broken_by_length job digest bytes true some = (_, refl)
 broken_by_length job digest bytes false some = broken_by_fault job digest bytes (checkpoint_fault bytes) some
 
+-- so a checkpoint that was cut short is a broken slot
 pub cut_is_broken : (job : Job) (bytes : List ℕ) (version : ℕ) (digest : List ℕ) (generation : ℕ) (outcomes : List Outcome) (n : ℕ)
     → IsCheckpoint bytes version digest generation outcomes → n < length bytes → (g : CkptFault) × (slot_of job digest (Some (take n bytes)) ≡ broken g)
 cut_is_broken job bytes version digest generation outcomes n is short =

@@ -3,13 +3,14 @@ use Rattle.std.proofs.Common.{◌≡◌, ℕ, ◌+◌, ◌<◌, List, length, Op
 use Rattle.std.specs.Prelude.{Err, IfOk, replicate}
 use Rattle.std.proofs.lemmas.Bool.{lt-ltb}
 use Rattle.std.proofs.lemmas.List.{length-replicate}
-use Rattle.audit_io.specs.Told.{IfTold}
-use Rattle.audit_io.specs.Slots.{Loads, LoadsWithin, Pair, stored}
+use Rattle.audit_model.specs.Told.{IfTold}
+use Rattle.audit_io.specs.Loads.{Loads, LoadsWithin}
+use Rattle.audit_model.specs.Pair.{Pair, stored}
 use Rattle.audit_io.specs.declared.keeper.LoadError.{LoadError}
 use Rattle.audit_io.specs.declared.keeper.LoadError.TheVariants as load
 use Rattle.audit_model.specs.declared.fault.CkptFault.TheVariants.{TooLong}
 use Rattle.audit_model.specs.Job.{Job}
-use Rattle.checkpoint_definitions.specs.Slots.{broken, checkpoint_limit, slot_of, slot_of_bytes}
+use Rattle.audit_statement.specs.Slots.{broken, checkpoint_limit, slot_of, slot_of_bytes}
 use Rattle.ckpt_store.specs.Looked.{SawSlot, SawSlots, unloaded}
 use Rattle.ckpt_store.specs.declared.slots.Slot.{Slot}
 

@@ -4,14 +4,14 @@ use Rattle.std.specs.Prelude.{◌==◌, IsTrue}
 use Rattle.std.specs.List.{list_all}
 use Rattle.std.proofs.lemmas.Bool.{cond-false, cond-true, eq-eqb, ne_eqb}
 use Rattle.std.proofs.lemmas.Nat.{mod_below}
-use Rattle.audit_io.specs.Told.{IfTold}
-use Rattle.audit_io.specs.Slots.{HoldsBytes, Pair, Stored, other_stored, stored}
+use Rattle.audit_model.specs.Told.{IfTold}
+use Rattle.audit_model.specs.Pair.{HoldsBytes, Pair, Stored, other_stored, stored}
 use Rattle.audit_model.specs.declared.outcome.Outcome.{Outcome}
 use Rattle.audit_model.specs.Job.{Job}
 use Rattle.audit_model.specs.Run.{fits}
-use Rattle.checkpoint_definitions.specs.Checkpoint.{IsCheckpoint, checkpoint}
-use Rattle.checkpoint_definitions.specs.Slots.{Slot, absent, broken, generation_of, newest, newest_of, other, ours, save_place, place_beside, slot_of, generation_after}
-use Rattle.ckpt_store.specs.Laws.{IsNewestForFitJobs, IsNewestWhere, SavedSlotsAreNewest, WrittenSlotsAreNewest, newest_for, newest_of_both, replaced}
+use Rattle.audit_statement.specs.Checkpoint.{IsCheckpoint, checkpoint}
+use Rattle.audit_statement.specs.Slots.{Slot, absent, broken, generation_of, newest, newest_of, other, ours, save_place, place_beside, slot_of, generation_after, newest_for}
+use Rattle.ckpt_store.specs.Laws.{IsNewestForFitJobs, IsNewestWhere, SavedSlotsAreNewest, WrittenSlotsAreNewest, newest_of_both, replaced}
 use Rattle.ckpt_store.proofs.Ours.{checkpoints_are_ours}
 
 -- ---- generations in turn
@@ -28,6 +28,7 @@ pub first_is_newest : (before : ℕ) → newest_of (Some ((before + 1) % 3)) (So
 first_is_newest before =
     cond-false (before == ((before + 1) % 3 + 1) % 3) (Some 1) (Some 0) (ne_eqb before (((before + 1) % 3 + 1) % 3) (after_next before))
 
+-- of two generations in turn the later slot is the newest
 pub second_is_newest : (before : ℕ) → newest_of (Some before) (Some ((before + 1) % 3)) ≡ Some 1
 second_is_newest before = cond-true ((before + 1) % 3 == (before + 1) % 3) (Some 1) (Some 0) (eq-eqb ((before + 1) % 3) ((before + 1) % 3) refl)
 
@@ -46,6 +47,7 @@ beside_newest : (first second : Slot) (follows : Bool)
 beside_newest first second true = refl
 beside_newest first second false = refl
 
+-- the place of a save depends on the generations alone
 pub place_by_generations : (first second : Slot) → save_place first second ≡ place_of (generation_of first) (generation_of second)
 place_by_generations absent absent = refl
 place_by_generations absent (broken e) = refl
@@ -69,6 +71,7 @@ abbrev newest_with : ℕ → ℕ → Option ℕ → Option ℕ → Option ℕ
 newest_with zero generation first second = newest_of (Some generation) second
 newest_with (suc n) generation first second = newest_of first (Some generation)
 
+-- so does which slot is the newest once one was written
 newest_by_generations : (number generation : ℕ) (first second new : Slot) → generation_of new ≡ Some generation
     → newest_of_both (replaced number new first second) ≡ newest_with number generation (generation_of first) (generation_of second)
 newest_by_generations zero generation first second new is = ap (λ (o : Option ℕ). newest_of o (generation_of second)) is
@@ -79,15 +82,18 @@ newest_of_two : (g h : ℕ) (follows : Bool) → let at : ℕ × ℕ = cond foll
 newest_of_two g h true = first_is_newest h
 newest_of_two g h false = second_is_newest g
 
+-- a slot that was written at the place is the newest
 newest_at_place : (first second : Option ℕ) → newest_with (place_of first second).0 (place_of first second).1 first second ≡ Some (place_of first second).0
 newest_at_place None None = refl
 newest_at_place None (Some h) = first_is_newest h
 newest_at_place (Some g) None = second_is_newest g
 newest_at_place (Some g) (Some h) = newest_of_two g h (h == (g + 1) % 3)
 
+-- so it is wherever the place is
 newest_at : (first second : Option ℕ) (at : ℕ × ℕ) → place_of first second ≡ at → newest_with at.0 at.1 first second ≡ Some at.0
 newest_at first second at is = subst (λ (p : ℕ × ℕ). newest_with p.0 p.1 first second ≡ Some p.0) is (newest_at_place first second)
 
+-- the law on an intact slot of the place's generation
 pub written_slots_are_newest : WrittenSlotsAreNewest
 written_slots_are_newest first second new number generation at is =
     newest_by_generations number generation first second new is
@@ -109,6 +115,7 @@ slot_of_saved : (job : Job) (bytes : List ℕ) (version : ℕ) (digest : List �
     → IsCheckpoint bytes version digest generation outcomes → IsTrue (list_all (fits job) outcomes) → s ≡ Some bytes → slot_of job digest s ≡ ours generation outcomes
 slot_of_saved job bytes version digest generation outcomes s is fit holds = ap (slot_of job digest) holds ∙ checkpoints_are_ours job bytes version digest generation outcomes is fit
 
+-- the law on a checkpoint that was saved at the place
 pub saved_slots_are_newest : SavedSlotsAreNewest
 saved_slots_are_newest job version digest before after number generation outcomes at is fit holds same =
     let slot = slot_of_saved job (checkpoint version digest generation outcomes) version digest generation outcomes (stored after number) is fit holds in

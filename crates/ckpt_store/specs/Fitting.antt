@@ -6,8 +6,8 @@ use Rattle.audit_model.specs.declared.outcome.Outcome.{Outcome}
 use Rattle.audit_model.specs.First.{first_below}
 use Rattle.audit_model.specs.Job.{Job}
 use Rattle.audit_model.specs.Run.{fits}
-use Rattle.checkpoint_definitions.specs.Checkpoint.{AreRising}
-use Rattle.checkpoint_definitions.specs.Slots as definition
+use Rattle.audit_statement.specs.Checkpoint.{AreRising}
+use Rattle.audit_statement.specs.Slots as definition
 use Rattle.ckpt_format.specs.declared.decode.Checkpoint.{Checkpoint}
 use Rattle.ckpt_store.specs.declared.slots.Slot.{Slot}
 use Rattle.ckpt_store.specs.declared.slots.Slot.TheVariants as slot
@@ -23,18 +23,18 @@ abbrev pub is_unfit : Job → List Outcome → ℕ → Bool
 is_unfit job outcomes place = is_unfit_one job (slice_get outcomes place)
 
 -- of a checkpoint of the job's digest, by the least place of an outcome that does not fit
-abbrev pub judged_ours : Checkpoint → Option ℕ → definition.Slot
-judged_ours checkpoint None = definition.ours checkpoint.generation checkpoint.outcomes.items
-judged_ours checkpoint (Some place) = definition.broken (Unfit place)
+abbrev pub slot_judged_ours : Checkpoint → Option ℕ → definition.Slot
+slot_judged_ours checkpoint None = definition.ours checkpoint.generation checkpoint.outcomes.items
+slot_judged_ours checkpoint (Some place) = definition.broken (Unfit place)
 
-abbrev pub judged_digest : Job → Checkpoint → Bool → definition.Slot
-judged_digest job checkpoint false = definition.other checkpoint.digest checkpoint.generation
-judged_digest job checkpoint true =
-    judged_ours checkpoint (first_below (length checkpoint.outcomes.items) (is_unfit job checkpoint.outcomes.items))
+abbrev pub slot_judged_digest : Job → Checkpoint → Bool → definition.Slot
+slot_judged_digest job checkpoint false = definition.other checkpoint.digest checkpoint.generation
+slot_judged_digest job checkpoint true =
+    slot_judged_ours checkpoint (first_below (length checkpoint.outcomes.items) (is_unfit job checkpoint.outcomes.items))
 
 -- what a checkpoint is for a job
-abbrev pub judged : Job → List ℕ → Checkpoint → definition.Slot
-judged job digest checkpoint = judged_digest job checkpoint (bytes_eq checkpoint.digest digest)
+abbrev pub slot_judged : Job → List ℕ → Checkpoint → definition.Slot
+slot_judged job digest checkpoint = slot_judged_digest job checkpoint (bytes_eq checkpoint.digest digest)
 
 -- the ids rise, and each outcome fits the job
 pub record AreFit (job : Job) (outcomes : List Outcome) : Type 0 where

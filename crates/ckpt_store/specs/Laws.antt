@@ -1,13 +1,15 @@
 -- What holds of the slots of a keeper, whoever wrote them.
 use Rattle.std.specs.Prelude.{◌≡◌, ◌≢◌, ℕ, zero, suc, ◌+◌, ◌-◌, ◌%◌, ◌<◌, ◌⊎◌, true, IsTrue, List, Option, Some, None}
 use Rattle.std.specs.List.{All, list_all}
-use Rattle.audit_io.specs.Slots.{Pair, other_stored, stored}
+use Rattle.audit_model.specs.Pair.{Pair, other_stored, stored}
 use Rattle.audit_model.specs.declared.outcome.Outcome.{Outcome}
 use Rattle.audit_model.specs.Job.{Job}
 use Rattle.audit_model.specs.Run.{IsHonest, IsRight, fits}
 use Rattle.audit_model.specs.Trajectory.{Draws}
-use Rattle.checkpoint_definitions.specs.Checkpoint.{IsCheckpoint, checkpoint}
-use Rattle.checkpoint_definitions.specs.Slots.{IsAfterStop, IsHonestSlot, Slot, absent, broken, generation_of, newest, opening, other, ours, save_place, slot_of}
+use Rattle.audit_statement.specs.Checkpoint.{IsCheckpoint, checkpoint}
+use Rattle.audit_statement.specs.Slots.{IsAfterStop, IsHonestSlot, Slot, absent, broken, generation_of, newest, opening, other, ours, save_place, slot_of, AreHonest, IsNotOurs, newest_for, place_for}
+use Rattle.audit_statement.specs.Histories.{AreCarriedOut, AreInTurn, IsNotIntact, IsRightSave, KeepsNewest, stopped_in}
+use Rattle.audit_model.specs.Tries.{Try}
 
 -- ---- the newest slot
 
@@ -19,14 +21,6 @@ replaced (suc n) new first second = (first, new)
 -- the number of the newest of both slots
 abbrev pub newest_of_both : Slot × Slot → Option ℕ
 newest_of_both (first, second) = newest first second
-
--- the number of the slot that is the newest for a job
-abbrev pub newest_for : Job → List ℕ → Pair → Option ℕ
-newest_for job digest p = newest (slot_of job digest p.zero_slot) (slot_of job digest p.one_slot)
-
--- where the next checkpoint of a job goes
-abbrev pub place_for : Job → List ℕ → Pair → ℕ × ℕ
-place_for job digest p = save_place (slot_of job digest p.zero_slot) (slot_of job digest p.one_slot)
 
 -- a checkpoint of outcomes that all fit a job is the job's, where the job is looked for by the checkpoint's digest
 abbrev pub CheckpointsAreOurs : Type 0
@@ -89,18 +83,6 @@ HonestSlotsOpenRight = (job : Job) (draws : Draws) (first second : Slot) (outcom
     → IsHonestSlot job draws first → IsHonestSlot job draws second → opening true job.setting first second ≡ Some outcomes
     → IsRight job draws outcomes
 
--- the slot holds no checkpoint of the job
-abbrev pub IsNotOurs : Slot → Type 0
-IsNotOurs absent = Unit {0}
-IsNotOurs (broken fault) = Unit {0}
-IsNotOurs (other digest generation) = Unit {0}
-IsNotOurs (ours generation outcomes) = ⊥
-
--- both stored slots are honest for the job
-pub record AreHonest (job : Job) (draws : Draws) (digest : List ℕ) (p : Pair) : Type 0 where
-  pub zero_slot : IsHonestSlot job draws (slot_of job digest p.zero_slot)
-  pub one_slot : IsHonestSlot job draws (slot_of job digest p.one_slot)
-
 -- a stop in a save leaves honest slots honest, where its own slot is as before, or is none of the job's, or is honest
 abbrev pub StopsLeaveHonestSlots : Type 0
 StopsLeaveHonestSlots = (job : Job) (draws : Draws) (digest : List ℕ) (before after : Pair) (number : ℕ)
@@ -108,3 +90,15 @@ StopsLeaveHonestSlots = (job : Job) (draws : Draws) (digest : List ℕ) (before 
     → (stored after number ≡ stored before number) ⊎ IsNotOurs (slot_of job digest (stored after number))
     ⊎ IsHonestSlot job draws (slot_of job digest (stored after number))
     → AreHonest job draws digest before → AreHonest job draws digest after
+
+-- right saves leave honest slots honest, wherever each failed, and wherever the run was stopped
+abbrev pub SavesLeaveHonestSlots : Type 0
+SavesLeaveHonestSlots = (job : Job) (draws : Draws) (digest : List ℕ) (before after : Pair) (tries : List Try) (n : ℕ)
+    → All (λ t. IsRightSave job draws digest t.bytes) tries → AreCarriedOut IsNotOurs job digest before (stopped_in n tries) after
+    → AreHonest job draws digest before → AreHonest job draws digest after
+
+-- saves in turn keep the newest slot of before or make a newer one, wherever each failed, and wherever the run was stopped
+abbrev pub SavesKeepTheNewest : Type 0
+SavesKeepTheNewest = (job : Job) (digest : List ℕ) (before after : Pair) (number generation : ℕ) (tries : List Try) (n : ℕ)
+    → place_for job digest before ≡ (number, generation) → AreInTurn job digest number generation tries
+    → AreCarriedOut IsNotIntact job digest before (stopped_in n tries) after → KeepsNewest job digest before (stopped_in n tries) after

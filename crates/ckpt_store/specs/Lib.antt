@@ -1,5 +1,12 @@
+pub mod Findings
+pub mod Fit
 pub mod Fitting
-pub mod Histories
+pub mod GatheredLaws
+pub mod Gives
+pub mod Holding
 pub mod Laws
 pub mod Looked
+pub mod Places
+pub mod Progress
 pub mod View
+pub mod Whole

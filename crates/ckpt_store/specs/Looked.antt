@@ -1,13 +1,13 @@
 -- What a look at the slots says.
 use Rattle.std.specs.Prelude.{◌≡◌, ℕ, List, Option, Result, Ok, Err}
-use Rattle.audit_io.specs.Faults.{Counts, Rose}
-use Rattle.audit_io.specs.Told.{IfTold}
-use Rattle.audit_io.specs.Slots.{Pair, Stored, stored}
+use Rattle.audit_model.specs.Faults.{Counts, Rose}
+use Rattle.audit_model.specs.Told.{IfTold}
+use Rattle.audit_model.specs.Pair.{Pair, Stored, stored}
 use Rattle.audit_io.specs.declared.keeper.LoadError.{LoadError}
 use Rattle.audit_io.specs.declared.keeper.LoadError.TheVariants as load
 use Rattle.audit_model.specs.declared.fault.CkptFault.TheVariants.{Memory, TooLong}
 use Rattle.audit_model.specs.Job.{Job}
-use Rattle.checkpoint_definitions.specs.Slots.{slot_of}
+use Rattle.audit_statement.specs.Slots.{slot_of}
 use Rattle.ckpt_store.specs.declared.look.LookFault.{LookFault}
 use Rattle.ckpt_store.specs.declared.look.LookFault.TheVariants as look
 use Rattle.ckpt_store.specs.declared.slots.Slot.{Slot}

@@ -8,7 +8,7 @@ use Rattle.ckpt_store.specs.declared.slots.Slot.TheVariants as slot
 use Rattle.ckpt_store.specs.declared.slots.Slots.{Slots}
 use Rattle.ckpt_store.specs.declared.slots.StoreFault.{StoreFault}
 use Rattle.ckpt_store.specs.declared.slots.StoreFault.TheVariants.{Damaged, OtherJob}
-use Rattle.checkpoint_definitions.specs.Slots as definition
+use Rattle.audit_statement.specs.Slots as definition
 
 -- what a slot holds
 abbrev pub slot_view : Slot → definition.Slot

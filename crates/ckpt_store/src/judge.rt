@@ -2,9 +2,9 @@
 
 ghost use Rattle.std.specs.Prelude.{◌≡◌, ◌≤◌, Some, IfOk, OnOk, length, map};
 ghost use Rattle.audit_model.specs.declared.fault.CkptFault.TheVariants as variant;
-ghost use Rattle.checkpoint_definitions.specs.Checkpoint.{AreRising};
-ghost use Rattle.checkpoint_definitions.specs.Slots.{checkpoint_limit, slot_of};
-ghost use Rattle.ckpt_store.specs.Fitting.{HasFitOutcomes, judged};
+ghost use Rattle.audit_statement.specs.Checkpoint.{AreRising};
+ghost use Rattle.audit_statement.specs.Slots.{checkpoint_limit, slot_of};
+ghost use Rattle.ckpt_store.specs.Fitting.{HasFitOutcomes, slot_judged};
 ghost use Rattle.ckpt_store.specs.Looked.{IsByBytes};
 ghost use Rattle.ckpt_store.specs.View.{slot_view};
 ghost use Rattle.audit_model.specs.Limits.{most_trajectories};
@@ -60,7 +60,7 @@ fn broken(fault: CkptFault) -> Result<Slot, Memory>
 fn judge(job: &Job, digest: &[u8; 32], checkpoint: Checkpoint) -> Slot
     requires few { length checkpoint.outcomes.items ≤ most_trajectories }
     requires rising { AreRising (map (λ o. o.id) checkpoint.outcomes.items) }
-    ensures slot { slot_view result ≡ judged job.now digest.now checkpoint }
+    ensures slot { slot_view result ≡ slot_judged job.now digest.now checkpoint }
     ensures sound { HasFitOutcomes job.now result }
     ensures by_bytes { IsByBytes result }
 {

@@ -1,10 +1,9 @@
 //! Laws of the slots of a keeper, each the contract of a function that does nothing.
 
-ghost use Rattle.ckpt_store.specs.Histories.{SavesKeepTheNewest, SavesLeaveHonestSlots};
-ghost use Rattle.ckpt_store.specs.Laws.{CheckpointsAreOurs, HonestSlotsOpenRight, RightIsHonest, SavedSlotsAreNewest, SlotsAreWhatTheyAre, StopsLeaveHonestSlots, WrittenSlotsAreNewest};
+ghost use Rattle.ckpt_store.specs.Laws.{SavesKeepTheNewest, SavesLeaveHonestSlots, CheckpointsAreOurs, HonestSlotsOpenRight, RightIsHonest, SavedSlotsAreNewest, SlotsAreWhatTheyAre, StopsLeaveHonestSlots, WrittenSlotsAreNewest};
 
+use audit_model::laws::{bare_outcomes_have_no_bins, honest_runs_go_on_rightly};
 use ckpt_format::laws::{checkpoints_are_read, faultless_bytes_are_checkpoints};
-use model_laws::laws::{bare_outcomes_have_no_bins, honest_runs_go_on_rightly};
 
 /// A checkpoint is the job's where the job is looked for by its digest and all its outcomes fit the job.
 pub fn checkpoints_are_ours()

@@ -1,17 +1,27 @@
 //! The two slots of a keeper: what they hold for a job, which is the newest, and where the next checkpoint goes.
 #![tactic(auto)]
 
+pub mod differing;
+pub mod finding;
 mod fitting;
+pub mod gather;
+pub mod gathered_laws;
+pub mod given;
+pub mod held;
 pub mod judge;
 pub mod laws;
 pub mod look;
+pub mod progress;
 pub mod save;
 pub mod slots;
+pub mod told;
+pub mod whole;
 
+pub use audit_model::place::Place;
 pub use judge::judge_bytes;
 pub use laws::{
     checkpoints_are_ours, honest_slots_open_right, right_outcomes_are_honest,
     saved_slots_are_newest, saves_keep_the_newest, saves_leave_honest_slots,
 };
 pub use look::LookFault;
-pub use slots::{Place, Slot, Slots, StoreFault};
+pub use slots::{Slot, Slots, StoreFault};

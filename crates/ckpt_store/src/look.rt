@@ -1,8 +1,8 @@
 //! Looking at both slots of a keeper.
 
 ghost use Rattle.std.specs.Prelude.{◌≡◌, ◌<◌, ◌≤◌, IfErr, IfOk, length};
-ghost use Rattle.audit_io.specs.Slots.{stored_if};
-ghost use Rattle.checkpoint_definitions.specs.Slots.{checkpoint_limit, slot_of};
+ghost use Rattle.audit_model.specs.Pair.{stored_if};
+ghost use Rattle.audit_statement.specs.Slots.{checkpoint_limit, slot_of};
 ghost use Rattle.ckpt_store.specs.declared.look.LookFault.TheVariants as fault;
 ghost use Rattle.ckpt_store.specs.Fitting.{HasFitOutcomes};
 ghost use Rattle.ckpt_store.specs.Looked.{HasLookCause, IsByBytes, SawSlot, SawSlots, unloaded};

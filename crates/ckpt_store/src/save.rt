@@ -1,19 +1,20 @@
 //! Saving a checkpoint.
 
 ghost use Rattle.std.specs.Prelude.{◌≡◌, ◌+◌, ◌-◌, ◌*◌, ◌%◌, ◌<◌, ◌≤◌, length, map, OnErr, OnOk, is_ok};
-ghost use Rattle.audit_io.specs.Faults.{HasCause};
-ghost use Rattle.audit_io.specs.Told.{IfTold};
-ghost use Rattle.audit_io.specs.Slots.{HoldsBytes, KeepsOther};
-ghost use Rattle.audit_io.specs.Tries.{tried_too};
-ghost use Rattle.checkpoint_definitions.specs.Checkpoint.{AreRising, IsCheckpoint, checkpoint, bare_length};
+ghost use Rattle.audit_model.specs.Faults.{HasCause};
+ghost use Rattle.audit_model.specs.Told.{IfTold};
+ghost use Rattle.audit_model.specs.Pair.{HoldsBytes, KeepsOther};
+ghost use Rattle.audit_model.specs.Tries.{tried_too};
+ghost use Rattle.audit_statement.specs.Checkpoint.{AreRising, IsCheckpoint, checkpoint, bare_length};
 ghost use Rattle.ckpt_store.specs.Laws.{IsNewestForFitJobs};
 ghost use Rattle.audit_model.specs.Limits.{most_trajectories};
 
-use crate::slots::{Place, generation_after};
+use crate::slots::generation_after;
 use audit_io::keeper::Keeper;
 use audit_io::source::Failed;
 use audit_model::buffers::Bytes;
 use audit_model::outcome::Outcome;
+use audit_model::place::Place;
 use ckpt_format::encode::encode;
 
 /// Saves the checkpoint of outcomes, with bins or without, in the slot of a place, in the second version of the format, and moves the

@@ -1,18 +1,12 @@
 //! What two slots are for a job.
 
 ghost use Rattle.std.specs.Prelude.{◌≡◌, ◌<◌, Some, None, MatchResult};
-ghost use Rattle.checkpoint_definitions.specs.Slots as definition;
+ghost use Rattle.audit_statement.specs.Slots as definition;
 ghost use Rattle.ckpt_store.specs.View.{held_seen, newest_answer, newest_seen, is_absent, opened, outcomes_held, place_seen, slot_view, without_intact};
 
 use audit_model::fault::CkptFault;
+use audit_model::place::Place;
 use ckpt_format::decode::Checkpoint;
-
-/// Where a checkpoint goes: a slot, 0 or 1, and a generation, 0 to 2.
-#[derive(Clone, Copy, Debug, PartialEq, Eq)]
-pub struct Place {
-    pub slot: u8,
-    pub generation: u8,
-}
 
 /// What a slot is for a job.
 #[derive(Drop)]

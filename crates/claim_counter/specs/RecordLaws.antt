@@ -4,46 +4,46 @@ use Rattle.std.specs.List.{flat_map}
 use mathlib.Core.Option.{some}
 use lib.ListN.{get_elem?}
 use Rattle.claim_counter.specs.declared.record.PassRecord.{PassRecord}
-use Rattle.claim_counter.specs.Records.{fresh, spent, with_claim, at_end, with_less_spare, joined, AreDifferentBelow, AreAllBelow, IsCounted, IsSole}
-use Rattle.model_laws.specs.Times.{times, once_below}
+use Rattle.claim_counter.specs.Records.{fresh, spent, with_claim, at_end, with_less_spare, joined_passes, AreDifferentBelow, AreAllBelow, AreCounted, IsSole}
+use Rattle.audit_model.specs.Times.{times, once_below}
 
 -- there are these passes, the i-th of them is p, and it is in use
 pub record Has (limit count word : ℕ) (ps : List PassRecord) (i : ℕ) (p : PassRecord) : Type 0 where
-  pub counted : IsCounted limit count word ps
+  pub counted : AreCounted limit count word ps
   pub at : get_elem? ps i ≡ some p
   pub weighs : 0 < p.weight
 
 -- at first nothing is drawn, and the only pass has all seats
 abbrev pub StartIsCounted : Type 0
-StartIsCounted = (limit count : ℕ) → 0 < count → IsCounted limit count 0 (fresh (count - 1) ∷ [])
+StartIsCounted = (limit count : ℕ) → 0 < count → AreCounted limit count 0 (fresh (count - 1) ∷ [])
 
 -- a draw below the limit is a claim that no pass had
 abbrev pub NumberKeeps : Type 0
 NumberKeeps = (limit count word : ℕ) (ps : List PassRecord) (i : ℕ) (p : PassRecord) → Has limit count word ps i p → word < limit
-    → IsCounted limit count (word + 1) (slice_set ps i (with_claim word p)) × ((j : ℕ) (q : PassRecord) → get_elem? ps j ≡ some q → times word q.claims ≡ 0)
+    → AreCounted limit count (word + 1) (slice_set ps i (with_claim word p)) × ((j : ℕ) (q : PassRecord) → get_elem? ps j ≡ some q → times word q.claims ≡ 0)
 
 -- a draw past the limit ends the pass
 abbrev pub EndKeeps : Type 0
 EndKeeps = (limit count word : ℕ) (ps : List PassRecord) (i : ℕ) (p : PassRecord) → Has limit count word ps i p → p.ended ≡ false → limit ≤ word
-    → IsCounted limit count (word + 1) (slice_set ps i (at_end p))
+    → AreCounted limit count (word + 1) (slice_set ps i (at_end p))
 
 -- a pass is split off another, which can be split once less
 abbrev pub SplitKeeps : Type 0
 SplitKeeps = (limit count word : ℕ) (ps : List PassRecord) (i : ℕ) (p : PassRecord) → Has limit count word ps i p → 0 < p.spare
-    → IsCounted limit count word (slice_set ps i (with_less_spare p) ++ fresh 0 ∷ [])
+    → AreCounted limit count word (slice_set ps i (with_less_spare p) ++ fresh 0 ∷ [])
 
 -- a pass takes in another
 abbrev pub JoinKeeps : Type 0
 JoinKeeps = (limit count word : ℕ) (ps : List PassRecord) (i : ℕ) (p : PassRecord) (j : ℕ) (q : PassRecord) → Has limit count word ps i p → ¬ (j ≡ i)
-    → get_elem? ps j ≡ some q → 0 < q.weight → IsCounted limit count word (slice_set (slice_set ps i (joined p q)) j spent)
+    → get_elem? ps j ≡ some q → 0 < q.weight → AreCounted limit count word (slice_set (slice_set ps i (joined_passes p q)) j spent)
 
 -- the claims of all passes together are the numbers drawn below the limit, each once
 abbrev pub ClaimsAreDrawn : Type 0
-ClaimsAreDrawn = (limit count word : ℕ) (ps : List PassRecord) → IsCounted limit count word ps → AreAllBelow (min word limit) (flat_map (λ p. p.claims) ps)
+ClaimsAreDrawn = (limit count word : ℕ) (ps : List PassRecord) → AreCounted limit count word ps → AreAllBelow (min word limit) (flat_map (λ p. p.claims) ps)
 
 -- a number stands in at most one of two passes, once, and is below the limit
 abbrev pub ClaimsDiffer : Type 0
-ClaimsDiffer = (limit count word : ℕ) (ps : List PassRecord) (i : ℕ) (p : PassRecord) (j : ℕ) (q : PassRecord) → IsCounted limit count word ps → ¬ (j ≡ i)
+ClaimsDiffer = (limit count word : ℕ) (ps : List PassRecord) (i : ℕ) (p : PassRecord) (j : ℕ) (q : PassRecord) → AreCounted limit count word ps → ¬ (j ≡ i)
     → get_elem? ps i ≡ some p → get_elem? ps j ≡ some q → AreDifferentBelow limit (p.claims ++ q.claims)
 
 -- where a pass has ended, no number is left
@@ -56,7 +56,7 @@ SoleHasAll = (limit count word : ℕ) (ps : List PassRecord) (i : ℕ) (p : Pass
 
 -- no more is drawn than the numbers and one for each seat
 abbrev pub CountIsBounded : Type 0
-CountIsBounded = (limit count word : ℕ) (ps : List PassRecord) → IsCounted limit count word ps → word ≤ limit + count
+CountIsBounded = (limit count word : ℕ) (ps : List PassRecord) → AreCounted limit count word ps → word ≤ limit + count
 
 -- a list has all numbers below n where each stands in it once, and nowhere else
 abbrev pub AllAreOnce : Type 0

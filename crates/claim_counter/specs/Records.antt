@@ -5,7 +5,7 @@ use Rattle.std.specs.List.Sorted.{IsPermutation}
 use mathlib.Core.Option.{some}
 use lib.ListN.{get_elem?}
 use Rattle.claim_counter.specs.declared.record.PassRecord.{PassRecord}
-use Rattle.model_laws.specs.Times.{times, once_below}
+use Rattle.audit_model.specs.Times.{times, once_below}
 
 -- the numbers in the list differ, and are below n
 abbrev pub AreDifferentBelow : ℕ → List ℕ → Type 0
@@ -36,8 +36,8 @@ abbrev pub with_less_spare : PassRecord → PassRecord
 with_less_spare p = record p { spare = p.spare - 1 }
 
 -- one pass for two: it has ended where both have
-abbrev pub joined : PassRecord → PassRecord → PassRecord
-joined p q = record {
+abbrev pub joined_passes : PassRecord → PassRecord → PassRecord
+joined_passes p q = record {
   claims = p.claims ++ q.claims;
   past_end = p.past_end + q.past_end;
   weight = p.weight + q.weight;
@@ -53,7 +53,7 @@ pub record IsLive (p : PassRecord) : Type 0 where
   pub after_end : p.ended ≡ true → 0 < p.past_end
 
 -- The rule. `word` numbers were drawn, and these are all passes that there ever were.
-pub record IsCounted (limit count word : ℕ) (passes : List PassRecord) : Type 0 where
+pub record AreCounted (limit count word : ℕ) (passes : List PassRecord) : Type 0 where
   -- each number that was drawn and is below the limit is one claim of one pass, and there are no other claims
   pub claims : (x : ℕ) → sum_by (λ p. times x p.claims) passes ≡ once_below x (min word limit)
   -- the other numbers that were drawn are the draws past the end

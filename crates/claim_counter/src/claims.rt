@@ -29,8 +29,8 @@ pub struct Closed {
 
 impl Claims {
     ghost use Rattle.std.specs.Prelude.{◌≡◌, ◌-◌, ◌<◌, ◌≤◌, true, false, length, IfOk, IfSome, IfNone};
-    ghost use Rattle.claim_counter.specs.Records.{fresh, with_claim, at_end, with_less_spare, joined, AreDifferentBelow, AreAllBelow};
-    ghost use Rattle.model_laws.specs.Times.{times};
+    ghost use Rattle.claim_counter.specs.Records.{fresh, with_claim, at_end, with_less_spare, joined_passes, AreDifferentBelow, AreAllBelow};
+    ghost use Rattle.audit_model.specs.Times.{times};
     ghost use Rattle.claim_counter.specs.Views.{HasAllSeats};
     ghost use Rattle.claim_counter.specs.Passes.{own, size_of, BelongsTo};
 
@@ -81,7 +81,7 @@ impl Claims {
         ensures end { IfNone result (own pass.new ≡ at_end (own pass.old)) }
         ensures different { AreDifferentBelow (size_of self.now).limit (own pass.new).claims }
         ensures few { length (own pass.new).claims ≤ (size_of self.now).limit }
-        ensures all { IfNone result (HasAllSeats (size_of self.now) (own pass.old) → AreAllBelow (size_of self.now).limit (own pass.new).claims) }
+        ensures all { IfNone result (HasAllSeats (size_of self.now).seats (own pass.old) → AreAllBelow (size_of self.now).limit (own pass.new).claims) }
     {
         let drawn = self.table.shared.fetch_add::<Draw>(&mut pass.seat, 0, 1);
         if drawn < u64::from(self.limit) {
@@ -97,9 +97,9 @@ impl Claims {
         requires first { BelongsTo self.now first }
         requires second { BelongsTo self.now second }
         ensures pass { BelongsTo self.now result }
-        ensures both { own result ≡ joined (own first) (own second) }
+        ensures both { own result ≡ joined_passes (own first) (own second) }
         ensures different { AreDifferentBelow (size_of self.now).limit (own result).claims }
-        ensures all { HasAllSeats (size_of self.now) (own result) → (own result).ended ≡ true → AreAllBelow (size_of self.now).limit (own result).claims }
+        ensures all { HasAllSeats (size_of self.now).seats (own result) → (own result).ended ≡ true → AreAllBelow (size_of self.now).limit (own result).claims }
     {
         let Pass {
             mut seat,
@@ -126,7 +126,7 @@ impl Claims {
     /// Ends the counter, with the pass that has all seats: whatever was split off has been joined again.
     pub fn close(self, pass: Pass) -> Closed
         requires pass { BelongsTo self pass }
-        requires only { HasAllSeats (size_of self) (own pass) }
+        requires only { HasAllSeats (size_of self).seats (own pass) }
         ensures drawn { AreAllBelow result.drawn (own pass).claims }
         ensures below { result.drawn ≤ (size_of self).limit }
         ensures all { (own pass).ended ≡ true → result.drawn ≡ (size_of self).limit }

@@ -1,18 +1,28 @@
-//! Several callers, also in several threads, draw the numbers below a limit, each number once.
+//! Several callers, also in several threads, draw the numbers below a limit, each number once; and workers that walk trajectories by such draws, in one part
+//! or in several.
 #![tactic(auto)]
 
 mod claims;
+pub mod crew;
 pub mod laws;
+pub mod parts;
 mod pass;
 mod record;
 mod rule;
+pub mod runtime;
 #[cfg(test)]
 mod tests;
+pub mod walking;
+pub mod worker;
 
 pub use claims::{Claims, Closed};
+pub use crew::{Crew, recruit};
 pub use laws::{
     count_is_bounded, end_keeps, join_keeps, number_keeps, sole_has_all, split_keeps,
     start_is_counted,
 };
+pub use parts::{Part, Team, find_hub, muster, walk_part};
 pub use pass::Pass;
 pub use record::{PassRecord, Size};
+pub use runtime::Runtime;
+pub use walking::walk_run;

@@ -1,14 +1,14 @@
 -- What a search says at its end.
 use Rattle.std.proofs.Common.{◌≡◌, ℕ, ◌<◌, ◌≤◌, List, get_or, refl, sym, subst, inl, inr, arith}
-use Rattle.audit_model.specs.Graph.{Graph, IsIn}
+use Rattle.audit_model.specs.Graph.{Graph, IsIn, IsGraph}
 use Rattle.audit_model.specs.Path.{HasPath, IsConnected}
 use Rattle.audit_model.specs.Plan.{in_district}
 use Rattle.std.specs.Prelude.{slice_index}
 use Rattle.audit_model.specs.Local.{is_mate, stays_behind, MayLeave}
-use Rattle.audit_model.specs.Graph.{IsGraph}
-use Rattle.model_laws.proofs.Paths.{path_one, path_end}
+use Rattle.audit_model.proofs.Paths.{path_one, path_end}
 use Rattle.dual_graph.specs.Marked.{Marked}
-use Rattle.contig.specs.Parts.{AllOne, IsSpread, IsSeeded, IsGrowing}
+use Rattle.contig.specs.Parts.{AllOne, IsSpread, IsSeeded}
+use Rattle.contig.proofs.Between.{IsGrowing}
 use Rattle.contig.proofs.Growing.{joined_all, mate_stays}
 use Rattle.contig.proofs.Leaving.{leaves, has_mate}
 

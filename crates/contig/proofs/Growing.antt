@@ -2,15 +2,15 @@
 use Rattle.std.proofs.Common.{◌≡◌, ◌≢◌, ℕ, ◌+◌, ◌<◌, ◌≤◌, Bool, true, not, List, [], length, get_or, set, refl, sym, ap, ◌∙◌, subst, inl, inr, arith, length-set, get_or-set_same, get_or-set_other}
 use Rattle.std.specs.Prelude.{◌==◌, ◌⊎◌, slice_index}
 use Rattle.std.proofs.lemmas.Bool.{cases_eq, cases_lt, ne_eqb, and_parts, and_from, both_ways, not_from_false}
-use Rattle.audit_model.specs.Graph.{Graph, adjacent, IsIn}
+use Rattle.audit_model.specs.Graph.{Graph, adjacent, IsIn, IsGraph}
 use Rattle.audit_model.specs.Path.{HasPath, IsConnected}
 use Rattle.audit_model.specs.Plan.{in_district}
 use Rattle.audit_model.specs.Local.{is_mate, stays_behind}
-use Rattle.audit_model.specs.Graph.{IsGraph}
-use Rattle.model_laws.proofs.Lists.{has_at, at_has}
-use Rattle.model_laws.proofs.Paths.{path_one, path_stays, path_end}
+use Rattle.audit_model.proofs.ListFacts.{has_at, at_has}
+use Rattle.audit_model.proofs.Paths.{path_one, path_stays, path_end}
 use Rattle.dual_graph.specs.Marked.{Marked}
-use Rattle.contig.specs.Parts.{part, IsJoined, AllOne, NotOne, IsSpread, IsSeeded, IsGrowing}
+use Rattle.contig.specs.Parts.{part, IsJoined, AllOne, NotOne, IsSpread, IsSeeded}
+use Rattle.contig.proofs.Between.{IsGrowing}
 
 -- ---- the beginning
 
@@ -34,6 +34,7 @@ seeds_joined g plan u last m roots s few same = record {
       subst (λ t. HasPath g (is_mate g plan u) v t) is (path_one g (is_mate g plan u) v (s.mates v pv));
 }
 
+-- with the mates marked the search may begin: no unit has had its turn yet
 pub grow_begins : (g : Graph) (plan : List ℕ) (u last : ℕ) (m : Marked) (roots ends : List ℕ) → IsSeeded g plan u last m → last ≤ 16
     → IsJoined g (stays_behind plan u) m.labels roots → NotOne roots last → length roots ≡ 17 → length ends ≡ 17 → ((k : ℕ) → k < 17 → get_or ends k 0 ≡ k)
     → IsGrowing g (stays_behind plan u) last m roots ends 0

@@ -2,13 +2,12 @@
 use Rattle.std.proofs.Common.{◌≡◌, ℕ, ◌<◌, true, not, List, [], ◌∷◌, refl, sym, ◌∙◌, subst, inl, inr}
 use Rattle.std.specs.Prelude.{◌==◌, ◌⊎◌, slice_index}
 use Rattle.std.proofs.lemmas.Bool.{and_parts, and_from, cases_eq, eq-eqb, both_ways, not-true}
-use Rattle.audit_model.specs.Graph.{Graph, adjacent, IsIn}
+use Rattle.audit_model.specs.Graph.{Graph, adjacent, IsIn, IsGraph}
 use Rattle.audit_model.specs.Local.{is_mate, stays_behind, MayLeave}
 use Rattle.audit_model.specs.Path.{IsPath, HasPath, IsConnected}
 use Rattle.audit_model.specs.Plan.{in_district}
-use Rattle.audit_model.specs.Graph.{IsGraph}
-use Rattle.model_laws.proofs.Paths.{path_one, path_before, path_joined, first_in}
-use Rattle.model_laws.proofs.Local.{left_behind}
+use Rattle.audit_model.proofs.Paths.{path_one, path_before, path_joined, first_in}
+use Rattle.audit_model.proofs.Local.{left_behind}
 use Rattle.contig.proofs.Growing.{mate_stays}
 
 module _ (g : Graph) (plan : List ℕ) (u : ℕ) (graph : IsGraph g) where

@@ -1,13 +1,13 @@
 -- Mates that are beside each other are joined.
 use Rattle.std.proofs.Common.{◌≡◌, ℕ, ◌+◌, ◌<◌, ◌≤◌, true, List, [], length, get_or, sym, ap, ◌∙◌, subst, inl, inr, arith}
 use Rattle.std.proofs.lemmas.Bool.{cases_eq}
-use Rattle.audit_model.specs.Graph.{Graph, adjacent, IsIn}
+use Rattle.audit_model.specs.Graph.{Graph, adjacent, IsIn, IsGraph}
 use Rattle.audit_model.specs.Local.{is_mate, stays_behind, IsLocal}
-use Rattle.audit_model.specs.Graph.{IsGraph}
-use Rattle.model_laws.proofs.Lists.{has_at}
-use Rattle.model_laws.proofs.Paths.{path_stays, path_within}
+use Rattle.audit_model.proofs.ListFacts.{has_at}
+use Rattle.audit_model.proofs.Paths.{path_stays, path_within}
 use Rattle.dual_graph.specs.Marked.{Marked}
-use Rattle.contig.specs.Parts.{part, IsJoined, AllOne, NotOne, IsSpread, IsSeeded, IsLinking}
+use Rattle.contig.specs.Parts.{part, IsJoined, AllOne, NotOne, IsSpread, IsSeeded}
+use Rattle.contig.proofs.Between.{IsLinking}
 use Rattle.contig.proofs.Growing.{joined_all, mate_stays}
 
 module _ (g : Graph) (plan : List ℕ) (u last : ℕ) (m : Marked) (s : IsSeeded g plan u last m) where

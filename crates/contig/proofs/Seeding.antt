@@ -1,24 +1,22 @@
 -- The mates of a unit are marked one after another.
-use Rattle.std.proofs.Common.{◌≡◌, ℕ, zero, suc, ◌+◌, ◌<◌, true, List, [], ◌∷◌, ◌++◌, length, get_or, set, take, refl, sym, ap, ◌∙◌, subst, inl, inr, arith, get_or-set_same, get_or-set_other, length-append}
+use Rattle.std.proofs.Common.{◌≡◌, ℕ, ◌+◌, ◌<◌, true, List, [], ◌∷◌, ◌++◌, length, get_or, set, take, refl, sym, ap, ◌∙◌, subst, inl, inr, arith, get_or-set_same, get_or-set_other, length-append}
 use Rattle.std.proofs.lemmas.Bool.{cases_eq, false≢true}
 use Rattle.std.proofs.lemmas.List.{get_or-take, length-take-le, get_or_append_left, get_or_push}
 use Rattle.audit_model.specs.Graph.{Graph, has, IsIn}
 use Rattle.audit_model.specs.Local.{is_mate}
-use Rattle.model_laws.proofs.Connected.{has-append_left, has-append_right, has-append_parts}
-use Rattle.model_laws.proofs.Lists.{has_one, one_has, has_at, rises}
+use Rattle.audit_model.proofs.Connected.{has-append_left, has-append_right, has-append_parts}
+use Rattle.audit_model.proofs.ListFacts.{has_one, one_has, has_at, rises}
+use Rattle.dual_graph.proofs.Marking.{is_zero}
 use Rattle.dual_graph.specs.Marked.{Marked, IsMarked}
-use Rattle.contig.specs.Parts.{IsSeeded, IsSeeding}
+use Rattle.contig.proofs.Between.{IsSeeding}
 
+-- a number of a rising list is not among those before it
 pub not_before : (xs : List ℕ) (k : ℕ) → ((j : ℕ) → j + 1 < length xs → get_or xs j 0 < get_or xs (j + 1) 0) → k < length xs → has (take k xs) (get_or xs k 0) ≡ true → ⊥
 not_before xs k rising b h =
     let found = has_at (take k xs) (get_or xs k 0) h in
     let before : found.0 < k = omega (arith, found.1, length-take-le k xs (omega arith)) in
     let same : get_or xs found.0 0 ≡ get_or xs k 0 = sym (get_or-take k xs found.0 0 before) ∙ found.2 in
     omega (arith, rises xs found.0 k rising before b, same)
-
-zero_from : (n : ℕ) → (0 < n → ⊥) → n ≡ 0
-zero_from zero h = refl
-zero_from (suc n) h = absurd (h (omega arith))
 
 module _ (g : Graph) (plan : List ℕ) (u : ℕ) where
   pub seeding_none : (m : Marked) → m.units ≡ g.units → IsMarked m → m.items ≡ [] → IsSeeding g plan u [] 0 m
@@ -35,7 +33,7 @@ module _ (g : Graph) (plan : List ℕ) (u : ℕ) where
   }
     where
       no_label : (v : ℕ) → get_or m.labels v 0 ≡ 0
-      no_label v = zero_from (get_or m.labels v 0) (λ p. false≢true (subst (λ (xs : List ℕ). has xs v ≡ true) none (marked.listed v p)))
+      no_label v = is_zero (get_or m.labels v 0) (λ p. false≢true (subst (λ (xs : List ℕ). has xs v ≡ true) none (marked.listed v p)))
 
   module _ (row : List ℕ) (last : ℕ) (m : Marked) (v : ℕ) (s : IsSeeding g plan u row last m) where
     -- one more of the row, which is no mate
@@ -57,7 +55,7 @@ module _ (g : Graph) (plan : List ℕ) (u : ℕ) where
 
     -- one more of the row, which is a mate
     pub not_labelled : (has row v ≡ true → ⊥) → get_or m.labels v 0 ≡ 0
-    not_labelled fresh = zero_from (get_or m.labels v 0) (λ p. fresh (s.mates v p).1)
+    not_labelled fresh = is_zero (get_or m.labels v 0) (λ p. fresh (s.mates v p).1)
 
     pub seeding_marked : (after : Marked) → (has row v ≡ true → ⊥) → IsIn g (is_mate g plan u) v → after.units ≡ m.units → after.items ≡ m.items ++ v ∷ [] → after.labels ≡ set m.labels v (last + 1) → IsMarked after
         → IsSeeding g plan u (row ++ v ∷ []) (last + 1) after
@@ -120,16 +118,3 @@ module _ (g : Graph) (plan : List ℕ) (u : ℕ) where
 
         off : (w : ℕ) → (w ≡ v → ⊥) → get_or after.labels w 0 ≡ get_or m.labels w 0
         off w e = ap (λ (t : List ℕ). get_or t w 0) el ∙ get_or-set_other m.labels v w (last + 1) 0 e
-
-  -- the whole row was looked at
-  pub seeded : (last : ℕ) (m : Marked) (row : List ℕ) → ((v : ℕ) → IsIn g (is_mate g plan u) v → has row v ≡ true) → IsSeeding g plan u row last m → IsSeeded g plan u last m
-  seeded last m row all s = record {
-    units = s.units;
-    marked = s.marked;
-    small = s.small;
-    seeds = s.seeds;
-    single = s.single;
-    mates = λ v p. (s.mates v p).0;
-    complete = λ v i. s.complete v i (all v i);
-    order = s.order;
-  }

@@ -5,23 +5,26 @@ use Rattle.std.proofs.lemmas.Bool.{cases_eq, eq-eqb, ne_eqb, false≢true, cond-
 use Rattle.std.proofs.lemmas.List.{get_or_append_left, get_or_push}
 use Rattle.audit_model.specs.Graph.{Graph, adjacent, IsIn}
 use Rattle.audit_model.specs.Path.{HasPath}
-use Rattle.model_laws.proofs.Connected.{has-append_parts}
-use Rattle.model_laws.proofs.Lists.{has_one}
-use Rattle.model_laws.proofs.Paths.{path_one, path_before, path_after, path_joined, path_end}
+use Rattle.audit_model.proofs.Connected.{has-append_parts}
+use Rattle.audit_model.proofs.ListFacts.{has_one}
+use Rattle.audit_model.proofs.Paths.{path_one, path_before, path_after, path_joined, path_end}
 use Rattle.dual_graph.specs.Marked.{Marked, IsMarked}
 use Rattle.contig.specs.Parts.{part, IsJoined, IsSpread}
-use Rattle.model_laws.specs.Replaced.{Replaced}
+use Rattle.audit_model.specs.Replaced.{Replaced}
 
 -- the root of one label in the place of that of another
 abbrev moved : List ℕ → ℕ → ℕ → ℕ → ℕ
 moved roots from into x = cond (x == get_or roots from 0) (get_or roots into 0) x
 
+-- a root that is replaced becomes the other one
 moved_at : (roots : List ℕ) (from into x : ℕ) → x ≡ get_or roots from 0 → moved roots from into x ≡ get_or roots into 0
 moved_at roots from into x e = cond-true {A = ℕ} (x == get_or roots from 0) (get_or roots into 0) x (eq-eqb x (get_or roots from 0) e)
 
+-- every other root stays
 moved_off : (roots : List ℕ) (from into x : ℕ) → (x ≡ get_or roots from 0 → ⊥) → moved roots from into x ≡ x
 moved_off roots from into x e = cond-false {A = ℕ} (x == get_or roots from 0) (get_or roots into 0) x (ne_eqb x (get_or roots from 0) e)
 
+-- of no neighbours nothing has to be found
 pub spread_none : (g : Graph) (inside : ℕ → Bool) (label : ℕ) (m : Marked) (roots : List ℕ) → IsMarked m → IsJoined g inside m.labels roots
     → IsSpread g inside [] label m m roots roots
 spread_none g inside label m roots marked joined = record {
@@ -205,6 +208,7 @@ labels_stay_small g inside row label old new before after s small unit is w = el
   | inr e ↦ subst (λ t. get_or new.labels w 0 < t) (sym s.width) (subst (λ t. t < length before) (is ∙ sym e) (small unit))
 ]
 
+-- a number that is not zero is above it
 pub above_zero : (n m : ℕ) → n ≡ m → (n ≡ 0 → ⊥) → 0 < m
 above_zero zero m e h = absurd (h refl)
 above_zero (suc n) m e h = omega (arith, e)

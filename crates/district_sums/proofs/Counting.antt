@@ -4,8 +4,8 @@ use Rattle.std.specs.Prelude.{nat_lt, count_by}
 use Rattle.std.specs.List.{slice_index_or}
 use Rattle.audit_model.specs.Below.{count_below}
 use Rattle.audit_model.specs.Graph.{Graph, IsGraph, has, adjacent}
-use Rattle.model_laws.proofs.Below.{count_below_same}
-use Rattle.model_laws.proofs.Rows.{row_rises, count_rising}
+use Rattle.audit_model.proofs.Below.{count_below_same}
+use Rattle.audit_model.proofs.Rows.{row_rises, count_rising}
 
 -- the neighbours below a bound that pass a test are the units below it that have the unit as a neighbour and pass
 pub count_neighbours : (g : Graph) (unit bound : ℕ) (test : ℕ → Bool) → IsGraph g

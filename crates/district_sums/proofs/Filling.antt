@@ -5,13 +5,14 @@ use Rattle.std.proofs.lemmas.Bool.{cases_eq}
 use Rattle.std.proofs.lemmas.List.{ext_get_or, get_or-set_same, get_or-set_other}
 use Rattle.audit_model.specs.Below.{count_below, map_below}
 use Rattle.audit_model.specs.Graph.{Graph, IsGraph, adjacent}
-use Rattle.model_laws.proofs.Below.{count_below_same, length-map_below, get_or-map_below}
+use Rattle.audit_model.proofs.Below.{count_below_same, length-map_below, get_or-map_below}
 use Rattle.district_sums.specs.Following.{apart_of}
 
 -- the counts of the units before this one are the plan's
 pub record IsFilled (g : Graph) (plan : List ℕ) (unit : ℕ) (apart : List ℕ) : Type 0 where
   pub each : (v : ℕ) → v < unit → get_or apart v 0 ≡ apart_of g plan v
 
+-- one unit more has its count
 pub filled_more : (g : Graph) (plan : List ℕ) (unit count : ℕ) (apart : List ℕ) → IsGraph g → unit < length apart
     → count ≡ count_below g.units (λ v. adjacent g v unit && not (get_or plan v 0 == get_or plan unit 0))
     → IsFilled g plan unit apart → IsFilled g plan (unit + 1) (set apart unit count)
@@ -26,6 +27,7 @@ filled_more g plan unit count apart sound l is filled = record {
   ];
 }
 
+-- when each unit has its count the list is that of the counts
 pub filled_all : (g : Graph) (plan apart : List ℕ) (unit : ℕ) → length apart ≡ g.units → unit ≡ g.units → IsFilled g plan unit apart
     → apart ≡ map_below g.units (apart_of g plan)
 filled_all g plan apart unit width all filled =

@@ -2,14 +2,15 @@
 use Rattle.std.proofs.Common.{◌≡◌, ℕ, zero, suc, ◌+◌, ◌<◌, ◌≤◌, Bool, false, cond, refl, ap, ◌∙◌, inl, inr, arith}
 use Rattle.std.proofs.lemmas.Bool.{cases_eq, cond-false}
 use Rattle.audit_model.specs.Below.{count_below, sum_below}
-use Rattle.model_laws.proofs.Below.{count_below_same}
+use Rattle.audit_model.proofs.Below.{count_below_same}
+use Rattle.dual_graph.proofs.Counting.{sum_below_same}
 
 -- sums of two functions that agree but at one number
 pub sum_below_but_one : (n u : ℕ) (f h : ℕ → ℕ) → u < n → ((k : ℕ) → k < n → (k ≡ u → ⊥) → f k ≡ h k) → sum_below n f + h u ≡ sum_below n h + f u
 sum_below_but_one zero u f h l same = absurd (omega arith)
 sum_below_but_one (suc n) u f h l same = elim (cases_eq n u) [
   | inl e ↦
-      let before = sum_below_agree n f h (λ k under. same k (omega arith) (λ at. omega (arith, at, e))) in
+      let before = sum_below_same n f h (λ k under. same k (omega arith) (λ at. omega (arith, at, e))) in
       let one : f n ≡ f u = ap f e in
       let other : h n ≡ h u = ap h e in
       omega (arith, before, one, other)
@@ -18,10 +19,6 @@ sum_below_but_one (suc n) u f h l same = elim (cases_eq n u) [
       let last = same n (omega arith) off in
       omega (arith, before, last)
 ]
-  where
-    sum_below_agree : (m : ℕ) (a b : ℕ → ℕ) → ((k : ℕ) → k < m → a k ≡ b k) → sum_below m a ≡ sum_below m b
-    sum_below_agree zero a b agree = refl
-    sum_below_agree (suc m) a b agree = omega (arith, sum_below_agree m a b (λ k under. agree k (omega arith)), agree m (omega arith))
 
 -- a count is a sum of ones
 count_below_sum : (n : ℕ) (p : ℕ → Bool) → count_below n p ≡ sum_below n (λ k. cond {A = ℕ} (p k) 1 0)
@@ -36,6 +33,7 @@ count_below_but_one n u p q l same =
     let sums = sum_below_but_one n u (λ k. cond {A = ℕ} (p k) 1 0) (λ k. cond {A = ℕ} (q k) 1 0) l (λ k under off. ap (λ b. cond {A = ℕ} b 1 0) (same k under off)) in
     omega (arith, sums, count_below_sum n p, count_below_sum n q)
 
+-- a count up to one number more has one more where that number passes
 pub count_below_more : (n : ℕ) (p : ℕ → Bool) → count_below (suc n) p ≡ count_below n p + cond {A = ℕ} (p n) 1 0
 unfolding count_below
 count_below_more n p = refl
@@ -52,6 +50,7 @@ pub record AgreeBut (u : ℕ) (p q : ℕ → ℕ → Bool) : Type 0 where
   pub none : p u u ≡ false
   pub other_none : q u u ≡ false
 
+-- tests that agree but at one unit count as many pairs below it
 pairs_before : (m u : ℕ) (p q : ℕ → ℕ → Bool) → AgreeBut u p q → m ≤ u → pairs_below m p ≡ pairs_below m q
 pairs_before zero u p q agree l = refl
 pairs_before (suc m) u p q agree l =

@@ -6,20 +6,24 @@ use Rattle.std.proofs.lemmas.List.{ext_get_or, get_or-set_same, get_or-set_other
 use Rattle.audit_model.specs.Below.{count_below, sum_below, map_below}
 use Rattle.audit_model.specs.Graph.{Graph, IsGraph, adjacent}
 use Rattle.audit_model.specs.Plan.{in_district, district_sum, cut_edges}
-use Rattle.model_laws.proofs.Below.{count_below_same, length-map_below, get_or-map_below}
-use Rattle.model_laws.proofs.Columns.{part_small}
+use Rattle.audit_model.proofs.Below.{count_below_same, length-map_below, get_or-map_below}
+use Rattle.audit_model.proofs.ColumnFacts.{part_small}
 use Rattle.district_sums.specs.Following.{apart_of}
 use Rattle.district_sums.proofs.Moving.{sum_below_but_one, count_below_but_one, pairs_but_one}
 
+-- a list of the values up to a bound has as many places
 pub places : (n : ℕ) (f : ℕ → ℕ) (xs : List ℕ) → xs ≡ map_below n f → length xs ≡ n
 places n f xs e = ap (length {A = ℕ}) e ∙ length-map_below n f
 
+-- the bound of such a list can be named by its length
 pub of_its_length : (n : ℕ) (f : ℕ → ℕ) (xs : List ℕ) → xs ≡ map_below n f → xs ≡ map_below (length xs) f
 of_its_length n f xs e = e ∙ ap (λ (k : ℕ). map_below k f) (sym (places n f xs e))
 
+-- two lists of one length are lists up to one bound
 pub of_same_length : (n : ℕ) (f h : ℕ → ℕ) (xs ys : List ℕ) → xs ≡ map_below n f → ys ≡ map_below (length xs) h → ys ≡ map_below n h
 of_same_length n f h xs ys e is = is ∙ ap (λ (k : ℕ). map_below k h) (places n f xs e)
 
+-- whether two numbers are the same does not hang on their order
 eqb_turned : (a b : ℕ) → (a == b) ≡ (b == a)
 eqb_turned a b = elim (cases_eq a b) [
   | inl e ↦ eq-eqb a b e ∙ sym (eq-eqb b a (sym e))

@@ -3,8 +3,8 @@ use Rattle.std.proofs.Common.{◌≡◌, ℕ, ◌<◌, List, length, get_or, sym
 use Rattle.std.proofs.lemmas.List.{ext_get_or}
 use Rattle.audit_model.specs.Below.{map_below}
 use Rattle.audit_model.specs.Plan.{district_sum}
-use Rattle.model_laws.proofs.Below.{length-map_below, get_or-map_below}
-use Rattle.model_laws.proofs.Columns.{part_of}
+use Rattle.audit_model.proofs.Below.{length-map_below, get_or-map_below}
+use Rattle.audit_model.proofs.ColumnFacts.{part_of}
 
 -- each sum is that of the units before this one
 pub record IsAdded (column plan : List ℕ) (unit : ℕ) (sums : List ℕ) : Type 0 where

@@ -8,14 +8,15 @@ use Rattle.std.proofs.lemmas.List.{ext_get_or, get_or-set_same, get_or-set_other
 use Rattle.std.proofs.lemmas.List.Sums.{sum_by-take-le}
 use Rattle.audit_model.specs.Below.{count_below, map_below}
 use Rattle.audit_model.specs.Graph.{Graph, IsGraph, has, adjacent}
-use Rattle.model_laws.proofs.Below.{count_below_without, count_below_le, length-map_below, get_or-map_below}
-use Rattle.model_laws.proofs.Lists.{at_has}
-use Rattle.model_laws.proofs.Rows.{IsRising, tail_rises, above, row_rises, row_counted}
+use Rattle.audit_model.proofs.Below.{count_below_without, count_below_le, length-map_below, get_or-map_below}
+use Rattle.audit_model.proofs.ListFacts.{at_has}
+use Rattle.audit_model.proofs.Rows.{IsRising, tail_rises, above, row_rises, row_counted}
 use Rattle.district_sums.specs.Following.{apart_of}
 use Rattle.district_sums.proofs.Shifted.{shifted_apart, own_apart}
 
 -- ---- rows
 
+-- in a rising list all before a place are less than what stands there
 front_below : (xs : List ℕ) (k v : ℕ) → IsRising xs → k < length xs → has (take k xs) v ≡ true → v < get_or xs k 0
 front_below [] k v r l h = absurd (omega arith)
 front_below (x ∷ xs) zero v r l h = absurd (omega (arith, ap (λ b. cond {A = ℕ} b 1 0) h))
@@ -28,10 +29,12 @@ front_below (x ∷ xs) (suc k) v r l h = elim (or_cases (x == v) (has (take k xs
 pub is_new : (xs : List ℕ) (k : ℕ) → IsRising xs → k < length xs → has (take k xs) (get_or xs k 0) ≡ false
 is_new xs k r l = false_from_ne_true (has (take k xs) (get_or xs k 0)) (λ h. let under = front_below xs k (get_or xs k 0) r l h in omega (arith, under))
 
+-- a list has the number that is appended to it
 has_last : (xs : List ℕ) (v : ℕ) → has (xs ++ v ∷ []) v ≡ true
 has_last [] v = or_left (v == v) false (eq-eqb v v refl)
 has_last (x ∷ xs) v = or_right (x == v) (has (xs ++ v ∷ []) v) (has_last xs v)
 
+-- an appended number changes nothing for other numbers
 has_others : (xs : List ℕ) (v w : ℕ) → (v ≡ w → ⊥) → has (xs ++ v ∷ []) w ≡ has xs w
 has_others [] v w off = ap (λ b. b || false) (ne_eqb v w off)
 has_others (x ∷ xs) v w off = ap (λ b. (x == w) || b) (has_others xs v w off)
@@ -51,9 +54,11 @@ still plan home d v row old new walked out =
     let other : cond {A = ℕ} (has row v && not (get_or plan v 0 == d)) 1 0 ≡ 0 = ap (λ b. cond {A = ℕ} (b && not (get_or plan v 0 == d)) 1 0) out in
     omega (arith, is, none, other)
 
+-- before the first neighbour the counts are as they were
 pub walked_none : (plan : List ℕ) (home d : ℕ) (counts : List ℕ) → IsRecounted plan home d [] counts counts
 walked_none plan home d counts = record { each = λ w. refl }
 
+-- one neighbour more has its count after the move
 pub walked_more : (plan : List ℕ) (home d v count : ℕ) (row old new : List ℕ) → IsRecounted plan home d row old new → has row v ≡ false → v < length new
     → count + cond {A = ℕ} (not (get_or plan v 0 == home)) 1 0 ≡ get_or new v 0 + cond {A = ℕ} (not (get_or plan v 0 == d)) 1 0
     → IsRecounted plan home d (row ++ v ∷ []) old (set new v count)
@@ -116,6 +121,7 @@ module _ (g : Graph) (plan : List ℕ) (u d i : ℕ) (row old new : List ℕ) (s
 pub apart_few : (g : Graph) (plan : List ℕ) (v : ℕ) → apart_of g plan v ≤ g.units
 apart_few g plan v = count_below_le g.units (λ w. adjacent g v w && not (get_or plan w 0 == get_or plan v 0))
 
+-- no more neighbours pass a test than there are units
 pub row_few : (g : Graph) (u i : ℕ) (test : ℕ → Bool) (row : List ℕ) → IsGraph g → row ≡ slice_index_or g.neighbours u [] → count_by test (take i row) ≤ g.units
 row_few g u i test row sound is_row =
     let part : count_by test (take i row) ≤ count_by test row = sum_by-take-le (λ v. cond {A = ℕ} (test v) 1 0) row i in

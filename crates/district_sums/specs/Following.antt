@@ -1,5 +1,5 @@
 -- Sums that follow a plan as its units move.
-use Rattle.std.specs.Prelude.{◌≡◌, ℕ, ◌<◌, ◌==◌, ◌&&◌, not, List, length, slice_index}
+use Rattle.std.specs.Prelude.{◌≡◌, ◌≢◌, ℕ, ◌<◌, ◌==◌, ◌&&◌, not, List, length, slice_index}
 use Rattle.audit_model.specs.declared.outcome.Counts.{Counts}
 use Rattle.audit_model.specs.declared.outcome.SumsView.{SumsView}
 use Rattle.audit_model.specs.Below.{count_below, map_below}
@@ -20,6 +20,12 @@ apart_of g plan u = count_below g.units (λ v. adjacent g u v && not (slice_inde
 -- how many districts there are
 abbrev pub districts_in : Following → ℕ
 districts_in sums = length sums.view.population
+
+-- the unit is in one of so many districts, and moves to another of them
+pub record MovesWithin (districts : ℕ) (plan : List ℕ) (unit into : ℕ) : Type 0 where
+  pub home : slice_index plan unit < districts
+  pub target : into < districts
+  pub elsewhere : slice_index plan unit ≢ into
 
 -- the population and the votes are those of the plan
 pub record AreAdded (counts : Counts) (districts : ℕ) (plan : List ℕ) (view : SumsView) : Type 0 where

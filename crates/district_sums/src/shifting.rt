@@ -5,71 +5,33 @@ ghost use Rattle.audit_model.specs.Below.{count_below, map_below};
 ghost use Rattle.audit_model.specs.Graph.{adjacent};
 ghost use Rattle.audit_model.specs.Limits.{IsColumn, most_units, most_people};
 ghost use Rattle.audit_model.specs.Plan.{district_sum};
-ghost use Rattle.district_sums.specs.Following.{AreAdded, apart_of};
+ghost use Rattle.district_sums.specs.Following.{AreAdded, AreInputs, MovesWithin, apart_of};
 
 use audit_model::lists::{NumList, UnitList};
 use audit_model::outcome::{Counts, SumsView};
-use dual_graph::graph::Graph;
+use dual_graph::member::Member;
 
 /// The population and the votes of the districts where a unit moves to another district.
-pub(crate) fn shift_counts(
-    counts: &Counts,
-    plan: &[u32],
-    unit: u32,
-    district: u32,
-    view: &mut SumsView,
-)
-    requires population { IsColumn (length plan.now) counts.now.population }
-    requires first { IsColumn (length plan.now) counts.now.first }
-    requires second { IsColumn (length plan.now) counts.now.second }
-    requires few { length plan.now ≤ most_units }
-    requires unit { unit < length plan.now }
-    requires home { slice_index plan.now unit < length view.old.population }
-    requires district { district < length view.old.population }
-    requires elsewhere { slice_index plan.now unit ≢ district }
-    requires added { AreAdded counts.now (length view.old.population) plan.now view.old }
-    ensures added { AreAdded counts.now (length view.old.population) (slice_set plan.now unit district) view.new }
+pub(crate) fn shift_counts(counts: &Counts, member: Member, district: u32, view: &mut SumsView)
+    requires inputs { AreInputs member.graph.now counts.now (length view.old.population) member.plan.now }
+    requires moves { MovesWithin (length view.old.population) member.plan.now member.unit district }
+    requires added { AreAdded counts.now (length view.old.population) member.plan.now view.old }
+    ensures added { AreAdded counts.now (length view.old.population) (slice_set member.entry.plan.now member.entry.unit district) view.new }
     ensures cut { view.new.cut ≡ view.old.cut }
 {
-    shift_list(
-        &counts.population,
-        plan,
-        unit,
-        district,
-        &mut view.population,
-    );
-    shift_list(&counts.first, plan, unit, district, &mut view.first);
-    shift_list(&counts.second, plan, unit, district, &mut view.second);
-}
-
-/// The same for the counts in a list.
-pub(crate) fn shift_apart(
-    graph: &Graph,
-    plan: &[u32],
-    unit: u32,
-    district: u32,
-    apart: &mut UnitList,
-)
-    requires plan { length plan.now ≡ graph.now.units }
-    requires unit { unit < graph.now.units }
-    requires width { length apart.old ≡ graph.now.units }
-    requires apart { apart.old ≡ map_below graph.now.units (apart_of graph.now plan.now) }
-    ensures { apart.new ≡ map_below graph.now.units (apart_of graph.now (slice_set plan.now unit district)) }
-{
-    recount(graph, plan, unit, district, apart.as_mut_slice());
+    shift_list(&counts.population, member, district, &mut view.population);
+    shift_list(&counts.first, member, district, &mut view.first);
+    shift_list(&counts.second, member, district, &mut view.second);
 }
 
 /// How many neighbours of a unit are in other districts than this.
 #[inline]
-pub(crate) fn others_than(graph: &Graph, plan: &[u32], unit: u32, district: u32) -> u32
-    requires plan { length plan.now ≡ graph.now.units }
-    requires unit { unit < graph.now.units }
-    ensures { result ≡ count_below graph.now.units (λ v. adjacent graph.now unit v && not (slice_index plan.now v == district)) }
+pub(crate) fn others_than(member: Member, district: u32) -> u32
+    ensures { result ≡ count_below member.entry.graph.now.units (λ v. adjacent member.entry.graph.now member.entry.unit v && not (slice_index member.entry.plan.now v == district)) }
 {
-    // Called for what its contract says: the graph is sound, and has at most 100,000 units.
-    let _units = graph.units();
+    let plan = member.plan;
     let mut others = 0usize;
-    for other in graph.neighbours(unit) {
+    for other in member.graph.neighbours(member.unit) {
         if plan[*other as usize] != district {
             others += 1;
         }
@@ -78,35 +40,25 @@ pub(crate) fn others_than(graph: &Graph, plan: &[u32], unit: u32, district: u32)
 }
 
 /// Moves a unit's part of a column from its district's sum to that of another district.
-fn shift_column(column: &[u64], plan: &[u32], unit: u32, district: u32, sums: &mut [u64])
-    requires lengths { length column.now ≡ length plan.now }
-    requires few { length plan.now ≤ most_units }
-    requires small { All (λ n. n ≤ most_people) column.now }
-    requires unit { unit < length plan.now }
-    requires home { slice_index plan.now unit < length sums.old }
-    requires district { district < length sums.old }
-    requires elsewhere { slice_index plan.now unit ≢ district }
-    requires added { sums.old ≡ map_below (length sums.old) (district_sum column.now plan.now) }
-    ensures { sums.new ≡ map_below (length sums.old) (district_sum column.now (slice_set plan.now unit district)) }
+fn shift_column(column: &[u64], member: Member, district: u32, sums: &mut [u64])
+    requires column { IsColumn member.graph.now.units column.now }
+    requires moves { MovesWithin (length sums.old) member.plan.now member.unit district }
+    requires added { sums.old ≡ map_below (length sums.old) (district_sum column.now member.plan.now) }
+    ensures { sums.new ≡ map_below (length sums.old) (district_sum column.now (slice_set member.entry.plan.now member.entry.unit district)) }
 {
-    let amount = column[unit as usize];
-    sums[plan[unit as usize] as usize] -= amount;
+    let amount = column[member.unit as usize];
+    sums[member.plan[member.unit as usize] as usize] -= amount;
     sums[district as usize] += amount;
 }
 
 /// The same for the districts' sums in a list.
-fn shift_list(column: &NumList, plan: &[u32], unit: u32, district: u32, sums: &mut NumList)
-    requires lengths { length column.now ≡ length plan.now }
-    requires few { length plan.now ≤ most_units }
-    requires small { All (λ n. n ≤ most_people) column.now }
-    requires unit { unit < length plan.now }
-    requires home { slice_index plan.now unit < length sums.old }
-    requires district { district < length sums.old }
-    requires elsewhere { slice_index plan.now unit ≢ district }
-    requires added { sums.old ≡ map_below (length sums.old) (district_sum column.now plan.now) }
-    ensures { sums.new ≡ map_below (length sums.old) (district_sum column.now (slice_set plan.now unit district)) }
+fn shift_list(column: &NumList, member: Member, district: u32, sums: &mut NumList)
+    requires column { IsColumn member.graph.now.units column.now }
+    requires moves { MovesWithin (length sums.old) member.plan.now member.unit district }
+    requires added { sums.old ≡ map_below (length sums.old) (district_sum column.now member.plan.now) }
+    ensures { sums.new ≡ map_below (length sums.old) (district_sum column.now (slice_set member.entry.plan.now member.entry.unit district)) }
 {
-    shift_column(column.as_slice(), plan, unit, district, sums.as_mut_slice());
+    shift_column(column.as_slice(), member, district, sums.as_mut_slice());
 }
 
 /// The count with one more where the neighbour counts.
@@ -133,22 +85,26 @@ fn recounted(count: u32, counted: bool, counts: bool) -> u32
 }
 
 /// Changes the counts of neighbours elsewhere where a unit moves to another district: its neighbours' and its own.
-fn recount(graph: &Graph, plan: &[u32], unit: u32, into: u32, apart: &mut [u32])
-    requires plan { length plan.now ≡ graph.now.units }
-    requires unit { unit < graph.now.units }
-    requires width { length apart.old ≡ graph.now.units }
-    requires apart { apart.old ≡ map_below graph.now.units (apart_of graph.now plan.now) }
-    ensures { apart.new ≡ map_below graph.now.units (apart_of graph.now (slice_set plan.now unit into)) }
+fn recount(member: Member, into: u32, apart: &mut [u32])
+    requires { apart.old ≡ map_below member.graph.now.units (apart_of member.graph.now member.plan.now) }
+    ensures { apart.new ≡ map_below member.entry.graph.now.units (apart_of member.entry.graph.now (slice_set member.entry.plan.now member.entry.unit into)) }
 {
-    // Called for what its contract says: the graph is sound, and has at most 100,000 units.
-    let _units = graph.units();
-    let home = plan[unit as usize];
+    let plan = member.plan;
+    let home = plan[member.unit as usize];
     let mut others = 0;
-    for other in graph.neighbours(unit) {
+    for other in member.graph.neighbours(member.unit) {
         let v = *other as usize;
         let district = plan[v];
         apart[v] = recounted(apart[v], district != home, district != into);
         others = with_one(others, district != into);
     }
-    apart[unit as usize] = others;
+    apart[member.unit as usize] = others;
+}
+
+/// The same for the counts in a list.
+pub(crate) fn shift_apart(member: Member, into: u32, apart: &mut UnitList)
+    requires { apart.old ≡ map_below member.graph.now.units (apart_of member.graph.now member.plan.now) }
+    ensures { apart.new ≡ map_below member.entry.graph.now.units (apart_of member.entry.graph.now (slice_set member.entry.plan.now member.entry.unit into)) }
+{
+    recount(member, into, apart.as_mut_slice());
 }

@@ -12,6 +12,7 @@ use audit_model::lists::{NumList, UnitList};
 use audit_model::memory::Memory;
 use audit_model::outcome::{Counts, SumsView};
 use dual_graph::graph::Graph;
+use dual_graph::member::Member;
 use std::alloc::Global;
 use std::marker::Model;
 
@@ -79,8 +80,9 @@ impl Sums {
             return;
         }
         let before = self.apart.as_slice()[unit as usize];
-        shift_counts(counts, plan, unit, district, &mut self.view);
-        shift_apart(graph, plan, unit, district, &mut self.apart);
+        let member = Member { graph, plan, unit };
+        shift_counts(counts, member, district, &mut self.view);
+        shift_apart(member, district, &mut self.apart);
         let after = self.apart.as_slice()[unit as usize];
         self.view.cut = self.view.cut + after - before;
         plan[unit as usize] = district;
@@ -88,44 +90,30 @@ impl Sums {
 
     /// How many edges the plan cuts with a unit in this district. It reads the unit's neighbours alone.
     #[inline]
-    pub fn cut_after(&self, graph: &Graph, plan: &[u32], unit: u32, district: u32) -> u32
-        requires plan { length plan.now ≡ graph.now.units }
-        requires unit { unit < graph.now.units }
-        requires cut { self.now.view.cut ≡ cut_edges graph.now plan.now }
-        requires apart { self.now.apart ≡ map_below graph.now.units (apart_of graph.now plan.now) }
-        ensures { result ≡ cut_edges graph.now (slice_set plan.now unit district) }
+    pub fn cut_after(&self, member: Member, district: u32) -> u32
+        requires cut { self.now.view.cut ≡ cut_edges member.graph.now member.plan.now }
+        requires apart { self.now.apart ≡ map_below member.graph.now.units (apart_of member.graph.now member.plan.now) }
+        ensures { result ≡ cut_edges member.entry.graph.now (slice_set member.entry.plan.now member.entry.unit district) }
     {
-        // Called for what their contracts say: the graph is sound, with at most 100,000 units and 400,000 edges.
-        let _units = graph.units();
-        let _edges = graph.edges();
-        let before = self.apart.as_slice()[unit as usize];
-        self.view.cut + others_than(graph, plan, unit, district) - before
+        // Called for what its contract says: the graph has at most 400,000 edges.
+        let _edges = member.graph.edges();
+        let before = self.apart.as_slice()[member.unit as usize];
+        self.view.cut + others_than(member, district) - before
     }
 
     /// Moves a unit to another district in the sums of the districts alone: the plan with it there cuts so many edges.
     #[inline]
-    pub fn shift_view(
-        &mut self,
-        _graph: &Graph,
-        counts: &Counts,
-        plan: &[u32],
-        unit: u32,
-        district: u32,
-        cut: u32,
-    )
-        requires inputs { AreInputs _graph.now counts.now (districts_in self.old) plan.now }
-        requires view { self.old.view ≡ sums_of _graph.now counts.now (districts_in self.old) plan.now }
-        requires unit { unit < _graph.now.units }
+    pub fn shift_view(&mut self, counts: &Counts, member: Member, district: u32, cut: u32)
+        requires inputs { AreInputs member.graph.now counts.now (districts_in self.old) member.plan.now }
+        requires view { self.old.view ≡ sums_of member.graph.now counts.now (districts_in self.old) member.plan.now }
         requires district { district < districts_in self.old }
-        requires elsewhere { slice_index plan.now unit ≢ district }
-        requires cut { cut ≡ cut_edges _graph.now (slice_set plan.now unit district) }
+        requires elsewhere { slice_index member.plan.now member.unit ≢ district }
+        requires cut { cut ≡ cut_edges member.graph.now (slice_set member.plan.now member.unit district) }
         ensures districts { districts_in self.new ≡ districts_in self.old }
-        ensures view { self.new.view ≡ sums_of _graph.now counts.now (districts_in self.old) (slice_set plan.now unit district) }
+        ensures view { self.new.view ≡ sums_of member.entry.graph.now counts.now (districts_in self.old) (slice_set member.entry.plan.now member.entry.unit district) }
         ensures apart { self.new.apart ≡ self.old.apart }
     {
-        // Called for what its contract says: the graph is sound, and has at most 100,000 units.
-        let _units = _graph.units();
-        shift_counts(counts, plan, unit, district, &mut self.view);
+        shift_counts(counts, member, district, &mut self.view);
         self.view.cut = cut;
     }
 

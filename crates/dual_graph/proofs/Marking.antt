@@ -3,17 +3,19 @@ use Rattle.std.proofs.Common.{◌≡◌, ℕ, zero, suc, ◌+◌, ◌<◌, ◌�
 use Rattle.std.proofs.lemmas.Bool.{cases_eq, false≢true, false_from_ne_true}
 use Rattle.audit_model.specs.Apart.{AllApart}
 use Rattle.audit_model.specs.Graph.{has}
-use Rattle.model_laws.proofs.Connected.{has-append_left, has-append_right, has-append_parts}
-use Rattle.model_laws.proofs.Lists.{has_one, one_has, has_at, apart_more, apart_le}
+use Rattle.audit_model.proofs.Connected.{has-append_left, has-append_right, has-append_parts}
+use Rattle.audit_model.proofs.ListFacts.{has_one, one_has, has_at, apart_more, apart_le}
 use Rattle.dual_graph.specs.Marked.{Marked, IsMarked}
 
 -- a unit without a label is not in the list
 pub absent : (m : Marked) (u : ℕ) → IsMarked m → get_or m.labels u 0 ≡ 0 → has m.items u ≡ false
 absent m u marked none = false_from_ne_true (has m.items u) (λ h. let l = marked.labelled u h in absurd (omega (arith, l, none)))
 
+-- no more units are marked than there are
 pub items_le : (m : Marked) → IsMarked m → length m.items ≤ m.units
 items_le m marked = apart_le m.units m.items marked.apart marked.below
 
+-- with one more marked unit all marked ones are units of the graph
 has_more : (m : Marked) (u v : ℕ) → IsMarked m → u < m.units → has (m.items ++ u ∷ []) v ≡ true → v < m.units
 has_more m u v marked l h = elim (has-append_parts m.items (u ∷ []) v h) [
   | inl e ↦ marked.below v e
@@ -65,9 +67,11 @@ pub record IsClearing (items before labels : List ℕ) (k : ℕ) : Type 0 where
   pub width : length labels ≡ length before
   pub gone : (v : ℕ) → 0 < get_or labels v 0 → (0 < get_or before v 0) × ((j : ℕ) → j < k → get_or items j 0 ≡ v → ⊥)
 
+-- before the first unit is cleared the labels are as they were
 pub clearing_none : (items labels : List ℕ) → IsClearing items labels labels 0
 clearing_none items labels = record { width = refl; gone = λ v p. (p, λ j l e. absurd (omega arith)) }
 
+-- clearing one unit more takes its label away and no other
 pub clearing_more : (items before labels : List ℕ) (k : ℕ) → IsClearing items before labels k → IsClearing items before (set labels (get_or items k 0) 0) (k + 1)
 clearing_more items before labels k c = record {
   width = length-set labels (get_or items k 0) 0 ∙ c.width;
@@ -94,12 +98,14 @@ clearing_more items before labels k c = record {
         zero_at (x ∷ xs) zero h = omega arith
         zero_at (x ∷ xs) (suc i) h = zero_at xs i h
 
+-- a number that is not above zero is zero
+pub is_zero : (n : ℕ) → (0 < n → ⊥) → n ≡ 0
+is_zero zero h = refl
+is_zero (suc n) h = absurd (h (omega arith))
+
+-- when all marked units are cleared no unit has a label
 pub clearing_done : (m : Marked) (labels : List ℕ) (k : ℕ) → IsMarked m → IsClearing m.items m.labels labels k → length m.items ≤ k → (v : ℕ) → get_or labels v 0 ≡ 0
 clearing_done m labels k marked c l v = is_zero (get_or labels v 0) (λ p.
     let was = c.gone v p in
     let place = has_at m.items v (marked.listed v was.0) in
     was.1 place.0 (omega (arith, place.1)) place.2)
-  where
-    is_zero : (n : ℕ) → (0 < n → ⊥) → n ≡ 0
-    is_zero zero h = refl
-    is_zero (suc n) h = absurd (h (omega arith))

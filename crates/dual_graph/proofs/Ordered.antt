@@ -12,8 +12,9 @@ use Rattle.std.proofs.lemmas.List.Folds.{list_any-append}
 use Rattle.std.proofs.lemmas.List.Kept.{Contains-dedup, Contains-from_dedup, IsStrictlySortedBy-dedup}
 use Rattle.std.proofs.lemmas.List.Sorted.{searchable_from_sorted}
 use Rattle.std.proofs.lemmas.Map.Keys.{Less-from_sorted}
-use Rattle.dual_graph.specs.Pairs.{pair_at, has_pair, IsBefore, AreRising, GoesBothWays, BeginsAt}
+use Rattle.dual_graph.specs.Pairs.{pair_at, has_pair, IsBefore, ArePairsRising, GoesBothWays, BeginsAt}
 
+-- a pair is made of its two parts
 pub pair_is : (p : ℕ × ℕ) (u v : ℕ) → p.0 ≡ u → p.1 ≡ v → p ≡ (u, v)
 pair_is (a, b) u v e f = ap (λ (t : ℕ). let q : ℕ × ℕ = (t, b) in q) e ∙ ap (λ (t : ℕ). let q : ℕ × ℕ = (u, t) in q) f
 
@@ -22,6 +23,7 @@ pair_is (a, b) u v e f = ap (λ (t : ℕ). let q : ℕ × ℕ = (t, b) in q) e �
 abbrev pub is_one : ℕ × ℕ → ℕ → ℕ → Bool
 is_one p u v = (p.0 == u) && (p.1 == v)
 
+-- a pair that the list has stands at some place of it
 pub pair_found : (pairs : List (ℕ × ℕ)) (u v : ℕ) → has_pair pairs u v ≡ true → (k : ℕ) × (k < length pairs) × ((pair_at pairs k).0 ≡ u) × ((pair_at pairs k).1 ≡ v)
 pair_found [] u v h = absurd (false≢true h)
 pair_found (p ∷ pairs) u v h = elim (or_cases (is_one p u v) (has_pair pairs u v) h) [
@@ -29,11 +31,13 @@ pair_found (p ∷ pairs) u v h = elim (or_cases (is_one p u v) (has_pair pairs u
   | inr e ↦ let found = pair_found pairs u v e in (suc found.0, omega (arith, found.1), found.2, found.3)
 ]
 
+-- a pair that stands at a place is one that the list has
 pub found_pair : (pairs : List (ℕ × ℕ)) (k u v : ℕ) → k < length pairs → (pair_at pairs k).0 ≡ u → (pair_at pairs k).1 ≡ v → has_pair pairs u v ≡ true
 found_pair [] k u v l e f = absurd (omega arith)
 found_pair (p ∷ pairs) zero u v l e f = or_left (is_one p u v) (has_pair pairs u v) (and_from (p.0 == u) (p.1 == v) (eq-eqb p.0 u e) (eq-eqb p.1 v f))
 found_pair (p ∷ pairs) (suc k) u v l e f = or_right (is_one p u v) (has_pair pairs u v) (found_pair pairs k u v (omega arith) e f)
 
+-- the list has the pair at each of its places
 pub pair_there : (pairs : List (ℕ × ℕ)) (k : ℕ) → k < length pairs → has_pair pairs (pair_at pairs k).0 (pair_at pairs k).1 ≡ true
 pair_there pairs k l = found_pair pairs k (pair_at pairs k).0 (pair_at pairs k).1 l refl refl
 
@@ -41,10 +45,12 @@ pair_there pairs k l = found_pair pairs k (pair_at pairs k).0 (pair_at pairs k).
 pub pair_pushed : (pairs : List (ℕ × ℕ)) (p : ℕ × ℕ) (u v : ℕ) → has_pair pairs u v ≡ true → has_pair (pairs ++ p ∷ []) u v ≡ true
 pair_pushed pairs p u v h = list_any-append (λ q. (q.0 == u) && (q.1 == v)) pairs (p ∷ []) ∙ or_left (has_pair pairs u v) (has_pair (p ∷ []) u v) h
 
+-- a list has the pair that is appended to it
 pub pair_last : (pairs : List (ℕ × ℕ)) (a b : ℕ) → has_pair (pairs ++ (a, b) ∷ []) a b ≡ true
 pair_last pairs a b = list_any-append (λ q. (q.0 == a) && (q.1 == b)) pairs ((a, b) ∷ [])
     ∙ or_right (has_pair pairs a b) (has_pair ((a, b) ∷ []) a b) (or_left (is_one (a, b) a b) false (and_from (a == a) (b == b) (eq-eqb a a refl) (eq-eqb b b refl)))
 
+-- a list with one pair more has that pair and what it had
 pub pushed_pair : (pairs : List (ℕ × ℕ)) (a b u v : ℕ) → has_pair (pairs ++ (a, b) ∷ []) u v ≡ true → (has_pair pairs u v ≡ true) ⊎ ((a ≡ u) × (b ≡ v))
 pushed_pair pairs a b u v h = elim (or_cases (has_pair pairs u v) (has_pair ((a, b) ∷ []) u v) (sym (list_any-append (λ q. (q.0 == u) && (q.1 == v)) pairs ((a, b) ∷ [])) ∙ h)) [
   | inl e ↦ inl e
@@ -56,6 +62,7 @@ pushed_pair pairs a b u v h = elim (or_cases (has_pair pairs u v) (has_pair ((a,
 
 -- ---- each edge in both directions
 
+-- with one edge more in both directions the arcs go both ways for one edge more
 pub both_more : (pairs : List (ℕ × ℕ)) (i : ℕ) (arcs new : List (ℕ × ℕ)) (a b : ℕ) → GoesBothWays pairs i arcs
     → a ≡ (pair_at pairs i).0 → b ≡ (pair_at pairs i).1 → new ≡ (arcs ++ (a, b) ∷ []) ++ (b, a) ∷ [] → GoesBothWays pairs (i + 1) new
 both_more pairs i arcs new a b both ea eb is = record {
@@ -95,9 +102,11 @@ pair_cmp p q = ordering_then (nat_cmp p.0 q.0) (nat_cmp p.1 q.1)
 abbrev pub pair_eq : ℕ × ℕ → ℕ × ℕ → Bool
 pair_eq p q = nat_eq p.0 q.0 && nat_eq p.1 q.1
 
+-- the order of pairs is total
 pub pair_total : IsTotalOrder pair_cmp
 pair_total = then_total (on_total (λ (t : ℕ × ℕ). t.0) nat_cmp_total) (on_total (λ (t : ℕ × ℕ). t.1) nat_cmp_total)
 
+-- what the order says of two pairs: before, the same, or after
 pub pair_ranks : (p q : ℕ × ℕ) → MatchOrdering (pair_cmp p q) (IsBefore p q) ((p.0 ≡ q.0) × (p.1 ≡ q.1)) (IsBefore q p)
 pair_ranks p q = go (nat_cmp p.0 q.0) (nat_cmp p.1 q.1) (ranks p.0 q.0) (ranks p.1 q.1)
   where
@@ -109,15 +118,18 @@ pair_ranks p q = go (nat_cmp p.0 q.0) (nat_cmp p.1 q.1) (ranks p.0 q.0) (ranks p
     go Equal Greater e l = inr (sym e, l)
     go Greater b l h = inl l
 
+-- a pair that is before another is less in the order
 pub before_less : (p q : ℕ × ℕ) → IsBefore p q → pair_cmp p q ≡ Less
 before_less p q before = elim before [
   | inl l ↦ ap (λ (o : Ordering). ordering_then o (nat_cmp p.1 q.1)) (sym (nat_cmp_is p.0 q.0 Less l))
   | inr l ↦ ap (λ (o : Ordering). ordering_then o (nat_cmp p.1 q.1)) (sym (nat_cmp_is p.0 q.0 Equal l.0)) ∙ sym (nat_cmp_is p.1 q.1 Less l.1)
 ]
 
+-- a pair that is less in the order is before the other
 pub less_before : (p q : ℕ × ℕ) → pair_cmp p q ≡ Less → IsBefore p q
 less_before p q less = subst (λ (o : Ordering). MatchOrdering o (IsBefore p q) ((p.0 ≡ q.0) × (p.1 ≡ q.1)) (IsBefore q p)) less (pair_ranks p q)
 
+-- a pair before one that is before a third is before the third
 pub before_trans : (p q r : ℕ × ℕ) → IsBefore p q → IsBefore q r → IsBefore p r
 before_trans p q r one two = elim one [
   | inl a ↦ elim two [ inl b ↦ inl (omega (arith, a, b)) | inr b ↦ let e = b.0 in inl (omega (arith, a, e)) ]
@@ -127,11 +139,12 @@ before_trans p q r one two = elim one [
   ]
 ]
 
+-- no pair is before one with the same parts
 pub not_before_itself : (p q : ℕ × ℕ) → IsBefore p q → p.0 ≡ q.0 → p.1 ≡ q.1 → ⊥
 not_before_itself p q before e f = elim before [ inl l ↦ omega (arith, l, e) | inr l ↦ let g = l.1 in omega (arith, g, f) ]
 
 -- of rising pairs each is before all later ones
-pub far_before : (xs : List (ℕ × ℕ)) → AreRising xs → (i j : ℕ) → i < j → j < length xs → IsBefore (pair_at xs i) (pair_at xs j)
+pub far_before : (xs : List (ℕ × ℕ)) → ArePairsRising xs → (i j : ℕ) → i < j → j < length xs → IsBefore (pair_at xs i) (pair_at xs j)
 far_before xs rising i zero l b = absurd (omega (arith, l))
 far_before xs rising i (suc j) l b = elim (cases_eq i j) [
   | inl e ↦
@@ -145,26 +158,32 @@ far_before xs rising i (suc j) l b = elim (cases_eq i j) [
 
 -- ---- sorted and each once
 
+-- two pairs are the same exactly where the order has them tied
 tied : (p q : ℕ × ℕ) → pair_eq p q ≡ eq_by_cmp pair_cmp p q
 tied p q = ap (λ (b : Bool). b && nat_eq p.1 q.1) (unsigned_ties p.0 q.0) ∙ ap (λ (b : Bool). eq_by_cmp nat_cmp p.0 q.0 && b) (unsigned_ties p.1 q.1)
     ∙ tied_then (nat_cmp p.0 q.0) (nat_cmp p.1 q.1)
 
-pub dedup_rises : (xs ys : List (ℕ × ℕ)) → IsSorted pair_cmp xs → ys ≡ dedup pair_eq xs → AreRising ys
+-- sorted pairs, each kept once, rise
+pub dedup_rises : (xs ys : List (ℕ × ℕ)) → IsSorted pair_cmp xs → ys ≡ dedup pair_eq xs → ArePairsRising ys
 dedup_rises xs ys sorted is k l =
     let strict : IsStrictlySortedBy pair_cmp ys = subst (λ (t : List (ℕ × ℕ)). IsStrictlySortedBy pair_cmp t) (sym is) (IsStrictlySortedBy-dedup pair_total tied xs sorted) in
     less_before (pair_at ys k) (pair_at ys (k + 1)) (Less-from_sorted pair_cmp ys k (k + 1) (0, 0) strict (omega arith) l)
 
+-- a pair that the test finds is contained in the list
 contained : (xs : List (ℕ × ℕ)) (u v : ℕ) → has_pair xs u v ≡ true → Contains xs (u, v)
 contained xs u v h = let at = pair_found xs u v h in (at.0, at.1, get_or_default xs at.0 (u, v) (0, 0) at.1 ∙ pair_is (pair_at xs at.0) u v at.2 at.3)
 
+-- the test finds a pair that is contained in the list
 has_contained : (xs : List (ℕ × ℕ)) (u v : ℕ) → Contains xs (u, v) → has_pair xs u v ≡ true
 has_contained xs u v c =
     let is : pair_at xs c.0 ≡ (u, v) = get_or_default xs c.0 (0, 0) (u, v) c.1 ∙ c.2 in
     found_pair xs c.0 u v c.1 (ap (λ (p : ℕ × ℕ). p.0) is) (ap (λ (p : ℕ × ℕ). p.1) is)
 
+-- pairs that the test has for the same are the same
 exact : (p q : ℕ × ℕ) → pair_eq p q ≡ true → p ≡ q
 exact p q h = let parts = and_parts (nat_eq p.0 q.0) (nat_eq p.1 q.1) h in pair_is p q.0 q.1 (eqb-true p.0 q.0 parts.0) (eqb-true p.1 q.1 parts.1)
 
+-- keeping each pair once loses no pair
 pub dedup_same : (xs ys : List (ℕ × ℕ)) → ys ≡ dedup pair_eq xs → (u v : ℕ) → (has_pair ys u v ≡ true) ↔ (has_pair xs u v ≡ true)
 dedup_same xs ys is u v = (
   λ h. has_contained xs u v (Contains-from_dedup pair_eq xs (u, v) (contained (dedup pair_eq xs) u v (subst (λ (t : List (ℕ × ℕ)). has_pair t u v ≡ true) is h))),
@@ -174,7 +193,8 @@ dedup_same xs ys is u v = (
 
 -- ---- where a unit's pairs begin
 
-rising_sorted : (xs : List (ℕ × ℕ)) → AreRising xs → IsSortedBy (λ p q. is_lt (pair_cmp p q)) xs
+-- rising pairs are sorted
+rising_sorted : (xs : List (ℕ × ℕ)) → ArePairsRising xs → IsSortedBy (λ p q. is_lt (pair_cmp p q)) xs
 rising_sorted xs rising k d low high =
     let here : get_or xs k d ≡ pair_at xs k = get_or_default xs k d (0, 0) (omega (arith, high)) in
     let next : get_or xs (k + 1) d ≡ pair_at xs (k + 1) = get_or_default xs (k + 1) d (0, 0) high in
@@ -183,7 +203,8 @@ rising_sorted xs rising k d low high =
     subst (λ (p : ℕ × ℕ). is_lt (pair_cmp p (get_or xs k d)) ≡ false) (sym next)
     (subst (λ (q : ℕ × ℕ). is_lt (pair_cmp (pair_at xs (k + 1)) q) ≡ false) (sym here) (ap is_lt greater))
 
-pub begins_there : (xs : List (ℕ × ℕ)) (u place : ℕ) → AreRising xs → place < length xs → ((d : ℕ × ℕ) → pair_cmp (get_or xs place d) (u, 0) ≡ Equal) → BeginsAt xs u place
+-- where the search finds the pair itself, the pairs of its unit begin there
+pub begins_there : (xs : List (ℕ × ℕ)) (u place : ℕ) → ArePairsRising xs → place < length xs → ((d : ℕ × ℕ) → pair_cmp (get_or xs place d) (u, 0) ≡ Equal) → BeginsAt xs u place
 begins_there xs u place rising inside found =
     let at : ((pair_at xs place).0 ≡ u) × ((pair_at xs place).1 ≡ 0) =
     subst (λ (o : Ordering). MatchOrdering o (IsBefore (pair_at xs place) (u, 0)) (((pair_at xs place).0 ≡ u) × ((pair_at xs place).1 ≡ 0)) (IsBefore (u, 0) (pair_at xs place))) (found (0, 0)) (pair_ranks (pair_at xs place) (u, 0)) in
@@ -204,7 +225,8 @@ begins_there xs u place rising inside found =
       ];
     }
 
-pub begins_between : (xs : List (ℕ × ℕ)) (u place : ℕ) → AreRising xs → place ≤ length xs → IsBinarySearchResult (λ p. pair_cmp p (u, 0)) xs (Err place) → BeginsAt xs u place
+-- where the search finds the place for the pair, the pairs of its unit begin there
+pub begins_between : (xs : List (ℕ × ℕ)) (u place : ℕ) → ArePairsRising xs → place ≤ length xs → IsBinarySearchResult (λ p. pair_cmp p (u, 0)) xs (Err place) → BeginsAt xs u place
 begins_between xs u place rising inside found =
     let parted = found (searchable_from_sorted pair_total (λ p. p) xs (u, 0) (rising_sorted xs rising)) in
     record {

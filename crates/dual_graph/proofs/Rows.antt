@@ -3,8 +3,9 @@ use Rattle.std.proofs.Common.{◌≡◌, ℕ, ◌+◌, ◌-◌, ◌<◌, List, [
 use Rattle.std.proofs.lemmas.List.{length-take, length-drop, get_or-take, get_or-drop, get_or_default}
 use Rattle.dual_graph.specs.Flat.{row}
 use Rattle.audit_model.specs.Below.{map_below}
-use Rattle.model_laws.proofs.Below.{get_or-map_below}
+use Rattle.audit_model.proofs.Below.{get_or-map_below}
 
+-- the part of the flat list between two places is the row of the unit
 pub row_is : (n : ℕ) (begins near : List ℕ) (u a b : ℕ) (xs : List ℕ) → u < n → a ≡ get_or begins u 0 → b ≡ get_or begins (u + 1) 0 → xs ≡ near
     → take (b - a) (drop a xs) ≡ get_or (map_below n (row begins near)) u []
 row_is n begins near u a b xs l ea eb ex =
@@ -12,6 +13,7 @@ row_is n begins near u a b xs l ea eb ex =
     ∙ ap (λ t. take (get_or begins (u + 1) 0 - get_or begins u 0) (drop (get_or begins u 0) t)) ex
     ∙ sym (get_or-map_below n (row begins near) u [] l)
 
+-- what is below a bound in a list is below it in each part of it
 pub part_below : (n a b : ℕ) (xs : List ℕ) → ((k : ℕ) → k < length xs → get_or xs k 0 < n)
     → (k d : ℕ) → k < length (take b (drop a xs)) → get_or (take b (drop a xs)) k d < n
 part_below n a b xs below k d l =

@@ -19,20 +19,22 @@ use Rattle.audit_model.specs.Graph.{Graph, IsGraph, count_edges}
 use Rattle.audit_model.specs.Label.{same_label, label_before}
 use Rattle.audit_model.specs.Limits.{IsColumn, AreWithin}
 use Rattle.audit_model.specs.Parsed.{Parsed}
-use Rattle.graph_definitions.specs.Reading.{Document, graph, joined, id_of, same_id, refused_if, label_count, label_at, is_new_label, district_at, refusal, parsed, reading, of_root, of_json, bad_part}
-use Rattle.model_laws.proofs.Below.{count_below_same, filter_below_same, length-map_below, get_or-map_below, map_below_same}
-use Rattle.model_laws.proofs.First.{first_below_same, first_some_below_same, any_below_same, first_passes, none_or_any}
+use Rattle.audit_statement.specs.Reading.{Document, graph, joined, id_of, same_id, refused_if, label_count, label_at, is_new_label, district_at, refusal, parsed, reading, of_root, of_json, bad_part}
+use Rattle.audit_model.proofs.Below.{count_below_same, filter_below_same, length-map_below, get_or-map_below, map_below_same}
+use Rattle.audit_model.proofs.First.{first_below_same, first_some_below_same, any_below_same, first_passes, none_or_any}
 use Rattle.dual_json.specs.Columns.{count_from, count_in, missing, bad, numbers_in}
-use Rattle.dual_json.specs.Districts.{AreDistricts, count_fault, is_new, different_count}
+use Rattle.dual_json.specs.Districts.{AreDistricts, district_count_fault, is_new, different_count}
 use Rattle.dual_json.specs.Edges.{entries_at, first_in, first_entry_in, is_unknown, is_unnamed, joined_in, graph_in, edges_fault, names_node}
-use Rattle.dual_json.specs.Places.{object_at, nth, first_unnamed, AreLabels, place_in, repeated}
+use Rattle.dual_json.specs.Places.{object_at, nth, first_unnamed, AreLabels, place_of_label, repeated_label}
 use Rattle.dual_json.specs.Stages.{repeated_in, entry_fault, is_stranger, edge_count, graph_fault, labels_fault, AreRows}
 use Rattle.dual_json.proofs.Counted.{label_count_is, district_is, labels_are, start_is}
 
+-- functions that agree on what an option has give the same of it
 option_map_same : {A B : Type 0} → (o : Option A) (f g : A → B) → ((a : A) → o ≡ Some a → f a ≡ g a) → option_map f o ≡ option_map g o
 option_map_same None f g same = refl
 option_map_same (Some a) f g same = ap Some (same a refl)
 
+-- which of three options comes first does not hang on how they are grouped
 or_assoc : {A : Type 0} → (x y z : Option A) → option_or (option_or x y) z ≡ option_or x (option_or y z)
 or_assoc None y z = refl
 or_assoc (Some a) y z = refl
@@ -46,7 +48,7 @@ module _ (nodes : List Data) (ids : List Label) (are : AreLabels (codes "id") no
   same_ids : (i j : ℕ) → i < length nodes → j < length nodes → same_id (id_of (object_at nodes i)) (id_of (object_at nodes j)) ≡ same_label (nth ids i) (nth ids j)
   same_ids i j li lj = ap (λ o. same_id o (id_of (object_at nodes j))) (id_at i li) ∙ ap (same_id (Some (nth ids i))) (id_at j lj)
 
-  pub repeated_same : repeated_in nodes ≡ repeated ids
+  pub repeated_same : repeated_in nodes ≡ repeated_label ids
   repeated_same =
       let test = λ (j : ℕ). any_below j (λ i. same_id (id_of (object_at nodes i)) (id_of (object_at nodes j))) in
       let other = λ (j : ℕ). any_below j (λ i. same_label (nth ids i) (nth ids j)) in
@@ -66,12 +68,12 @@ module _ (nodes : List Data) (ids : List Label) (are : AreLabels (codes "id") no
   never zero = refl
   never (suc n) = ap (λ b. b || false) (never n)
 
-  stranger_by : (o : Option Label) → not (any_below (length nodes) (λ j. same_id o (id_of (object_at nodes j)))) ≡ is_none (option_and_then (place_in ids) o)
+  stranger_by : (o : Option Label) → not (any_below (length nodes) (λ j. same_id o (id_of (object_at nodes j)))) ≡ is_none (option_and_then (place_of_label ids) o)
   stranger_by None = ap not (never (length nodes))
   stranger_by (Some l) =
       ap not (any_below_same (length nodes) (λ j. same_id (Some l) (id_of (object_at nodes j))) (λ j. same_label l (nth ids j)) (λ j inside. ap (same_id (Some l)) (id_at j inside)))
       ∙ ap (λ m. not (any_below m (λ j. same_label l (nth ids j)))) (sym are.count)
-      ∙ none_or_any (length ids) (λ j. same_label l (nth ids j)) (place_in ids l) refl
+      ∙ none_or_any (length ids) (λ j. same_label l (nth ids j)) (place_of_label ids l) refl
 
   pub stranger_same : (e : Data) → is_stranger nodes e ≡ is_unknown ids e
   stranger_same e = stranger_by (id_of e)
@@ -110,6 +112,7 @@ module _ (d : Document) (ids : List Label) (are : AreLabels (codes "id") d.nodes
 
 -- ---- all refusals
 
+-- a chain of twelve options is the first of three groups of them
 regroup : {A : Type 0} (a b c e f g h i j k l m : Option A)
     → option_or a (option_or b (option_or c (option_or e (option_or f (option_or g (option_or h (option_or i (option_or j (option_or k (option_or l (option_or m None)))))))))))
     ≡ option_or (option_or (option_or a (option_or b (option_or c None))) (option_or (option_or e f) (option_or g (option_or h i)))) (option_or (option_or j (option_or k l)) m)
@@ -127,12 +130,13 @@ regroup None None None None None None None None None None (Some x) m = refl
 regroup None None None None None None None None None None None (Some x) = refl
 regroup None None None None None None None None None None None None = refl
 
-pub refusal_is : (d : Document) (columns : Columns) → refusal d columns ≡ option_or (graph_fault d) (option_or (labels_fault columns d.nodes) (count_fault (label_count d columns)))
+-- the first refusal is that of the graph, else that of the labels, else that of the count of districts
+pub refusal_is : (d : Document) (columns : Columns) → refusal d columns ≡ option_or (graph_fault d) (option_or (labels_fault columns d.nodes) (district_count_fault (label_count d columns)))
 refusal_is d columns = regroup
     (refused_if d.directed fault.Directed) (refused_if (not (length d.nodes == length d.adjacency)) (fault.LengthsDiffer (length d.nodes) (length d.adjacency)))
     (refused_if (nat_lt 100000 (length d.nodes)) (fault.TooManyUnits (length d.nodes))) (option_map fault.BadId (first_unnamed (codes "id") d.nodes)) (repeated_in d.nodes)
     (entry_fault d is_unnamed fault.BadNeighbour) (entry_fault d (is_stranger d.nodes) fault.UnknownNeighbour) (refused_if (nat_lt 400000 (edge_count d)) (fault.TooManyEdges (edge_count d)))
-    (missing columns d.nodes) (bad columns d.nodes) (option_map fault.BadLabel (first_unnamed columns.district d.nodes)) (count_fault (label_count d columns))
+    (missing columns d.nodes) (bad columns d.nodes) (option_map fault.BadLabel (first_unnamed columns.district d.nodes)) (district_count_fault (label_count d columns))
 
 -- ---- the columns
 
@@ -183,6 +187,7 @@ module _ (d : Document) (columns : Columns) (labels found : List Label) (start :
 
 -- ---- what is read
 
+-- the graph and the rows of the nodes make what is parsed of the document
 pub parsed_is : (d : Document) (columns : Columns) (g : Graph) (counts : Counts) (start : List ℕ) (found : List Label) → graph d ≡ g → AreRows columns d.nodes counts start found
     → parsed d columns ≡ record { graph = g; counts = counts; start = start; labels = found }
 parsed_is d columns g counts start found is rows =
@@ -199,6 +204,7 @@ parsed_is d columns g counts start found is rows =
     made : Graph → Counts → List ℕ → List Label → Parsed
     made g counts start labels = record { graph = g; counts = counts; start = start; labels = labels }
 
+-- a number that is taken as a count is at most 10 ^ 9
 small_count : (o : Option ℕ) → unwrap_or (option_and_then (λ n. cond (nat_le n (10 ^ 9)) (Some n) None) o) 0 ≤ 10 ^ 9
 small_count None = omega arith
 small_count (Some n) = by (nat_le n (10 ^ 9)) refl
@@ -207,10 +213,12 @@ small_count (Some n) = by (nat_le n (10 ^ 9)) refl
     by true e = leb-true n (10 ^ 9) e
     by false e = omega arith
 
+-- a number that is read is at most 10 ^ 9
 small_in : (o : Option Data) → unwrap_or (option_and_then count_from o) 0 ≤ 10 ^ 9
 small_in None = omega arith
 small_in (Some v) = small_count (option_and_then as_u64 (as_number v))
 
+-- the numbers at a key of the nodes are a column
 column_is : (key : List ℕ) (nodes : List Data) (units : ℕ) (numbers : List ℕ) → numbers ≡ numbers_in key nodes → units ≡ length nodes → IsColumn units numbers
 column_is key nodes units numbers is long =
     let f = λ (i : ℕ). unwrap_or (count_in key (object_at nodes i)) 0 in
@@ -221,6 +229,7 @@ column_is key nodes units numbers is long =
           subst (λ (m : ℕ). m ≤ 10 ^ 9) (sym (ap (λ (xs : List ℕ). get_or xs k d) is ∙ get_or-map_below (length nodes) f k d inside)) (small_in (member key (object_at nodes k)));
     }
 
+-- what is read of nodes that are few enough lies within the limits
 pub within_is : (nodes : List Data) (columns : Columns) (g : Graph) (counts : Counts) (start : List ℕ) (found : List Label) → IsGraph g → g.units ≡ length nodes → length nodes ≤ 100000
     → count_edges g (λ u v. true) ≤ 400000 → AreRows columns nodes counts start found → AreWithin g counts start (length found)
 within_is nodes columns g counts start found simple units few edges rows = record {
@@ -236,7 +245,8 @@ within_is nodes columns g counts start found simple units few edges rows = recor
   in_range = λ u l. rows.districts.inside u (omega (arith, l, units, rows.labelled.count));
 }
 
-pub count_within : (n : ℕ) → count_fault n ≡ None → (2 ≤ n) × (n ≤ 200)
+-- a count of districts that is not refused is from 2 to 200
+pub count_within : (n : ℕ) → district_count_fault n ≡ None → (2 ≤ n) × (n ≤ 200)
 count_within n none =
     let both = or_parts (nat_lt n 2) (nat_lt 200 n) (not_there (nat_lt n 2 || nat_lt 200 n) (fault.DistrictCount n) none) in
     (ltb-false n 2 both.0, ltb-false 200 n both.1)
@@ -245,10 +255,12 @@ count_within n none =
     not_there true f e = cc e
     not_there false f e = refl
 
+-- bytes that are JSON are read as their root is
 pub reading_of : (bytes : List ℕ) (columns : Columns) (root : Data) → cond (is_utf8 bytes) (read bytes) None ≡ Some root → reading bytes columns ≡ of_root columns root (bad_part root)
 unfolding reading
 reading_of bytes columns root is = ap (of_json columns) is
 
+-- bytes that are no JSON are refused
 pub reading_none : (bytes : List ℕ) (columns : Columns) → cond (is_utf8 bytes) (read bytes) None ≡ None → reading bytes columns ≡ Err fault.NotJson
 unfolding reading
 reading_none bytes columns is = ap (of_json columns) is

@@ -11,9 +11,9 @@ use Rattle.audit_model.specs.declared.setting.Label.TheVariants.{Word}
 use Rattle.audit_model.specs.Below.{any_below, count_below, map_below}
 use Rattle.audit_model.specs.First.{first_below}
 use Rattle.audit_model.specs.Label.{same_label, label_before}
-use Rattle.model_laws.proofs.Below.{count_below_same, count_below_into, any_below_some, any_below_from, length-map_below, get_or-map_below}
-use Rattle.model_laws.proofs.First.{none_passes, first_passes}
-use Rattle.model_laws.proofs.Labels.{same_equal, equal_same}
+use Rattle.audit_model.proofs.Below.{count_below_same, count_below_into, any_below_some, any_below_from, length-map_below, get_or-map_below}
+use Rattle.audit_model.proofs.First.{first_below_none, first_passes}
+use Rattle.audit_model.proofs.Labels.{same_equal, equal_same}
 use Rattle.dual_json.specs.Districts.{AreDistricts, is_new}
 use Rattle.dual_json.specs.Names.{label_total}
 use Rattle.dual_json.specs.Places.{nth}
@@ -35,11 +35,13 @@ count_below_front (suc n) p test l front back = elim (cases_eq p (suc n)) [
       omega (arith, last, before)
 ]
 
+-- a label that is new is none of the earlier ones
 new_one : (labels : List Label) (i j : ℕ) → is_new labels j ≡ true → i < j → nth labels i ≡ nth labels j → ⊥
 new_one labels i j new l same =
     both_ways (any_below j (λ k. same_label (nth labels k) (nth labels j))) (not-true (any_below j (λ k. same_label (nth labels k) (nth labels j))) new)
     (any_below_from j (λ k. same_label (nth labels k) (nth labels j)) i l (equal_same (nth labels i) (nth labels j) same))
 
+-- places of new labels that are the same are one place
 new_apart : (labels : List Label) (i j : ℕ) → is_new labels i ≡ true → is_new labels j ≡ true → nth labels i ≡ nth labels j → i ≡ j
 new_apart labels i j a b same = elim (cases_order i j) [
   | inl e ↦ e
@@ -68,7 +70,7 @@ module _ (labels found : List Label) (start : List ℕ) (are : AreDistricts labe
       → (unwrap_or o 0 < length labels) × (nth labels (unwrap_or o 0) ≡ nth found k) × (is_new labels (unwrap_or o 0) ≡ true)
   first_by k l None is =
       let one = are.from k l in
-      absurd (both_ways (same_label (nth labels one.0) (nth found k)) (none_passes (length labels) (λ i. same_label (nth labels i) (nth found k)) is one.0 one.1)
+      absurd (both_ways (same_label (nth labels one.0) (nth found k)) (first_below_none (length labels) (λ i. same_label (nth labels i) (nth found k)) one.0 is one.1)
       (equal_same (nth labels one.0) (nth found k) (sym one.2)))
   first_by k l (Some a) is =
       let first = first_passes (length labels) (λ i. same_label (nth labels i) (nth found k)) a is in
@@ -128,7 +130,7 @@ module _ (labels found : List Label) (start : List ℕ) (are : AreDistricts labe
       by None none =
           let one = are.from d l in
           let at : get_or start one.0 0 ≡ d = found_apart (get_or start one.0 0) d (are.inside one.0 one.1) l (are.place one.0 one.1 ∙ sym one.2) in
-          absurd (both_ways (district one.0 == d) (none_passes (length labels) (λ i. district i == d) none one.0 one.1) (eq-eqb (district one.0) d (is one.0 one.1 ∙ at)))
+          absurd (both_ways (district one.0 == d) (first_below_none (length labels) (λ i. district i == d) one.0 none one.1) (eq-eqb (district one.0) d (is one.0 one.1 ∙ at)))
       by (Some a) first =
           let passes = first_passes (length labels) (λ i. district i == d) a first in
           let at : get_or start a 0 ≡ d = sym (is a passes.0) ∙ eqb-true (district a) d passes.1 in

@@ -4,7 +4,7 @@ use Rattle.std.proofs.lemmas.Bool.{cases_eq, false≢true}
 use Rattle.serde_json.specs.Data.{Data}
 use Rattle.audit_model.specs.declared.setting.Label.{Label}
 use Rattle.dual_json.specs.Edges.{entries_at, edge, has_edge, LeadsTo, PushesEdge, AddsEdges, AreListed}
-use Rattle.dual_json.specs.Places.{object_at, place_of}
+use Rattle.dual_json.specs.Places.{object_at, place_of_entry}
 
 -- no entries yet
 pub adds_none : (ids : List Label) (entries : List Data) (node : ℕ) (pairs : List (ℕ × ℕ)) → AddsEdges ids entries 0 node pairs pairs
@@ -14,12 +14,13 @@ adds_none ids entries node pairs = record {
   to = λ v leads off. let under = leads.1 in absurd (omega (arith, under));
 }
 
+-- an edge of the first entries is one of one entry more
 leads_more : (ids : List Label) (entries : List Data) (count v : ℕ) → LeadsTo ids entries count v → LeadsTo ids entries (count + 1) v
 leads_more ids entries count v leads = let under = leads.1 in (leads.0, omega (arith, under), leads.2)
 
 -- one entry more
 pub adds_more : (ids : List Label) (entries : List Data) (count node other : ℕ) (old pairs new : List (ℕ × ℕ)) (d : Data) → AddsEdges ids entries count node old pairs
-    → object_at entries count ≡ d → Some other ≡ place_of ids d → PushesEdge node other pairs new → AddsEdges ids entries (count + 1) node old new
+    → object_at entries count ≡ d → Some other ≡ place_of_entry ids d → PushesEdge node other pairs new → AddsEdges ids entries (count + 1) node old new
 adds_more ids entries count node other old pairs new d before at leads push = record {
   kept = λ x h. push.kept x (before.kept x h);
   from = λ x h. elim (push.from x h) [
@@ -27,11 +28,11 @@ adds_more ids entries count node other old pairs new d before at leads push = re
       | inl first ↦ inl first
       | inr one ↦ inr (one.0, leads_more ids entries count one.0 one.1, one.2, one.3)
     ]
-    | inr is ↦ inr (other, (count, omega arith, ap (place_of ids) at ∙ sym leads), is.0, is.1)
+    | inr is ↦ inr (other, (count, omega arith, ap (place_of_entry ids) at ∙ sym leads), is.0, is.1)
   ];
   to = λ v there off. elim (cases_eq there.0 count) [
     | inl e ↦
-        let same : Some v ≡ Some other = sym there.2 ∙ ap (λ k. place_of ids (object_at entries k)) e ∙ ap (place_of ids) at ∙ sym leads in
+        let same : Some v ≡ Some other = sym there.2 ∙ ap (λ k. place_of_entry ids (object_at entries k)) e ∙ ap (place_of_entry ids) at ∙ sym leads in
         let is : other ≡ v = cc same in
         subst (λ w. has_edge new (edge node w) ≡ true) is (push.to (λ bad. off (sym is ∙ bad)))
     | inr apart ↦ let under = there.1 in push.kept (edge node v) (before.to v (there.0, omega (arith, under, apart), there.2) off)

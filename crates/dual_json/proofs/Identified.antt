@@ -12,11 +12,11 @@ use Rattle.audit_model.specs.declared.setting.Columns.{Columns}
 use Rattle.audit_model.specs.declared.setting.Label.{Label}
 use Rattle.audit_model.specs.declared.setting.Label.TheVariants.{Word}
 use Rattle.audit_model.specs.Below.{map_below}
-use Rattle.model_laws.proofs.Options.{option_map_none, option_or_none}
-use Rattle.model_laws.proofs.Below.{length-map_below, get_or-map_below}
-use Rattle.graph_definitions.specs.Reading.{Document, document, id_of, label_count, node, node_count, refusal, refused_if}
-use Rattle.graph_definitions.specs.Regions.{id_reading}
-use Rattle.dual_json.specs.Districts.{count_fault}
+use Rattle.audit_model.proofs.Options.{option_map_none, option_or_none}
+use Rattle.audit_model.proofs.Below.{length-map_below, get_or-map_below}
+use Rattle.audit_statement.specs.Reading.{Document, document, id_of, label_count, node, node_count, refusal, refused_if}
+use Rattle.audit_statement.specs.Regions.{id_reading}
+use Rattle.dual_json.specs.Districts.{district_count_fault}
 use Rattle.dual_json.specs.Edges.{is_unnamed}
 use Rattle.dual_json.specs.Places.{first_unnamed, AreLabels}
 use Rattle.dual_json.specs.Shape.{frame_fault}
@@ -34,7 +34,7 @@ pub all_named : (d : Document) (columns : Columns) → refusal d columns ≡ Non
 unfolding later
 all_named d columns none =
     let whole : graph_fault d ≡ None =
-    (option_or_none (graph_fault d) (option_or (labels_fault columns d.nodes) (count_fault (label_count d columns))) (sym (refusal_is d columns) ∙ none)).0 in
+    (option_or_none (graph_fault d) (option_or (labels_fault columns d.nodes) (district_count_fault (label_count d columns))) (sym (refusal_is d columns) ∙ none)).0 in
     let ids : ids_fault d.nodes ≡ None =
     (option_or_none (ids_fault d.nodes) (later d) (option_or_none (frame_fault d.directed (length d.nodes) (length d.adjacency)) (option_or (ids_fault d.nodes) (later d)) whole).1).0 in
     option_map_none fault.BadId (first_unnamed (codes "id") d.nodes) (option_or_none (option_map fault.BadId (first_unnamed (codes "id") d.nodes)) (repeated_in d.nodes) ids).0
@@ -43,6 +43,7 @@ all_named d columns none =
 ids_in : Document → List Label
 ids_in d = map_below (node_count d) (λ i. unwrap_or (id_of (node d i)) (Word []))
 
+-- the labels at the key of ids are the ids that are read of the bytes
 pub ids_are : (bytes : List ℕ) (root : Data) (d : Document) (ids : List Label) → cond (is_utf8 bytes) (read bytes) None ≡ Some root → document root ≡ d → AreLabels (codes "id") d.nodes ids → ids ≡ id_reading bytes
 unfolding id_reading ids_in
 ids_are bytes root d ids is same are =

@@ -9,15 +9,17 @@ use Rattle.audit_model.specs.declared.setting.Label.{Label}
 use Rattle.audit_model.specs.Below.{any_below}
 use Rattle.audit_model.specs.First.{first_below}
 use Rattle.audit_model.specs.Label.{same_label}
-use Rattle.model_laws.proofs.Options.{or_nothing}
-use Rattle.model_laws.proofs.First.{first_below_same, first_below_more, first_below_found, any_from_none, any_from_some}
+use Rattle.audit_model.proofs.Options.{or_nothing}
+use Rattle.audit_model.proofs.First.{first_below_same, first_below_more, first_below_here, any_from_none, any_from_some}
 use Rattle.dual_json.specs.Names.{label_from, label_total, same_name}
-use Rattle.dual_json.specs.Places.{nth, repeated, IsIndex}
+use Rattle.dual_json.specs.Places.{nth, repeated_label, IsLabelIndex}
 use Rattle.dual_json.specs.declared.names.Name.{Name}
 
+-- that two labels are the same does not hang on their order
 pub same_turned : (a b : Label) → same_label a b ≡ same_label b a
 same_turned a b = (eq_by_cmp_equiv label_total).symm a b
 
+-- of two labels that are the same, each is the same as a third where the other is
 pub same_alike : (a b c : Label) → same_label a b ≡ true → same_label a c ≡ same_label b c
 same_alike a b c e = (eq_by_cmp_equiv label_total).congr a b c e
 
@@ -30,12 +32,12 @@ module _ {S : Type 0} (labels : List Label) (j : ℕ) (places : HashMap Name ℕ
   turned : (i : ℕ) → same_label (label_from key) (nth labels i) ≡ same_label (nth labels i) (nth labels j)
   turned i = same_turned (label_from key) (nth labels i) ∙ ap (same_label (nth labels i)) (sym at)
 
-  pub repeated_here : (first : ℕ) → j < length labels → get same_name places key ≡ Some first → repeated labels ≡ Some (fault.SameId first j)
+  pub repeated_here : (first : ℕ) → j < length labels → get same_name places key ≡ Some first → repeated_label labels ≡ Some (fault.SameId first j)
   repeated_here first l found =
       let one : first_below j (λ i. same_label (nth labels i) (nth labels j)) ≡ Some first =
       sym (first_below_same j (λ i. same_label (label_from key) (nth labels i)) (λ i. same_label (nth labels i) (nth labels j)) (λ i under. turned i)) ∙ sym (before.leads key) ∙ found in
       ap (option_map (λ k. fault.SameId (unwrap_or (first_below k (λ i. same_label (nth labels i) (nth labels k))) 0) k))
-      (first_below_found (length labels) j (λ k. any_below k (λ i. same_label (nth labels i) (nth labels k))) l before.none
+      (first_below_here (length labels) j (λ k. any_below k (λ i. same_label (nth labels i) (nth labels k))) before.none l
       (any_from_some j (λ i. same_label (nth labels i) (nth labels j)) first one))
       ∙ ap (λ o. Some (fault.SameId (unwrap_or o 0) j)) one
 
@@ -68,7 +70,8 @@ module _ {S : Type 0} (labels : List Label) (j : ℕ) (places : HashMap Name ℕ
               (sym (first_below_same j (λ i. same_label (label_from key) (nth labels i)) (λ i. same_label (nth labels i) (nth labels j)) (λ i under. turned i)) ∙ sym (before.leads key) ∙ absent));
         }
 
-pub indexed_all : {S : Type 0} (labels : List Label) (j : ℕ) (places : HashMap Name ℕ S) → j ≡ length labels → IsIndexed labels j places → (repeated labels ≡ None) × IsIndex labels places
+-- where all labels have been put into the map, none stood twice, and the map leads to each
+pub indexed_all : {S : Type 0} (labels : List Label) (j : ℕ) (places : HashMap Name ℕ S) → j ≡ length labels → IsIndexed labels j places → (repeated_label labels ≡ None) × IsLabelIndex labels places
 indexed_all labels j places all is = (
   ap (option_map (λ k. fault.SameId (unwrap_or (first_below k (λ i. same_label (nth labels i) (nth labels k))) 0) k))
       (subst (λ (m : ℕ). first_below m (λ k. any_below k (λ i. same_label (nth labels i) (nth labels k))) ≡ None) all is.none),

@@ -9,28 +9,29 @@ use Rattle.audit_model.specs.declared.setting.Label.{Label}
 use Rattle.audit_model.specs.Below.{any_below, filter_below, map_below}
 use Rattle.audit_model.specs.Graph.{Graph, IsGraph, has, adjacent}
 use Rattle.audit_model.specs.Label.{same_label}
-use Rattle.graph_definitions.specs.Reading.{id_of, same_id}
-use Rattle.model_laws.proofs.Connected.{has-filter_below, filter_below-has}
-use Rattle.model_laws.proofs.Options.{option_map_none}
-use Rattle.model_laws.proofs.Below.{any_below_some, any_below_from, length-map_below, get_or-map_below}
-use Rattle.model_laws.proofs.First.{none_passes, first_passes}
-use Rattle.model_laws.proofs.Lists.{has_at, at_has, rises, first_has}
-use Rattle.dual_graph.specs.Pairs.{pair_at, has_pair, AreRising, ArePairs, Joins}
+use Rattle.audit_statement.specs.Reading.{id_of, same_id}
+use Rattle.audit_model.proofs.Connected.{has-filter_below, filter_below-has}
+use Rattle.audit_model.proofs.Options.{option_map_none}
+use Rattle.audit_model.proofs.Below.{any_below_some, any_below_from, length-map_below, get_or-map_below}
+use Rattle.audit_model.proofs.First.{first_below_none, first_passes}
+use Rattle.audit_model.proofs.ListFacts.{has_at, at_has, rises, first_has}
+use Rattle.dual_graph.specs.Pairs.{pair_at, has_pair, ArePairsRising, ArePairs, Joins}
 use Rattle.dual_graph.proofs.Counting.{edges_counted}
 use Rattle.dual_graph.proofs.Ordered.{pair_is, pair_found, pair_there}
 use Rattle.dual_json.specs.Edges.{entries_at, edge, has_edge, names_node, joined_in, graph_in, edges_in, LeadsTo, AreListed}
-use Rattle.dual_json.specs.Places.{nth, object_at, place_in, repeated}
+use Rattle.dual_json.specs.Places.{nth, object_at, place_of_label, repeated_label}
 use Rattle.dual_json.proofs.Indexed.{same_turned, same_alike}
 
 -- ---- ids that all differ
 
-pub ids_apart : (ids : List Label) → repeated ids ≡ None → (i j : ℕ) → i < j → j < length ids → same_label (nth ids i) (nth ids j) ≡ false
+-- where no id stands twice, ids at two places differ
+pub ids_apart : (ids : List Label) → repeated_label ids ≡ None → (i j : ℕ) → i < j → j < length ids → same_label (nth ids i) (nth ids j) ≡ false
 ids_apart ids none i j l inside =
-    let never = none_passes (length ids) (λ k. any_below k (λ m. same_label (nth ids m) (nth ids k))) (option_map_none _ _ none) j inside in
+    let never = first_below_none (length ids) (λ k. any_below k (λ m. same_label (nth ids m) (nth ids k))) j (option_map_none _ _ none) inside in
     false_from_ne_true (same_label (nth ids i) (nth ids j)) (λ same. both_ways (any_below j (λ m. same_label (nth ids m) (nth ids j))) never
     (any_below_from j (λ m. same_label (nth ids m) (nth ids j)) i l same))
 
-module _ (ids : List Label) (apart : repeated ids ≡ None) where
+module _ (ids : List Label) (apart : repeated_label ids ≡ None) where
   -- the only place of a label
   one_place : (l : Label) (v w : ℕ) → v < length ids → w < length ids → same_label l (nth ids v) ≡ true → same_label l (nth ids w) ≡ true → v ≡ w
   one_place l v w lv lw sv sw =
@@ -43,20 +44,20 @@ module _ (ids : List Label) (apart : repeated ids ≡ None) where
         ]
       ]
 
-  found_or : (l : Label) (v : ℕ) (o : Option ℕ) → place_in ids l ≡ o → v < length ids → same_label l (nth ids v) ≡ true → o ≡ Some v
-  found_or l v None is lv same = absurd (both_ways (same_label l (nth ids v)) (none_passes (length ids) (λ i. same_label l (nth ids i)) is v lv) same)
+  found_or : (l : Label) (v : ℕ) (o : Option ℕ) → place_of_label ids l ≡ o → v < length ids → same_label l (nth ids v) ≡ true → o ≡ Some v
+  found_or l v None is lv same = absurd (both_ways (same_label l (nth ids v)) (first_below_none (length ids) (λ i. same_label l (nth ids i)) v is lv) same)
   found_or l v (Some w) is lv same =
       let found = first_passes (length ids) (λ i. same_label l (nth ids i)) w is in
       ap Some (sym (one_place l v w lv found.0 same found.1))
 
-  place_here : (l : Label) (v : ℕ) → v < length ids → same_label l (nth ids v) ≡ true → place_in ids l ≡ Some v
-  place_here l v lv same = found_or l v (place_in ids l) refl lv same
+  place_here : (l : Label) (v : ℕ) → v < length ids → same_label l (nth ids v) ≡ true → place_of_label ids l ≡ Some v
+  place_here l v lv same = found_or l v (place_of_label ids l) refl lv same
 
-  same_place : (o : Option Label) (v : ℕ) → v < length ids → same_id o (Some (nth ids v)) ≡ true → option_and_then (place_in ids) o ≡ Some v
+  same_place : (o : Option Label) (v : ℕ) → v < length ids → same_id o (Some (nth ids v)) ≡ true → option_and_then (place_of_label ids) o ≡ Some v
   same_place None v lv same = absurd (false≢true same)
   same_place (Some l) v lv same = place_here l v lv same
 
-  place_same : (o : Option Label) (v : ℕ) → option_and_then (place_in ids) o ≡ Some v → (v < length ids) × (same_id o (Some (nth ids v)) ≡ true)
+  place_same : (o : Option Label) (v : ℕ) → option_and_then (place_of_label ids) o ≡ Some v → (v < length ids) × (same_id o (Some (nth ids v)) ≡ true)
   place_same None v is = cc is
   place_same (Some l) v is = let found = first_passes (length ids) (λ i. same_label l (nth ids i)) v is in (found.0, found.1)
 
@@ -72,9 +73,11 @@ module _ (ids : List Label) (apart : repeated ids ≡ None) where
 
 -- ---- edges
 
+-- the edge of a unit and a greater one has the first at its first end
 edge_up : (u v : ℕ) → u < v → edge u v ≡ (u, v)
 edge_up u v l = cond-true {A = ℕ × ℕ} (nat_lt u v) (u, v) (v, u) (lt-ltb u v l)
 
+-- the edge of a unit and one that is not greater has the second at its first end
 edge_down : (u v : ℕ) → v ≤ u → edge u v ≡ (v, u)
 edge_down u v l = cond-false {A = ℕ × ℕ} (nat_lt u v) (u, v) (v, u) (le-ltb u v l)
 
@@ -83,6 +86,7 @@ pub record HasEnds (u v : ℕ) (e : ℕ × ℕ) : Type 0 where
   pub smaller : e.0 < e.1
   pub either : ((e.0 ≡ u) × (e.1 ≡ v)) ⊎ ((e.0 ≡ v) × (e.1 ≡ u))
 
+-- the edge of two different units has them as its ends
 pub edge_ends : (u v : ℕ) (e : ℕ × ℕ) → v ≢ u → e ≡ edge u v → HasEnds u v e
 edge_ends u v e off is = elim (cases_lt u v) [
   | inl up ↦
@@ -99,6 +103,7 @@ edge_ends u v e off is = elim (cases_lt u v) [
 
 -- ---- rows
 
+-- the first number of a rising list is below all others
 rises_far : (x : ℕ) (xs : List ℕ) → ((i : ℕ) → i + 1 < length (x ∷ xs) → get_or (x ∷ xs) i 0 < get_or (x ∷ xs) (i + 1) 0) → (v : ℕ) → has xs v ≡ true → x < v
 rises_far x xs rising v there =
     let at = has_at xs v there in
@@ -107,11 +112,13 @@ rises_far x xs rising v there =
     let up : x < get_or xs at.0 0 = rises (x ∷ xs) 0 (suc at.0) rising (omega arith) (omega (arith, under)) in
     omega (arith, up, is)
 
+-- a rising list rises without its first number
 later : (x : ℕ) (xs : List ℕ) → ((i : ℕ) → i + 1 < length (x ∷ xs) → get_or (x ∷ xs) i 0 < get_or (x ∷ xs) (i + 1) 0) → (i : ℕ) → i + 1 < length xs → get_or xs i 0 < get_or xs (i + 1) 0
 later x xs rising i l =
     let next : suc i + 1 ≡ suc (i + 1) = omega arith in
     subst (λ (j : ℕ). get_or xs i 0 < get_or (x ∷ xs) j 0) next (rising (suc i) (omega arith))
 
+-- a number of a list is the first or one of the others
 one_of : (x : ℕ) (xs : List ℕ) (v : ℕ) → has (x ∷ xs) v ≡ true → (x ≡ v) ⊎ (has xs v ≡ true)
 one_of x xs v h = elim (or_cases (x == v) (has xs v) h) [ inl e ↦ inl (eqb-true x v e) | inr e ↦ inr e ]
 
@@ -140,6 +147,7 @@ rising_same (x ∷ xs) (y ∷ ys) rx ry into back =
       | inr there ↦ there
     ]))
 
+-- a rising list still rises with a number behind it that is above all
 rises_push : (xs : List ℕ) (n : ℕ) → ((i : ℕ) → i + 1 < length xs → get_or xs i 0 < get_or xs (i + 1) 0) → ((v : ℕ) → has xs v ≡ true → v < n)
     → (i : ℕ) → i + 1 < length (xs ++ n ∷ []) → get_or (xs ++ n ∷ []) i 0 < get_or (xs ++ n ∷ []) (i + 1) 0
 rises_push xs n rising below i l = elim (cases_lt (i + 1) (length xs)) [
@@ -155,11 +163,13 @@ rises_push xs n rising below i l = elim (cases_lt (i + 1) (length xs)) [
       omega (arith, a, b, under)
 ]
 
+-- the numbers that are kept still rise, whether the last is kept or not
 filter_rises_by : (n : ℕ) (test : ℕ → Bool) (b : Bool) → ((i : ℕ) → i + 1 < length (filter_below n test) → get_or (filter_below n test) i 0 < get_or (filter_below n test) (i + 1) 0)
     → (i : ℕ) → i + 1 < length (filter_below n test ++ cond b (n ∷ []) []) → get_or (filter_below n test ++ cond b (n ∷ []) []) i 0 < get_or (filter_below n test ++ cond b (n ∷ []) []) (i + 1) 0
 filter_rises_by n test true before = rises_push (filter_below n test) n before (λ v h. (has-filter_below n test v h).0)
 filter_rises_by n test false before = subst (λ (xs : List ℕ). (i : ℕ) → i + 1 < length xs → get_or xs i 0 < get_or xs (i + 1) 0) (sym (append-nil (filter_below n test))) before
 
+-- the numbers that are kept below a bound rise
 pub filter_rises : (n : ℕ) (test : ℕ → Bool) (i : ℕ) → i + 1 < length (filter_below n test) → get_or (filter_below n test) i 0 < get_or (filter_below n test) (i + 1) 0
 filter_rises zero test i l = absurd (omega (arith, l))
 filter_rises (suc n) test i l = filter_rises_by n test (test n) (filter_rises n test) i l
@@ -184,9 +194,9 @@ graph_is g n joins is units from to =
 
 -- ---- all together
 
-module _ (ids : List Label) (lists : List (List Data)) (long : length lists ≡ length ids) (apart : repeated ids ≡ None)
+module _ (ids : List Label) (lists : List (List Data)) (long : length lists ≡ length ids) (apart : repeated_label ids ≡ None)
     (before pairs : List (ℕ × ℕ)) (are : AreListed ids lists (length lists) before) (same : (u v : ℕ) → (has_pair pairs u v ≡ true) ↔ (has_pair before u v ≡ true))
-    (rising : AreRising pairs) where
+    (rising : ArePairsRising pairs) where
   ends : (e : ℕ × ℕ) → has_edge pairs e ≡ true → (u : ℕ) × (v : ℕ) × (u < length ids) × (v < length ids) × (names_node ids (entries_at lists u) v ≡ true) × (v ≢ u) × HasEnds u v e
   ends e h =
       let found = are.from e ((same e.0 e.1).0 h) in

@@ -5,11 +5,11 @@ use Rattle.std.specs.Option.{option_map, is_some, is_none, unwrap_or}
 use Rattle.std.proofs.lemmas.Bool.{and_from, and_left, and_right}
 use Rattle.std.proofs.lemmas.List.{length-map}
 use Rattle.audit_model.specs.First.{first_some_below}
-use Rattle.model_laws.proofs.First.{first_some_below_more, first_some_below_found}
+use Rattle.audit_model.proofs.First.{first_some_below_more, first_some_below_found}
 use Rattle.serde_json.specs.Data.{Data, Items, null}
 use Rattle.serde_json.specs.View.{items_of, items_view, view}
 use Rattle.serde_json.specs.declared.value.Value.{Value}
-use Rattle.graph_definitions.specs.Reading.{elements, list_of}
+use Rattle.audit_statement.specs.Reading.{elements, list_of}
 use Rattle.dual_json.specs.Names.{label_from}
 use Rattle.dual_json.specs.declared.names.Name.{Name}
 use Rattle.dual_json.specs.Places.{object_at}
@@ -21,36 +21,45 @@ get_or-map_at f [] i x d l is = absurd (omega arith)
 get_or-map_at f (y ∷ xs) zero x d l is = ap f (sym is)
 get_or-map_at f (y ∷ xs) (suc i) x d l is = get_or-map_at f xs i x d (omega arith) is
 
+-- the elements of a list of data are the data
 pub elements-items_of : (ds : List Data) → elements (items_of ds) ≡ ds
 elements-items_of [] = refl
 elements-items_of (d ∷ ds) = ap (λ (rest : List Data). d ∷ rest) (elements-items_of ds)
 
+-- the elements of a list of values are what the values are seen as
 pub elements-items_view : (vs : List Value) → elements (items_view vs) ≡ views vs
 elements-items_view vs = elements-items_of (map view vs)
 
+-- there is one datum for each value
 pub length-views : (vs : List Value) → length (views vs) ≡ length vs
 length-views vs = length-map vs view
 
+-- there is one list for each value
 pub length-lists_in : (vs : List Value) → length (lists_in vs) ≡ length vs
 length-lists_in vs = length-map (views vs) (λ d. unwrap_or (list_of d) []) ∙ length-views vs
 
+-- an option of a name is empty exactly where it gives no label
 pub unnamed_is : (o : Option Name) (b : Bool) → is_some o ≡ not b → is_none (option_map label_from o) ≡ b
 unnamed_is None true e = refl
 unnamed_is None false e = cc e
 unnamed_is (Some x) true e = cc e
 unnamed_is (Some x) false e = refl
 
+-- the object at a place is what the value there is seen as
 pub object_is : (vs : List Value) (i : ℕ) (x : Value) → i < length vs → x ≡ get_or vs i x → object_at (views vs) i ≡ view x
 object_is vs i x l is = get_or-map_at view vs i x null l is
 
+-- a list is there exactly where its elements are
 pub is_some-elements : (o : Option Items) → is_some (option_map elements o) ≡ is_some o
 is_some-elements None = refl
 is_some-elements (Some x) = refl
 
+-- where each place passes, all do
 pub list_all_from : (test : Data → Bool) (xs : List Data) → ((k : ℕ) → k < length xs → test (object_at xs k) ≡ true) → list_all test xs ≡ true
 list_all_from test [] each = refl
 list_all_from test (x ∷ xs) each = and_from (test x) (list_all test xs) (each 0 (omega arith)) (list_all_from test xs (λ k l. each (suc k) (omega arith)))
 
+-- where one place fails, not all pass
 pub list_all_fails : (test : Data → Bool) (xs : List Data) (k : ℕ) → k < length xs → test (object_at xs k) ≡ false → list_all test xs ≡ false
 list_all_fails test [] k l fails = absurd (omega arith)
 list_all_fails test (x ∷ xs) zero l fails = and_left (test x) (list_all test xs) fails

@@ -5,25 +5,30 @@ use Rattle.std.specs.Option.{is_some, is_none, unwrap_or, option_and_then, Match
 use Rattle.std.specs.Prelude.{codes}
 use Rattle.std.proofs.lemmas.Bool.{cond-false, not_from_true}
 use Rattle.audit_model.specs.declared.fault.Part.TheVariants as part
-use Rattle.model_laws.proofs.Options.{or_of_none}
+use Rattle.audit_model.proofs.Options.{or_of_none}
 use Rattle.serde_json.specs.Data.{Data, Members, null}
 use Rattle.serde_json.specs.Find.{get, as_bool, as_object}
-use Rattle.graph_definitions.specs.Reading.{Document, document, bad_part, is_no_flag, list_at, list_of, refused_if}
+use Rattle.audit_statement.specs.Reading.{Document, document, bad_part, is_no_flag, list_at, list_of, refused_if}
 
+-- where the test is false, nothing is refused
 pub not_refused : {A : Type 0} → (b : Bool) (f : A) → b ≡ false → refused_if b f ≡ None
 not_refused b f e = cond-false b (Some f) None e
 
+-- where the test is true, there is the refusal
 pub is_refused : {A : Type 0} → (b : Bool) (f : A) → b ≡ true → refused_if b f ≡ Some f
 is_refused b f e = ap (λ t. refused_if t f) e
 
+-- an option that has a value is not empty
 some_is_there : (o : Option Members) → is_some o ≡ true → is_none o ≡ false
 some_is_there None e = sym e
 some_is_there (Some x) e = refl
 
+-- a flag that is a truth value, where it is there, was read as what it says
 pub flag_good : (o : Option Bool) (a : Bool) (P : Bool → Type 0) → MatchOption o (a ≡ true) (λ flag. (a ≡ false) × P flag) → is_some o ≡ true → a ≡ false
 flag_good None a P h there = cc there
 flag_good (Some b) a P h there = h.0
 
+-- a root with lists of nodes and of neighbours and with good flags has no bad part
 pub parts_good : (root : Data) (nodes adjacency : List Data) → is_some (as_object root) ≡ true → Some nodes ≡ list_at (codes "nodes") root → Some adjacency ≡ list_at (codes "adjacency") root
     → list_all (λ d. is_some (list_of d)) adjacency ≡ true → is_no_flag (codes "directed") root ≡ false → is_no_flag (codes "multigraph") root ≡ false → bad_part root ≡ None
 parts_good root nodes adjacency is_object has_nodes has_lists lists directed multigraph =
@@ -35,9 +40,11 @@ parts_good root nodes adjacency is_object has_nodes has_lists lists directed mul
     (or_of_none (refused_if (is_no_flag (codes "directed") root) part.Directed) _ (not_refused (is_no_flag (codes "directed") root) part.Directed directed)
     (or_of_none (refused_if (is_no_flag (codes "multigraph") root) part.Multigraph) None (not_refused (is_no_flag (codes "multigraph") root) part.Multigraph multigraph) refl))))
 
+-- the document of its nodes, its lists of neighbours and whether it is directed
 document_from : List Data → List (List Data) → Bool → Document
 document_from nodes adjacency directed = record { nodes = nodes; adjacency = adjacency; directed = directed }
 
+-- the document of a root is made of its three parts
 pub document_is : (root : Data) (nodes adjacency : List Data) (directed : Bool) → Some nodes ≡ list_at (codes "nodes") root → Some adjacency ≡ list_at (codes "adjacency") root
     → unwrap_or (option_and_then as_bool (get (codes "directed") root)) false ≡ directed
     → document root ≡ record { nodes = nodes; adjacency = map (λ d. unwrap_or (list_of d) []) adjacency; directed = directed }

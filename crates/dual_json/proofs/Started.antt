@@ -11,7 +11,7 @@ use Rattle.std.proofs.lemmas.List.Elements.{Contains-get_or}
 use Rattle.std.proofs.lemmas.List.Sorted.{searchable_from_sorted}
 use Rattle.std.proofs.lemmas.Map.Keys.{Less-from_sorted}
 use Rattle.audit_model.specs.Label.{label_cmp}
-use Rattle.model_laws.proofs.Labels.{same_equal}
+use Rattle.audit_model.proofs.Labels.{same_equal}
 use Rattle.dual_json.specs.Districts.{AreDifferent, AreDistricts}
 use Rattle.dual_json.specs.Names.{label_from, name_cmp, name_total}
 use Rattle.dual_json.specs.Places.{nth, labels_from}
@@ -24,6 +24,7 @@ pub record AreStarted (names found : List Name) (i : ℕ) (start : List ℕ) : T
   pub inside : (k : ℕ) → k < i → get_or start k 0 < length found
   pub place : (k : ℕ) → k < i → nth (labels_from found) (get_or start k 0) ≡ nth (labels_from names) k
 
+-- one name more, whose place among the different ones is added
 pub started_more : (names found : List Name) (i : ℕ) (start new : List ℕ) (place : ℕ) (x : Name) → AreStarted names found i start → place < length found
     → nth (labels_from names) i ≡ label_from x → name_cmp (get_or found place x) x ≡ Equal → new ≡ start ++ place ∷ [] → AreStarted names found (i + 1) new
 started_more names found i start new place x before l at tied is = record {
@@ -61,6 +62,7 @@ never_missing names found i p d are l search_says =
       | inr over ↦ let e : Greater ≡ Equal = sym (point.1 there.0 there.1 over there.2) ∙ tied in cc e
     ]
 
+-- the labels of names that rise, rise
 rising_labels : (found : List Name) → IsStrictlySortedBy name_cmp found → (i j : ℕ) → i < j → j < length (labels_from found) → label_cmp (nth (labels_from found) i) (nth (labels_from found) j) ≡ Less
 rising_labels [] rising i j up l = absurd (omega (arith, l))
 rising_labels (y ∷ ys) rising i j up l =
@@ -69,6 +71,7 @@ rising_labels (y ∷ ys) rising i j up l =
     ∙ ap (label_cmp (label_from (get_or (y ∷ ys) i y))) (nth_get (y ∷ ys) j y inside)
     ∙ Less-from_sorted name_cmp (y ∷ ys) i j y rising up inside
 
+-- each of the different labels is that of a name
 from_names : (names found : List Name) → ((x : Name) → Contains found x → Contains names x) → (k : ℕ) → k < length (labels_from found)
     → (i : ℕ) × (i < length (labels_from names)) × (nth (labels_from found) k ≡ nth (labels_from names) i)
 from_names names [] from k l = absurd (omega (arith, l))
@@ -82,6 +85,7 @@ from_names names (y ∷ ys) from k l =
       nth_get (y ∷ ys) k y inside ∙ sym (nth_get names there.0 x under ∙ ap label_from there.2),
     )
 
+-- where each name has its place, the labels and the places are districts
 pub started_all : (names found : List Name) (i : ℕ) (start : List ℕ) → AreDifferent names found → i ≡ length names → AreStarted names found i start
     → AreDistricts (labels_from names) (labels_from found) start
 started_all names found i start are all is = record {

@@ -9,7 +9,7 @@ use Rattle.audit_model.specs.declared.fault.GraphFault.TheVariants as fault
 use Rattle.audit_model.specs.declared.setting.Columns.{Columns}
 use Rattle.audit_model.specs.Below.{map_below}
 use Rattle.audit_model.specs.First.{first_some, first_some_below}
-use Rattle.graph_definitions.specs.Reading.{refused_if}
+use Rattle.audit_statement.specs.Reading.{refused_if}
 use Rattle.dual_json.specs.Places.{object_at}
 use Rattle.audit_model.specs.Limits.{most_people}
 

@@ -8,7 +8,7 @@ use Rattle.audit_model.specs.declared.fault.GraphFault.TheVariants as fault
 use Rattle.audit_model.specs.declared.setting.Label.{Label}
 use Rattle.audit_model.specs.Below.{any_below, count_below}
 use Rattle.audit_model.specs.Label.{label_cmp, same_label}
-use Rattle.graph_definitions.specs.Reading.{refused_if}
+use Rattle.audit_statement.specs.Reading.{refused_if}
 use Rattle.dual_json.specs.Names.{name_cmp, same_name}
 use Rattle.dual_json.specs.Places.{nth}
 use Rattle.dual_json.specs.declared.names.Name.{Name}
@@ -30,8 +30,8 @@ pub record AreDistricts (labels found : List Label) (start : List ℕ) : Type 0 
   pub place : (i : ℕ) → i < length labels → nth found (slice_index start i) ≡ nth labels i
 
 -- too few or too many districts
-abbrev pub count_fault : ℕ → Option GraphFault
-count_fault count = refused_if (nat_lt count 2 || nat_lt most_districts count) (fault.DistrictCount count)
+abbrev pub district_count_fault : ℕ → Option GraphFault
+district_count_fault count = refused_if (nat_lt count 2 || nat_lt most_districts count) (fault.DistrictCount count)
 
 -- no earlier label is the same
 abbrev pub is_new : List Label → ℕ → Bool

@@ -10,8 +10,8 @@ use Rattle.audit_model.specs.Below.{any_below, filter_below, map_below}
 use Rattle.audit_model.specs.First.{first_below, first_some_below}
 use Rattle.audit_model.specs.Graph.{Graph, count_edges}
 use Rattle.dual_graph.specs.Pairs.{has_pair}
-use Rattle.graph_definitions.specs.Reading.{id_of, same_id, refused_if}
-use Rattle.dual_json.specs.Places.{object_at, nth, place_of}
+use Rattle.audit_statement.specs.Reading.{id_of, same_id, refused_if}
+use Rattle.dual_json.specs.Places.{object_at, nth, place_of_entry}
 use Rattle.audit_model.specs.Limits.{most_edges}
 
 -- the list of neighbours at a place
@@ -31,7 +31,7 @@ is_unnamed d = is_none (id_of d)
 
 -- an entry that names none of the nodes
 abbrev pub is_unknown : List Label → Data → Bool
-is_unknown ids d = is_none (place_of ids d)
+is_unknown ids d = is_none (place_of_entry ids d)
 
 -- an edge, the smaller end first
 abbrev pub edge : ℕ → ℕ → ℕ × ℕ
@@ -43,7 +43,7 @@ has_edge pairs e = has_pair pairs e.0 e.1
 
 -- one of the first entries leads to the node
 abbrev pub LeadsTo : List Label → List Data → ℕ → ℕ → Type 0
-LeadsTo ids entries count v = (place : ℕ) × (place < count) × (place_of ids (object_at entries place) ≡ Some v)
+LeadsTo ids entries count v = (place : ℕ) × (place < count) × (place_of_entry ids (object_at entries place) ≡ Some v)
 
 -- one edge more, unless both ends are one
 pub record PushesEdge (node other : ℕ) (old new : List (ℕ × ℕ)) : Type 0 where

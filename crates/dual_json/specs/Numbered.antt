@@ -6,7 +6,7 @@ use Rattle.audit_model.specs.declared.setting.Columns.{Columns}
 use Rattle.audit_model.specs.declared.setting.Label.{Label}
 use Rattle.audit_model.specs.First.{first_below}
 use Rattle.audit_model.specs.Parsed.{Parsed}
-use Rattle.graph_definitions.specs.Reading.{reading}
+use Rattle.audit_statement.specs.Reading.{reading}
 use Rattle.dual_json.specs.Districts.{AreDistricts}
 use Rattle.dual_json.specs.Places.{object_at}
 use Rattle.audit_model.specs.Limits.{most_regions}

@@ -11,15 +11,15 @@ use Rattle.audit_model.specs.declared.setting.Label.TheVariants.{Word}
 use Rattle.audit_model.specs.Below.{any_below}
 use Rattle.audit_model.specs.First.{first_below}
 use Rattle.audit_model.specs.Label.{same_label}
-use Rattle.graph_definitions.specs.Reading.{label_of, id_of}
+use Rattle.audit_statement.specs.Reading.{label_of, id_of}
 use Rattle.dual_json.specs.Names.{label_from, same_name}
 use Rattle.dual_json.specs.declared.names.Name.{Name}
 use Rattle.dual_json.specs.declared.names.Unnamed.{Unnamed}
 use Rattle.dual_json.specs.declared.names.Unnamed.TheVariants as unnamed
 
 -- the label at a key of an object
-abbrev pub label_in : List ℕ → Data → Option Label
-label_in key d = option_and_then label_of (member key d)
+abbrev pub label_at_key : List ℕ → Data → Option Label
+label_at_key key d = option_and_then label_of (member key d)
 
 -- the object at a place, and the label at a place
 abbrev pub object_at : List Data → ℕ → Data
@@ -34,32 +34,32 @@ labels_from names = map label_from names
 
 -- the first object that has no label at the key
 abbrev pub first_unnamed : List ℕ → List Data → Option ℕ
-first_unnamed key objects = first_below (length objects) (λ i. is_none (label_in key (object_at objects i)))
+first_unnamed key objects = first_below (length objects) (λ i. is_none (label_at_key key (object_at objects i)))
 
 -- each object has the label at its place
 pub record AreLabels (key : List ℕ) (objects : List Data) (labels : List Label) : Type 0 where
   pub count : length labels ≡ length objects
-  pub each : (i : ℕ) → i < length objects → label_in key (object_at objects i) ≡ Some (nth labels i)
+  pub each : (i : ℕ) → i < length objects → label_at_key key (object_at objects i) ≡ Some (nth labels i)
 
 -- why there is none: it is the first, or memory was wanting
-abbrev pub Tells : Unnamed → Option ℕ → Type 0
-Tells (unnamed.At i) found = found ≡ Some i
-Tells unnamed.Memory found = Unit {0}
+abbrev pub TellsUnnamed : Unnamed → Option ℕ → Type 0
+TellsUnnamed (unnamed.At i) found = found ≡ Some i
+TellsUnnamed unnamed.Memory found = Unit {0}
 
 -- the first place of a label
-abbrev pub place_in : List Label → Label → Option ℕ
-place_in labels l = first_below (length labels) (λ i. same_label l (nth labels i))
+abbrev pub place_of_label : List Label → Label → Option ℕ
+place_of_label labels l = first_below (length labels) (λ i. same_label l (nth labels i))
 
 -- the least place whose label an earlier place has
-abbrev pub repeated : List Label → Option GraphFault
-repeated labels = option_map
+abbrev pub repeated_label : List Label → Option GraphFault
+repeated_label labels = option_map
     (λ j. fault.SameId (unwrap_or (first_below j (λ i. same_label (nth labels i) (nth labels j))) 0) j)
     (first_below (length labels) (λ j. any_below j (λ i. same_label (nth labels i) (nth labels j))))
 
 -- the map leads from each name to the first place of its label
-abbrev pub IsIndex : {S : Type 0} → List Label → HashMap Name ℕ S → Type 0
-IsIndex labels places = (q : Name) → get same_name places q ≡ place_in labels (label_from q)
+abbrev pub IsLabelIndex : {S : Type 0} → List Label → HashMap Name ℕ S → Type 0
+IsLabelIndex labels places = (q : Name) → get same_name places q ≡ place_of_label labels (label_from q)
 
 -- the place of the id of an entry
-abbrev pub place_of : List Label → Data → Option ℕ
-place_of labels d = option_and_then (place_in labels) (id_of d)
+abbrev pub place_of_entry : List Label → Data → Option ℕ
+place_of_entry labels d = option_and_then (place_of_label labels) (id_of d)

@@ -6,7 +6,7 @@ use Rattle.serde_json.specs.declared.value.Value.{Value}
 use Rattle.audit_model.specs.declared.fault.GraphFault.{GraphFault}
 use Rattle.audit_model.specs.declared.fault.GraphFault.TheVariants as fault
 use Rattle.audit_model.specs.First.{first_some}
-use Rattle.graph_definitions.specs.Reading.{Document, list_of, refused_if}
+use Rattle.audit_statement.specs.Reading.{Document, list_of, refused_if}
 use Rattle.dual_json.specs.declared.shape.Parts.{Parts}
 use Rattle.audit_model.specs.Limits.{most_units}
 
@@ -19,8 +19,8 @@ abbrev pub lists_in : List Value → List (List Data)
 lists_in values = map (λ d. unwrap_or (list_of d) []) (views values)
 
 -- the document that the parts are of
-abbrev pub document_of : Parts → Document
-document_of p = record { nodes = views p.nodes.now; adjacency = lists_in p.adjacency.now; directed = p.directed }
+abbrev pub document_of_parts : Parts → Document
+document_of_parts p = record { nodes = views p.nodes.now; adjacency = lists_in p.adjacency.now; directed = p.directed }
 
 -- the first refusal of the parts as a whole
 abbrev pub frame_fault : Bool → ℕ → ℕ → Option GraphFault

@@ -10,7 +10,7 @@ use Rattle.audit_model.specs.declared.setting.Label.{Label}
 use Rattle.audit_model.specs.Below.{any_below}
 use Rattle.audit_model.specs.First.{first_below, first_some_below}
 use Rattle.audit_model.specs.Graph.{count_edges}
-use Rattle.graph_definitions.specs.Reading.{Document, graph, id_of, same_id, refused_if}
+use Rattle.audit_statement.specs.Reading.{Document, graph, id_of, same_id, refused_if}
 use Rattle.dual_json.specs.Columns.{missing, bad, numbers_in}
 use Rattle.dual_json.specs.Districts.{AreDistricts}
 use Rattle.dual_json.specs.Edges.{entries_at, first_in, is_unnamed}

@@ -2,7 +2,7 @@
 
 ghost use Rattle.std.specs.Prelude.{◌≡◌, ◌≤◌, None, Some, length, MatchResult};
 ghost use Rattle.audit_model.specs.declared.fault.GraphFault.TheVariants.{Memory};
-ghost use Rattle.dual_json.specs.Districts.{count_fault, AreDifferent, AreDistricts};
+ghost use Rattle.dual_json.specs.Districts.{district_count_fault, AreDifferent, AreDistricts};
 ghost use Rattle.dual_json.specs.Places.{labels_from};
 ghost use Rattle.audit_model.specs.Limits.{most_units};
 
@@ -23,7 +23,7 @@ pub fn different<'v>(alloc: Global, names: &[Name<'v>]) -> Result<Vec<Name<'v>>,
 
 /// Whether there are from 2 to 200 districts.
 pub fn check_count(count: usize) -> Result<(), GraphFault>
-    ensures { MatchResult result (λ _. count_fault count ≡ None) (λ f. count_fault count ≡ Some f) }
+    ensures { MatchResult result (λ _. district_count_fault count ≡ None) (λ f. district_count_fault count ≡ Some f) }
 {
     if count < 2 || count > 200 {
         return Err(GraphFault::DistrictCount(count as u64));

@@ -6,7 +6,7 @@ ghost use Rattle.audit_model.specs.declared.fault.GraphFault.TheVariants.{Memory
 ghost use Rattle.audit_model.specs.Graph.{IsGraph, adjacent};
 ghost use Rattle.dual_json.specs.Edges.{edge, first_in, first_entry_in, is_unnamed, is_unknown, edges_fault, edges_in, graph_in, AddsEdges, AreListed, PushesEdge};
 ghost use Rattle.dual_graph.specs.Pairs.{ArePairs, Joins};
-ghost use Rattle.dual_json.specs.Places.{repeated};
+ghost use Rattle.dual_json.specs.Places.{repeated_label};
 ghost use Rattle.dual_json.specs.Shape.{views, lists_in};
 ghost use Rattle.audit_model.specs.Limits.{most_units, most_edges};
 
@@ -46,7 +46,7 @@ pub fn graph_of<'v>(
     requires few { units ≤ most_units }
     requires lists { length adjacency.now ≡ units }
     requires ids { length index.now ≡ units }
-    requires different { repeated index.now ≡ None }
+    requires different { repeated_label index.now ≡ None }
     ensures { MatchResult result
         (λ g. (edges_fault index.now (lists_in adjacency.now) ≡ None) × (g ≡ graph_in index.now (lists_in adjacency.now)) × IsGraph g × (edges_in index.now (lists_in adjacency.now) ≤ most_edges))
         (λ f. (f ≡ Memory) ⊎ (edges_fault index.now (lists_in adjacency.now) ≡ Some f)) }

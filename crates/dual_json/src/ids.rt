@@ -3,8 +3,8 @@
 ghost use Rattle.std.specs.Prelude.{◌≡◌, ◌≤◌, None, Ok, codes, length, IfOk};
 ghost use Rattle.audit_model.specs.declared.setting.Columns.{Columns};
 ghost use Rattle.audit_model.specs.Parsed.{Parsed};
-ghost use Rattle.graph_definitions.specs.Reading.{reading};
-ghost use Rattle.graph_definitions.specs.Regions.{id_reading};
+ghost use Rattle.audit_statement.specs.Reading.{reading};
+ghost use Rattle.audit_statement.specs.Regions.{id_reading};
 ghost use Rattle.dual_json.specs.Numbered.{IsGraphText};
 ghost use Rattle.dual_json.specs.Places.{first_unnamed, AreLabels};
 ghost use Rattle.dual_json.specs.Shape.{views};

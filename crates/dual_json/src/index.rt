@@ -3,7 +3,7 @@
 ghost use Rattle.std.specs.Prelude.{◌≡◌, ◌≤◌, ◌⊎◌, None, Some, length, MatchResult};
 ghost use Rattle.serde_json.specs.View.{view};
 ghost use Rattle.audit_model.specs.declared.fault.GraphFault.TheVariants.{Memory};
-ghost use Rattle.dual_json.specs.Places.{labels_from, repeated, place_of, IsIndex};
+ghost use Rattle.dual_json.specs.Places.{labels_from, repeated_label, place_of_entry, IsLabelIndex};
 ghost use Rattle.audit_model.specs.Limits.{most_units};
 
 use crate::names::{Name, name_at};
@@ -22,22 +22,22 @@ pub struct Index<'v> {
 
 impl<'v> Model for Index<'v> {
     ghost use Rattle.std.specs.Prelude.{List};
-    ghost use Rattle.dual_json.specs.Places.{labels_from, IsIndex};
+    ghost use Rattle.dual_json.specs.Places.{labels_from, IsLabelIndex};
     ghost use Rattle.audit_model.specs.declared.setting.Label.{Label};
 
     ghost Value = { List Label };
 
     ghost view = { λ x. labels_from x.names.items };
 
-    ghost invariant = { λ x. IsIndex (labels_from x.names.items) x.places };
+    ghost invariant = { λ x. IsLabelIndex (labels_from x.names.items) x.places };
 }
 
 impl<'v> Index<'v> {
     /// The index of the names, or the first name that an earlier place has too.
     pub fn of(alloc: Global, names: Vec<Name<'v>>) -> Result<Index<'v>, GraphFault>
         requires { length names.items ≤ most_units }
-        ensures { MatchResult result (λ index. (repeated (labels_from names.entry.items) ≡ None) × (index ≡ labels_from names.entry.items))
-            (λ f. (f ≡ Memory) ⊎ (repeated (labels_from names.entry.items) ≡ Some f)) }
+        ensures { MatchResult result (λ index. (repeated_label (labels_from names.entry.items) ≡ None) × (index ≡ labels_from names.entry.items))
+            (λ f. (f ≡ Memory) ⊎ (repeated_label (labels_from names.entry.items) ≡ Some f)) }
     {
         let places = places_of(alloc, &names)?;
         Ok(Index { names, places })
@@ -45,7 +45,7 @@ impl<'v> Index<'v> {
 
     /// The node that an entry names.
     pub fn node_of(&self, entry: &'v Value) -> Option<u32>
-        ensures { result ≡ place_of self.now (view entry.now) }
+        ensures { result ≡ place_of_entry self.now (view entry.now) }
     {
         // Reads the fields, so that what the type says of them is known.
         let _ = &self.names;
@@ -59,8 +59,8 @@ impl<'v> Index<'v> {
 /// The place of each name, or the first name that an earlier place has too.
 fn places_of<'v>(alloc: Global, names: &[Name<'v>]) -> Result<HashMap<Name<'v>, u32>, GraphFault>
     requires { length names.now ≤ most_units }
-    ensures { MatchResult result (λ places. (repeated (labels_from names.now) ≡ None) × IsIndex (labels_from names.now) places)
-        (λ f. (f ≡ Memory) ⊎ (repeated (labels_from names.now) ≡ Some f)) }
+    ensures { MatchResult result (λ places. (repeated_label (labels_from names.now) ≡ None) × IsLabelIndex (labels_from names.now) places)
+        (λ f. (f ≡ Memory) ⊎ (repeated_label (labels_from names.now) ≡ Some f)) }
 {
     let mut places = HashMap::with_capacity(alloc, names.len())?;
     for place in 0..names.len() {

@@ -3,8 +3,8 @@
 ghost use Rattle.std.specs.Prelude.{◌≡◌, ◌≤◌, refl, None, Some, length, IfOk, MatchResult, option_map, option_and_then};
 ghost use Rattle.audit_model.specs.Label.{label_cmp, same_label};
 ghost use Rattle.serde_json.specs.View.{view};
-ghost use Rattle.graph_definitions.specs.Reading.{label_of};
-ghost use Rattle.dual_json.specs.Places.{label_in, labels_from, first_unnamed, AreLabels, Tells};
+ghost use Rattle.audit_statement.specs.Reading.{label_of};
+ghost use Rattle.dual_json.specs.Places.{label_at_key, labels_from, first_unnamed, AreLabels, TellsUnnamed};
 ghost use Rattle.dual_json.specs.Shape.{views};
 ghost use Rattle.dual_json.specs.Names.{label_from, name_cmp, same_name, name_writes, name_equiv, name_total, name_per, name_po, name_hashes};
 ghost use Rattle.audit_model.specs.Limits.{most_units};
@@ -112,7 +112,7 @@ pub fn name_of(value: &Value) -> Option<Name<'_>>
 
 /// The name at a key of an object.
 pub fn name_at<'v>(object: &'v Value, key: &str) -> Option<Name<'v>>
-    ensures { option_map label_from result ≡ label_in key.now (view object.now) }
+    ensures { option_map label_from result ≡ label_at_key key.now (view object.now) }
 {
     match object.get(key) {
         Some(value) => name_of(value),
@@ -135,7 +135,7 @@ pub fn names_at<'v>(
 ) -> Result<Vec<Name<'v>>, Unnamed>
     requires { length objects.now ≤ most_units }
     ensures { MatchResult result (λ names. (first_unnamed key.now (views objects.now) ≡ None) × AreLabels key.now (views objects.now) (labels_from names.items))
-        (λ why. Tells why (first_unnamed key.now (views objects.now))) }
+        (λ why. TellsUnnamed why (first_unnamed key.now (views objects.now))) }
 {
     let mut names = Vec::new(alloc);
     for i in 0..objects.len() {

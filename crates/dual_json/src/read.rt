@@ -8,10 +8,10 @@ ghost use Rattle.audit_model.specs.declared.fault.GraphFault.TheVariants as faul
 ghost use Rattle.audit_model.specs.Graph.{IsGraph, count_edges};
 ghost use Rattle.audit_model.specs.Limits.{AreWithin, most_units, most_edges};
 ghost use Rattle.dual_graph.specs.Read.{parsed_of};
-ghost use Rattle.graph_definitions.specs.Reading.{graph, parsed, reading, refusal};
-ghost use Rattle.dual_json.specs.Districts.{count_fault, different_count};
-ghost use Rattle.dual_json.specs.Places.{labels_from, repeated, AreLabels};
-ghost use Rattle.dual_json.specs.Shape.{views, document_of};
+ghost use Rattle.audit_statement.specs.Reading.{graph, parsed, reading, refusal};
+ghost use Rattle.dual_json.specs.Districts.{district_count_fault, different_count};
+ghost use Rattle.dual_json.specs.Places.{labels_from, repeated_label, AreLabels};
+ghost use Rattle.dual_json.specs.Shape.{views, document_of_parts};
 ghost use Rattle.dual_json.specs.Stages.{ids_fault, graph_fault, labels_fault, AreRows};
 
 use crate::columns::{check_columns, check_numbers, counts_of};
@@ -70,7 +70,7 @@ pub fn read_graph(alloc: Global, bytes: &[u8], cols: &Columns) -> Result<Parsed,
 /// The ids of the nodes.
 fn ids_of<'v>(alloc: Global, nodes: &'v [Value]) -> Result<Index<'v>, GraphFault>
     requires { length nodes.now ≤ most_units }
-    ensures { MatchResult result (λ index. (ids_fault (views nodes.now) ≡ None) × AreLabels (codes "id") (views nodes.now) index × (repeated index ≡ None))
+    ensures { MatchResult result (λ index. (ids_fault (views nodes.now) ≡ None) × AreLabels (codes "id") (views nodes.now) index × (repeated_label index ≡ None))
         (λ f. (f ≡ fault.Memory) ⊎ (ids_fault (views nodes.now) ≡ Some f)) }
 {
     match names_at(alloc, nodes, "id") {
@@ -83,8 +83,8 @@ fn ids_of<'v>(alloc: Global, nodes: &'v [Value]) -> Result<Index<'v>, GraphFault
 /// The graph of the parts.
 fn graph_in(alloc: Global, parts: &Parts<'_>) -> Result<Graph, GraphFault>
     ensures { MatchResult result
-        (λ g. (graph_fault (document_of parts.now) ≡ None) × (graph (document_of parts.now) ≡ g) × (length parts.now.nodes.now ≤ most_units) × IsGraph g × (count_edges g (λ u v. true) ≤ most_edges))
-        (λ f. (f ≡ fault.Memory) ⊎ (graph_fault (document_of parts.now) ≡ Some f)) }
+        (λ g. (graph_fault (document_of_parts parts.now) ≡ None) × (graph (document_of_parts parts.now) ≡ g) × (length parts.now.nodes.now ≤ most_units) × IsGraph g × (count_edges g (λ u v. true) ≤ most_edges))
+        (λ f. (f ≡ fault.Memory) ⊎ (graph_fault (document_of_parts parts.now) ≡ Some f)) }
 {
     check_frame(parts)?;
     let index = ids_of(alloc, parts.nodes)?;
@@ -122,8 +122,8 @@ fn rows_of<'v>(
     requires few { length names.now ≤ most_units }
     requires labels { AreLabels columns.now.district (views nodes.now) (labels_from names.now) }
     ensures { MatchResult result
-        (λ rows. (count_fault (different_count (labels_from names.now)) ≡ None) × AreRows columns.now (views nodes.now) rows.counts rows.start rows.labels)
-        (λ f. (f ≡ fault.Memory) ⊎ (count_fault (different_count (labels_from names.now)) ≡ Some f)) }
+        (λ rows. (district_count_fault (different_count (labels_from names.now)) ≡ None) × AreRows columns.now (views nodes.now) rows.counts rows.start rows.labels)
+        (λ f. (f ≡ fault.Memory) ⊎ (district_count_fault (different_count (labels_from names.now)) ≡ Some f)) }
 {
     let found = different(alloc, names)?;
     let start = start_of(alloc, names, &found)?;
@@ -140,8 +140,8 @@ fn rows_of<'v>(
 /// What is read of the parts.
 fn read_parts(alloc: Global, parts: &Parts<'_>, columns: &Columns) -> Result<Parsed, GraphFault>
     ensures read { MatchResult result
-        (λ p. (refusal (document_of parts.now) columns.now ≡ None) × (parsed (document_of parts.now) columns.now ≡ parsed_of p))
-        (λ f. (f ≡ fault.Memory) ⊎ (refusal (document_of parts.now) columns.now ≡ Some f)) }
+        (λ p. (refusal (document_of_parts parts.now) columns.now ≡ None) × (parsed (document_of_parts parts.now) columns.now ≡ parsed_of p))
+        (λ f. (f ≡ fault.Memory) ⊎ (refusal (document_of_parts parts.now) columns.now ≡ Some f)) }
     ensures within { IfOk result (λ p. AreWithin p.graph p.counts p.start (length p.labels)) }
 {
     let graph = graph_in(alloc, parts)?;

@@ -6,12 +6,12 @@ ghost use Rattle.audit_model.specs.declared.fault.RegionFault.TheVariants as fau
 ghost use Rattle.audit_model.specs.declared.setting.Columns.{Columns};
 ghost use Rattle.audit_model.specs.Limits.{AreRegions, most_units, most_regions};
 ghost use Rattle.audit_model.specs.Parsed.{Parsed};
-ghost use Rattle.graph_definitions.specs.Reading.{reading};
-ghost use Rattle.graph_definitions.specs.Regions.{region_fault, region_reading, regions};
+ghost use Rattle.audit_statement.specs.Reading.{reading};
+ghost use Rattle.audit_statement.specs.Regions.{region_fault, region_reading, regions};
 ghost use Rattle.dual_json.specs.Districts.{different_count};
 ghost use Rattle.dual_json.specs.Numbered.{first_without, AreNumbered, IsGraphText};
 ghost use Rattle.dual_json.specs.Places.{labels_from};
-ghost use Rattle.dual_json.specs.Shape.{views, document_of};
+ghost use Rattle.dual_json.specs.Shape.{views, document_of_parts};
 
 use crate::districts::{different, start_of};
 use crate::names::{Name, Unnamed, names_at};
@@ -85,8 +85,8 @@ fn numbers_of(alloc: Global, names: &[Name<'_>]) -> Result<UnitList, RegionFault
 fn regions_in(alloc: Global, parts: &Parts<'_>, column: &Text) -> Result<UnitList, RegionFault>
     requires { length parts.now.nodes.now ≤ most_units }
     ensures read { MatchResult result
-        (λ numbers. (region_fault (document_of parts.now) column.now ≡ None) × (regions (document_of parts.now) column.now ≡ numbers))
-        (λ f. (f ≡ fault.Memory) ⊎ (region_fault (document_of parts.now) column.now ≡ Some f)) }
+        (λ numbers. (region_fault (document_of_parts parts.now) column.now ≡ None) × (regions (document_of_parts parts.now) column.now ≡ numbers))
+        (λ f. (f ≡ fault.Memory) ⊎ (region_fault (document_of_parts parts.now) column.now ≡ Some f)) }
     ensures within { IfOk result (λ numbers. AreRegions (length parts.now.nodes.now) numbers) }
 {
     if let Some(node) = first_missing(parts.nodes, column) {

@@ -4,8 +4,8 @@ ghost use Rattle.std.specs.Prelude.{◌≡◌, ◌<◌, ◌≤◌, true, false, 
 ghost use Rattle.std.specs.List.{list_all, slice_index_or};
 ghost use Rattle.serde_json.specs.Find.{get, as_bool};
 ghost use Rattle.serde_json.specs.View.{view};
-ghost use Rattle.graph_definitions.specs.Reading.{bad_part, document, is_no_flag, list_at as list_in, list_of};
-ghost use Rattle.dual_json.specs.Shape.{views, lists_in, document_of, frame_fault};
+ghost use Rattle.audit_statement.specs.Reading.{bad_part, document, is_no_flag, list_at as list_in, list_of};
+ghost use Rattle.dual_json.specs.Shape.{views, lists_in, document_of_parts, frame_fault};
 ghost use Rattle.audit_model.specs.Limits.{most_units};
 
 use audit_model::fault::{GraphFault, Part};
@@ -21,7 +21,7 @@ pub struct Parts<'v> {
 
 /// The parts, or the first of them that has not its shape.
 pub fn parts_of(root: &Value) -> Result<Parts<'_>, Part>
-    ensures { MatchResult result (λ parts. (bad_part (view root.now) ≡ None) × (document (view root.now) ≡ document_of parts))
+    ensures { MatchResult result (λ parts. (bad_part (view root.now) ≡ None) × (document (view root.now) ≡ document_of_parts parts))
         (λ part. bad_part (view root.now) ≡ Some part) }
 {
     if !root.is_object() {

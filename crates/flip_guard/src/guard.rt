@@ -41,15 +41,14 @@ impl<F: Fn(&SumsView) -> bool + Drop> Guard<F> {
 }
 
 impl<F: Fn(&SumsView) -> bool + Drop> Judge for Guard<F> {
-    ghost rules = { λ g. g.rules };
-
-    ghost takes = { λ g units districts. true };
-
-    ghost keeps = { λ g. F.IsAlwaysCallable g.test
-        × ((sums : Sums) (answer : Bool) → sums.cut < 2 ^ 32 → FnReturnsAt F.Fn g.test sums answer → answer ≡ nat_le sums.cut g.rules.max_cut)
-        × (g.rules.regions ≡ []) };
-
-    ghost stands = { λ g plan. ⊤ };
+    ghost judging = { λ g. record {
+      rules = g.rules;
+      takes = λ units districts. true;
+      keeps = F.IsAlwaysCallable g.test
+          × ((sums : Sums) (answer : Bool) → sums.cut < 2 ^ 32 → FnReturnsAt F.Fn g.test sums answer → answer ≡ nat_le sums.cut g.rules.max_cut)
+          × (g.rules.regions ≡ []);
+      stands = λ plan. ⊤;
+    } };
 
     fn permits(&self, _after: &[u32], sums: &SumsView, _unit: u32, _from: u32) -> bool {
         self.allows(sums)

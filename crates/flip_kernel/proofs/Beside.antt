@@ -6,10 +6,11 @@ use Rattle.std.proofs.lemmas.List.{get_or-set_same, get_or-set_other}
 use Rattle.std.proofs.lemmas.List.Folds.{list_any_at}
 use Rattle.audit_model.specs.Graph.{Graph, IsGraph, has, adjacent}
 use Rattle.audit_model.specs.Plan.{in_district}
-use Rattle.model_laws.proofs.Lists.{has_at}
-use Rattle.model_laws.proofs.Every.{some_from_any}
+use Rattle.audit_model.proofs.ListFacts.{has_at}
+use Rattle.audit_model.proofs.Every.{some_from_any}
 use Rattle.flip_kernel.specs.Openings.{is_open}
 
+-- tests that agree on the units of a list find one of it alike
 any_same : (p q : ℕ → Bool) (xs : List ℕ) → ((v : ℕ) → has xs v ≡ true → p v ≡ q v) → list_any p xs ≡ list_any q xs
 any_same p q [] same = refl
 any_same p q (x ∷ xs) same =

@@ -4,7 +4,7 @@ use Rattle.std.specs.Prelude.{nat_lt}
 use Rattle.std.proofs.Math.Nat.{mul-le-mul_left, mul-le-mul_right}
 use Rattle.std.proofs.lemmas.Bool.{cases_lt, cond-true, cond-false, lt-ltb, ltb-true, false_from_ne_true}
 use Rattle.std.proofs.lemmas.Nat.{div-add-mod', mod-mul-add, mod_below, div_below, le-div}
-use Rattle.model_laws.proofs.Numbers.{one_more_block}
+use Rattle.audit_model.proofs.Numbers.{one_more_block}
 use Rattle.flip_kernel.specs.Blocks.{place_in}
 
 -- ---- a quotient that is at most one short

@@ -10,9 +10,10 @@ use Rattle.audit_model.specs.Job.{Job}
 use Rattle.audit_model.specs.Plan.{is_legal}
 use Rattle.audit_model.specs.Proposal.{counted_draws, proposal}
 use Rattle.audit_model.specs.Step.{changed, next, turned_back, mirrored}
-use Rattle.model_laws.proofs.Legal.{legal_passes, passes_legal}
+use Rattle.audit_model.proofs.Legal.{legal_passes, passes_legal}
 use Rattle.flip_kernel.specs.Held.{Held, IsMove}
 
+-- a choice between a plan and itself
 both_same : (b : Bool) (plan : List ℕ) → cond b plan plan ≡ plan
 both_same true plan = refl
 both_same false plan = refl
@@ -22,6 +23,7 @@ record IsPlace (units districts draw unit district : ℕ) : Type 0 where
   same_unit : draw % (units * districts) / districts ≡ unit
   same_district : draw % (units * districts) % districts ≡ district
 
+-- a proposed pair is that of the draw's place in its block
 is_place : (units districts draw unit district : ℕ) → proposal units districts draw ≡ Some (unit, district) → IsPlace units districts draw unit district
 is_place units districts draw unit district is = elim (cases_Bool (nat_lt draw (counted_draws units districts))) [
   | inl counted ↦

@@ -6,10 +6,10 @@ use Rattle.audit_model.specs.declared.outcome.SumsView.{SumsView}
 use Rattle.audit_model.specs.Job.{Job}
 use Rattle.audit_model.specs.JobOf.{IsJob}
 use Rattle.audit_model.specs.Plan.{district_sum}
-use Rattle.model_laws.proofs.Below.{get_or-map_below}
+use Rattle.audit_model.proofs.Below.{get_or-map_below}
 use Rattle.district_sums.specs.Following.{Following, districts_in}
-use Rattle.face_table.specs.Counts.{Counted}
-use Rattle.face_table.specs.Table.{Faced}
+use Rattle.contig.specs.Counts.{Counted}
+use Rattle.contig.specs.Table.{Faced}
 use Rattle.flip_kernel.specs.declared.proposal.Pairs.{Pairs}
 use Rattle.flip_kernel.specs.Held.{IsHeld, KeepsBounds}
 
@@ -25,8 +25,8 @@ module _ (job : Job) (plan : List ℕ) (sums : Following) (marks : ℕ) (table :
   pub population_at : (view : SumsView) (populations : List ℕ) (e : ℕ) → view ≡ sums.view → populations ≡ view.population → e < job.districts
       → get_or populations e 0 ≡ district_sum job.counts.population plan e
   population_at view populations e seen is l =
-      ap (λ (xs : List ℕ). get_or xs e 0) (is ∙ ap (λ (v : SumsView). v.population) seen ∙ ap (λ (v : SumsView). v.population) held.stands.view)
-      ∙ get_or-map_below (districts_in sums) (district_sum job.counts.population plan) e 0 (omega (arith, l, held.places))
+      ap (λ (xs : List ℕ). get_or xs e 0) (is ∙ ap (λ (v : SumsView). v.population) seen ∙ ap (λ (v : SumsView). v.population) held.summed.stands.view)
+      ∙ get_or-map_below (districts_in sums) (district_sum job.counts.population plan) e 0 (omega (arith, l, held.summed.places))
 
 -- bounds that are kept, by equal numbers
 pub keeps_same : (result : Bool) (low high people from to a b c d e : ℕ) → low ≡ a → high ≡ b → people ≡ c → from ≡ d → to ≡ e

@@ -6,42 +6,52 @@ use Rattle.std.proofs.lemmas.List.{get_or-set_same, get_or-set_other}
 use Rattle.audit_model.specs.declared.outcome.SumsView.{SumsView}
 use Rattle.audit_model.specs.Below.{above_all}
 use Rattle.audit_model.specs.Job.{Job}
+use Rattle.audit_model.specs.Plan.{IsLegal}
 use Rattle.audit_model.specs.Score.{sums_of}
-use Rattle.model_laws.proofs.Lists.{above_all_most}
+use Rattle.audit_model.proofs.ListFacts.{above_all_most}
 use Rattle.district_sums.specs.Following.{Following, StandsFor, districts_in}
-use Rattle.flip_guard.specs.Judging.{IsTaken, IsAfterMove}
+use Rattle.flip_guard.specs.Judging.{IsAfterMove, IsTaken, Judging}
 use Rattle.flip_kernel.specs.Held.{sums_in}
-use Rattle.flip_kernel.specs.Judged.{TakesPlansOf}
+use Rattle.flip_kernel.specs.Judged.{IsJudgeFor, IsSeated, TakesPlansOf}
 use Rattle.flip_kernel.proofs.Holding.{put_back}
 
-module _ (job : Job) (takes : ℕ → ℕ → Bool) (all : TakesPlansOf job takes) (plan : List ℕ) (complete : length plan ≡ job.graph.units)
-    (in_range : (u : ℕ) → u < job.graph.units → get_or plan u 0 < job.districts) where
-  -- a plan of the job is taken
-  pub plan_taken : IsTaken takes plan
-  plan_taken = subst (λ (n : ℕ). IsTrue (takes n (above_all plan))) (sym complete)
-      (all (above_all plan) (above_all_most plan job.districts (λ u l. in_range u (omega (arith, l, complete)))))
+-- a plan of the job is taken
+pub plan_taken : (job : Job) (by : Judging) → IsJudgeFor job by → (plan : List ℕ) → length plan ≡ job.graph.units
+    → ((u : ℕ) → u < job.graph.units → get_or plan u 0 < job.districts) → IsTaken by plan
+plan_taken job by judge plan complete in_range = subst (λ (n : ℕ). IsTrue (by.takes n (above_all plan))) (sym complete)
+    (judge.taken (above_all plan) (above_all_most plan job.districts (λ u l. in_range u (omega (arith, l, complete)))))
 
 -- and so is the plan with a unit in another district
-module _ (job : Job) (takes : ℕ → ℕ → Bool) (stands : List ℕ → Type 0) (all : TakesPlansOf job takes) (plan : List ℕ) (complete : length plan ≡ job.graph.units)
-    (in_range : (u : ℕ) → u < job.graph.units → get_or plan u 0 < job.districts) (stood : stands plan) where
-  pub judged_after : (after : List ℕ) (unit district home : ℕ) → unit < job.graph.units → district < job.districts
-      → after ≡ set plan unit district → home ≡ get_or plan unit 0 → IsAfterMove takes stands after unit home
-  judged_after after unit district home inside within is was =
-      let back : set after unit home ≡ plan = put_back plan after unit district home is was in
-      let l : unit < length plan = omega (arith, inside, complete) in
-      let width : length after ≡ job.graph.units = ap length is ∙ length-set plan unit district ∙ complete in
-      let below : (v : ℕ) → v < job.graph.units → get_or after v 0 < job.districts = λ v lv. elim (cases_eq v unit) [
-        | inl e ↦ subst (λ (x : ℕ). x < job.districts)
-            (sym (ap (λ (p : List ℕ). get_or p v 0) is ∙ ap (λ (x : ℕ). get_or (set plan unit district) x 0) e ∙ get_or-set_same plan unit district 0 l)) within
-        | inr apart ↦ subst (λ (x : ℕ). x < job.districts)
-            (sym (ap (λ (p : List ℕ). get_or p v 0) is ∙ get_or-set_other plan unit v district 0 apart)) (in_range v lv)
-      ] in
-      record {
-        taken = plan_taken job takes all after width below;
-        unit_below = omega (arith, inside, width);
-        taken_before = subst (λ (p : List ℕ). IsTaken takes p) (sym back) (plan_taken job takes all plan complete in_range);
-        stood = subst stands (sym back) stood;
-      }
+pub judged_after : (job : Job) (by : Judging) (plan : List ℕ) → IsSeated job plan by → IsLegal job plan → (after : List ℕ) (unit district home : ℕ)
+    → unit < job.graph.units → district < job.districts → after ≡ set plan unit district → home ≡ get_or plan unit 0 → IsAfterMove by after unit home
+judged_after job by plan judge legal after unit district home inside within is was =
+    let back : set after unit home ≡ plan = put_back plan after unit district home is was in
+    let l : unit < length plan = omega (arith, inside, legal.complete) in
+    let width : length after ≡ job.graph.units = ap length is ∙ length-set plan unit district ∙ legal.complete in
+    let below : (v : ℕ) → v < job.graph.units → get_or after v 0 < job.districts = λ v lv. elim (cases_eq v unit) [
+      | inl e ↦ subst (λ (x : ℕ). x < job.districts)
+          (sym (ap (λ (p : List ℕ). get_or p v 0) is ∙ ap (λ (x : ℕ). get_or (set plan unit district) x 0) e ∙ get_or-set_same plan unit district 0 l)) within
+      | inr apart ↦ subst (λ (x : ℕ). x < job.districts)
+          (sym (ap (λ (p : List ℕ). get_or p v 0) is ∙ get_or-set_other plan unit v district 0 apart)) (legal.in_range v lv)
+    ] in
+    record {
+      taken = plan_taken job by judge.fit after width below;
+      unit_below = omega (arith, inside, width);
+      taken_before = subst (λ (p : List ℕ). IsTaken by p) (sym back) (plan_taken job by judge.fit plan legal.complete legal.in_range);
+      stood = subst by.stands (sym back) judge.stood;
+    }
+
+-- a judge for the job that judges and takes as before, keeps what it needs and stands for a plan is seated there
+pub seated_now : (job : Job) (old new : Judging) (plan : List ℕ) → IsJudgeFor job old → new.keeps → new.stands plan → new.rules ≡ old.rules → new.takes ≡ old.takes
+    → IsSeated job plan new
+seated_now job old new plan judge kept stood same_rules same_takes = record {
+  fit = record {
+    kept = kept;
+    ruled = same_rules ∙ judge.ruled;
+    taken = subst (TakesPlansOf job) (sym same_takes) judge.taken;
+  };
+  stood = stood;
+}
 
 -- the sums of a plan, with the same counts of neighbours
 pub same_sums : (job : Job) (plan now : List ℕ) (old new : Following) → StandsFor job.graph job.counts plan old → districts_in old ≡ job.districts

@@ -12,6 +12,7 @@ pub connected_of : (g h : Graph) (p q : List ℕ) (u : ℕ) → g ≡ h → p �
 connected_of g h p q u eg ep connected =
     subst (λ (x : Graph). IsConnected x (in_district p (get_or p u 0))) (sym eg) (subst (λ (x : List ℕ). IsConnected h (in_district x (get_or x u 0))) (sym ep) connected)
 
+-- a unit's district in a legal plan is connected
 pub home_connected : (job : Job) (g : Graph) (plan p : List ℕ) (u : ℕ) → g ≡ job.graph → p ≡ plan → IsLegal job plan → u < job.graph.units
     → IsConnected g (in_district p (get_or p u 0))
 home_connected job g plan p u eg ep legal unit = connected_of g job.graph p plan u eg ep (legal.connected (get_or plan u 0) (legal.in_range u unit))

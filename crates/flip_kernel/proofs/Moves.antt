@@ -11,9 +11,9 @@ use Rattle.audit_model.specs.Local.{stays_behind, MayLeave}
 use Rattle.audit_model.specs.Meets.{Meets}
 use Rattle.audit_model.specs.Path.{IsPath, HasPath, IsConnected}
 use Rattle.audit_model.specs.Plan.{in_district, district_sum, cut_edges, IsBalanced, IsLegal, least_population, greatest_population}
-use Rattle.model_laws.proofs.Accepted.{balanced_between}
-use Rattle.model_laws.proofs.Bools.{and_true}
-use Rattle.model_laws.proofs.Paths.{path_one, path_before, path_after, path_joined, path_within, first_in}
+use Rattle.audit_model.proofs.Accepted.{balanced_between}
+use Rattle.audit_model.proofs.Bools.{and_true}
+use Rattle.audit_model.proofs.Paths.{path_one, path_before, path_after, path_joined, path_within, first_in}
 use Rattle.district_sums.proofs.Shifted.{shifted_sum}
 use Rattle.flip_kernel.specs.Held.{IsMove, KeepsBounds}
 use Rattle.flip_kernel.specs.Openings.{is_open}

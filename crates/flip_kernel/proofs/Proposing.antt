@@ -7,8 +7,8 @@ use Rattle.audit_model.specs.Job.{Job}
 use Rattle.audit_model.specs.Proposal.{proposal}
 use Rattle.audit_model.specs.Step.{next}
 use Rattle.district_sums.specs.Following.{Following}
-use Rattle.face_table.specs.Counts.{Counted}
-use Rattle.face_table.specs.Table.{Faced}
+use Rattle.contig.specs.Counts.{Counted}
+use Rattle.contig.specs.Table.{Faced}
 use Rattle.flip_kernel.specs.declared.proposal.Pairs.{Pairs}
 use Rattle.flip_kernel.specs.Blocks.{place_in}
 use Rattle.flip_kernel.specs.Held.{IsHeld, ProposesOpen}
@@ -16,6 +16,7 @@ use Rattle.flip_kernel.specs.Openings.{is_open}
 use Rattle.flip_kernel.proofs.Flipping.{next_held, next_stays}
 use Rattle.flip_kernel.proofs.Moves.{move_is_open}
 
+-- a draw without a place proposes nothing
 proposed_none : (units districts size draw : ℕ) → size ≡ units * districts → None ≡ place_in size draw → proposal units districts draw ≡ None
 proposed_none units districts size draw is held = elim (cases_Bool (nat_lt draw (2 ^ 64 / size * size))) [
   | inl yes-counted ↦ let other : ◌≡◌ {A = Option ℕ} None (Some (draw % size)) = held ∙ cond-true _ _ _ yes-counted in absurd (cc)
@@ -27,6 +28,7 @@ record IsPlaceOf (size draw found : ℕ) : Type 0 where
   counted : nat_lt draw (2 ^ 64 / size * size) ≡ true
   place : found ≡ draw % size
 
+-- a draw's place is its rest, and the draw is of a whole block
 is_place_of : (size draw found : ℕ) → Some found ≡ place_in size draw → IsPlaceOf size draw found
 is_place_of size draw found is = elim (cases_Bool (nat_lt draw (2 ^ 64 / size * size))) [
   | inl yes-counted ↦
@@ -35,6 +37,7 @@ is_place_of size draw found is = elim (cases_Bool (nat_lt draw (2 ^ 64 / size * 
   | inr not-counted ↦ let other : ◌≡◌ {A = Option ℕ} (Some found) None = is ∙ cond-false _ _ _ not-counted in absurd (cc)
 ]
 
+-- a draw with a place proposes the pair of that place
 proposed_some : (units districts size draw found : ℕ) → size ≡ units * districts → IsPlaceOf size draw found
     → proposal units districts draw ≡ Some (found / districts, found % districts)
 proposed_some units districts size draw found is of =
@@ -75,10 +78,10 @@ module _ (job : Job) (plan : List ℕ) (sums : Following) (marks : ℕ) (table :
     pub still_closed : get_or table found false ≡ false → next job plan draw ≡ plan
     still_closed closed = next_stays job plan draw (found / job.districts) (found % job.districts) proposal_is
         (λ move. both_ways (is_open job.graph plan (found / job.districts) (found % job.districts)) (sym flag_is ∙ closed)
-        (move_is_open job plan (found / job.districts) (found % job.districts) held.numbers.sound held.legal unit_below district_below move.elsewhere move))
+        (move_is_open job plan (found / job.districts) (found % job.districts) held.numbers.sound held.summed.legal unit_below district_below move.elsewhere move))
 
     -- and elsewhere it is the proposed one
     pub is_proposed : (districts : ℕ) → districts ≡ job.districts → get_or table found false ≡ true → ProposesOpen job plan draw (found / districts) (found % districts)
     is_proposed districts same set1 =
         subst (λ (n : ℕ). ProposesOpen job plan draw (found / n) (found % n)) (sym same)
-        (record { proposed = proposal_is; unit_below = unit_below; inside = omega (arith, unit_below, held.legal.complete); district_below = district_below; beside = sym flag_is ∙ set1 })
+        (record { proposed = proposal_is; unit_below = unit_below; inside = omega (arith, unit_below, held.summed.legal.complete); district_below = district_below; beside = sym flag_is ∙ set1 })

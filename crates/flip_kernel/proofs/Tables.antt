@@ -9,19 +9,22 @@ use Rattle.std.proofs.lemmas.List.Folds.{list_any_more}
 use Rattle.std.proofs.lemmas.Nat.{mul-add-lt, same_from_place}
 use Rattle.audit_model.specs.Graph.{Graph, IsGraph, has, adjacent}
 use Rattle.audit_model.specs.Plan.{in_district}
-use Rattle.model_laws.proofs.Bools.{and_true}
-use Rattle.model_laws.proofs.Lists.{has_at}
-use Rattle.flip_kernel.specs.Openings.{is_open, flag_of, IsTable, HasOpened}
+use Rattle.audit_model.proofs.Bools.{and_true}
+use Rattle.audit_model.proofs.ListFacts.{has_at}
+use Rattle.flip_kernel.specs.Openings.{is_open, flag_of, TellsOpen, HasOpened}
 use Rattle.flip_kernel.proofs.Beside.{open_other, open_far}
 
 -- ---- one pair
 
+-- the place of a pair is inside the table
 pub place_within : (units districts u d width : ℕ) → u < units → d < districts → units * districts ≤ width → u * districts + d < width
 place_within units districts u d width lu ld enough = omega (arith, mul-add-lt u districts d units lu ld, mul_comm districts units)
 
+-- what is written for a pair is read of it
 flag_same : (table : List Bool) (districts u d : ℕ) (flag : Bool) → u * districts + d < length table → flag_of (set table (u * districts + d) flag) districts u d ≡ flag
 flag_same table districts u d flag l = get_or-set_same table (u * districts + d) flag false l
 
+-- what is written for a pair changes no other
 flag_other : (table : List Bool) (districts u d v e : ℕ) (flag : Bool) → d < districts → e < districts → (u ≡ v → d ≡ e → ⊥)
     → flag_of (set table (v * districts + e) flag) districts u d ≡ flag_of table districts u d
 flag_other table districts u d v e flag ld le off =
@@ -30,10 +33,12 @@ flag_other table districts u d v e flag ld le off =
 
 -- ---- the pairs of one unit
 
+-- a choice whose other part is false
 or_without : (b c : Bool) → c ≡ false → (b || c) ≡ b
 or_without true c h = refl
 or_without false c h = h
 
+-- the districts of one neighbour more are opened to the unit
 pub opening_more : (plan : List ℕ) (districts unit : ℕ) (row : List ℕ) (i : ℕ) (old new : List Bool) → i < length row → get_or plan (get_or row i 0) 0 < districts
     → unit * districts + get_or plan (get_or row i 0) 0 < length new → HasOpened plan districts unit (take i row) old new
     → HasOpened plan districts unit (take (i + 1) row) old
@@ -87,8 +92,9 @@ pub record IsRenewing (g : Graph) (plan : List ℕ) (districts : ℕ) (row : Lis
   pub width : g.units * districts ≤ length table
   pub each : (u d : ℕ) → u < g.units → d < districts → (flag_of table districts u d ≡ is_open g plan u d) ⊎ IsStale row unit home district i u d
 
+-- before any pair is renewed all others than those of the two districts beside the unit are right
 pub renewing_none : (g : Graph) (plan : List ℕ) (districts : ℕ) (row : List ℕ) (unit home : ℕ) (table : List Bool) → IsGraph g → unit < length plan
-    → row ≡ get_or g.neighbours unit [] → IsTable g (set plan unit home) districts table
+    → row ≡ get_or g.neighbours unit [] → TellsOpen g (set plan unit home) districts table
     → IsRenewing g plan districts row unit home (get_or plan unit 0) 0 table
 renewing_none g plan districts row unit home table sound l is_row before = record { width = before.width; each = each }
   where
@@ -126,6 +132,7 @@ stays_right g plan districts v e flag table inside le is u d ld right = elim (ca
   | inr off ↦ flag_other table districts u d v e flag ld le (λ same _. off same) ∙ right
 ]
 
+-- a pair is right where what is written is so
 made_right : (g : Graph) (plan : List ℕ) (districts v e : ℕ) (flag : Bool) (table : List Bool) → v * districts + e < length table → flag ≡ is_open g plan v e
     → flag_of (set table (v * districts + e) flag) districts v e ≡ is_open g plan v e
 made_right g plan districts v e flag table inside is = flag_same table districts v e flag inside ∙ is
@@ -186,7 +193,7 @@ module _ (g : Graph) (plan : List ℕ) (districts v district home : ℕ) (one ot
   }
 
   pub renewing_all : (row : List ℕ) (i : ℕ) → length row ≤ i → IsRenewing g plan districts row v home district i table
-      → IsTable g plan districts (set (set table (v * districts + district) one) (v * districts + home) other)
+      → TellsOpen g plan districts (set (set table (v * districts + district) one) (v * districts + home) other)
   unfolding after
   renewing_all row i end before = record {
     width = after_width;

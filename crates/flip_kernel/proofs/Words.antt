@@ -5,12 +5,14 @@ use Rattle.std.proofs.lemmas.Bool.{cases_eq}
 use Rattle.std.proofs.lemmas.List.{ext_get_or, length-replicate, get_or-replicate}
 use Rattle.std.proofs.lemmas.Nat.Bits.{bit_at-zero}
 use Rattle.flip_kernel.specs.Flags.{bit_of, flags_of}
-use Rattle.model_laws.proofs.Below.{length-map_below, get_or-map_below}
+use Rattle.audit_model.proofs.Below.{length-map_below, get_or-map_below}
 
+-- each word has 64 truth values
 pub length-flags_of : (words : List ℕ) → length (flags_of words) ≡ 64 * length words
 unfolding flags_of
 length-flags_of words = length-map_below (64 * length words) (bit_of words)
 
+-- the truth value at a place is the bit there
 pub flag_at : (words : List ℕ) (place : ℕ) → place < length (flags_of words) → get_or (flags_of words) place false ≡ bit_of words place
 unfolding flags_of
 flag_at words place l = get_or-map_below (64 * length words) (bit_of words) place false (omega (arith, l, length-map_below (64 * length words) (bit_of words)))
@@ -19,6 +21,7 @@ flag_at words place l = get_or-map_below (64 * length words) (bit_of words) plac
 word_inside : (words : List ℕ) (place : ℕ) → place < length (flags_of words) → place / 64 < length words
 word_inside words place l = omega (arith, l, length-flags_of words)
 
+-- a truth value as a bit, read again
 one_or_none : (flag : Bool) → (cond {A = ℕ} flag 1 0 == 1) ≡ flag
 one_or_none true = refl
 one_or_none false = refl

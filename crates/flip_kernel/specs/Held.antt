@@ -6,11 +6,11 @@ use Rattle.audit_model.specs.Plan.{IsLegal}
 use Rattle.audit_model.specs.Proposal.{proposal}
 use Rattle.audit_model.specs.Score.{sums_of}
 use Rattle.district_sums.specs.Following.{Following, StandsFor, districts_in}
-use Rattle.face_table.specs.Counts.{Counted, AreCounts}
-use Rattle.face_table.specs.Table.{Faced}
+use Rattle.contig.specs.Counts.{Counted, AreCounts}
+use Rattle.contig.specs.Table.{Faced}
 use Rattle.flip_kernel.specs.declared.proposal.Pairs.{Pairs}
 use Rattle.flip_kernel.specs.Blocks.{AreNumbersOf}
-use Rattle.flip_kernel.specs.Openings.{is_open, IsTable}
+use Rattle.flip_kernel.specs.Openings.{is_open, TellsOpen}
 
 pub record Held : Type 0 where
   pub job : Job
@@ -20,15 +20,26 @@ pub record Held : Type 0 where
 abbrev pub sums_in : Job → List ℕ → SumsView
 sums_in job plan = sums_of job.graph job.counts job.districts plan
 
+-- the plan is legal, and the sums are its sums, in each of the job's districts
+pub record IsSummed (job : Job) (plan : List ℕ) (sums : Following) : Type 0 where
+  pub legal : IsLegal job plan
+  pub places : districts_in sums ≡ job.districts
+  pub stands : StandsFor job.graph job.counts plan sums
+
+-- each unit is in one of the job's districts, and the view of the sums is that of the plan's
+pub record IsViewed (job : Job) (plan : List ℕ) (sums : Following) : Type 0 where
+  pub complete : length plan ≡ job.graph.units
+  pub in_range : (u : ℕ) → u < job.graph.units → slice_index plan u < job.districts
+  pub places : districts_in sums ≡ job.districts
+  pub view : sums.view ≡ sums_in job plan
+
 -- the plan is legal, the sums are its sums, there are marks for all units, the table tells which pairs are open, the numbers are the job's,
 -- and the faces are its graph's and counted in each district of the plan
 pub record IsHeld (job : Job) (plan : List ℕ) (sums : Following) (marks : ℕ) (table : List Bool) (pairs : Pairs) (low high : ℕ)
     (faced : Faced) (counted : Counted) : Type 0 where
-  pub legal : IsLegal job plan
-  pub places : districts_in sums ≡ job.districts
-  pub stands : StandsFor job.graph job.counts plan sums
+  pub summed : IsSummed job plan sums
   pub marked : marks ≡ job.graph.units
-  pub opened : IsTable job.graph plan job.districts table
+  pub opened : TellsOpen job.graph plan job.districts table
   pub numbers : AreNumbersOf job pairs low high
   pub made : faced.graph ≡ job.graph
   pub counts : AreCounts job.graph faced.faces job.districts plan counted

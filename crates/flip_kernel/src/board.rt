@@ -8,21 +8,23 @@ ghost use Rattle.audit_model.specs.Meets.{meets_rules};
 ghost use Rattle.audit_model.specs.Plan.{IsLegal, cut_edges, district_sum, least_population, greatest_population};
 ghost use Rattle.audit_model.specs.Step.{next};
 ghost use Rattle.district_sums.specs.Following.{StandsFor, districts_in};
-ghost use Rattle.flip_kernel.specs.Held.{IsMove, KeepsBounds, ProposesOpen, sums_in};
-ghost use Rattle.flip_kernel.specs.Judged.{IsJudge};
+ghost use Rattle.flip_kernel.specs.Held.{IsMove, IsSummed, IsViewed, KeepsBounds, ProposesOpen, sums_in};
+ghost use Rattle.flip_kernel.specs.Judged.{IsSeated};
 ghost use Rattle.flip_kernel.specs.Openings.{is_open};
 
+use crate::moving::Flip;
 use crate::openings::Openings;
 use crate::proposal::Pairs;
 use audit_model::lists::UnitList;
 use audit_model::memory::Memory;
 use audit_model::outcome::SumsView;
 use audit_model::steps::Steps;
-use contig::leave::{counting_tells, leaves_connected};
+use contig::counts::FaceCounts;
+use contig::leave::{counting_tells, local_holds, may_leave};
+use contig::table::FaceTable;
 use district_sums::sums::Sums;
 use dual_graph::marks::Marks;
-use face_table::counts::FaceCounts;
-use face_table::table::FaceTable;
+use dual_graph::member::Member;
 use flip_guard::judge::Judge;
 use plan_core::job::Job;
 use std::alloc::Global;
@@ -104,6 +106,7 @@ impl Board {
     pub fn plan(&self) -> &UnitList
         ensures value { result.now ≡ self.now.plan }
         ensures legal { IsLegal self.now.job self.now.plan }
+        ensures sound { IsJob self.now.job }
     {
         &self.plan
     }
@@ -135,40 +138,37 @@ impl Board {
     }
 
     /// Whether both districts stay within the population bounds where the unit moves.
-    fn keeps_bounds(&self, job: &Job, unit: u32, district: u32) -> bool
-        requires made { self.now.job ≡ job.now }
-        requires unit { unit < job.now.graph.units }
-        requires district { district < job.now.districts }
-        requires elsewhere { slice_index self.now.plan unit ≢ district }
-        ensures { IsTrue result ↔ KeepsBounds (least_population job.now) (greatest_population job.now) (slice_index job.now.counts.population unit)
-            (district_sum job.now.counts.population self.now.plan (slice_index self.now.plan unit)) (district_sum job.now.counts.population self.now.plan district) }
+    fn keeps_bounds(&self, flip: Flip) -> bool
+        requires made { self.now.job ≡ flip.job.now }
+        requires elsewhere { slice_index self.now.plan flip.unit ≢ flip.district }
+        ensures { IsTrue result ↔ KeepsBounds (least_population flip.entry.job.now) (greatest_population flip.entry.job.now) (slice_index flip.entry.job.now.counts.population flip.entry.unit)
+            (district_sum flip.entry.job.now.counts.population self.now.plan (slice_index self.now.plan flip.entry.unit))
+            (district_sum flip.entry.job.now.counts.population self.now.plan flip.entry.district) }
     {
         // Called for what its contract says: the job is within its limits, and its start plan is legal.
-        let _units = job.units();
-        let people = job.counts().population.as_slice()[unit as usize];
-        let home = self.plan.as_slice()[unit as usize];
+        let _units = flip.job.units();
+        let people = flip.job.counts().population.as_slice()[flip.unit as usize];
+        let home = self.plan.as_slice()[flip.unit as usize];
         let populations = self.sums.view().population.as_slice();
         are_kept(
             self.low,
             self.high,
             people,
             populations[home as usize],
-            populations[district as usize],
+            populations[flip.district as usize],
         )
     }
 
     /// Whether the judge permits the plan with the unit in the district.
-    fn permits<J: Judge>(&mut self, job: &Job, judge: &J, unit: u32, district: u32) -> bool
-        requires made { self.old.job ≡ job.now }
-        requires judge { IsJudge job.now self.old.plan (J.keeps judge.now) (J.stands judge.now) (J.takes judge.now) (J.rules judge.now) }
-        requires unit { unit < job.now.graph.units }
-        requires district { district < job.now.districts }
-        requires elsewhere { slice_index self.old.plan unit ≢ district }
-        ensures meets { result
-            ≡ meets_rules (rules job.now) (cut_edges job.now.graph (slice_set self.old.plan unit district)) (slice_set self.old.plan unit district) }
+    fn permits<J: Judge>(&mut self, judge: &J, flip: Flip) -> bool
+        requires made { self.old.job ≡ flip.job.now }
+        requires judge { IsSeated flip.job.now self.old.plan (J.judging judge.now) }
+        requires elsewhere { slice_index self.old.plan flip.unit ≢ flip.district }
+        ensures meets { let after = slice_set self.old.plan flip.entry.unit flip.entry.district in
+            result ≡ meets_rules (rules flip.entry.job.now) (cut_edges flip.entry.job.now.graph after) after }
         ensures same { self.new ≡ self.old }
     {
-        is_permitted(job, judge, &mut self.sums, &mut self.plan, unit, district)
+        is_permitted(judge, flip, &mut self.sums, &mut self.plan)
     }
 
     /// Whether the unit may leave its district, where the counts of faces tell.
@@ -177,185 +177,198 @@ impl Board {
         requires unit { unit < job.now.graph.units }
         ensures { MatchOption result ⊤ (λ may. IsTrue may ↔ MayLeave job.now.graph self.now.plan unit) }
     {
-        counting_tells(
-            job.graph(),
-            self.plan.as_slice(),
+        let graph = job.graph();
+        // Called for what its contract says: the graph is sound, and has at most 100,000 units.
+        let _units = graph.units();
+        let leaving = Member {
+            graph,
+            plan: self.plan.as_slice(),
             unit,
-            &self.faces,
-            &self.counts,
-        )
+        };
+        counting_tells(leaving, &self.faces, &self.counts)
     }
 
     /// Whether the unit may leave its district, by a search where its neighbours there are not connected among themselves.
-    fn searching_tells<L: Ledger>(
-        &mut self,
-        job: &Job,
-        unit: u32,
-        steps: &mut Steps<L>,
-        searches: &mut u64,
-    ) -> bool
+    fn searching_tells<L: Ledger>(&mut self, job: &Job, unit: u32, steps: &mut Steps<L>) -> bool
         requires made { self.old.job ≡ job.now }
         requires unit { unit < job.now.graph.units }
-        requires room { searches.old < 2 ^ 64 - 1 }
         ensures leaves { IsTrue result ↔ MayLeave job.now.graph self.old.plan unit }
         ensures same { self.new ≡ self.old }
-        ensures counted { searches.new + steps.old ≡ searches.old + steps.new }
         ensures searches { (steps.old ≤ steps.new) × (steps.new ≤ steps.old + 1) }
         ensures local { IsLocal job.now.graph self.old.plan unit → steps.new ≡ steps.old }
     {
-        leaves_connected(
+        may_leave(
             job.graph(),
             self.plan.as_slice(),
             unit,
             &mut self.marks,
             steps,
-            searches,
         )
     }
 
-    /// Whether the unit can move to the district, which is open to it: the plan is legal then. The populations are tested
-    /// first, then the counts of faces, then the rules, and a search comes last; the counter and the number are those of the searches.
-    pub(crate) fn may_move<J: Judge, L: Ledger>(
-        &mut self,
-        job: &Job,
-        judge: &J,
-        unit: u32,
-        district: u32,
-        steps: &mut Steps<L>,
-        searches: &mut u64,
-    ) -> bool
-        requires made { self.old.job ≡ job.now }
-        requires judge { IsJudge job.now self.old.plan (J.keeps judge.now) (J.stands judge.now) (J.takes judge.now) (J.rules judge.now) }
-        requires unit { unit < job.now.graph.units }
-        requires district { district < job.now.districts }
-        requires beside { IsTrue (is_open job.now.graph self.old.plan unit district) }
-        requires room { searches.old < 2 ^ 64 - 1 }
-        ensures moves { IsTrue result ↔ IsMove job.now self.old.plan unit district }
+    /// Whether the unit can move to the district, which is open to it, where that is told without a search: the populations are
+    /// tested first, then the counts of faces, and the rules come last. Where it is not, the unit can move if it may leave its district.
+    fn told<J: Judge>(&mut self, judge: &J, flip: Flip) -> Option<bool>
+        requires made { self.old.job ≡ flip.job.now }
+        requires judge { IsSeated flip.job.now self.old.plan (J.judging judge.now) }
+        requires beside { IsTrue (is_open flip.job.now.graph self.old.plan flip.unit flip.district) }
+        ensures told { MatchOption result
+            (MayLeave flip.entry.job.now.graph self.old.plan flip.entry.unit ↔ IsMove flip.entry.job.now self.old.plan flip.entry.unit flip.entry.district)
+            (λ moves. IsTrue moves ↔ IsMove flip.entry.job.now self.old.plan flip.entry.unit flip.entry.district) }
         ensures same { self.new ≡ self.old }
-        ensures counted { searches.new + steps.old ≡ searches.old + steps.new }
-        ensures searches { (steps.old ≤ steps.new) × (steps.new ≤ steps.old + 1) }
-        ensures local { IsLocal job.now.graph self.old.plan unit → steps.new ≡ steps.old }
     {
-        // Called for what their contracts say: the job is within its limits, and the plan is legal.
-        let _units = job.units();
+        // Called for what its contract says: the job is within its limits, and the plan is legal.
         let _plan = self.plan();
-        if !self.keeps_bounds(job, unit, district) {
-            return false;
+        if !self.keeps_bounds(flip) {
+            return Some(false);
         }
-        match self.counting_tells(job, unit) {
-            Some(may) => may && self.permits(job, judge, unit, district),
+        match self.counting_tells(flip.job, flip.unit) {
+            Some(false) => Some(false),
+            Some(true) => Some(self.permits(judge, flip)),
             None => {
-                self.permits(job, judge, unit, district)
-                    && self.searching_tells(job, unit, steps, searches)
+                if self.permits(judge, flip) {
+                    None
+                } else {
+                    Some(false)
+                }
             }
         }
     }
 
-    /// Moves the unit to the district, which it can.
-    pub(crate) fn make_move(&mut self, job: &Job, unit: u32, district: u32)
-        requires made { self.old.job ≡ job.now }
-        requires unit { unit < job.now.graph.units }
-        requires district { district < job.now.districts }
-        requires elsewhere { slice_index self.old.plan unit ≢ district }
-        requires legal { IsLegal job.now (slice_set self.old.plan unit district) }
-        ensures { self.new ≡ record self.old { plan = slice_set self.old.plan unit district } }
+    /// Whether the unit can move to the district, which is open to it: the plan is legal then. The counter is that of the searches.
+    pub(crate) fn may_move<J: Judge, L: Ledger>(
+        &mut self,
+        judge: &J,
+        flip: Flip,
+        steps: &mut Steps<L>,
+    ) -> bool
+        requires made { self.old.job ≡ flip.job.now }
+        requires judge { IsSeated flip.job.now self.old.plan (J.judging judge.now) }
+        requires beside { IsTrue (is_open flip.job.now.graph self.old.plan flip.unit flip.district) }
+        ensures moves { IsTrue result ↔ IsMove flip.entry.job.now self.old.plan flip.entry.unit flip.entry.district }
+        ensures same { self.new ≡ self.old }
+        ensures searches { (steps.old ≤ steps.new) × (steps.new ≤ steps.old + 1) }
+        ensures local { IsLocal flip.entry.job.now.graph self.old.plan flip.entry.unit → steps.new ≡ steps.old }
     {
-        let home = self.plan.as_slice()[unit as usize];
-        self.counts.follow(
-            job.graph(),
-            &self.faces,
+        match self.told(judge, flip) {
+            Some(moves) => moves,
+            None => self.searching_tells(flip.job, flip.unit, steps),
+        }
+    }
+
+    /// Whether `may_move` makes a search.
+    pub(crate) fn asks_search<J: Judge>(&mut self, judge: &J, flip: Flip) -> bool
+        requires made { self.old.job ≡ flip.job.now }
+        requires judge { IsSeated flip.job.now self.old.plan (J.judging judge.now) }
+        requires beside { IsTrue (is_open flip.job.now.graph self.old.plan flip.unit flip.district) }
+        ensures same { self.new ≡ self.old }
+    {
+        if self.told(judge, flip).is_some() {
+            return false;
+        }
+        !local_holds(
+            flip.job.graph(),
             self.plan.as_slice(),
-            unit,
-            district,
-        );
-        shift(job, &mut self.sums, &mut self.plan, unit, district);
+            flip.unit,
+            &mut self.marks,
+        )
+    }
+
+    /// Moves the unit to the district, which it can.
+    pub(crate) fn make_move(&mut self, flip: Flip)
+        requires made { self.old.job ≡ flip.job.now }
+        requires allowed { IsMove flip.job.now self.old.plan flip.unit flip.district }
+        ensures { self.new ≡ record self.old { plan = slice_set self.old.plan flip.entry.unit flip.entry.district } }
+    {
+        let graph = flip.job.graph();
+        let home = self.plan.as_slice()[flip.unit as usize];
+        // Called for what its contract says: the graph is sound, and has at most 100,000 units.
+        let _units = graph.units();
+        let leaving = Member {
+            graph,
+            plan: self.plan.as_slice(),
+            unit: flip.unit,
+        };
+        self.counts.follow(&self.faces, leaving, flip.district);
+        shift(flip, &mut self.sums, &mut self.plan);
         self.openings.renew(
-            job.graph(),
+            graph,
             self.plan.as_slice(),
             self.pairs.districts,
-            unit,
+            flip.unit,
             home,
         );
     }
 }
 
 /// Moves a unit to a district in the plan and in its sums.
-fn shift(job: &Job, sums: &mut Sums, plan: &mut UnitList, unit: u32, district: u32)
-    requires legal { IsLegal job.now plan.old }
-    requires places { districts_in sums.old ≡ job.now.districts }
-    requires stands { StandsFor job.now.graph job.now.counts plan.old sums.old }
-    requires unit { unit < job.now.graph.units }
-    requires district { district < job.now.districts }
-    ensures plan { plan.new ≡ slice_set plan.old unit district }
-    ensures places { districts_in sums.new ≡ job.now.districts }
-    ensures stands { StandsFor job.now.graph job.now.counts plan.new sums.new }
+fn shift(flip: Flip, sums: &mut Sums, plan: &mut UnitList)
+    requires summed { IsSummed flip.job.now plan.old sums.old }
+    ensures plan { plan.new ≡ slice_set plan.old flip.entry.unit flip.entry.district }
+    ensures places { districts_in sums.new ≡ flip.entry.job.now.districts }
+    ensures stands { StandsFor flip.entry.job.now.graph flip.entry.job.now.counts plan.new sums.new }
 {
     // Called for what its contract says: the job is within its limits, and its start plan is legal.
-    let _units = job.units();
+    let _units = flip.job.units();
     sums.shift(
-        job.graph(),
-        job.counts(),
+        flip.job.graph(),
+        flip.job.counts(),
         plan.as_mut_slice(),
-        unit,
-        district,
+        flip.unit,
+        flip.district,
     );
 }
 
 /// Moves a unit to another district in the plan and in the sums of its districts: so many edges are cut then.
 #[inline]
-fn shift_view(job: &Job, sums: &mut Sums, plan: &mut UnitList, unit: u32, district: u32, cut: u32)
-    requires complete { length plan.old ≡ job.now.graph.units }
-    requires in_range { (u : ℕ) → u < job.now.graph.units → slice_index plan.old u < job.now.districts }
-    requires places { districts_in sums.old ≡ job.now.districts }
-    requires view { sums.old.view ≡ sums_in job.now plan.old }
-    requires unit { unit < job.now.graph.units }
-    requires district { district < job.now.districts }
-    requires elsewhere { slice_index plan.old unit ≢ district }
-    requires cut { cut ≡ cut_edges job.now.graph (slice_set plan.old unit district) }
-    ensures plan { plan.new ≡ slice_set plan.old unit district }
-    ensures places { districts_in sums.new ≡ job.now.districts }
-    ensures view { sums.new.view ≡ sums_in job.now plan.new }
+fn shift_view(flip: Flip, sums: &mut Sums, plan: &mut UnitList, cut: u32)
+    requires viewed { IsViewed flip.job.now plan.old sums.old }
+    requires elsewhere { slice_index plan.old flip.unit ≢ flip.district }
+    requires cut { cut ≡ cut_edges flip.job.now.graph (slice_set plan.old flip.unit flip.district) }
+    ensures plan { plan.new ≡ slice_set plan.old flip.entry.unit flip.entry.district }
+    ensures places { districts_in sums.new ≡ flip.entry.job.now.districts }
+    ensures view { sums.new.view ≡ sums_in flip.entry.job.now plan.new }
     ensures apart { sums.new.apart ≡ sums.old.apart }
 {
     // Called for what its contract says: the job is within its limits, and its start plan is legal.
-    let _units = job.units();
-    sums.shift_view(
-        job.graph(),
-        job.counts(),
-        plan.as_slice(),
-        unit,
-        district,
-        cut,
-    );
-    plan.as_mut_slice()[unit as usize] = district;
+    let _units = flip.job.units();
+    let member = Member {
+        graph: flip.job.graph(),
+        plan: plan.as_slice(),
+        unit: flip.unit,
+    };
+    sums.shift_view(flip.job.counts(), member, flip.district, cut);
+    plan.as_mut_slice()[flip.unit as usize] = flip.district;
 }
 
 /// Whether a judge permits the plan with a unit in another district. The plan and its sums are as before afterwards.
-fn is_permitted<J: Judge>(
-    job: &Job,
-    judge: &J,
-    sums: &mut Sums,
-    plan: &mut UnitList,
-    unit: u32,
-    district: u32,
-) -> bool
-    requires legal { IsLegal job.now plan.old }
-    requires places { districts_in sums.old ≡ job.now.districts }
-    requires stands { StandsFor job.now.graph job.now.counts plan.old sums.old }
-    requires unit { unit < job.now.graph.units }
-    requires district { district < job.now.districts }
-    requires elsewhere { slice_index plan.old unit ≢ district }
-    requires judge { IsJudge job.now plan.old (J.keeps judge.now) (J.stands judge.now) (J.takes judge.now) (J.rules judge.now) }
-    ensures meets { result ≡ meets_rules (rules job.now) (cut_edges job.now.graph (slice_set plan.old unit district)) (slice_set plan.old unit district) }
+fn is_permitted<J: Judge>(judge: &J, flip: Flip, sums: &mut Sums, plan: &mut UnitList) -> bool
+    requires summed { IsSummed flip.job.now plan.old sums.old }
+    requires judge { IsSeated flip.job.now plan.old (J.judging judge.now) }
+    requires elsewhere { slice_index plan.old flip.unit ≢ flip.district }
+    ensures meets { let after = slice_set plan.old flip.entry.unit flip.entry.district in
+        result ≡ meets_rules (rules flip.entry.job.now) (cut_edges flip.entry.job.now.graph after) after }
     ensures plan { plan.new ≡ plan.old }
     ensures sums { sums.new ≡ sums.old }
 {
-    let home = plan.as_slice()[unit as usize];
+    let home = plan.as_slice()[flip.unit as usize];
     let before = sums.view().cut;
-    let after = sums.cut_after(job.graph(), plan.as_slice(), unit, district);
-    shift_view(job, sums, plan, unit, district, after);
-    let permitted = judge.permits(plan.as_slice(), sums.view(), unit, home);
-    shift_view(job, sums, plan, unit, home, before);
+    // Called for what its contract says: the job is within its limits, and its start plan is legal.
+    let _units = flip.job.units();
+    let member = Member {
+        graph: flip.job.graph(),
+        plan: plan.as_slice(),
+        unit: flip.unit,
+    };
+    let after = sums.cut_after(member, flip.district);
+    shift_view(flip, sums, plan, after);
+    let permitted = judge.permits(plan.as_slice(), sums.view(), flip.unit, home);
+    let back = Flip {
+        job: flip.job,
+        unit: flip.unit,
+        district: home,
+    };
+    shift_view(back, sums, plan, before);
     permitted
 }
 

@@ -1,45 +1,18 @@
 //! One step of the chain of plans, and the draw that leads back.
 
-ghost use Rattle.std.specs.Prelude.{◌≡◌, ℕ, ◌+◌, ◌<◌, ◌-◌, ◌*◌, ◌^◌, ◌%◌, ◌≤◌, ◌↔◌, Some, slice_index, IsTrue, IsFalse};
+ghost use Rattle.std.specs.Prelude.{◌≡◌, ℕ, ◌+◌, ◌<◌, ◌-◌, ◌*◌, ◌%◌, ◌≤◌, ◌↔◌, Some, slice_index, IsTrue, IsFalse};
 ghost use Rattle.audit_model.specs.Local.{IsLocal};
 ghost use Rattle.audit_model.specs.Proposal.{proposal};
 ghost use Rattle.audit_model.specs.Plan.{IsLegal};
 ghost use Rattle.audit_model.specs.Step.{next, mirrored};
-ghost use Rattle.flip_kernel.specs.Judged.{IsSeated, held_of};
 
+use crate::moving::Flip;
 use crate::state::State;
 use audit_model::steps::Steps;
 use flip_guard::judge::Judge;
 use plan_core::job::Job;
 use std::marker::Brand;
 use std::sync::ledger::{Blank, Ledger};
-
-/// As [`try_flip`], where code is to read how many searches there were: the number rises with the counter, which takes no bytes.
-#[inline]
-pub fn try_flip_counting<J: Judge, L: Ledger>(
-    job: &Job,
-    state: &mut State<J>,
-    draw: u64,
-    steps: &mut Steps<L>,
-    searches: &mut u64,
-) -> bool
-    requires made { (held_of state.old).job ≡ job.now }
-    requires seated { IsSeated job.now J.keeps J.stands J.takes J.rules state.old }
-    requires room { searches.old < 2 ^ 64 - 1 }
-    ensures next { held_of state.new ≡ record (held_of state.old) { plan = next job.now (held_of state.old).plan draw } }
-    ensures seated { IsSeated job.now J.keeps J.stands J.takes J.rules state.new }
-    ensures held { IsFalse result ↔ ((held_of state.new).plan ≡ (held_of state.old).plan) }
-
-    ensures counted { searches.new + steps.old ≡ searches.old + steps.new }
-    ensures searches { (steps.old ≤ steps.new) × (steps.new ≤ steps.old + 1) }
-    ensures local { (unit district : ℕ) → proposal job.now.graph.units job.now.districts draw ≡ Some (unit, district) →
-        IsLocal job.now.graph (held_of state.old).plan unit → steps.new ≡ steps.old }
-{
-    match state.proposed(draw) {
-        None => false,
-        Some((unit, district)) => state.flip(job, unit, district, steps, searches),
-    }
-}
 
 /// Makes the plan the one after the draw, and tells whether it changed. The counter is that of the
 /// searches of a district: the two functions of `contig` that make one take it, and add one to it. None
@@ -52,33 +25,42 @@ pub fn try_flip<J: Judge, L: Ledger>(
     draw: u64,
     steps: &mut Steps<L>,
 ) -> bool
-    requires made { (held_of state.old).job ≡ job.now }
-    requires seated { IsSeated job.now J.keeps J.stands J.takes J.rules state.old }
-    ensures next { held_of state.new ≡ record (held_of state.old) { plan = next job.now (held_of state.old).plan draw } }
-    ensures seated { IsSeated job.now J.keeps J.stands J.takes J.rules state.new }
-    ensures held { IsFalse result ↔ ((held_of state.new).plan ≡ (held_of state.old).plan) }
+    requires made { state.old.job ≡ job.now }
+    ensures next { state.new ≡ record state.old { plan = next job.now state.old.plan draw } }
+    ensures held { IsFalse result ↔ (state.new.plan ≡ state.old.plan) }
 
     ensures searches { (steps.old ≤ steps.new) × (steps.new ≤ steps.old + 1) }
     ensures local { (unit district : ℕ) → proposal job.now.graph.units job.now.districts draw ≡ Some (unit, district) →
-        IsLocal job.now.graph (held_of state.old).plan unit → steps.new ≡ steps.old }
+        IsLocal job.now.graph state.old.plan unit → steps.new ≡ steps.old }
 {
-    try_flip_counting(job, state, draw, steps, &mut 0)
+    // Called for what its contract says: the job is within its limits, and its start plan is legal.
+    let _units = job.units();
+    match state.proposed(draw) {
+        None => false,
+        Some((unit, district)) => state.flip(
+            Flip {
+                job,
+                unit,
+                district,
+            },
+            steps,
+        ),
+    }
 }
 
 /// The draw itself where it moves no unit, and elsewhere the draw of the same block that leads back. The
 /// state is as before, and no memory is taken.
 pub fn mirror<J: Judge>(job: &Job, state: &mut State<J>, draw: u64) -> u64
-    requires made { (held_of state.old).job ≡ job.now }
-    requires seated { IsSeated job.now J.keeps J.stands J.takes J.rules state.old }
-    ensures value { result ≡ mirrored job.now (held_of state.old).plan draw }
+    requires made { state.old.job ≡ job.now }
+    ensures value { result ≡ mirrored job.now state.old.plan draw }
     ensures same { state.new ≡ state.old }
 
-    ensures held { next job.now (held_of state.old).plan draw ≡ (held_of state.old).plan → result ≡ draw }
+    ensures held { next job.now state.old.plan draw ≡ state.old.plan → result ≡ draw }
     ensures moved { (unit district : ℕ) → proposal job.now.graph.units job.now.districts draw ≡ Some (unit, district) →
-        ¬ (next job.now (held_of state.old).plan draw ≡ (held_of state.old).plan) →
-        result ≡ draw - draw % (job.now.graph.units * job.now.districts) + (unit * job.now.districts + slice_index (held_of state.old).plan unit) }
-    ensures back { next job.now (next job.now (held_of state.old).plan draw) result ≡ (held_of state.old).plan }
-    ensures again { mirrored job.now (next job.now (held_of state.old).plan draw) result ≡ draw }
+        ¬ (next job.now state.old.plan draw ≡ state.old.plan) →
+        result ≡ draw - draw % (job.now.graph.units * job.now.districts) + (unit * job.now.districts + slice_index state.old.plan unit) }
+    ensures back { next job.now (next job.now state.old.plan draw) result ≡ state.old.plan }
+    ensures again { mirrored job.now (next job.now state.old.plan draw) result ≡ draw }
 {
     led_back::<J, Brand>(job, state, draw, Blank::new(1))
 }
@@ -89,11 +71,10 @@ fn led_back<J: Judge, L: Ledger>(job: &Job, state: &mut State<J>, draw: u64, bla
     requires name { blank.name ≡ L.name }
     requires parts { blank.parts ≡ L.parts }
     requires some { 0 < L.parts }
-    requires made { (held_of state.old).job ≡ job.now }
-    requires seated { IsSeated job.now J.keeps J.stands J.takes J.rules state.old }
-    ensures value { result ≡ mirrored job.now (held_of state.old).plan draw }
+    requires made { state.old.job ≡ job.now }
+    ensures value { result ≡ mirrored job.now state.old.plan draw }
     ensures same { state.new ≡ state.old }
-    ensures legal { IsLegal job.now (held_of state.old).plan }
+    ensures legal { IsLegal job.now state.old.plan }
 {
     // Called for what its contract says: the job is within its limits, and its start plan is legal.
     let _units = job.units();
@@ -103,7 +84,12 @@ fn led_back<J: Judge, L: Ledger>(job: &Job, state: &mut State<J>, draw: u64, bla
         Some((unit, district)) => {
             let home = plan.as_slice()[unit as usize];
             let mut steps: Steps<L> = Steps::new(blank);
-            if state.may_move(job, unit, district, &mut steps, &mut 0) {
+            let flip = Flip {
+                job,
+                unit,
+                district,
+            };
+            if state.may_move(flip, &mut steps) {
                 draw - u64::from(district) + u64::from(home)
             } else {
                 draw

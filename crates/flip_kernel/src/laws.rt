@@ -9,5 +9,5 @@ ghost use Rattle.audit_model.specs.Step.{ways};
 pub fn ways_are_symmetric()
     ensures { (job : Job) (from to : List ℕ) → IsLegal job from → IsLegal job to → ways job from to ≡ ways job to from }
 {
-    model_laws::laws::ways_are_symmetric();
+    audit_model::laws::ways_are_symmetric();
 }

@@ -4,10 +4,11 @@
 mod board;
 pub mod flip;
 pub mod laws;
+mod moving;
 mod openings;
 pub mod proposal;
 pub mod state;
 
-pub use flip::{mirror, try_flip, try_flip_counting};
+pub use flip::{mirror, try_flip};
 pub use proposal::propose;
 pub use state::State;

@@ -4,7 +4,7 @@ ghost use Rattle.std.specs.Int.{bit_at};
 ghost use Rattle.std.specs.Prelude.{◌≡◌, ◌≢◌, ℕ, ◌+◌, ◌*◌, ◌/◌, ◌<◌, ◌≤◌, cond, false, [], length, slice_index, slice_set, replicate, IfOk};
 ghost use Rattle.std.specs.List.{slice_index_or};
 ghost use Rattle.flip_kernel.specs.Flags.{bit_of, flags_of};
-ghost use Rattle.flip_kernel.specs.Openings.{is_open, flag_of, IsTable, HasOpened};
+ghost use Rattle.flip_kernel.specs.Openings.{is_open, flag_of, TellsOpen, HasOpened};
 
 use audit_model::memory::Memory;
 use dual_graph::graph::Graph;
@@ -83,7 +83,7 @@ impl Openings {
         requires plan { length plan.now ≡ graph.now.units }
         requires in_range { (u : ℕ) → u < graph.now.units → slice_index plan.now u < districts }
         requires width { graph.now.units * districts ≤ length self.old }
-        ensures { IsTable graph.now plan.now districts self.new }
+        ensures { TellsOpen graph.now plan.now districts self.new }
     {
         self.clear();
         for unit in 0..graph.units() {
@@ -98,8 +98,8 @@ impl Openings {
         requires in_range { (u : ℕ) → u < graph.now.units → slice_index plan.now u < districts }
         requires unit { unit < graph.now.units }
         requires home { home < districts }
-        requires table { IsTable graph.now (slice_set plan.now unit home) districts self.old }
-        ensures { IsTable graph.now plan.now districts self.new }
+        requires table { TellsOpen graph.now (slice_set plan.now unit home) districts self.old }
+        ensures { TellsOpen graph.now plan.now districts self.new }
     {
         // Called for what its contract says: the graph is sound, and has at most 100,000 units.
         let _units = graph.units();

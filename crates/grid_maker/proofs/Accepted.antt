@@ -14,16 +14,16 @@ use Rattle.audit_model.specs.First.{first_some}
 use Rattle.audit_model.specs.Graph.{adjacent, count_edges, has}
 use Rattle.audit_model.specs.Label.{same_label}
 use Rattle.dual_json.proofs.Shapes.{not_refused}
-use Rattle.draw_definitions.specs.Grid.{side, are_beside, first_votes_of}
-use Rattle.graph_definitions.specs.Reading.{Document, node_count, node, entries, entry, id_of, label_of, same_id, lists, joined, graph, count_of, label_at, is_new_label, label_count, refused_if, repeated_id, first_entry, missing_column, bad_number, refusal}
-use Rattle.model_laws.proofs.Below.{count_below_into, count_below_le, any_below_some, any_below_none, length-map_below, get_or-map_below, any_below_from}
-use Rattle.model_laws.proofs.Connected.{has-filter_below}
-use Rattle.model_laws.proofs.Options.{or_of_none}
-use Rattle.model_laws.proofs.First.{none_first_below}
+use Rattle.audit_statement.specs.Grid.{grid_side, are_beside, first_votes_of}
+use Rattle.audit_statement.specs.Reading.{Document, node_count, node, entries, entry, id_of, label_of, same_id, lists, joined, graph, count_of, label_at, is_new_label, label_count, refused_if, repeated_id, first_entry, missing_column, bad_number, refusal}
+use Rattle.audit_model.proofs.Below.{count_below_into, count_below_le, any_below_some, any_below_none, length-map_below, get_or-map_below, any_below_from}
+use Rattle.audit_model.proofs.Connected.{has-filter_below}
+use Rattle.audit_model.proofs.Options.{map_none, or_of_none}
+use Rattle.audit_model.proofs.First.{none_first_below, none_some_below}
 use Rattle.grid_maker.specs.Columns.{grid_columns}
 use Rattle.grid_maker.specs.Tree.{entry_tree, node_tree}
 use Rattle.grid_maker.proofs.Districts.{district_of, units_of, few_units, district_below, first_of, first_district, before_first, first_inside}
-use Rattle.grid_maker.proofs.Finding.{none_some_below, item_passes, get_or-map}
+use Rattle.grid_maker.proofs.Finding.{item_passes, get_or-map}
 
 -- the units beside a unit
 abbrev pub units_beside : ℕ → ℕ → List ℕ
@@ -37,9 +37,7 @@ grid_document size key = record {
   directed = false;
 }
 
-map_none : {A B : Type 0} (f : A → B) (o : Option A) → o ≡ None → option_map f o ≡ None
-map_none f o e = rw e refl
-
+-- two whole numbers are the same label exactly where they are equal
 pub whole_same : (a b : ℕ) → same_label (Whole (pos a)) (Whole (pos b)) ≡ (a == b)
 whole_same a b = elim (cases_lt a b) [
   | inl l ↦ rw (lt-ltb a b l) (sym (ne_eqb a b (λ e. omega (arith, l, e))))
@@ -96,52 +94,59 @@ module _ (size : ℕ) (key : List ℕ) where
 
 -- ---- edges
 
-pub near : (size u v : ℕ) → u < v → are_beside size u v ≡ true → (u + 1 ≡ v) ⊎ (u + side size ≡ v)
+-- the greater of two units beside each other is the next one or the one below
+pub near : (size u v : ℕ) → u < v → are_beside size u v ≡ true → (u + 1 ≡ v) ⊎ (u + grid_side size ≡ v)
 near size u v l h =
-    elim (or_cases ((u / side size == v / side size) && ((u + 1 == v) || (v + 1 == u))) ((u + side size == v) || (v + side size == u)) h) [
-      | inl e ↦ elim (or_cases (u + 1 == v) (v + 1 == u) (and_parts (u / side size == v / side size) ((u + 1 == v) || (v + 1 == u)) e).1) [
+    elim (or_cases ((u / grid_side size == v / grid_side size) && ((u + 1 == v) || (v + 1 == u))) ((u + grid_side size == v) || (v + grid_side size == u)) h) [
+      | inl e ↦ elim (or_cases (u + 1 == v) (v + 1 == u) (and_parts (u / grid_side size == v / grid_side size) ((u + 1 == v) || (v + 1 == u)) e).1) [
         | inl x ↦ inl (eqb-true (u + 1) v x)
         | inr x ↦ absurd (omega (arith, l, eqb-true (v + 1) u x))
       ]
-      | inr e ↦ elim (or_cases (u + side size == v) (v + side size == u) e) [
-        | inl x ↦ inr (eqb-true (u + side size) v x)
-        | inr x ↦ absurd (omega (arith, l, eqb-true (v + side size) u x))
+      | inr e ↦ elim (or_cases (u + grid_side size == v) (v + grid_side size == u) e) [
+        | inl x ↦ inr (eqb-true (u + grid_side size) v x)
+        | inr x ↦ absurd (omega (arith, l, eqb-true (v + grid_side size) u x))
       ]
     ]
 
-pub near_back : (size u v : ℕ) → u < v → are_beside size v u ≡ true → (u + 1 ≡ v) ⊎ (u + side size ≡ v)
+-- the same, where the greater is asked
+pub near_back : (size u v : ℕ) → u < v → are_beside size v u ≡ true → (u + 1 ≡ v) ⊎ (u + grid_side size ≡ v)
 near_back size u v l h =
-    elim (or_cases ((v / side size == u / side size) && ((v + 1 == u) || (u + 1 == v))) ((v + side size == u) || (u + side size == v)) h) [
-      | inl e ↦ elim (or_cases (v + 1 == u) (u + 1 == v) (and_parts (v / side size == u / side size) ((v + 1 == u) || (u + 1 == v)) e).1) [
+    elim (or_cases ((v / grid_side size == u / grid_side size) && ((v + 1 == u) || (u + 1 == v))) ((v + grid_side size == u) || (u + grid_side size == v)) h) [
+      | inl e ↦ elim (or_cases (v + 1 == u) (u + 1 == v) (and_parts (v / grid_side size == u / grid_side size) ((v + 1 == u) || (u + 1 == v)) e).1) [
         | inl x ↦ absurd (omega (arith, l, eqb-true (v + 1) u x))
         | inr x ↦ inl (eqb-true (u + 1) v x)
       ]
-      | inr e ↦ elim (or_cases (v + side size == u) (u + side size == v) e) [
-        | inl x ↦ absurd (omega (arith, l, eqb-true (v + side size) u x))
-        | inr x ↦ inr (eqb-true (u + side size) v x)
+      | inr e ↦ elim (or_cases (v + grid_side size == u) (u + grid_side size == v) e) [
+        | inl x ↦ absurd (omega (arith, l, eqb-true (v + grid_side size) u x))
+        | inr x ↦ inr (eqb-true (u + grid_side size) v x)
       ]
     ]
 
+-- a code of a truth value is 0 or 1
 below_two : (b : Bool) → cond {A = ℕ} b 0 1 < 2
 below_two true = omega arith
 below_two false = omega arith
 
+-- truth values with the same code are the same
 same_code : (a b : Bool) → cond {A = ℕ} a 0 1 ≡ cond {A = ℕ} b 0 1 → a ≡ b
 same_code true true h = refl
 same_code true false h = absurd (omega (arith, h))
 same_code false true h = absurd (omega (arith, h))
 same_code false false h = refl
 
+-- a sum of n terms that are at most 2 is at most 2 * n
 sum_small : (n : ℕ) (f : ℕ → ℕ) → ((k : ℕ) → k < n → f k ≤ 2) → sum_below n f ≤ 2 * n
 sum_small zero f h = omega arith
 sum_small (suc n) f h = omega (arith, sum_small n f (λ k l. h k (omega (arith, l))), h n (omega arith))
 
+-- two numbers are below 2
 count_two : count_below 2 (λ _. true) ≡ 2
 unfolding count_below
 count_two = refl
 
 -- ---- columns
 
+-- the refusal of a node for a column that it has not
 missing_in : ℕ → Data → Option GraphFault
 missing_in i d = option_map (fault.Missing i) (first_some (
     refused_if (is_none (get (codes "pop") d)) column.Population
@@ -150,6 +155,7 @@ missing_in i d = option_map (fault.Missing i) (first_some (
     ∷ refused_if (is_none (get (codes "district") d)) column.District
     ∷ []))
 
+-- the refusal of a node for a number that is none
 bad_in : Document → ℕ → Data → Option GraphFault
 bad_in made i d = option_map (fault.BadNumber i) (first_some (
     refused_if (is_none (option_and_then (count_of made grid_columns) (get (codes "pop") d))) column.Population
@@ -168,7 +174,7 @@ module _ (size : ℕ) (key : List ℕ) (some : 1 ≤ size) (small : size ≤ 30)
       let same : v ≡ j = eqb-true v j (sym (whole_same v j) ∙ sym (ap₂ same_id (entry_id size key i found.0 li found.1) (id_at size key j lj)) ∙ found.2) in
       subst (λ (k : ℕ). are_beside size i k ≡ true) same (item_passes (units_of size) (are_beside size i) found.0 (place_at size key i found.0 li found.1)).1
 
-  near_adjacent : (u v : ℕ) → u < v → v < node_count grid_made → (adjacent (graph grid_made) u v && true) ≡ true → (u + 1 ≡ v) ⊎ (u + side size ≡ v)
+  near_adjacent : (u v : ℕ) → u < v → v < node_count grid_made → (adjacent (graph grid_made) u v && true) ≡ true → (u + 1 ≡ v) ⊎ (u + grid_side size ≡ v)
   near_adjacent u v l lv h =
       let lu : u < node_count grid_made = omega (arith, l, lv) in
       let row : has (filter_below (node_count grid_made) (joined grid_made u)) v ≡ true =

@@ -12,18 +12,18 @@ use Rattle.audit_model.specs.Below.{map_below}
 use Rattle.audit_model.specs.Graph.{Graph, IsGraph, adjacent, count_edges}
 use Rattle.audit_model.specs.Label.{label_cmp}
 use Rattle.audit_model.specs.Limits.{AreWithin}
-use Rattle.draw_definitions.specs.Grid.{grid, side, are_beside, first_votes_of}
+use Rattle.audit_statement.specs.Grid.{grid, grid_side, are_beside, first_votes_of}
 use Rattle.dual_graph.specs.Pairs.{Joins}
 use Rattle.dual_json.specs.Columns.{count_in, numbers_in}
 use Rattle.dual_json.specs.Districts.{AreDistricts}
-use Rattle.dual_json.specs.Places.{nth, label_in, AreLabels}
+use Rattle.dual_json.specs.Places.{nth, label_at_key, AreLabels}
 use Rattle.dual_json.specs.Stages.{AreRows}
 use Rattle.dual_json.proofs.Bridge.{parsed_is, within_is}
 use Rattle.dual_json.proofs.Joined.{graph_is}
-use Rattle.graph_definitions.specs.Reading.{Document, node_count, node, entries, entry, id_of, same_id, lists, joined, graph, reading}
-use Rattle.model_laws.proofs.Connected.{filter_below-has}
-use Rattle.model_laws.proofs.Below.{length-map_below, get_or-map_below, any_below_from}
-use Rattle.model_laws.proofs.Lists.{has_at}
+use Rattle.audit_statement.specs.Reading.{Document, node_count, node, entries, entry, id_of, same_id, lists, joined, graph, reading}
+use Rattle.audit_model.proofs.Connected.{filter_below-has}
+use Rattle.audit_model.proofs.Below.{length-map_below, get_or-map_below, any_below_from}
+use Rattle.audit_model.proofs.ListFacts.{has_at}
 use Rattle.grid_maker.specs.Columns.{grid_columns}
 use Rattle.grid_maker.specs.Pairs.{pairs_until}
 use Rattle.grid_maker.specs.Tree.{entry_tree, node_tree}
@@ -35,57 +35,64 @@ use Rattle.grid_maker.proofs.Paired.{IsNext, right_is, below_is, joins_next, nex
 
 -- ---- units beside each other
 
+-- that two numbers are equal does not hang on their order
 eq_turned : (a b : ℕ) → (a == b) ≡ true → (b == a) ≡ true
 eq_turned a b h = eq-eqb b a (sym (eqb-true a b h))
 
+-- that two units are beside each other does not hang on their order
 beside_turned : (size u v : ℕ) → are_beside size u v ≡ true → are_beside size v u ≡ true
-beside_turned size u v h = elim (or_cases ((u / side size == v / side size) && ((u + 1 == v) || (v + 1 == u))) ((u + side size == v) || (v + side size == u)) h) [
+beside_turned size u v h = elim (or_cases ((u / grid_side size == v / grid_side size) && ((u + 1 == v) || (v + 1 == u))) ((u + grid_side size == v) || (v + grid_side size == u)) h) [
   | inl e ↦
-      let both = and_parts (u / side size == v / side size) ((u + 1 == v) || (v + 1 == u)) e in
-      or_left ((v / side size == u / side size) && ((v + 1 == u) || (u + 1 == v))) ((v + side size == u) || (u + side size == v))
-      (and_from (v / side size == u / side size) ((v + 1 == u) || (u + 1 == v)) (eq_turned (u / side size) (v / side size) both.0) (turned (u + 1 == v) (v + 1 == u) both.1))
+      let both = and_parts (u / grid_side size == v / grid_side size) ((u + 1 == v) || (v + 1 == u)) e in
+      or_left ((v / grid_side size == u / grid_side size) && ((v + 1 == u) || (u + 1 == v))) ((v + grid_side size == u) || (u + grid_side size == v))
+      (and_from (v / grid_side size == u / grid_side size) ((v + 1 == u) || (u + 1 == v)) (eq_turned (u / grid_side size) (v / grid_side size) both.0) (turned (u + 1 == v) (v + 1 == u) both.1))
   | inr e ↦
-      or_right ((v / side size == u / side size) && ((v + 1 == u) || (u + 1 == v))) ((v + side size == u) || (u + side size == v))
-      (turned (u + side size == v) (v + side size == u) e)
+      or_right ((v / grid_side size == u / grid_side size) && ((v + 1 == u) || (u + 1 == v))) ((v + grid_side size == u) || (u + grid_side size == v))
+      (turned (u + grid_side size == v) (v + grid_side size == u) e)
 ]
   where
     turned : (a b : Bool) → (a || b) ≡ true → (b || a) ≡ true
     turned a b h = elim (or_cases a b h) [ inl e ↦ or_right b a e | inr e ↦ or_left b a e ]
 
-next_beside : (size u v : ℕ) → 2 ≤ side size → IsNext (side size) u v → are_beside size u v ≡ true
+-- the unit to the right and the one below are beside a unit
+next_beside : (size u v : ℕ) → 2 ≤ grid_side size → IsNext (grid_side size) u v → are_beside size u v ≡ true
 unfolding beside
 next_beside size u v wide next = elim next [
   | inl r ↦
-      let is = right_is (side size) u v r in
-      subst (λ (w : ℕ). are_beside size u w ≡ true) (sym is.1) (right_is_beside (side size) u wide ∙ is.0)
-  | inr b ↦ below_is_beside (side size) u v (sym (below_is (side size) u v b).1)
+      let is = right_is (grid_side size) u v r in
+      subst (λ (w : ℕ). are_beside size u w ≡ true) (sym is.1) (right_is_beside (grid_side size) u wide ∙ is.0)
+  | inr b ↦ below_is_beside (grid_side size) u v (sym (below_is (grid_side size) u v b).1)
 ]
 
-beside_next : (size u v : ℕ) → 2 ≤ side size → u < v → v < units_of size → are_beside size u v ≡ true → IsNext (side size) u v
+-- of two units beside each other, the greater is to the right of the other or below it
+beside_next : (size u v : ℕ) → 2 ≤ grid_side size → u < v → v < units_of size → are_beside size u v ≡ true → IsNext (grid_side size) u v
 unfolding beside
 beside_next size u v wide l inside h = elim (near size u v l h) [
   | inl e ↦
-      let flag : nat_lt (u % side size + 1) (side size) ≡ true =
-      sym (right_is_beside (side size) u wide) ∙ subst (λ (w : ℕ). are_beside size u w ≡ true) (sym e) h in
+      let flag : nat_lt (u % grid_side size + 1) (grid_side size) ≡ true =
+      sym (right_is_beside (grid_side size) u wide) ∙ subst (λ (w : ℕ). are_beside size u w ≡ true) (sym e) h in
       inl (ap (λ (b : Bool). cond {A = Option ℕ} b (Some (u + 1)) None) flag ∙ ap Some e)
   | inr e ↦
-      let flag : nat_lt (u + side size) (side size * side size) ≡ true = lt-ltb (u + side size) (side size * side size) (omega (arith, e, inside)) in
-      inr (ap (λ (b : Bool). cond {A = Option ℕ} b (Some (u + side size)) None) flag ∙ ap Some e)
+      let flag : nat_lt (u + grid_side size) (grid_side size * grid_side size) ≡ true = lt-ltb (u + grid_side size) (grid_side size * grid_side size) (omega (arith, e, inside)) in
+      inr (ap (λ (b : Bool). cond {A = Option ℕ} b (Some (u + grid_side size)) None) flag ∙ ap Some e)
 ]
 
 -- ---- lists
 
+-- functions that agree below a bound have the same list of values
 list_is : {A : Type 0} (n m : ℕ) (f g : ℕ → A) (d : A) → m ≡ n → ((i : ℕ) → i < n → f i ≡ g i) → map_below m f ≡ map_below n g
 list_is n m f g d e same = ext_get_or d (map_below m f) (map_below n g) (length-map_below m f ∙ e ∙ sym (length-map_below n g))
     (λ i l.
     let inside : i < m = omega (arith, l, length-map_below m f) in
     get_or-map_below m f i d inside ∙ same i (omega (arith, inside, e)) ∙ sym (get_or-map_below n g i d (omega (arith, inside, e))))
 
+-- the numbers at a key of nodes that are made one by one are what each was made with
 column_is : (key : List ℕ) (n : ℕ) (f : ℕ → Data) (g : ℕ → ℕ) → ((i : ℕ) → i < n → count_in key (f i) ≡ Some (g i)) → map_below n g ≡ numbers_in key (map_below n f)
 column_is key n f g same =
     sym (list_is n (length (map_below n f)) (λ i. unwrap_or (count_in key (get_or (map_below n f) i null)) 0) g 0 (length-map_below n f)
     (λ i l. ap (λ (d : Data). unwrap_or (count_in key d) 0) (get_or-map_below n f i null l) ∙ ap (λ (o : Option ℕ). unwrap_or o 0) (same i l)))
 
+-- a smaller whole number is the smaller label
 whole_less : (a b : ℕ) → a < b → label_cmp (Whole (pos a)) (Whole (pos b)) ≡ Less
 whole_less a b l = rw (lt-ltb a b l) refl
 
@@ -95,7 +102,7 @@ module _ (size : ℕ) (key : List ℕ) (some : 1 ≤ size) (small : size ≤ 30)
   abbrev made : Document
   made = grid_document size key
 
-  wide : 2 ≤ side size
+  wide : 2 ≤ grid_side size
   wide = omega (arith, some)
 
   -- a unit lists those beside it
@@ -108,9 +115,9 @@ module _ (size : ℕ) (key : List ℕ) (some : 1 ≤ size) (small : size ≤ 30)
       (ap₂ same_id (entry_id size key u at.0 lu place) (id_at size key v lv) ∙ whole_same (get_or (units_beside size u) at.0 0) v
       ∙ eq-eqb (get_or (units_beside size u) at.0 0) v at.2)
 
-  next_joined : (u v : ℕ) → u < node_count made → IsNext (side size) u v → (joined made u v ≡ true) × (joined made v u ≡ true)
+  next_joined : (u v : ℕ) → u < node_count made → IsNext (grid_side size) u v → (joined made u v ≡ true) × (joined made v u ≡ true)
   next_joined u v lu next =
-      let inside = next_inside (side size) u v (omega (arith, some)) (omega (arith, lu, count_is size key)) next in
+      let inside = next_inside (grid_side size) u v (omega (arith, some)) (omega (arith, lu, count_is size key)) next in
       let up = inside.0 in
       let few = inside.1 in
       let found : lists made u v ≡ true = beside_lists u v lu (omega (arith, few, count_is size key)) (next_beside size u v wide next) in (
@@ -128,24 +135,24 @@ module _ (size : ℕ) (key : List ℕ) (some : 1 ≤ size) (small : size ≤ 30)
         ],
       )
 
-  joined_joins : (u v : ℕ) → u < node_count made → v < node_count made → joined made u v ≡ true → Joins (pairs_until (side size) (units_of size)) u v
+  joined_joins : (u v : ℕ) → u < node_count made → v < node_count made → joined made u v ≡ true → Joins (pairs_until (grid_side size) (units_of size)) u v
   joined_joins u v lu lv h =
       let found = joined_beside u v lu lv h in
       let iu : u < units_of size = omega (arith, lu, count_is size key) in
       let iv : v < units_of size = omega (arith, lv, count_is size key) in
       elim (cases_lt u v) [
-        | inl up ↦ next_joins (side size) (units_of size) u v iu (beside_next size u v wide up iv found.1)
+        | inl up ↦ next_joins (grid_side size) (units_of size) u v iu (beside_next size u v wide up iv found.1)
         | inr not_up ↦ elim (cases_eq u v) [
           | inl e ↦ absurd (found.0 e)
-          | inr off ↦ next_joins_back (side size) (units_of size) u v iv (beside_next size v u wide (omega (arith, not_up, off)) iu (beside_turned size u v found.1))
+          | inr off ↦ next_joins_back (grid_side size) (units_of size) u v iv (beside_next size v u wide (omega (arith, not_up, off)) iu (beside_turned size u v found.1))
         ]
       ]
 
-  pub made_graph : (g : Graph) → IsGraph g → g.units ≡ units_of size → ((u v : ℕ) → (adjacent g u v ≡ true) ↔ Joins (pairs_until (side size) (units_of size)) u v)
+  pub made_graph : (g : Graph) → IsGraph g → g.units ≡ units_of size → ((u v : ℕ) → (adjacent g u v ≡ true) ↔ Joins (pairs_until (grid_side size) (units_of size)) u v)
       → graph made ≡ g
   made_graph g is units joins =
       sym (graph_is g (node_count made) (joined made) is (units ∙ sym (count_is size key))
-      (λ u v h. elim (joins_next (side size) (units_of size) u v ((joins u v).0 h)) [
+      (λ u v h. elim (joins_next (grid_side size) (units_of size) u v ((joins u v).0 h)) [
         | inl next ↦ let l = next.0 in (next_joined u v (omega (arith, l, count_is size key)) next.1).0
         | inr next ↦ let l = next.0 in (next_joined v u (omega (arith, l, count_is size key)) next.1).1
       ])
@@ -174,7 +181,7 @@ module _ (size : ℕ) (key : List ℕ) (some : 1 ≤ size) (small : size ≤ 30)
   labelled : AreLabels (codes "district") made.nodes label_list
   labelled = record {
     count = labels_long ∙ sym (count_is size key);
-    each = λ i l. ap (label_in (codes "district")) (node_at size key i l) ∙ ap Some (sym (label_at_unit i (omega (arith, l, count_is size key))));
+    each = λ i l. ap (label_at_key (codes "district")) (node_at size key i l) ∙ ap Some (sym (label_at_unit i (omega (arith, l, count_is size key))));
   }
 
   start_at : (i : ℕ) → i < units_of size → get_or (map_below (units_of size) (district_of size)) i 0 ≡ district_of size i

@@ -1,14 +1,8 @@
--- Searches that find nothing, and numbers that pass.
+-- Numbers that pass, and places of mapped lists.
 use Rattle.std.proofs.Common.{◌≡◌, ℕ, zero, suc, ◌<◌, Bool, true, List, [], ◌∷◌, map, length, get_or, Option, None, refl, arith}
 use Rattle.audit_model.specs.Below.{filter_below}
-use Rattle.audit_model.specs.First.{first_some_below}
-use Rattle.model_laws.proofs.Connected.{has-filter_below}
-use Rattle.model_laws.proofs.Options.{or_of_none}
-use Rattle.model_laws.proofs.Lists.{at_has}
-
-pub none_some_below : {A : Type 0} (n : ℕ) (f : ℕ → Option A) → ((k : ℕ) → k < n → f k ≡ None) → first_some_below n f ≡ None
-none_some_below zero f h = refl
-none_some_below (suc n) f h = or_of_none (first_some_below n f) (f n) (none_some_below n f (λ k l. h k (omega (arith, l)))) (h n (omega arith))
+use Rattle.audit_model.proofs.Connected.{has-filter_below}
+use Rattle.audit_model.proofs.ListFacts.{at_has}
 
 -- ---- items of lists
 
@@ -17,6 +11,7 @@ pub item_passes : (n : ℕ) (test : ℕ → Bool) (place : ℕ) → place < leng
     → (get_or (filter_below n test) place 0 < n) × (test (get_or (filter_below n test) place 0) ≡ true)
 item_passes n test place l = has-filter_below n test (get_or (filter_below n test) place 0) (at_has (filter_below n test) place l)
 
+-- at a place of a mapped list stands what the function makes of the item there
 pub get_or-map : {A : Type 0} (f : ℕ → A) (xs : List ℕ) (place : ℕ) (d : A) → place < length xs → get_or (map f xs) place d ≡ f (get_or xs place 0)
 get_or-map f [] place d l = absurd (omega (arith, l))
 get_or-map f (x ∷ xs) zero d l = refl

@@ -9,9 +9,9 @@ use Rattle.serde_json.specs.View.{items_of}
 use Rattle.audit_model.specs.Below.{map_below}
 use Rattle.dual_json.proofs.Listed.{elements-items_of}
 use Rattle.dual_json.proofs.Shapes.{not_refused}
-use Rattle.model_laws.proofs.Options.{or_of_none}
-use Rattle.draw_definitions.specs.Grid.{grid}
-use Rattle.graph_definitions.specs.Reading.{Document, elements, list_of, bad_part, document, parsed, refusal, accepted_or, of_root, of_json, reading}
+use Rattle.audit_model.proofs.Options.{or_of_none}
+use Rattle.audit_statement.specs.Grid.{grid}
+use Rattle.audit_statement.specs.Reading.{Document, elements, list_of, bad_part, document, parsed, refusal, accepted_or, of_root, of_json, reading}
 use Rattle.grid_maker.specs.Columns.{grid_columns}
 use Rattle.grid_maker.specs.Tree.{entry_tree, neighbours_tree, node_tree, grid_tree}
 use Rattle.grid_maker.proofs.Accepted.{units_beside, grid_document, accepted}
@@ -19,16 +19,19 @@ use Rattle.grid_maker.proofs.Compact.{map-map_below}
 use Rattle.grid_maker.proofs.Districts.{units_of}
 use Rattle.grid_maker.proofs.Readable.{grid_read, grid_utf8}
 
+-- what holds of each item of two lists holds of all together
 list_all-append : (p : Data → Bool) (ds es : List Data) → list_all p ds ≡ true → list_all p es ≡ true → list_all p (ds ++ es) ≡ true
 list_all-append p [] es h k = k
 list_all-append p (d ∷ ds) es h k =
     let parts = and_parts (p d) (list_all p ds) h in
     and_from (p d) (list_all p (ds ++ es)) parts.0 (list_all-append p ds es parts.1 k)
 
+-- what holds of each value below a bound holds of their list
 list_all_below : (p : Data → Bool) (n : ℕ) (f : ℕ → Data) → ((k : ℕ) → p (f k) ≡ true) → list_all p (map_below n f) ≡ true
 list_all_below p zero f h = refl
 list_all_below p (suc n) f h = list_all-append p (map_below n f) (f n ∷ []) (list_all_below p n f h) (and_from (p (f n)) true (h n) refl)
 
+-- the document of nodes and lists of neighbours that is not directed
 document_from : List Data → List (List Data) → Document
 document_from nodes adjacency = record { nodes = nodes; adjacency = adjacency; directed = false }
 

@@ -11,16 +11,20 @@ use Rattle.grid_maker.proofs.Neighbours.{last_ends}
 
 -- ---- the unit to the right and the unit below
 
+-- an option that hangs on a test gives its value where the test is true
 told : (b : Bool) (a v : ℕ) → cond {A = Option ℕ} b (Some a) None ≡ Some v → (b ≡ true) × (v ≡ a)
 told true a v e = (refl, sym (ap (λ (o : Option ℕ). unwrap_or o 0) e))
 told false a v e = cc e
 
+-- the unit to the right is the next, where this is not the last of its row
 pub right_is : (side u v : ℕ) → right side u ≡ Some v → (nat_lt (u % side + 1) side ≡ true) × (v ≡ u + 1)
 right_is side u v e = told (nat_lt (u % side + 1) side) (u + 1) v e
 
+-- the unit below is one width further, where it is in the grid
 pub below_is : (side u v : ℕ) → below side u ≡ Some v → (nat_lt (u + side) (side * side) ≡ true) × (v ≡ u + side)
 below_is side u v e = told (nat_lt (u + side) (side * side)) (u + side) v e
 
+-- the unit to the right is greater, and in the grid
 right_inside : (side u v : ℕ) → 0 < side → u < side * side → right side u ≡ Some v → (v ≡ u + 1) × (u < v) × (v < side * side)
 right_inside side u v some l e =
     let is = right_is side u v e in
@@ -30,6 +34,7 @@ right_inside side u v some l e =
       | inr off ↦ (next, omega (arith, next), omega (arith, next, l, off))
     ]
 
+-- the unit below is greater, and in the grid
 below_inside : (side u v : ℕ) → 0 < side → below side u ≡ Some v → (v ≡ u + side) × (u < v) × (v < side * side)
 below_inside side u v some e =
     let is = below_is side u v e in
@@ -44,6 +49,7 @@ record Rises (n : ℕ) (pairs : List (ℕ × ℕ)) (top : ℕ × ℕ) : Type 0 w
   are : ArePairs n pairs
   under : (k : ℕ) → k < length pairs → IsBefore (pair_at pairs k) top
 
+-- pairs that rise below one that is before another rise below this
 rises_on : (n : ℕ) (pairs : List (ℕ × ℕ)) (p q : ℕ × ℕ) → Rises n pairs p → IsBefore p q → Rises n pairs q
 rises_on n pairs p q r b = record { are = r.are; under = λ k l. before_trans (pair_at pairs k) p q (r.under k l) b }
 
@@ -55,6 +61,7 @@ each_push P pairs p old new k l = elim (cases_lt k (length pairs)) [
   | inr past ↦ subst P (sym (get_or_push pairs p (0, 0) k (omega (arith, past, l, length-append pairs (p ∷ []))))) new
 ]
 
+-- pairs that rise still rise with one behind them that is greater
 rises_push : (n : ℕ) (pairs : List (ℕ × ℕ)) (p q : ℕ × ℕ) → Rises n pairs p → p.0 < p.1 → p.1 < n → IsBefore p q → Rises n (pairs ++ p ∷ []) q
 rises_push n pairs p q r up inside b = record {
   are = record {
@@ -73,6 +80,7 @@ rises_push n pairs p q r up inside b = record {
   under = each_push (λ (x : ℕ × ℕ). IsBefore x q) pairs p (λ k l. before_trans (pair_at pairs k) p q (r.under k l) b) b;
 }
 
+-- pairs of a unit with one more neighbour still rise
 rises_extended : (n : ℕ) (pairs : List (ℕ × ℕ)) (u : ℕ) (o : Option ℕ) (w : ℕ) (q : ℕ × ℕ) → Rises n pairs (u, w)
     → ((v : ℕ) → o ≡ Some v → (v ≡ w) × (u < v) × (v < n)) → IsBefore (u, w) q → Rises n (extended pairs u o) q
 rises_extended n pairs u None w q r inside b = rises_on n pairs (u, w) q r b
@@ -83,6 +91,7 @@ rises_extended n pairs u (Some v) w q r inside b =
     let few = is.2 in
     subst (λ (x : ℕ). Rises n (pairs ++ (u, x) ∷ []) q) (sym e) (rises_push n pairs (u, w) q r (omega (arith, e, up)) (omega (arith, e, few)) b)
 
+-- the pairs of the units before one rise
 rises_until : (side i : ℕ) → 2 ≤ side → i ≤ side * side → Rises (side * side) (pairs_until side i) (i, i + 1)
 rises_until side zero wide few = record {
   are = record { small = λ k l. absurd (omega (arith, l)); below = λ k l. absurd (omega (arith, l)); rising = λ k l. absurd (omega (arith, l)) };
@@ -96,15 +105,18 @@ rises_until side (suc u) wide few =
     rises_extended (side * side) (extended (pairs_until side u) u (right side u)) u (below side u) (u + side) (suc u, suc u + 1) one
     (λ v e. below_inside side u v some e) (inl (omega arith))
 
+-- the pairs of the grid rise
 pub pairs_rise : (side : ℕ) → 2 ≤ side → ArePairs (side * side) (pairs_until side (side * side))
 pairs_rise side wide = (rises_until side (side * side) wide (omega arith)).are
 
 -- ---- how many they are
 
+-- one pair is added at most
 length-extended : (pairs : List (ℕ × ℕ)) (u : ℕ) (o : Option ℕ) → length (extended pairs u o) ≤ length pairs + 1
 length-extended pairs u None = omega arith
 length-extended pairs u (Some v) = omega (arith, length-append pairs ((u, v) ∷ []))
 
+-- there are at most two pairs for each unit
 pub length-until : (side i : ℕ) → length (pairs_until side i) ≤ 2 * i
 length-until side zero = omega arith
 length-until side (suc u) =
@@ -122,6 +134,7 @@ HasPair pairs u v = (k : ℕ) × (k < length pairs) × (pair_at pairs k ≡ (u, 
 abbrev pub IsNext : ℕ → ℕ → ℕ → Type 0
 IsNext side u v = (right side u ≡ Some v) ⊎ (below side u ≡ Some v)
 
+-- a pair that was there is there with one more
 had : (pairs : List (ℕ × ℕ)) (w : ℕ) (o : Option ℕ) (u v : ℕ) → HasPair pairs u v → HasPair (extended pairs w o) u v
 unfolding HasPair
 had pairs w None u v h = h
@@ -129,11 +142,13 @@ had pairs w (Some x) u v h =
     let l = h.1 in
     (h.0, omega (arith, l, length-append pairs ((w, x) ∷ [])), get_or_append_left pairs ((w, x) ∷ []) (0, 0) h.0 h.1 ∙ h.2)
 
+-- the pair that is added is there
 has_new : (pairs : List (ℕ × ℕ)) (u v : ℕ) (o : Option ℕ) → o ≡ Some v → HasPair (extended pairs u o) u v
 unfolding HasPair
 has_new pairs u v o e = subst (λ (p : Option ℕ). HasPair (extended pairs u p) u v) (sym e)
     (length pairs, omega (arith, length-append pairs ((u, v) ∷ [])), get_or_push pairs (u, v) (0, 0) (length pairs) refl)
 
+-- a pair is there that was there before or is the one that is added
 had_or_new : (pairs : List (ℕ × ℕ)) (w : ℕ) (o : Option ℕ) (u v : ℕ) → HasPair (extended pairs w o) u v → HasPair pairs u v ⊎ ((u ≡ w) × (o ≡ Some v))
 unfolding HasPair
 had_or_new pairs w None u v h = inl h
@@ -146,6 +161,7 @@ had_or_new pairs w (Some x) u v h =
           inr (sym (ap (λ (p : ℕ × ℕ). p.0) is), ap (λ (p : ℕ × ℕ). Some p.1) is)
     ]
 
+-- each pair is of a unit and its next to the right or below
 until_has : (side i u v : ℕ) → HasPair (pairs_until side i) u v → (u < i) × IsNext side u v
 unfolding HasPair
 until_has side zero u v h = let l = h.1 in absurd (omega (arith, l))
@@ -157,6 +173,7 @@ until_has side (suc w) u v h = elim (had_or_new (extended (pairs_until side w) w
   | inr new ↦ let e = new.0 in (omega (arith, e), inr (ap (below side) e ∙ new.1))
 ]
 
+-- each unit has a pair with its next to the right and below
 has_until : (side i u v : ℕ) → u < i → IsNext side u v → HasPair (pairs_until side i) u v
 has_until side zero u v l next = absurd (omega (arith, l))
 has_until side (suc w) u v l next = elim (cases_eq u w) [
@@ -176,10 +193,12 @@ joins_next side n u v j = elim j.2 [
   | inr e ↦ inr (until_has side n v u (j.0, j.1, e))
 ]
 
+-- a unit and its next are joined by a pair
 pub next_joins : (side n u v : ℕ) → u < n → IsNext side u v → Joins (pairs_until side n) u v
 unfolding HasPair
 next_joins side n u v l next = let h = has_until side n u v l next in (h.0, h.1, inl h.2)
 
+-- a next and its unit are joined by a pair
 pub next_joins_back : (side n u v : ℕ) → v < n → IsNext side v u → Joins (pairs_until side n) u v
 unfolding HasPair
 next_joins_back side n u v l next = let h = has_until side n v u l next in (h.0, h.1, inr h.2)

@@ -7,6 +7,7 @@ use Rattle.serde_json.specs.declared.value.Value.{Value}
 use Rattle.audit_model.specs.Below.{map_below}
 use Rattle.std.proofs.lemmas.List.{map-append}
 
+-- two lists of values are seen as what each is seen as
 map_view-append : (vs ws : List Value) → map view (vs ++ ws) ≡ map view vs ++ map view ws
 map_view-append [] ws = refl
 map_view-append (v ∷ vs) ws = ap (λ (ds : List Data). view v ∷ ds) (map_view-append vs ws)
@@ -20,6 +21,7 @@ pushed n f vs ws v is before at =
     ∙ ap (λ (d : Data). map_below n f ++ d ∷ []) at
     ∙ rw add-one refl
 
+-- where an option's value is added to a list, what is seen of it is added to what is seen
 one_more : (f : ℕ → Data) (before after : List Data) (numbers : List ℕ) (o p : Option ℕ) → before ≡ map f numbers → o ≡ p
     → after ≡ before ++ map f (option_to_list o) → after ≡ map f (numbers ++ option_to_list p)
 one_more f before after numbers o p is same more =

@@ -19,7 +19,7 @@ use Rattle.serde_json.proofs.Numbers.{number_of-decimal}
 use Rattle.serde_json.proofs.Texts.{print-outline}
 use Rattle.audit_model.specs.Below.{map_below, filter_below}
 use Rattle.std.proofs.lemmas.List.{map-append}
-use Rattle.draw_definitions.specs.Grid.{side, are_beside, first_votes_of, grid}
+use Rattle.audit_statement.specs.Grid.{grid_side, are_beside, first_votes_of, grid}
 use Rattle.grid_maker.specs.Tree.{entry_tree, neighbours_tree, node_tree, adjacency_tree, nodes_tree, root_tree, grid_tree}
 use Rattle.grid_maker.proofs.Districts.{units_of, few_units, district_below}
 use Rattle.grid_maker.proofs.Compact.{entry_text, node_text, root_text, grid_text}
@@ -39,15 +39,18 @@ abbrev AreReadable : ℕ → List Data → Type 0
 AreReadable deep [] = Unit {0}
 AreReadable deep (d ∷ ds) = IsReadable deep d × AreReadable deep ds
 
+-- two lists of readable items are readable together
 readable-append : (deep : ℕ) (ds es : List Data) → AreReadable deep ds → AreReadable deep es → AreReadable deep (ds ++ es)
 readable-append deep [] es h k = k
 readable-append deep (d ∷ ds) es h k = (h.0, readable-append deep ds es h.1 k)
 
+-- values that are readable below a bound are a readable list
 readable_below : (deep n : ℕ) (f : ℕ → Data) → ((k : ℕ) → k < n → IsReadable deep (f k)) → AreReadable deep (map_below n f)
 readable_below deep zero f h = tt
 readable_below deep (suc n) f h =
     readable-append deep (map_below n f) (f n ∷ []) (readable_below deep n f (λ k l. h k (omega (arith, l)))) (h n (omega arith), tt)
 
+-- values that are readable below a bound are readable where they are kept
 readable_filter : (deep n : ℕ) (test : ℕ → Bool) (f : ℕ → Data) → ((k : ℕ) → k < n → IsReadable deep (f k)) → AreReadable deep (map f (filter_below n test))
 readable_filter deep zero test f h = tt
 readable_filter deep (suc n) test f h =
@@ -60,31 +63,38 @@ readable_filter deep (suc n) test f h =
 
 -- ---- lists
 
+-- readable items have numbers that can be read
 items_numbers : (deep : ℕ) (ds : List Data) → AreReadable deep ds → tree.ItemsHaveNumbers (items_outline (items_of ds))
 items_numbers deep [] h = tt
 items_numbers deep (d ∷ ds) h = (h.0.numbers, items_numbers deep ds h.1)
 
+-- readable items are no deeper than they may be
 items_shallow : (deep : ℕ) (ds : List Data) → AreReadable deep ds → tree.items_depth (items_outline (items_of ds)) ≤ deep
 items_shallow deep [] h = omega arith
 items_shallow deep (d ∷ ds) h = omega (arith, h.0.shallow, items_shallow deep ds h.1)
 
+-- readable items are read as what they are
 items_back : (deep : ℕ) (ds : List Data) → AreReadable deep ds → of_items (items_outline (items_of ds)) ≡ Some (items_of ds)
 items_back deep [] h = refl
 items_back deep (d ∷ ds) h = rw (h.0.back, items_back deep ds h.1) refl
 
+-- a text behind a comma is text
 comma_utf8 : (xs : List ℕ) → IsUtf8 xs → IsUtf8 (44 ∷ xs)
 comma_utf8 xs u = IsUtf8-append (44 ∷ []) xs (IsUtf8-are_ascii (44 ∷ []) refl) u
 
+-- items behind the first are text
 later_utf8 : (deep : ℕ) (ds : List Data) → AreReadable deep ds → IsUtf8 (items_text true (items_of ds))
 later_utf8 deep [] h = IsUtf8-are_ascii (93 ∷ []) refl
 later_utf8 deep (d ∷ ds) h = comma_utf8 (compact_text d ++ items_text true (items_of ds)) (IsUtf8-append (compact_text d) (items_text true (items_of ds)) h.0.utf8 (later_utf8 deep ds h.1))
 
+-- a list of readable items is text
 list_utf8 : (deep : ℕ) (ds : List Data) → AreReadable deep ds → IsUtf8 (compact_text (array (items_of ds)))
 list_utf8 deep [] h = IsUtf8-are_ascii (91 ∷ 93 ∷ []) refl
 list_utf8 deep (d ∷ ds) h =
     IsUtf8-append (91 ∷ []) (compact_text d ++ items_text true (items_of ds)) (IsUtf8-are_ascii (91 ∷ []) refl)
     (IsUtf8-append (compact_text d) (items_text true (items_of ds)) h.0.utf8 (later_utf8 deep ds h.1))
 
+-- a list of readable items is readable, one level deeper
 list_readable : (deep : ℕ) (ds : List Data) → AreReadable deep ds → IsReadable (suc deep) (array (items_of ds))
 list_readable deep ds h = record {
   numbers = items_numbers deep ds h;
@@ -95,6 +105,7 @@ list_readable deep ds h = record {
 
 -- ---- the parts of the grid
 
+-- the digits of a number are text
 decimal_utf8 : (n : ℕ) → n < 2 ^ 64 → IsUtf8 (decimal n)
 decimal_utf8 n h = IsUtf8-from_ascii (decimal n) (IsAscii-decimal n h)
 
@@ -103,6 +114,7 @@ number_utf8 : (before after : List ℕ) (n : ℕ) → IsUtf8 before → n < 2 ^ 
 number_utf8 before after n u l a =
     IsUtf8-append (before ++ decimal n) after (IsUtf8-append before (decimal n) u (decimal_utf8 n l)) (IsUtf8-are_ascii after a)
 
+-- a neighbour can be read
 entry_readable : (unit : ℕ) → unit < 2 ^ 64 → IsReadable 1 (entry_tree unit)
 entry_readable unit l = record {
   numbers = (IsNumber-decimal unit l, tt);
@@ -115,6 +127,7 @@ entry_readable unit l = record {
 part_utf8 : (before after part : List ℕ) → IsUtf8 before → IsUtf8 part → are_ascii after ≡ true → IsUtf8 (before ++ part ++ after)
 part_utf8 before after part u v a = IsUtf8-append (before ++ part) after (IsUtf8-append before part u v) (IsUtf8-are_ascii after a)
 
+-- a root of readable nodes and lists can be read
 root_readable : (adjacency nodes : Data) → IsReadable 3 adjacency → IsReadable 2 nodes → IsReadable 4 (root_tree adjacency nodes)
 root_readable adjacency nodes a n = record {
   numbers = (a.numbers, (tt, (tt, (tt, (n.numbers, tt)))));
@@ -138,7 +151,7 @@ module _ (size : ℕ) (key : List ℕ) (some : 1 ≤ size) (few : size ≤ 30) w
   node_readable : (unit : ℕ) → unit < units_of size → IsReadable 1 (node_tree size key unit)
   node_readable unit l =
       let first : ℕ = first_votes_of key unit in
-      let district : ℕ = unit / side size / size in
+      let district : ℕ = unit / grid_side size / size in
       let a : first < 2 ^ 64 = omega arith in
       let b : 100 - first < 2 ^ 64 = omega arith in
       let d : district < 2 ^ 64 = omega (arith, district_below size unit some l) in

@@ -5,7 +5,7 @@ use Rattle.std.specs.List.{join_with_byte}
 use Rattle.std.proofs.lemmas.Fmt.{length-decimal-le}
 use Rattle.std.proofs.Math.Nat.{suc-mul}
 use Rattle.audit_model.specs.Below.{filter_below, map_below}
-use Rattle.draw_definitions.specs.Grid.{grid, side, are_beside, first_votes_of, bracketed, neighbours_json, node_json}
+use Rattle.audit_statement.specs.Grid.{grid, grid_side, are_beside, first_votes_of, bracketed, neighbours_json, node_json}
 use Rattle.grid_maker.specs.Beside.{above, left, right, below}
 use Rattle.grid_maker.proofs.Districts.{district_of, units_of, few_units, district_below}
 use Rattle.grid_maker.proofs.Finding.{item_passes}
@@ -18,15 +18,18 @@ abbrev total : List (List ℕ) → ℕ
 total [] = 0
 total (x ∷ xs) = length x + 1 + total xs
 
+-- joined parts are at most as long as all of them with a byte for each
 length-joined : (c : ℕ) (xs : List (List ℕ)) → length (join_with_byte c xs) ≤ total xs
 length-joined c [] = omega arith
 length-joined c (x ∷ []) = omega arith
 length-joined c (x ∷ y ∷ xs) = omega (arith, length-append x (c ∷ join_with_byte c (y ∷ xs)), length-joined c (y ∷ xs))
 
+-- the total of two lists of parts is the sum of both
 total-append : (xs ys : List (List ℕ)) → total (xs ++ ys) ≡ total xs + total ys
 total-append [] ys = omega arith
 total-append (x ∷ xs) ys = omega (arith, total-append xs ys)
 
+-- n parts that are at most w bytes with their comma have at most n * w
 total-map_below : (n : ℕ) (f : ℕ → List ℕ) (w : ℕ) → ((i : ℕ) → i < n → length (f i) + 1 ≤ w) → total (map_below n f) ≤ n * w
 total-map_below zero f w h = omega arith
 total-map_below (suc n) f w h =
@@ -34,6 +37,7 @@ total-map_below (suc n) f w h =
     let here = h n (omega arith) in
     omega (arith, total-append (map_below n f) (f n ∷ []), before, here, suc-mul n w)
 
+-- as many parts as items that are at most w bytes with their comma have at most w for each
 total-map : (xs : List ℕ) (f : ℕ → List ℕ) (w : ℕ) → ((i : ℕ) → i < length xs → length (f (get_or xs i 0)) + 1 ≤ w) → total (map f xs) ≤ length xs * w
 total-map [] f w h = omega arith
 total-map (x ∷ xs) f w h =
@@ -41,17 +45,21 @@ total-map (x ∷ xs) f w h =
     let after = total-map xs f w (λ i l. h (suc i) (omega (arith, l))) in
     omega (arith, here, after, suc-mul (length xs) w)
 
+-- parts in brackets are at most two bytes longer than their total
 length-bracketed : (parts : List (List ℕ)) → length (bracketed parts) ≤ total parts + 2
 length-bracketed parts = omega (arith, length-append (codes "[" ++ join_with_byte 44 parts) (codes "]"), length-joined 44 parts)
 
 -- ---- the parts of the text, of given parts
 
+-- a number below 100000 has at most five digits
 length-number : (n : ℕ) → n < 100000 → length (decimal n) ≤ 5
 length-number n l = length-decimal-le 5 n (omega arith) (omega (arith, l)) (omega (arith, l))
 
+-- a neighbour whose id has at most five digits is at most 12 bytes long
 entry_around : (v : List ℕ) → length v ≤ 5 → length (codes "{\"id\":" ++ v ++ codes "}") ≤ 12
 entry_around v short = omega (arith, short, length-append (codes "{\"id\":" ++ v) (codes "}"))
 
+-- a node whose numbers have at most five digits is at most 59 bytes long
 node_around : (a b d u : List ℕ) → length a ≤ 5 → length b ≤ 5 → length d ≤ 5 → length u ≤ 5
     → length (codes "{\"a\":" ++ a ++ codes ",\"b\":" ++ b ++ codes ",\"district\":" ++ d ++ codes ",\"id\":" ++ u ++ codes ",\"pop\":100}") ≤ 59
 node_around a b d u la lb ld lu = omega (
@@ -69,6 +77,7 @@ node_around a b d u la lb ld lu = omega (
   length-append (codes "{\"a\":" ++ a ++ codes ",\"b\":" ++ b ++ codes ",\"district\":" ++ d ++ codes ",\"id\":" ++ u) (codes ",\"pop\":100}"),
 )
 
+-- a grid whose parts are short is within the limit of a text
 grid_around : (l n : List ℕ) → length l ≤ 4950002 → length n ≤ 5400002
     → length (codes "{\"adjacency\":" ++ l ++ codes ",\"directed\":false,\"graph\":[],\"multigraph\":false,\"nodes\":" ++ n ++ codes "}") ≤ 67108864
 grid_around l n ll ln = omega (
@@ -82,10 +91,12 @@ grid_around l n ll ln = omega (
 
 -- ---- the grid
 
+-- an option has at most one item
 at_most_one : (o : Option ℕ) → length (option_to_list o) ≤ 1
 at_most_one None = omega arith
 at_most_one (Some v) = omega arith
 
+-- four lists of at most one item have at most four
 at_most_four : (a b c d : List ℕ) → length a ≤ 1 → length b ≤ 1 → length c ≤ 1 → length d ≤ 1 → length (a ++ b ++ c ++ d) ≤ 4
 at_most_four a b c d la lb lc ld = omega (arith, la, lb, lc, ld, length-append a b, length-append (a ++ b) c, length-append (a ++ b ++ c) d)
 
@@ -93,8 +104,8 @@ module _ (size : ℕ) (some : 1 ≤ size) (small : size ≤ 30) where
   few_beside : (u : ℕ) → u < units_of size → length (filter_below (units_of size) (are_beside size u)) ≤ 4
   few_beside u l =
       subst (λ (xs : List ℕ). length xs ≤ 4) (sym (four_beside size u some l))
-      (at_most_four (option_to_list (above (side size) u)) (option_to_list (left (side size) u)) (option_to_list (right (side size) u)) (option_to_list (below (side size) u))
-      (at_most_one (above (side size) u)) (at_most_one (left (side size) u)) (at_most_one (right (side size) u)) (at_most_one (below (side size) u)))
+      (at_most_four (option_to_list (above (grid_side size) u)) (option_to_list (left (grid_side size) u)) (option_to_list (right (grid_side size) u)) (option_to_list (below (grid_side size) u))
+      (at_most_one (above (grid_side size) u)) (at_most_one (left (grid_side size) u)) (at_most_one (right (grid_side size) u)) (at_most_one (below (grid_side size) u)))
 
   entry_short : (u i : ℕ) → i < length (filter_below (units_of size) (are_beside size u))
       → length (codes "{\"id\":" ++ decimal (get_or (filter_below (units_of size) (are_beside size u)) i 0) ++ codes "}") + 1 ≤ 13

@@ -2,20 +2,21 @@
 
 ghost use Rattle.std.specs.Prelude.{◌≡◌, ◌+◌, ◌*◌, ◌<◌, ◌≤◌, ◌^◌, ◌++◌, map, option_to_list, IfOk, OnOk};
 ghost use Rattle.serde_json.specs.View.{view};
-ghost use Rattle.draw_definitions.specs.Grid.{side};
+ghost use Rattle.audit_statement.specs.Grid.{grid_side};
 ghost use Rattle.grid_maker.specs.Beside.{above as unit_above, left as unit_left, right as unit_right, below as unit_below};
 ghost use Rattle.grid_maker.specs.Tree.{entry_tree, neighbours_tree, adjacency_tree};
 
+use crate::square::Square;
 use audit_model::memory::Memory;
 use serde_json::{Value, json};
 use std::alloc::Global;
 
 /// The unit to the right, in the same row.
-pub(crate) fn right(side: u32, unit: u32) -> Option<u32>
-    requires side { (1 ≤ side) × (side ≤ 300) }
-    requires unit { unit < side * side }
-    ensures { result ≡ unit_right side unit }
+pub(crate) fn right(square: Square, unit: u32) -> Option<u32>
+    requires { unit < grid_side square.size * grid_side square.size }
+    ensures { result ≡ unit_right (grid_side square.size) unit }
 {
+    let side = 10 * square.size;
     if unit % side + 1 < side {
         Some(unit + 1)
     } else {
@@ -24,11 +25,11 @@ pub(crate) fn right(side: u32, unit: u32) -> Option<u32>
 }
 
 /// The unit below.
-pub(crate) fn below(side: u32, unit: u32) -> Option<u32>
-    requires side { (1 ≤ side) × (side ≤ 300) }
-    requires unit { unit < side * side }
-    ensures { result ≡ unit_below side unit }
+pub(crate) fn below(square: Square, unit: u32) -> Option<u32>
+    requires { unit < grid_side square.size * grid_side square.size }
+    ensures { result ≡ unit_below (grid_side square.size) unit }
 {
+    let side = 10 * square.size;
     let other = unit + side;
     if other < side * side {
         Some(other)
@@ -38,14 +39,13 @@ pub(crate) fn below(side: u32, unit: u32) -> Option<u32>
 }
 
 /// The lists of all units.
-pub fn adjacency_of(alloc: Global, size: u32) -> Result<Value, Memory>
-    requires { (1 ≤ size) × (size ≤ 30) }
-    ensures { IfOk result (λ value. view value ≡ adjacency_tree size) }
+pub fn adjacency_of(alloc: Global, square: Square) -> Result<Value, Memory>
+    ensures { IfOk result (λ value. view value ≡ adjacency_tree square.size) }
 {
-    let side = 10 * size;
+    let side = 10 * square.size;
     let mut list = Vec::new(alloc);
     for unit in 0..side * side {
-        list.push(neighbours_of(alloc, size, unit)?)?;
+        list.push(neighbours_of(alloc, square, unit)?)?;
     }
     Ok(Value::Array(list))
 }
@@ -58,10 +58,10 @@ fn above(side: u32, unit: u32) -> Option<u32>
 }
 
 /// The unit to the left, in the same row.
-fn left(side: u32, unit: u32) -> Option<u32>
-    requires { 1 ≤ side }
-    ensures { result ≡ unit_left side unit }
+fn left(square: Square, unit: u32) -> Option<u32>
+    ensures { result ≡ unit_left (grid_side square.size) unit }
 {
+    let side = 10 * square.size;
     if unit % side > 0 {
         Some(unit - 1)
     } else {
@@ -80,16 +80,14 @@ fn push_entry(alloc: Global, list: &mut Vec<Value>, neighbour: Option<u32>) -> R
 }
 
 /// The neighbours of a unit, in rising order.
-fn neighbours_of(alloc: Global, size: u32, unit: u32) -> Result<Value, Memory>
-    requires size { (1 ≤ size) × (size ≤ 30) }
-    requires unit { unit < side size * side size }
-    ensures { IfOk result (λ value. view value ≡ neighbours_tree size unit) }
+fn neighbours_of(alloc: Global, square: Square, unit: u32) -> Result<Value, Memory>
+    requires { unit < grid_side square.size * grid_side square.size }
+    ensures { IfOk result (λ value. view value ≡ neighbours_tree square.size unit) }
 {
-    let side = 10 * size;
     let mut list = Vec::new(alloc);
-    push_entry(alloc, &mut list, above(side, unit))?;
-    push_entry(alloc, &mut list, left(side, unit))?;
-    push_entry(alloc, &mut list, right(side, unit))?;
-    push_entry(alloc, &mut list, below(side, unit))?;
+    push_entry(alloc, &mut list, above(10 * square.size, unit))?;
+    push_entry(alloc, &mut list, left(square, unit))?;
+    push_entry(alloc, &mut list, right(square, unit))?;
+    push_entry(alloc, &mut list, below(square, unit))?;
     Ok(Value::Array(list))
 }

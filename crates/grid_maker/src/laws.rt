@@ -1,8 +1,8 @@
 //! Laws of the grid, each the contract of a function that does nothing.
 
 ghost use Rattle.std.specs.Prelude.{ℕ, ◌≤◌, List, length, IsOk};
-ghost use Rattle.draw_definitions.specs.Grid.{grid};
-ghost use Rattle.graph_definitions.specs.Reading.{reading};
+ghost use Rattle.audit_statement.specs.Grid.{grid};
+ghost use Rattle.audit_statement.specs.Reading.{reading};
 ghost use Rattle.grid_maker.specs.Columns.{grid_columns};
 
 /// The grid of each size and key is read without a refusal.

@@ -4,16 +4,18 @@
 ghost use Rattle.std.specs.Prelude.{◌≡◌, ◌≤◌, false, IfOk};
 ghost use Rattle.serde_json.specs.View.{view};
 ghost use Rattle.serde_json.specs.Written.{compact_text, has_float};
-ghost use Rattle.draw_definitions.specs.Grid.{grid};
-ghost use Rattle.grid_maker.specs.Tree.{root_tree, grid_tree};
+ghost use Rattle.audit_statement.specs.Grid.{grid};
+ghost use Rattle.grid_maker.specs.Tree.{root_tree};
 
 mod adjacency;
 pub mod laws;
 pub mod made;
 mod nodes;
+mod square;
 
 use crate::adjacency::adjacency_of;
 use crate::nodes::nodes_of;
+use crate::square::Square;
 use audit_model::buffers::Bytes;
 use audit_model::memory::Memory;
 pub use laws::grids_are_short;
@@ -26,8 +28,9 @@ pub fn make(alloc: Global, size: u32, key: [u8; 32]) -> Result<Bytes, Memory>
     requires { (1 ≤ size) × (size ≤ 30) }
     ensures { IfOk result (λ bytes. bytes.items ≡ grid size key) }
 {
-    let adjacency = adjacency_of(alloc, size)?;
-    let nodes = nodes_of(alloc, size, key)?;
+    let square = Square { size };
+    let adjacency = adjacency_of(alloc, square)?;
+    let nodes = nodes_of(alloc, square, key)?;
     let root = root_of(alloc, adjacency, nodes)?;
     written(alloc, &root)
 }

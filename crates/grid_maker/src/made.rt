@@ -4,14 +4,15 @@ ghost use Rattle.std.specs.Prelude.{◌≡◌, ◌-◌, ◌*◌, ◌/◌, ◌≤
 ghost use Rattle.audit_model.specs.declared.setting.Label.TheVariants.{Whole};
 ghost use Rattle.audit_model.specs.Below.{map_below};
 ghost use Rattle.audit_model.specs.Limits.{AreWithin};
-ghost use Rattle.draw_definitions.specs.Grid.{grid, side, first_votes_of};
+ghost use Rattle.audit_statement.specs.Grid.{grid, grid_side, first_votes_of};
 ghost use Rattle.dual_graph.specs.Read.{parsed_of};
-ghost use Rattle.graph_definitions.specs.Reading.{reading};
+ghost use Rattle.audit_statement.specs.Reading.{reading};
 ghost use Rattle.grid_maker.specs.Columns.{grid_columns};
 ghost use Rattle.grid_maker.specs.Pairs.{extended, pairs_until};
 
 use crate::adjacency::{below, right};
 use crate::nodes::VOTES_STREAM;
+use crate::square::Square;
 use audit_model::lists::{LabelList, NumList, UnitList};
 use audit_model::memory::Memory;
 use audit_model::outcome::Counts;
@@ -27,11 +28,12 @@ pub fn read_made(alloc: Global, size: u32, key: [u8; 32]) -> Result<Parsed, Memo
     ensures read { IfOk result (λ p. reading (grid size key) grid_columns ≡ Ok (parsed_of p)) }
     ensures within { IfOk result (λ p. AreWithin p.graph p.counts p.start (length p.labels)) }
 {
+    let square = Square { size };
     let side = 10 * size;
-    let pairs = pairs_of(alloc, size)?;
+    let pairs = pairs_of(alloc, square)?;
     let graph = Graph::from_pairs(alloc, side * side, &pairs)?;
-    let counts = counts_of(alloc, size, key)?;
-    let start = start_of(alloc, size)?;
+    let counts = counts_of(alloc, square, key)?;
+    let start = start_of(alloc, square)?;
     let labels = ten_labels(alloc)?;
     Ok(Parsed {
         graph,
@@ -52,31 +54,29 @@ fn push_pair(pairs: &mut Vec<(u32, u32)>, unit: u32, other: Option<u32>) -> Resu
 }
 
 /// The pairs of units beside each other, in rising order.
-fn pairs_of(alloc: Global, size: u32) -> Result<Vec<(u32, u32)>, Memory>
-    requires { (1 ≤ size) × (size ≤ 30) }
-    ensures { IfOk result (λ pairs. pairs.items ≡ pairs_until (side size) (side size * side size)) }
+fn pairs_of(alloc: Global, square: Square) -> Result<Vec<(u32, u32)>, Memory>
+    ensures { IfOk result (λ pairs. pairs.items ≡ pairs_until (grid_side square.size) (grid_side square.size * grid_side square.size)) }
 {
-    let side = 10 * size;
+    let side = 10 * square.size;
     let mut pairs = Vec::new(alloc);
     for unit in 0..side * side {
-        push_pair(&mut pairs, unit, right(side, unit))?;
-        push_pair(&mut pairs, unit, below(side, unit))?;
+        push_pair(&mut pairs, unit, right(square, unit))?;
+        push_pair(&mut pairs, unit, below(square, unit))?;
     }
     Ok(pairs)
 }
 
 /// The population and the votes of each unit.
-fn counts_of(alloc: Global, size: u32, key: [u8; 32]) -> Result<Counts, Memory>
-    requires { (1 ≤ size) × (size ≤ 30) }
-    ensures population { IfOk result (λ counts. counts.population ≡ map_below (side size * side size) (λ u. 100)) }
-    ensures first { IfOk result (λ counts. counts.first ≡ map_below (side size * side size) (first_votes_of key)) }
-    ensures second { IfOk result (λ counts. counts.second ≡ map_below (side size * side size) (λ u. 100 - first_votes_of key u)) }
+fn counts_of(alloc: Global, square: Square, key: [u8; 32]) -> Result<Counts, Memory>
+    ensures population { IfOk result (λ counts. counts.population ≡ map_below (grid_side square.size * grid_side square.size) (λ u. 100)) }
+    ensures first { IfOk result (λ counts. counts.first ≡ map_below (grid_side square.size * grid_side square.size) (first_votes_of key)) }
+    ensures second { IfOk result (λ counts. counts.second ≡ map_below (grid_side square.size * grid_side square.size) (λ u. 100 - first_votes_of key u)) }
 {
     let mut draws = Draws::new(key, VOTES_STREAM);
     let mut population = NumList::new(alloc);
     let mut first = NumList::new(alloc);
     let mut second = NumList::new(alloc);
-    let side = 10 * size;
+    let side = 10 * square.size;
     for _unit in 0..side * side {
         let votes = draws.next() % 101;
         population.push(100)?;
@@ -91,14 +91,13 @@ fn counts_of(alloc: Global, size: u32, key: [u8; 32]) -> Result<Counts, Memory>
 }
 
 /// The district of each unit.
-fn start_of(alloc: Global, size: u32) -> Result<UnitList, Memory>
-    requires { (1 ≤ size) × (size ≤ 30) }
-    ensures { IfOk result (λ start. start ≡ map_below (side size * side size) (λ u. u / side size / size)) }
+fn start_of(alloc: Global, square: Square) -> Result<UnitList, Memory>
+    ensures { IfOk result (λ start. start ≡ map_below (grid_side square.size * grid_side square.size) (λ u. u / grid_side square.size / square.size)) }
 {
     let mut start = UnitList::new(alloc);
-    let side = 10 * size;
+    let side = 10 * square.size;
     for unit in 0..side * side {
-        start.push(unit / side / size)?;
+        start.push(unit / side / square.size)?;
     }
     Ok(start)
 }

@@ -1,3 +1,7 @@
+mod Adding
+mod Same
+mod Tables
+mod Unions
 pub mod AddingUp
 pub mod ById
 pub mod Indexed

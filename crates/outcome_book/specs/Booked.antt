@@ -1,8 +1,9 @@
 -- A book of outcomes: what was posted, and its outcomes by rising id.
-use Rattle.std.specs.Prelude.{◌≡◌, ℕ, zero, suc, ◌<◌, ◌≤◌, ◌==◌, List, [], ◌++◌, length, sum, Option, option_to_list, find}
+use Rattle.std.specs.Prelude.{◌≡◌, ℕ, ◌<◌, ◌≤◌, IsFalse, List, length, sum}
 use Rattle.std.specs.List.{All, AllPairs}
 use Rattle.audit_model.specs.declared.outcome.Outcome.{Outcome}
 use Rattle.audit_model.specs.Limits.{most_trajectories}
+use Rattle.audit_model.specs.Run.{has_id}
 
 -- how many ids there are, and the outcomes in the order of posting
 pub record Booked : Type 0 where
@@ -24,11 +25,9 @@ pub record IsBook (b : Booked) : Type 0 where
   pub below : All (λ o. o.id < b.total) b.outcomes
   pub few : length b.outcomes ≤ b.total
 
--- the outcome with the id, if there is one
-abbrev pub with_id : List Outcome → ℕ → Option Outcome
-with_id outcomes id = find (λ o. o.id == id) outcomes
-
--- the outcomes of the ids below the bound, by rising id
-abbrev pub by_id : ℕ → List Outcome → List Outcome
-by_id zero outcomes = []
-by_id (suc n) outcomes = by_id n outcomes ++ option_to_list (with_id outcomes n)
+-- what may be appended to a book: outcomes with different ids below its total that it lacks, each with few visits
+pub record IsShareFor (b : Booked) (share : List Outcome) : Type 0 where
+  pub below : All (λ o. o.id < b.total) share
+  pub absent : All (λ o. IsFalse (has_id b.outcomes o.id)) share
+  pub apart : AreApart share
+  pub bins : All HasFewVisits share

@@ -4,10 +4,10 @@ ghost use Rattle.std.specs.Prelude.{◌≡◌, ℕ, ◌+◌, ◌<◌, Bool, IsTr
 ghost use Rattle.audit_model.specs.Below.{filter_below};
 ghost use Rattle.audit_model.specs.Job.{Job};
 ghost use Rattle.audit_model.specs.JobOf.{IsJob};
-ghost use Rattle.audit_model.specs.Run.{fits, has_id};
+ghost use Rattle.audit_model.specs.Run.{fits, has_id, by_id};
 ghost use Rattle.audit_model.specs.Trajectory.{Draws, outcome, whole};
 ghost use Rattle.audit_model.specs.declared.outcome.Outcome.{Outcome};
-ghost use Rattle.outcome_book.specs.Booked.{HasFewVisits, by_id};
+ghost use Rattle.outcome_book.specs.Booked.{HasFewVisits};
 
 /// Where each outcome is what a function gives of its id, the outcomes by rising id are what it gives of the ids, in rising order.
 pub fn outcomes_by_id_are_mapped()

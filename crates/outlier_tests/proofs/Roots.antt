@@ -3,7 +3,7 @@ use Rattle.std.proofs.Common.{◌≡◌, ◌∙◌, ℕ, suc, ◌+◌, ◌-◌, 
 use Rattle.std.proofs.lemmas.Bool.{le-leb, lt-ltb}
 use Rattle.std.proofs.lemmas.Nat.{mul-le, div-add-mod', mod_below}
 use Rattle.audit_model.specs.Test.{bound}
-use Rattle.model_laws.proofs.Least.{bound_from}
+use Rattle.audit_model.proofs.Least.{bound_from}
 
 -- the root of the last quotient that is too small is one less than the bound
 pub bound_from_root : (count all part r : ℕ) → 1 ≤ count → count ≤ all

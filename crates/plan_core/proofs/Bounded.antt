@@ -10,12 +10,13 @@ use Rattle.audit_model.specs.First.{first_below}
 use Rattle.audit_model.specs.Job.{Job}
 use Rattle.audit_model.specs.JobOf.{is_unbalanced, out_of_bounds, bounds_fault}
 use Rattle.audit_model.specs.Plan.{in_district, district_sum, is_balanced, least_population, greatest_population}
-use Rattle.model_laws.proofs.Accepted.{balanced_between}
-use Rattle.model_laws.proofs.Legal.{balanced_passes, passes_balanced}
-use Rattle.model_laws.proofs.Bools.{same_bool}
-use Rattle.model_laws.proofs.First.{first_below_same, first_below_some}
+use Rattle.audit_model.proofs.Accepted.{balanced_between}
+use Rattle.audit_model.proofs.Legal.{balanced_passes, passes_balanced}
+use Rattle.audit_model.proofs.Bools.{same_bool}
+use Rattle.audit_model.proofs.First.{first_below_same, first_below_some}
 use Rattle.plan_core.specs.Outside.{is_outside, outside, first_outside}
 
+-- the sum of 100,000 numbers of at most 10 ^ 9 is at most 10 ^ 14
 pub sum_small : (xs : List ℕ) → length xs ≤ 100000 → All (λ n. n ≤ 1000000000) xs → sum xs ≤ 100000000000000
 sum_small xs few small = omega (arith, sum_by-le (λ x. x) 1000000000 xs small)
 
@@ -44,6 +45,7 @@ sums_more plan column sums unit d width below so_far =
           omega (arith, there, so_far, none, last)
     ]
 
+-- after one unit more each district has at most 10 ^ 9 for each unit
 pub sums_stay_small : (column sums : List ℕ) (unit p d : ℕ) → length sums ≡ 200 → p < 200 → get_or column unit 0 ≤ 1000000000
     → ((e : ℕ) → e < 200 → get_or sums e 0 ≤ 1000000000 * unit) → d < 200
     → get_or (set sums p (get_or sums p 0 + get_or column unit 0)) d 0 ≤ 1000000000 * (unit + 1)
@@ -61,6 +63,7 @@ sums_stay_small column sums unit p d width below small so_far l = elim (cases_eq
 
 -- ---- the bounds
 
+-- a number below the least or above the greatest is outside the bounds
 pub outside_passes : (low high p : ℕ) → (p < low) ⊎ ((low ≤ p) × (high < p)) → not (nat_le low p && nat_le p high) ≡ true
 outside_passes low high p h = not_from_false (nat_le low p && nat_le p high) (false_from_ne_true (nat_le low p && nat_le p high) (λ both. elim h [
   | inl l ↦ omega (arith, l, leb-true low p (and_parts (nat_le low p) (nat_le p high) both).0)
@@ -77,6 +80,7 @@ balanced_is job p above =
     let parts = and_parts (nat_le (least_population job) p) (nat_le p (greatest_population job)) h in
     balanced_passes job p (between.1 (leb-true (least_population job) p parts.0, leb-true p (greatest_population job) parts.1)))
 
+-- functions that agree on what is there give the same
 option_map_same : {A : Type 0} (o : Option ℕ) (f g : ℕ → A) → ((k : ℕ) → o ≡ Some k → f k ≡ g k) → option_map f o ≡ option_map g o
 option_map_same None f g each = refl
 option_map_same (Some k) f g each = ap (λ x. Some x) (each k refl)

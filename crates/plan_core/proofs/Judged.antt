@@ -16,18 +16,19 @@ use Rattle.audit_model.specs.Meets.{split_of}
 use Rattle.audit_model.specs.Parsed.{Parsed}
 use Rattle.audit_model.specs.Path.{is_connected}
 use Rattle.audit_model.specs.Plan.{IsLegal, is_legal, in_district, district_sum, cut_edges, is_balanced}
-use Rattle.model_laws.proofs.Accepted.{accepted_is_legal}
-use Rattle.model_laws.proofs.Connected.{connected_passes, passes_connected}
-use Rattle.model_laws.proofs.Legal.{balanced_passes, passes_balanced, legal_passes, passes_legal}
-use Rattle.model_laws.proofs.Meeting.{splits_from}
-use Rattle.model_laws.proofs.Bools.{same_bool}
-use Rattle.model_laws.proofs.Options.{none_or, option_or_none, cond_some_none, some_is_not_none, option_map_none}
-use Rattle.model_laws.proofs.First.{first_below_here, first_below_none, none_first_below}
+use Rattle.audit_model.proofs.Accepted.{accepted_is_legal}
+use Rattle.audit_model.proofs.Connected.{connected_passes, passes_connected}
+use Rattle.audit_model.proofs.Legal.{balanced_passes, passes_balanced, legal_passes, passes_legal}
+use Rattle.audit_model.proofs.Meeting.{splits_from}
+use Rattle.audit_model.proofs.Bools.{same_bool}
+use Rattle.audit_model.proofs.Options.{none_or, option_or_none, cond_some_none, some_is_not_none, option_map_none}
+use Rattle.audit_model.proofs.First.{first_below_here, first_below_none, none_first_below}
 use Rattle.plan_core.specs.Input.{with_start, shape_fault}
-use Rattle.plain_search.specs.Parting.{least_in, parted_in, parting_of}
+use Rattle.dual_graph.specs.Parting.{least_in, parted_in, parting_of}
 
 -- ---- the refusal of a parted district
 
+-- two units that part a set: it is not connected, the one is its least unit and the other the least that is parted from it
 pub parting_parts : (g : Graph) (inside : ℕ → Bool) (one other : ℕ) → Some (one, other) ≡ parting_of g inside
     → (is_connected g inside ≡ false) × (one ≡ least_in g inside) × (other ≡ parted_in g inside)
 parting_parts g inside one other h = elim (cases_Bool (is_connected g inside)) [
@@ -38,6 +39,7 @@ parting_parts g inside one other h = elim (cases_Bool (is_connected g inside)) [
       (off, ap (λ (o : Option (ℕ × ℕ)). (unwrap_or o (0, 0)).0) same, ap (λ (o : Option (ℕ × ℕ)). (unwrap_or o (0, 0)).1) same)
 ]
 
+-- the least district that is parted is the one that the refusal names
 pub parted_is_fault : (job : Job) (d one other : ℕ) → first_below d (is_parted job) ≡ None → d < job.districts
     → Some (one, other) ≡ parting_of job.graph (in_district job.start d) → Some (Disconnected d one other) ≡ path_fault job
 parted_is_fault job d one other none l h =
@@ -50,18 +52,22 @@ parted_is_fault job d one other none l h =
 
 -- ---- a plan that is not refused is legal
 
+-- what passes the test for nothing is nothing
 none_passes : {A : Type 0} (o : Option A) → is_none o ≡ true → o ≡ None
 none_passes None h = refl
 none_passes (Some x) h = cc
 
+-- nothing passes the test for nothing
 passes_none : {A : Type 0} (o : Option A) → o ≡ None → is_none o ≡ true
 passes_none None h = refl
 passes_none (Some x) h = cc
 
+-- a test that is the opposite of another has that one for its opposite
 turned : (b r : Bool) → b ≡ not r → r ≡ not b
 turned b true h = sym (ap not h)
 turned b false h = sym (ap not h)
 
+-- a first test that holds leaves the second
 and_second : (a b : Bool) → a ≡ true → (a && b) ≡ b
 and_second true b h = refl
 and_second false b h = cc
@@ -73,6 +79,7 @@ shape_parts job h =
     let second = option_or_none (cut_fault job) (first_some (split_fault job ∷ [])) first.1 in
     (first.0, second.0, (option_or_none (split_fault job) (first_some []) second.1).0)
 
+-- where none of the three refusals comes, none of the shape comes
 parts_shape : (job : Job) → path_fault job ≡ None → cut_fault job ≡ None → split_fault job ≡ None → shape_fault job ≡ None
 parts_shape job paths cut splits =
     none_or (path_fault job) (first_some (cut_fault job ∷ split_fault job ∷ [])) paths
@@ -165,6 +172,7 @@ module _ (job : Job) (plan : List ℕ) (complete : length plan ≡ job.graph.uni
 
 -- ---- the job
 
+-- what is within the limits and has no refusal is a job
 pub accepted_is_job : (job : Job) → IsWithinLimits job → plan_fault job ≡ None → IsJob job
 accepted_is_job job within none =
     let parts = accepted_is_legal job within.input.complete within.input.in_range none in
@@ -179,6 +187,7 @@ module _ (parsed : Parsed) (setting : Setting) (regions : List ℕ) where
   unfolding job_of
   job_of_some fault some = ap (job_or (job_from parsed setting regions)) some
 
+-- an input with another start plan is the job that starts from it
 pub restarted_is : (inside job : Job) (start : List ℕ) (labels : List Label) (districts : ℕ) (input : Job)
     → input ≡ record inside { start = start; districts = districts } → districts ≡ length labels → inside ≡ job → input ≡ restarted job start labels
 restarted_is inside job start labels districts input is count same =

@@ -5,11 +5,12 @@ use Rattle.std.specs.List.{slice_index_or}
 use Rattle.std.proofs.lemmas.Bool.{and_parts, cases_eq, eq-eqb, ne_eqb, eqb-true}
 use Rattle.audit_model.specs.Below.{above_all, any_below, count_below}
 use Rattle.audit_model.specs.Meets.{lies_in, split_of}
-use Rattle.model_laws.proofs.Below.{count_below_into, any_below_some}
-use Rattle.model_laws.proofs.Meeting.{below_above_all}
+use Rattle.audit_model.proofs.Below.{count_below_into, any_below_some}
+use Rattle.audit_model.proofs.Meeting.{below_above_all}
 
 -- ---- one more than the greatest number
 
+-- where all numbers are below a bound, one more than the greatest is at most the bound
 above_all_most : (xs : List ℕ) (n : ℕ) → ((u : ℕ) → u < length xs → slice_index xs u < n) → above_all xs ≤ n
 above_all_most [] n each = omega arith
 above_all_most (x ∷ xs) n each =
@@ -17,20 +18,24 @@ above_all_most (x ∷ xs) n each =
 
 -- ---- the districts of a region
 
+-- a test beside one that holds is that test
 or_true : (a b : Bool) → b ≡ true → (a || b && true) ≡ (a || b)
 or_true a true h = refl
 or_true a false h = cc
 
+-- or what fails adds nothing
 or_no : (a b : Bool) → (a || b && false) ≡ a
 or_no true true = refl
 or_no true false = refl
 or_no false true = refl
 or_no false false = refl
 
+-- and what holds takes nothing away
 and_on : (b : Bool) → (b && true) ≡ b
 and_on true = refl
 and_on false = refl
 
+-- after one unit more a district is marked where some unit so far of the region is in it
 pub seen_more : (regions plan : List ℕ) (region unit d : ℕ) (seen : List Bool) → slice_index plan unit < length seen
     → slice_index_or seen (slice_index plan unit) false ≡ any_below unit (λ u. (slice_index regions u == region) && (slice_index plan u == slice_index plan unit))
     → slice_index_or seen d false ≡ any_below unit (λ u. (slice_index regions u == region) && (slice_index plan u == d))
@@ -58,12 +63,14 @@ seen_more regions plan region unit d seen below own so_far =
 
 -- ---- how many districts those are
 
+-- a district in which a region lies is that of some unit
 in_range : (regions plan : List ℕ) (region d : ℕ) → length regions ≤ length plan → lies_in regions plan region d ≡ true
     → (u : ℕ) × (u < length plan) × (slice_index plan u ≡ d)
 in_range regions plan region d shorter h =
     let some = any_below_some (length regions) (λ u. (slice_index regions u == region) && (slice_index plan u == d)) h in
     (some.0, omega (arith, some.1, shorter), eqb-true (slice_index plan some.0) d (and_parts (slice_index regions some.0 == region) (slice_index plan some.0 == d) some.2).1)
 
+-- counted over all districts that may be, a region lies in as many as it is split among
 pub split_is : (regions plan : List ℕ) (region : ℕ) → length regions ≤ length plan → ((u : ℕ) → u < length plan → slice_index plan u < 200)
     → count_below 200 (lies_in regions plan region) ≡ split_of regions plan region
 split_is regions plan region shorter below =

@@ -4,10 +4,11 @@ use Rattle.audit_model.specs.Job.{Job}
 use Rattle.audit_model.specs.JobOf.{IsJob}
 use Rattle.audit_model.specs.Plan.{district_sum}
 use Rattle.audit_model.specs.Score.{sums_of}
-use Rattle.model_laws.proofs.Below.{length-map_below}
-use Rattle.model_laws.proofs.Columns.{column_small}
+use Rattle.audit_model.proofs.Below.{length-map_below}
+use Rattle.audit_model.proofs.ColumnFacts.{column_small}
 use Rattle.scores.specs.Votes.{AreVotes}
 
+-- the sums of a job's start plan are votes of which scores can be computed
 pub start_votes : (job : Job) → IsJob job → let sums = sums_of job.graph job.counts job.districts job.start in AreVotes sums.first sums.second
 start_votes job sound =
     let input = sound.within.input in

@@ -70,7 +70,7 @@ fn asks_gap(asks: &[Ask]) -> bool
 }
 
 impl Input {
-    ghost use Rattle.plan_core.specs.Input.{with_start, shape_fault};
+    ghost use Rattle.plan_core.specs.Input.{GivesDistricts, with_start, shape_fault};
 
     /// What was read of a graph, with a setting and the regions of the units.
     pub fn new(parsed: Parsed, setting: Setting, regions: UnitList) -> Input
@@ -99,8 +99,7 @@ impl Input {
 
     /// The same with another plan to start from, of so many districts.
     pub fn restarted(&self, start: UnitList, districts: u32) -> Result<Input, Memory>
-        requires complete { length start ≡ self.now.graph.units }
-        requires in_range { (u : ℕ) → u < self.now.graph.units → slice_index start u < districts }
+        requires start { GivesDistricts self.now.graph.units districts start }
         requires two { 2 ≤ districts }
         requires few { districts ≤ most_districts }
         ensures { IfOk result (λ input. input ≡ record self.now { start = start; districts = districts }) }
@@ -193,8 +192,7 @@ impl Input {
 
     /// The refusal of a plan whose populations are not all within the bounds.
     pub fn bounds_fault(&self, plan: &[u32]) -> Option<PlanFault>
-        requires complete { length plan.now ≡ self.now.graph.units }
-        requires in_range { (u : ℕ) → u < self.now.graph.units → slice_index plan.now u < self.now.districts }
+        requires { GivesDistricts self.now.graph.units self.now.districts plan.now }
         ensures { result ≡ bounds_fault (with_start self.now plan.now) }
     {
         let (low, high) = self.limits();
@@ -238,8 +236,7 @@ impl Input {
 
     /// The refusal of a plan that splits a region among too many districts.
     fn split_fault(&self, plan: &[u32]) -> Option<PlanFault>
-        requires complete { length plan.now ≡ self.now.graph.units }
-        requires in_range { (u : ℕ) → u < self.now.graph.units → slice_index plan.now u < self.now.districts }
+        requires { GivesDistricts self.now.graph.units self.now.districts plan.now }
         ensures { result ≡ split_fault (with_start self.now plan.now) }
     {
         first_split(self.rules.regions.as_slice(), plan, self.rules.max_split)
@@ -247,8 +244,7 @@ impl Input {
 
     /// The first refusal of a plan but for votes and populations.
     pub fn shape_fault(&self, plan: &[u32], marks: &mut Marks) -> Option<PlanFault>
-        requires complete { length plan.now ≡ self.now.graph.units }
-        requires in_range { (u : ℕ) → u < self.now.graph.units → slice_index plan.now u < self.now.districts }
+        requires plan { GivesDistricts self.now.graph.units self.now.districts plan.now }
         requires marks { marks.old.units ≡ self.now.graph.units }
         ensures units { marks.new.units ≡ self.now.graph.units }
         ensures fault { result ≡ shape_fault (with_start self.now plan.now) }

@@ -2,11 +2,11 @@
 
 ghost use Rattle.std.specs.Prelude.{◌≡◌, length};
 ghost use Rattle.audit_model.specs.Plan.{in_district};
-ghost use Rattle.plain_search.specs.Parting.{parting_of};
+ghost use Rattle.dual_graph.specs.Parting.{parting_of};
 
 use dual_graph::graph::Graph;
+use dual_graph::inside::Inside;
 use dual_graph::marks::Marks;
-use plain_search::inside::Inside;
 
 /// The units of a district.
 #[derive(Drop)]
@@ -37,5 +37,5 @@ pub fn parting(graph: &Graph, plan: &[u32], district: u32, marks: &mut Marks) ->
     ensures units { marks.new.units ≡ graph.now.units }
     ensures parting { result ≡ parting_of graph.now (in_district plan.now district) }
 {
-    plain_search::search::parting(graph, &District { plan, district }, marks)
+    dual_graph::search::parting(graph, &District { plan, district }, marks)
 }

@@ -3,7 +3,7 @@
 ghost use Rattle.std.specs.Prelude.{◌≡◌, ◌<◌, ◌≤◌, ℕ, false, length, slice_index, All};
 ghost use Rattle.std.specs.List.{slice_index_or};
 ghost use Rattle.audit_model.specs.Below.{above_all, count_below};
-ghost use Rattle.audit_model.specs.Meets.{lies_in, split_of};
+ghost use Rattle.audit_model.specs.Meets.{split_of};
 ghost use Rattle.plan_core.specs.Splits.{first_split};
 ghost use Rattle.audit_model.specs.Limits.{most_regions, most_districts};
 
@@ -21,20 +21,6 @@ fn above_all(numbers: &[u32]) -> u32
         }
     }
     above
-}
-
-/// Whether some unit of a region is in each district.
-fn districts_of(regions: &[u32], plan: &[u32], region: u32) -> [bool; 200]
-    requires lengths { length regions.now ≤ length plan.now }
-    requires districts { (u : ℕ) → u < length plan.now → slice_index plan.now u < most_districts }
-    ensures { (d : ℕ) → d < most_districts → slice_index_or result d false ≡ lies_in regions.now plan.now region d }
-{
-    let mut seen = [false; 200];
-    for unit in 0..regions.len() {
-        let district = plan[unit] as usize;
-        seen[district] = seen[district] || regions[unit] == region;
-    }
-    seen
 }
 
 /// How many of the places are marked.
@@ -56,7 +42,12 @@ fn split_of(regions: &[u32], plan: &[u32], region: u32) -> u32
     requires districts { (u : ℕ) → u < length plan.now → slice_index plan.now u < most_districts }
     ensures { result ≡ split_of regions.now plan.now region }
 {
-    count_marked(&districts_of(regions, plan, region))
+    let mut seen = [false; 200];
+    for unit in 0..regions.len() {
+        let district = plan[unit] as usize;
+        seen[district] = seen[district] || regions[unit] == region;
+    }
+    count_marked(&seen)
 }
 
 /// The refusal of the least region that is split among too many districts.

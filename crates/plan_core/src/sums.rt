@@ -2,7 +2,7 @@
 
 ghost use Rattle.std.specs.Prelude.{◌≡◌, ◌^◌, ◌<◌, ◌≤◌, ℕ, length, slice_index, All, sum};
 ghost use Rattle.audit_model.specs.Plan.{district_sum};
-ghost use Rattle.audit_model.specs.Limits.{most_units, most_people, most_districts};
+ghost use Rattle.audit_model.specs.Limits.{IsColumn, most_units, most_people, most_districts};
 
 /// The sum of a column over all units.
 pub fn sum_of(column: &[u64]) -> u64
@@ -19,9 +19,8 @@ pub fn sum_of(column: &[u64]) -> u64
 
 /// The sum of a column over the units of each district.
 pub fn district_sums(column: &[u64], plan: &[u32]) -> [u64; 200]
-    requires width { length column.now ≡ length plan.now }
+    requires column { IsColumn (length plan.now) column.now }
     requires few { length plan.now ≤ most_units }
-    requires small { All (λ n. n ≤ most_people) column.now }
     requires districts { (u : ℕ) → u < length plan.now → slice_index plan.now u < most_districts }
     ensures { (d : ℕ) → d < most_districts → slice_index result d ≡ district_sum column.now plan.now d }
 {

@@ -5,39 +5,33 @@ ghost use Rattle.std.specs.List.{slice_get};
 ghost use Rattle.audit_model.specs.Job.{Job};
 ghost use Rattle.audit_model.specs.JobOf.{IsJob};
 ghost use Rattle.audit_model.specs.Score.{sums_of};
-ghost use Rattle.audit_model.specs.Trajectory.{plan_value};
 ghost use Rattle.plan_core.specs.Valued.{value_of, start_values};
 ghost use Rattle.audit_model.specs.Limits.{most_districts};
 
 use crate::input::Input;
 use audit_model::memory::Memory;
 use audit_model::outcome::SumsView;
-use audit_model::setting::{Ask, Score};
+use audit_model::setting::Ask;
 use district_sums::sums::Sums;
 use scores::value;
 use std::alloc::Global;
 
-/// The numerator of a score of the start plan, from its sums.
-fn scored(input: &Input, sums: &SumsView, score: Score, room: &mut [u64]) -> i64
-    requires sound { IsJob input.now }
-    requires sums { sums.now ≡ sums_of input.now.graph input.now.counts input.now.districts input.now.start }
-    requires room { length room.old ≡ most_districts }
-    ensures { result ≡ plan_value input.now input.now.start score }
-{
-    value(score, sums, room)
-}
-
 /// The value of the ask at a place, and zero past the asks.
 #[tactic(auto, unfolding(crate::specs::Valued::value_of))]
-fn value_at(input: &Input, sums: &SumsView, asks: &[Ask], place: usize, room: &mut [u64]) -> i64
+fn value_at(
+    input: &Input,
+    sums: &SumsView,
+    asks: &[Ask],
+    place: usize,
+    room: &mut [u64; 200],
+) -> i64
     requires sound { IsJob input.now }
     requires sums { sums.now ≡ sums_of input.now.graph input.now.counts input.now.districts input.now.start }
-    requires room { length room.old ≡ most_districts }
     ensures { result ≡ value_of input.now (slice_get asks.now place) }
 {
     match asks.get(place) {
         None => 0,
-        Some(ask) => scored(input, sums, ask.score, room),
+        Some(ask) => value(ask.score, sums, room),
     }
 }
 

@@ -11,9 +11,9 @@ use Rattle.audit_model.specs.declared.plans.Assigned.{Assigned}
 use Rattle.audit_model.specs.declared.setting.Label.{Label}
 use Rattle.audit_model.specs.Below.{map_below}
 use Rattle.audit_model.specs.First.{first_below}
-use Rattle.model_laws.proofs.Below.{map_below_same, map_below_more}
-use Rattle.model_laws.proofs.First.{first_below_more, first_below_found}
-use Rattle.table_definitions.specs.Table.{accepted_or, assigned, district_in, entry_of, is_miscounted, label_count, of_rows, plan_count, refused_count, table_reading}
+use Rattle.audit_model.proofs.Below.{map_below_same, map_below_more}
+use Rattle.audit_model.proofs.First.{first_below_more, first_below_here}
+use Rattle.audit_statement.specs.Table.{plans_or, assigned, district_in, entry_of, is_miscounted, label_count, of_rows, plan_count, refused_count, table_reading}
 use Rattle.plan_csv.specs.Fit.{IsPlanOf}
 use Rattle.plan_csv.specs.Stages.{assigned_by, refused, AreRecords}
 
@@ -33,7 +33,7 @@ module _ (header : List (List ℕ)) (rows : List (List (List ℕ))) (records : L
   }
 
   pub refused_here : j < length header - 1 → is_miscounted [] [] rows j ≡ true → refused_count [] header rows ≡ Some (fault.DistrictCount j (label_count [] [] rows j))
-  refused_here l bad = ap (option_map (λ p. fault.DistrictCount p (label_count [] [] rows p))) (first_below_found (length header - 1) j (is_miscounted [] [] rows) l before.none bad)
+  refused_here l bad = ap (option_map (λ p. fault.DistrictCount p (label_count [] [] rows p))) (first_below_here (length header - 1) j (is_miscounted [] [] rows) before.none l bad)
 
   pub listed_all : (plans : ℕ) → j ≡ plans → plans ≡ length header - 1 → (refused_count [] header rows ≡ None) × (list ≡ map_below plans (assigned_by header rows records))
   listed_all plans all count = (
@@ -63,7 +63,7 @@ module _ (bytes : List ℕ) (ids : List Label) where
 
   refused_rows : (rows : List (List (List ℕ))) (f : TableFault) → refused ids rows ≡ Some f → of_rows ids rows ≡ Err f
   refused_rows [] f e = ap Err (cc e)
-  refused_rows (header ∷ entries) f e = ap (accepted_or (map_below (plan_count ids header entries) (assigned ids header entries))) e
+  refused_rows (header ∷ entries) f e = ap (plans_or (map_below (plan_count ids header entries) (assigned ids header entries))) e
 
   pub read_refused : (f : TableFault) → refused ids (records default_config (strip_bom bytes)) ≡ Some f → table_reading bytes ids ≡ Err f
   read_refused f e = by_rows (records default_config (strip_bom bytes)) refl ∙ refused_rows (records default_config (strip_bom bytes)) f e
@@ -72,7 +72,7 @@ module _ (bytes : List ℕ) (ids : List Label) where
       → refused ids (records default_config (strip_bom bytes)) ≡ None → plans ≡ map_below (plan_count ids header entries) (assigned ids header entries) → table_reading bytes ids ≡ Ok plans
   read_accepted header entries plans split none is =
       by_rows (header ∷ entries) (sym split)
-      ∙ ap (accepted_or (map_below (plan_count ids header entries) (assigned ids header entries))) (subst (λ (rs : List (List (List ℕ))). refused ids rs ≡ None) (sym split) none)
+      ∙ ap (plans_or (map_below (plan_count ids header entries) (assigned ids header entries))) (subst (λ (rs : List (List (List ℕ))). refused ids rs ≡ None) (sym split) none)
       ∙ ap Ok (sym is)
 
   pub nothing_read : (texts : List Row) → map fields_of texts ≡ records default_config (strip_bom bytes) → length texts < 1 → table_reading bytes ids ≡ Err fault.NoHeader

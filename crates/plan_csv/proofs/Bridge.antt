@@ -9,12 +9,12 @@ use Rattle.audit_model.specs.Below.{any_below}
 use Rattle.audit_model.specs.First.{first_below}
 use Rattle.audit_model.specs.declared.fault.TableFault.TheVariants as fault
 use Rattle.audit_model.specs.declared.setting.Label.{Label}
-use Rattle.model_laws.proofs.Bools.{same_bool}
-use Rattle.model_laws.proofs.Options.{option_map_none}
-use Rattle.model_laws.proofs.Below.{any_below_from}
-use Rattle.model_laws.proofs.First.{first_below_same, any_below_same, none_passes, first_passes, none_or_any}
-use Rattle.table_definitions.specs.Table.{unit_text, names_unit, is_shared, shared_id, repeated_unit, missing_unit, entry_of}
-use Rattle.plan_csv.specs.Stages.{AreUnits, ArePlaces, AreThere, is_of, repeated, unnamed}
+use Rattle.audit_model.proofs.Bools.{same_bool}
+use Rattle.audit_model.proofs.Options.{option_map_none}
+use Rattle.audit_model.proofs.Below.{any_below_from}
+use Rattle.audit_model.proofs.First.{first_below_same, any_below_same, first_below_none, first_passes, none_or_any}
+use Rattle.audit_statement.specs.Table.{unit_text, names_unit, is_shared, shared_id, repeated_unit, missing_unit, entry_of}
+use Rattle.plan_csv.specs.Stages.{AreUnits, AreFirstRecords, AreThere, is_of, unit_repeated, unnamed}
 
 abbrev id_at : List (List (List ℕ)) → ℕ → List ℕ
 id_at rows e = slice_index_or (slice_index_or rows e []) 0 []
@@ -45,7 +45,7 @@ module _ (ids : List Label) (rows : List (List (List ℕ))) (units : List ℕ) (
       let unit = eqb-true (slice_index_or units b 0) (slice_index_or units e 0) same in
       (bytes_decides (id_at rows b) (id_at rows e)).1 (text_at b lb ∙ ap (unit_text ids [] []) unit ∙ sym (text_at e le)))
 
-  pub repeated_is : repeated_unit ids [] rows ≡ repeated units
+  pub repeated_is : repeated_unit ids [] rows ≡ unit_repeated units
   repeated_is =
       ap (option_map (λ e. fault.Twice (suc e)))
       (first_below_same (length rows) (λ e. any_below e (λ b. bytes_eq (id_at rows b) (id_at rows e))) (λ e. any_below e (is_of units (slice_index_or units e 0)))
@@ -66,7 +66,7 @@ module _ (ids : List Label) (rows : List (List (List ℕ))) (units : List ℕ) (
           | inr from ↦
               let above : slice_index_or units e 0 < u = omega (arith, from, ne) in
               both_ways (any_below u (is_shared ids [] [] u))
-              (none_passes (length ids) (λ other. any_below other (is_shared ids [] [] other)) (option_map_none _ _ apart) u lu)
+              (first_below_none (length ids) (λ other. any_below other (is_shared ids [] [] other)) u (option_map_none _ _ apart) lu)
               (any_below_from u (is_shared ids [] [] u) (slice_index_or units e 0) above
               ((bytes_decides (unit_text ids [] [] (slice_index_or units e 0)) (unit_text ids [] [] u)).1 (sym (text_at e le) ∙ text)))
         ]))
@@ -74,7 +74,7 @@ module _ (ids : List Label) (rows : List (List (List ℕ))) (units : List ℕ) (
         let unit = eqb-true (slice_index_or units e 0) u same in
         (bytes_decides (id_at rows e) (unit_text ids [] [] u)).1 (text_at e le ∙ ap (unit_text ids [] []) unit))
 
-    module _ (places : List (Option ℕ)) (placed : ArePlaces units (length ids) places) where
+    module _ (places : List (Option ℕ)) (placed : AreFirstRecords units (length ids) places) where
       first_of : (u : ℕ) → u < length ids → first_below (length rows) (λ e. names_unit ids [] rows e u) ≡ slice_index_or places u None
       first_of u lu =
           first_below_same (length rows) (λ e. names_unit ids [] rows e u) (is_of units u) (λ e le. names_own e u le lu)

@@ -4,8 +4,8 @@ use Rattle.std.specs.Option.{option_map, option_or}
 use Rattle.std.proofs.lemmas.Bool.{cond-false, le-ltb}
 use Rattle.audit_model.specs.First.{first_below, first_some}
 use Rattle.audit_model.specs.declared.fault.TableFault.TheVariants as fault
-use Rattle.model_laws.proofs.First.{first_below_found}
-use Rattle.table_definitions.specs.Table.{is_plan_name, plan_name, lacks_header, too_many, bad_name}
+use Rattle.audit_model.proofs.First.{first_below_here}
+use Rattle.audit_statement.specs.Table.{is_plan_name, plan_name, lacks_header, too_many, bad_name}
 
 module _ (header : List (List ℕ)) where
   pub enough : 2 ≤ length header → lacks_header [] header [] ≡ None
@@ -19,7 +19,7 @@ module _ (header : List (List ℕ)) where
       → first_some (lacks_header [] header [] ∷ too_many [] header [] ∷ bad_name [] header [] ∷ []) ≡ Some (fault.BadName plan)
   bad_here plan two most under none bad =
       let found : bad_name [] header [] ≡ Some (fault.BadName plan) =
-      ap (option_map fault.BadName) (first_below_found (length header - 1) plan (λ p. not (is_plan_name (plan_name [] header [] p))) under none (ap not bad)) in
+      ap (option_map fault.BadName) (first_below_here (length header - 1) plan (λ p. not (is_plan_name (plan_name [] header [] p))) none under (ap not bad)) in
       ap (λ o. option_or o (option_or (too_many [] header []) (option_or (bad_name [] header []) None))) (enough two)
       ∙ ap (λ o. option_or o (option_or (bad_name [] header []) None)) (few most)
       ∙ ap (λ o. option_or o None) found

@@ -12,9 +12,9 @@ use Rattle.audit_model.specs.Below.{any_below}
 use Rattle.audit_model.specs.First.{first_below}
 use Rattle.audit_model.specs.declared.fault.TableFault.TheVariants as fault
 use Rattle.audit_model.specs.declared.setting.Label.{Label}
-use Rattle.model_laws.proofs.First.{first_below_same, first_below_more, first_below_found, any_from_none, any_from_some}
-use Rattle.table_definitions.specs.Table.{unit_text, is_shared, shared_id}
-use Rattle.plan_csv.specs.Stages.{IsIndex}
+use Rattle.audit_model.proofs.First.{first_below_same, first_below_more, first_below_here, any_from_none, any_from_some}
+use Rattle.audit_statement.specs.Table.{unit_text, is_shared, shared_id}
+use Rattle.plan_csv.specs.Stages.{IsUnitIndex}
 
 module _ {K : Type 0} (text : K → List ℕ) where
   -- whether a key's text is q
@@ -74,7 +74,7 @@ module _ {K : Type 0} (text : K → List ℕ) where
     shared_here one l found =
         let here : first_below j (is_shared ids [] [] j) ≡ Some one = shared_by ∙ found in
         ap (option_map (λ other. fault.SharedId (unwrap_or (first_below other (is_shared ids [] [] other)) 0) other))
-        (first_below_found (length ids) j (λ other. any_below other (is_shared ids [] [] other)) l before.none (any_from_some j (is_shared ids [] [] j) one here))
+        (first_below_here (length ids) j (λ other. any_below other (is_shared ids [] [] other)) before.none l (any_from_some j (is_shared ids [] [] j) one here))
         ∙ ap (λ o. Some (fault.SharedId (unwrap_or o 0) j)) here
 
     module _ (key : K) (key_is : text key ≡ q) (absent : lookup (is_text q) entries ≡ None) where
@@ -107,7 +107,7 @@ module _ {K : Type 0} (text : K → List ℕ) where
             none = first_below_more j (λ other. any_below other (is_shared ids [] [] other)) before.none (any_from_none j (is_shared ids [] [] j) (shared_by ∙ absent));
           }
 
-  pub indexed_all : (ids : List Label) (j : ℕ) (entries : List (K × ℕ)) → j ≡ length ids → IsIndexed ids j entries → (shared_id ids [] [] ≡ None) × IsIndex text ids entries
+  pub indexed_all : (ids : List Label) (j : ℕ) (entries : List (K × ℕ)) → j ≡ length ids → IsIndexed ids j entries → (shared_id ids [] [] ≡ None) × IsUnitIndex text ids entries
   indexed_all ids j entries all is = (
     ap (option_map (λ other. fault.SharedId (unwrap_or (first_below other (is_shared ids [] [] other)) 0) other))
         (subst (λ (m : ℕ). first_below m (λ other. any_below other (is_shared ids [] [] other)) ≡ None) all is.none),

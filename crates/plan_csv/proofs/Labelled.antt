@@ -12,9 +12,9 @@ use Rattle.audit_model.specs.declared.setting.Label.TheVariants.{Word}
 use Rattle.audit_model.specs.Below.{count_below, map_below}
 use Rattle.audit_model.specs.First.{first_below}
 use Rattle.audit_model.specs.Label.{same_label, label_before}
-use Rattle.model_laws.proofs.Below.{count_below_same, length-map_below, get_or-map_below, map_below_same}
-use Rattle.model_laws.proofs.First.{any_below_same, none_passes, first_passes}
-use Rattle.model_laws.proofs.Labels.{same_equal, equal_same}
+use Rattle.audit_model.proofs.Below.{count_below_same, length-map_below, get_or-map_below, map_below_same}
+use Rattle.audit_model.proofs.First.{any_below_same, first_below_none, first_passes}
+use Rattle.audit_model.proofs.Labels.{same_equal, equal_same}
 use Rattle.dual_json.specs.Districts.{AreDifferent, AreDistricts, is_new}
 use Rattle.dual_json.specs.Names.{label_from}
 use Rattle.dual_json.specs.Places.{nth, labels_from}
@@ -22,9 +22,9 @@ use Rattle.dual_json.specs.declared.names.Name.{Name}
 use Rattle.dual_json.proofs.Counted.{label_count_is, district_is, labels_are}
 use Rattle.dual_json.proofs.Named.{nth_get, nth-push_same, nth-push_other}
 use Rattle.dual_json.proofs.Started.{started_all}
-use Rattle.table_definitions.specs.Table.{plan_name, is_new_label, label_count, label_in, label_of_district, district_in}
+use Rattle.audit_statement.specs.Table.{plan_name, is_new_label, label_count, label_in, label_of_district, district_in}
 use Rattle.plan_csv.specs.Fit.{IsPlanOf}
-use Rattle.plan_csv.specs.Stages.{assigned_by, AreLabels, IsAssigned}
+use Rattle.plan_csv.specs.Stages.{assigned_by, AreLabelsOf, IsAssigned}
 
 -- ---- names of the first records
 
@@ -32,6 +32,7 @@ pub record AreNamed (rows : List (List (List ℕ))) (plan j : ℕ) (names : List
   pub count : length names ≡ j
   pub each : (e : ℕ) → e < j → nth (labels_from names) e ≡ label_in [] [] rows plan e
 
+-- one record more, whose label is added
 pub named_more : (rows : List (List (List ℕ))) (plan j : ℕ) (names new : List Name) (name : Name) → AreNamed rows plan j names → new ≡ names ++ name ∷ []
     → label_from name ≡ label_in [] [] rows plan j → AreNamed rows plan (j + 1) new
 named_more rows plan j names new name before made is = record {
@@ -46,7 +47,8 @@ named_more rows plan j names new name before made is = record {
   ];
 }
 
-pub named_all : (rows : List (List (List ℕ))) (plan j : ℕ) (names : List Name) → j ≡ length rows → AreNamed rows plan j names → AreLabels rows plan (labels_from names)
+-- where each record has been read, the labels are those of the plan
+pub named_all : (rows : List (List (List ℕ))) (plan j : ℕ) (names : List Name) → j ≡ length rows → AreNamed rows plan j names → AreLabelsOf rows plan (labels_from names)
 named_all rows plan j names all is = record {
   count = length-map names label_from ∙ is.count ∙ all;
   each = λ e l. is.each e (omega (arith, l, all));
@@ -54,6 +56,7 @@ named_all rows plan j names all is = record {
 
 -- ---- a place for each name
 
+-- the label at each place is that of one of the names
 at_place : (names : List Name) (i : ℕ) → i < length names → (x : Name) × (nth (labels_from names) i ≡ label_from x) × Contains names x
 at_place [] i l = absurd (omega (arith, l))
 at_place (y ∷ ys) i l = (get_or (y ∷ ys) i y, nth_get (y ∷ ys) i y l, Contains-get_or (y ∷ ys) i y l)
@@ -73,7 +76,7 @@ module _ (names found : List Name) (are : AreDifferent names found) where
       let same : nth (labels_from found) there.0 ≡ nth (labels_from names) i =
       nth_get found there.0 there.1 there.2 ∙ ap label_from there.3 ∙ sym (same_equal (label_from here.0) (label_from there.1) there.4) ∙ sym here.1 in
       absurd (both_ways (same_label (nth (labels_from found) there.0) (nth (labels_from names) i))
-      (none_passes (length found) (λ m. same_label (nth (labels_from found) m) (nth (labels_from names) i)) is there.0 there.2)
+      (first_below_none (length found) (λ m. same_label (nth (labels_from found) m) (nth (labels_from names) i)) there.0 is there.2)
       (equal_same (nth (labels_from found) there.0) (nth (labels_from names) i) same))
 
   place_is : (i : ℕ) → i < length names → (place i < length found) × (nth (labels_from found) (place i) ≡ nth (labels_from names) i)
@@ -92,7 +95,7 @@ module _ (names found : List Name) (are : AreDifferent names found) where
 
 -- ---- the definitions at the labels of the records
 
-module _ (rows : List (List (List ℕ))) (plan : ℕ) (labels found : List Label) (districts : List ℕ) (of : AreLabels rows plan labels) (are : AreDistricts labels found districts) where
+module _ (rows : List (List (List ℕ))) (plan : ℕ) (labels found : List Label) (districts : List ℕ) (of : AreLabelsOf rows plan labels) (are : AreDistricts labels found districts) where
   new_same : (e : ℕ) → e < length rows → is_new_label [] [] rows plan e ≡ is_new labels e
   new_same e l =
       ap not (any_below_same e (λ b. same_label (label_in [] [] rows plan b) (label_in [] [] rows plan e)) (λ b. same_label (nth labels b) (nth labels e))
@@ -129,7 +132,7 @@ module _ (rows : List (List (List ℕ))) (plan : ℕ) (labels found : List Label
 
 -- ---- the whole plan
 
-module _ (header : List (List ℕ)) (rows : List (List (List ℕ))) (plan : ℕ) (labels found : List Label) (records : List ℕ) (a : Assigned) (of : AreLabels rows plan labels)
+module _ (header : List (List ℕ)) (rows : List (List (List ℕ))) (plan : ℕ) (labels found : List Label) (records : List ℕ) (a : Assigned) (of : AreLabelsOf rows plan labels)
     (is : IsAssigned (plan_name [] header [] plan) labels found records a) (under : (u : ℕ) → u < length records → get_or records u 0 < length rows) where
   pub assigned_is : a ≡ assigned_by header rows records plan
   assigned_is =

@@ -4,8 +4,10 @@ mod Early
 mod Heads
 mod Indexed
 mod Labelled
+mod Naming
 mod Placed
 mod Pushed
+mod Reading
 mod Records
 mod Refused
 mod United

@@ -6,9 +6,9 @@ use Rattle.std.proofs.lemmas.Bool.{cases_eq, cond-false, ne_eqb}
 use Rattle.audit_model.specs.Below.{any_below}
 use Rattle.audit_model.specs.First.{first_below}
 use Rattle.audit_model.specs.declared.fault.TableFault.TheVariants as fault
-use Rattle.model_laws.proofs.Options.{or_nothing, none_from, some_from}
-use Rattle.model_laws.proofs.First.{first_below_more, first_below_found, any_from_none, any_from_some}
-use Rattle.plan_csv.specs.Stages.{is_of, repeated, unnamed, ArePlaces, AreThere}
+use Rattle.audit_model.proofs.Options.{or_nothing, none_from, some_from}
+use Rattle.audit_model.proofs.First.{first_below_more, first_below_here, any_from_none, any_from_some}
+use Rattle.plan_csv.specs.Stages.{is_of, unit_repeated, unnamed, AreFirstRecords, AreThere}
 use Rattle.plan_csv.proofs.Pushed.{push_same, push_other}
 
 pub record IsPlaced (units : List ℕ) (count j : ℕ) (places : List (Option ℕ)) : Type 0 where
@@ -16,22 +16,24 @@ pub record IsPlaced (units : List ℕ) (count j : ℕ) (places : List (Option �
   pub none : first_below j (λ e. any_below e (is_of units (slice_index_or units e 0))) ≡ None
   pub each : (u : ℕ) → u < count → slice_index_or places u None ≡ first_below j (is_of units u)
 
+-- a list of empty places stays empty with one more
 pub blank_more : (xs : List (Option ℕ)) → ((u : ℕ) → slice_index_or xs u None ≡ None) → (u : ℕ) → slice_index_or (xs ++ None ∷ []) u None ≡ None
 blank_more [] h zero = refl
 blank_more [] h (suc u) = refl
 blank_more (x ∷ xs) h zero = h 0
 blank_more (x ∷ xs) h (suc u) = blank_more xs (λ k. h (suc k)) u
 
+-- before the first record, no unit has a place
 pub placed_none : (units : List ℕ) (count : ℕ) (places : List (Option ℕ)) → length places ≡ count → ((u : ℕ) → slice_index_or places u None ≡ None) → IsPlaced units count 0 places
 placed_none units count places size blank = record { size = size; none = refl; each = λ u l. blank u }
 
 module _ (units : List ℕ) (count j : ℕ) (places : List (Option ℕ)) (before : IsPlaced units count j places) (unit : ℕ) (at : slice_index_or units j 0 ≡ unit) (under : unit < count) where
-  pub again_here : j < length units → is_some (slice_index_or places unit None) ≡ true → repeated units ≡ Some (fault.Twice (suc j))
+  pub again_here : j < length units → is_some (slice_index_or places unit None) ≡ true → unit_repeated units ≡ Some (fault.Twice (suc j))
   again_here l is =
       let found = some_from (slice_index_or places unit None) is in
       let first : first_below j (is_of units unit) ≡ Some found.0 = sym (before.each unit under) ∙ found.1 in
       ap (option_map (λ e. fault.Twice (suc e)))
-      (first_below_found (length units) j (λ e. any_below e (is_of units (slice_index_or units e 0))) l before.none
+      (first_below_here (length units) j (λ e. any_below e (is_of units (slice_index_or units e 0))) before.none l
       (ap (λ u. any_below j (is_of units u)) at ∙ any_from_some j (is_of units unit) found.0 first))
 
   pub placed_more : (new : List (Option ℕ)) → is_some (slice_index_or places unit None) ≡ false → new ≡ slice_set places unit (Some j) → IsPlaced units count (j + 1) new
@@ -47,7 +49,7 @@ module _ (units : List ℕ) (count j : ℕ) (places : List (Option ℕ)) (before
               ap (λ (ps : List (Option ℕ)). slice_index_or ps u None) made ∙ ap (λ k. slice_index_or (slice_set places unit (Some j)) k None) same
               ∙ get_or-set_same places unit (Some j) None inside
               ∙ sym (ap (λ v. first_below (j + 1) (is_of units v)) same
-              ∙ first_below_found (j + 1) j (is_of units unit) (omega arith) nothing (eq-eqb (slice_index_or units j 0) unit at))
+              ∙ first_below_here (j + 1) j (is_of units unit) nothing (omega arith) (eq-eqb (slice_index_or units j 0) unit at))
           | inr off ↦
               let other : is_of units u j ≡ false = ne_eqb (slice_index_or units j 0) u (λ e. off (sym e ∙ at)) in
               ap (λ (ps : List (Option ℕ)). slice_index_or ps u None) made
@@ -58,7 +60,8 @@ module _ (units : List ℕ) (count j : ℕ) (places : List (Option ℕ)) (before
         ];
       }
 
-pub placed_all : (units : List ℕ) (count j : ℕ) (places : List (Option ℕ)) → j ≡ length units → IsPlaced units count j places → (repeated units ≡ None) × ArePlaces units count places
+-- where each record has been placed, no unit stood twice, and each place is that of its unit
+pub placed_all : (units : List ℕ) (count j : ℕ) (places : List (Option ℕ)) → j ≡ length units → IsPlaced units count j places → (unit_repeated units ≡ None) × AreFirstRecords units count places
 placed_all units count j places all is = (
   ap (option_map (λ e. fault.Twice (suc e))) (subst (λ (m : ℕ). first_below m (λ e. any_below e (is_of units (slice_index_or units e 0))) ≡ None) all is.none),
   record { size = is.size; each = λ u l. is.each u l ∙ ap (λ m. first_below m (is_of units u)) all },
@@ -73,7 +76,7 @@ pub record IsThere (places : List (Option ℕ)) (j : ℕ) (records : List ℕ) :
 
 module _ (places : List (Option ℕ)) (j : ℕ) (records : List ℕ) (before : IsThere places j records) where
   pub unnamed_here : j < length places → slice_index_or places j None ≡ None → unnamed places ≡ Some (fault.MissingUnit j)
-  unnamed_here l is = ap (option_map fault.MissingUnit) (first_below_found (length places) j (λ u. is_none (slice_index_or places u None)) l before.none (ap is_none is))
+  unnamed_here l is = ap (option_map fault.MissingUnit) (first_below_here (length places) j (λ u. is_none (slice_index_or places u None)) before.none l (ap is_none is))
 
   pub there_more : (last : ℕ) (new : List ℕ) → slice_index_or places j None ≡ Some last → new ≡ records ++ last ∷ [] → IsThere places (j + 1) new
   there_more last new is made = record {
@@ -91,6 +94,7 @@ module _ (places : List (Option ℕ)) (j : ℕ) (records : List ℕ) (before : I
     ];
   }
 
+-- where each place has been looked at, no unit is missing, and each record is there
 pub there_all : (places : List (Option ℕ)) (j : ℕ) (records : List ℕ) → j ≡ length places → IsThere places j records → (unnamed places ≡ None) × AreThere places records
 there_all places j records all is = (
   ap (option_map fault.MissingUnit) (subst (λ (m : ℕ). first_below m (λ u. is_none (slice_index_or places u None)) ≡ None) all is.none),

@@ -3,8 +3,8 @@ use Rattle.std.proofs.Common.{◌≡◌, ℕ, List, [], length, Option, Some, No
 use Rattle.std.specs.Option.{option_or}
 use Rattle.audit_model.specs.declared.fault.TableFault.{TableFault}
 use Rattle.audit_model.specs.declared.setting.Label.{Label}
-use Rattle.table_definitions.specs.Table.{shared_id, unknown_id, repeated_unit, missing_unit}
-use Rattle.plan_csv.specs.Stages.{AreUnits, ArePlaces, AreThere, AreRecords, repeated, unnamed, refused_units}
+use Rattle.audit_statement.specs.Table.{shared_id, unknown_id, repeated_unit, missing_unit}
+use Rattle.plan_csv.specs.Stages.{AreUnits, AreFirstRecords, AreThere, AreRecords, unit_repeated, unnamed, refused_units}
 use Rattle.plan_csv.proofs.Bridge.{repeated_is, missing_is, entry_is, entry_under}
 
 module _ (ids : List Label) (rows : List (List (List ℕ))) (shared : shared_id ids [] [] ≡ None) (unknown : unknown_id ids [] rows ≡ None) (units : List ℕ) (are : AreUnits ids rows units) where
@@ -13,10 +13,10 @@ module _ (ids : List Label) (rows : List (List (List ℕ))) (shared : shared_id 
       ap (λ o. option_or o (option_or (unknown_id ids [] rows) (option_or (repeated_unit ids [] rows) (option_or (missing_unit ids [] rows) None)))) shared
       ∙ ap (λ o. option_or o (option_or (repeated_unit ids [] rows) (option_or (missing_unit ids [] rows) None))) unknown
 
-  pub twice_first : (f : TableFault) → repeated units ≡ Some f → refused_units ids rows ≡ Some f
+  pub twice_first : (f : TableFault) → unit_repeated units ≡ Some f → refused_units ids rows ≡ Some f
   twice_first f e = past_two ∙ ap (λ o. option_or o (option_or (missing_unit ids [] rows) None)) (repeated_is ids rows units are ∙ e)
 
-  module _ (once : repeated units ≡ None) (places : List (Option ℕ)) (placed : ArePlaces units (length ids) places) where
+  module _ (once : unit_repeated units ≡ None) (places : List (Option ℕ)) (placed : AreFirstRecords units (length ids) places) where
     past_three : refused_units ids rows ≡ option_or (unnamed places) None
     past_three =
         past_two ∙ ap (λ o. option_or o (option_or (missing_unit ids [] rows) None)) (repeated_is ids rows units are ∙ once)

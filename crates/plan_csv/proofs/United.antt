@@ -10,9 +10,9 @@ use Rattle.audit_model.specs.Below.{any_below}
 use Rattle.audit_model.specs.First.{first_below}
 use Rattle.audit_model.specs.declared.fault.TableFault.TheVariants as fault
 use Rattle.audit_model.specs.declared.setting.Label.{Label}
-use Rattle.model_laws.proofs.First.{first_below_more, first_below_found, any_from_none, any_from_some}
-use Rattle.table_definitions.specs.Table.{unit_text, names_unit, unknown_id}
-use Rattle.plan_csv.specs.Stages.{IsIndex, AreUnits}
+use Rattle.audit_model.proofs.First.{first_below_more, first_below_here, any_from_none, any_from_some}
+use Rattle.audit_statement.specs.Table.{unit_text, names_unit, unknown_id}
+use Rattle.plan_csv.specs.Stages.{IsUnitIndex, AreUnits}
 use Rattle.plan_csv.proofs.Pushed.{push_same, push_other}
 
 abbrev unknown : List Label → List (List (List ℕ)) → ℕ → Bool
@@ -23,7 +23,7 @@ pub record IsUnited (ids : List Label) (rows : List (List (List ℕ))) (j : ℕ)
   pub count : length units ≡ j
   pub each : (e : ℕ) → e < j → first_below (length ids) (names_unit ids [] rows e) ≡ Some (slice_index_or units e 0)
 
-module _ {K : Type 0} (text : K → List ℕ) (ids : List Label) (index : List (K × ℕ)) (is : IsIndex text ids index) (rows : List (List (List ℕ))) (j : ℕ) (units : List ℕ) (before : IsUnited ids rows j units)
+module _ {K : Type 0} (text : K → List ℕ) (ids : List Label) (index : List (K × ℕ)) (is : IsUnitIndex text ids index) (rows : List (List (List ℕ))) (j : ℕ) (units : List ℕ) (before : IsUnited ids rows j units)
     (q : List ℕ) (at : slice_index_or (slice_index_or rows j []) 0 [] ≡ q) where
   found_at : first_below (length ids) (names_unit ids [] rows j) ≡ lookup (λ k. is_eq (slice_cmp nat_cmp q (text k))) index
   found_at = ap (λ t. first_below (length ids) (λ u. bytes_eq t (unit_text ids [] [] u))) at ∙ sym (is q)
@@ -31,7 +31,7 @@ module _ {K : Type 0} (text : K → List ℕ) (ids : List Label) (index : List (
   pub unknown_here : j < length rows → lookup (λ k. is_eq (slice_cmp nat_cmp q (text k))) index ≡ None → unknown_id ids [] rows ≡ Some (fault.UnknownId (suc j))
   unknown_here l none =
       ap (option_map (λ entry. fault.UnknownId (suc entry)))
-      (first_below_found (length rows) j (λ e. not (any_below (length ids) (names_unit ids [] rows e))) l before.none
+      (first_below_here (length rows) j (λ e. not (any_below (length ids) (names_unit ids [] rows e))) before.none l
       (ap not (any_from_none (length ids) (names_unit ids [] rows j) (found_at ∙ none))))
 
   pub united_more : (unit : ℕ) (new : List ℕ) → lookup (λ k. is_eq (slice_cmp nat_cmp q (text k))) index ≡ Some unit → new ≡ units ++ unit ∷ [] → IsUnited ids rows (j + 1) new
@@ -51,6 +51,7 @@ module _ {K : Type 0} (text : K → List ℕ) (ids : List Label) (index : List (
     ];
   }
 
+-- where each record has been looked at, none has an unknown id, and the units are those of the ids
 pub united_all : (ids : List Label) (rows : List (List (List ℕ))) (j : ℕ) (units : List ℕ) → j ≡ length rows → IsUnited ids rows j units → (unknown_id ids [] rows ≡ None) × AreUnits ids rows units
 united_all ids rows j units all is = (
   ap (option_map (λ entry. fault.UnknownId (suc entry))) (subst (λ (m : ℕ). first_below m (λ e. not (any_below (length ids) (names_unit ids [] rows e))) ≡ None) all is.none),

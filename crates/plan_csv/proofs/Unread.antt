@@ -9,25 +9,29 @@ use Rattle.std.proofs.lemmas.Str.{IsUtf8-from_is_utf8, is_utf8-from_IsUtf8}
 use Rattle.csv.specs.Records.{AllText, Row, fields_of, field_at}
 use Rattle.audit_model.specs.First.{first_below}
 use Rattle.audit_model.specs.declared.fault.TableFault.TheVariants as fault
-use Rattle.model_laws.proofs.First.{first_below_more, first_below_found}
+use Rattle.audit_model.proofs.First.{first_below_more, first_below_here}
 use Rattle.plan_csv.specs.Stages.{is_unread, unread}
 
+-- a field that is not there reads as empty
 pub none_there : (fields : List (List ℕ)) (i : ℕ) → field_at fields i ≡ None → slice_index_or fields i [] ≡ []
 unfolding field_at
 none_there [] i e = refl
 none_there (f ∷ fs) zero e = cc e
 none_there (f ∷ fs) (suc i) e = none_there fs i e
 
+-- where each field is text, all pass the test of text
 all_text : (row : List (List ℕ)) → AllText row → list_all is_utf8 row ≡ true
 unfolding AllText
 all_text [] h = refl
 all_text (f ∷ fs) h = and_from (is_utf8 f) (list_all is_utf8 fs) (is_utf8-from_IsUtf8 f h.0) (all_text fs h.1)
 
+-- where all fields pass the test of text, each is text
 text_all : (row : List (List ℕ)) → list_all is_utf8 row ≡ true → AllText row
 unfolding AllText
 text_all [] h = tt
 text_all (f ∷ fs) h = let parts = and_parts (is_utf8 f) (list_all is_utf8 fs) h in (IsUtf8-from_is_utf8 f parts.0, text_all fs parts.1)
 
+-- a record of so many fields, all of them text, can be read
 pub readable : (columns : ℕ) (row : List (List ℕ)) → length row ≡ columns → AllText row → is_unread columns row ≡ false
 readable columns row l t = tests (length row == columns) (list_all is_utf8 row) (eq-eqb (length row) columns l) (all_text row t)
   where
@@ -36,6 +40,7 @@ readable columns row l t = tests (length row == columns) (list_all is_utf8 row) 
     tests true false e f = sym f
     tests false b e f = cc e
 
+-- a record of another number of fields cannot be read
 pub uneven : (columns : ℕ) (row : List (List ℕ)) → length row ≢ columns → is_unread columns row ≡ true
 uneven columns row n = tests (length row == columns) (list_all is_utf8 row) (λ e. n (eqb-true (length row) columns e))
   where
@@ -43,6 +48,7 @@ uneven columns row n = tests (length row == columns) (list_all is_utf8 row) (λ 
     tests true b f = absurd (f refl)
     tests false b f = refl
 
+-- a record with a field that is no text cannot be read
 pub broken : (columns : ℕ) (row : List (List ℕ)) → (AllText row → ⊥) → is_unread columns row ≡ true
 broken columns row n = tests (length row == columns) (list_all is_utf8 row) (λ e. n (text_all row e))
   where
@@ -56,6 +62,7 @@ pub record IsRead (columns : ℕ) (rows : List (List (List ℕ))) (texts left : 
   pub split : map fields_of texts ++ map fields_of left ≡ rows
   pub none : first_below (length texts) (λ r. is_unread columns (slice_index_or rows r [])) ≡ None
 
+-- the record behind those that are done is the next
 at_split : (done rest : List (List (List ℕ))) (row : List (List ℕ)) → slice_index_or (done ++ row ∷ rest) (length done) [] ≡ row
 at_split [] rest row = refl
 at_split (d ∷ done) rest row = at_split done rest row
@@ -76,7 +83,7 @@ module _ (columns : ℕ) (rows : List (List (List ℕ))) (texts left after : Lis
   pub unread_here : is_unread columns (fields_of row) ≡ true → unread columns rows ≡ Some (fault.Unreadable (length texts))
   unread_here bad =
       ap (option_map fault.Unreadable)
-      (first_below_found (length rows) (length texts) (λ r. is_unread columns (slice_index_or rows r [])) inside before.none (ap (is_unread columns) here ∙ bad))
+      (first_below_here (length rows) (length texts) (λ r. is_unread columns (slice_index_or rows r [])) before.none inside (ap (is_unread columns) here ∙ bad))
 
   pub read_more : (new : List Row) (text : Row) → new ≡ texts ++ text ∷ [] → fields_of text ≡ fields_of row → is_unread columns (fields_of row) ≡ false → IsRead columns rows new after
   read_more new text is same good = record {
@@ -92,6 +99,7 @@ module _ (columns : ℕ) (rows : List (List (List ℕ))) (texts left after : Lis
         (first_below_more (length texts) (λ r. is_unread columns (slice_index_or rows r [])) before.none (ap (is_unread columns) here ∙ good));
   }
 
+-- where none is left, the records are those that were read, and none is refused
 pub read_all : (columns : ℕ) (rows : List (List (List ℕ))) (texts left : List Row) → IsRead columns rows texts left → left ≡ [] → (map fields_of texts ≡ rows) × (unread columns rows ≡ None)
 read_all columns rows texts left before none =
     let all : map fields_of texts ≡ rows = sym (append-nil (map fields_of texts)) ∙ ap (λ (l : List Row). map fields_of texts ++ map fields_of l) (sym none) ∙ before.split in

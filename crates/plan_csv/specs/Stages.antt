@@ -12,7 +12,7 @@ use Rattle.audit_model.specs.declared.plans.Assigned.{Assigned}
 use Rattle.audit_model.specs.declared.setting.Label.{Label}
 use Rattle.audit_model.specs.Below.{any_below, map_below}
 use Rattle.audit_model.specs.First.{first_below, first_some}
-use Rattle.table_definitions.specs.Table.{unit_text, names_unit, entry_of, shared_id, unknown_id, repeated_unit, missing_unit, refused_count, refusal, lacks_header, too_many, bad_name, plan_name, label_count, label_in, label_of_district, district_in}
+use Rattle.audit_statement.specs.Table.{unit_text, names_unit, entry_of, shared_id, unknown_id, repeated_unit, missing_unit, refused_count, refusal, lacks_header, too_many, bad_name, plan_name, label_count, label_in, label_of_district, district_in}
 use Rattle.dual_json.specs.Districts.{AreDistricts}
 use Rattle.dual_json.specs.Places.{nth}
 
@@ -27,8 +27,8 @@ unread columns rows = option_map fault.Unreadable (first_below (length rows) (λ
 -- ---- the units
 
 -- the unit whose id as text is q, where keys of the entries are read as texts
-abbrev pub IsIndex : {K : Type 0} → (K → List ℕ) → List Label → List (K × ℕ) → Type 0
-IsIndex {K} text ids entries = (q : List ℕ) → lookup (λ k. is_eq (slice_cmp nat_cmp q (text k))) entries ≡ first_below (length ids) (λ u. bytes_eq q (unit_text ids [] [] u))
+abbrev pub IsUnitIndex : {K : Type 0} → (K → List ℕ) → List Label → List (K × ℕ) → Type 0
+IsUnitIndex {K} text ids entries = (q : List ℕ) → lookup (λ k. is_eq (slice_cmp nat_cmp q (text k))) entries ≡ first_below (length ids) (λ u. bytes_eq q (unit_text ids [] [] u))
 
 -- the first unit of each record's id
 pub record AreUnits (ids : List Label) (entries : List (List (List ℕ))) (units : List ℕ) : Type 0 where
@@ -40,11 +40,11 @@ abbrev pub is_of : List ℕ → ℕ → ℕ → Bool
 is_of units u e = slice_index_or units e 0 == u
 
 -- the first record whose unit an earlier one has too
-abbrev pub repeated : List ℕ → Option TableFault
-repeated units = option_map (λ e. fault.Twice (suc e)) (first_below (length units) (λ e. any_below e (is_of units (slice_index_or units e 0))))
+abbrev pub unit_repeated : List ℕ → Option TableFault
+unit_repeated units = option_map (λ e. fault.Twice (suc e)) (first_below (length units) (λ e. any_below e (is_of units (slice_index_or units e 0))))
 
 -- the first record of each unit
-pub record ArePlaces (units : List ℕ) (count : ℕ) (places : List (Option ℕ)) : Type 0 where
+pub record AreFirstRecords (units : List ℕ) (count : ℕ) (places : List (Option ℕ)) : Type 0 where
   pub size : length places ≡ count
   pub each : (u : ℕ) → u < count → slice_index_or places u None ≡ first_below (length units) (is_of units u)
 
@@ -70,7 +70,7 @@ pub record AreRecords (ids : List Label) (rows : List (List (List ℕ))) (record
 -- ---- the labels
 
 -- the labels are those of a plan in the records
-pub record AreLabels (rows : List (List (List ℕ))) (plan : ℕ) (labels : List Label) : Type 0 where
+pub record AreLabelsOf (rows : List (List (List ℕ))) (plan : ℕ) (labels : List Label) : Type 0 where
   pub count : length labels ≡ length rows
   pub each : (e : ℕ) → e < length rows → nth labels e ≡ label_in [] [] rows plan e
 

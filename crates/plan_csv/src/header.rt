@@ -4,7 +4,7 @@ ghost use Rattle.std.specs.Prelude.{◌≡◌, ◌∷◌, ◌&&◌, nat_le, None
 ghost use Rattle.std.specs.List.{list_all};
 ghost use Rattle.csv.specs.Records.{fields_of};
 ghost use Rattle.audit_model.specs.First.{first_some};
-ghost use Rattle.table_definitions.specs.Table as table;
+ghost use Rattle.audit_statement.specs.Table as table;
 
 use crate::rows::field;
 use audit_model::fault::TableFault;

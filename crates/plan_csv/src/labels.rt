@@ -6,9 +6,9 @@ ghost use Rattle.audit_model.specs.Below.{map_below};
 ghost use Rattle.audit_model.specs.declared.fault.TableFault.TheVariants as fault;
 ghost use Rattle.dual_json.specs.Districts.{AreDifferent, AreDistricts};
 ghost use Rattle.dual_json.specs.Places.{labels_from};
-ghost use Rattle.table_definitions.specs.Table as table;
+ghost use Rattle.audit_statement.specs.Table as table;
 ghost use Rattle.plan_csv.specs.Fit.{IsPlanOf};
-ghost use Rattle.plan_csv.specs.Stages.{assigned_by, AreLabels, IsAssigned};
+ghost use Rattle.plan_csv.specs.Stages.{assigned_by, AreLabelsOf, IsAssigned};
 ghost use Rattle.audit_model.specs.Limits.{most_districts};
 
 use crate::rows::field;
@@ -66,7 +66,7 @@ fn names_of<'e>(
     plan: usize,
 ) -> Result<Vec<Name<'e>>, Memory>
     requires { plan < 16 }
-    ensures { IfOk result (λ names. AreLabels (map fields_of entries.now) plan (labels_from names.items)) }
+    ensures { IfOk result (λ names. AreLabelsOf (map fields_of entries.now) plan (labels_from names.items)) }
 {
     let mut names = Vec::with_capacity(alloc, entries.len())?;
     for entry in 0..entries.len() {

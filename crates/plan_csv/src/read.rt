@@ -4,7 +4,7 @@ ghost use Rattle.std.specs.Prelude.{◌≡◌, ◌≤◌, ◌<◌, ◌^◌, ◌�
 ghost use Rattle.csv.specs.Records.{fields_of};
 ghost use Rattle.audit_model.specs.Below.{map_below};
 ghost use Rattle.audit_model.specs.declared.fault.TableFault.TheVariants as fault;
-ghost use Rattle.table_definitions.specs.Table as table;
+ghost use Rattle.audit_statement.specs.Table as table;
 ghost use Rattle.plan_csv.specs.Fit.{IsPlanOf};
 ghost use Rattle.plan_csv.specs.Stages.{assigned_by, later};
 ghost use Rattle.audit_model.specs.Limits.{most_units};

@@ -5,8 +5,8 @@ ghost use Rattle.std.specs.List.{slice_index_or};
 ghost use Rattle.csv.specs.Records.{fields_of};
 ghost use Rattle.audit_model.specs.declared.fault.TableFault.TheVariants as fault;
 ghost use Rattle.audit_model.specs.declared.setting.Label.{Label};
-ghost use Rattle.table_definitions.specs.Table as table;
-ghost use Rattle.plan_csv.specs.Stages.{repeated, refused_units, unnamed, AreRecords, IsIndex, AreUnits, ArePlaces, AreThere};
+ghost use Rattle.audit_statement.specs.Table as table;
+ghost use Rattle.plan_csv.specs.Stages.{unit_repeated, refused_units, unnamed, AreRecords, IsUnitIndex, AreUnits, AreFirstRecords, AreThere};
 ghost use Rattle.audit_model.specs.Limits.{most_units};
 
 use crate::rows::field;
@@ -34,7 +34,7 @@ pub fn id_text(alloc: Global, id: &Label) -> Result<String, Memory>
 /// The unit of each id as text, or the first unit whose text an earlier one has too.
 pub fn index_of(alloc: Global, ids: &[Label]) -> Result<BTreeMap<String, u32>, TableFault>
     requires { length ids.now ≤ most_units }
-    ensures { MatchResult result (λ index. (table.shared_id ids.now [] [] ≡ None) × IsIndex string_bytes ids.now index.entries)
+    ensures { MatchResult result (λ index. (table.shared_id ids.now [] [] ≡ None) × IsUnitIndex string_bytes ids.now index.entries)
         (λ f. (f ≡ fault.Memory) ⊎ (table.shared_id ids.now [] [] ≡ Some f)) }
 {
     let mut index = BTreeMap::new(alloc);
@@ -56,7 +56,7 @@ pub fn units_of(
     entries: &[StringRecord],
 ) -> Result<Vec<u32>, TableFault>
     requires { length entries.now < 2 ^ 63 }
-    ensures { (ids : List Label) → IsIndex string_bytes ids index.now.entries
+    ensures { (ids : List Label) → IsUnitIndex string_bytes ids index.now.entries
         → MatchResult result (λ units. (table.unknown_id ids [] (map fields_of entries.now) ≡ None) × AreUnits ids (map fields_of entries.now) units.items)
         (λ f. (f ≡ fault.Memory) ⊎ (table.unknown_id ids [] (map fields_of entries.now) ≡ Some f)) }
 {
@@ -79,8 +79,8 @@ pub fn places_of(
     requires few { count ≤ most_units }
     requires small { length units.now < 2 ^ 63 }
     requires within { (k : ℕ) → k < length units.now → slice_index_or units.now k 0 < count }
-    ensures { MatchResult result (λ places. (repeated units.now ≡ None) × ArePlaces units.now count places.items)
-        (λ f. (f ≡ fault.Memory) ⊎ (repeated units.now ≡ Some f)) }
+    ensures { MatchResult result (λ places. (unit_repeated units.now ≡ None) × AreFirstRecords units.now count places.items)
+        (λ f. (f ≡ fault.Memory) ⊎ (unit_repeated units.now ≡ Some f)) }
 {
     let mut places = blanks(alloc, count)?;
     for entry in 0..units.len() {

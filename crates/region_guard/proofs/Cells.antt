@@ -5,8 +5,8 @@ use Rattle.std.proofs.Math.Nat.{mul-le-mul_right}
 use Rattle.std.proofs.lemmas.Bool.{cases_eq, cases_lt, cases_Bool, cond-true, cond-false, eq-eqb, ne_eqb, lt-ltb, ltb-true, or_right, and_right, not_from_true, not_from_false, false_from_ne_true}
 use Rattle.audit_model.specs.Below.{above_all, all_below, any_below, count_below}
 use Rattle.audit_model.specs.Meets.{lies_in, split_of}
-use Rattle.model_laws.proofs.Below.{count_below_same, count_below_without, any_below_none, count_below_zero}
-use Rattle.model_laws.proofs.Meeting.{below_above_all}
+use Rattle.audit_model.proofs.Below.{count_below_same, count_below_without, any_below_none, count_below_zero}
+use Rattle.audit_model.proofs.Meeting.{below_above_all}
 use Rattle.region_guard.specs.Standing.{units_among}
 
 -- ---- counts
@@ -14,10 +14,12 @@ use Rattle.region_guard.specs.Standing.{units_among}
 abbrev pub one_if : Bool → ℕ
 one_if b = cond {A = ℕ} b 1 0
 
+-- a count over one number more
 pub count_more : (n : ℕ) (f : ℕ → Bool) → count_below (suc n) f ≡ count_below n f + one_if (f n)
 unfolding count_below
 count_more n f = refl
 
+-- counts of tests that differ at one number alone differ by what they say of it
 pub count_but_one : (n u : ℕ) (f g : ℕ → Bool) → u < n → ((v : ℕ) → v < n → (v ≡ u → ⊥) → f v ≡ g v)
     → count_below n f + one_if (g u) ≡ count_below n g + one_if (f u)
 count_but_one zero u f g l same = absurd (omega arith)
@@ -59,9 +61,11 @@ count_longer (suc n) m f l none = elim (cases_eq m (suc n)) [
       omega (arith, before, last, count_more n f)
 ]
 
+-- a count has each number of which the test is true
 pub some_counted : (n x : ℕ) (f : ℕ → Bool) → x < n → f x ≡ true → 1 ≤ count_below n f
 some_counted n x f l h = omega (arith, count_below_without n f x l h)
 
+-- a test is true of some number where its count is not 0
 pub any_is_some : (n : ℕ) (f : ℕ → Bool) → any_below n f ≡ nat_lt 0 (count_below n f)
 any_is_some zero f = sym (false_from_ne_true (nat_lt 0 (count_below 0 f)) (λ h. let l = ltb-true 0 (count_below 0 f) h in omega (arith, l, count_below_zero f)))
 any_is_some (suc n) f = elim (cases_Bool (f n)) [
@@ -98,12 +102,14 @@ all_is_none (suc n) f = elim (cases_Bool (f n)) [
 
 -- ---- places in the table
 
+-- rows do not share a place
 same_cell : (districts q d r e : ℕ) → d < districts → e < districts → q < r → q * districts + d ≡ r * districts + e → ⊥
 same_cell districts q d r e ld le l h =
     let row : suc q * districts ≤ r * districts = mul-le-mul_right districts (omega (arith, l)) in
     let one : suc q * districts ≡ q * districts + districts = omega arith in
     omega (arith, row, one, ld, h)
 
+-- a place is of one row
 pub row_of_cell : (districts q d r e : ℕ) → d < districts → e < districts → q * districts + d ≡ r * districts + e → q ≡ r
 row_of_cell districts q d r e ld le h = elim (cases_lt q r) [
   | inl l ↦ absurd (same_cell districts q d r e ld le l h)
@@ -113,6 +119,7 @@ row_of_cell districts q d r e ld le h = elim (cases_lt q r) [
   ]
 ]
 
+-- and of one district
 pub place_of_cell : (districts q d r e : ℕ) → d < districts → e < districts → q * districts + d ≡ r * districts + e → d ≡ e
 place_of_cell districts q d r e ld le h =
     let row = ap (λ k. k * districts) (row_of_cell districts q d r e ld le h) in omega (arith, row, h)
@@ -123,6 +130,7 @@ place_of_cell districts q d r e ld le h =
 pub lies_is_counted : (regions plan : List ℕ) (q d : ℕ) → lies_in regions plan q d ≡ nat_lt 0 (units_among (length regions) regions plan q d)
 lies_is_counted regions plan q d = any_is_some (length regions) (λ u. (get_or regions u 0 == q) && (get_or plan u 0 == d))
 
+-- among how many districts a region is split, by its row of the table
 pub split_is_counted : (regions plan : List ℕ) (districts q : ℕ) → length plan ≡ length regions → above_all plan ≤ districts
     → split_of regions plan q ≡ count_below districts (λ d. nat_lt 0 (units_among (length regions) regions plan q d))
 split_is_counted regions plan districts q long l =

@@ -8,9 +8,9 @@ use Rattle.std.proofs.lemmas.List.{get_or-set_same, get_or-set_other, set-get_or
 use Rattle.audit_model.specs.Below.{above_all, count_below}
 use Rattle.audit_model.specs.declared.rules.Rules.{Rules}
 use Rattle.audit_model.specs.Meets.{are_whole, meets_rules, split_of}
-use Rattle.model_laws.proofs.Below.{count_below_same, count_below_le}
-use Rattle.model_laws.proofs.Meeting.{below_above_all}
-use Rattle.model_laws.proofs.Numbers.{place_below}
+use Rattle.audit_model.proofs.Below.{count_below_same, count_below_le}
+use Rattle.audit_model.proofs.Meeting.{below_above_all}
+use Rattle.audit_model.proofs.Numbers.{place_below}
 use Rattle.region_guard.specs.Standing.{IsStanding, IsStep, IsTable, broken_in, cell, is_fitting, units_among}
 use Rattle.region_guard.proofs.Cells.{one_if, all_is_none, count_more, count_but_one, count_but_two, some_counted, split_is_counted, row_of_cell, place_of_cell}
 
@@ -283,9 +283,11 @@ module _ (regions after : List ℕ) (most districts u from : ℕ) (step : IsStep
 
 -- ---- counting from the front
 
+-- a count over one number more
 pub next_counted : (n : ℕ) (f : ℕ → Bool) → count_below (n + 1) f ≡ count_below n f + one_if (f n)
 next_counted n f = ap (λ k. count_below k f) (add-one n) ∙ count_more n f
 
+-- the table with one unit more is that of one unit more
 pub counted_on : (regions plan cells : List ℕ) (districts unit : ℕ) → (rows : ℕ) → length cells ≡ rows * districts
     → get_or regions unit 0 < rows → get_or plan unit 0 < districts
     → ((q d : ℕ) → q < rows → d < districts → cell districts cells q d ≡ units_among unit regions plan q d)
@@ -320,6 +322,7 @@ fitting_parts regions districts units above h =
     let parts = and_parts (units == length regions) (nat_le above districts) h in
     (eqb-true units (length regions) parts.0, leb-true above districts parts.1)
 
+-- plans that fit before and after a move are a step
 pub step_of : (regions : List ℕ) (districts : ℕ) (after : List ℕ) (u from : ℕ) → is_fitting regions districts (length after) (above_all after) ≡ true → u < length after
     → is_fitting regions districts (length (set after u from)) (above_all (set after u from)) ≡ true → IsStep regions districts after u from
 step_of regions districts after u from taken inside taken_before = record {
@@ -329,6 +332,7 @@ step_of regions districts after u from taken inside taken_before = record {
   before_below = (fitting_parts regions districts (length (set after u from)) (above_all (set after u from)) taken_before).1;
 }
 
+-- the place of a region and a district fits the machine
 pub small_place : (regions : List ℕ) (districts : ℕ) (cells widths : List ℕ) (r d : ℕ) → IsTable regions districts cells widths → r < length widths → d < districts
     → r * districts + d < 1000000
 small_place regions districts cells widths r d table lr ld =
@@ -366,6 +370,7 @@ pub over_is : (old new : List ℕ) → length new ≡ length old → take (lengt
 over_is old new long =
     take-append-le (length old) new (drop (length new) old) (omega (arith, long)) ∙ take_all (length old) new (omega (arith, long))
 
+-- counts that were written as those of a plan stand for it
 pub stands_as : (regions : List ℕ) (most districts : ℕ) (cells written widths written_widths : List ℕ) (broken : ℕ) (plan : List ℕ)
     → written ≡ cells → written_widths ≡ widths → IsStanding regions most districts cells widths broken plan
     → IsStanding regions most districts written written_widths broken plan

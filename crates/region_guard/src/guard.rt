@@ -183,18 +183,17 @@ impl<F: Fn(&SumsView) -> bool + Drop, T: Fn(u32) -> bool + Drop> RegionGuard<F, 
 }
 
 impl<F: Fn(&SumsView) -> bool + Drop, T: Fn(u32) -> bool + Drop> Judge for RegionGuard<F, T> {
-    ghost rules = { λ g. g.rules };
-
-    ghost takes = { λ g units above. is_fitting g.rules.regions g.districts units above };
-
-    ghost keeps = { λ g. F.IsAlwaysCallable g.cut.test
-        × ((sums : Sums) (answer : Bool) → sums.cut < 2 ^ 32 → FnReturnsAt F.Fn g.cut.test sums answer → answer ≡ nat_le sums.cut g.cut.rules.max_cut)
-        × (g.cut.rules.max_cut ≡ g.rules.max_cut)
-        × T.IsAlwaysCallable g.test
-        × ((width : ℕ) (answer : Bool) → width < 2 ^ 32 → T.post g.test width answer → answer ≡ nat_le width g.rules.max_split)
-        × IsTable g.rules.regions g.districts g.cells g.widths };
-
-    ghost stands = { λ g plan. IsStanding g.rules.regions g.rules.max_split g.districts g.cells g.widths g.broken plan };
+    ghost judging = { λ g. record {
+      rules = g.rules;
+      takes = λ units above. is_fitting g.rules.regions g.districts units above;
+      keeps = F.IsAlwaysCallable g.cut.test
+          × ((sums : Sums) (answer : Bool) → sums.cut < 2 ^ 32 → FnReturnsAt F.Fn g.cut.test sums answer → answer ≡ nat_le sums.cut g.cut.rules.max_cut)
+          × (g.cut.rules.max_cut ≡ g.rules.max_cut)
+          × T.IsAlwaysCallable g.test
+          × ((width : ℕ) (answer : Bool) → width < 2 ^ 32 → T.post g.test width answer → answer ≡ nat_le width g.rules.max_split)
+          × IsTable g.rules.regions g.districts g.cells g.widths;
+      stands = λ plan. IsStanding g.rules.regions g.rules.max_split g.districts g.cells g.widths g.broken plan;
+    } };
 
     fn permits(&self, after: &[u32], sums: &SumsView, unit: u32, from: u32) -> bool {
         self.cut.allows(sums) && self.broken_with(after, unit, from) == 0

@@ -1,3 +1,5 @@
+mod NoteLines
+pub mod Appended
 pub mod Limits
 pub mod Longest
 pub mod Pieces

@@ -15,15 +15,18 @@ pub record IsSmall (s : Setting) : Type 0 where
   pub few_hub_steps : s.hub_steps ≤ 10 ^ 9
   pub few_asks : length s.asks ≤ 4
 
+-- a run's setting has small numbers
 of_run : (s : Setting) → IsRunSetting s → IsSmall s
 of_run s h = record { few = h.few; few_steps = h.few_steps; few_hub_steps = h.few_hub_steps; few_asks = h.few_asks }
 
+-- the setting of any command has small numbers
 of_command : (c : Command) (s : Setting) → IsSettingOf c s → IsSmall s
 of_command Check s h = record { few = omega arith; few_steps = omega arith; few_hub_steps = omega arith; few_asks = omega (arith, ap length h.no_asks) }
 of_command Run s h = of_run s h
 of_command Make s h = of_run s h
 of_command Plans s h = of_run s h
 
+-- a job's setting has small numbers
 pub small : (job : Job) → IsJob job → IsSmall job.setting
 small job h = of_command job.setting.command job.setting h.within.setting.command
 
@@ -33,6 +36,7 @@ column_sum units numbers h =
     let within : sum numbers ≤ length numbers * 10 ^ 9 = sum_by-le (λ n. n) (10 ^ 9) numbers h.small in
     omega (arith, within, h.width)
 
+-- the votes of a job are at most 2 * 10 ^ 14
 pub votes : (job : Job) → IsJob job → total_votes job ≤ 2 * 10 ^ 14
 votes job h =
     let input = h.within.input in

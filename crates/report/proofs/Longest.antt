@@ -29,11 +29,11 @@ use Rattle.audit_model.specs.Run.{steps_of}
 use Rattle.audit_model.specs.Score.{denominator}
 use Rattle.audit_model.specs.Test.{bound, p_value}
 use Rattle.audit_model.specs.Trajectory.{in_tail, plan_value, rank, value_at}
-use Rattle.model_laws.proofs.Least.{bound_is_least, quotient_up_is_least}
-use Rattle.text_definitions.specs.Names.{score_name, tail_name}
+use Rattle.audit_model.proofs.Least.{bound_is_least, quotient_up_is_least}
+use Rattle.audit_statement.specs.Names.{score_name, tail_name}
 use Rattle.audit_model.specs.Stopping.{placed_asks}
-use Rattle.text_definitions.specs.Report.{line, fraction, billionths, graph_line, population_line, cut_line, split_line, rule_lines, setting_line, walk_line, walk_lines, ends_line, ends_lines, stop_line, title_line, shift_line, stopped_line, test_lines, serial_line, serial_lines, report}
-use Rattle.report.specs.Outcomes.{AreOutcomesOf, AreStops, AreStopsBy, AreStopsOf, HasCounts, IsCount, IsRank, IsSerialBy, IsSerialOf, IsStop}
+use Rattle.audit_statement.specs.Report.{line, fraction, billionths, graph_line, population_line, cut_line, split_line, rule_lines, setting_line, walk_line, walk_lines, ends_line, ends_lines, stop_line, title_line, shift_line, stopped_line, test_lines, serial_line, serial_lines, report}
+use Rattle.report.specs.Outcomes.{AreOutcomesOf, AreStops, AreStopsBy, AreStopsOf, HasCounts, IsCount, IsRank, IsSerialBy, IsSerialOf, IsStopOf}
 use Rattle.report.specs.Parts.{head, key_line, lines_of}
 use Rattle.report.proofs.Limits.{small, votes}
 use Rattle.report.proofs.Sorted.{fit_at, id_at, walks_first, walks_within, ends_last, ends_sound}
@@ -41,16 +41,19 @@ use Rattle.report.proofs.Widths.{length-decimal_any, length-fraction, length-bil
 
 -- ---- the words of an ask
 
+-- no score's name is longer than 11 bytes
 length-score : (score : Score) → length (score_name score) ≤ 11
 length-score Seats = omega arith
 length-score MeanMedian = omega arith
 length-score Gap = omega arith
 length-score CutEdges = omega arith
 
+-- no tail's name is longer than 4 bytes
 length-tail : (tail : Tail) → length (tail_name tail) ≤ 4
 length-tail Low = omega arith
 length-tail High = omega arith
 
+-- no score's denominator is 10 ^ 15 or more
 denominator-lt : (score : Score) (districts all : ℕ) → districts ≤ 200 → all ≤ 2 * 10 ^ 14 → denominator score districts all < 10 ^ 15
 denominator-lt Seats districts all few less = omega arith
 denominator-lt MeanMedian districts all few less = omega arith
@@ -61,6 +64,7 @@ denominator-lt CutEdges districts all few less = omega arith
 abbrev pub start_fraction : Job → Score → List ℕ
 start_fraction job score = fraction (plan_value job job.start score) (denominator score job.districts (total_votes job))
 
+-- the start's score takes at most 81 bytes
 length-start : (job : Job) (score : Score) → IsJob job → length (start_fraction job score) ≤ 81
 length-start job score h =
     length-fraction (plan_value job job.start score) (denominator score job.districts (total_votes job))
@@ -68,16 +72,19 @@ length-start job score h =
 
 -- ---- a line of an outlier trajectory
 
+-- a count of visits is at most the number of steps and one
 count-le : (steps : ℕ) (v : ℤ) → IsCount steps v → unsigned_abs v ≤ steps + 1
 count-le steps (pos n) h = leb_yes h.few.le
 count-le steps (negsuc n) h = absurd (h.some.le)
 
+-- a count of visits takes at most 10 bytes
 length-count : (steps : ℕ) (v : ℤ) → steps ≤ 10 ^ 9 → IsCount steps v → length (signed_decimal v) ≤ 10
 length-count steps (pos n) few h =
     let most : n ≤ steps + 1 = leb_yes h.few.le in
     length-decimal-le 10 n (omega arith) (omega arith) (omega arith)
 length-count steps (negsuc n) few h = absurd (h.some.le)
 
+-- a bound is less than 10 ^ 18 billionths
 bound-lt : (n all : ℕ) → n ≤ all → bound n all < 10 ^ 18
 bound-lt n all l =
     let least = (bound_is_least n all l).least 2000000000 (le-leb (2 * n * 10 ^ 18) (2000000000 * 2000000000 * all) (omega arith)) in
@@ -89,6 +96,7 @@ record IsShort (job : Job) (found : Outcome) : Type 0 where
   moved : found.moved ≤ 10 ^ 9
   counts : HasCounts job found
 
+-- the line of an outlier trajectory is at most 200 bytes long
 walk_line-le : (job : Job) (found : Outcome) (place : ℕ) (ask : Ask) → IsJob job → IsShort job found → place < length job.setting.asks
     → length (walk_line job found (place, ask)) ≤ 200
 walk_line-le job found place ask h o l =
@@ -112,9 +120,11 @@ walk_line-le job found place ask h o l =
 
 -- ---- a line of the parallel test
 
+-- a p-value is less than 10 ^ 18 billionths
 p_value-lt : (r all : ℕ) → r ≤ 100001 → all ≤ 100001 → p_value r all < 10 ^ 18
 p_value-lt r all few most = let quotient = div-le_self (r * 10 ^ 9 + all - 1) all in omega (arith, quotient)
 
+-- a rank is at most the number of ends and one
 rank-le : (job : Job) (os : List Outcome) (place : ℕ) (ask : Ask) → job.setting.stop ≡ 0 → AreOutcomesOf job os → rank job ask place os ≤ job.setting.ends + 1
 rank-le job os place ask none h =
     let ends = filter (λ o. nat_le job.setting.walks o.id) os in
@@ -122,6 +132,7 @@ rank-le job os place ask none h =
     let all : length ends ≡ job.setting.ends = ap length (ends_last job os h) ∙ (ends_sound job os none h).count in
     omega (arith, among, all)
 
+-- the line of the parallel test is at most 200 bytes long
 ends_line-le : (job : Job) (os : List Outcome) (place : ℕ) (ask : Ask) → IsJob job → job.setting.stop ≡ 0 → AreOutcomesOf job os → length (ends_line job os (place, ask)) ≤ 200
 ends_line-le job os place ask h none all_of =
     let all = job.setting.ends + 1 in
@@ -149,12 +160,14 @@ each_placed job P each k d l =
     subst (λ (a : ℕ × Ask). P a.0 a.1) (sym (get_or-enumerate_from 0 job.setting.asks k d within))
     (subst (λ (n : ℕ). P n (get_or job.setting.asks k d.1)) (sym (zero-add k)) (each k (get_or job.setting.asks k d.1) within))
 
+-- the lines of an outlier trajectory have at most 200 bytes for each ask
 lines_of-le : (job : Job) (found : Outcome) → IsJob job → IsShort job found → length (lines_of job found) ≤ length job.setting.asks * 200
 lines_of-le job found h o =
     let many = length-flat_map-le (walk_line job found) 200 (placed_asks job)
     (each_placed job (λ k ask. length (walk_line job found (k, ask)) ≤ 200) (λ k ask l. walk_line-le job found k ask h o l)) in
     subst (λ (n : ℕ). length (lines_of job found) ≤ n * 200) (length-enumerate_from 0 job.setting.asks) many
 
+-- each outlier trajectory has an id and counts that are short
 short : (job : Job) (os : List Outcome) (k : ℕ) (d : Outcome) → IsJob job → AreOutcomesOf job os → k < length (take job.setting.walks os)
     → IsShort job (get_or (take job.setting.walks os) k d)
 short job os k d h all_of l =
@@ -171,6 +184,7 @@ short job os k d h all_of l =
       counts = fits.counts first;
     })
 
+-- the lines of all outlier trajectories have at most 200 bytes for each of them and each ask
 walk_lines-le : (job : Job) (os : List Outcome) → IsJob job → AreOutcomesOf job os → length (walk_lines job os) ≤ job.setting.walks * (length job.setting.asks * 200)
 walk_lines-le job os h all_of =
     let firsts = take job.setting.walks os in
@@ -180,6 +194,7 @@ walk_lines-le job os h all_of =
     let same : length (walk_lines job os) ≡ length (flat_map (lines_of job) firsts) = ap (λ xs. length (flat_map (lines_of job) xs)) (walks_first job os all_of) in
     subst (λ (n : ℕ). length (walk_lines job os) ≤ n * (length job.setting.asks * 200)) width (omega (arith, same, many))
 
+-- the lines of the parallel test have at most 200 bytes for each ask
 ends_lines-le : (n : ℕ) (job : Job) (os : List Outcome) → IsJob job → job.setting.stop ≡ 0 → AreOutcomesOf job os → length (ends_lines n job os) ≤ length job.setting.asks * 200
 ends_lines-le zero job os h none all_of = omega arith
 ends_lines-le (suc n) job os h none all_of =
@@ -189,7 +204,8 @@ ends_lines-le (suc n) job os h none all_of =
 
 -- ---- a line of a test that stops
 
-stopped_line-le : (job : Job) (ask : Ask) (stop : List ℕ) → IsJob job → IsStop job.setting.ends stop → length (stopped_line job (ask, stop)) ≤ 200
+-- the line of a test that stops early is at most 200 bytes long
+stopped_line-le : (job : Job) (ask : Ask) (stop : List ℕ) → IsJob job → IsStopOf job.setting.ends stop → length (stopped_line job (ask, stop)) ≤ 200
 stopped_line-le job ask stop h is =
     let place = slice_index stop 0 in
     let top = slice_index stop 1 in
@@ -209,6 +225,7 @@ stopped_line-le job ask stop h is =
     let billionth = length-billionths (p_value top of) (p_value-lt top of (omega (arith, is.part, is.of, limits.few)) (omega (arith, is.of, limits.few))) in
     omega (arith, whole, score, tail, start, placed, above, below, both, billionth)
 
+-- the lines of tests that stop early have at most 200 bytes for each ask
 stopped_lines-le : (job : Job) (stops : List (List ℕ)) → IsJob job → AreStops job stops
     → length (flat_map (stopped_line job) (zip job.setting.asks stops)) ≤ length job.setting.asks * 200
 stopped_lines-le job stops h are =
@@ -221,6 +238,7 @@ stopped_lines-le job stops h are =
     (stopped_line-le job (get_or asks k d.0) (get_or stops k d.1) h (are.each k d.1 within))) in
     subst (λ (n : ℕ). length (flat_map (stopped_line job) (zip asks stops)) ≤ n * 200) count many
 
+-- the lines of the tests have at most 200 bytes for each ask, whether these stop early or not
 test_lines-le : (n : ℕ) (job : Job) (os : List Outcome) (stops : List (List ℕ)) → IsJob job → job.setting.stop ≡ n → AreOutcomesOf job os → AreStopsBy n job stops
     → length (test_lines n job os stops) ≤ length job.setting.asks * 200
 test_lines-le zero job os stops h is all_of none = ends_lines-le job.setting.ends job os h is all_of
@@ -234,6 +252,7 @@ p_value-small r all some within =
     let least = (quotient_up_is_least (r * 10 ^ 9) all (omega (arith, some))).least (10 ^ 9) (le-leb (r * 10 ^ 9) (10 ^ 9 * all) (omega (arith, within))) in
     omega (arith, least)
 
+-- the line of the serial test is at most 200 bytes long
 serial_line-le : (job : Job) (place : ℕ) (ranks : List ℕ) (k : ℕ) (ask : Ask) → IsJob job → place ≤ job.setting.steps → IsRank job.setting.steps (slice_index ranks k)
     → length (serial_line job place ranks (k, ask)) ≤ 200
 serial_line-le job place ranks k ask h within is =
@@ -252,6 +271,7 @@ serial_line-le job place ranks k ask h within is =
     let billionth = length-billionths (p_value r all) (p_value-small r all (omega arith) is.few) in
     omega (arith, whole, score, tail, start, placed, ranked, of, billionth)
 
+-- the lines of the serial test have at most 200 bytes for each ask
 serial_lines-le : (b : Bool) (job : Job) (serial : Option (ℕ × List ℕ)) → IsJob job → IsSerialBy b job serial → length (serial_lines job serial) ≤ length job.setting.asks * 200
 serial_lines-le false job None h is = omega arith
 serial_lines-le false job (Some found) h is = absurd is
@@ -263,18 +283,21 @@ serial_lines-le true job (Some found) h is =
 
 -- ---- the other lines
 
+-- the line of the key is at most 69 bytes long
 length-key_line : (job : Job) → IsJob job → length (key_line job) ≤ 69
 length-key_line job h =
     let whole = length-line (codes "key") (encode_lower job.setting.key ∷ []) in
     let digits = length-encode_with lower_digits job.setting.key in
     omega (arith, whole, digits, h.within.setting.key)
 
+-- the line of the graph is at most 217 bytes long
 length-graph_line : (job : Job) → length (graph_line job) ≤ 217
 length-graph_line job =
     let edges = count_edges job.graph (λ u v. true) in
     let whole = length-line (codes "units") (decimal job.graph.units ∷ codes "edges" ∷ decimal edges ∷ codes "districts" ∷ decimal job.districts ∷ []) in
     omega (arith, whole, length-decimal_any job.graph.units, length-decimal_any edges, length-decimal_any job.districts)
 
+-- the line of the population is at most 290 bytes long
 length-population_line : (job : Job) → length (population_line job) ≤ 290
 length-population_line job =
     let whole = length-line (codes "population") (
@@ -282,6 +305,7 @@ length-population_line job =
     ∷ codes "low" ∷ decimal (least_population job) ∷ codes "high" ∷ decimal (greatest_population job) ∷ []) in
     omega (arith, whole, length-decimal_any (total_population job), length-decimal_any job.setting.slack, length-decimal_any (least_population job), length-decimal_any (greatest_population job))
 
+-- the line of the setting is at most 290 bytes long
 length-setting_line : (job : Job) → length (setting_line job) ≤ 290
 length-setting_line job =
     let whole = length-line (codes "walks") (
@@ -289,10 +313,12 @@ length-setting_line job =
     ∷ codes "ends" ∷ decimal job.setting.ends ∷ codes "hub-steps" ∷ decimal job.setting.hub_steps ∷ []) in
     omega (arith, whole, length-decimal_any job.setting.walks, length-decimal_any job.setting.steps, length-decimal_any job.setting.ends, length-decimal_any job.setting.hub_steps)
 
+-- the first line is at most 17 bytes long
 length-title_line : (b : Bool) → length (title_line b) ≤ 17
 length-title_line true = omega arith
 length-title_line false = omega arith
 
+-- the line of the most cut edges is at most 73 bytes long
 length-cut_line : (job : Job) → length (cut_line job) ≤ 73
 length-cut_line job =
     let whole = length-line (codes "max-cut") (decimal job.setting.max_cut ∷ []) in
@@ -300,6 +326,7 @@ length-cut_line job =
     cond_both {A = List ℕ} (nat_lt job.setting.max_cut 400000) (line (codes "max-cut" ∷ decimal job.setting.max_cut ∷ [])) [] (λ t. length t ≤ 73)
     (λ _. omega (arith, whole, most)) (λ _. omega arith)
 
+-- the line of the regions is at most 148 bytes long
 length-split_line : (most : ℕ) (regions : List ℕ) → length (split_line most regions) ≤ 148
 length-split_line most [] = omega arith
 length-split_line most (r ∷ rest) =
@@ -307,15 +334,18 @@ length-split_line most (r ∷ rest) =
     let whole = length-line (codes "max-split") (decimal most ∷ codes "regions" ∷ decimal count ∷ []) in
     omega (arith, whole, length-decimal_any most, length-decimal_any count)
 
+-- the lines of the rules are at most 221 bytes long
 length-rule_lines : (job : Job) → length (rule_lines job) ≤ 221
 length-rule_lines job =
     let both = length-append (cut_line job) (split_line job.setting.max_split job.regions) in
     omega (arith, both, length-cut_line job, length-split_line job.setting.max_split job.regions)
 
+-- the line of early stopping is at most 70 bytes long
 length-stop_line : (n : ℕ) → length (stop_line n) ≤ 70
 length-stop_line zero = omega arith
 length-stop_line (suc n) = let whole = length-line (codes "stop") (decimal (suc n) ∷ []) in omega (arith, whole, length-decimal_any (suc n))
 
+-- the line of the bins is at most 591 bytes long
 length-shift_line : (b : Bool) (os : List Outcome) → length (shift_line b os) ≤ 591
 length-shift_line false os = omega arith
 length-shift_line true os =
@@ -336,9 +366,11 @@ length-shift_line true os =
       length-decimal_any (bin 8),
     )
 
+-- seven texts that are short together are short as one
 joined-le : (a b c d e f g : List ℕ) (n : ℕ) → length a + length b + length c + length d + length e + length f + length g ≤ n → length (a ++ b ++ c ++ d ++ e ++ f ++ g) ≤ n
 joined-le a b c d e f g n h = simp length-append h
 
+-- the lines before those of the asks are at most 1200 bytes long
 length-head : (job : Job) → IsJob job → length (head job) ≤ 1200
 length-head job h =
     joined-le (title_line job.setting.shift) (key_line job) (graph_line job) (population_line job) (rule_lines job) (setting_line job) (stop_line job.setting.stop) 1200
@@ -346,10 +378,12 @@ length-head job h =
 
 -- ---- all of it
 
+-- the six parts of a report that are short are short as one
 parts-le : (a b c d e f : List ℕ) (l m n k : ℕ) → length a ≤ 1200 → length b ≤ l → length c ≤ 591 → length d ≤ m → length e ≤ n → length f ≤ 4 → 1795 + l + m + n ≤ k
     → length (a ++ b ++ c ++ d ++ e ++ f) ≤ k
 parts-le a b c d e f l m n k la lb lc ld le lf most = simp length-append (omega arith)
 
+-- a report is at most 2048 bytes long, and 200 for each ask of each trajectory and of two tests
 pub report-le : (job : Job) (os : List Outcome) (stops : List (List ℕ)) (serial : Option (ℕ × List ℕ)) → IsJob job → AreOutcomesOf job os → AreStopsOf job stops → IsSerialOf job serial
     → length (report job os stops serial) ≤ 2048 + (job.setting.walks + 2) * length job.setting.asks * 200
 unfolding report

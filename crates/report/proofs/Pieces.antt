@@ -10,7 +10,7 @@ use Rattle.audit_model.specs.declared.setting.Ask.{Ask}
 use Rattle.audit_model.specs.declared.setting.Score.TheVariants.{Seats}
 use Rattle.audit_model.specs.declared.setting.Tail.TheVariants.{Low}
 use Rattle.audit_model.specs.Job.{Job}
-use Rattle.report.specs.Lines.{Appends}
+use Rattle.report.specs.Lines.{AppendsText}
 use Rattle.audit_model.specs.Stopping.{placed_asks}
 use Rattle.report.proofs.Written.{IsWritten, written-none, written-more, written-err}
 
@@ -24,24 +24,28 @@ pieces-step : {X : Type 0} (piece : X → List ℕ) (xs : List X) (i : ℕ) (x d
 pieces-step piece xs i x d below is =
     rw (add-one, drop-cons xs i d) (ap (λ y. piece y ++ flat_map piece (drop (suc i) xs)) is)
 
+-- at first no piece is appended
 pub pieces-none : {X : Type 0} (piece : X → List ℕ) (xs : List X) (old : RoomyBytes) → ArePieces piece xs 0 old old
 pieces-none piece xs old = record { written = written-none old (flat_map piece xs) (flat_map piece xs) refl }
 
+-- one piece more is appended
 pub pieces-more : {X : Type 0} (piece : X → List ℕ) (xs : List X) (i : ℕ) (x d : X) (old now new : RoomyBytes)
-    → i < length xs → get_or xs i d ≡ x → ArePieces piece xs i old now → Appends now new (piece x) (Ok tt) → ArePieces piece xs (i + 1) old new
+    → i < length xs → get_or xs i d ≡ x → ArePieces piece xs i old now → AppendsText now new (piece x) (Ok tt) → ArePieces piece xs (i + 1) old new
 pieces-more piece xs i x d old now new below is before more = record {
   written = written-more old now new (flat_map piece xs) (piece x) (flat_map piece (drop (i + 1) xs))
       (subst (λ t. IsWritten old now (flat_map piece xs) t) (pieces-step piece xs i x d below is) before.written) more;
 }
 
+-- where a piece cannot be appended, the whole cannot
 pub pieces-err : {X : Type 0} (piece : X → List ℕ) (xs : List X) (i : ℕ) (x d : X) (old now new : RoomyBytes) (e : Memory)
-    → i < length xs → get_or xs i d ≡ x → ArePieces piece xs i old now → Appends now new (piece x) (Err e) → Appends old new (flat_map piece xs) (Err e)
+    → i < length xs → get_or xs i d ≡ x → ArePieces piece xs i old now → AppendsText now new (piece x) (Err e) → AppendsText old new (flat_map piece xs) (Err e)
 pieces-err piece xs i x d old now new e below is before failed =
     written-err old now new (flat_map piece xs) (piece x) (flat_map piece (drop (i + 1) xs)) e
     (subst (λ t. IsWritten old now (flat_map piece xs) t) (pieces-step piece xs i x d below is) before.written) failed
 
+-- where each piece is appended, the whole is
 pub pieces-all : {X : Type 0} (piece : X → List ℕ) (xs : List X) (i : ℕ) (old now : RoomyBytes)
-    → length xs ≤ i → ArePieces piece xs i old now → Appends old now (flat_map piece xs) (Ok tt)
+    → length xs ≤ i → ArePieces piece xs i old now → AppendsText old now (flat_map piece xs) (Ok tt)
 pieces-all piece xs i old now over before =
     let all : IsWritten old now (flat_map piece xs) [] = subst (λ t. IsWritten old now (flat_map piece xs) t) (ap (flat_map piece) (drop_all i xs over)) before.written in
     let items : now.items ≡ old.items ++ flat_map piece xs = sym (append-nil now.items) ∙ all.items in
@@ -67,14 +71,17 @@ placed job asks place e l =
     at ∙ ap (λ k. (k, get_or job.setting.asks place no_ask)) (zero-add place)
     ∙ ap (λ xs. (place, get_or xs place no_ask)) (sym e)
 
+-- the place of an ask is one of the asks with their places
 pub placed_within : (job : Job) (asks : List Ask) (place : ℕ) → asks ≡ job.setting.asks → place < length asks → place < length (placed_asks job)
 placed_within job asks place e l = omega (arith, length-enumerate_from 0 job.setting.asks, ap length e)
 
+-- behind the last ask there is no ask with its place
 pub placed_all : (job : Job) (asks : List Ask) (place : ℕ) → asks ≡ job.setting.asks → length asks ≤ place → length (placed_asks job) ≤ place
 placed_all job asks place e l = omega (arith, length-enumerate_from 0 job.setting.asks, ap length e)
 
 -- ---- the asks, each with the stop of its test
 
+-- at each place stand the ask and the stop of this place
 pub zipped : (job : Job) (asks : List Ask) (stops : List (List ℕ)) (place : ℕ) → asks ≡ job.setting.asks → length stops ≡ length job.setting.asks → place < length asks
     → get_or (zip job.setting.asks stops) place (no_ask, []) ≡ (get_or asks place no_ask, get_or stops place [])
 zipped job asks stops place e count l =
@@ -82,13 +89,16 @@ zipped job asks stops place e count l =
     get_or-zip job.setting.asks stops place (no_ask, []) inside (omega (arith, inside, count))
     ∙ ap (λ xs. (get_or xs place no_ask, get_or stops place [])) (sym e)
 
+-- asks with as many stops are as many as the asks
 zipped_length : (job : Job) (stops : List (List ℕ)) → length stops ≡ length job.setting.asks → length (zip job.setting.asks stops) ≡ length job.setting.asks
 zipped_length job stops count = length-zip job.setting.asks stops ∙ omega (arith, count)
 
+-- the place of an ask is one of the asks with their stops
 pub zipped_within : (job : Job) (asks : List Ask) (stops : List (List ℕ)) (place : ℕ) → asks ≡ job.setting.asks → length stops ≡ length job.setting.asks → place < length asks
     → place < length (zip job.setting.asks stops)
 zipped_within job asks stops place e count l = omega (arith, zipped_length job stops count, ap length e)
 
+-- behind the last ask there is no ask with its stop
 pub zipped_all : (job : Job) (asks : List Ask) (stops : List (List ℕ)) (place : ℕ) → asks ≡ job.setting.asks → length stops ≡ length job.setting.asks → length asks ≤ place
     → length (zip job.setting.asks stops) ≤ place
 zipped_all job asks stops place e count l = omega (arith, zipped_length job stops count, ap length e)

@@ -6,11 +6,12 @@ use Rattle.std.proofs.lemmas.Bool.{cases_Bool, cases_eq, eq-eqb, ne_eqb, eqb-tru
 use Rattle.audit_model.specs.Below.{above_all, count_below}
 use Rattle.audit_model.specs.Graph.{has}
 use Rattle.audit_model.specs.Meets.{region_count}
-use Rattle.model_laws.proofs.Below.{count_below_into}
-use Rattle.model_laws.proofs.Bools.{or_false}
+use Rattle.audit_model.proofs.Below.{count_below_into}
+use Rattle.audit_model.proofs.Bools.{or_false}
 
 -- ---- the marks
 
+-- a longer list has a number where the shorter has it or it is the last
 has_more : (xs : List ℕ) (x r : ℕ) → has (xs ++ x ∷ []) r ≡ (has xs r || (x == r))
 has_more [] x r = or_false (x == r)
 has_more (y ∷ xs) x r = or_both (y == r) (has (xs ++ x ∷ []) r) (has xs r) (x == r) (has_more xs x r)
@@ -19,10 +20,12 @@ has_more (y ∷ xs) x r = or_both (y == r) (has (xs ++ x ∷ []) r) (has xs r) (
     or_both true b c d h = refl
     or_both false b c d h = h
 
+-- an 'or' with what is true is true
 or_yes : (b : Bool) → (b || true) ≡ true
 or_yes true = refl
 or_yes false = refl
 
+-- a region that is marked is one of the longer list
 pub seen_more : (seen : List Bool) (xs : List ℕ) (x r : ℕ) → x < length seen → slice_index_or seen r false ≡ has xs r → slice_index_or (set seen x true) r false ≡ has (xs ++ x ∷ []) r
 seen_more seen xs x r below so_far = elim (cases_eq r x) [
   | inl e ↦
@@ -36,6 +39,7 @@ seen_more seen xs x r below so_far = elim (cases_eq r x) [
 
 -- ---- no region has a number past the marks
 
+-- each number of a list is below the one above all
 below_above : (xs : List ℕ) (r : ℕ) → has xs r ≡ true → r < above_all xs
 below_above [] r h = cc
 below_above (x ∷ xs) r h = elim (cases_Bool (x == r)) [
@@ -43,6 +47,7 @@ below_above (x ∷ xs) r h = elim (cases_Bool (x == r)) [
   | inr there ↦ let later : has xs r ≡ true = subst (λ b. (b || has xs r) ≡ true) there h in omega (arith, below_above xs r later)
 ]
 
+-- the number above all is at most any bound on each
 above_most : (xs : List ℕ) (n : ℕ) → All (λ r. r < n) xs → above_all xs ≤ n
 above_most [] n each = omega arith
 above_most (x ∷ xs) n each =
@@ -50,6 +55,7 @@ above_most (x ∷ xs) n each =
     let rest = above_most xs n (λ k d l. each (suc k) d (omega arith)) in
     omega (arith, first, rest)
 
+-- the marks below 5000 count the different regions
 pub regions_counted : (regions : List ℕ) → All (λ r. r < 5000) regions → count_below 5000 (has regions) ≡ region_count regions
 regions_counted regions few =
     let test : ℕ → Bool = has regions in

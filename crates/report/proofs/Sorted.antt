@@ -15,7 +15,7 @@ use Rattle.audit_model.specs.Below.{all_below, map_below}
 use Rattle.audit_model.specs.Job.{Job}
 use Rattle.audit_model.specs.Run.{total, bins_fit, fits, steps_of}
 use Rattle.audit_model.specs.Trajectory.{value_at}
-use Rattle.model_laws.proofs.Below.{all_below_at}
+use Rattle.audit_model.proofs.Below.{all_below_at}
 use Rattle.report.specs.Outcomes.{AreOutcomesOf, HasCounts, IsCount, AreEndsOf, reported, reported_by}
 
 -- the numbers below a bound are those from 0 on
@@ -30,6 +30,7 @@ map_below-is (suc n) =
 filter_yes : (p : Outcome → Bool) (o : Outcome) (os : List Outcome) → p o ≡ true → filter p (o ∷ os) ≡ o ∷ filter p os
 filter_yes p o os e = cond-true {A = List Outcome} (p o) (o ∷ filter p os) (filter p os) e
 
+-- an outcome that fails a test is left out
 filter_no : (p : Outcome → Bool) (o : Outcome) (os : List Outcome) → p o ≡ false → filter p (o ∷ os) ≡ filter p os
 filter_no p o os e = cond-false {A = List Outcome} (p o) (o ∷ filter p os) (filter p os) e
 
@@ -75,10 +76,12 @@ walks_reported : (h : ℕ) (job : Job) → job.setting.walks ≤ reported_by h j
 walks_reported zero job = omega arith
 walks_reported (suc h) job = omega arith
 
+-- no more trajectories are reported than there are
 reported_within : (h : ℕ) (job : Job) → reported_by h job ≤ total job
 reported_within zero job = omega arith
 reported_within (suc h) job = omega arith
 
+-- the outcomes of a job have the ids from 0 on
 ids : (job : Job) (os : List Outcome) → AreOutcomesOf job os → map (λ o. o.id) os ≡ range_with_len 0 (reported job)
 ids job os h = h.ids ∙ map_below-is (reported job)
 
@@ -97,9 +100,11 @@ id_at job os k d h l =
     let numbered = get_or-range_with_len 0 (reported job) k 0 (subst (λ n. k < n) (count job os h) l) in
     sym mapped ∙ ap (λ ids. get_or ids k 0) (ids job os h) ∙ numbered ∙ zero-add k
 
+-- the outlier trajectories stand first
 pub walks_first : (job : Job) (os : List Outcome) → AreOutcomesOf job os → filter (λ o. nat_lt o.id job.setting.walks) os ≡ take job.setting.walks os
 walks_first job os h = firsts job.setting.walks 0 (reported job) os (ids job os h) ∙ ap (λ k. take k os) (sub-zero job.setting.walks)
 
+-- the trajectories of the parallel test stand last
 pub ends_last : (job : Job) (os : List Outcome) → AreOutcomesOf job os → filter (λ o. nat_le job.setting.walks o.id) os ≡ drop job.setting.walks os
 ends_last job os h = lasts job.setting.walks 0 (reported job) os (ids job os h) ∙ ap (λ k. drop k os) (sub-zero job.setting.walks)
 
@@ -119,6 +124,7 @@ pub record Fits (job : Job) (o : Outcome) : Type 0 where
   pub moved : o.moved ≤ steps_of (nat_lt o.id job.setting.walks) job
   pub counts : nat_lt o.id job.setting.walks ≡ true → HasCounts job o
 
+-- an outcome that fits meets each part of the test
 pub fits_parts : (job : Job) (o : Outcome) → fits job o ≡ true → Fits job o
 fits_parts job o h =
     let is_walk = nat_lt o.id job.setting.walks in
@@ -144,6 +150,7 @@ fits_parts job o h =
 pub fit_at : (job : Job) (os : List Outcome) (k : ℕ) (d : Outcome) → AreOutcomesOf job os → k < length os → Fits job (get_or os k d)
 fit_at job os k d h l = fits_parts job (get_or os k d) (AllPass-from_list_all (fits job) os h.fitting k d l)
 
+-- each outlier trajectory has counts of visits
 pub walks_counted : (job : Job) (os : List Outcome) → AreOutcomesOf job os → All (HasCounts job) (take job.setting.walks os)
 walks_counted job os h k d l =
     let all = walks_within job os h in
@@ -153,6 +160,7 @@ walks_counted job os h k d l =
     subst (HasCounts job) (sym (get_or-take job.setting.walks os k d below))
     ((fit_at job os k d h (omega arith)).counts (lt-ltb (get_or os k d).id job.setting.walks (omega arith)))
 
+-- where no test stops early, the last outcomes are all those of the parallel test
 pub ends_sound : (job : Job) (os : List Outcome) → job.setting.stop ≡ 0 → AreOutcomesOf job os → AreEndsOf job (drop job.setting.walks os)
 ends_sound job os none h =
     let all : length os ≡ total job = count job os h ∙ ap (λ n. reported_by n job) none in

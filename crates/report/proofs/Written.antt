@@ -4,9 +4,9 @@ use Rattle.std.proofs.lemmas.Bool.{false≢true}
 use Rattle.std.proofs.lemmas.List.{length-append}
 use Rattle.audit_model.specs.Room.{RoomyBytes}
 use Rattle.audit_model.specs.declared.memory.Memory.{Memory}
-use Rattle.report.specs.Lines.{Appends, tail_of, word_text}
+use Rattle.report.specs.Lines.{AppendsText, tail_of, word_text}
 use Rattle.report.specs.declared.lines.Word.{Word}
-use Rattle.text_definitions.specs.Report.{line}
+use Rattle.audit_statement.specs.Report.{line}
 
 -- a line is its first word and what stands after it
 pub line-cons : (word : List ℕ) (words : List (List ℕ)) → line (word ∷ words) ≡ word ++ tail_of words
@@ -18,6 +18,7 @@ pub record IsWritten (old now : RoomyBytes) (whole left : List ℕ) : Type 0 whe
   pub items : now.items ++ left ≡ old.items ++ whole
   pub room : length whole ≤ old.spare → now.spare + length now.items ≡ old.spare + length old.items
 
+-- at first nothing is written, and the whole is left
 pub written-none : (old : RoomyBytes) (whole left : List ℕ) → whole ≡ left → IsWritten old old whole left
 written-none old whole left e = record { items = ap (λ t. old.items ++ t) (sym e); room = λ _. refl }
 
@@ -28,7 +29,8 @@ has_room old now whole piece left w enough =
     let count : length now.items + (length piece + length left) ≡ length old.items + length whole = simp length-append at (ap length w.items) in
     omega arith
 
-pub written-more : (old now new : RoomyBytes) (whole piece left : List ℕ) → IsWritten old now whole (piece ++ left) → Appends now new piece (Ok tt) → IsWritten old new whole left
+-- one piece more is written
+pub written-more : (old now new : RoomyBytes) (whole piece left : List ℕ) → IsWritten old now whole (piece ++ left) → AppendsText now new piece (Ok tt) → IsWritten old new whole left
 written-more old now new whole piece left w more = record {
   items = ap (λ t. t ++ left) more.ok ∙ append_assoc now.items piece left ∙ w.items;
   room = λ enough.
@@ -38,13 +40,15 @@ written-more old now new whole piece left w more = record {
       omega (arith, spent.1);
 }
 
-pub written-err : (old now new : RoomyBytes) (whole piece left : List ℕ) (e : Memory) → IsWritten old now whole (piece ++ left) → Appends now new piece (Err e) → Appends old new whole (Err e)
+-- where a piece cannot be written, the whole cannot
+pub written-err : (old now new : RoomyBytes) (whole piece left : List ℕ) (e : Memory) → IsWritten old now whole (piece ++ left) → AppendsText now new piece (Err e) → AppendsText old new whole (Err e)
 written-err old now new whole piece left e w more = record {
   ok = tt;
   room = λ enough. absurd (false≢true (more.room (has_room old now whole piece left w enough)).0);
 }
 
-pub written-last : (old now new : RoomyBytes) (whole piece : List ℕ) (r : Result (Unit {0}) Memory) → IsWritten old now whole piece → Appends now new piece r → Appends old new whole r
+-- with the last piece the whole is written, or it cannot be
+pub written-last : (old now new : RoomyBytes) (whole piece : List ℕ) (r : Result (Unit {0}) Memory) → IsWritten old now whole piece → AppendsText now new piece r → AppendsText old new whole r
 written-last old now new whole piece (Ok u) w more =
     let done = written-more old now new whole piece [] (subst (λ t. IsWritten old now whole t) (sym (append-nil piece)) w) more in
     let items : new.items ≡ old.items ++ whole = sym (append-nil new.items) ∙ done.items in
@@ -62,6 +66,7 @@ pub tail-step : (words : List Word) (i : ℕ) (d : Word) → i < length words
     → tail_of (map word_text (drop i words)) ≡ 32 ∷ (word_text (get_or words i d) ++ tail_of (map word_text (drop (i + 1) words)))
 tail-step words i d h = rw (add-one, drop-cons words i d) refl
 
+-- behind the last word stands the line's end
 pub tail-end : (words : List Word) (i : ℕ) → length words ≤ i → tail_of (map word_text (drop i words)) ≡ 10 ∷ []
 tail-end [] zero h = refl
 tail-end [] (suc i) h = refl
@@ -69,10 +74,11 @@ tail-end (word ∷ words) zero h = absurd (omega arith)
 tail-end (word ∷ words) (suc i) h = tail-end words i (omega arith)
 
 -- one text after another
-pub appends-two : (old mid new : RoomyBytes) (a b : List ℕ) (r : Result (Unit {0}) Memory) → Appends old mid a (Ok tt) → Appends mid new b r → Appends old new (a ++ b) r
+pub appends-two : (old mid new : RoomyBytes) (a b : List ℕ) (r : Result (Unit {0}) Memory) → AppendsText old mid a (Ok tt) → AppendsText mid new b r → AppendsText old new (a ++ b) r
 appends-two old mid new a b r first second = written-last old mid new (a ++ b) b r (written-more old old mid (a ++ b) a b (written-none old (a ++ b) (a ++ b) refl) first) second
 
-pub appends-err : (old new : RoomyBytes) (a b : List ℕ) (e : Memory) → Appends old new a (Err e) → Appends old new (a ++ b) (Err e)
+-- a text whose front cannot be appended cannot be
+pub appends-err : (old new : RoomyBytes) (a b : List ℕ) (e : Memory) → AppendsText old new a (Err e) → AppendsText old new (a ++ b) (Err e)
 appends-err old new a b e first = written-err old old new (a ++ b) a b e (written-none old (a ++ b) (a ++ b) refl) first
 
 -- five texts in turn, appended at once
@@ -84,5 +90,5 @@ appended-five start one two three four last out new a b c d e hs h1 h2 h3 h4 h5 
     h ∙ ap (λ t. out ++ t) (whole ∙ all)
 
 -- the same text, given otherwise
-pub appends-by : (old new : RoomyBytes) (a b : List ℕ) (r : Result (Unit {0}) Memory) → a ≡ b → Appends old new a r → Appends old new b r
-appends-by old new a b r e h = subst (λ t. Appends old new t r) e h
+pub appends-by : (old new : RoomyBytes) (a b : List ℕ) (r : Result (Unit {0}) Memory) → a ≡ b → AppendsText old new a r → AppendsText old new b r
+appends-by old new a b r e h = subst (λ t. AppendsText old new t r) e h

@@ -1,3 +1,6 @@
+pub mod Ended
 pub mod Lines
 pub mod Outcomes
 pub mod Parts
+pub mod Pieces
+pub mod Said

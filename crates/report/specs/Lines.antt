@@ -6,7 +6,7 @@ use Rattle.audit_model.specs.Room.{RoomyBytes}
 use Rattle.audit_model.specs.declared.memory.Memory.{Memory}
 use Rattle.report.specs.declared.lines.Word.{Word}
 use Rattle.report.specs.declared.lines.Word.TheVariants.{Text, Number, Signed, Fraction, Billionths, Key}
-use Rattle.text_definitions.specs.Report.{fraction, billionths}
+use Rattle.audit_statement.specs.Report.{fraction, billionths}
 
 -- how a word is written
 abbrev pub word_text : Word → List ℕ
@@ -23,6 +23,6 @@ tail_of [] = 10 ∷ []
 tail_of (word ∷ words) = 32 ∷ (word ++ tail_of words)
 
 -- the text is appended; where there is room for it, it takes no memory
-pub record Appends (old new : RoomyBytes) (text : List ℕ) (result : Result (Unit {0}) Memory) : Type 0 where
+pub record AppendsText (old new : RoomyBytes) (text : List ℕ) (result : Result (Unit {0}) Memory) : Type 0 where
   pub ok : OnOk result (new.items ≡ old.items ++ text)
   pub room : length text ≤ old.spare → IsOk result × (new.spare + length text ≡ old.spare)

@@ -37,7 +37,7 @@ pub record AreEndsOf (job : Job) (ends : List Outcome) : Type 0 where
 -- ---- where tests stopped
 
 -- a place among so many ends, and a part of the values up to it
-pub record IsStop (ends : ℕ) (stop : List ℕ) : Type 0 where
+pub record IsStopOf (ends : ℕ) (stop : List ℕ) : Type 0 where
   pub place : slice_index stop 0 ≤ ends
   pub some : 1 ≤ slice_index stop 1
   pub part : slice_index stop 1 ≤ slice_index stop 2
@@ -46,7 +46,7 @@ pub record IsStop (ends : ℕ) (stop : List ℕ) : Type 0 where
 -- one for each ask
 pub record AreStops (job : Job) (stops : List (List ℕ)) : Type 0 where
   pub count : length stops ≡ length job.setting.asks
-  pub each : All (IsStop job.setting.ends) stops
+  pub each : All (IsStopOf job.setting.ends) stops
 
 -- none where no test stops early
 abbrev pub AreStopsBy : ℕ → Job → List (List ℕ) → Type 0

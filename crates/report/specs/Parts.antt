@@ -6,7 +6,7 @@ use Rattle.audit_model.specs.declared.setting.Ask.{Ask}
 use Rattle.audit_model.specs.Job.{Job}
 use Rattle.audit_model.specs.Test.{p_value}
 use Rattle.audit_model.specs.Stopping.{placed_asks}
-use Rattle.text_definitions.specs.Report.{line, ask_words, billionths, graph_line, population_line, rule_lines, serial_lines, setting_line, shift_line, stop_line, test_lines, title_line, walk_line, walk_lines}
+use Rattle.audit_statement.specs.Report.{line, ask_words, billionths, graph_line, population_line, rule_lines, serial_lines, setting_line, shift_line, stop_line, test_lines, title_line, walk_line, walk_lines}
 
 -- the line with the key
 abbrev pub key_line : Job → List ℕ
@@ -43,8 +43,8 @@ place_line job place ask rank = line (
     ∷ codes "p" ∷ billionths (p_value rank (job.setting.steps + 1)) ∷ [])
 
 -- the report, part by part
-abbrev pub whole : Job → List Outcome → List (List ℕ) → Option (ℕ × List ℕ) → List ℕ
-whole job outcomes stops serial =
+abbrev pub report_by_parts : Job → List Outcome → List (List ℕ) → Option (ℕ × List ℕ) → List ℕ
+report_by_parts job outcomes stops serial =
     head job
     ++ walk_lines job outcomes
     ++ shift_line job.setting.shift outcomes

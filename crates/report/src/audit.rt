@@ -1,10 +1,10 @@
 //! The report of an audit.
 
 ghost use Rattle.std.specs.Prelude.{◌≡◌, ◌+◌, ◌≤◌, ◌++◌, length};
-ghost use Rattle.report.specs.Lines.{Appends};
+ghost use Rattle.report.specs.Lines.{AppendsText};
 ghost use Rattle.report.specs.Outcomes.{AreOutcomesOf, AreStopsOf, IsSerialOf};
-ghost use Rattle.report.specs.Parts.{head, key_line, whole};
-ghost use Rattle.text_definitions.specs.Report as definition;
+ghost use Rattle.report.specs.Parts.{head, key_line, report_by_parts};
+ghost use Rattle.audit_statement.specs.Report as definition;
 
 use crate::check::{push_graph_line, push_population_line};
 use crate::lines::{Word, push_line};
@@ -50,7 +50,7 @@ fn push_report(
     requires outcomes { AreOutcomesOf job.now sorted.now }
     requires stops { AreStopsOf job.now stops.now }
     requires serial { IsSerialOf job.now serial }
-    ensures { Appends out.old out.new (whole job.now sorted.now stops.now serial) result }
+    ensures { AppendsText out.old out.new (report_by_parts job.now sorted.now stops.now serial) result }
 {
     push_head(job, out)?;
     push_walk_lines(job, sorted, out)?;
@@ -62,7 +62,7 @@ fn push_report(
 
 /// Appends the lines before those of the asks.
 fn push_head(job: &Job, out: &mut Bytes) -> Result<(), Memory>
-    ensures { Appends out.old out.new (head job.now) result }
+    ensures { AppendsText out.old out.new (head job.now) result }
 {
     push_title_line(job, out)?;
     push_key_line(job, out)?;
@@ -75,7 +75,7 @@ fn push_head(job: &Job, out: &mut Bytes) -> Result<(), Memory>
 
 /// Appends the first line, which tells whether there is one of seats.
 fn push_title_line(job: &Job, out: &mut Bytes) -> Result<(), Memory>
-    ensures { Appends out.old out.new (definition.title_line job.now.setting.shift) result }
+    ensures { AppendsText out.old out.new (definition.title_line job.now.setting.shift) result }
 {
     let title = if job.setting().shift {
         "district-audit 2"
@@ -87,14 +87,14 @@ fn push_title_line(job: &Job, out: &mut Bytes) -> Result<(), Memory>
 
 /// Appends the line with the key.
 fn push_key_line(job: &Job, out: &mut Bytes) -> Result<(), Memory>
-    ensures { Appends out.old out.new (key_line job.now) result }
+    ensures { AppendsText out.old out.new (key_line job.now) result }
 {
     push_line(out, &[Word::Text("key"), Word::Key(&job.setting().key)])
 }
 
 /// Appends the line with the numbers and the lengths of the trajectories.
 fn push_setting_line(job: &Job, out: &mut Bytes) -> Result<(), Memory>
-    ensures { Appends out.old out.new (definition.setting_line job.now) result }
+    ensures { AppendsText out.old out.new (definition.setting_line job.now) result }
 {
     let setting = job.setting();
     push_line(
@@ -114,7 +114,7 @@ fn push_setting_line(job: &Job, out: &mut Bytes) -> Result<(), Memory>
 
 /// Appends the line with the number of ends at which a test stops, where one stops early.
 fn push_stop_line(job: &Job, out: &mut Bytes) -> Result<(), Memory>
-    ensures { Appends out.old out.new (definition.stop_line job.now.setting.stop) result }
+    ensures { AppendsText out.old out.new (definition.stop_line job.now.setting.stop) result }
 {
     let enough = job.setting().stop;
     if enough == 0 {

@@ -1,8 +1,8 @@
 //! The text of a check.
 
 ghost use Rattle.std.specs.Prelude.{◌≡◌, ◌++◌, OnOk, OnErr};
-ghost use Rattle.report.specs.Lines.{Appends};
-ghost use Rattle.text_definitions.specs.Report as definition;
+ghost use Rattle.report.specs.Lines.{AppendsText};
+ghost use Rattle.audit_statement.specs.Report as definition;
 
 use crate::lines::{Word, push_line};
 use crate::rules::push_rule_lines;
@@ -27,7 +27,7 @@ pub fn check_text(alloc: Global, job: &Job, out: &mut Bytes) -> Result<(), Memor
 
 /// Appends the line with the numbers of units, edges and districts.
 pub fn push_graph_line(job: &Job, out: &mut Bytes) -> Result<(), Memory>
-    ensures { Appends out.old out.new (definition.graph_line job.now) result }
+    ensures { AppendsText out.old out.new (definition.graph_line job.now) result }
 {
     push_line(
         out,
@@ -44,7 +44,7 @@ pub fn push_graph_line(job: &Job, out: &mut Bytes) -> Result<(), Memory>
 
 /// Appends the line with the whole population, the slack, and the bounds of a district's population.
 pub fn push_population_line(job: &Job, out: &mut Bytes) -> Result<(), Memory>
-    ensures { Appends out.old out.new (definition.population_line job.now) result }
+    ensures { AppendsText out.old out.new (definition.population_line job.now) result }
 {
     let (low, high) = job.limits();
     push_line(

@@ -2,11 +2,11 @@
 
 ghost use Rattle.std.specs.Prelude.{◌≡◌, ◌+◌, ◌<◌, ◌≤◌, flat_map};
 ghost use Rattle.audit_model.specs.Trajectory.{plan_value};
-ghost use Rattle.report.specs.Lines.{Appends};
+ghost use Rattle.report.specs.Lines.{AppendsText};
 ghost use Rattle.report.specs.Outcomes.{AreEndsOf, AreOutcomesOf};
 ghost use Rattle.report.specs.Parts.{rank_line};
 ghost use Rattle.audit_model.specs.Stopping.{placed_asks};
-ghost use Rattle.text_definitions.specs.Report.{ends_line, ends_lines};
+ghost use Rattle.audit_statement.specs.Report.{ends_line, ends_lines};
 
 use crate::lines::{Word, push_line};
 use crate::names::{score_text, tail_text};
@@ -23,7 +23,7 @@ use plan_core::job::Job;
 pub fn push_ends_lines(job: &Job, sorted: &[Outcome], out: &mut Bytes) -> Result<(), Memory>
     requires outcomes { AreOutcomesOf job.now sorted.now }
     requires all { job.now.setting.stop ≡ 0 }
-    ensures { Appends out.old out.new (ends_lines job.now.setting.ends job.now sorted.now) result }
+    ensures { AppendsText out.old out.new (ends_lines job.now.setting.ends job.now sorted.now) result }
 {
     if job.setting().ends == 0 {
         return Ok(());
@@ -34,7 +34,7 @@ pub fn push_ends_lines(job: &Job, sorted: &[Outcome], out: &mut Bytes) -> Result
 /// Appends a line for each ask.
 fn push_ends(job: &Job, ends: &[Outcome], out: &mut Bytes) -> Result<(), Memory>
     requires { AreEndsOf job.now ends.now }
-    ensures { Appends out.old out.new (flat_map (ends_line job.now ends.now) (placed_asks job.now)) result }
+    ensures { AppendsText out.old out.new (flat_map (ends_line job.now ends.now) (placed_asks job.now)) result }
 {
     for (place, ask) in asks_of(job).iter().enumerate() {
         let place = place as u32;
@@ -55,7 +55,7 @@ fn push_ends_line(
     requires place { place < 4 }
     requires start { start ≡ plan_value job.now job.now.start ask.score }
     requires ends { AreEndsOf job.now ends.now }
-    ensures { Appends out.old out.new (ends_line job.now ends.now (place, ask)) result }
+    ensures { AppendsText out.old out.new (ends_line job.now ends.now (place, ask)) result }
 {
     let start_rank = rank(ask.tail, start, place, ends);
     push_rank_line(job, ask, start, start_rank, out)
@@ -71,7 +71,7 @@ fn push_rank_line(
 ) -> Result<(), Memory>
     requires start { start ≡ plan_value job.now job.now.start ask.score }
     requires rank { (1 ≤ start_rank) × (start_rank ≤ job.now.setting.ends + 1) }
-    ensures { Appends out.old out.new (rank_line job.now ask start_rank) result }
+    ensures { AppendsText out.old out.new (rank_line job.now ask start_rank) result }
 {
     let values = ranked(job);
     push_line(

@@ -1,13 +1,16 @@
-//! The texts that an audit writes.
+//! The texts that an audit writes: the report, the text of a check, and the line that tells why a call ended, with its status.
 #![tactic(auto)]
 
 mod audit;
 pub mod check;
+pub mod ended;
 mod ends;
 mod lines;
 mod names;
+pub mod note;
 mod numbers;
 mod outcomes;
+pub mod piece;
 mod room;
 mod rules;
 mod serial;
@@ -15,7 +18,11 @@ mod shift;
 mod stops;
 mod values;
 mod walks;
+pub mod writing;
 
 pub use audit::text;
 pub use check::check_text;
+pub use ended::Ended;
+pub use note::tell;
 pub use room::reserve;
+pub use writing::write_all;

@@ -1,8 +1,8 @@
 //! Lines of words.
 
 ghost use Rattle.std.specs.Prelude.{◌≡◌, ◌∷◌, map};
-ghost use Rattle.report.specs.Lines.{Appends, tail_of, word_text};
-ghost use Rattle.text_definitions.specs.Report.{line};
+ghost use Rattle.report.specs.Lines.{AppendsText, tail_of, word_text};
+ghost use Rattle.audit_statement.specs.Report.{line};
 
 use crate::numbers::{push_billionths, push_fraction, push_key, push_number, push_signed};
 use audit_model::buffers::Bytes;
@@ -24,7 +24,7 @@ pub enum Word<'a> {
 
 /// Appends a word.
 pub fn push_word(out: &mut Bytes, word: &Word) -> Result<(), Memory>
-    ensures { Appends out.old out.new (word_text word.now) result }
+    ensures { AppendsText out.old out.new (word_text word.now) result }
 {
     match word {
         Word::Text(text) => out.append(text.as_bytes()),
@@ -38,7 +38,7 @@ pub fn push_word(out: &mut Bytes, word: &Word) -> Result<(), Memory>
 
 /// Appends the words with a space between each two, and a line feed.
 pub fn push_line(out: &mut Bytes, words: &[Word]) -> Result<(), Memory>
-    ensures { Appends out.old out.new (line (map word_text words.now)) result }
+    ensures { AppendsText out.old out.new (line (map word_text words.now)) result }
 {
     let Some((first, rest)) = words.split_first() else {
         return out.push(b'\n');
@@ -49,7 +49,7 @@ pub fn push_line(out: &mut Bytes, words: &[Word]) -> Result<(), Memory>
 
 /// Appends the words with a space before each, and a line feed.
 fn push_tail(out: &mut Bytes, words: &[Word]) -> Result<(), Memory>
-    ensures { Appends out.old out.new (tail_of (map word_text words.now)) result }
+    ensures { AppendsText out.old out.new (tail_of (map word_text words.now)) result }
 {
     for word in words {
         push_next(out, word)?;
@@ -59,7 +59,7 @@ fn push_tail(out: &mut Bytes, words: &[Word]) -> Result<(), Memory>
 
 /// Appends a space and the word.
 fn push_next(out: &mut Bytes, word: &Word) -> Result<(), Memory>
-    ensures { Appends out.old out.new (32 ∷ word_text word.now) result }
+    ensures { AppendsText out.old out.new (32 ∷ word_text word.now) result }
 {
     out.push(b' ')?;
     push_word(out, word)

@@ -1,7 +1,7 @@
 //! How scores and tails are written.
 
 ghost use Rattle.std.specs.Prelude.{◌≡◌};
-ghost use Rattle.text_definitions.specs.Names.{score_name, tail_name};
+ghost use Rattle.audit_statement.specs.Names.{score_name, tail_name};
 
 use audit_model::setting::{Score, Tail};
 

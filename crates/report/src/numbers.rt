@@ -3,8 +3,8 @@
 ghost use Rattle.std.specs.Prelude.{◌≡◌, ◌<◌, ◌≤◌, ◌^◌, ◌∷◌, decimal, replicate};
 ghost use Rattle.std.specs.Fmt.{signed_decimal};
 ghost use Rattle.hex.specs.Hex.{encode_lower};
-ghost use Rattle.report.specs.Lines.{Appends};
-ghost use Rattle.text_definitions.specs.Report.{fraction, billionths, nine_digits};
+ghost use Rattle.report.specs.Lines.{AppendsText};
+ghost use Rattle.audit_statement.specs.Report.{fraction, billionths, nine_digits};
 
 use audit_model::buffers::Bytes;
 use audit_model::memory::Memory;
@@ -17,21 +17,21 @@ const ZEROS: &str = "000000000";
 
 /// Appends a number.
 pub fn push_number(out: &mut Bytes, number: u64) -> Result<(), Memory>
-    ensures { Appends out.old out.new (decimal number) result }
+    ensures { AppendsText out.old out.new (decimal number) result }
 {
     out.append(Buffer::new().format(number).as_bytes())
 }
 
 /// Appends a number, with a minus sign where it is negative.
 pub fn push_signed(out: &mut Bytes, number: i64) -> Result<(), Memory>
-    ensures { Appends out.old out.new (signed_decimal number) result }
+    ensures { AppendsText out.old out.new (signed_decimal number) result }
 {
     out.append(Buffer::new().format(number).as_bytes())
 }
 
 /// Appends a numerator, a stroke and a denominator.
 pub fn push_fraction(out: &mut Bytes, top: i64, bottom: u64) -> Result<(), Memory>
-    ensures { Appends out.old out.new (fraction top bottom) result }
+    ensures { AppendsText out.old out.new (fraction top bottom) result }
 {
     push_signed(out, top)?;
     push_denominator(out, bottom)
@@ -39,7 +39,7 @@ pub fn push_fraction(out: &mut Bytes, top: i64, bottom: u64) -> Result<(), Memor
 
 /// Appends a number of billionths: the whole part, a point and nine digits.
 pub fn push_billionths(out: &mut Bytes, number: u64) -> Result<(), Memory>
-    ensures { Appends out.old out.new (billionths number) result }
+    ensures { AppendsText out.old out.new (billionths number) result }
 {
     push_number(out, number / BILLION)?;
     push_decimals(out, number % BILLION)
@@ -47,7 +47,7 @@ pub fn push_billionths(out: &mut Bytes, number: u64) -> Result<(), Memory>
 
 /// Appends the digits of a key, two for each byte.
 pub fn push_key(out: &mut Bytes, key: &[u8; 32]) -> Result<(), Memory>
-    ensures { Appends out.old out.new (encode_lower key.now) result }
+    ensures { AppendsText out.old out.new (encode_lower key.now) result }
 {
     let mut digits = [0; 64];
     // It fails only where the room is not twice the length, and here it is.
@@ -57,7 +57,7 @@ pub fn push_key(out: &mut Bytes, key: &[u8; 32]) -> Result<(), Memory>
 
 /// Appends a stroke and the denominator.
 fn push_denominator(out: &mut Bytes, bottom: u64) -> Result<(), Memory>
-    ensures { Appends out.old out.new (47 ∷ decimal bottom) result }
+    ensures { AppendsText out.old out.new (47 ∷ decimal bottom) result }
 {
     out.push(b'/')?;
     push_number(out, bottom)
@@ -66,7 +66,7 @@ fn push_denominator(out: &mut Bytes, bottom: u64) -> Result<(), Memory>
 /// Appends a point and nine digits.
 fn push_decimals(out: &mut Bytes, number: u64) -> Result<(), Memory>
     requires { number < 10 ^ 9 }
-    ensures { Appends out.old out.new (46 ∷ nine_digits number) result }
+    ensures { AppendsText out.old out.new (46 ∷ nine_digits number) result }
 {
     out.push(b'.')?;
     push_nine_digits(out, number)
@@ -75,7 +75,7 @@ fn push_decimals(out: &mut Bytes, number: u64) -> Result<(), Memory>
 /// Appends the number with as many zeros in front as make nine digits.
 fn push_nine_digits(out: &mut Bytes, number: u64) -> Result<(), Memory>
     requires { number < 10 ^ 9 }
-    ensures { Appends out.old out.new (nine_digits number) result }
+    ensures { AppendsText out.old out.new (nine_digits number) result }
 {
     let mut buffer = Buffer::new();
     let digits = buffer.format(number);

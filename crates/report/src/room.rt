@@ -3,7 +3,7 @@
 ghost use Rattle.std.specs.Prelude.{◌≡◌, ◌≤◌, ℕ, List, length, Option, OnOk, OnErr};
 ghost use Rattle.audit_model.specs.declared.outcome.Outcome.{Outcome};
 ghost use Rattle.report.specs.Outcomes.{AreOutcomesOf, AreStopsOf, IsSerialOf};
-ghost use Rattle.text_definitions.specs.Report as definition;
+ghost use Rattle.audit_statement.specs.Report as definition;
 
 use crate::values::asks_of;
 use audit_model::buffers::Bytes;

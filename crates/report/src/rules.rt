@@ -5,8 +5,8 @@ ghost use Rattle.std.specs.List.{slice_index_or};
 ghost use Rattle.audit_model.specs.Below.{count_below};
 ghost use Rattle.audit_model.specs.Graph.{has};
 ghost use Rattle.audit_model.specs.Meets.{region_count};
-ghost use Rattle.report.specs.Lines.{Appends};
-ghost use Rattle.text_definitions.specs.Report as definition;
+ghost use Rattle.report.specs.Lines.{AppendsText};
+ghost use Rattle.audit_statement.specs.Report as definition;
 ghost use Rattle.audit_model.specs.Limits.{most_regions};
 
 use crate::lines::{Word, push_line};
@@ -19,7 +19,7 @@ const REGIONS: usize = 5000;
 
 /// Appends a line for each rule that limits the plans.
 pub fn push_rule_lines(job: &Job, out: &mut Bytes) -> Result<(), Memory>
-    ensures { Appends out.old out.new (definition.rule_lines job.now) result }
+    ensures { AppendsText out.old out.new (definition.rule_lines job.now) result }
 {
     push_cut_line(job, out)?;
     push_split_line(job, out)
@@ -27,7 +27,7 @@ pub fn push_rule_lines(job: &Job, out: &mut Bytes) -> Result<(), Memory>
 
 /// Appends the line with the most cut edges, where they are limited.
 fn push_cut_line(job: &Job, out: &mut Bytes) -> Result<(), Memory>
-    ensures { Appends out.old out.new (definition.cut_line job.now) result }
+    ensures { AppendsText out.old out.new (definition.cut_line job.now) result }
 {
     let most = job.setting().max_cut;
     if most >= 400_000 {
@@ -38,7 +38,7 @@ fn push_cut_line(job: &Job, out: &mut Bytes) -> Result<(), Memory>
 
 /// Appends the line with the limit on splits and the number of regions, where there are any.
 fn push_split_line(job: &Job, out: &mut Bytes) -> Result<(), Memory>
-    ensures { Appends out.old out.new (definition.split_line job.now.setting.max_split job.now.regions) result }
+    ensures { AppendsText out.old out.new (definition.split_line job.now.setting.max_split job.now.regions) result }
 {
     let regions = regions_of(job);
     if regions.is_empty() {

@@ -2,10 +2,10 @@
 
 ghost use Rattle.std.specs.Prelude.{◌≡◌, ◌<◌, ◌≤◌, flat_map, slice_index};
 ghost use Rattle.audit_model.specs.Trajectory.{plan_value};
-ghost use Rattle.report.specs.Lines.{Appends};
+ghost use Rattle.report.specs.Lines.{AppendsText};
 ghost use Rattle.report.specs.Outcomes.{IsSerialOf, AreRanks, IsRank};
 ghost use Rattle.report.specs.Parts.{place_line};
-ghost use Rattle.text_definitions.specs.Report as definition;
+ghost use Rattle.audit_statement.specs.Report as definition;
 ghost use Rattle.audit_model.specs.Stopping.{placed_asks};
 
 use crate::lines::{Word, push_line};
@@ -24,7 +24,7 @@ pub fn push_serial_lines(
     out: &mut Bytes,
 ) -> Result<(), Memory>
     requires { IsSerialOf job.now serial }
-    ensures { Appends out.old out.new (definition.serial_lines job.now serial) result }
+    ensures { AppendsText out.old out.new (definition.serial_lines job.now serial) result }
 {
     match serial {
         None => Ok(()),
@@ -38,7 +38,7 @@ pub fn push_serial_lines(
 /// Appends the line of each ask.
 fn push_ranks(job: &Job, place: u32, ranks: &[u64; 4], out: &mut Bytes) -> Result<(), Memory>
     requires { AreRanks job.now ranks.now }
-    ensures { Appends out.old out.new (flat_map (definition.serial_line job.now place ranks.now) (placed_asks job.now)) result }
+    ensures { AppendsText out.old out.new (flat_map (definition.serial_line job.now place ranks.now) (placed_asks job.now)) result }
 {
     for (k, ask) in asks_of(job).iter().enumerate() {
         push_serial_line(job, place, *ask, job.start_value(k as u32), ranks[k], out)?;
@@ -57,7 +57,7 @@ fn push_serial_line(
 ) -> Result<(), Memory>
     requires start { start ≡ plan_value job.now job.now.start ask.score }
     requires rank { IsRank job.now.setting.steps rank }
-    ensures { Appends out.old out.new (place_line job.now place ask rank) result }
+    ensures { AppendsText out.old out.new (place_line job.now place ask rank) result }
 {
     let visits = visits(job);
     push_line(

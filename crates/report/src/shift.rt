@@ -1,9 +1,9 @@
 //! The line of the seats of the visited plans.
 
 ghost use Rattle.std.specs.Prelude.{◌≡◌, ◌<◌, ◌≤◌, true, length, slice_index, sum_by};
-ghost use Rattle.report.specs.Lines.{Appends};
+ghost use Rattle.report.specs.Lines.{AppendsText};
 ghost use Rattle.report.specs.Outcomes.{AreOutcomesOf};
-ghost use Rattle.text_definitions.specs.Report as definition;
+ghost use Rattle.audit_statement.specs.Report as definition;
 ghost use Rattle.audit_model.specs.Limits.{most_trajectories};
 
 use crate::lines::{Word, push_line};
@@ -15,7 +15,7 @@ use plan_core::job::Job;
 /// Appends the sum of each bin, where bins are asked for.
 pub fn push_shift_line(job: &Job, sorted: &[Outcome], out: &mut Bytes) -> Result<(), Memory>
     requires { AreOutcomesOf job.now sorted.now }
-    ensures { Appends out.old out.new (definition.shift_line job.now.setting.shift sorted.now) result }
+    ensures { AppendsText out.old out.new (definition.shift_line job.now.setting.shift sorted.now) result }
 {
     // Called for what its contract says: the job is within its limits, and its start plan is legal.
     let _units = job.units();
@@ -28,7 +28,7 @@ pub fn push_shift_line(job: &Job, sorted: &[Outcome], out: &mut Bytes) -> Result
 /// Appends the line of the sums.
 fn push_tally(sorted: &[Outcome], out: &mut Bytes) -> Result<(), Memory>
     requires { length sorted.now ≤ most_trajectories }
-    ensures { Appends out.old out.new (definition.shift_line true sorted.now) result }
+    ensures { AppendsText out.old out.new (definition.shift_line true sorted.now) result }
 {
     push_line(
         out,

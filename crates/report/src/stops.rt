@@ -2,9 +2,9 @@
 
 ghost use Rattle.std.specs.Prelude.{◌≡◌, ◌<◌, zip, flat_map};
 ghost use Rattle.audit_model.specs.Trajectory.{plan_value};
-ghost use Rattle.report.specs.Lines.{Appends};
-ghost use Rattle.report.specs.Outcomes.{AreOutcomesOf, AreStopsOf, AreStops, IsStop};
-ghost use Rattle.text_definitions.specs.Report as definition;
+ghost use Rattle.report.specs.Lines.{AppendsText};
+ghost use Rattle.report.specs.Outcomes.{AreOutcomesOf, AreStopsOf, AreStops, IsStopOf};
+ghost use Rattle.audit_statement.specs.Report as definition;
 
 use crate::ends::push_ends_lines;
 use crate::lines::{Word, push_line};
@@ -26,7 +26,7 @@ pub fn push_test_lines(
 ) -> Result<(), Memory>
     requires outcomes { AreOutcomesOf job.now sorted.now }
     requires stops { AreStopsOf job.now stops.now }
-    ensures { Appends out.old out.new (definition.test_lines job.now.setting.stop job.now sorted.now stops.now) result }
+    ensures { AppendsText out.old out.new (definition.test_lines job.now.setting.stop job.now sorted.now stops.now) result }
 {
     if job.setting().stop == 0 {
         return push_ends_lines(job, sorted, out);
@@ -37,7 +37,7 @@ pub fn push_test_lines(
 /// Appends the line of each ask's stop.
 fn push_stops(job: &Job, stops: &[[u32; 3]], out: &mut Bytes) -> Result<(), Memory>
     requires { AreStops job.now stops.now }
-    ensures { Appends out.old out.new (flat_map (definition.stopped_line job.now) (zip job.now.setting.asks stops.now)) result }
+    ensures { AppendsText out.old out.new (flat_map (definition.stopped_line job.now) (zip job.now.setting.asks stops.now)) result }
 {
     for (place, ask) in asks_of(job).iter().enumerate() {
         push_stopped_line(job, *ask, job.start_value(place as u32), stops[place], out)?;
@@ -55,8 +55,8 @@ fn push_stopped_line(
     out: &mut Bytes,
 ) -> Result<(), Memory>
     requires start { start ≡ plan_value job.now job.now.start ask.score }
-    requires stop { IsStop job.now.setting.ends stop }
-    ensures { Appends out.old out.new (definition.stopped_line job.now (ask, stop)) result }
+    requires stop { IsStopOf job.now.setting.ends stop }
+    ensures { AppendsText out.old out.new (definition.stopped_line job.now (ask, stop)) result }
 {
     // Called for what its contract says: the job is within its limits, and its start plan is legal.
     let _units = job.units();

@@ -3,10 +3,10 @@
 ghost use Rattle.std.specs.Prelude.{◌≡◌, ◌<◌, length, Some, slice_get, flat_map};
 ghost use Rattle.std.specs.List.{All};
 ghost use Rattle.audit_model.specs.Trajectory.{plan_value, value_at};
-ghost use Rattle.report.specs.Lines.{Appends};
+ghost use Rattle.report.specs.Lines.{AppendsText};
 ghost use Rattle.report.specs.Outcomes.{AreOutcomesOf, HasCounts, IsCount};
 ghost use Rattle.report.specs.Parts.{lines_of};
-ghost use Rattle.text_definitions.specs.Report.{walk_line, walk_lines};
+ghost use Rattle.audit_statement.specs.Report.{walk_line, walk_lines};
 
 use crate::lines::{Word, push_line};
 use crate::names::{score_text, tail_text};
@@ -22,7 +22,7 @@ use plan_core::job::Job;
 /// Appends a line for each outlier trajectory and each ask.
 pub fn push_walk_lines(job: &Job, sorted: &[Outcome], out: &mut Bytes) -> Result<(), Memory>
     requires { AreOutcomesOf job.now sorted.now }
-    ensures { Appends out.old out.new (walk_lines job.now sorted.now) result }
+    ensures { AppendsText out.old out.new (walk_lines job.now sorted.now) result }
 {
     push_walks(job, walks_of(job, sorted), out)
 }
@@ -30,7 +30,7 @@ pub fn push_walk_lines(job: &Job, sorted: &[Outcome], out: &mut Bytes) -> Result
 /// Appends a line for each of the outcomes and each ask.
 fn push_walks(job: &Job, walks: &[Outcome], out: &mut Bytes) -> Result<(), Memory>
     requires { All (HasCounts job.now) walks.now }
-    ensures { Appends out.old out.new (flat_map (lines_of job.now) walks.now) result }
+    ensures { AppendsText out.old out.new (flat_map (lines_of job.now) walks.now) result }
 {
     for found in walks {
         push_walk(job, found, out)?;
@@ -41,7 +41,7 @@ fn push_walks(job: &Job, walks: &[Outcome], out: &mut Bytes) -> Result<(), Memor
 /// Appends a line for each ask.
 fn push_walk(job: &Job, found: &Outcome, out: &mut Bytes) -> Result<(), Memory>
     requires { HasCounts job.now found.now }
-    ensures { Appends out.old out.new (lines_of job.now found.now) result }
+    ensures { AppendsText out.old out.new (lines_of job.now found.now) result }
 {
     for (place, ask) in asks_of(job).iter().enumerate() {
         push_walk_line(job, found, place, *ask, job.start_value(place as u32), out)?;
@@ -61,7 +61,7 @@ fn push_walk_line(
     requires place { place < 4 }
     requires start { start ≡ plan_value job.now job.now.start ask.score }
     requires count { IsCount job.now.setting.steps (value_at found.now place) }
-    ensures { Appends out.old out.new (walk_line job.now found.now (place, ask)) result }
+    ensures { AppendsText out.old out.new (walk_line job.now found.now (place, ask)) result }
 {
     let count = found.values[place];
     let visits = visits(job);

@@ -29,10 +29,12 @@ module _ (job : Job) (draws : Draws) where
   has_id-outcomes (x ∷ ids) id =
       ap (λ k. (k == id) || has_id (map (outcome job draws) ids) id) (id_of_outcome x) ∙ ap (λ b. (x == id) || b) (has_id-outcomes ids id)
 
+-- all ids below a bound, taken one after the other
 map-all_below : (n : ℕ) (f : ℕ → Outcome) → map f (filter_below n (λ _. true)) ≡ map_below n f
 map-all_below zero f = refl
 map-all_below (suc n) f = map-append f (filter_below n (λ _. true)) (n ∷ []) ∙ ap (λ xs. xs ++ f n ∷ []) (map-all_below n f)
 
+-- what is found of all ids of a job is what one thread finds
 pub mapped_is_sequence : (job : Job) (draws : Draws) → map (outcome job draws) (filter_below (total job) (λ _. true)) ≡ sequence job draws
 unfolding sequence
 mapped_is_sequence job draws = map-all_below (total job) (outcome job draws)

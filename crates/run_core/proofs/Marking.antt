@@ -5,14 +5,16 @@ use Rattle.std.proofs.lemmas.Bool.{or_left, or_right, cases_eq, eq-eqb, ne_eqb}
 use Rattle.std.proofs.lemmas.List.{append-nil, take_all, drop_all}
 use Rattle.std.proofs.lemmas.List.Folds.{list_any-append}
 use Rattle.audit_model.specs.Graph.{has}
-use Rattle.model_laws.proofs.Bools.{or_false}
+use Rattle.audit_model.proofs.Bools.{or_false}
 
+-- one more of the first ids is the one at the next place
 pub take_more : (k : ℕ) (xs : List ℕ) → k < length xs → take (suc k) xs ≡ take k xs ++ get_or xs k 0 ∷ []
 take_more zero [] l = absurd (omega arith)
 take_more zero (x ∷ xs) l = refl
 take_more (suc k) [] l = absurd (omega arith)
 take_more (suc k) (x ∷ xs) l = ap (λ ys. x ∷ ys) (take_more k xs (omega arith))
 
+-- the first ids are fewer of the first, and some after these
 pub take_split : (a b : ℕ) (xs : List ℕ) → a ≤ b → take b xs ≡ take a xs ++ take (b - a) (drop a xs)
 take_split zero b xs l = ap (λ n. take n xs) same
   where
@@ -30,11 +32,13 @@ take_split (suc a) (suc b) (x ∷ xs) l =
     same : b - a ≡ suc b - suc a
     same = omega arith
 
+-- what stands in the later part of a list stands in the list
 pub has-drop : (n : ℕ) (xs : List ℕ) (x : ℕ) → has (drop n xs) x ≡ true → has xs x ≡ true
 has-drop zero xs x h = h
 has-drop (suc n) [] x h = h
 has-drop (suc n) (y ∷ xs) x h = or_right (y == x) (has xs x) (has-drop n xs x h)
 
+-- a bound on each id that is there holds of all
 pub all_from_has : (n : ℕ) (xs : List ℕ) → ((id : ℕ) → has xs id ≡ true → id < n) → All (λ id. id < n) xs
 all_from_has n [] below k d l = absurd (omega arith)
 all_from_has n (x ∷ xs) below zero d l = below x (or_left (x == x) (has xs x) (eq-eqb x x refl))
@@ -50,9 +54,11 @@ written new old n same all =
 abbrev pub AreMarked : List Bool → List Bool → List ℕ → Type 0
 AreMarked before marks ids = (id : ℕ) → id < length before → get_or marks id false ≡ (get_or before id false || has ids id)
 
+-- before the first mark nothing is marked
 pub marked_none : (before : List Bool) → AreMarked before before []
 marked_none before id l = sym (or_false (get_or before id false))
 
+-- one id more is marked
 pub marked_more : (before marks : List Bool) (ids : List ℕ) (k next x : ℕ) → AreMarked before marks (take k ids) → length marks ≡ length before
     → k < length ids → next ≡ k + 1 → x ≡ get_or ids k 0 → AreMarked before (set marks x true) (take next ids)
 marked_more before marks ids k next x marked width l is_next is id inside =

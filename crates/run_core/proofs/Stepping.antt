@@ -14,15 +14,16 @@ use Rattle.audit_model.specs.Below.{filter_below}
 use Rattle.audit_model.specs.Graph.{has}
 use Rattle.audit_model.specs.Machine.{Machine, todo, claimed, claim, post, step, IsRun, new_machine}
 use Rattle.audit_model.specs.Run.{is_in_part}
-use Rattle.model_laws.proofs.Running.{fresh_run, at_is_new, get-replicate, step_keeps}
-use Rattle.model_laws.proofs.Below.{length-filter_below, filter_below_same}
-use Rattle.model_laws.proofs.Lists.{apart_le, has-take}
+use Rattle.audit_model.proofs.Running.{fresh_run, at_is_new, get-replicate, step_keeps}
+use Rattle.audit_model.proofs.Below.{length-filter_below, filter_below_same}
+use Rattle.audit_model.proofs.ListFacts.{apart_le, has-take}
 use Rattle.run_core.specs.Kept.{machine, IsKept}
 use Rattle.run_core.specs.Opening.{IsStart}
 use Rattle.run_core.proofs.Marking.{take_split, all_from_has, has-drop, AreMarked}
 
 -- ---- openings
 
+-- a state in which a run may start is one of a run
 pub opening_is_run : (m : Machine) → IsStart m → IsRun m
 opening_is_run m o = record {
   apart = subst AllApart (sym o.done) o.apart;
@@ -39,22 +40,27 @@ opening_is_run m o = record {
     none_open : (w id : ℕ) → slice_get m.held w ≡ Some (Some id) → ⊥
     none_open w id h = get-replicate (length m.held) w id (subst (λ xs. slice_get xs w ≡ Some (Some id)) o.held h)
 
+-- so is the state with nothing done
 pub fresh_is_run : (total workers : ℕ) → IsRun (new_machine total workers)
 fresh_is_run total workers = fresh_run 1 0 total total workers [] tt (λ id h. absurd (false≢true h))
 
 -- ---- answers
 
+-- a claim, by what the worker holds
 pub claim_by : (m : Machine) (w : ℕ) (o : Option (Option ℕ)) → slice_get m.held w ≡ o → claim m w o ≡ step m (Claim w)
 claim_by m w o e = ap (claim m w) (sym e)
 
+-- a claim of a worker that holds nothing, by whether an id is left
 pub claim_takes : (m : Machine) (w : ℕ) (o : Option ℕ) → slice_get m.held w ≡ Some None → slice_get (todo m) m.next ≡ o → claimed m w o ≡ step m (Claim w)
 claim_takes m w o free at = ap (claimed m w) (sym at) ∙ claim_by m w (Some None) free
 
+-- a post, by what the worker holds
 pub post_by : (m : Machine) (w : ℕ) (o : Option (Option ℕ)) → slice_get m.held w ≡ o → post m w o ≡ step m (Post w)
 post_by m w o e = ap (post m w) (sym e)
 
 -- ---- what is to do
 
+-- a condition beside one that holds
 and_true : (a b : Bool) → b ≡ true → (a && b) ≡ a
 and_true true b e = e
 and_true false b e = refl
@@ -213,6 +219,7 @@ module _ (total started saved : ℕ) (done : List ℕ) (next : ℕ) (held : List
 
 -- ---- the first machine
 
+-- what the code keeps at first
 pub kept_new : (total : ℕ) (done : List ℕ) (held : List (Option ℕ)) (ids : List ℕ) (marks : List Bool) → total ≤ 100000 → done ≡ [] → held ≡ replicate 32 None
     → marks ≡ replicate total false → ids ≡ filter_below (length marks) (λ id. not (get_or marks id false))
     → IsKept (machine (length marks) 0 0 done 0 held) 0 0 ids marks × (machine (length marks) 0 0 done 0 held ≡ new_machine total 32)

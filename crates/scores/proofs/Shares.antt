@@ -8,11 +8,14 @@ use Rattle.std.proofs.lemmas.Nat.{div_below}
 use Rattle.audit_model.specs.declared.outcome.SumsView.{SumsView}
 use Rattle.audit_model.specs.Below.{map_below}
 use Rattle.audit_model.specs.Score.{share, shares, ranked, mean_median}
+use Rattle.audit_model.proofs.Below.{length-map_below}
+use Rattle.scores.specs.Votes.{AreVotes, AreShares}
 
 -- a difference of numbers that are not too large
 pub difference_fits : (a b : ℕ) → a ≤ 4 * 10 ^ 11 → b ≤ 4 * 10 ^ 11 → FitsSigned w64 (to_z w64 a -ℤ to_z w64 b)
 difference_fits a b l m = omega (arith, ints)
 
+-- a difference of numbers that are not too large is computed exactly
 pub difference_is : (a b : ℕ) → a ≤ 4 * 10 ^ 11 → b ≤ 4 * 10 ^ 11 → to_z w64 (of_z w64 (to_z w64 a -ℤ to_z w64 b)) ≡ pos a -ℤ pos b
 difference_is a b l m = omega (arith, ints)
 
@@ -35,6 +38,17 @@ all_mapped : (n : ℕ) (f : ℕ → ℕ) (m : ℕ) → ((k : ℕ) → f k ≤ m)
 all_mapped zero f m each = λ k d l. absurd (omega arith)
 all_mapped (suc n) f m each = All-push (λ x. x ≤ m) (map_below n f) (f n) (all_mapped n f m each) (each n)
 
+-- no share is above the whole
 pub shares_small : (sums : SumsView) → All (λ n. n ≤ 10 ^ 9) (shares sums)
 shares_small sums = all_mapped (length sums.first) (λ d. share (slice_index sums.first d) (slice_index sums.second d)) (10 ^ 9)
     (λ d. share_small (slice_index sums.first d) (slice_index sums.second d))
+
+-- the shares of 1 to 200 districts are shares of as many
+pub are_shares : (sums : SumsView) → AreVotes sums.first sums.second → AreShares (shares sums)
+are_shares sums votes =
+    let as_many : length (shares sums) ≡ length sums.first = length-map_below (length sums.first) (λ d. share (slice_index sums.first d) (slice_index sums.second d)) in
+    record {
+      some = omega (arith, as_many, votes.some);
+      few = omega (arith, as_many, votes.few);
+      small = shares_small sums;
+    }

@@ -10,3 +10,9 @@ pub record AreVotes (first second : List ℕ) : Type 0 where
   pub as_many : length second ≡ length first
   pub small_first : All (λ n. n ≤ 10 ^ 14) first
   pub small_second : All (λ n. n ≤ 10 ^ 14) second
+
+-- the shares of 1 to 200 districts, in billionths
+pub record AreShares (shares : List ℕ) : Type 0 where
+  pub some : 1 ≤ length shares
+  pub few : length shares ≤ most_districts
+  pub small : All (λ n. n ≤ 10 ^ 9) shares

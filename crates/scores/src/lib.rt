@@ -3,7 +3,7 @@
 
 ghost use Rattle.std.specs.Prelude.{◌≡◌, ◌*◌, ◌+◌, ◌^◌, ◌-◌, ◌/◌, ◌<◌, ◌≤◌, pos, length, sum, All};
 ghost use Rattle.audit_model.specs.Score as definition;
-ghost use Rattle.scores.specs.Votes.{AreVotes};
+ghost use Rattle.scores.specs.Votes.{AreShares, AreVotes};
 ghost use Rattle.audit_model.specs.Limits.{most_districts};
 
 use audit_model::outcome::SumsView;
@@ -45,7 +45,7 @@ pub fn denominator(score: Score, districts: u32, votes: u64) -> u64
 }
 
 /// How many districts the first party wins. A tie is the second party's.
-#[tactic(auto, using(crate::proofs::Below::count_below_yes, crate::proofs::Below::count_below_no, model_laws::proofs::Below::count_below_zero, model_laws::proofs::Below::count_below_le))]
+#[tactic(auto, using(crate::proofs::Below::count_below_yes, crate::proofs::Below::count_below_no, audit_model::proofs::Below::count_below_zero, audit_model::proofs::Below::count_below_le))]
 fn seats(sums: &SumsView) -> u32
     requires { AreVotes sums.now.first sums.now.second }
     ensures { result ≡ definition.seats sums.now }
@@ -114,9 +114,7 @@ fn share(first: u64, second: u64) -> u64
 
 /// The median share less the mean share, times twice the number of districts. It puts the shares into rising order.
 fn mean_median(shares: &mut [u64]) -> i64
-    requires some { 1 ≤ length shares.old }
-    requires few { length shares.old ≤ most_districts }
-    requires small { All (λ n. n ≤ 10 ^ 9) shares.old }
+    requires { AreShares shares.old }
     ensures { result ≡ definition.mean_median shares.old }
 {
     let all = total(shares);
@@ -127,8 +125,7 @@ fn mean_median(shares: &mut [u64]) -> i64
 /// The sum of the two numbers in the middle of the rising order, or twice the one in the middle. It puts the numbers
 /// into rising order.
 fn twice_median(numbers: &mut [u64]) -> u64
-    requires some { 1 ≤ length numbers.old }
-    requires small { All (λ n. n ≤ 10 ^ 9) numbers.old }
+    requires { AreShares numbers.old }
     ensures value { result ≡ definition.ranked numbers.old ((length numbers.old - 1) / 2) + definition.ranked numbers.old (length numbers.old / 2) }
     ensures small { result ≤ 2 * 10 ^ 9 }
 {
@@ -138,8 +135,7 @@ fn twice_median(numbers: &mut [u64]) -> u64
 
 /// The sum of the shares.
 fn total(shares: &[u64]) -> u64
-    requires few { length shares.now ≤ most_districts }
-    requires small { All (λ n. n ≤ 10 ^ 9) shares.now }
+    requires { AreShares shares.now }
     ensures value { result ≡ sum shares.now }
     ensures small { result ≤ 200 * 10 ^ 9 }
 {

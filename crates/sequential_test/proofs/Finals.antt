@@ -15,13 +15,14 @@ use Rattle.audit_model.specs.Job.{Job}
 use Rattle.audit_model.specs.Run.{IsRight, has_id}
 use Rattle.audit_model.specs.Stopping.{count_in_tail, end_values, ends_before_gap, known_values, settled, some_if, stop_of, value_with_id}
 use Rattle.audit_model.specs.Trajectory.{Draws, outcome, plan_value, sequence, value_at}
-use Rattle.model_laws.proofs.Stopped.{stop_is_settled}
-use Rattle.model_laws.proofs.First.{none_first_below}
-use Rattle.model_laws.proofs.Fitting.{outcome_id}
-use Rattle.model_laws.proofs.Below.{length-map_below, map_below_same}
+use Rattle.audit_model.proofs.Stopped.{stop_is_settled}
+use Rattle.audit_model.proofs.First.{none_first_below}
+use Rattle.audit_model.proofs.Fitting.{outcome_id}
+use Rattle.audit_model.proofs.Below.{length-map_below, map_below_same}
 
 -- ---- what is known of right outcomes
 
+-- what holds of all holds of all after the first
 all_rest : {X : Type 0} (P : X → Type 0) (x : X) (xs : List X) → All P (x ∷ xs) → All P xs
 all_rest P x xs each = λ k d l. each (suc k) d (omega (arith, l))
 
@@ -59,6 +60,7 @@ pub record IsFirst (n : ℕ) (test : ℕ → Bool) (first : ℕ) : Type 0 where
   pub within : first ≤ n
   pub before : (k : ℕ) → k < first → test k ≡ false
 
+-- the first number that passes, or the bound, is the first of all below it
 first_more : (n : ℕ) (test : ℕ → Bool) (o : Option ℕ) → IsFirst n test (unwrap_or o n)
     → IsFirst (suc n) test (unwrap_or (option_or o (cond (test n) (Some n) None)) (suc n))
 first_more n test (Some j) h = record { within = omega (arith, h.within); before = h.before }
@@ -73,10 +75,12 @@ first_more n test None h = elim (cases_Bool (test n)) [
   })
 ]
 
+-- so it is for each bound
 first_is : (n : ℕ) (test : ℕ → Bool) → IsFirst n test (unwrap_or (first_below n test) n)
 first_is zero test = record { within = omega arith; before = λ k l. absurd (omega (arith, l)) }
 first_is (suc n) test = first_more n test (first_below n test) (first_is n test)
 
+-- where an answer is there that is given on a condition, the condition holds, and it is this answer
 some_parts : (b : Bool) (x s : Stop) → some_if b x ≡ Some s → (b ≡ true) × (x ≡ s)
 some_parts true x s h = (refl, ap (λ o. unwrap_or o x) h)
 some_parts false x s h = cc
@@ -162,6 +166,7 @@ module _ (job : Job) (draws : Draws) (place : ℕ) where
 
 -- ---- no end is missing
 
+-- where no end is missing, the test has stopped
 pub all_are_settled : (job : Job) (place : ℕ) (ask : Ask) (enough : ℕ) (outcomes : List Outcome)
     → ((j : ℕ) → j < job.setting.ends → has_id outcomes (job.setting.walks + j) ≡ true)
     → settled job (place, ask) enough outcomes ≡ Some (stop_of job (place, ask) (known_values job place outcomes) enough)

@@ -1,3 +1,6 @@
-pub mod Ranks
-pub mod Settled
 pub mod Finals
+pub mod Ranks
+pub mod Reaching
+pub mod Rounding
+pub mod Settled
+pub mod Slicing

@@ -33,14 +33,17 @@ module _ {X : Type 0} where
 
 -- ---- one end more
 
+-- what is counted of an outcome that is the next end
 at_end : (a l k e b : Bool) → a ≡ true → l ≡ true → k ≡ false → e ≡ true
     → cond {A = ℕ} ((a && l) && b) 1 0 ≡ cond {A = ℕ} ((a && k) && b) 1 0 + cond {A = ℕ} (e && b) 1 0
 at_end a l k e b ha hl hk he = rw ha (rw hl (rw hk (rw he (omega arith))))
 
+-- what is counted of another
 at_other : (a l k e b : Bool) → l ≡ k → e ≡ false
     → cond {A = ℕ} ((a && l) && b) 1 0 ≡ cond {A = ℕ} ((a && k) && b) 1 0 + cond {A = ℕ} (e && b) 1 0
 at_other a l k e b hl he = rw hl (rw he (omega arith))
 
+-- an id is below one more end where it is below the ends before, unless it is that end
 ltb_more : (w n id : ℕ) → (id ≡ w + n → ⊥) → nat_lt id (w + suc n) ≡ nat_lt id (w + n)
 ltb_more w n id off = elim (cases_lt id (w + n)) [
   | inl l ↦ lt-ltb id (w + suc n) (omega (arith, l)) ∙ sym (lt-ltb id (w + n) l)
@@ -49,6 +52,7 @@ ltb_more w n id off = elim (cases_lt id (w + n)) [
       ∙ sym (false_from_ne_true (nat_lt id (w + n)) (λ h. let l = ltb-true id (w + n) h in omega (arith, l, past)))
 ]
 
+-- an outcome is among one more of the ends where it was, or is the next
 one_more : (w n id : ℕ) (b : Bool)
     → cond {A = ℕ} ((nat_le w id && nat_lt id (w + suc n)) && b) 1 0
     ≡ cond {A = ℕ} ((nat_le w id && nat_lt id (w + n)) && b) 1 0 + cond {A = ℕ} ((id == w + n) && b) 1 0
@@ -59,6 +63,7 @@ one_more w n id b = elim (cases_eq id (w + n)) [
   | inr off ↦ at_other (nat_le w id) (nat_lt id (w + suc n)) (nat_lt id (w + n)) (id == w + n) b (ltb_more w n id off) (ne_eqb id (w + n) off)
 ]
 
+-- no outcome is among no ends
 no_end : (w id : ℕ) (b : Bool) → cond {A = ℕ} ((nat_le w id && nat_lt id (w + 0)) && b) 1 0 ≡ 0
 no_end w id b = cond-false {A = ℕ} ((nat_le w id && nat_lt id (w + 0)) && b) 1 0 (and_left (nat_le w id && nat_lt id (w + 0)) b (elim (cases_lt id w) [
   | inl l ↦ and_left (nat_le w id) (nat_lt id (w + 0)) (false_from_ne_true (nat_le w id) (λ h. let le = leb-true w id h in omega (arith, l, le)))
@@ -72,9 +77,11 @@ ranked w b outcomes n = count_by (λ o. is_end_below w n o && b o) outcomes
 abbrev pub counted_at : (Outcome → Bool) → List Outcome → ℕ → ℕ
 counted_at b outcomes id = count_by (λ o. (o.id == id) && b o) outcomes
 
+-- no ends give no count
 pub ranked_none : (w : ℕ) (b : Outcome → Bool) (outcomes : List Outcome) → ranked w b outcomes 0 ≡ 0
 ranked_none w b outcomes = sum_by_zero (λ o. cond {A = ℕ} (is_end_below w 0 o && b o) 1 0) outcomes (λ o. no_end w o.id (b o))
 
+-- one end more adds what is counted of its outcomes
 ranked_more : (w : ℕ) (b : Outcome → Bool) (outcomes : List Outcome) (n : ℕ)
     → ranked w b outcomes (suc n) ≡ ranked w b outcomes n + counted_at b outcomes (w + n)
 ranked_more w b outcomes n = sum_by_both (λ o. cond {A = ℕ} (is_end_below w (suc n) o && b o) 1 0) (λ o. cond {A = ℕ} (is_end_below w n o && b o) 1 0)
@@ -82,6 +89,7 @@ ranked_more w b outcomes n = sum_by_both (λ o. cond {A = ℕ} (is_end_below w (
 
 -- ---- one id
 
+-- an id that is not there adds nothing
 counted_none : (b : Outcome → Bool) (outcomes : List Outcome) (id : ℕ) → has_id outcomes id ≡ false → counted_at b outcomes id ≡ 0
 counted_none b [] id h = refl
 counted_none b (o ∷ rest) id h =
@@ -89,6 +97,7 @@ counted_none b (o ∷ rest) id h =
     let none : cond {A = ℕ} ((o.id == id) && b o) 1 0 ≡ 0 = cond-false {A = ℕ} ((o.id == id) && b o) 1 0 (and_left (o.id == id) (b o) parts.0) in
     omega (arith, none, counted_none b rest id parts.1, sum_by-cons (λ o. cond {A = ℕ} ((o.id == id) && b o) 1 0) o rest)
 
+-- where an id is there, it stands at some place
 has_id_at : (outcomes : List Outcome) (id : ℕ) → has_id outcomes id ≡ true
     → (k : ℕ) × (k < length outcomes) × ((d : Outcome) → (slice_index_or outcomes k d).id ≡ id)
 has_id_at [] id h = cc
@@ -97,13 +106,16 @@ has_id_at (o ∷ rest) id h = elim (or_cases (o.id == id) (has_id rest id) h) [
   | inr later ↦ let at = has_id_at rest id later in (suc at.0, omega (arith, at.1), at.2)
 ]
 
+-- ids that differ, after the first
 apart_rest : (o : Outcome) (rest : List Outcome) → AreApart (o ∷ rest) → AreApart rest
 apart_rest o rest apart = λ i j d less inside. apart (suc i) (suc j) d (omega (arith, less)) (omega (arith, inside))
 
+-- an id at the head of a list is not behind it
 not_again : (o : Outcome) (rest : List Outcome) (id : ℕ) → AreApart (o ∷ rest) → o.id ≡ id → has_id rest id ≡ false
 not_again o rest id apart e = false_from_ne_true (has_id rest id) (λ h.
     let at = has_id_at rest id h in apart zero (suc at.0) o (omega arith) (omega (arith, at.1)) (e ∙ sym (at.2 o)))
 
+-- an id that is there adds what its outcome is worth, once
 pub counted_one : (v : ℤ → Bool) (place : ℕ) (outcomes : List Outcome) (id : ℕ) → AreApart outcomes → has_id outcomes id ≡ true
     → counted_at (λ o. v (value_at o place)) outcomes id ≡ cond {A = ℕ} (v (value_with_id place outcomes id)) 1 0
 counted_one v place [] id apart h = cc

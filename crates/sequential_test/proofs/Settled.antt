@@ -15,8 +15,8 @@ use Rattle.audit_model.specs.Job.{Job}
 use Rattle.audit_model.specs.Run.{has_id}
 use Rattle.audit_model.specs.Stopping.{count_in_tail, settled, some_if, stop, stopped_at, value_with_id}
 use Rattle.audit_model.specs.Trajectory.{in_tail, plan_value}
-use Rattle.model_laws.proofs.Below.{count_below_le, length-map_below}
-use Rattle.model_laws.proofs.First.{none_first_below}
+use Rattle.audit_model.proofs.Below.{count_below_le, length-map_below}
+use Rattle.audit_model.proofs.First.{none_first_below}
 use Rattle.sequential_test.specs.Ranks.{ends_below, tails_below}
 use Rattle.sequential_test.proofs.Ranks.{AreApart, ends_counted, tails_counted, ends_ranked}
 
@@ -38,19 +38,23 @@ all_pass (suc n) test h k l = elim (cases_Bool (test n)) [
       absurd (omega (arith, h, none, count_below_le n test))
 ]
 
+-- where all numbers below a bound pass and one more do not, the bound does not
 pub next_fails : (n : ℕ) (test : ℕ → Bool) → count_below n test ≡ n → count_below (suc n) test ≢ suc n → test n ≡ false
 unfolding count_below
 next_fails n test h short = false_from_ne_true (test n) (λ hit.
     let one : cond {A = ℕ} (test n) 1 0 ≡ 1 = cond-true {A = ℕ} (test n) 1 0 hit in short (omega (arith, h, one)))
 
+-- what is counted of one is 0 or 1
 at_most_one : (b : Bool) → cond {A = ℕ} b 1 0 ≤ 1
 at_most_one true = omega arith
 at_most_one false = omega arith
 
+-- one number more counts at most one more
 pub count_step : (n : ℕ) (test : ℕ → Bool) → count_below (suc n) test ≤ count_below n test + 1
 unfolding count_below
 count_step n test = omega (arith, at_most_one (test n))
 
+-- a greater bound counts no fewer
 pub count_rises : (n m : ℕ) (test : ℕ → Bool) → m ≤ n → count_below m test ≤ count_below n test
 unfolding count_below
 count_rises zero m test l = let e : m ≡ zero = omega (arith, l) in omega (arith, ap (λ k. count_below k test) e)
@@ -61,6 +65,7 @@ count_rises (suc n) m test l = elim (cases_eq m (suc n)) [
 
 -- ---- the first below a bound
 
+-- a number that passes, and none before it, is the first
 pub first_below_is : (n : ℕ) (test : ℕ → Bool) (k : ℕ) → k < n → ((j : ℕ) → j < k → test j ≡ false) → test k ≡ true → first_below n test ≡ Some k
 first_below_is zero test k l none hit = absurd (omega arith)
 first_below_is (suc n) test k l none hit = elim (cases_eq k n) [
@@ -72,6 +77,7 @@ first_below_is (suc n) test k l none hit = elim (cases_eq k n) [
 
 -- ---- lists made by place
 
+-- the first of a table of values
 take-map_below : (g n : ℕ) (f : ℕ → ℤ) → n ≤ g → take n (map_below g f) ≡ map_below n f
 take-map_below g n f l = elim (cases_eq n g) [
   | inl e ↦ take_all n (map_below g f) (omega (arith, e, length-map_below g f)) ∙ ap (λ k. map_below k f) (sym e)
@@ -87,6 +93,7 @@ take-map_below g n f l = elim (cases_eq n g) [
           | inr off ↦ shorter g n (omega arith)
         ]
 
+-- a count over a table of values is one over its places
 count-map_below : (n : ℕ) (f : ℕ → ℤ) (p : ℤ → Bool) → count_by p (map_below n f) ≡ count_below n (λ j. p (f j))
 unfolding count_below
 count-map_below zero f p = refl
@@ -98,6 +105,7 @@ abbrev pub settled_from : ℕ → Tail → ℤ → List ℤ → ℕ → Option S
 settled_from ends tail start values enough =
     some_if (nat_le enough (count_in_tail tail start values) || (length values == ends)) (stop tail start values enough)
 
+-- where the condition holds, the answer is there
 some_from : (b : Bool) (s : Stop) → b ≡ true → some_if b s ≡ Some s
 some_from b s h = ap (λ t. some_if t s) h
 

@@ -1,1 +1,3 @@
+pub mod Crews
 pub mod Ranks
+pub mod Rounds

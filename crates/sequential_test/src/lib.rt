@@ -1,7 +1,12 @@
 //! The parallel test that stops early, once enough ends are in the tail.
 #![tactic(auto)]
 
+pub mod crew;
 pub mod laws;
 pub mod settle;
+pub mod settling;
+pub mod walking;
 
+pub use crew::{StoppingCrew, recruit};
 pub use laws::{all_ends_settle, settled_stops_are_final};
+pub use walking::walk_to_stops;

@@ -14,6 +14,14 @@ use audit_model::setting::Tail;
 use outlier_tests::in_tail;
 use plan_core::job::Job;
 
+/// How many ends a job has, and how many outlier walks come before them.
+#[derive(Clone, Copy)]
+struct Span {
+    walks: u32,
+    ends: u32,
+    ghost few: { walks + ends ≤ most_trajectories },
+}
+
 /// A score's place among the asks, the start's value, the tail that it is tested in, and how many outlier walks come before the ends.
 #[derive(Clone, Copy)]
 struct EndTest {
@@ -21,6 +29,7 @@ struct EndTest {
     place: usize,
     start: i64,
     tail: Tail,
+    ghost place_is: { place < 4 },
 }
 
 /// What the outcomes that are there settle for an ask: the place at which Besag and Clifford's test stops that needs `hits` ends in the tail,
@@ -42,15 +51,11 @@ pub fn settle(job: &Job, ask: u32, hits: u32, posted: &[Outcome]) -> Option<Stop
     let setting = job.setting();
     let place = ask as usize;
     let tail = setting.asks.as_slice()[place].tail;
-    settle_values(
-        setting.walks,
-        setting.ends,
-        tail,
-        job.start_value(ask),
-        place,
-        hits,
-        posted,
-    )
+    let span = Span {
+        walks: setting.walks,
+        ends: setting.ends,
+    };
+    settle_values(span, tail, job.start_value(ask), place, hits, posted)
 }
 
 /// How many of the first `count` ends are there.
@@ -67,7 +72,6 @@ fn count_ends(walks: u32, posted: &[Outcome], count: u32) -> usize
 /// How many of the first `n` ends are there and in the tail.
 fn count_tail(test: EndTest, posted: &[Outcome], n: u32) -> usize
     requires few { test.walks + n ≤ most_trajectories }
-    requires place { test.place < 4 }
     ensures { result ≡ tails_below test.walks test.place test.tail test.start posted.now n }
 {
     let mut count = 0;
@@ -81,12 +85,13 @@ fn count_tail(test: EndTest, posted: &[Outcome], n: u32) -> usize
 }
 
 /// The most ends by rising id of which none is missing: so many that as many outcomes have their ids, while one more are not all there.
-fn known_ends(walks: u32, ends: u32, posted: &[Outcome]) -> u32
-    requires few { walks + ends ≤ most_trajectories }
-    ensures within { result ≤ ends }
-    ensures known { ends_below walks posted.now result ≡ result }
-    ensures gap { result < ends → ends_below walks posted.now (result + 1) ≢ result + 1 }
+fn known_ends(span: Span, posted: &[Outcome]) -> u32
+    ensures within { result ≤ span.ends }
+    ensures known { ends_below span.walks posted.now result ≡ result }
+    ensures gap { result < span.ends → ends_below span.walks posted.now (result + 1) ≢ result + 1 }
 {
+    let walks = span.walks;
+    let ends = span.ends;
     let mut known = 0;
     let mut short = ends + 1;
     while short - known > 1 {
@@ -103,7 +108,6 @@ fn known_ends(walks: u32, ends: u32, posted: &[Outcome]) -> u32
 /// The first of the places up to `known` at which enough ends are in the tail.
 fn tail_place(test: EndTest, known: u32, enough: usize, posted: &[Outcome]) -> u32
     requires few { test.walks + known ≤ most_trajectories }
-    requires place { test.place < 4 }
     requires some { 1 ≤ enough }
     requires reached { enough ≤ tails_below test.walks test.place test.tail test.start posted.now known }
     ensures within { (1 ≤ result) × (result ≤ known) }
@@ -127,29 +131,27 @@ fn tail_place(test: EndTest, known: u32, enough: usize, posted: &[Outcome]) -> u
 /// halving how many ends come before the first that is missing, and where enough of them are in the tail, with one look at all outcomes at
 /// each half.
 fn settle_values(
-    walks: u32,
-    ends: u32,
+    span: Span,
     tail: Tail,
     start: i64,
     place: usize,
     hits: u32,
     posted: &[Outcome],
 ) -> Option<Stop>
-    requires few { walks + ends ≤ most_trajectories }
     requires place { place < 4 }
     requires some { 1 ≤ hits }
     requires apart { AllPairs (λ a b. a.id ≡ b.id → ⊥) posted.now }
-    ensures settled { (job : JobValue) (ask : Ask) → job.setting.walks ≡ walks → job.setting.ends ≡ ends → ask.tail ≡ tail →
+    ensures settled { (job : JobValue) (ask : Ask) → job.setting.walks ≡ span.walks → job.setting.ends ≡ span.ends → ask.tail ≡ tail →
         trajectory.plan_value job job.start ask.score ≡ start → result ≡ settled job (place, ask) hits posted.now }
-    ensures part { IfSome result (λ s. (s.place ≤ ends) × (1 ≤ s.top) × (s.top ≤ s.of) × (s.of ≤ ends + 1)) }
+    ensures part { IfSome result (λ s. (s.place ≤ span.ends) × (1 ≤ s.top) × (s.top ≤ s.of) × (s.of ≤ span.ends + 1)) }
 {
     let test = EndTest {
-        walks,
+        walks: span.walks,
         place,
         start,
         tail,
     };
-    let known = known_ends(walks, ends, posted);
+    let known = known_ends(span, posted);
     let inside = count_tail(test, posted, known);
     if inside >= hits as usize {
         let place = tail_place(test, known, hits as usize, posted);
@@ -159,7 +161,7 @@ fn settle_values(
             of: place,
         });
     }
-    if known < ends {
+    if known < span.ends {
         return None;
     }
     Some(Stop {

@@ -5,9 +5,10 @@ use Rattle.std.proofs.Math.Pow.{pow_mono}
 use Rattle.std.proofs.lemmas.Bool.{cases_lt, eqb-true}
 use Rattle.std.proofs.lemmas.Nat.{pow-add}
 use Rattle.audit_model.specs.Power.{is_power_of_two}
-use Rattle.model_laws.proofs.Below.{any_below_some}
+use Rattle.audit_model.proofs.Below.{any_below_some}
 use Rattle.serial_test.specs.Places.{ArePlaces, DividesDraws}
 
+-- a power of two divides the number of draws
 pub divides_draws : (of : ℕ) → ArePlaces of → DividesDraws of
 divides_draws of h =
     let some = any_below_some 64 (λ k. 2 ^ k == of) h.power in
@@ -16,6 +17,7 @@ divides_draws of h =
     let rest : (64 - k) + k ≡ 64 = omega (arith, some.1) in
     (2 ^ (64 - k), ap (λ (n : ℕ). 2 ^ (64 - k) * n) (sym same) ∙ sym (pow-add 2 (64 - k) k) ∙ ap (λ (n : ℕ). 2 ^ n) rest)
 
+-- a power of two of no more than a walk's plans is at most 2 ^ 29
 few_places : (k n : ℕ) → 2 ^ k ≡ n → n ≤ 1000000001 → n ≤ 536870912
 few_places k n same few = elim (cases_lt k 30) [
   | inl low ↦ let most : 2 ^ k ≤ 2 ^ 29 = pow_mono {i = k} {j = 29} (omega (arith, low)) in omega (arith, same, most)

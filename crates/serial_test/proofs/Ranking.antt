@@ -9,8 +9,8 @@ use Rattle.audit_model.specs.Below.{count_below}
 use Rattle.audit_model.specs.Job.{Job}
 use Rattle.audit_model.specs.Serially.{later_visits_in_tail, run_outcome, serial_at, serial_of, serial_place, serial_rank}
 use Rattle.audit_model.specs.Trajectory.{Draws, four_values, in_tail, moves, plan_value, visit, visits_in_tail}
-use Rattle.model_laws.proofs.Below.{count_below_le}
-use Rattle.model_laws.proofs.Fitting.{one_of, in_own_tail}
+use Rattle.audit_model.proofs.Below.{count_below_le}
+use Rattle.audit_model.proofs.Fitting.{one_of, in_own_tail}
 use Rattle.serial_test.specs.Ranks.{HasRanks, ranks_of}
 
 -- ---- the start plan is in its own tail
@@ -76,6 +76,7 @@ module _ (job : Job) (draws : Draws) (place : ℕ) where
 
 -- ---- what is found
 
+-- no more steps change the plan than are made
 few_moves : (job : Job) (draws : Draws) (stream steps : ℕ) → moves job (draws stream) job.start steps ≤ steps
 few_moves job draws stream steps = count_below_le steps _
 
@@ -86,6 +87,7 @@ moves_few job draws stream steps found is = let same = ap (λ (o : Outcome). o.m
 abbrev found : ℕ → ℕ → List ℕ → Serial
 found place moved ranks = record { place = place; moved = moved; ranks = ranks }
 
+-- what both runs find is the serial test of the definition
 pub serial_found : (job : Job) (draws : Draws) (drawn of place : ℕ) (forward backward : Outcome) (ranks : List ℕ)
     → drawn ≡ draws 8589934592 0 → of ≡ job.setting.steps + 1 → place ≡ serial_place drawn of
     → forward ≡ run_outcome job draws 8589934593 place → backward ≡ run_outcome job draws 8589934594 (job.setting.steps - place)

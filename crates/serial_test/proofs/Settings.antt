@@ -7,6 +7,7 @@ use Rattle.audit_model.specs.Job.{Job}
 use Rattle.audit_model.specs.JobOf.{IsJob}
 use Rattle.audit_model.specs.Limits.{IsRunSetting, IsSettingOf}
 
+-- a setting that has steps is that of a run, whatever the command
 run_by : (command : Command) (setting : Setting) → 1 ≤ setting.steps → IsSettingOf command setting → IsRunSetting setting
 run_by Check setting some within = absurd (omega (arith, some, within.no_steps))
 run_by Run setting some within = within

@@ -4,7 +4,7 @@ use Rattle.std.specs.List.{slice_index_or}
 use Rattle.audit_model.specs.Job.{Job}
 use Rattle.audit_model.specs.Plan.{IsLegal}
 use Rattle.audit_model.specs.Trajectory.{visit}
-use Rattle.draw_definitions.specs.Draw.{draw}
+use Rattle.audit_statement.specs.Draw.{draw}
 
 -- both numbers, where the start counts once
 abbrev pub rank_of : ℤ → ℤ → ℕ

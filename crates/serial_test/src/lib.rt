@@ -8,3 +8,4 @@ mod start_place;
 
 pub use audit_model::outcome;
 pub use run::serial;
+pub use start_place::place;

@@ -1,18 +1,17 @@
 //! Both runs from the start plan.
 
 ghost use Rattle.std.specs.Prelude.{◌≡◌, ◌+◌, ◌≤◌, IsTrue};
-ghost use Rattle.draw_definitions.specs.Draw.{draw};
+ghost use Rattle.audit_statement.specs.Draw.{draw};
 ghost use Rattle.audit_model.specs.Power.{is_power_of_two};
 ghost use Rattle.audit_model.specs.Serially.{serial_of};
 ghost use Rattle.serial_test.specs.Ranks.{HasRanks, RunsStayLegal};
-ghost use Rattle.walker.specs.Seated.{IsSeated, held_of};
 
 use crate::ranks::ranks;
-use crate::start_place::start_place;
+use crate::start_place::place;
+use audit_model::laws::visits_stay_legal;
 use audit_model::outcome::Serial;
 use chacha_draws::Draws;
 use flip_guard::judge::Judge;
-use model_laws::laws::visits_stay_legal;
 use plan_core::job::Job;
 use walker::walker::Walker;
 
@@ -29,16 +28,14 @@ const BACKWARD_STREAM: u64 = 8_589_934_594;
 /// direction, and the rest in the other. A rank is a number of plans of the run, and those past the asks are 0. It takes no memory, and what the
 /// walker held before is not looked at.
 pub fn serial<J: Judge>(walker: &mut Walker<J>, job: &Job) -> Serial
-    requires made { (held_of walker.old).job ≡ job.now }
-    requires seated { IsSeated job.now J.keeps J.stands J.takes J.rules walker.old }
+    requires made { walker.old.job ≡ job.now }
     requires some { 1 ≤ job.now.setting.steps }
     requires even { IsTrue (is_power_of_two (job.now.setting.steps + 1)) }
     ensures serial { result ≡ serial_of job.now (draw job.now.setting.key) }
     ensures place { result.place ≤ job.now.setting.steps }
     ensures ranks { HasRanks job.now result.ranks }
     ensures legal { RunsStayLegal job.now }
-    ensures made { (held_of walker.new).job ≡ job.now }
-    ensures seated { IsSeated job.now J.keeps J.stands J.takes J.rules walker.new }
+    ensures made { walker.new.job ≡ job.now }
 {
     // A law, called for what its contract says: each plan that is visited from a legal plan is legal.
     visits_stay_legal();
@@ -48,11 +45,11 @@ pub fn serial<J: Judge>(walker: &mut Walker<J>, job: &Job) -> Serial
     let steps = setting.steps;
     let mut draws = Draws::new(setting.key, PLACE_STREAM);
     let drawn = draws.next();
-    let place = start_place(drawn, u64::from(steps) + 1);
-    let forward = walker.run(job, FORWARD_STREAM, place);
-    let backward = walker.run(job, BACKWARD_STREAM, steps - place);
+    let start = place(drawn, u64::from(steps) + 1);
+    let forward = walker.run(job, FORWARD_STREAM, start);
+    let backward = walker.run(job, BACKWARD_STREAM, steps - start);
     Serial {
-        place,
+        place: start,
         moved: forward.moved + backward.moved,
         ranks: ranks(forward.values, backward.values),
     }

@@ -6,7 +6,7 @@ ghost use Rattle.serial_test.specs.Places.{ArePlaces, DividesDraws};
 
 /// The place that a draw of 64 bits gives among `of` plans, counted from 0. As many of the draws give one place as another. That the draws are uniform is
 /// not proved.
-pub fn start_place(draw: u64, of: u64) -> u32
+pub fn place(draw: u64, of: u64) -> u32
     requires { ArePlaces of }
     ensures place { result ≡ serial_place draw of }
     ensures within { result < of }

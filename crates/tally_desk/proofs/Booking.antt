@@ -7,21 +7,23 @@ use Rattle.std.proofs.lemmas.List.{map-append}
 use Rattle.std.proofs.lemmas.List.Folds.{list_all-append, list_any-append}
 use Rattle.audit_model.specs.declared.outcome.Outcome.{Outcome}
 use Rattle.audit_model.specs.Job.{Job}
-use Rattle.audit_model.specs.Run.{total, fits, has_id}
-use Rattle.model_laws.specs.Times.{times}
-use Rattle.model_laws.proofs.Times.{one, times-cons, one_same}
-use Rattle.outcome_book.specs.Booked.{by_id, with_id}
+use Rattle.audit_model.specs.Run.{total, fits, has_id, by_id, with_id}
+use Rattle.audit_model.specs.Times.{times}
+use Rattle.audit_model.proofs.Times.{one, times-cons, one_same}
 use Rattle.tally_desk.specs.declared.entry.Entry.{Entry}
-use Rattle.tally_desk.specs.Entries.{id_of, ids_of, up_to_save}
+use Rattle.tally_desk.specs.Entries.{posted_id, ids_of, up_to_save}
 use Rattle.tally_desk.specs.Homes.{booked}
-use Rattle.tally_desk.specs.Parts.{Parts, IsPlan, found}
-use Rattle.tally_desk.proofs.Found.{found_fits, found_id}
+use Rattle.claim_counter.specs.Walks.{found}
+use Rattle.tally_desk.specs.Parts.{Parts, IsPlan}
+use Rattle.claim_counter.proofs.Sharing.{found_id}
+use Rattle.tally_desk.proofs.Found.{found_fits}
 use Rattle.tally_desk.proofs.Marking.{ids_up_to_save}
 use Rattle.tally_desk.proofs.Todo.{todo_within, todo_lacked}
 
+-- one post more adds what its trajectory finds
 pub booked-push : (parts : Parts) (l : List Entry) (e : Entry) → booked parts (l ++ e ∷ []) ≡ booked parts l ++ found parts.job e.id ∷ []
 booked-push parts l e =
-    ap (λ (ids : List ℕ). parts.opening ++ map (found parts.job) ids) (map-append id_of l (e ∷ []))
+    ap (λ (ids : List ℕ). parts.opening ++ map (found parts.job) ids) (map-append posted_id l (e ∷ []))
     ∙ ap (λ (os : List Outcome). parts.opening ++ os) (map-append (found parts.job) (ids_of l) (e.id ∷ []))
     ∙ sym (append_assoc parts.opening (map (found parts.job) (ids_of l)) (found parts.job e.id ∷ []))
 
@@ -34,6 +36,7 @@ absent_of_ids job (x ∷ ids) id none =
     (ne_eqb (found job x).id id (λ same. let here : one id x ≡ 1 = ap (λ (k : ℕ). one id k) (sym (found_id job x) ∙ same) ∙ one_same id in absurd (omega (arith, none, cut, here))))
     (absent_of_ids job ids id (omega (arith, none, cut)))
 
+-- an id to do that has no post is not in the book
 pub absent_of_book : (parts : Parts) → IsPlan parts → (l : List Entry) (id : ℕ) → 0 < times id parts.todo → times id (ids_of l) ≡ 0 → has_id (booked parts l) id ≡ false
 absent_of_book parts plan l id to_do unposted =
     list_any-append (λ (o : Outcome). o.id == id) parts.opening (map (found parts.job) (ids_of l))
@@ -41,6 +44,7 @@ absent_of_book parts plan l id to_do unposted =
 
 -- ---- what fits
 
+-- a test that each outcome passes is passed by all
 all_from : (test : Outcome → Bool) (os : List Outcome) → All (λ o. IsTrue (test o)) os → list_all test os ≡ true
 all_from test [] all = refl
 all_from test (o ∷ os) all = and_from (test o) (list_all test os) (all 0 o (omega arith)) (all_from test os (λ k d inside. all (suc k) d (omega arith)))
@@ -53,6 +57,7 @@ found_all test job (x ∷ ids) each =
     (each x (omega (arith, times-cons x x ids, one_same x)))
     (found_all test job ids (λ id some_here. each id (omega (arith, some_here, times-cons id x ids))))
 
+-- all outcomes of a desk's book fit the job
 pub booked_fit : (parts : Parts) → IsPlan parts → (l : List Entry) → ((id : ℕ) → times id (ids_of l) ≤ times id parts.todo) → list_all (fits parts.job) (booked parts l) ≡ true
 booked_fit parts plan l of_todo =
     list_all-append (fits parts.job) parts.opening (map (found parts.job) (ids_of l))
@@ -60,6 +65,7 @@ booked_fit parts plan l of_todo =
     (found_all (fits parts.job) parts.job (ids_of l)
     (λ id some_here. found_fits parts.job plan.few_asks id (todo_within parts plan id (omega (arith, some_here, of_todo id)))))
 
+-- so does one that is found among such outcomes
 find_fit : (test search_for : Outcome → Bool) (os : List Outcome) → list_all test os ≡ true → list_all test (option_to_list (find search_for os)) ≡ true
 find_fit test search_for [] all = refl
 find_fit test search_for (o ∷ os) all = by (search_for o) (test o) (list_all test os) refl refl all (find_fit test search_for os)
@@ -78,6 +84,7 @@ by_id_fit test (suc n) os all =
     list_all-append test (by_id n os) (option_to_list (with_id os n))
     ∙ and_from _ _ (by_id_fit test n os all) (find_fit test (λ o. o.id == n) os all)
 
+-- so do those that are saved
 pub saved_fit : (parts : Parts) → IsPlan parts → (l : List Entry) (n : ℕ) → ((id : ℕ) → times id (ids_of l) ≤ times id parts.todo)
     → list_all (fits parts.job) (by_id (total parts.job) (booked parts (up_to_save n l))) ≡ true
 saved_fit parts plan l n of_todo =

@@ -9,9 +9,9 @@ use Rattle.std.specs.List.Sorted.{IsPermutation}
 use mathlib.Core.List.{map-append}
 use Rattle.std.proofs.lemmas.List.Concat.{length-flat_map}
 use Rattle.claim_counter.specs.declared.record.PassRecord.{PassRecord}
-use Rattle.claim_counter.specs.Records.{IsCounted}
-use Rattle.model_laws.specs.Times.{times, once_below}
-use Rattle.model_laws.proofs.Times.{sum_set, sum_le, times-append, one, length-apart, times_push, permutation_below, times-flat_map}
+use Rattle.claim_counter.specs.Records.{AreCounted}
+use Rattle.audit_model.specs.Times.{times, once_below}
+use Rattle.audit_model.proofs.Times.{sum_set, sum_le, times-append, one, length-apart, times_push, permutation_below, times-flat_map}
 
 module _ {A : Type 0} where
   pub sum_same : (f : A → ℕ) (xs : List A) (i : ℕ) (v w : A) → get_elem? xs i ≡ some v → f v ≡ f w → sum_by f (set xs i w) ≡ sum_by f xs
@@ -37,7 +37,8 @@ module _ {A : Type 0} where
 abbrev claims_of : PassRecord → List ℕ
 claims_of p = p.claims
 
-pub claim_count : (limit count word : ℕ) (ps : List PassRecord) → IsCounted limit count word ps → sum_by (λ p. length p.claims) ps ≤ limit
+-- all passes together have at most as many claims as there are places
+pub claim_count : (limit count word : ℕ) (ps : List PassRecord) → AreCounted limit count word ps → sum_by (λ p. length p.claims) ps ≤ limit
 claim_count limit count word ps c = let most = length-apart limit (flat_map claims_of ps) (λ x. let more : once_below x (min word limit) ≤ once_below x limit = grind arith in omega (arith, times-flat_map x claims_of ps, c.claims x, more)) in
     omega (arith, most, length-flat_map claims_of ps)
 
@@ -57,6 +58,7 @@ module _ (P : ℕ → ℕ → ℕ → Type 0) where
   put_third (a ∷ b ∷ []) n e h = absurd (omega arith)
   put_third (a ∷ b ∷ c ∷ l) n e h = h
 
+-- one number more at the end of a range
 pub range_push : (a n : ℕ) → range_with_len a (suc n) ≡ range_with_len a n ++ (a + n) ∷ []
 range_push a zero = let e : a ≡ a + 0 = omega arith in ap (λ (k : ℕ). k ∷ []) e
 range_push a (suc n) = let e : a + 1 + n ≡ a + suc n = omega arith in ap (λ (l : List ℕ). a ∷ l) (range_push (a + 1) n ∙ ap (λ (k : ℕ). range_with_len (a + 1) n ++ k ∷ []) e)
@@ -64,6 +66,7 @@ range_push a (suc n) = let e : a + 1 + n ≡ a + suc n = omega arith in ap (λ (
 abbrev at_of : List ℕ → ℕ → ℕ
 at_of todo p = get_or todo p 0
 
+-- the ids at the first places are the first ids
 pub times-first : (x : ℕ) (todo : List ℕ) (n : ℕ) → n ≤ length todo → times x (map (at_of todo) (range_with_len 0 n)) ≡ times x (take n todo)
 times-first x todo zero within = refl
 times-first x todo (suc n) within =
@@ -81,6 +84,7 @@ times-first x todo (suc n) within =
       ap (λ (k : ℕ). times x (take k todo)) e,
     )
 
+-- how often an id was claimed is the sum over all passes
 times-ids-flat : (x : ℕ) (todo : List ℕ) (ps : List PassRecord) → times x (map (at_of todo) (flat_map claims_of ps)) ≡ sum_by (λ p. times x (map (at_of todo) p.claims)) ps
 times-ids-flat x todo [] = refl
 times-ids-flat x todo (p ∷ ps) = let r = times-ids-flat x todo ps in
@@ -93,7 +97,7 @@ times-ids-flat x todo (p ∷ ps) = let r = times-ids-flat x todo ps in
     )
 
 -- the ids of all claims are ids of the list, none more often than there
-pub claimed_of_todo : (todo : List ℕ) (count word : ℕ) (ps : List PassRecord) → IsCounted (length todo) count word ps → (x : ℕ) → sum_by (λ p. times x (map (at_of todo) p.claims)) ps ≤ times x todo
+pub claimed_of_todo : (todo : List ℕ) (count word : ℕ) (ps : List PassRecord) → AreCounted (length todo) count word ps → (x : ℕ) → sum_by (λ p. times x (map (at_of todo) p.claims)) ps ≤ times x todo
 claimed_of_todo todo count word ps c x =
     let next = min word (length todo) in
     let flat = flat_map claims_of ps in

@@ -9,8 +9,8 @@ use Rattle.claim_counter.specs.Records.{with_claim}
 use Rattle.tally_desk.specs.declared.entry.Entry.{Entry}
 use Rattle.tally_desk.specs.declared.home.Home.{Home}
 use Rattle.tally_desk.specs.Counter.{CounterLaws}
-use Rattle.tally_desk.specs.Desks.{IsTallied, KnowsPosts, ended_view, with_entry, with_own, with_turn}
-use Rattle.tally_desk.specs.Entries.{entry}
+use Rattle.tally_desk.specs.Desks.{KeepsTally, KnowsPosts, ended_view, with_entry, with_own, with_turn}
+use Rattle.tally_desk.specs.Entries.{post_of}
 use Rattle.tally_desk.specs.Machines.{StepsAreEvents, begins, claims, ends, joins, looks, machine_of, open_at, post_events, serves, splits, takes_ticket}
 use Rattle.tally_desk.specs.Parts.{Parts}
 use Rattle.tally_desk.specs.Views.{turn_ids, waiting}
@@ -18,10 +18,12 @@ use Rattle.tally_desk.proofs.Bounds.{put_first, put_second, put_third}
 use Rattle.tally_desk.proofs.Machining.{claim_event, post_event}
 use Rattle.tally_desk.proofs.Tallying.{awaits, begun, claimed, ended, in_use, merged, new_unposted, parted, place_drawn, served, ticketed}
 
+-- a change of a later word leaves the first
 first_kept : (l : List ℕ) (k n : ℕ) → get_or (set l (suc k) n) 0 0 ≡ get_or l 0 0
 first_kept [] k n = refl
 first_kept (x ∷ l) k n = refl
 
+-- the first of three words is what it was set to
 first_set : (l : List ℕ) (n : ℕ) → length l ≡ 3 → get_or (set l 0 n) 0 0 ≡ n
 first_set [] n three = absurd (omega arith)
 first_set (x ∷ l) n three = refl
@@ -37,7 +39,7 @@ module _ {C : Type 0} (HomeAs : Parts → Home C → List Entry → Type 0) (par
           three_words = length-set s.words 0 (a + 1) ∙ k.three_words;
           one_slot = k.one_slot;
           posted = k.posted;
-          tallied = put_first (λ x y z. IsTallied HomeAs parts x y z k.posted s.homes (set s.views id (with_own v (with_claim a v.own)))) s.words (a + 1) k.three_words
+          tallied = put_first (λ x y z. KeepsTally HomeAs parts x y z k.posted s.homes (set s.views id (with_own v (with_claim a v.own)))) s.words (a + 1) k.three_words
               (claimed HomeAs parts a _ _ k.posted s.homes s.views k.tallied id v at laws is weighs below);
         };
         is = ap (λ (n : Machine). (step n (Claim a)).0) st.is
@@ -54,7 +56,7 @@ module _ {C : Type 0} (HomeAs : Parts → Home C → List Entry → Type 0) (par
           three_words = length-set s.words 0 (a + 1) ∙ k.three_words;
           one_slot = k.one_slot;
           posted = k.posted;
-          tallied = put_first (λ x y z. IsTallied HomeAs parts x y z k.posted s.homes (set s.views id (ended_view v))) s.words (a + 1) k.three_words
+          tallied = put_first (λ x y z. KeepsTally HomeAs parts x y z k.posted s.homes (set s.views id (ended_view v))) s.words (a + 1) k.three_words
               (ended HomeAs parts a _ _ k.posted s.homes s.views k.tallied id v at laws is weighs going past);
         };
         is = st.is ∙ same_next a _ k.posted next;
@@ -70,7 +72,7 @@ module _ {C : Type 0} (HomeAs : Parts → Home C → List Entry → Type 0) (par
           three_words = length-set s.words 1 (b + 1) ∙ k.three_words;
           one_slot = k.one_slot;
           posted = k.posted;
-          tallied = put_second (λ x y z. IsTallied HomeAs parts x y z k.posted s.homes (set s.views id (with_turn v (waiting b o)))) s.words (b + 1) k.three_words
+          tallied = put_second (λ x y z. KeepsTally HomeAs parts x y z k.posted s.homes (set s.views id (with_turn v (waiting b o)))) s.words (b + 1) k.three_words
               (ticketed HomeAs parts _ b _ k.posted s.homes s.views k.tallied id v at o can);
         };
         is = st.is ∙ ap (λ (n : ℕ). machine_of parts n k.posted) (sym (first_kept s.words 0 (b + 1)));
@@ -91,7 +93,7 @@ module _ {C : Type 0} (HomeAs : Parts → Home C → List Entry → Type 0) (par
       let k = st.rule in
       let a = get_or s.words 0 0 in
       let c = get_or s.words 2 0 in
-      let e = entry c i saved in
+      let e = post_of c i saved in
       let u = in_use parts c k.posted v (k.tallied.each id v at) weighs in
       let knows : (c ≡ c) × (l ≡ k.posted) = subst (KnowsPosts c k.posted) turn u.knows in
       let waits = awaits HomeAs parts a _ c k.posted s.homes s.views k.tallied id v at i weighs (ap turn_ids turn) in
@@ -101,7 +103,7 @@ module _ {C : Type 0} (HomeAs : Parts → Home C → List Entry → Type 0) (par
           three_words = length-set s.words 2 (c + 1) ∙ k.three_words;
           one_slot = refl;
           posted = k.posted ++ e ∷ [];
-          tallied = put_third (λ x y' z. IsTallied HomeAs parts x y' z (k.posted ++ e ∷ []) (maybe.some y ∷ []) (set s.views id (with_entry v e))) s.words (c + 1) k.three_words
+          tallied = put_third (λ x y' z. KeepsTally HomeAs parts x y' z (k.posted ++ e ∷ []) (maybe.some y ∷ []) (set s.views id (with_entry v e))) s.words (c + 1) k.three_words
               (served HomeAs parts a _ c k.posted s.homes s.views k.tallied id v at i l y saved is weighs turn knows.1 (subst (λ (q : List Entry). HomeAs parts y (q ++ e ∷ [])) knows.1 holds) due);
         };
         is = ap (λ (n : Machine). state_after n (post_events place saved)) st.is

@@ -1,24 +1,30 @@
--- What each trajectory finds could be its outcome.
-use Rattle.std.proofs.Common.{◌≡◌, ℕ, ◌<◌, ◌≤◌, true, length, refl, sym, ap}
+-- What each trajectory finds could be its outcome, and has its id.
+use Rattle.std.proofs.Common.{◌≡◌, ◌∙◌, ℕ, ◌<◌, ◌≤◌, true, length, sym, ap}
+use Rattle.audit_model.specs.declared.outcome.Outcome.{Outcome}
 use Rattle.audit_model.specs.Job.{Job}
 use Rattle.audit_model.specs.Run.{total, fits}
 use Rattle.audit_model.specs.Trajectory.{outcome}
-use Rattle.draw_definitions.specs.Draw.{draw}
-use Rattle.model_laws.proofs.Fitting as fitting
-use Rattle.tally_desk.specs.Parts.{found}
+use Rattle.audit_statement.specs.Draw.{draw}
+use Rattle.audit_model.proofs.Fitting.{outcome_id}
+use Rattle.audit_model.proofs.Fitting as fitting
+use Rattle.claim_counter.specs.Walks.{found}
 
-pub found_is : (job : Job) (id : ℕ) → found job id ≡ outcome job (draw job.setting.key) id
-unfolding found
-found_is job id = refl
-
-pub found_id : (job : Job) (id : ℕ) → (found job id).id ≡ id
-unfolding found
-found_id job id = fitting.found_id job (draw job.setting.key) job.setting.shift id
-
+-- what is found of an id of the job fits the job
 pub found_fits : (job : Job) → length job.setting.asks ≤ 4 → (id : ℕ) → id < total job → fits job (found job id) ≡ true
 unfolding found
 found_fits job few id below = fitting.found_fits job (draw job.setting.key) job.setting.shift few id below
 
+-- it is what the trajectory with its own id finds
 pub found_right : (job : Job) (id : ℕ) → found job id ≡ outcome job (draw job.setting.key) (found job id).id
 unfolding found
 found_right job id = ap (outcome job (draw job.setting.key)) (sym (fitting.found_id job (draw job.setting.key) job.setting.shift id))
+
+-- the outcome of a walk is what is found, and has the id
+pub walked_id : (job : Job) (id : ℕ) (o : Outcome) → o ≡ outcome job (draw job.setting.key) id → o.id ≡ id
+walked_id job id o is = ap (λ (x : Outcome). x.id) is ∙ outcome_id job (draw job.setting.key) id
+
+-- and is what is found of its own id
+pub walked_found : (job key : Job) (id : ℕ) (o : Outcome) → job ≡ key → o ≡ outcome job (draw job.setting.key) id → o ≡ found key o.id
+unfolding found
+walked_found job key id o same is =
+    is ∙ ap (λ (j : Job). outcome j (draw j.setting.key) id) same ∙ ap (outcome key (draw key.setting.key)) (sym (walked_id job id o is))

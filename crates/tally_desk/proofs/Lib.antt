@@ -1,20 +1,26 @@
+mod Rows
 pub mod Booking
 pub mod Bounds
+pub mod Crossing
 pub mod Events
+pub mod Failing
 pub mod Found
+pub mod Holding
 pub mod InTurn
+pub mod LastSave
 pub mod Machining
 pub mod Marking
+pub mod Ordering
+pub mod Outlasting
 pub mod Permuting
 pub mod Regular
 pub mod Righting
-mod Rows
 pub mod Seating
 pub mod Slotting
 pub mod Steps
 pub mod Tallying
 pub mod Todo
+pub mod Tried
+pub mod Trying
 pub mod Turning
 pub mod Wholes
-pub mod Trying
-pub mod Outlasting

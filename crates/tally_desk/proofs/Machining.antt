@@ -14,11 +14,11 @@ use Rattle.audit_model.specs.Below.{filter_below, map_below}
 use Rattle.audit_model.specs.Graph.{has}
 use Rattle.audit_model.specs.Machine.{Machine, claim, claimed, post, state_after, step, todo}
 use Rattle.audit_model.specs.Run.{total, has_id, is_in_part}
-use Rattle.model_laws.specs.Times.{times}
-use Rattle.model_laws.proofs.Times.{one, one_same, times-cons, times_push}
-use Rattle.model_laws.proofs.Below.{length-map_below, map_below_same}
+use Rattle.audit_model.specs.Times.{times}
+use Rattle.audit_model.proofs.Times.{one, one_same, times-cons, times_push}
+use Rattle.audit_model.proofs.Below.{length-map_below, map_below_same}
 use Rattle.tally_desk.specs.declared.entry.Entry.{Entry}
-use Rattle.tally_desk.specs.Entries.{entry, id_of, ids_of, saves, up_to_save}
+use Rattle.tally_desk.specs.Entries.{post_of, posted_id, ids_of, saves_made, up_to_save}
 use Rattle.tally_desk.specs.Machines.{machine_of, open_at, opening_ids, post_events}
 use Rattle.tally_desk.specs.Parts.{Parts, IsPlan}
 use Rattle.tally_desk.proofs.Marking.{saves-push, up_to_save-all, up_to_save-kept}
@@ -67,11 +67,13 @@ module _ {A : Type 0} where
       lt_from : (k n : ℕ) → k < suc n → (k ≡ n → ⊥) → k < n
       lt_from k n l differ = dite (dec_le n k) (λ le. absurd (differ (omega arith))) (λ not_le. lt_of_not-le not_le)
 
+-- what stands at a place of a list
 get_in : (xs : List ℕ) (k : ℕ) → k < length xs → slice_get xs k ≡ Some (get_or xs k 0)
 get_in [] k within = absurd (omega arith)
 get_in (x ∷ xs) zero within = refl
 get_in (x ∷ xs) (suc k) within = get_in xs k (omega arith)
 
+-- what stands at a place occurs
 times_at : (xs : List ℕ) (j : ℕ) → j < length xs → 0 < times (get_or xs j 0) xs
 times_at [] j within = absurd (omega arith)
 times_at (x ∷ xs) zero within = omega (arith, times-cons x x xs, one_same x)
@@ -87,14 +89,17 @@ two_places (x ∷ xs) (suc i) (suc j) differ within within' same = ap suc (two_p
 
 -- ---- what is to do
 
+-- the ids of outcomes are those that the list has
 has_ids : (os : List Outcome) (id : ℕ) → has (map (λ o. o.id) os) id ≡ has_id os id
 has_ids [] id = refl
 has_ids (o ∷ os) id = ap (λ (b : Bool). (o.id == id) || b) (has_ids os id)
 
+-- tests that say the same take the same
 filter_same : (n : ℕ) (f g : ℕ → Bool) → ((k : ℕ) → f k ≡ g k) → filter_below n f ≡ filter_below n g
 filter_same zero f g same = refl
 filter_same (suc n) f g same = λ i. filter_same n f g same i ++ cond (same n i) (n ∷ []) []
 
+-- the first ones of a list, taken once more by their number
 take_again : (n : ℕ) (xs : List ℕ) → take (length (take n xs)) xs ≡ take n xs
 take_again zero xs = refl
 take_again (suc n) [] = refl
@@ -158,25 +163,25 @@ module _ (parts : Parts) (plan : IsPlan parts) where
   -- ---- a post
 
   held_posted : (next p : ℕ) (l : List Entry) (t i : ℕ) (saved : Bool) → p < length parts.todo → i ≡ at p → (j : ℕ) → j < length parts.todo
-      → cond (j == p) None (open_at parts next l j) ≡ open_at parts next (l ++ entry t i saved ∷ []) j
+      → cond (j == p) None (open_at parts next l j) ≡ open_at parts next (l ++ post_of t i saved ∷ []) j
   held_posted next p l t i saved below is j inside =
-      let more : times (at j) (ids_of (l ++ entry t i saved ∷ [])) ≡ times (at j) (ids_of l) + one (at j) i =
-      ap (times (at j)) (map-append id_of l (entry t i saved ∷ [])) ∙ times_push (at j) (ids_of l) i in
+      let more : times (at j) (ids_of (l ++ post_of t i saved ∷ [])) ≡ times (at j) (ids_of l) + one (at j) i =
+      ap (times (at j)) (map-append posted_id l (post_of t i saved ∷ [])) ∙ times_push (at j) (ids_of l) i in
       dite (ℕ_discrete j p)
       (λ here.
       let same : at j ≡ i = ap at here ∙ sym is in
-      let some_post : times (at j) (ids_of (l ++ entry t i saved ∷ [])) ≢ 0 = λ z. absurd (omega (arith, z, more, ap (one (at j)) (sym same), one_same (at j))) in
+      let some_post : times (at j) (ids_of (l ++ post_of t i saved ∷ [])) ≢ 0 = λ z. absurd (omega (arith, z, more, ap (one (at j)) (sym same), one_same (at j))) in
       ap (λ (b : Bool). cond b None (open_at parts next l j)) (eq-eqb j p here)
-      ∙ sym (opened next (l ++ entry t i saved ∷ []) j (nat_lt j next) false refl (ne_eqb _ 0 some_post)
+      ∙ sym (opened next (l ++ post_of t i saved ∷ []) j (nat_lt j next) false refl (ne_eqb _ 0 some_post)
       ∙ ap (λ (b : Bool). cond b (Some (at j)) None) (and_right (nat_lt j next) false refl)))
       (λ apart.
       let other : one (at j) i ≡ 0 = ap (λ (b : Bool). cond b 1 0) (ne_eqb i (at j) (λ h. apart (two_places parts.todo j p (todo_once parts plan) inside below (sym h ∙ is)))) in
-      let as_before : times (at j) (ids_of (l ++ entry t i saved ∷ [])) ≡ times (at j) (ids_of l) = omega (arith, more, other) in
+      let as_before : times (at j) (ids_of (l ++ post_of t i saved ∷ [])) ≡ times (at j) (ids_of l) = omega (arith, more, other) in
       ap (λ (b : Bool). cond b None (open_at parts next l j)) (ne_eqb j p apart)
       ∙ ap (λ (k : ℕ). cond (nat_lt j next && (k == 0)) (Some (at j)) None) (sym as_before))
 
   pub post_event : (d p : ℕ) (l : List Entry) (t i : ℕ) (saved : Bool) → p < min d (length parts.todo) → i ≡ at p → times i (ids_of l) ≡ 0
-      → state_after (machine_of parts d l) (post_events p saved) ≡ machine_of parts d (l ++ entry t i saved ∷ [])
+      → state_after (machine_of parts d l) (post_events p saved) ≡ machine_of parts d (l ++ post_of t i saved ∷ [])
   post_event d p l t i saved below is unposted =
       let m = machine_of parts d l in
       let next = min d (length parts.todo) in
@@ -185,25 +190,25 @@ module _ (parts : Parts) (plan : IsPlan parts) where
       get-map_below (length parts.todo) (open_at parts next l) p inside
       ∙ ap (λ (o : Option ℕ). Some o) (opened next l p true true (lt-ltb p next below) (eq-eqb (times (at p) (ids_of l)) 0 (ap (λ (k : ℕ). times k (ids_of l)) (sym is) ∙ unposted))
       ∙ ap (λ (k : ℕ). Some k) (sym is)) in
-      let done_more : (opening_ids parts ++ ids_of l) ++ i ∷ [] ≡ opening_ids parts ++ ids_of (l ++ entry t i saved ∷ []) =
-      append_assoc (opening_ids parts) (ids_of l) (i ∷ []) ∙ ap (λ (ids : List ℕ). opening_ids parts ++ ids) (sym (map-append id_of l (entry t i saved ∷ []))) in
-      let held : set m.held p None ≡ map_below (length parts.todo) (open_at parts next (l ++ entry t i saved ∷ [])) =
+      let done_more : (opening_ids parts ++ ids_of l) ++ i ∷ [] ≡ opening_ids parts ++ ids_of (l ++ post_of t i saved ∷ []) =
+      append_assoc (opening_ids parts) (ids_of l) (i ∷ []) ∙ ap (λ (ids : List ℕ). opening_ids parts ++ ids) (sym (map-append posted_id l (post_of t i saved ∷ []))) in
+      let held : set m.held p None ≡ map_below (length parts.todo) (open_at parts next (l ++ post_of t i saved ∷ [])) =
       set-map_below (length parts.todo) (open_at parts next l) p None inside ∙ map_below_same (length parts.todo) _ _ (held_posted next p l t i saved inside is) in
       by saved (ap (post m p) open_here) done_more held
     where
       by : (s : Bool) → step (machine_of parts d l) (Post p)
           ≡ (record (machine_of parts d l) { done = (opening_ids parts ++ ids_of l) ++ i ∷ []; held = set (machine_of parts d l).held p None }, Posted i)
-          → (opening_ids parts ++ ids_of l) ++ i ∷ [] ≡ opening_ids parts ++ ids_of (l ++ entry t i s ∷ [])
-          → set (machine_of parts d l).held p None ≡ map_below (length parts.todo) (open_at parts (min d (length parts.todo)) (l ++ entry t i s ∷ []))
-          → state_after (machine_of parts d l) (post_events p s) ≡ machine_of parts d (l ++ entry t i s ∷ [])
+          → (opening_ids parts ++ ids_of l) ++ i ∷ [] ≡ opening_ids parts ++ ids_of (l ++ post_of t i s ∷ [])
+          → set (machine_of parts d l).held p None ≡ map_below (length parts.todo) (open_at parts (min d (length parts.todo)) (l ++ post_of t i s ∷ []))
+          → state_after (machine_of parts d l) (post_events p s) ≡ machine_of parts d (l ++ post_of t i s ∷ [])
       by false stepped done_more held =
-          let count : saves l ≡ saves (l ++ entry t i false ∷ []) = let more = saves-push l (entry t i false) in omega arith in
-          let saved_same : opening_ids parts ++ ids_of (up_to_save (saves l) l) ≡ opening_ids parts ++ ids_of (up_to_save (saves (l ++ entry t i false ∷ [])) (l ++ entry t i false ∷ [])) =
+          let count : saves_made l ≡ saves_made (l ++ post_of t i false ∷ []) = let more = saves-push l (post_of t i false) in omega arith in
+          let saved_same : opening_ids parts ++ ids_of (up_to_save (saves_made l) l) ≡ opening_ids parts ++ ids_of (up_to_save (saves_made (l ++ post_of t i false ∷ [])) (l ++ post_of t i false ∷ [])) =
           ap (λ (q : List Entry). opening_ids parts ++ ids_of q)
-          (sym (up_to_save-kept l (entry t i false) (saves l) (omega arith)) ∙ ap (λ (n : ℕ). up_to_save n (l ++ entry t i false ∷ [])) count) in
+          (sym (up_to_save-kept l (post_of t i false) (saves_made l) (omega arith)) ∙ ap (λ (n : ℕ). up_to_save n (l ++ post_of t i false ∷ [])) count) in
           ap (λ (r : Machine × Did). r.0) stepped ∙ (λ k. record (machine_of parts d l) { done = done_more k; held = held k; saved = saved_same k })
       by true stepped done_more held =
-          let count : saves (l ++ entry t i true ∷ []) ≡ saves l + 1 = saves-push l (entry t i true) in
-          let saved_all : (opening_ids parts ++ ids_of l) ++ i ∷ [] ≡ opening_ids parts ++ ids_of (up_to_save (saves (l ++ entry t i true ∷ [])) (l ++ entry t i true ∷ [])) =
-          done_more ∙ ap (λ (q : List Entry). opening_ids parts ++ ids_of q) (sym (up_to_save-all l t i (saves (l ++ entry t i true ∷ [])) count)) in
+          let count : saves_made (l ++ post_of t i true ∷ []) ≡ saves_made l + 1 = saves-push l (post_of t i true) in
+          let saved_all : (opening_ids parts ++ ids_of l) ++ i ∷ [] ≡ opening_ids parts ++ ids_of (up_to_save (saves_made (l ++ post_of t i true ∷ [])) (l ++ post_of t i true ∷ [])) =
+          done_more ∙ ap (λ (q : List Entry). opening_ids parts ++ ids_of q) (sym (up_to_save-all l t i (saves_made (l ++ post_of t i true ∷ [])) count)) in
           ap (λ (r : Machine × Did). (step r.0 Save).0) stepped ∙ (λ k. record (machine_of parts d l) { done = done_more k; held = held k; saved = saved_all k })

@@ -2,64 +2,73 @@
 use Rattle.std.proofs.Common.{◌≡◌, ℕ, zero, suc, ◌+◌, ◌≤◌, Bool, true, false, cond, List, [], ◌∷◌, ◌++◌, refl, ap, arith}
 use Rattle.std.proofs.lemmas.List.Sums.{sum_by-cons, sum_by_push}
 use Rattle.tally_desk.specs.declared.entry.Entry.{Entry}
-use Rattle.tally_desk.specs.Entries.{entry, ids_of, is_saved, is_missed, saves, missed, up_to_save, after_save, ends_saved_from}
-use Rattle.model_laws.specs.Times.{times}
-use Rattle.model_laws.proofs.Times.{times-cons}
+use Rattle.tally_desk.specs.Entries.{post_of, ids_of, is_saved, is_missed, saves_made, missed, up_to_save, after_save, ends_saved_from}
+use Rattle.audit_model.specs.Times.{times}
+use Rattle.audit_model.proofs.Times.{times-cons}
 
 abbrev pub mark : Entry → ℕ
 mark e = cond (is_saved e) 1 0
 
-pub saves-push : (l : List Entry) (e : Entry) → saves (l ++ e ∷ []) ≡ saves l + mark e
+-- one post more is one save more where it is marked
+pub saves-push : (l : List Entry) (e : Entry) → saves_made (l ++ e ∷ []) ≡ saves_made l + mark e
 saves-push l e = sum_by_push mark l e
 
 -- by whether it was saved
-pub next_turn : (earlier : List Entry) (e : Entry) (s : Bool) → e.saved ≡ s → saves (earlier ++ e ∷ []) ≡ cond s (suc (saves earlier)) (saves earlier)
+pub next_turn : (earlier : List Entry) (e : Entry) (s : Bool) → e.saved ≡ s → saves_made (earlier ++ e ∷ []) ≡ cond s (suc (saves_made earlier)) (saves_made earlier)
 next_turn earlier e true is = let more = saves-push earlier e in let one_more = ap (λ (x : Bool). cond {A = ℕ} x 1 0) is in omega (arith, more, one_more)
 next_turn earlier e false is = let more = saves-push earlier e in let none = ap (λ (x : Bool). cond {A = ℕ} x 1 0) is in omega (arith, more, none)
 
+-- and one missed save more where one was due and it is not marked
 pub missed-push : (every : ℕ) (l : List Entry) (e : Entry) → missed every (l ++ e ∷ []) ≡ missed every l + cond (is_missed every e) 1 0
 missed-push every l e = sum_by_push (λ (x : Entry). cond (is_missed every x) 1 0) l e
 
+-- a step towards a mark that is there
 cond_within : (b : Bool) (n m : ℕ) → suc n ≤ cond b 1 0 + m → cond b n (suc n) ≤ m
 cond_within true n m le = omega arith
 cond_within false n m le = omega arith
 
-next_within : (x : Entry) (l : List Entry) (n : ℕ) → suc n ≤ saves (x ∷ l) → cond x.saved n (suc n) ≤ saves l
-next_within x l n le = cond_within x.saved n (saves l) (omega (arith, le, sum_by-cons mark x l))
+-- the mark that is looked for is behind the first post too
+next_within : (x : Entry) (l : List Entry) (n : ℕ) → suc n ≤ saves_made (x ∷ l) → cond x.saved n (suc n) ≤ saves_made l
+next_within x l n le = cond_within x.saved n (saves_made l) (omega (arith, le, sum_by-cons mark x l))
 
 -- one more post moves no save
-pub up_to_save-kept : (l : List Entry) (e : Entry) (n : ℕ) → n ≤ saves l → up_to_save n (l ++ e ∷ []) ≡ up_to_save n l
+pub up_to_save-kept : (l : List Entry) (e : Entry) (n : ℕ) → n ≤ saves_made l → up_to_save n (l ++ e ∷ []) ≡ up_to_save n l
 up_to_save-kept [] e zero le = refl
 up_to_save-kept [] e (suc n) le = absurd (omega arith)
 up_to_save-kept (x ∷ l) e zero le = refl
 up_to_save-kept (x ∷ l) e (suc n) le = ap (λ (q : List Entry). x ∷ q) (up_to_save-kept l e (cond x.saved n (suc n)) (next_within x l n le))
 
-pub after_save-kept : (l : List Entry) (e : Entry) (n : ℕ) → n ≤ saves l → after_save n (l ++ e ∷ []) ≡ after_save n l ++ e ∷ []
+-- the posts after an earlier mark, with one post more
+pub after_save-kept : (l : List Entry) (e : Entry) (n : ℕ) → n ≤ saves_made l → after_save n (l ++ e ∷ []) ≡ after_save n l ++ e ∷ []
 after_save-kept [] e zero le = refl
 after_save-kept [] e (suc n) le = absurd (omega arith)
 after_save-kept (x ∷ l) e zero le = refl
 after_save-kept (x ∷ l) e (suc n) le = after_save-kept l e (cond x.saved n (suc n)) (next_within x l n le)
 
+-- a step towards the mark behind all others
 cond_next : (b : Bool) (n m : ℕ) → suc n ≡ cond b 1 0 + m → cond b n (suc n) ≡ m
 cond_next true n m e = omega arith
 cond_next false n m e = omega arith
 
-next_is : (x : Entry) (l : List Entry) (n : ℕ) → suc n ≡ saves (x ∷ l) + 1 → cond x.saved n (suc n) ≡ saves l + 1
-next_is x l n is = cond_next x.saved n (saves l + 1) (omega (arith, is, sum_by-cons mark x l))
+-- the mark behind all others, behind the first post too
+next_is : (x : Entry) (l : List Entry) (n : ℕ) → suc n ≡ saves_made (x ∷ l) + 1 → cond x.saved n (suc n) ≡ saves_made l + 1
+next_is x l n is = cond_next x.saved n (saves_made l + 1) (omega (arith, is, sum_by-cons mark x l))
 
 -- a marked post saves all
-pub up_to_save-all : (l : List Entry) (t i n : ℕ) → n ≡ saves l + 1 → up_to_save n (l ++ entry t i true ∷ []) ≡ l ++ entry t i true ∷ []
+pub up_to_save-all : (l : List Entry) (t i n : ℕ) → n ≡ saves_made l + 1 → up_to_save n (l ++ post_of t i true ∷ []) ≡ l ++ post_of t i true ∷ []
 up_to_save-all l t i zero is = absurd (omega arith)
 up_to_save-all [] t i (suc zero) is = refl
 up_to_save-all [] t i (suc (suc n)) is = absurd (omega arith)
 up_to_save-all (x ∷ l) t i (suc n) is = ap (λ (q : List Entry). x ∷ q) (up_to_save-all l t i (cond x.saved n (suc n)) (next_is x l n is))
 
-pub after_save-none : (l : List Entry) (t i n : ℕ) → n ≡ saves l + 1 → after_save n (l ++ entry t i true ∷ []) ≡ []
+-- nothing comes after a mark on the last post
+pub after_save-none : (l : List Entry) (t i n : ℕ) → n ≡ saves_made l + 1 → after_save n (l ++ post_of t i true ∷ []) ≡ []
 after_save-none l t i zero is = absurd (omega arith)
 after_save-none [] t i (suc zero) is = refl
 after_save-none [] t i (suc (suc n)) is = absurd (omega arith)
 after_save-none (x ∷ l) t i (suc n) is = after_save-none l t i (cond x.saved n (suc n)) (next_is x l n is)
 
+-- whether the last post is marked
 pub ends_saved-push : (b : Bool) (l : List Entry) (e : Entry) → ends_saved_from b (l ++ e ∷ []) ≡ e.saved
 ends_saved-push b [] e = refl
 ends_saved-push b (x ∷ l) e = ends_saved-push x.saved l e

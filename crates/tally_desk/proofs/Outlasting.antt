@@ -6,16 +6,18 @@ use Rattle.std.proofs.lemmas.List.{map-append}
 use Rattle.std.specs.Prelude.{◌==◌}
 use Rattle.std.proofs.lemmas.List.Sums.{sum_by-append}
 use Rattle.std.proofs.lemmas.List.Elements.{All-cons, All-head, All-nil, All-tail}
-use Rattle.audit_io.specs.Tries.{Try}
+use Rattle.audit_model.specs.Tries.{Try}
 use Rattle.audit_model.specs.Run.{IsRight, fits, total}
-use Rattle.model_laws.specs.Times.{times}
-use Rattle.checkpoint_definitions.specs.Checkpoint.{job_digest}
-use Rattle.ckpt_store.specs.Histories.{AreInTurn, IsRightSave, IsSaveAt, SavesKeepTheNewest, SavesLeaveHonestSlots}
-use Rattle.draw_definitions.specs.Draw.{draw}
+use Rattle.audit_model.specs.Times.{times}
+use Rattle.audit_statement.specs.Checkpoint.{job_digest}
+use Rattle.audit_statement.specs.Histories.{AreInTurn, IsRightSave, IsSaveAt}
+use Rattle.ckpt_store.specs.Laws.{SavesKeepTheNewest, SavesLeaveHonestSlots}
+use Rattle.audit_statement.specs.Draw.{draw}
 use Rattle.tally_desk.specs.declared.entry.Entry.{Entry}
-use Rattle.tally_desk.specs.Entries.{id_of, ids_of, is_due, saves}
-use Rattle.tally_desk.specs.Homes.{IsSound, Made, booked, made_after, made_with, moved, tries, try_made}
-use Rattle.tally_desk.specs.Outlasting.{StopsKeepTheNewest, StopsLeaveHonestSlots}
+use Rattle.tally_desk.specs.Entries.{posted_id, ids_of, is_due, saves_made}
+use Rattle.tally_desk.specs.Homes.{IsSound, Made, booked, made_after, made_with, tries, try_made}
+use Rattle.audit_statement.specs.InOrder.{moved}
+use Rattle.tally_desk.specs.Outlasting.{RunStopsKeepTheNewest, RunStopsLeaveHonestSlots}
 use Rattle.tally_desk.specs.Parts.{IsPlan, Parts}
 use Rattle.tally_desk.proofs.Booking.{booked_fit, by_id_fit}
 use Rattle.tally_desk.proofs.Marking.{next_turn}
@@ -32,7 +34,7 @@ module _ (parts : Parts) (plan : IsPlan parts) where
       → (id : ℕ) → times id (ids_of (earlier ++ e ∷ [])) ≤ times id parts.todo
   fewer earlier posted e of_todo id =
       let parted : ids_of (earlier ++ e ∷ posted) ≡ ids_of (earlier ++ e ∷ []) ++ ids_of posted =
-      ap ids_of (sym (append_assoc earlier (e ∷ []) posted)) ∙ map-append id_of (earlier ++ e ∷ []) posted in
+      ap ids_of (sym (append_assoc earlier (e ∷ []) posted)) ∙ map-append posted_id (earlier ++ e ∷ []) posted in
       let sum = ap (times id) parted ∙ sum_by-append (λ (y : ℕ). cond (y == id) 1 0) (ids_of (earlier ++ e ∷ [])) (ids_of posted) in
       omega (arith, of_todo id, sum)
 
@@ -71,7 +73,7 @@ module _ (parts : Parts) (plan : IsPlan parts) where
   InTurnFrom n ms = AreInTurn parts.job (job_digest parts.job) (moved n parts.place).slot (moved n parts.place).generation (map (try_made parts.job) ms)
 
   save_at : (earlier : List Entry) (e : Entry) → ((id : ℕ) → times id (ids_of (earlier ++ e ∷ [])) ≤ times id parts.todo) → IsSound parts.job (made_with parts earlier e)
-      → IsSaveAt parts.job (job_digest parts.job) (moved (saves earlier) parts.place).slot (moved (saves earlier) parts.place).generation (try_made parts.job (made_with parts earlier e))
+      → IsSaveAt parts.job (job_digest parts.job) (moved (saves_made earlier) parts.place).slot (moved (saves_made earlier) parts.place).generation (try_made parts.job (made_with parts earlier e))
   save_at earlier e of_todo sound = record {
     slot = refl;
     version = 2;
@@ -82,8 +84,8 @@ module _ (parts : Parts) (plan : IsPlan parts) where
   }
 
   -- the place after this one
-  turn_rest : (earlier : List Entry) (e : Entry) (rest : List Made) (s : Bool) → e.saved ≡ s → InTurnFrom (saves (earlier ++ e ∷ [])) rest
-      → (let at = moved (saves earlier) parts.place in
+  turn_rest : (earlier : List Entry) (e : Entry) (rest : List Made) (s : Bool) → e.saved ≡ s → InTurnFrom (saves_made (earlier ++ e ∷ [])) rest
+      → (let at = moved (saves_made earlier) parts.place in
       AreInTurn parts.job (job_digest parts.job) (cond s (1 - at.slot) at.slot) (cond s ((at.generation + 1) % 3) at.generation) (map (try_made parts.job) rest))
   turn_rest earlier e rest true is later = subst (λ (n : ℕ). InTurnFrom n rest) (next_turn earlier e true is) later
   turn_rest earlier e rest false is later = subst (λ (n : ℕ). InTurnFrom n rest) (next_turn earlier e false is) later
@@ -91,8 +93,8 @@ module _ (parts : Parts) (plan : IsPlan parts) where
   turn_with : (earlier : List Entry) (e : Entry) (rest : List Made) (b : Bool) → is_due parts.save_every e ≡ b → (e.saved ≡ true → is_due parts.save_every e ≡ true)
       → ((id : ℕ) → times id (ids_of (earlier ++ e ∷ [])) ≤ times id parts.todo)
       → All (IsSound parts.job) (cond b (made_with parts earlier e ∷ []) [] ++ rest)
-      → (All (IsSound parts.job) rest → InTurnFrom (saves (earlier ++ e ∷ [])) rest)
-      → InTurnFrom (saves earlier) (cond b (made_with parts earlier e ∷ []) [] ++ rest)
+      → (All (IsSound parts.job) rest → InTurnFrom (saves_made (earlier ++ e ∷ [])) rest)
+      → InTurnFrom (saves_made earlier) (cond b (made_with parts earlier e ∷ []) [] ++ rest)
   turn_with earlier e rest false undue due of_todo sound later =
       subst (λ (n : ℕ). InTurnFrom n rest) (next_turn earlier e false (unsaved e.saved due)) (later sound)
     where
@@ -106,7 +108,7 @@ module _ (parts : Parts) (plan : IsPlan parts) where
 
   in_turn : (posted earlier : List Entry) → ((id : ℕ) → times id (ids_of (earlier ++ posted)) ≤ times id parts.todo)
       → All (IsSound parts.job) (made_after parts earlier posted)
-      → All (λ e. e.saved ≡ true → is_due parts.save_every e ≡ true) posted → InTurnFrom (saves earlier) (made_after parts earlier posted)
+      → All (λ e. e.saved ≡ true → is_due parts.save_every e ≡ true) posted → InTurnFrom (saves_made earlier) (made_after parts earlier posted)
   in_turn [] earlier of_todo sound due = tt
   in_turn (e ∷ posted) earlier of_todo sound due =
       turn_with earlier e (made_after parts (earlier ++ e ∷ []) posted) (is_due parts.save_every e) refl
@@ -115,12 +117,14 @@ module _ (parts : Parts) (plan : IsPlan parts) where
       (λ id. subst (λ (l : List Entry). times id (ids_of l) ≤ times id parts.todo) (sym (append_assoc earlier (e ∷ []) posted)) (of_todo id))
       rest_sound (All-tail (λ (x : Entry). x.saved ≡ true → is_due parts.save_every x ≡ true) e posted due))
 
-pub stops_leave_honest_slots : SavesLeaveHonestSlots → StopsLeaveHonestSlots
+-- the saves of a desk are right saves in turn
+pub stops_leave_honest_slots : SavesLeaveHonestSlots → RunStopsLeaveHonestSlots
 stops_leave_honest_slots law parts posted before after n posts opening out honest =
     law parts.job (draw parts.job.setting.key) (job_digest parts.job) before after (tries parts posted) n
     (right_tries parts posts.plan opening posted [] posts.of_todo posts.sound) out honest
 
-pub stops_keep_the_newest : SavesKeepTheNewest → StopsKeepTheNewest
+-- and so keep the newest slot or make a newer one
+pub stops_keep_the_newest : SavesKeepTheNewest → RunStopsKeepTheNewest
 stops_keep_the_newest law parts posted before after n posts first out =
     law parts.job (job_digest parts.job) before after parts.place.slot parts.place.generation (tries parts posted) n first
     (in_turn parts posts.plan posted [] posts.of_todo posts.sound posts.due) out

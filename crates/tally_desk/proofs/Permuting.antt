@@ -7,15 +7,18 @@ use Rattle.std.proofs.lemmas.List.Sums.{sum_by-cons, sum_by-append}
 use Rattle.std.proofs.lemmas.List.Sorted.{IsPermutation-refl, IsPermutation-cons, IsPermutation-sym, IsPermutation-trans, IsPermutation-middle}
 use Rattle.tally_desk.specs.declared.entry.Entry.{Entry}
 
+-- whether two marks are the same
 same_flag : Bool → Bool → Bool
 same_flag true b = b
 same_flag false b = not b
 
+-- a mark is the same as itself
 same_flag_self : (b : Bool) → same_flag b b ≡ true
 unfolding same_flag
 same_flag_self true = refl
 same_flag_self false = refl
 
+-- marks that are found to be the same are
 same_flag_tells : (a b : Bool) → same_flag a b ≡ true → a ≡ b
 unfolding same_flag
 same_flag_tells true true e = refl
@@ -27,10 +30,12 @@ same_flag_tells false false e = refl
 same : Entry → Entry → Bool
 same x y = (x.ticket == y.ticket) && ((x.id == y.id) && same_flag x.saved y.saved)
 
+-- a post is the same as itself
 same_self : (x : Entry) → same x x ≡ true
 unfolding same
 same_self x = and_from _ _ (eq-eqb x.ticket x.ticket refl) (and_from _ _ (eq-eqb x.id x.id refl) (same_flag_self x.saved))
 
+-- posts that are found to be the same are
 same_tells : (x y : Entry) → same x y ≡ true → x ≡ y
 unfolding same
 same_tells x y e =
@@ -44,6 +49,7 @@ same_tells x y e =
 abbrev one : Entry → Entry → ℕ
 one x y = cond (same x y) 1 0
 
+-- a post counts once for itself
 one_self : (x : Entry) → one x x ≡ 1
 one_self x = ap (λ (b : Bool). cond b 1 0) (same_self x)
 
@@ -55,6 +61,7 @@ cut_at x (y ∷ ys) some_left = ⊎_elim
     (λ apart. let none : one x y ≡ 0 = ap (λ (b : Bool). cond b 1 0) apart in let r = cut_at x ys (omega (arith, some_left, none, sum_by-cons (one x) y ys)) in (y ∷ r.0, r.1, λ k. y ∷ r.2 k))
     (cases_Bool (same x y))
 
+-- lists over which each count has the same sum have the same posts
 pub permutation_from_sums : (xs ys : List Entry) → ((h : Entry → ℕ) → sum_by h xs ≡ sum_by h ys) → IsPermutation xs ys
 permutation_from_sums [] [] sums = IsPermutation-refl []
 permutation_from_sums [] (y ∷ ys) sums = absurd (omega (arith, sums (one y), sum_by-cons (one y) y ys, one_self y))

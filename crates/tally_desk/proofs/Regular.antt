@@ -7,18 +7,20 @@ use Rattle.std.proofs.lemmas.Nat.{div-mul-add, mod-mul-add}
 use mathlib.Core.Logic.{dite}
 use native.Mathlib.Decide.{ℕ_discrete, dec_le}
 use Rattle.tally_desk.specs.declared.entry.Entry.{Entry}
-use Rattle.tally_desk.specs.Entries.{UnfailedPostsAreRegular, ends_saved, ends_saved_from, is_due, is_missed, missed, saves, tickets_of, up_to_save}
+use Rattle.tally_desk.specs.Entries.{UnfailedPostsAreRegular, ends_saved, ends_saved_from, is_due, is_missed, missed, saves_made, tickets_of, up_to_save}
 use Rattle.tally_desk.proofs.Marking.{mark}
 
 abbrev Marked : ℕ → List Entry → Type 0
 Marked v [] = Unit {0}
 Marked v (e ∷ l) = (e.saved ≡ is_due v e) × Marked v l
 
+-- a post that missed no save is marked where one was due
 one_marked : (saved due : Bool) → (saved ≡ true → due ≡ true) → cond {A = ℕ} (due && not saved) 1 0 ≡ 0 → saved ≡ due
 one_marked true due h none = sym (h refl)
 one_marked false true h none = absurd (omega arith)
 one_marked false false h none = refl
 
+-- so it is of all posts of which none missed one
 marked : (v : ℕ) (l : List Entry) → All (λ e. e.saved ≡ true → is_due v e ≡ true) l → missed v l ≡ 0 → Marked v l
 marked v [] due none = tt
 marked v (e ∷ l) due none =
@@ -27,9 +29,11 @@ marked v (e ∷ l) due none =
       marked v l (λ k d inside. due (suc k) d (omega arith)) (omega (arith, none, cut)),
     )
 
+-- the first post has the first ticket
 pub first_ticket : (e : Entry) (l : List Entry) (a : ℕ) → tickets_of (e ∷ l) ≡ range_with_len a (length (e ∷ l)) → e.ticket ≡ a
 first_ticket e l a is = ap (λ (xs : List ℕ). get_or xs 0 0) is
 
+-- and the others have those after it
 pub other_tickets : (e : Entry) (l : List Entry) (a : ℕ) → tickets_of (e ∷ l) ≡ range_with_len a (length (e ∷ l)) → tickets_of l ≡ range_with_len (a + 1) (length l)
 other_tickets e l a is = ap (drop 1) is
 
@@ -52,7 +56,7 @@ module _ (v : ℕ) (some_v : 1 ≤ v) where
   pub next_group : (q r : ℕ) → r + 1 ≡ v → q * v + r + 1 ≡ suc q * v + 0
   next_group q r full = omega (arith, full, suc-mul q v)
 
-  counts : (l : List Entry) (q r : ℕ) → r < v → tickets_of l ≡ range_with_len (q * v + r) (length l) → Marked v l → saves l + q ≡ (q * v + r + length l) / v
+  counts : (l : List Entry) (q r : ℕ) → r < v → tickets_of l ≡ range_with_len (q * v + r) (length l) → Marked v l → saves_made l + q ≡ (q * v + r + length l) / v
   counts [] q r less tickets all = (let same : 0 + q ≡ q = omega arith in same) ∙ sym (ap (λ (z : ℕ). z / v) (let same : q * v + r + 0 ≡ q * v + r = omega arith in same) ∙ div-mul-add q v r less)
   counts (e ∷ l) q r less tickets all =
       let here = first_ticket e l (q * v + r) tickets in
@@ -63,17 +67,17 @@ module _ (v : ℕ) (some_v : 1 ≤ v) where
       let flag : mark e ≡ 1 = ap (λ (b : Bool). cond b 1 0) (all.0 ∙ due_next e q r here full) in
       let rest = counts l (suc q) 0 (omega arith) (later ∙ ap (λ (z : ℕ). range_with_len z (length l)) (next_group q r full)) all.1 in
       let reached : suc q * v + 0 + length l ≡ q * v + r + length (e ∷ l) = omega (arith, full, suc-mul q v) in
-      let count : saves (e ∷ l) + q ≡ saves l + suc q = omega (arith, cut, flag) in
+      let count : saves_made (e ∷ l) + q ≡ saves_made l + suc q = omega (arith, cut, flag) in
       count ∙ rest ∙ ap (λ (z : ℕ). z / v) reached)
       (λ not_full.
       let more = next_less r less not_full in
       let flag : mark e ≡ 0 = ap (λ (b : Bool). cond b 1 0) (all.0 ∙ due_later e q r here more) in
       let rest = counts l q (r + 1) more (later ∙ ap (λ (z : ℕ). range_with_len z (length l)) (let same : q * v + r + 1 ≡ q * v + (r + 1) = omega arith in same)) all.1 in
       let reached : q * v + (r + 1) + length l ≡ q * v + r + length (e ∷ l) = omega arith in
-      let count : saves (e ∷ l) + q ≡ saves l + q = omega (arith, cut, flag) in
+      let count : saves_made (e ∷ l) + q ≡ saves_made l + q = omega (arith, cut, flag) in
       count ∙ rest ∙ ap (λ (z : ℕ). z / v) reached)
 
-  cuts : (l : List Entry) (q r : ℕ) → r < v → tickets_of l ≡ range_with_len (q * v + r) (length l) → Marked v l → (n : ℕ) → suc n ≤ saves l → length (up_to_save (suc n) l) + r ≡ suc n * v
+  cuts : (l : List Entry) (q r : ℕ) → r < v → tickets_of l ≡ range_with_len (q * v + r) (length l) → Marked v l → (n : ℕ) → suc n ≤ saves_made l → length (up_to_save (suc n) l) + r ≡ suc n * v
   cuts [] q r less tickets all n le = absurd (omega arith)
   cuts (e ∷ l) q r less tickets all n le =
       let here = first_ticket e l (q * v + r) tickets in
@@ -95,7 +99,7 @@ module _ (v : ℕ) (some_v : 1 ≤ v) where
       let rest = cuts l q (r + 1) more (later ∙ ap (λ (z : ℕ). range_with_len z (length l)) (let same : q * v + r + 1 ≡ q * v + (r + 1) = omega arith in same)) all.1 n (omega (arith, le, cut, flag)) in
       omega (arith, left, rest))
     where
-      after : (k : ℕ) → k ≤ saves l → ((j : ℕ) → suc j ≤ saves l → length (up_to_save (suc j) l) + 0 ≡ suc j * v) → length (up_to_save k l) ≡ k * v
+      after : (k : ℕ) → k ≤ saves_made l → ((j : ℕ) → suc j ≤ saves_made l → length (up_to_save (suc j) l) + 0 ≡ suc j * v) → length (up_to_save k l) ≡ k * v
       after zero le' f = omega arith
       after (suc k) le' f = let r' = f k le' in omega (arith, r')
 
@@ -106,17 +110,19 @@ module _ (v : ℕ) (some_v : 1 ≤ v) where
       ends e.saved (f ∷ l) (a + 1) (other_tickets e (f ∷ l) a tickets) all.1 (omega arith)
       ∙ ap (λ (z : ℕ). z % v == 0) (let same : a + 1 + length (f ∷ l) ≡ a + length (e ∷ f ∷ l) = omega arith in same)
 
+-- without posts none is marked
 no_posts : (v : ℕ) (l : List Entry) → length l ≡ 0 → ends_saved l ≡ (nat_lt 0 (length l) && (length l % v == 0))
 no_posts v [] none = refl
 no_posts v (e ∷ l) none = absurd (omega arith)
 
+-- the law on posts of which none missed a save
 pub unfailed_posts_are_regular : UnfailedPostsAreRegular
 unfailed_posts_are_regular every posted some_every tickets due none =
     let all = marked every posted due none in
     let from : tickets_of posted ≡ range_with_len (0 * every + 0) (length posted) = tickets ∙ ap (λ (z : ℕ). range_with_len z (length posted)) (let zero_is : 0 ≡ 0 * every + 0 = omega arith in zero_is) in
     record {
       count = let c = counts every some_every posted 0 0 (omega arith) from all in
-          (let same : saves posted ≡ saves posted + 0 = omega arith in same) ∙ c ∙ ap (λ (z : ℕ). z / every) (let same : 0 * every + 0 + length posted ≡ length posted = omega arith in same);
+          (let same : saves_made posted ≡ saves_made posted + 0 = omega arith in same) ∙ c ∙ ap (λ (z : ℕ). z / every) (let same : 0 * every + 0 + length posted ≡ length posted = omega arith in same);
       sizes = sizes_of (cuts every some_every posted 0 0 (omega arith) from all);
       last = dite (ℕ_discrete (length posted) 0) (no_posts every posted)
           (λ some_post. let more : 0 < length posted = positive (length posted) some_post in
@@ -125,7 +131,7 @@ unfailed_posts_are_regular every posted some_every tickets due none =
           ∙ ap (λ (b : Bool). b && (length posted % every == 0)) (sym (lt-ltb 0 (length posted) more)));
     }
   where
-    sizes_of : ((n : ℕ) → suc n ≤ saves posted → length (up_to_save (suc n) posted) + 0 ≡ suc n * every) → (n : ℕ) → n ≤ saves posted → length (up_to_save n posted) ≡ n * every
+    sizes_of : ((n : ℕ) → suc n ≤ saves_made posted → length (up_to_save (suc n) posted) + 0 ≡ suc n * every) → (n : ℕ) → n ≤ saves_made posted → length (up_to_save n posted) ≡ n * every
     sizes_of f zero le = omega arith
     sizes_of f (suc n) le = let r = f n le in omega (arith, r)
 

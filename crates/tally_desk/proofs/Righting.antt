@@ -3,19 +3,20 @@ use Rattle.std.proofs.Common.{◌≡◌, ℕ, zero, suc, ◌<◌, List, map, Opt
 use Rattle.std.specs.Prelude.{option_to_list}
 use Rattle.std.proofs.lemmas.List.Elements.{All-append}
 use Rattle.audit_model.specs.declared.outcome.Outcome.{Outcome}
-use Rattle.audit_model.specs.Run.{total}
+use Rattle.audit_model.specs.Run.{total, by_id, with_id}
 use Rattle.audit_model.specs.Trajectory.{outcome}
-use Rattle.model_laws.proofs.Times.{all_mapped}
-use Rattle.draw_definitions.specs.Draw.{draw}
-use Rattle.outcome_book.specs.Booked.{by_id, with_id}
+use Rattle.audit_model.proofs.Times.{all_mapped}
+use Rattle.audit_statement.specs.Draw.{draw}
 use Rattle.outcome_book.proofs.ById.{found_in, by_id-rising}
 use Rattle.tally_desk.specs.Entries.{ids_of}
 use Rattle.tally_desk.specs.Homes.{booked}
-use Rattle.tally_desk.specs.Parts.{found}
+use Rattle.claim_counter.specs.Walks.{found}
 use Rattle.tally_desk.specs.Righted.{SavedOutcomesAreRight}
-use Rattle.tally_desk.proofs.Found.{found_id, found_right}
+use Rattle.claim_counter.proofs.Sharing.{found_id}
+use Rattle.tally_desk.proofs.Found.{found_right}
 use Rattle.tally_desk.proofs.Todo.{todo_within}
 
+-- what holds of all outcomes holds of those by rising id
 by_id_all : (P : Outcome → Type 0) (n : ℕ) (os : List Outcome) → All P os → All P (by_id n os)
 by_id_all P zero os all = λ k d inside. absurd (omega arith)
 by_id_all P (suc n) os all = All-append P (by_id n os) (option_to_list (with_id os n)) (by_id_all P n os all) (last (with_id os n) refl)
@@ -25,6 +26,7 @@ by_id_all P (suc n) os all = All-append P (by_id n os) (option_to_list (with_id 
     last (Some o) e zero d inside = (found_in P os n o all e).0
     last (Some o) e (suc k) d inside = absurd (omega arith)
 
+-- the law on saves of a right opening
 pub saved_outcomes_are_right : SavedOutcomesAreRight
 saved_outcomes_are_right parts posted plan of_todo right =
     let n = total parts.job in

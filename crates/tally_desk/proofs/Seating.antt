@@ -6,7 +6,7 @@ use Rattle.tally_desk.specs.declared.home.Home.{Home}
 use Rattle.tally_desk.specs.Desks.{DrawsPlace, claimed_ids, ended_view, with_own}
 use Rattle.tally_desk.specs.Parts.{Parts}
 use Rattle.tally_desk.specs.Views.{PassView, view_in}
-use Rattle.model_laws.specs.Times.{times}
+use Rattle.audit_model.specs.Times.{times}
 
 -- a badge of one view
 pub only_view : (views : List PassView) (v : PassView) → views ≡ v ∷ [] → views ≡ view_in views ∷ []

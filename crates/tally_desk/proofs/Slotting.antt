@@ -2,19 +2,19 @@
 use Rattle.std.proofs.Common.{◌≡◌, ℕ, zero, suc, ◌+◌, ◌-◌, ◌%◌, ◌<◌, ◌≤◌, Bool, true, false, cond, List, [], ◌∷◌, ◌++◌, Option, Some, None, refl, sym, ap, ◌∙◌, subst, arith}
 use Rattle.std.specs.List.{list_all}
 use Rattle.std.proofs.lemmas.Bool.{true≢false}
-use Rattle.audit_io.specs.Slots.{Pair, Stored, stored, other_stored}
+use Rattle.audit_model.specs.Pair.{Pair, Stored, stored, other_stored}
 use Rattle.audit_model.specs.declared.outcome.Outcome.{Outcome}
-use Rattle.audit_model.specs.Run.{total, fits}
-use Rattle.model_laws.specs.Times.{times}
-use Rattle.checkpoint_definitions.specs.Checkpoint.{IsCheckpoint, checkpoint, job_digest}
-use Rattle.checkpoint_definitions.specs.Slots.{generation_of, slot_of}
-use Rattle.ckpt_store.specs.declared.slots.Place.{Place}
-use Rattle.ckpt_store.specs.Laws.{CheckpointsAreOurs, IsNewestForFitJobs, SavedSlotsAreNewest, newest_for, place_for}
-use Rattle.outcome_book.specs.Booked.{by_id}
+use Rattle.audit_model.specs.Run.{total, fits, by_id}
+use Rattle.audit_model.specs.Times.{times}
+use Rattle.audit_statement.specs.Checkpoint.{IsCheckpoint, checkpoint, job_digest}
+use Rattle.audit_statement.specs.Slots.{generation_of, slot_of, newest_for, place_for}
+use Rattle.audit_model.specs.declared.place.Place.{Place}
+use Rattle.ckpt_store.specs.Laws.{CheckpointsAreOurs, IsNewestForFitJobs, SavedSlotsAreNewest}
 use Rattle.tally_desk.specs.declared.entry.Entry.{Entry}
-use Rattle.tally_desk.specs.Entries.{entry, ids_of, is_missed, saves, missed, up_to_save, after_save}
-use Rattle.audit_io.specs.Told.{IfBothTold}
-use Rattle.tally_desk.specs.Homes.{IsSaveOf, SlotsAs, booked, moved, next_place}
+use Rattle.tally_desk.specs.Entries.{post_of, ids_of, is_missed, saves_made, missed, up_to_save, after_save}
+use Rattle.audit_model.specs.Told.{IfBothTold}
+use Rattle.tally_desk.specs.Homes.{IsSaveOf, SlotsAs, booked}
+use Rattle.audit_statement.specs.InOrder.{moved, next_place}
 use Rattle.tally_desk.specs.Parts.{Parts, IsPlan}
 use Rattle.tally_desk.proofs.Booking.{saved_fit}
 use Rattle.tally_desk.proofs.Marking.{saves-push, missed-push, up_to_save-kept, up_to_save-all, after_save-kept, ends_saved-push}
@@ -26,9 +26,11 @@ pub moved_slot : (n : ℕ) (p : Place) → p.slot < 2 → (moved n p).slot < 2
 moved_slot zero p below = below
 moved_slot (suc n) p below = omega arith
 
+-- a generation is below three
 mod_three : (g : ℕ) → (g + 1) % 3 < 3
 mod_three g = omega arith
 
+-- so it is however often the place moved on
 pub moved_generation : (n : ℕ) (p : Place) → p.generation < 3 → (moved n p).generation < 3
 moved_generation zero p below = below
 moved_generation (suc n) p below = mod_three (moved n p).generation
@@ -39,6 +41,7 @@ other_is q zero below = refl
 other_is q (suc zero) below = refl
 other_is q (suc (suc at)) below = absurd (omega arith)
 
+-- the other slot of the other slot is the slot
 pub twice_other : (at : ℕ) → at < 2 → 1 - (1 - at) ≡ at
 twice_other at below = omega arith
 
@@ -65,11 +68,13 @@ after_before (suc (suc (suc g))) below = absurd (omega arith)
 
 -- ---- told or not
 
+-- what is told in other words
 pub told_map : {A : Type 0} (a b : Option A) (P Q : A → A → Type 0) → ((x y : A) → P x y → Q x y) → IfBothTold a b P → IfBothTold a b Q
 told_map None b P Q f h = tt
 told_map (Some x) None P Q f h = h
 told_map (Some x) (Some y) P Q f h = f x y h
 
+-- where nothing is counted, the condition does not hold
 cond_none : (b : Bool) → cond {A = ℕ} b 1 0 ≡ 0 → b ≡ false
 cond_none true none = absurd (omega arith)
 cond_none false none = refl
@@ -79,21 +84,21 @@ cond_none false none = refl
 -- the last slot is as before, and both are where no save was due
 pub unsaved_slots : (parts : Parts) (l : List Entry) (t i : ℕ) (before now after : Pair) (place : Place)
     → stored after (1 - place.slot) ≡ stored now (1 - place.slot)
-    → (is_missed parts.save_every (entry t i false) ≡ false → after ≡ now)
-    → SlotsAs parts before now place l → SlotsAs parts before after place (l ++ entry t i false ∷ [])
+    → (is_missed parts.save_every (post_of t i false) ≡ false → after ≡ now)
+    → SlotsAs parts before now place l → SlotsAs parts before after place (l ++ post_of t i false ∷ [])
 unsaved_slots parts l t i before now after place last same s =
-    let e = entry t i false in
+    let e = post_of t i false in
     let more = l ++ e ∷ [] in
     let every = parts.save_every in
-    let count : saves more ≡ saves l = let pushed = saves-push l e in omega arith in
-    let fewer : saves more - 1 ≡ saves l - 1 = ap (λ (n : ℕ). n - 1) count in
-    let kept : (n : ℕ) → n ≤ saves l → up_to_save n more ≡ up_to_save n l = up_to_save-kept l e in
-    let rest : missed every (after_save (saves more) more) ≡ missed every (after_save (saves l) l) + cond (is_missed every e) 1 0 =
-    ap (λ (n : ℕ). missed every (after_save n more)) count ∙ ap (missed every) (after_save-kept l e (saves l) (omega arith))
-    ∙ missed-push every (after_save (saves l) l) e in
-    let unmissed : missed every (after_save (saves more) more) ≡ 0 → after ≡ now = λ none. same (cond_none (is_missed every e) (omega (arith, none, rest))) in
-    let saved_all : up_to_save (saves more) more ≡ up_to_save (saves l) l = ap (λ (n : ℕ). up_to_save n more) count ∙ kept (saves l) (omega arith) in
-    let saved_before : up_to_save (saves more - 1) more ≡ up_to_save (saves l - 1) l = ap (λ (n : ℕ). up_to_save n more) fewer ∙ kept (saves l - 1) (omega arith) in
+    let count : saves_made more ≡ saves_made l = let pushed = saves-push l e in omega arith in
+    let fewer : saves_made more - 1 ≡ saves_made l - 1 = ap (λ (n : ℕ). n - 1) count in
+    let kept : (n : ℕ) → n ≤ saves_made l → up_to_save n more ≡ up_to_save n l = up_to_save-kept l e in
+    let rest : missed every (after_save (saves_made more) more) ≡ missed every (after_save (saves_made l) l) + cond (is_missed every e) 1 0 =
+    ap (λ (n : ℕ). missed every (after_save n more)) count ∙ ap (missed every) (after_save-kept l e (saves_made l) (omega arith))
+    ∙ missed-push every (after_save (saves_made l) l) e in
+    let unmissed : missed every (after_save (saves_made more) more) ≡ 0 → after ≡ now = λ none. same (cond_none (is_missed every e) (omega (arith, none, rest))) in
+    let saved_all : up_to_save (saves_made more) more ≡ up_to_save (saves_made l) l = ap (λ (n : ℕ). up_to_save n more) count ∙ kept (saves_made l) (omega arith) in
+    let saved_before : up_to_save (saves_made more - 1) more ≡ up_to_save (saves_made l - 1) l = ap (λ (n : ℕ). up_to_save n more) fewer ∙ kept (saves_made l - 1) (omega arith) in
     record {
       last_unsaved = λ none. last ∙ s.last_unsaved (omega (arith, none, count));
       last_saved = λ some_save.
@@ -112,30 +117,30 @@ unsaved_slots parts l t i before now after place last same s =
 
 -- a checkpoint of any outcomes that fit, at the place and nowhere else, is the newest
 module _ (newest : SavedSlotsAreNewest) (ours : CheckpointsAreOurs) (parts : Parts) (plan : IsPlan parts) (l : List Entry) (before now after : Pair) (place : Place) (slot : place.slot < 2)
-    (generation : place.generation < 3) (at : place ≡ moved (saves l) parts.place)
+    (generation : place.generation < 3) (at : place ≡ moved (saves_made l) parts.place)
     (first : place_for parts.job (job_digest parts.job) before ≡ (parts.place.slot, parts.place.generation)) (of_todo : (id : ℕ) → times id (ids_of l) ≤ times id parts.todo)
     (outcomes : List Outcome) (fit : list_all (fits parts.job) outcomes ≡ true)
     (sound : IsCheckpoint (checkpoint 2 (job_digest parts.job) place.generation outcomes) 2 (job_digest parts.job) place.generation outcomes)
     (held : stored after place.slot ≡ Some (checkpoint 2 (job_digest parts.job) place.generation outcomes)) (last : stored after (1 - place.slot) ≡ stored now (1 - place.slot))
     (fresh : IsNewestForFitJobs (job_digest parts.job) place.slot place.generation outcomes after) (s : SlotsAs parts before now place l) where
-  pub newest_written : (n : ℕ) → saves l ≡ n → newest_for parts.job (job_digest parts.job) after ≡ Some place.slot
+  pub newest_written : (n : ℕ) → saves_made l ≡ n → newest_for parts.job (job_digest parts.job) after ≡ Some place.slot
   newest_written zero none =
       let here : place ≡ parts.place = at ∙ ap (λ (n : ℕ). moved n parts.place) none in
       let told : place_for parts.job (job_digest parts.job) before ≡ (place.slot, place.generation) = first ∙ ap (λ (p : Place). (p.slot, p.generation)) (sym here) in
       (newest parts.job 2 (job_digest parts.job) before after place.slot place.generation outcomes told sound fit held (last ∙ s.last_unsaved none)).newest
   newest_written (suc n) some_saves =
       let save = s.last_saved (omega (arith, some_saves)) in
-      let old = by_id (total parts.job) (booked parts (up_to_save (saves l) l)) in
+      let old = by_id (total parts.job) (booked parts (up_to_save (saves_made l) l)) in
       let earlier = (place.generation + 2) % 3 in
       let is : other_stored after place.slot ≡ Some (checkpoint 2 (job_digest parts.job) earlier old) = other_is after place.slot slot ∙ last ∙ save.bytes in
       let intact : generation_of (slot_of parts.job (job_digest parts.job) (other_stored after place.slot)) ≡ Some earlier =
       ap (λ (q : Stored). generation_of (slot_of parts.job (job_digest parts.job) q)) is
-      ∙ ap generation_of (ours parts.job (checkpoint 2 (job_digest parts.job) earlier old) 2 (job_digest parts.job) earlier old save.sound (saved_fit parts plan l (saves l) of_todo)) in
+      ∙ ap generation_of (ours parts.job (checkpoint 2 (job_digest parts.job) earlier old) 2 (job_digest parts.job) earlier old save.sound (saved_fit parts plan l (saves_made l) of_todo)) in
       (fresh parts.job fit).later earlier intact (after_before place.generation generation)
 
 module _ (newest : SavedSlotsAreNewest) (ours : CheckpointsAreOurs) (parts : Parts) (plan : IsPlan parts) (l : List Entry) (t i : ℕ) where
   abbrev more : List Entry
-  more = l ++ entry t i true ∷ []
+  more = l ++ post_of t i true ∷ []
 
   abbrev all_of : List Entry → List Outcome
   all_of posted = by_id (total parts.job) (booked parts posted)
@@ -143,7 +148,7 @@ module _ (newest : SavedSlotsAreNewest) (ours : CheckpointsAreOurs) (parts : Par
   abbrev saved_bytes : ℕ → List Entry → List ℕ
   saved_bytes generation posted = checkpoint 2 (job_digest parts.job) generation (all_of posted)
 
-  module _ (before now after : Pair) (place : Place) (slot : place.slot < 2) (generation : place.generation < 3) (at : place ≡ moved (saves l) parts.place)
+  module _ (before now after : Pair) (place : Place) (slot : place.slot < 2) (generation : place.generation < 3) (at : place ≡ moved (saves_made l) parts.place)
       (first : place_for parts.job (job_digest parts.job) before ≡ (parts.place.slot, parts.place.generation))
       (of_todo : (id : ℕ) → times id (ids_of l) ≤ times id parts.todo) (fit : list_all (fits parts.job) (all_of more) ≡ true)
       (sound : IsCheckpoint (saved_bytes place.generation more) 2 (job_digest parts.job) place.generation (all_of more))
@@ -152,12 +157,12 @@ module _ (newest : SavedSlotsAreNewest) (ours : CheckpointsAreOurs) (parts : Par
     pub saved_slots : SlotsAs parts before after (next_place place) more
     saved_slots =
         let every = parts.save_every in
-        let count : saves more ≡ saves l + 1 = saves-push l (entry t i true) in
+        let count : saves_made more ≡ saves_made l + 1 = saves-push l (post_of t i true) in
         let back : 1 - (1 - place.slot) ≡ place.slot = twice_other place.slot slot in
-        let saved_all : up_to_save (saves more) more ≡ more = up_to_save-all l t i (saves more) count in
-        let fewer : saves more - 1 ≡ saves l = omega (arith, count) in
-        let saved_before : up_to_save (saves more - 1) more ≡ up_to_save (saves l) l =
-        ap (λ (n : ℕ). up_to_save n more) fewer ∙ up_to_save-kept l (entry t i true) (saves l) (omega arith) in
+        let saved_all : up_to_save (saves_made more) more ≡ more = up_to_save-all l t i (saves_made more) count in
+        let fewer : saves_made more - 1 ≡ saves_made l = omega (arith, count) in
+        let saved_before : up_to_save (saves_made more - 1) more ≡ up_to_save (saves_made l) l =
+        ap (λ (n : ℕ). up_to_save n more) fewer ∙ up_to_save-kept l (post_of t i true) (saves_made l) (omega arith) in
         record {
           last_unsaved = λ none. absurd (omega (arith, none, count));
           last_saved = λ some_save.
@@ -169,5 +174,5 @@ module _ (newest : SavedSlotsAreNewest) (ours : CheckpointsAreOurs) (parts : Par
               subst (λ (q : ℕ × List Entry × Stored). IsSaveOf parts q.0 q.1 q.2)
               (λ k. (sym (two_before_next place.generation generation) k, sym saved_before k, sym last k))
               (s.last_saved (omega (arith, many, count)));
-          newest = λ ends. newest_written newest ours parts plan l before now after place slot generation at first of_todo (all_of more) fit sound held last fresh s (saves l) refl ∙ ap (λ (n : ℕ). Some n) (sym back);
+          newest = λ ends. newest_written newest ours parts plan l before now after place slot generation at first of_todo (all_of more) fit sound held last fresh s (saves_made l) refl ∙ ap (λ (n : ℕ). Some n) (sym back);
         }

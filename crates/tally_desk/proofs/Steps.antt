@@ -17,16 +17,16 @@ use Rattle.claim_counter.specs.Records.{IsSole, with_claim, at_end}
 use Rattle.tally_desk.specs.declared.entry.Entry.{Entry}
 use Rattle.tally_desk.specs.declared.home.Home.{Home}
 use Rattle.tally_desk.specs.Counter.{CounterLaws}
-use Rattle.tally_desk.specs.Desks.{BeginsTurn, CanPost, DrawsPlace, FitsDesk, IsInTurn, IsSettled, IsTallied, IsWaiting, KnowsPosts, Looks, SeesSeats, Serves, TakesTicket, Tallied, entry_sum, first_view, claimed_ids, is_in_turn, joined_view, left_view, own_of, right_view, with_entry, with_own, with_turn}
-use Rattle.tally_desk.specs.Entries.{entry, id_of, ids_of, is_due, ticket_of}
+use Rattle.tally_desk.specs.Desks.{BeginsTurn, CanPost, DrawsPlace, FitsDesk, IsInTurn, IsSettled, KeepsTally, IsWaiting, KnowsPosts, LooksForTurn, SeesSeats, Serves, TakesTicket, Tallied, entry_sum, first_view, claimed_ids, is_in_turn, joined_view, left_view, own_of, right_view, with_entry, with_own, with_turn}
+use Rattle.tally_desk.specs.Entries.{post_of, posted_id, ids_of, is_due, ticket_of}
 use Rattle.tally_desk.specs.Parts.{Parts, IsPlan}
 use Rattle.tally_desk.specs.Passes.{HasPostedAll}
 use Rattle.tally_desk.specs.Views.{PassView, Turn, no_turn, waiting, in_turn, turn_ids, spent_view}
 use Rattle.tally_desk.proofs.Bounds.{times-first, sum_mapped, put_first, put_second, put_third}
 use Rattle.tally_desk.proofs.Tallying.{awaits, begun, claimed, claims_few, set_here_at, ended, in_use, merged, new_id, none_in_turn, parted, served, ticketed, tickets_bounded}
 use Rattle.tally_desk.proofs.Todo.{todo_small}
-use Rattle.model_laws.specs.Times.{times, once_below}
-use Rattle.model_laws.proofs.Times.{sum_at, sum_sole, one, permutation_below, permutation_from_times}
+use Rattle.audit_model.specs.Times.{times, once_below}
+use Rattle.audit_model.proofs.Times.{sum_at, sum_sole, one, permutation_below, permutation_from_times}
 
 abbrev ticket_in : Turn → ℕ
 ticket_in no_turn = 0
@@ -42,6 +42,7 @@ abbrev last_of : List Entry → Entry → Entry
 last_of [] d = d
 last_of (e ∷ es) d = last_of es e
 
+-- the last of posts is what was appended
 last_of_push : (l : List Entry) (e d : Entry) → last_of (l ++ e ∷ []) d ≡ e
 last_of_push [] e d = refl
 last_of_push (x ∷ l) e d = last_of_push l e x
@@ -53,22 +54,22 @@ module _ {C : Type 0} (HomeAs : Parts → Home C → List Entry → Type 0) (par
   abbrev Mine : Type 0
   Mine = Me (Home C) PassView
 
-  after_first : (s : St) (k : Tallied HomeAs parts s) (n id : ℕ) (me : Mine) (w : PassView) → IsTallied HomeAs parts n (get_or s.words 1 0) (get_or s.words 2 0) k.posted s.homes (set s.views id w)
+  after_first : (s : St) (k : Tallied HomeAs parts s) (n id : ℕ) (me : Mine) (w : PassView) → KeepsTally HomeAs parts n (get_or s.words 1 0) (get_or s.words 2 0) k.posted s.homes (set s.views id w)
       → Tallied HomeAs parts (stepped s 0 n id me.1 w keeps)
   after_first s k n id me w t = record {
     three_words = length-set s.words 0 n ∙ k.three_words;
     one_slot = k.one_slot;
     posted = k.posted;
-    tallied = put_first (λ a b c. IsTallied HomeAs parts a b c k.posted s.homes (set s.views id w)) s.words n k.three_words t;
+    tallied = put_first (λ a b c. KeepsTally HomeAs parts a b c k.posted s.homes (set s.views id w)) s.words n k.three_words t;
   }
 
-  after_second : (s : St) (k : Tallied HomeAs parts s) (n id : ℕ) (me : Mine) (w : PassView) → IsTallied HomeAs parts (get_or s.words 0 0) n (get_or s.words 2 0) k.posted s.homes (set s.views id w)
+  after_second : (s : St) (k : Tallied HomeAs parts s) (n id : ℕ) (me : Mine) (w : PassView) → KeepsTally HomeAs parts (get_or s.words 0 0) n (get_or s.words 2 0) k.posted s.homes (set s.views id w)
       → Tallied HomeAs parts (stepped s 1 n id me.1 w keeps)
   after_second s k n id me w t = record {
     three_words = length-set s.words 1 n ∙ k.three_words;
     one_slot = k.one_slot;
     posted = k.posted;
-    tallied = put_second (λ a b c. IsTallied HomeAs parts a b c k.posted s.homes (set s.views id w)) s.words n k.three_words t;
+    tallied = put_second (λ a b c. KeepsTally HomeAs parts a b c k.posted s.homes (set s.views id w)) s.words n k.three_words t;
   }
 
   pub claim : CounterLaws → (slots id : ℕ) (me : Mine) → me.0.parts ≡ Some parts → 0 < me.0.own.weight → me.0.own.ended ≡ false → Allows (Tallied HomeAs parts) slots id me 0 (λ n. (n + 1) % 2 ^ 64) (DrawsPlace (step slots 0 1 0 maybe.none) me)
@@ -125,7 +126,7 @@ module _ {C : Type 0} (HomeAs : Parts → Home C → List Entry → Type 0) (par
         keeps,
         tt,
         after_first s k n id me me.0
-            (subst (IsTallied HomeAs parts n (get_or s.words 1 0) (get_or s.words 2 0) k.posted s.homes) (sym (set_again s.views id me.0 at)) t),
+            (subst (KeepsTally HomeAs parts n (get_or s.words 1 0) (get_or s.words 2 0) k.posted s.homes) (sym (set_again s.views id me.0 at)) t),
         record {
           same = refl;
           seats = λ gx is'. subst (λ (p : Parts). me.0.own.weight + me.0.own.spare ≤ p.seats) (ap (λ (o : Option Parts). unwrap_or o parts) (sym is ∙ is')) within;
@@ -153,11 +154,11 @@ module _ {C : Type 0} (HomeAs : Parts → Home C → List Entry → Type 0) (par
     three_words = length-set s.words 2 (get_or s.words 2 0) ∙ k.three_words;
     one_slot = k.one_slot;
     posted = k.posted;
-    tallied = put_third (λ a b c. IsTallied HomeAs parts a b c k.posted s.homes (set s.views id me.0)) s.words (get_or s.words 2 0) k.three_words
-        (subst (IsTallied HomeAs parts (get_or s.words 0 0) (get_or s.words 1 0) (get_or s.words 2 0) k.posted s.homes) (sym (set_again s.views id me.0 at)) k.tallied);
+    tallied = put_third (λ a b c. KeepsTally HomeAs parts a b c k.posted s.homes (set s.views id me.0)) s.words (get_or s.words 2 0) k.three_words
+        (subst (KeepsTally HomeAs parts (get_or s.words 0 0) (get_or s.words 1 0) (get_or s.words 2 0) k.posted s.homes) (sym (set_again s.views id me.0 at)) k.tallied);
   }
 
-  pub look : (slots id : ℕ) (me : Mine) (mine i : ℕ) → IsWaiting parts mine i me.0 → Allows (Tallied HomeAs parts) slots id me 2 (λ n. n) (Looks HomeAs (step slots 2 0 0 maybe.none) me)
+  pub look : (slots id : ℕ) (me : Mine) (mine i : ℕ) → IsWaiting parts mine i me.0 → Allows (Tallied HomeAs parts) slots id me 2 (λ n. n) (LooksForTurn HomeAs (step slots 2 0 0 maybe.none) me)
   look slots id me mine i waits s k deep at _ =
       let n : ℕ = get_or s.words 2 0 in
       let t = k.tallied in
@@ -182,7 +183,7 @@ module _ {C : Type 0} (HomeAs : Parts → Home C → List Entry → Type 0) (par
           three_words = length-set s.words 2 n ∙ k.three_words;
           one_slot = length-set s.homes 0 maybe.none ∙ k.one_slot;
           posted = k.posted;
-          tallied = put_third (λ a b c. IsTallied HomeAs parts a b c k.posted (set s.homes 0 maybe.none) (set s.views id w)) s.words n k.three_words
+          tallied = put_third (λ a b c. KeepsTally HomeAs parts a b c k.posted (set s.homes 0 maybe.none) (set s.views id w)) s.words n k.three_words
               (begun HomeAs parts _ _ n k.posted s.homes s.views t id v at i waits.fixed waits.weighs turn);
         },
         record {
@@ -212,7 +213,7 @@ module _ {C : Type 0} (HomeAs : Parts → Home C → List Entry → Type 0) (par
   home_in (x ∷ xs) d = x.1
 
   pub serve : (slots id : ℕ) (me : Mine) (t i : ℕ) (l : List Entry) (y : Home C) (saved : Bool) → me.0.parts ≡ Some parts → 0 < me.0.own.weight → me.0.turn ≡ in_turn t i l → me.1 ≡ (0, y) ∷ []
-      → HomeAs parts y (l ++ entry t i saved ∷ []) → y.posted.items ≡ l ++ entry t i saved ∷ [] → (saved ≡ true → is_due parts.save_every (entry t i saved) ≡ true)
+      → HomeAs parts y (l ++ post_of t i saved ∷ []) → y.posted.items ≡ l ++ post_of t i saved ∷ [] → (saved ≡ true → is_due parts.save_every (post_of t i saved) ≡ true)
       → Allows (Tallied HomeAs parts) slots id me 2 (λ _. t + 1) (λ _. Serves (step slots 2 (t + 1) 0 maybe.none) me (t + 1))
   serve slots id me t i l y saved is weighs turn carries holds entries due s k deep at _ =
       let n : ℕ = get_or s.words 2 0 in
@@ -220,14 +221,14 @@ module _ {C : Type 0} (HomeAs : Parts → Home C → List Entry → Type 0) (par
       let v : PassView = me.0 in
       let u = in_use parts n k.posted v (r.each id v at) weighs in
       let knows : (t ≡ n) × (l ≡ k.posted) = subst (KnowsPosts n k.posted) turn u.knows in
-      let e = entry n i saved in
+      let e = post_of n i saved in
       let w = with_entry v e in
       let turn' : v.turn ≡ in_turn n i l = turn ∙ ap (λ (z : ℕ). in_turn z i l) knows.0 in
-      let holds' : HomeAs parts y (k.posted ++ e ∷ []) = subst (λ (q : ℕ × List Entry). HomeAs parts y (q.1 ++ entry q.0 i saved ∷ [])) (λ j. (knows.0 j, knows.1 j)) holds in
-      let due' : saved ≡ true → is_due parts.save_every e ≡ true = subst (λ (z : ℕ). saved ≡ true → is_due parts.save_every (entry z i saved) ≡ true) knows.0 due in
+      let holds' : HomeAs parts y (k.posted ++ e ∷ []) = subst (λ (q : ℕ × List Entry). HomeAs parts y (q.1 ++ post_of q.0 i saved ∷ [])) (λ j. (knows.0 j, knows.1 j)) holds in
+      let due' : saved ≡ true → is_due parts.save_every e ≡ true = subst (λ (z : ℕ). saved ≡ true → is_due parts.save_every (post_of z i saved) ≡ true) knows.0 due in
       let back : put_back s.homes me.1 ≡ maybe.some y ∷ [] = ap (put_back s.homes) carries ∙ one_home s.homes (maybe.some y) k.one_slot in
       let next : n + 1 ≡ t + 1 = ap (λ (z : ℕ). z + 1) (sym knows.0) in
-      let after : IsTallied HomeAs parts (get_or s.words 0 0) (get_or s.words 1 0) (n + 1) (k.posted ++ e ∷ []) (maybe.some y ∷ []) (set s.views id w) =
+      let after : KeepsTally HomeAs parts (get_or s.words 0 0) (get_or s.words 1 0) (n + 1) (k.posted ++ e ∷ []) (maybe.some y ∷ []) (set s.views id w) =
       served HomeAs parts _ _ n k.posted s.homes s.views r id v at i l y saved is weighs turn' knows.1 holds' due' in (
         w,
         gives,
@@ -236,14 +237,14 @@ module _ {C : Type 0} (HomeAs : Parts → Home C → List Entry → Type 0) (par
           three_words = length-set s.words 2 (t + 1) ∙ k.three_words;
           one_slot = ap length back;
           posted = k.posted ++ e ∷ [];
-          tallied = put_third (λ a b c. IsTallied HomeAs parts a b c (k.posted ++ e ∷ []) (put_back s.homes me.1) (set s.views id w)) s.words (t + 1) k.three_words
-              (subst (λ (z : ℕ × List (maybe.Option (Home C))). IsTallied HomeAs parts (get_or s.words 0 0) (get_or s.words 1 0) z.0 (k.posted ++ e ∷ []) z.1 (set s.views id w)) (λ j. (next j, sym back j)) after);
+          tallied = put_third (λ a b c. KeepsTally HomeAs parts a b c (k.posted ++ e ∷ []) (put_back s.homes me.1) (set s.views id w)) s.words (t + 1) k.three_words
+              (subst (λ (z : ℕ × List (maybe.Option (Home C))). KeepsTally HomeAs parts (get_or s.words 0 0) (get_or s.words 1 0) z.0 (k.posted ++ e ∷ []) z.1 (set s.views id w)) (λ j. (next j, sym back j)) after);
         },
         record {
           slots = λ z e'. ap rest e';
           view = λ q y' l' e' carries' ends. let same_home : y ≡ y' = ap (λ (z : List (ℕ × Home C)). home_in z y) (sym carries ∙ carries') in
-              let same_end : entry t i saved ≡ e' = sym (last_of_push l (entry t i saved) e) ∙ ap (λ (z : List Entry). last_of z e) (sym entries ∙ ap (λ (z : Home C). z.posted.items) same_home ∙ ends) ∙ last_of_push l' e' e in
-              ap (with_entry v) (ap (λ (z : ℕ). entry z i saved) (sym knows.0) ∙ same_end);
+              let same_end : post_of t i saved ≡ e' = sym (last_of_push l (post_of t i saved) e) ∙ ap (λ (z : List Entry). last_of z e) (sym entries ∙ ap (λ (z : Home C). z.posted.items) same_home ∙ ends) ∙ last_of_push l' e' e in
+              ap (with_entry v) (ap (λ (z : ℕ). post_of z i saved) (sym knows.0) ∙ same_end);
         },
       )
 
@@ -350,9 +351,9 @@ module _ {C : Type 0} (HomeAs : Parts → Home C → List Entry → Type 0) (par
       let claims : IsPermutation v.own.claims (range_with_len 0 limit) = permutation_below limit v.own.claims (λ x. k.sole.claims x ∙ ap (once_below x) m) in
       permutation_from_times (ids_of k.posted) todo (λ x. omega (
         arith,
-        sum_mapped (one x) id_of k.posted,
-        k.own_posts (λ e. one x (id_of e)),
-        sum_mapped (one x) id_of v.entries,
+        sum_mapped (one x) posted_id k.posted,
+        k.own_posts (λ e. one x (posted_id e)),
+        sum_mapped (one x) posted_id v.entries,
         all x,
         sum_by-IsPermutation (one x) _ _ (IsPermutation-map (λ (q : ℕ). get_or todo q 0) v.own.claims (range_with_len 0 limit) claims),
         times-first x todo limit (omega arith),

@@ -4,32 +4,33 @@ use Rattle.std.specs.List.{All, list_all}
 use Rattle.std.proofs.lemmas.List.{length-map, map-append}
 use Rattle.std.proofs.lemmas.List.Sums.{count_by-le-length}
 use Rattle.std.proofs.lemmas.Bool.{true≢false}
-use Rattle.audit_io.specs.Faults.{Counts}
-use Rattle.audit_io.specs.State.{Kept}
-use Rattle.audit_io.specs.Told.{IfBothTold, IfTold}
-use Rattle.audit_io.specs.Slots.{Pair, HoldsBytes, KeepsOther}
-use Rattle.audit_io.specs.Tries.{tried_all, tried_too}
+use Rattle.audit_model.specs.Faults.{Counts}
+use Rattle.audit_model.specs.State.{Kept}
+use Rattle.audit_model.specs.Told.{IfBothTold, IfTold}
+use Rattle.audit_model.specs.Pair.{Pair, HoldsBytes, KeepsOther}
+use Rattle.audit_model.specs.Tries.{tried_all, tried_too}
 use Rattle.audit_model.specs.declared.outcome.Outcome.{Outcome}
 use Rattle.audit_model.specs.Job.{Job}
 use Rattle.audit_model.specs.JobOf.{IsJob}
 use Rattle.audit_model.specs.Room.{RoomyBytes, RoomyOutcomes}
-use Rattle.audit_model.specs.Run.{total, fits, has_id}
+use Rattle.audit_model.specs.Run.{total, fits, has_id, by_id}
 use Rattle.audit_model.specs.Trajectory.{Draws, outcome}
-use Rattle.model_laws.specs.Times.{times}
-use Rattle.model_laws.proofs.Times.{length-le, one_more_id}
-use Rattle.checkpoint_definitions.specs.Checkpoint.{IsCheckpoint, checkpoint, job_digest}
-use Rattle.ckpt_store.specs.declared.slots.Place.{Place}
+use Rattle.audit_model.specs.Times.{times}
+use Rattle.audit_model.proofs.Times.{length-le, one_more_id}
+use Rattle.audit_statement.specs.Checkpoint.{IsCheckpoint, checkpoint, job_digest}
+use Rattle.audit_model.specs.declared.place.Place.{Place}
 use Rattle.ckpt_store.specs.Laws.{CheckpointsAreOurs, IsNewestForFitJobs, SavedSlotsAreNewest}
-use Rattle.draw_definitions.specs.Draw.{draw}
-use Rattle.outcome_book.specs.Booked.{Booked, HasFewVisits, by_id}
+use Rattle.audit_statement.specs.Draw.{draw}
+use Rattle.outcome_book.specs.Booked.{Booked, HasFewVisits}
 use Rattle.tally_desk.specs.declared.entry.Entry.{Entry}
 use Rattle.tally_desk.specs.declared.home.Home.{Home}
-use Rattle.tally_desk.specs.Entries.{entry, id_of, ids_of, is_due, is_missed, saves, missed}
-use Rattle.tally_desk.specs.Homes.{HasTurned, IsSound, KeptAs, MayTurn, SlotsAs, booked, made, moved, next_place, tries}
+use Rattle.tally_desk.specs.Entries.{post_of, posted_id, ids_of, is_due, is_missed, saves_made, missed}
+use Rattle.tally_desk.specs.Homes.{HasTurned, IsSound, KeptAs, MayTurn, SlotsAs, booked, made, tries}
+use Rattle.audit_statement.specs.InOrder.{moved, next_place}
 use Rattle.tally_desk.specs.Parts.{Parts, IsPlan, IsPlaceFor}
 use Rattle.tally_desk.specs.Saving.{SavedWhereDue, TriedSave, sorted_of}
 use Rattle.tally_desk.proofs.Booking.{absent_of_book, booked-push, booked_fit, by_id_fit}
-use Rattle.tally_desk.proofs.Found.{found_is}
+use Rattle.claim_counter.proofs.Sharing.{found_is}
 use Rattle.tally_desk.proofs.Marking.{missed-push, saves-push}
 use Rattle.tally_desk.proofs.Slotting.{moved_slot, moved_generation, other_is, saved_slots, told_map, unsaved_slots}
 use Rattle.tally_desk.proofs.Trying.{due_sound, due_tries, undue_sound, undue_tries}
@@ -37,28 +38,34 @@ use Rattle.tally_desk.proofs.Todo.{todo_small, todo_within}
 
 -- ---- counts of faults
 
+-- a count that covers the saves that failed covers one more after it rose
 covered_more : (last start failed now after : ℕ) → min (start + failed) last ≤ now → min (now + 1) last ≤ after → min (start + (failed + 1)) last ≤ after
 covered_more last start failed now after covered rose = omega arith
 
+-- a count that does not fall twice does not fall
 pub counts_more : (start now after : ℕ) → Counts start now → Counts now after → Counts start after
 counts_more start now after c d = let first = c.later in let second = d.later in record { later = omega arith; within = λ small. d.within (c.within small) }
 
 -- ---- posts that are due
 
+-- no save is missed where none is due
 due_unmissed : (every : ℕ) (e : Entry) → is_due every e ≡ false → is_missed every e ≡ false
 due_unmissed every e not_due = ap (λ (b : Bool). b && not e.saved) not_due
 
-saved_unmissed : (every t i : ℕ) → is_missed every (entry t i true) ≡ false
-saved_unmissed every t i = by (is_due every (entry t i true))
+-- nor where one succeeded
+saved_unmissed : (every t i : ℕ) → is_missed every (post_of t i true) ≡ false
+saved_unmissed every t i = by (is_due every (post_of t i true))
   where
     by : (b : Bool) → (b && false) ≡ false
     by true = refl
     by false = refl
 
+-- a save that was due and failed is missed
 missed_one : (b : Bool) → b ≡ true → cond {A = ℕ} (b && not false) 1 0 ≡ 1
 missed_one true is = refl
 missed_one false is = cc
 
+-- what does not hold is not counted
 count_none : (b : Bool) → b ≡ false → cond {A = ℕ} b 1 0 ≡ 0
 count_none true is = cc
 count_none false is = refl
@@ -66,14 +73,14 @@ count_none false is = refl
 -- ---- told or not
 
 -- nothing was saved
-told_as_before : (parts : Parts) (l : List Entry) (t i : ℕ) (place : Place) → is_missed parts.save_every (entry t i false) ≡ false → (a b : Option Pair)
-    → IfBothTold a b (λ before now. SlotsAs parts before now place l) → IfBothTold a b (λ before now. SlotsAs parts before now place (l ++ entry t i false ∷ []))
+told_as_before : (parts : Parts) (l : List Entry) (t i : ℕ) (place : Place) → is_missed parts.save_every (post_of t i false) ≡ false → (a b : Option Pair)
+    → IfBothTold a b (λ before now. SlotsAs parts before now place l) → IfBothTold a b (λ before now. SlotsAs parts before now place (l ++ post_of t i false ∷ []))
 told_as_before parts l t i place unmissed a b h = told_map a b _ _ (λ before now s. unsaved_slots parts l t i before now now place refl (λ _. refl) s) h
 
 -- a save failed
-told_failed : (parts : Parts) (l : List Entry) (t i : ℕ) (place : Place) → place.slot < 2 → is_missed parts.save_every (entry t i false) ≡ true → (a b c : Option Pair)
+told_failed : (parts : Parts) (l : List Entry) (t i : ℕ) (place : Place) → place.slot < 2 → is_missed parts.save_every (post_of t i false) ≡ true → (a b c : Option Pair)
     → IfBothTold a b (λ before now. SlotsAs parts before now place l) → KeepsOther b c place.slot
-    → IfBothTold a c (λ before now. SlotsAs parts before now place (l ++ entry t i false ∷ []))
+    → IfBothTold a c (λ before now. SlotsAs parts before now place (l ++ post_of t i false ∷ []))
 told_failed parts l t i place slot is_one None b c h other = tt
 told_failed parts l t i place slot is_one (Some p) None c h other = absurd h
 told_failed parts l t i place slot is_one (Some p) (Some q) None h other = other
@@ -82,21 +89,21 @@ told_failed parts l t i place slot is_one (Some p) (Some q) (Some r) h other =
 
 module _ (newest : SavedSlotsAreNewest) (ours : CheckpointsAreOurs) where
   -- a save succeeded
-  told_saved : (parts : Parts) (plan : IsPlan parts) (l : List Entry) (t i : ℕ) (place : Place) → place ≡ moved (saves l) parts.place
+  told_saved : (parts : Parts) (plan : IsPlan parts) (l : List Entry) (t i : ℕ) (place : Place) → place ≡ moved (saves_made l) parts.place
       → ((id : ℕ) → times id (ids_of l) ≤ times id parts.todo)
-      → (let all = by_id (total parts.job) (booked parts (l ++ entry t i true ∷ [])) in
+      → (let all = by_id (total parts.job) (booked parts (l ++ post_of t i true ∷ [])) in
       list_all (fits parts.job) all ≡ true
       → IsCheckpoint (checkpoint 2 (job_digest parts.job) place.generation all) 2 (job_digest parts.job) place.generation all
       → (a b c : Option Pair) → IsPlaceFor parts.job a parts.place → IfBothTold a b (λ before now. SlotsAs parts before now place l)
       → KeepsOther b c place.slot → HoldsBytes c place.slot (checkpoint 2 (job_digest parts.job) place.generation all)
       → IfTold c (IsNewestForFitJobs (job_digest parts.job) place.slot place.generation all)
-      → IfBothTold a c (λ before now. SlotsAs parts before now (next_place place) (l ++ entry t i true ∷ [])))
+      → IfBothTold a c (λ before now. SlotsAs parts before now (next_place place) (l ++ post_of t i true ∷ [])))
   told_saved parts plan l t i place at of_todo fit sound None b c first h other held fresh = tt
   told_saved parts plan l t i place at of_todo fit sound (Some p) None c first h other held fresh = absurd h
   told_saved parts plan l t i place at of_todo fit sound (Some p) (Some q) None first h other held fresh = other
   told_saved parts plan l t i place at of_todo fit sound (Some p) (Some q) (Some r) first h other held fresh =
-      let slot : place.slot < 2 = subst (λ (x : Place). x.slot < 2) (sym at) (moved_slot (saves l) parts.place plan.slot) in
-      let generation : place.generation < 3 = subst (λ (x : Place). x.generation < 3) (sym at) (moved_generation (saves l) parts.place plan.generation) in
+      let slot : place.slot < 2 = subst (λ (x : Place). x.slot < 2) (sym at) (moved_slot (saves_made l) parts.place plan.slot) in
+      let generation : place.generation < 3 = subst (λ (x : Place). x.generation < 3) (sym at) (moved_generation (saves_made l) parts.place plan.generation) in
       saved_slots newest ours parts plan l t i p q r place slot generation at first of_todo fit sound held
       (sym (other_is r place.slot slot) ∙ other ∙ other_is q place.slot slot) fresh h
 
@@ -105,10 +112,10 @@ module _ (newest : SavedSlotsAreNewest) (ours : CheckpointsAreOurs) where
 module _ {C : Type 0} (state : C → Kept) (parts : Parts) (y : Home C) (l : List Entry) (o : Outcome)
     (may : MayTurn state parts y l o) where
   abbrev next : Bool → List Entry
-  next saved = l ++ entry (length l) o.id saved ∷ []
+  next saved = l ++ post_of (length l) o.id saved ∷ []
 
   next_ids : (saved : Bool) → ids_of (next saved) ≡ ids_of l ++ o.id ∷ []
-  next_ids saved = map-append (λ (e : Entry). e.id) l (entry (length l) o.id saved ∷ [])
+  next_ids saved = map-append (λ (e : Entry). e.id) l (post_of (length l) o.id saved ∷ [])
 
   pub next_of_todo : (saved : Bool) (id : ℕ) → times id (ids_of (next saved)) ≤ times id parts.todo
   next_of_todo saved id =
@@ -118,7 +125,7 @@ module _ {C : Type 0} (state : C → Kept) (parts : Parts) (y : Home C) (l : Lis
   pub some_left : length l < length parts.todo
   some_left =
       let most = length-le (ids_of l ++ o.id ∷ []) parts.todo (one_more_id (ids_of l) parts.todo o.id may.of_todo may.unposted may.to_do) in
-      omega (arith, most, length-append (ids_of l) (o.id ∷ []), length-map l id_of)
+      omega (arith, most, length-append (ids_of l) (o.id ∷ []), length-map l posted_id)
 
   -- no more saves failed than there are posts
   pub few_failed : y.failed_saves + 1 < 2 ^ 32
@@ -127,10 +134,10 @@ module _ {C : Type 0} (state : C → Kept) (parts : Parts) (y : Home C) (l : Lis
       omega (arith, may.holds.kept.failed_is, count_by-le-length (is_missed parts.save_every) l, left, small)
 
   pub slot_below : y.place.slot < 2
-  slot_below = subst (λ (x : Place). x.slot < 2) (sym may.holds.kept.place_is) (moved_slot (saves l) parts.place may.plan.slot)
+  slot_below = subst (λ (x : Place). x.slot < 2) (sym may.holds.kept.place_is) (moved_slot (saves_made l) parts.place may.plan.slot)
 
   pub generation_below : y.place.generation < 3
-  generation_below = subst (λ (x : Place). x.generation < 3) (sym may.holds.kept.place_is) (moved_generation (saves l) parts.place may.plan.generation)
+  generation_below = subst (λ (x : Place). x.generation < 3) (sym may.holds.kept.place_is) (moved_generation (saves_made l) parts.place may.plan.generation)
 
   pub total_is : y.book.total ≡ total parts.job
   total_is = ap (λ (b : Booked). b.total) may.holds.kept.book_is
@@ -149,7 +156,7 @@ module _ {C : Type 0} (state : C → Kept) (parts : Parts) (y : Home C) (l : Lis
   -- what is left to show of the value after the save
   pub record Done (n : Home C) (saved : Bool) : Type 0 where
     pub kept : KeptAs state parts n.book n.keeper n.place n.failed_saves (next saved)
-    pub due : saved ≡ true → is_due parts.save_every (entry (length l) o.id saved) ≡ true
+    pub due : saved ≡ true → is_due parts.save_every (post_of (length l) o.id saved) ≡ true
     pub posted : n.posted ≡ y.posted
     pub every : n.save_every ≡ parts.save_every
     pub digest : n.digest ≡ job_digest parts.job
@@ -165,26 +172,26 @@ module _ {C : Type 0} (state : C → Kept) (parts : Parts) (y : Home C) (l : Lis
         let totals : b.total ≡ total parts.job = total_kept ∙ total_is in
         let outcomes : b.outcomes ≡ booked parts (next saved) =
         outcomes_more ∙ ap (λ (q : Booked). q.outcomes ++ o ∷ []) may.holds.kept.book_is
-        ∙ ap (λ (x : Outcome). booked parts l ++ x ∷ []) may.right ∙ sym (booked-push parts l (entry (length l) o.id saved)) in
+        ∙ ap (λ (x : Outcome). booked parts l ++ x ∷ []) may.right ∙ sym (booked-push parts l (post_of (length l) o.id saved)) in
         λ k. record { total = totals k; outcomes = outcomes k }
 
     -- nothing was saved, and nothing was due
-    undone : is_due parts.save_every (entry (length l) o.id false) ≡ false → Done m false
+    undone : is_due parts.save_every (post_of (length l) o.id false) ≡ false → Done m false
     undone not_due =
         let k = may.holds.kept in
-        let unmissed = due_unmissed parts.save_every (entry (length l) o.id false) not_due in
+        let unmissed = due_unmissed parts.save_every (post_of (length l) o.id false) not_due in
         record {
           kept = record {
             book_is = book_is false;
-            failed_is = k.failed_is ∙ (let more = missed-push parts.save_every l (entry (length l) o.id false) in let none = count_none (is_missed parts.save_every (entry (length l) o.id false)) unmissed in
+            failed_is = k.failed_is ∙ (let more = missed-push parts.save_every l (post_of (length l) o.id false) in let none = count_none (is_missed parts.save_every (post_of (length l) o.id false)) unmissed in
                 let same : missed parts.save_every l ≡ missed parts.save_every (next false) = omega (arith, more, none) in same);
             covered = k.covered;
             counts = k.counts;
             shown = k.shown;
             loads = k.loads;
-            place_is = k.place_is ∙ ap (λ (n : ℕ). moved n parts.place) (let more = saves-push l (entry (length l) o.id false) in let same : saves l ≡ saves (next false) = omega (arith, more) in same);
-            tried_is = k.tried_is ∙ undue_tries parts parts.keeper.tried l (entry (length l) o.id false) not_due;
-            sound = undue_sound parts l (entry (length l) o.id false) not_due k.sound;
+            place_is = k.place_is ∙ ap (λ (n : ℕ). moved n parts.place) (let more = saves-push l (post_of (length l) o.id false) in let same : saves_made l ≡ saves_made (next false) = omega (arith, more) in same);
+            tried_is = k.tried_is ∙ undue_tries parts parts.keeper.tried l (post_of (length l) o.id false) not_due;
+            sound = undue_sound parts l (post_of (length l) o.id false) not_due k.sound;
             told = told_as_before parts l (length l) o.id y.place unmissed parts.keeper.slots (state y.keeper).slots k.told;
           };
           due = λ h. absurd (true≢false (sym h));
@@ -195,7 +202,7 @@ module _ {C : Type 0} (state : C → Kept) (parts : Parts) (y : Home C) (l : Lis
           save_room = may.holds.equipped.save_room;
         }
 
-    module _ (newest : SavedSlotsAreNewest) (ours : CheckpointsAreOurs) (n : Home C) (was_due : (saved : Bool) → is_due parts.save_every (entry (length l) o.id saved) ≡ true) where
+    module _ (newest : SavedSlotsAreNewest) (ours : CheckpointsAreOurs) (n : Home C) (was_due : (saved : Bool) → is_due parts.save_every (post_of (length l) o.id saved) ≡ true) where
       -- what a save leaves, and that it was due
       rest_done : (saved : Bool) → TriedSave state m n saved → KeptAs state parts n.book n.keeper n.place n.failed_saves (next saved) → Done n saved
       rest_done saved tried kept = record {
@@ -224,13 +231,13 @@ module _ {C : Type 0} (state : C → Kept) (parts : Parts) (y : Home C) (l : Lis
           let sorted : sorted_of m ≡ by_id (total parts.job) (booked parts (next saved)) = ap (λ (q : Booked). by_id q.total q.outcomes) (book_is saved) in
           tried.tried
           ∙ (λ i. tried_too (k.tried_is i) (k.place_is i).slot (checkpoint 2 (digests i) (k.place_is i).generation (sorted i)) saved)
-          ∙ due_tries parts parts.keeper.tried l (entry (length l) o.id saved) (was_due saved)
+          ∙ due_tries parts parts.keeper.tried l (post_of (length l) o.id saved) (was_due saved)
 
       sound_is : (saved : Bool) → TriedSave state m n saved → All (IsSound parts.job) (made parts (next saved))
       sound_is saved tried =
           let k = may.holds.kept in
           let sorted : sorted_of m ≡ by_id (total parts.job) (booked parts (next saved)) = ap (λ (q : Booked). by_id q.total q.outcomes) (book_is saved) in
-          due_sound parts l (entry (length l) o.id saved) (was_due saved)
+          due_sound parts l (post_of (length l) o.id saved) (was_due saved)
           (subst (λ (x : List ℕ × Place × List Outcome). IsCheckpoint (checkpoint 2 x.0 x.1.generation x.2) 2 x.0 x.1.generation x.2) (λ i. (digests i, k.place_is i, sorted i)) tried.sound)
           k.sound
 
@@ -238,8 +245,8 @@ module _ {C : Type 0} (state : C → Kept) (parts : Parts) (y : Home C) (l : Lis
       saved_kept tried =
           let k = may.holds.kept in
           let w = tried.on_ok refl in
-          let e = entry (length l) o.id true in
-          let count : saves (next true) ≡ suc (saves l) = let more = saves-push l e in omega (arith, more) in
+          let e = post_of (length l) o.id true in
+          let count : saves_made (next true) ≡ suc (saves_made l) = let more = saves-push l e in omega (arith, more) in
           let none = count_none (is_missed parts.save_every e) (saved_unmissed parts.save_every (length l) o.id) in
           let same_missed : missed parts.save_every l ≡ missed parts.save_every (next true) = omega (arith, missed-push parts.save_every l e, none) in
           record {
@@ -265,11 +272,11 @@ module _ {C : Type 0} (state : C → Kept) (parts : Parts) (y : Home C) (l : Lis
       failed_kept tried =
           let k = may.holds.kept in
           let w = tried.on_err refl in
-          let e = entry (length l) o.id false in
+          let e = post_of (length l) o.id false in
           let is_one : is_missed parts.save_every e ≡ true = ap (λ (d : Bool). d && not false) (was_due false) in
           let one_more : missed parts.save_every (next false) ≡ missed parts.save_every l + 1 =
           missed-push parts.save_every l e ∙ ap (λ (c : ℕ). missed parts.save_every l + c) (missed_one (is_due parts.save_every e) (was_due false)) in
-          let same : saves l ≡ saves (next false) = let more = saves-push l e in omega (arith, more) in
+          let same : saves_made l ≡ saves_made (next false) = let more = saves-push l e in omega (arith, more) in
           record {
             book_is = tried.rest.book ∙ book_is false;
             failed_is = w.failed ∙ ap (λ (c : ℕ). c + 1) k.failed_is ∙ sym one_more;
@@ -290,22 +297,22 @@ module _ {C : Type 0} (state : C → Kept) (parts : Parts) (y : Home C) (l : Lis
       tried_done false tried = rest_done false tried (failed_kept tried)
 
     pub done : SavedSlotsAreNewest → CheckpointsAreOurs → (n : Home C) (saved : Bool) → SavedWhereDue state (length l + 1) m n saved → Done n saved
-    done newest ours n saved s = by (is_due parts.save_every (entry (length l) o.id false)) refl
+    done newest ours n saved s = by (is_due parts.save_every (post_of (length l) o.id false)) refl
       where
-        due_by : (d : Bool) → is_due parts.save_every (entry (length l) o.id false) ≡ d → ((length l + 1) % y.save_every == 0) ≡ d
+        due_by : (d : Bool) → is_due parts.save_every (post_of (length l) o.id false) ≡ d → ((length l + 1) % y.save_every == 0) ≡ d
         due_by d is = ap (λ (k : ℕ). (length l + 1) % k == 0) may.holds.equipped.every ∙ is
 
-        by : (d : Bool) → is_due parts.save_every (entry (length l) o.id false) ≡ d → Done n saved
+        by : (d : Bool) → is_due parts.save_every (post_of (length l) o.id false) ≡ d → Done n saved
         by false not_due = let was = s.undue (due_by false not_due) in subst (λ (x : Home C × Bool). Done x.0 x.1) (λ k. (sym was.1 k, sym was.0 k)) (undone not_due)
         by true was_due = tried_done newest ours n (λ _. was_due) saved (s.due (due_by true was_due))
 
   -- the entry was appended
-  pub turned : (n z : Home C) (saved : Bool) → Done n saved → z.posted.items ≡ n.posted.items ++ entry (length l) o.id saved ∷ []
+  pub turned : (n z : Home C) (saved : Bool) → Done n saved → z.posted.items ≡ n.posted.items ++ post_of (length l) o.id saved ∷ []
       → vec_capacity z.posted ≡ vec_capacity n.posted → z.book ≡ n.book → z.keeper ≡ n.keeper → z.place ≡ n.place → z.failed_saves ≡ n.failed_saves
       → z.save_every ≡ n.save_every → z.digest ≡ n.digest → z.sorted ≡ n.sorted → z.room ≡ n.room → HasTurned state parts z l o saved
   turned n z saved d items capacity book keeper place failed every digest sorted room = record {
     holds = record {
-      entries = items ∙ ap (λ (q : List Entry). q ++ entry (length l) o.id saved ∷ []) (ap (λ v. v.items) d.posted ∙ may.holds.entries);
+      entries = items ∙ ap (λ (q : List Entry). q ++ post_of (length l) o.id saved ∷ []) (ap (λ v. v.items) d.posted ∙ may.holds.entries);
       kept = subst (λ (q : Booked × C × Place × ℕ). KeptAs state parts q.0 q.1 q.2 q.3 (next saved))
           (λ k. (sym book k, sym keeper k, sym place k, sym failed k)) d.kept;
       equipped = record {

@@ -6,13 +6,13 @@ use mathlib.Core.Option as maybe
 use lib.ListN.{get_elem?}
 use Rattle.atomic_table.specs.Table.{State, Me, Step}
 use Rattle.claim_counter.specs.declared.record.PassRecord.{PassRecord}
-use Rattle.claim_counter.specs.Records.{fresh, with_claim, at_end, with_less_spare, joined, IsCounted, IsSole}
+use Rattle.claim_counter.specs.Records.{fresh, with_claim, at_end, with_less_spare, joined_passes, AreCounted, IsSole}
 use Rattle.tally_desk.specs.declared.entry.Entry.{Entry}
 use Rattle.tally_desk.specs.declared.home.Home.{Home}
-use Rattle.tally_desk.specs.Entries.{ids_of, tickets_of, is_due, entry}
+use Rattle.tally_desk.specs.Entries.{ids_of, tickets_of, is_due, post_of}
 use Rattle.tally_desk.specs.Parts.{Parts, IsPlan}
 use Rattle.tally_desk.specs.Views.{PassView, Turn, no_turn, waiting, in_turn, turn_tickets, turn_ids, spent_view}
-use Rattle.model_laws.specs.Times.{times, once_below}
+use Rattle.audit_model.specs.Times.{times, once_below}
 
 -- ---- what is counted of a view
 
@@ -73,10 +73,10 @@ AreDue parts posted = All (λ e. e.saved ≡ true → is_due parts.save_every e 
 
 module _ {C : Type 0} (HomeAs : Parts → Home C → List Entry → Type 0) where
   -- `drawn`, `given` and `served` are the words, these are the posts of all passes by rising ticket, and all views that there ever were
-  pub record IsTallied (parts : Parts) (drawn given served : ℕ) (posted : List Entry) (homes : List (maybe.Option (Home C))) (views : List PassView) : Type 0 where
+  pub record KeepsTally (parts : Parts) (drawn given served : ℕ) (posted : List Entry) (homes : List (maybe.Option (Home C))) (views : List PassView) : Type 0 where
     pub plan : IsPlan parts
     -- the draws
-    pub counted : IsCounted (length parts.todo) parts.seats drawn (map own_of views)
+    pub counted : AreCounted (length parts.todo) parts.seats drawn (map own_of views)
     -- the posts
     pub in_order : tickets_of posted ≡ range_with_len 0 served
     pub posts : (h : Entry → ℕ) → sum_by (entry_sum h) views ≡ sum_by h posted
@@ -94,7 +94,7 @@ module _ {C : Type 0} (HomeAs : Parts → Home C → List Entry → Type 0) wher
     pub three_words : length s.words ≡ 3
     pub one_slot : length s.homes ≡ 1
     pub posted : List Entry
-    pub tallied : IsTallied parts (slice_index s.words 0) (slice_index s.words 1) (slice_index s.words 2) posted s.homes s.views
+    pub tallied : KeepsTally parts (slice_index s.words 0) (slice_index s.words 1) (slice_index s.words 2) posted s.homes s.views
 
 -- ---- views after steps
 
@@ -117,7 +117,7 @@ abbrev pub right_view : PassView → PassView
 right_view v = record { parts = v.parts; own = fresh 0; entries = []; turn = no_turn }
 
 abbrev pub joined_view : PassView → PassView → PassView
-joined_view v w = record { parts = v.parts; own = joined v.own w.own; entries = v.entries ++ w.entries; turn = no_turn }
+joined_view v w = record { parts = v.parts; own = joined_passes v.own w.own; entries = v.entries ++ w.entries; turn = no_turn }
 
 abbrev pub ended_view : PassView → PassView
 ended_view v = with_own v (at_end v.own)
@@ -175,7 +175,7 @@ module _ {C : Type 0} where
     pub awaits : AwaitsPost parts t i posted
 
   -- a look at the ticket that is served, which begins the turn of a pass that waits with it
-  pub record Looks (HomeAs : Parts → Home C → List Entry → Type 0) (st : Step (Home C)) (me : Me (Home C) PassView) (found : ℕ) (me' : Me (Home C) PassView) : Type 0 where
+  pub record LooksForTurn (HomeAs : Parts → Home C → List Entry → Type 0) (st : Step (Home C)) (me : Me (Home C) PassView) (found : ℕ) (me' : Me (Home C) PassView) : Type 0 where
     pub waits : (parts : Parts) (t i : ℕ) → me.0.parts ≡ Some parts → me.0.turn ≡ waiting t i → found ≢ t → me' ≡ me
     pub begins : (parts : Parts) (t i : ℕ) → me.0.parts ≡ Some parts → me.0.turn ≡ waiting t i → found ≡ t → BeginsTurn HomeAs parts t i me me'
 
@@ -201,7 +201,7 @@ module _ {C : Type 0} where
   -- the post is one of the pass's entries, and the pass has no turn
   pub record HasServed (t i : ℕ) (me me' : Me (Home C) PassView) : Type 0 where
     pub saved : Bool
-    pub view : me'.0 ≡ with_entry me.0 (entry t i saved)
+    pub view : me'.0 ≡ with_entry me.0 (post_of t i saved)
     pub slots : me'.1 ≡ []
 
   -- ---- the end

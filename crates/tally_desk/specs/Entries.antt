@@ -3,14 +3,14 @@ use Rattle.std.specs.Prelude.{◌≡◌, ℕ, zero, suc, ◌+◌, ◌*◌, ◌/�
 use Rattle.std.specs.List.{All, range_with_len}
 use Rattle.tally_desk.specs.declared.entry.Entry.{Entry}
 
-abbrev pub entry : ℕ → ℕ → Bool → Entry
-entry ticket id saved = record { ticket = ticket; id = id; saved = saved }
+abbrev pub post_of : ℕ → ℕ → Bool → Entry
+post_of ticket id saved = record { ticket = ticket; id = id; saved = saved }
 
 abbrev pub ticket_of : Entry → ℕ
 ticket_of e = e.ticket
 
-abbrev pub id_of : Entry → ℕ
-id_of e = e.id
+abbrev pub posted_id : Entry → ℕ
+posted_id e = e.id
 
 abbrev pub is_saved : Entry → Bool
 is_saved e = e.saved
@@ -19,11 +19,11 @@ abbrev pub tickets_of : List Entry → List ℕ
 tickets_of posted = map ticket_of posted
 
 abbrev pub ids_of : List Entry → List ℕ
-ids_of posted = map id_of posted
+ids_of posted = map posted_id posted
 
 -- how many saves were made and succeeded
-abbrev pub saves : List Entry → ℕ
-saves posted = count_by is_saved posted
+abbrev pub saves_made : List Entry → ℕ
+saves_made posted = count_by is_saved posted
 
 -- the posts up to the n-th of those that are marked, this one included
 abbrev pub up_to_save : ℕ → List Entry → List Entry
@@ -61,8 +61,8 @@ missed every posted = count_by (is_missed every) posted
 
 -- so many saves were made, each after as many posts as were asked for, and the last post has one where the number of posts is a multiple
 pub record AreRegular (every : ℕ) (posted : List Entry) : Type 0 where
-  pub count : saves posted ≡ length posted / every
-  pub sizes : (n : ℕ) → n ≤ saves posted → length (up_to_save n posted) ≡ n * every
+  pub count : saves_made posted ≡ length posted / every
+  pub sizes : (n : ℕ) → n ≤ saves_made posted → length (up_to_save n posted) ≡ n * every
   pub last : ends_saved posted ≡ (nat_lt 0 (length posted) && (length posted % every == 0))
 
 -- posts by rising ticket, of which those are marked with which a save was due, and no others

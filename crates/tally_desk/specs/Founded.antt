@@ -1,5 +1,5 @@
 -- What never changes at a desk, by what it was made of.
-use Rattle.audit_io.specs.State.{Kept}
+use Rattle.audit_model.specs.State.{Kept}
 use Rattle.tally_desk.specs.declared.view.Founding.{Founding}
 use Rattle.tally_desk.specs.Parts.{Parts}
 

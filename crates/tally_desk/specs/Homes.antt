@@ -1,23 +1,25 @@
 -- What the slot of a desk holds after these posts.
-use Rattle.std.specs.Prelude.{◌≡◌, ℕ, zero, suc, ◌+◌, ◌-◌, ◌*◌, ◌%◌, ◌^◌, ◌<◌, ◌≤◌, min, Bool, true, cond, List, ◌∷◌, [], ◌++◌, length, map, Some, vec_capacity}
+use Rattle.std.specs.Prelude.{◌≡◌, ℕ, ◌+◌, ◌-◌, ◌*◌, ◌%◌, ◌^◌, ◌<◌, ◌≤◌, min, Bool, true, cond, List, ◌∷◌, [], ◌++◌, length, map, Some, vec_capacity}
 use Rattle.std.specs.List.{All, range_with_len}
-use Rattle.audit_io.specs.State.{Kept}
-use Rattle.audit_io.specs.Told.{IfBothTold}
-use Rattle.audit_io.specs.Faults.{Counts}
-use Rattle.audit_io.specs.Slots.{Pair, Stored, stored}
-use Rattle.audit_io.specs.Tries.{Try, tried_all, try_of}
+use Rattle.audit_model.specs.State.{Kept}
+use Rattle.audit_model.specs.Told.{IfBothTold}
+use Rattle.audit_model.specs.Faults.{Counts}
+use Rattle.audit_model.specs.Pair.{Pair, Stored, stored}
+use Rattle.audit_model.specs.Tries.{Try, tried_all, try_of}
 use Rattle.audit_model.specs.declared.outcome.Outcome.{Outcome}
 use Rattle.audit_model.specs.Job.{Job}
-use Rattle.audit_model.specs.Run.{total}
-use Rattle.model_laws.specs.Times.{times}
-use Rattle.checkpoint_definitions.specs.Checkpoint.{IsCheckpoint, checkpoint, job_digest}
-use Rattle.ckpt_store.specs.declared.slots.Place.{Place}
-use Rattle.ckpt_store.specs.Laws.{newest_for}
-use Rattle.outcome_book.specs.Booked.{Booked, by_id}
+use Rattle.audit_model.specs.Run.{total, by_id}
+use Rattle.audit_model.specs.Times.{times}
+use Rattle.audit_statement.specs.Checkpoint.{IsCheckpoint, checkpoint, job_digest}
+use Rattle.audit_model.specs.declared.place.Place.{Place}
+use Rattle.audit_statement.specs.Slots.{newest_for}
+use Rattle.outcome_book.specs.Booked.{Booked}
 use Rattle.tally_desk.specs.declared.entry.Entry.{Entry}
 use Rattle.tally_desk.specs.declared.home.Home.{Home}
-use Rattle.tally_desk.specs.Entries.{entry, ids_of, tickets_of, saves, up_to_save, after_save, ends_saved, is_due, missed}
-use Rattle.tally_desk.specs.Parts.{Parts, IsPlan, found}
+use Rattle.tally_desk.specs.Entries.{post_of, ids_of, tickets_of, saves_made, up_to_save, after_save, ends_saved, is_due, missed}
+use Rattle.claim_counter.specs.Walks.{found}
+use Rattle.tally_desk.specs.Parts.{Parts, IsPlan}
+use Rattle.audit_statement.specs.InOrder.{moved}
 
 -- ---- the book
 
@@ -26,15 +28,6 @@ abbrev pub booked : Parts → List Entry → List Outcome
 booked parts posted = parts.opening ++ map (found parts.job) (ids_of posted)
 
 -- ---- the place
-
--- the other slot, with the next generation of three in turn
-abbrev pub next_place : Place → Place
-next_place p = record { slot = 1 - p.slot; generation = (p.generation + 1) % 3 }
-
--- moved on so often
-abbrev pub moved : ℕ → Place → Place
-moved zero p = p
-moved (suc n) p = next_place (moved n p)
 
 -- ---- the saves that were tried
 
@@ -48,8 +41,8 @@ pub record Made : Type 0 where
 -- with this post after those: a save of the book at that time, at the place at that time
 abbrev pub made_with : Parts → List Entry → Entry → Made
 made_with parts earlier e = record {
-  slot = (moved (saves earlier) parts.place).slot;
-  generation = (moved (saves earlier) parts.place).generation;
+  slot = (moved (saves_made earlier) parts.place).slot;
+  generation = (moved (saves_made earlier) parts.place).generation;
   outcomes = by_id (total parts.job) (booked parts (earlier ++ e ∷ []));
   succeeded = e.saved;
 }
@@ -87,15 +80,15 @@ pub record IsSaveOf (parts : Parts) (generation : ℕ) (posted : List Entry) (sl
 -- What is known of the slots. The next slot is that of the place, to which the next save goes, and the last slot is the other one.
 pub record SlotsAs (parts : Parts) (before now : Pair) (place : Place) (posted : List Entry) : Type 0 where
   -- without a save, the last slot is as it was
-  pub last_unsaved : saves posted ≡ 0 → stored now (1 - place.slot) ≡ stored before (1 - place.slot)
+  pub last_unsaved : saves_made posted ≡ 0 → stored now (1 - place.slot) ≡ stored before (1 - place.slot)
   -- and elsewhere it is the last save, with the generation before the place's
-  pub last_saved : 0 < saves posted → IsSaveOf parts ((place.generation + 2) % 3) (up_to_save (saves posted) posted) (stored now (1 - place.slot))
+  pub last_saved : 0 < saves_made posted → IsSaveOf parts ((place.generation + 2) % 3) (up_to_save (saves_made posted) posted) (stored now (1 - place.slot))
   -- a save that failed may leave anything in the next slot, until a later one succeeds
-  pub next_unsaved : missed parts.save_every (after_save (saves posted) posted) ≡ 0 → saves posted < 2
+  pub next_unsaved : missed parts.save_every (after_save (saves_made posted) posted) ≡ 0 → saves_made posted < 2
       → stored now place.slot ≡ stored before place.slot
   -- and elsewhere it is the last save but one, with the generation before that
-  pub next_saved : missed parts.save_every (after_save (saves posted) posted) ≡ 0 → 2 ≤ saves posted
-      → IsSaveOf parts ((place.generation + 1) % 3) (up_to_save (saves posted - 1) posted) (stored now place.slot)
+  pub next_saved : missed parts.save_every (after_save (saves_made posted) posted) ≡ 0 → 2 ≤ saves_made posted
+      → IsSaveOf parts ((place.generation + 1) % 3) (up_to_save (saves_made posted - 1) posted) (stored now place.slot)
   -- where the last of all posts is marked, the last slot is the newest
   pub newest : ends_saved posted ≡ true → newest_for parts.job (job_digest parts.job) now ≡ Some (1 - place.slot)
 
@@ -113,7 +106,7 @@ module _ {C : Type 0} (state : C → Kept) where
     -- and no other failed
     pub shown : parts.keeper.save_faults < (state keeper).save_faults → 0 < failed
     pub loads : (state keeper).load_faults ≡ parts.keeper.load_faults
-    pub place_is : place ≡ moved (saves posted) parts.place
+    pub place_is : place ≡ moved (saves_made posted) parts.place
     -- the keeper was asked for these saves and no others
     pub tried_is : (state keeper).tried ≡ tried_all parts.keeper.tried (tries parts posted)
     pub sound : All (IsSound parts.job) (made parts posted)
@@ -146,5 +139,5 @@ module _ {C : Type 0} (state : C → Kept) where
 
   -- the outcome was posted: its entry is the next, marked only where a save was due
   pub record HasTurned (parts : Parts) (home : Home C) (posted : List Entry) (o : Outcome) (saved : Bool) : Type 0 where
-    pub holds : HomeAs parts home (posted ++ entry (length posted) o.id saved ∷ [])
-    pub due : saved ≡ true → is_due parts.save_every (entry (length posted) o.id saved) ≡ true
+    pub holds : HomeAs parts home (posted ++ post_of (length posted) o.id saved ∷ [])
+    pub due : saved ≡ true → is_due parts.save_every (post_of (length posted) o.id saved) ≡ true

@@ -1,26 +1,23 @@
 -- The slots after a desk at which no save failed, and a last save where the last post had none.
-use Rattle.std.specs.Prelude.{◌≡◌, ℕ, ◌+◌, ◌-◌, ◌*◌, ◌/◌, ◌%◌, ◌<◌, ◌≤◌, ◌==◌, ◌||◌, not, Bool, true, false, cond, List, length, Some}
+use Rattle.std.specs.Prelude.{◌≡◌, ℕ, ◌+◌, ◌-◌, ◌*◌, ◌%◌, ◌<◌, ◌≤◌, Bool, true, false, List, length, Some}
 use Rattle.std.specs.List.{range_with_len}
-use Rattle.audit_io.specs.Slots.{Pair, Stored, stored}
-use Rattle.audit_model.specs.Run.{total}
-use Rattle.model_laws.specs.Times.{times}
-use Rattle.checkpoint_definitions.specs.Checkpoint.{job_digest}
-use Rattle.ckpt_store.specs.declared.slots.Place.{Place}
-use Rattle.ckpt_store.specs.Laws.{IsNewestForFitJobs, newest_for, place_for}
-use Rattle.outcome_book.specs.Booked.{by_id}
+use Rattle.audit_model.specs.Pair.{Pair, Stored, stored}
+use Rattle.audit_model.specs.Run.{total, by_id}
+use Rattle.audit_model.specs.Times.{times}
+use Rattle.audit_statement.specs.Checkpoint.{job_digest}
+use Rattle.audit_model.specs.declared.place.Place.{Place}
+use Rattle.ckpt_store.specs.Laws.{IsNewestForFitJobs}
+use Rattle.audit_statement.specs.Slots.{newest_for, place_for}
 use Rattle.tally_desk.specs.declared.entry.Entry.{Entry}
 use Rattle.tally_desk.specs.Desks.{AreDue}
-use Rattle.tally_desk.specs.Entries.{ends_saved, ids_of, missed, saves, tickets_of}
-use Rattle.tally_desk.specs.Homes.{IsSaveOf, SlotsAs, booked, moved}
+use Rattle.tally_desk.specs.Entries.{ends_saved, ids_of, missed, saves_made, tickets_of}
+use Rattle.tally_desk.specs.Homes.{IsSaveOf, SlotsAs, booked}
+use Rattle.audit_statement.specs.InOrder.{moved, saves_of}
 use Rattle.tally_desk.specs.Parts.{Parts, IsPlan}
 
--- how many saves are made for so many posts: one for each whole group, and a last one where the last post had none
-abbrev pub saves_of : ℕ → ℕ → ℕ
-saves_of posts every = posts / every + cond {A = ℕ} ((posts == 0) || not (posts % every == 0)) 1 0
-
 -- the place of the last of them
-abbrev pub last_place : Parts → List Entry → Place
-last_place parts posted = moved (saves_of (length posted) parts.save_every - 1) parts.place
+abbrev pub last_save_place : Parts → List Entry → Place
+last_save_place parts posted = moved (saves_of (length posted) parts.save_every - 1) parts.place
 
 -- all posts of a desk, by rising ticket, none of which missed a save
 pub record AreUnfailed (parts : Parts) (posted : List Entry) : Type 0 where
@@ -37,14 +34,14 @@ pub record IsPartSave (parts : Parts) (generation count : ℕ) (slot : Stored) :
   pub saved : IsSaveOf parts generation part slot
 
 -- so many saves were made, the last at this place: it is whole and the newest, and the other slot is as it was or is the save before
-pub record SavesInTurnAt (parts : Parts) (before now : Pair) (posted : List Entry) (at : Place) (count : ℕ) : Type 0 where
+pub record RunSavesInTurnAt (parts : Parts) (before now : Pair) (posted : List Entry) (at : Place) (count : ℕ) : Type 0 where
   pub last : IsSaveOf parts at.generation posted (stored now at.slot)
   pub newest : newest_for parts.job (job_digest parts.job) now ≡ Some at.slot
   pub only : count ≡ 1 → stored now (1 - at.slot) ≡ stored before (1 - at.slot)
   pub before_last : 1 < count → IsPartSave parts ((at.generation + 2) % 3) ((count - 1) * parts.save_every) (stored now (1 - at.slot))
 
-abbrev pub SavesInTurn : Parts → Pair → Pair → List Entry → Type 0
-SavesInTurn parts before now posted = SavesInTurnAt parts before now posted (last_place parts posted) (saves_of (length posted) parts.save_every)
+abbrev pub RunSavesInTurn : Parts → Pair → Pair → List Entry → Type 0
+RunSavesInTurn parts before now posted = RunSavesInTurnAt parts before now posted (last_save_place parts posted) (saves_of (length posted) parts.save_every)
 
 -- a save of all posts at the place, which leaves the other slot
 pub record SavesRest (parts : Parts) (desk now : Pair) (place : Place) (posted : List Entry) : Type 0 where
@@ -61,6 +58,6 @@ EndsSaves false parts desk now place posted = SavesRest parts desk now place pos
 abbrev pub UnfailedRunsSaveInTurn : Type 0
 UnfailedRunsSaveInTurn = (parts : Parts) (before desk now : Pair) (posted : List Entry) → IsPlan parts
     → place_for parts.job (job_digest parts.job) before ≡ (parts.place.slot, parts.place.generation) → AreUnfailed parts posted
-    → SlotsAs parts before desk (moved (saves posted) parts.place) posted
-    → EndsSaves (ends_saved posted) parts desk now (moved (saves posted) parts.place) posted
-    → SavesInTurn parts before now posted
+    → SlotsAs parts before desk (moved (saves_made posted) parts.place) posted
+    → EndsSaves (ends_saved posted) parts desk now (moved (saves_made posted) parts.place) posted
+    → RunSavesInTurn parts before now posted

@@ -8,12 +8,12 @@ use Rattle.audit_model.specs.declared.outcome.Event.TheVariants.{Claim, Post, Sa
 use Rattle.audit_model.specs.Below.{map_below}
 use Rattle.audit_model.specs.Machine.{Machine, state_after}
 use Rattle.audit_model.specs.Run.{total}
-use Rattle.model_laws.specs.Times.{times}
+use Rattle.audit_model.specs.Times.{times}
 use Rattle.claim_counter.specs.Records.{with_claim}
 use Rattle.tally_desk.specs.declared.entry.Entry.{Entry}
 use Rattle.tally_desk.specs.declared.home.Home.{Home}
 use Rattle.tally_desk.specs.Desks.{CanPost, Tallied, ended_view, joined_view, left_view, right_view, with_entry, with_own, with_turn}
-use Rattle.tally_desk.specs.Entries.{entry, ids_of, is_due, saves, up_to_save}
+use Rattle.tally_desk.specs.Entries.{post_of, ids_of, is_due, saves_made, up_to_save}
 use Rattle.tally_desk.specs.Parts.{Parts}
 use Rattle.tally_desk.specs.Views.{PassView, in_turn, no_turn, spent_view, waiting}
 
@@ -35,7 +35,7 @@ machine_of parts drawn posted = record {
   part = parts.job.setting.part;
   budget = length parts.todo;
   start = opening_ids parts;
-  saved = opening_ids parts ++ ids_of (up_to_save (saves posted) posted);
+  saved = opening_ids parts ++ ids_of (up_to_save (saves_made posted) posted);
   done = opening_ids parts ++ ids_of posted;
   next = min drawn (length parts.todo);
   held = map_below (length parts.todo) (open_at parts (min drawn (length parts.todo)) posted);
@@ -50,7 +50,7 @@ post_events place true = Post place ∷ Save ∷ []
 
 module _ {C : Type 0} (HomeAs : Parts → Home C → List Entry → Type 0) (parts : Parts) where
   -- the desk stands for the state of the machine
-  pub record StandsFor (s : State (Home C) PassView) (m : Machine) : Type 0 where
+  pub record StandsForMachine (s : State (Home C) PassView) (m : Machine) : Type 0 where
     pub rule : Tallied HomeAs parts s
     pub is : m ≡ machine_of parts (slice_index s.words 0) rule.posted
 
@@ -59,40 +59,40 @@ module _ {C : Type 0} (HomeAs : Parts → Home C → List Entry → Type 0) (par
   becomes words homes views = record { words = words; homes = homes; views = views }
 
   -- The kinds of step of a pass in use, after these posts of all passes, with the state after each and its events.
-  pub data IsStep (s : State (Home C) PassView) (posted : List Entry) : State (Home C) PassView → List Event → Type 0 where
+  pub data IsDeskStep (s : State (Home C) PassView) (posted : List Entry) : State (Home C) PassView → List Event → Type 0 where
     -- a draw of the next place
     claims : (id : ℕ) (v : PassView) → get_elem? s.views id ≡ maybe.some v → v.parts ≡ Some parts → 0 < v.own.weight
         → slice_index s.words 0 < length parts.todo
-        → IsStep s posted (becomes (slice_set s.words 0 (slice_index s.words 0 + 1)) s.homes (slice_set s.views id (with_own v (with_claim (slice_index s.words 0) v.own))))
+        → IsDeskStep s posted (becomes (slice_set s.words 0 (slice_index s.words 0 + 1)) s.homes (slice_set s.views id (with_own v (with_claim (slice_index s.words 0) v.own))))
         (Claim (slice_index s.words 0) ∷ [])
     -- a draw past the end
     ends : (id : ℕ) (v : PassView) → get_elem? s.views id ≡ maybe.some v → v.parts ≡ Some parts → 0 < v.own.weight → v.own.ended ≡ false
         → length parts.todo ≤ slice_index s.words 0
-        → IsStep s posted (becomes (slice_set s.words 0 (slice_index s.words 0 + 1)) s.homes (slice_set s.views id (ended_view v))) []
+        → IsDeskStep s posted (becomes (slice_set s.words 0 (slice_index s.words 0 + 1)) s.homes (slice_set s.views id (ended_view v))) []
     -- a ticket for a post
     takes_ticket : (id : ℕ) (v : PassView) (o : ℕ) → get_elem? s.views id ≡ maybe.some v → CanPost parts v o
-        → IsStep s posted (becomes (slice_set s.words 1 (slice_index s.words 1 + 1)) s.homes (slice_set s.views id (with_turn v (waiting (slice_index s.words 1) o)))) []
+        → IsDeskStep s posted (becomes (slice_set s.words 1 (slice_index s.words 1 + 1)) s.homes (slice_set s.views id (with_turn v (waiting (slice_index s.words 1) o)))) []
     -- a look at the ticket that is served, which is not the pass's
-    looks : IsStep s posted s []
+    looks : IsDeskStep s posted s []
     -- the look that begins a turn: the pass learns all posts, and takes the slot
     begins : (id : ℕ) (v : PassView) (i : ℕ) → get_elem? s.views id ≡ maybe.some v → v.parts ≡ Some parts → 0 < v.own.weight
         → v.turn ≡ waiting (slice_index s.words 2) i
-        → IsStep s posted (becomes s.words (slice_set s.homes 0 maybe.none) (slice_set s.views id (with_turn v (in_turn (slice_index s.words 2) i posted)))) []
+        → IsDeskStep s posted (becomes s.words (slice_set s.homes 0 maybe.none) (slice_set s.views id (with_turn v (in_turn (slice_index s.words 2) i posted)))) []
     -- the end of a turn: it becomes a post, of an id that was claimed at this place, and the slot goes back as it is to be after this post
     serves : (id : ℕ) (v : PassView) (i place : ℕ) (l : List Entry) (y : Home C) (saved : Bool) → get_elem? s.views id ≡ maybe.some v → v.parts ≡ Some parts → 0 < v.own.weight
         → v.turn ≡ in_turn (slice_index s.words 2) i l → 0 < times place v.own.claims → i ≡ slice_index parts.todo place
-        → HomeAs parts y (l ++ entry (slice_index s.words 2) i saved ∷ [])
-        → (saved ≡ true → is_due parts.save_every (entry (slice_index s.words 2) i saved) ≡ true)
-        → IsStep s posted (becomes (slice_set s.words 2 (slice_index s.words 2 + 1)) (maybe.some y ∷ []) (slice_set s.views id (with_entry v (entry (slice_index s.words 2) i saved))))
+        → HomeAs parts y (l ++ post_of (slice_index s.words 2) i saved ∷ [])
+        → (saved ≡ true → is_due parts.save_every (post_of (slice_index s.words 2) i saved) ≡ true)
+        → IsDeskStep s posted (becomes (slice_set s.words 2 (slice_index s.words 2 + 1)) (maybe.some y ∷ []) (slice_set s.views id (with_entry v (post_of (slice_index s.words 2) i saved))))
         (post_events place saved)
     -- a pass is split
     splits : (id : ℕ) (v : PassView) → get_elem? s.views id ≡ maybe.some v → v.parts ≡ Some parts → 0 < v.own.weight → 0 < v.own.spare
-        → IsStep s posted (becomes s.words s.homes (slice_set s.views id (left_view v) ++ right_view v ∷ [])) []
+        → IsDeskStep s posted (becomes s.words s.homes (slice_set s.views id (left_view v) ++ right_view v ∷ [])) []
     -- two passes are joined
     joins : (id : ℕ) (v : PassView) (other : ℕ) (w : PassView) → get_elem? s.views id ≡ maybe.some v → ¬ (other ≡ id) → get_elem? s.views other ≡ maybe.some w
         → v.parts ≡ Some parts → 0 < v.own.weight → 0 < w.own.weight → v.turn ≡ no_turn → w.turn ≡ no_turn
-        → IsStep s posted (becomes s.words s.homes (slice_set (slice_set s.views id (joined_view v w)) other spent_view)) []
+        → IsDeskStep s posted (becomes s.words s.homes (slice_set (slice_set s.views id (joined_view v w)) other spent_view)) []
 
   -- each step keeps the rule, and takes the state for which the desk stands to the state after its events
   abbrev pub StepsAreEvents : Type 0
-  StepsAreEvents = (s s' : State (Home C) PassView) (events : List Event) (m : Machine) (stands : StandsFor s m) → IsStep s stands.rule.posted s' events → StandsFor s' (state_after m events)
+  StepsAreEvents = (s s' : State (Home C) PassView) (events : List Event) (m : Machine) (stands : StandsForMachine s m) → IsDeskStep s stands.rule.posted s' events → StandsForMachine s' (state_after m events)

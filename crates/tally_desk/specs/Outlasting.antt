@@ -1,13 +1,13 @@
 -- What the saves of a desk leave in the slots, however each ended, and wherever the run was stopped.
 use Rattle.std.specs.Prelude.{◌≡◌, ℕ, ◌≤◌, List}
 use Rattle.std.specs.List.{All}
-use Rattle.audit_io.specs.Slots.{Pair}
+use Rattle.audit_model.specs.Pair.{Pair}
 use Rattle.audit_model.specs.Run.{IsRight}
-use Rattle.model_laws.specs.Times.{times}
-use Rattle.checkpoint_definitions.specs.Checkpoint.{job_digest}
-use Rattle.ckpt_store.specs.Histories.{AreCarriedOut, IsNotIntact, KeepsNewest, stopped_in}
-use Rattle.ckpt_store.specs.Laws.{AreHonest, IsNotOurs, place_for}
-use Rattle.draw_definitions.specs.Draw.{draw}
+use Rattle.audit_model.specs.Times.{times}
+use Rattle.audit_statement.specs.Checkpoint.{job_digest}
+use Rattle.audit_statement.specs.Histories.{AreCarriedOut, IsNotIntact, KeepsNewest, stopped_in}
+use Rattle.audit_statement.specs.Slots.{AreHonest, IsNotOurs, place_for}
+use Rattle.audit_statement.specs.Draw.{draw}
 use Rattle.tally_desk.specs.declared.entry.Entry.{Entry}
 use Rattle.tally_desk.specs.Desks.{AreDue}
 use Rattle.tally_desk.specs.Entries.{ids_of}
@@ -22,16 +22,16 @@ pub record ArePosts (parts : Parts) (posted : List Entry) : Type 0 where
   pub sound : All (IsSound parts.job) (made parts posted)
 
 -- where the opening is right, a stop anywhere in a run leaves honest slots, wherever each of its saves failed
-abbrev pub StopsLeaveHonestSlots : Type 0
-StopsLeaveHonestSlots = (parts : Parts) (posted : List Entry) (before after : Pair) (n : ℕ)
+abbrev pub RunStopsLeaveHonestSlots : Type 0
+RunStopsLeaveHonestSlots = (parts : Parts) (posted : List Entry) (before after : Pair) (n : ℕ)
     → ArePosts parts posted → IsRight parts.job (draw parts.job.setting.key) parts.opening
     → AreCarriedOut IsNotOurs parts.job (job_digest parts.job) before (stopped_in n (tries parts posted)) after
     → AreHonest parts.job (draw parts.job.setting.key) (job_digest parts.job) before
     → AreHonest parts.job (draw parts.job.setting.key) (job_digest parts.job) after
 
 -- and it keeps the newest slot of before or leaves a newer one: the last that succeeded, or a later one that failed with all its bytes
-abbrev pub StopsKeepTheNewest : Type 0
-StopsKeepTheNewest = (parts : Parts) (posted : List Entry) (before after : Pair) (n : ℕ)
+abbrev pub RunStopsKeepTheNewest : Type 0
+RunStopsKeepTheNewest = (parts : Parts) (posted : List Entry) (before after : Pair) (n : ℕ)
     → ArePosts parts posted → place_for parts.job (job_digest parts.job) before ≡ (parts.place.slot, parts.place.generation)
     → AreCarriedOut IsNotIntact parts.job (job_digest parts.job) before (stopped_in n (tries parts posted)) after
     → KeepsNewest parts.job (job_digest parts.job) before (stopped_in n (tries parts posted)) after

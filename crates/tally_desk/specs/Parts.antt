@@ -1,19 +1,18 @@
 -- What never changes at a desk, and what a desk may be made of.
 use Rattle.std.specs.Prelude.{◌≡◌, ℕ, ◌<◌, ◌≤◌, IsTrue, List, length, Option}
 use Rattle.std.specs.List.{All}
-use Rattle.audit_io.specs.State.{Kept}
-use Rattle.audit_io.specs.Told.{IfTold}
-use Rattle.audit_io.specs.Slots.{Pair}
+use Rattle.audit_model.specs.State.{Kept}
+use Rattle.audit_model.specs.Told.{IfTold}
+use Rattle.audit_model.specs.Pair.{Pair}
 use Rattle.audit_model.specs.declared.outcome.Outcome.{Outcome}
 use Rattle.audit_model.specs.Job.{Job}
 use Rattle.audit_model.specs.JobOf.{IsJob}
 use Rattle.audit_model.specs.Run.{total, fits, run_ids}
-use Rattle.audit_model.specs.Trajectory.{outcome}
-use Rattle.checkpoint_definitions.specs.Checkpoint.{job_digest}
-use Rattle.ckpt_store.specs.declared.slots.Place.{Place}
-use Rattle.ckpt_store.specs.Laws.{place_for}
-use Rattle.draw_definitions.specs.Draw.{draw}
-use Rattle.outcome_book.specs.Booked.{IsBook}
+use Rattle.audit_statement.specs.Checkpoint.{job_digest}
+use Rattle.audit_model.specs.declared.place.Place.{Place}
+use Rattle.audit_statement.specs.Slots.{place_for}
+use Rattle.tally_desk.specs.declared.handing.DeskPlan.{DeskPlan}
+use Rattle.outcome_book.specs.Booked.{Booked, IsBook}
 
 -- the job, the outcomes of the book and the ids to do; after how many posts a save is due, how many passes there may be, and where the
 -- first save goes; and what the keeper was when the desk was made
@@ -26,10 +25,6 @@ pub record Parts : Type 0 where
   pub place : Place
   pub keeper : Kept
 
--- what the trajectory with this id finds, by the draws of the job's key
-unfoldable pub found : Job → ℕ → Outcome
-found job id = outcome job (draw job.setting.key) id
-
 -- the place is where the next checkpoint of the job goes, where the slots are told
 abbrev pub IsPlaceFor : Job → Option Pair → Place → Type 0
 IsPlaceFor job slots place = IfTold slots (λ p. place_for job (job_digest job) p ≡ (place.slot, place.generation))
@@ -38,7 +33,18 @@ IsPlaceFor job slots place = IfTold slots (λ p. place_for job (job_digest job) 
 abbrev pub IsTodoFor : Job → List Outcome → List ℕ → Type 0
 IsTodoFor job opening todo = (budget : ℕ) × (todo ≡ run_ids job opening budget)
 
--- what a desk may be made of
+-- what a desk of the job may be made of, by what was told of the slots: a plan, ids to do and a book
+pub record MayFound (job : Job) (slots : Option Pair) (plan : DeskPlan) (ids : List ℕ) (b : Booked) : Type 0 where
+  pub digest : plan.digest ≡ job_digest job
+  pub every : 1 ≤ plan.save_every
+  pub slot : plan.place.slot < 2
+  pub generation : plan.place.generation < 3
+  pub place : IsPlaceFor job slots plan.place
+  pub whole : b.total ≡ total job
+  pub fit : All (λ o. IsTrue (fits job o)) b.outcomes
+  pub todo : IsTodoFor job b.outcomes ids
+
+-- what a desk was made of
 pub record IsPlan (parts : Parts) : Type 0 where
   pub sound : IsJob parts.job
   pub few_asks : length parts.job.setting.asks ≤ 4

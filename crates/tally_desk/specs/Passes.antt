@@ -3,18 +3,18 @@ use Rattle.std.specs.Prelude.{◌≡◌, ℕ, ◌+◌, ◌<◌, Bool, List, leng
 use Rattle.std.specs.List.{range_with_len}
 use Rattle.std.specs.List.Sorted.{IsPermutation}
 use Rattle.atomic_table.specs.Seated.{TableId}
-use Rattle.audit_io.specs.State.{Kept}
-use Rattle.ckpt_store.specs.declared.slots.Place.{Place}
+use Rattle.audit_model.specs.State.{Kept}
+use Rattle.audit_model.specs.declared.place.Place.{Place}
 use Rattle.claim_counter.specs.Records.{with_claim}
 use Rattle.outcome_book.specs.Booked.{Booked}
 use Rattle.tally_desk.specs.declared.entry.Entry.{Entry}
 use Rattle.tally_desk.specs.declared.pass.DeskPass.{DeskPass}
 use Rattle.tally_desk.specs.Desks.{AreDue, claimed_ids, ended_view, first_view, joined_view, left_view, right_view, with_entry, with_own}
-use Rattle.tally_desk.specs.Entries.{entry, ends_saved, ids_of, tickets_of}
+use Rattle.tally_desk.specs.Entries.{post_of, ends_saved, ids_of, tickets_of}
 use Rattle.tally_desk.specs.Homes.{KeptAs}
 use Rattle.tally_desk.specs.Parts.{IsPlan, Parts}
 use Rattle.tally_desk.specs.Views.{PassView, view_in}
-use Rattle.model_laws.specs.Times.{times}
+use Rattle.audit_model.specs.Times.{times}
 
 -- what the pass knows
 abbrev pub view_of : DeskPass → PassView
@@ -25,9 +25,10 @@ pub record Belongs (table : TableId) (parts : Parts) (p : DeskPass) : Type 0 whe
   pub of_table : p.badge.table_id ≡ table
   pub of_parts : (view_of p).parts ≡ Some parts
 
--- all seats are the pass's: there is no other pass, and what can be split off is split off it
-abbrev pub HasAllSeats : Parts → PassView → Type 0
-HasAllSeats parts v = v.own.weight + v.own.spare ≡ parts.seats
+-- the pass is the first of the desk with this table, and has all seats
+pub record IsFirstPass (table : TableId) (parts : Parts) (p : DeskPass) : Type 0 where
+  pub belongs : Belongs table parts p
+  pub first : view_of p ≡ first_view parts
 
 -- the pass drew a place of the list that it did not have, and claims the id there
 pub record Claims (parts : Parts) (id : ℕ) (before now : PassView) : Type 0 where
@@ -41,7 +42,7 @@ pub record Claims (parts : Parts) (id : ℕ) (before now : PassView) : Type 0 wh
 pub record Posts (id : ℕ) (before now : PassView) : Type 0 where
   pub ticket : ℕ
   pub saved : Bool
-  pub view : now ≡ with_entry before (entry ticket id saved)
+  pub view : now ≡ with_entry before (post_of ticket id saved)
 
 -- the pass posted each id that it claimed
 abbrev pub HasPostedAll : Parts → PassView → Type 0

@@ -1,9 +1,8 @@
 -- Where the opening is right, so is each checkpoint of a desk.
 use Rattle.std.specs.Prelude.{ℕ, ◌≤◌, List}
-use Rattle.audit_model.specs.Run.{IsRight, total}
-use Rattle.model_laws.specs.Times.{times}
-use Rattle.draw_definitions.specs.Draw.{draw}
-use Rattle.outcome_book.specs.Booked.{by_id}
+use Rattle.audit_model.specs.Run.{IsRight, total, by_id}
+use Rattle.audit_model.specs.Times.{times}
+use Rattle.audit_statement.specs.Draw.{draw}
 use Rattle.tally_desk.specs.declared.entry.Entry.{Entry}
 use Rattle.tally_desk.specs.Entries.{ids_of}
 use Rattle.tally_desk.specs.Homes.{booked}

@@ -1,16 +1,16 @@
 -- What a save of the book does to what the slot of a desk holds.
 use Rattle.std.specs.Prelude.{◌≡◌, ℕ, ◌+◌, ◌%◌, ◌==◌, Bool, true, false, List, length}
-use Rattle.audit_io.specs.Faults.{Counts, Rose}
-use Rattle.audit_io.specs.State.{Kept}
-use Rattle.audit_io.specs.Told.{IfTold}
-use Rattle.audit_io.specs.Slots.{HoldsBytes, KeepsOther}
-use Rattle.audit_io.specs.Tries.{tried_too}
+use Rattle.audit_model.specs.Faults.{Counts, Rose}
+use Rattle.audit_model.specs.State.{Kept}
+use Rattle.audit_model.specs.Told.{IfTold}
+use Rattle.audit_model.specs.Pair.{HoldsBytes, KeepsOther}
+use Rattle.audit_model.specs.Tries.{tried_too}
 use Rattle.audit_model.specs.declared.outcome.Outcome.{Outcome}
-use Rattle.checkpoint_definitions.specs.Checkpoint.{IsCheckpoint, checkpoint}
+use Rattle.audit_statement.specs.Checkpoint.{IsCheckpoint, checkpoint}
 use Rattle.ckpt_store.specs.Laws.{IsNewestForFitJobs}
-use Rattle.outcome_book.specs.Booked.{by_id}
+use Rattle.audit_model.specs.Run.{by_id}
 use Rattle.tally_desk.specs.declared.home.Home.{Home}
-use Rattle.tally_desk.specs.Homes.{next_place}
+use Rattle.audit_statement.specs.InOrder.{next_place}
 
 module _ {C : Type 0} where
   -- the outcomes of the book by rising id

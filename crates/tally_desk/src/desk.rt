@@ -32,15 +32,15 @@ pub struct Desk<C: Keeper> {
 
 impl<C: Keeper> Desk<C> {
     ghost use Rattle.std.specs.Prelude.{◌≡◌, ◌+◌, ◌-◌, ◌^◌, ◌<◌, ◌≤◌, ◌∷◌, [], ◌++◌, ℕ, IsTrue, All, IfOk, IfErr, IfSome, IfNone, true, false, length, vec_len};
-    ghost use Rattle.audit_model.specs.Run.{fits, total};
-    ghost use Rattle.checkpoint_definitions.specs.Checkpoint.{job_digest};
-    ghost use Rattle.model_laws.specs.Times.{times};
+    ghost use Rattle.audit_model.specs.Times.{times};
+    ghost use Rattle.claim_counter.specs.Views.{HasAllSeats};
+    ghost use Rattle.claim_counter.specs.Walks.{found};
     ghost use Rattle.tally_desk.specs.Desks.{BeginsTurn, CanPost, HasServed, IsInTurn, IsWaiting, claimed_ids, ended_view, first_view, joined_view, left_view, right_view, with_turn};
     ghost use Rattle.tally_desk.specs.Entries.{ids_of};
     ghost use Rattle.tally_desk.specs.Founded.{parts_of};
     ghost use Rattle.tally_desk.specs.Homes.{HomeAs};
-    ghost use Rattle.tally_desk.specs.Parts.{IsPlaceFor, IsTodoFor, found};
-    ghost use Rattle.tally_desk.specs.Passes.{Belongs, Claims, HasAllSeats, HasPostedAll, IsClosed, Posts, view_of};
+    ghost use Rattle.tally_desk.specs.Parts.{MayFound};
+    ghost use Rattle.tally_desk.specs.Passes.{Belongs, Claims, HasPostedAll, IsClosed, Posts, view_of};
     ghost use Rattle.tally_desk.specs.Views.{waiting};
 
     /// A desk for the ids of `todo`, which the book lacks, with at most `seats` passes, and the first of these.
@@ -57,14 +57,7 @@ impl<C: Keeper> Desk<C> {
         book: Book,
         keeper: C,
     ) -> Result<(Desk<C>, DeskPass), Refused<C>>
-        requires digest { plan.digest ≡ job_digest job.now }
-        requires every { 1 ≤ plan.save_every }
-        requires slot { plan.place.slot < 2 }
-        requires generation { plan.place.generation < 3 }
-        requires place { IsPlaceFor job.now (C.state keeper).slots plan.place }
-        requires total { book.total ≡ total job.now }
-        requires fit { All (λ o. IsTrue (fits job.now o)) book.outcomes }
-        requires todo { IsTodoFor job.now book.outcomes todo }
+        requires found { MayFound job.now (C.state keeper).slots plan todo book }
         requires seats { (1 ≤ seats) × (seats ≤ 33) }
         ensures parts { IfOk result (λ d. parts_of C.state d.0.table.shared.key ≡ record {
           job = job.now;
@@ -244,7 +237,7 @@ impl<C: Keeper> Desk<C> {
     /// Ends the desk with its only pass, which has ended and has posted all that it claimed.
     pub fn close(self, pass: DeskPass) -> Kept<C>
         requires pass { Belongs self.table.shared.table_id (parts_of C.state self.table.shared.key) pass }
-        requires only { HasAllSeats (parts_of C.state self.table.shared.key) (view_of pass) }
+        requires only { HasAllSeats (parts_of C.state self.table.shared.key).seats (view_of pass).own }
         requires ended { (view_of pass).own.ended ≡ true }
         requires posted { HasPostedAll (parts_of C.state self.table.shared.key) (view_of pass) }
         ensures { IsClosed C.state (parts_of C.state self.table.shared.key) (view_of pass)

@@ -17,7 +17,8 @@ use crate::view::{Founding, View};
 use atomic_table::{Seat, Table};
 use audit_io::keeper::Keeper;
 use audit_model::buffers::{Bytes, OutcomeList};
-use ckpt_store::slots::Place;
+use audit_model::lists::UnitList;
+use audit_model::place::Place;
 use outcome_book::book::Book;
 use plan_core::job::Job;
 use std::alloc::Global;
@@ -28,6 +29,15 @@ pub struct DeskPlan {
     pub digest: [u8; 32],
     pub save_every: u32,
     pub place: Place,
+}
+
+/// What a desk is made of: how it saves, the ids to do, the book and the keeper.
+#[derive(Drop)]
+pub struct Outset<C> {
+    pub plan: DeskPlan,
+    pub todo: UnitList,
+    pub book: Book,
+    pub keeper: C,
 }
 
 /// There was no memory for a desk. What it was to be made of comes back.

@@ -4,10 +4,10 @@ use crate::entry::Entry;
 use audit_io::keeper::Keeper;
 use audit_model::buffers::{Bytes, OutcomeList};
 use audit_model::outcome::Outcome;
+use audit_model::place::Place;
 use ckpt_format::laws::rising_pairs_rise;
 use ckpt_store::laws::{checkpoints_are_ours, saved_slots_are_newest};
 use ckpt_store::save;
-use ckpt_store::slots::Place;
 use outcome_book::book::Book;
 use outcome_book::laws::outcomes_have_few_visits;
 
@@ -26,21 +26,20 @@ pub struct Home<C> {
 }
 
 impl<C: Keeper> Home<C> {
-    ghost use Rattle.std.specs.Prelude.{◌≡◌, ◌+◌, ◌*◌, ◌^◌, ◌<◌, ◌≤◌, ◌∷◌, [], ◌++◌, IsFalse, List, length, vec_capacity};
-    ghost use Rattle.outcome_book.specs.Booked.{IsBook};
+    ghost use Rattle.std.specs.Prelude.{◌≡◌, ◌+◌, ◌^◌, ◌<◌, ◌≤◌, ◌∷◌, [], ◌++◌, List, length};
+    ghost use Rattle.ckpt_store.specs.Places.{IsPlace};
     ghost use Rattle.tally_desk.specs.declared.entry.Entry as model;
-    ghost use Rattle.tally_desk.specs.Entries.{entry};
+    ghost use Rattle.tally_desk.specs.Entries.{post_of};
     ghost use Rattle.tally_desk.specs.Homes.{HasTurned, MayTurn};
     ghost use Rattle.tally_desk.specs.Parts.{Parts};
+    ghost use Rattle.tally_desk.specs.Rooms.{HasSaveRoom};
     ghost use Rattle.tally_desk.specs.Saving.{SavedWhereDue, TriedSave};
 
     // Saves a checkpoint of the book. Whether the save succeeded.
     fn save_book(&mut self) -> bool
-        requires slot { self.old.place.slot < 2 }
-        requires generation { self.old.place.generation < 3 }
+        requires place { IsPlace self.old.place }
         requires count { self.old.failed_saves + 1 < 2 ^ 32 }
-        requires sorted_room { self.old.book.total ≤ length self.old.sorted.items + self.old.sorted.spare }
-        requires save_room { 84 + 80 * self.old.book.total ≤ length self.old.room.items + self.old.room.spare }
+        requires room { HasSaveRoom self.old.book.total self.old.sorted self.old.room }
         ensures { TriedSave C.state self.old self.new result }
     {
         // Called for what its contract says: the book holds no more than it has room for.
@@ -67,11 +66,9 @@ impl<C: Keeper> Home<C> {
     // Saves a checkpoint of the book where one is due after so many posts. Whether a save was made and succeeded.
     fn save_where_due(&mut self, posts: u64) -> bool
         requires every { 1 ≤ self.old.save_every }
-        requires slot { self.old.place.slot < 2 }
-        requires generation { self.old.place.generation < 3 }
+        requires place { IsPlace self.old.place }
         requires count { self.old.failed_saves + 1 < 2 ^ 32 }
-        requires sorted_room { self.old.book.total ≤ length self.old.sorted.items + self.old.sorted.spare }
-        requires save_room { 84 + 80 * self.old.book.total ≤ length self.old.room.items + self.old.room.spare }
+        requires room { HasSaveRoom self.old.book.total self.old.sorted self.old.room }
         ensures { SavedWhereDue C.state posts self.old self.new result }
     {
         if posts % u64::from(self.save_every) != 0 {
@@ -86,7 +83,7 @@ impl<C: Keeper> Home<C> {
         requires { (parts : Parts) × ((posted : List model.Entry) × MayTurn C.state parts self.old posted outcome) }
         ensures turned { (parts : Parts) (posted : List model.Entry) → MayTurn C.state parts self.old posted outcome
             → HasTurned C.state parts self.new posted outcome result }
-        ensures entry { self.new.posted.items ≡ self.old.posted.items ++ entry (length self.old.posted.items) outcome.id result ∷ [] }
+        ensures entry { self.new.posted.items ≡ self.old.posted.items ++ post_of (length self.old.posted.items) outcome.id result ∷ [] }
     {
         // Laws, called for what their contracts say: what is saved is in the newest slot and is the job's, and bins add up to few enough.
         saved_slots_are_newest();

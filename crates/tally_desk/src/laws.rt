@@ -4,7 +4,7 @@ ghost use Rattle.tally_desk.specs.Entries.{UnfailedPostsAreRegular};
 ghost use Rattle.tally_desk.specs.Homes.{HomeAs};
 ghost use Rattle.tally_desk.specs.InTurn.{UnfailedRunsSaveInTurn};
 ghost use Rattle.tally_desk.specs.Machines.{StepsAreEvents};
-ghost use Rattle.tally_desk.specs.Outlasting.{StopsKeepTheNewest, StopsLeaveHonestSlots};
+ghost use Rattle.tally_desk.specs.Outlasting.{RunStopsKeepTheNewest, RunStopsLeaveHonestSlots};
 ghost use Rattle.tally_desk.specs.Parts.{Parts};
 ghost use Rattle.tally_desk.specs.Passes.{PostsStayWhole};
 ghost use Rattle.tally_desk.specs.Righted.{SavedOutcomesAreRight};
@@ -49,14 +49,14 @@ pub fn saved_outcomes_are_right()
 
 /// Where the opening is right, a stop anywhere in a run leaves honest slots, wherever each of its saves failed.
 pub fn stops_leave_honest_slots()
-    ensures { StopsLeaveHonestSlots }
+    ensures { RunStopsLeaveHonestSlots }
 {
     saves_leave_honest_slots();
 }
 
 /// A stop anywhere in a run keeps the newest slot of before or leaves a newer one: the last save that succeeded, or a later one.
 pub fn stops_keep_the_newest()
-    ensures { StopsKeepTheNewest }
+    ensures { RunStopsKeepTheNewest }
 {
     saves_keep_the_newest();
 }

@@ -1,17 +1,28 @@
-//! A desk where several callers draw the ids of a list, post each outcome once, and which saves a checkpoint now and then.
+//! A desk where several callers draw the ids of a list, post each outcome once, and which saves a checkpoint now and then; and a run of workers over
+//! such a desk, with a last save at its end.
 #![tactic(auto)]
 
 mod counter;
+pub mod crew;
 pub mod desk;
 mod entry;
 pub mod handing;
 mod home;
+mod hub;
 pub mod laws;
 pub mod pass;
+pub mod ran;
 mod rule;
+pub mod run_laws;
+mod saving;
 mod view;
+mod walking;
+mod worker;
 
+pub use crew::{Crew, recruit};
 pub use desk::Desk;
-pub use handing::{DeskPlan, Kept, Refused};
+pub use handing::{DeskPlan, Kept, Outset, Refused};
 pub use laws::{posts_stay_whole, unfailed_runs_save_in_turn};
 pub use pass::DeskPass;
+pub use ran::{Ran, run_over};
+pub use run_laws::{run_tries_are_right, saves_hold_parts};

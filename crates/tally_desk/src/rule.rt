@@ -56,10 +56,10 @@ impl<C, B: Posting> Play<Home<C>, View> for Take<B> {
 pub(crate) struct Look;
 
 impl<C: Keeper> Play<Home<C>, View> for Look {
-    ghost use Rattle.tally_desk.specs.Desks.{Looks};
+    ghost use Rattle.tally_desk.specs.Desks.{LooksForTurn};
     ghost use Rattle.tally_desk.specs.Homes.{HomeAs};
 
-    ghost then = { Looks (HomeAs C.state) };
+    ghost then = { LooksForTurn (HomeAs C.state) };
 }
 
 /// The end of a turn.

@@ -1,7 +1,7 @@
 //! What a pass of a desk knows, and what a desk is told once.
 
 use audit_model::lists::UnitList;
-use ckpt_store::slots::Place;
+use audit_model::place::Place;
 use outcome_book::book::Book;
 use plan_core::job::Job;
 use std::marker::Model;

@@ -7,8 +7,8 @@ use Rattle.audit_model.specs.Job.{Job}
 use Rattle.audit_model.specs.JobOf.{IsJob}
 use Rattle.audit_model.specs.Plan.{IsLegal, district_sum}
 use Rattle.audit_model.specs.Trajectory.{visit, four_values}
-use Rattle.model_laws.proofs.Below.{count_below_le, length-map_below}
-use Rattle.model_laws.proofs.Columns.{column_small}
+use Rattle.audit_model.proofs.Below.{count_below_le, length-map_below}
+use Rattle.audit_model.proofs.ColumnFacts.{column_small}
 use Rattle.flip_kernel.specs.Held.{sums_in}
 use Rattle.scores.specs.Votes.{AreVotes}
 use Rattle.walker.specs.Asked.{each, is_inside, visits_inside}
@@ -32,6 +32,7 @@ module _ (job : Job) (draws : ℕ → ℕ) where
   visits_inside_none None = refl
   visits_inside_none (Some ask) = refl
 
+-- functions that agree give the same at each of four places
 pub each_same : (f g : Option Ask → ℕ) (asks : List Ask) → ((o : Option Ask) → f o ≡ g o) → each f asks ≡ each g asks
 each_same f g asks same =
     ap (λ (n : ℕ). n ∷ f (slice_get asks 1) ∷ f (slice_get asks 2) ∷ f (slice_get asks 3) ∷ []) (same (slice_get asks 0))

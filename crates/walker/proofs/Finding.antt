@@ -10,11 +10,13 @@ use Rattle.walker.specs.Asked.{each, asked_value, is_inside, visits_inside}
 use Rattle.walker.specs.Binned.{first_bins, plan_bin, visits_binned}
 use Rattle.walker.proofs.Asking.{each_is_four}
 
+-- the values of a plan, in four places
 values_are_four : (job : Job) (plan : List ℕ) (asks : List Ask)
     → four_values (map (λ ask. plan_value job plan ask.score) asks) ≡ each (asked_value job plan) asks
 unfolding asked_value
 values_are_four job plan asks = each_is_four (asked_value job plan) asks refl
 
+-- the tail counts of a walk, in four places
 counts_are_four : (job : Job) (draws : ℕ → ℕ) (steps : ℕ) (asks : List Ask)
     → four_values (map (λ ask. pos (visits_in_tail job draws steps ask)) asks) ≡ each (λ o. pos (visits_inside job draws (steps + 1) o)) asks
 unfolding visits_inside is_inside
@@ -32,6 +34,7 @@ four_signed counts = pos (get_or counts 0 0) ∷ pos (get_or counts 1 0) ∷ pos
 abbrev with_bins : Outcome → List ℕ → Outcome
 with_bins o bins = record o { bins = bins }
 
+-- what a walk along a stream counts is its outcome
 pub run_found : (job : Job) (draws : Draws) (stream steps moved : ℕ) (counts bins its : List ℕ) (values : List ℤ)
     → moved ≡ moves job (draws stream) job.start steps
     → counts ≡ each (visits_inside job (draws stream) (steps + 1)) job.setting.asks → values ≡ four_signed counts → bins ≡ its
@@ -46,6 +49,7 @@ run_found job draws stream steps moved counts bins its values m c v b =
 abbrev run_with : Bool → Job → Draws → ℕ → ℕ → Outcome
 run_with shift job draws stream steps = with_bins (run_outcome job draws stream steps) (first_bins shift job (draws stream) (steps + 1))
 
+-- the bins of the visited plans are those of the definition
 bins_are_those : (shift : Bool) (job : Job) (draws : ℕ → ℕ) → first_bins shift job draws (job.setting.steps + 1) ≡ bins_by shift job draws
 unfolding visits_binned plan_bin
 bins_are_those true job draws = refl
@@ -62,6 +66,7 @@ walk_found job draws id stream steps shift walk s t b w =
     ∙ ap (λ (c : Bool). run_with c job draws (2 * id) job.setting.steps) b)
     ∙ ap (λ (xs : List ℕ). under id (with_bins (run_outcome job draws (2 * id) job.setting.steps) xs)) (bins_are_those job.setting.shift job (draws (2 * id)))
 
+-- what a walk from the hub ends with is the outcome of its id
 pub end_found : (job : Job) (draws : Draws) (id stream moved : ℕ) (from : List ℕ) (state : Held) (asks : List Ask) (values : List ℤ)
     → stream ≡ 2 * (id - job.setting.walks) + 3 → from ≡ hub job draws
     → moved ≡ moves job (draws stream) from job.setting.hub_steps → state.job ≡ job

@@ -10,17 +10,19 @@ use Rattle.audit_model.specs.Below.{count_below, map_below}
 use Rattle.audit_model.specs.Job.{Job}
 use Rattle.audit_model.specs.Step.{next}
 use Rattle.audit_model.specs.Trajectory.{no_bins, plan_seats, visit}
-use Rattle.model_laws.proofs.Below.{count_below_le, length-map_below, get_or-map_below}
+use Rattle.audit_model.proofs.Below.{count_below_le, length-map_below, get_or-map_below}
 use Rattle.chacha_draws.specs.DrawPlace.{DrawPlace}
-use Rattle.draw_definitions.specs.Draw.{draw}
+use Rattle.audit_statement.specs.Draw.{draw}
 use Rattle.walker.specs.Asked.{each, asked_value, four_more, inside, visits_inside}
 use Rattle.walker.specs.Binned.{first_bins, plan_bin, visits_binned}
+use Rattle.walker.specs.Track.{IsOnTrack}
 use Rattle.walker.specs.Trail.{IsCounted, IsTested, IsTrail}
 use Rattle.walker.specs.declared.trail.Trail.{Trail}
 use Rattle.walker.proofs.Asking.{each_same, visits_inside_le, visits_inside_none}
 use Rattle.walker.proofs.Stepping.{moves_le, moves_more, moves_none, visit_more, visit_none}
 use Rattle.walker.proofs.Still.{inside_still, binned_still}
 
+-- no more plans are in a bin than are visited
 visits_binned_le : (job : Job) (draws : ℕ → ℕ) (visits bin : ℕ) → visits_binned job draws visits bin ≤ visits
 unfolding visits_binned
 visits_binned_le job draws visits bin = count_below_le visits (λ i. eqb (plan_bin job (visit job draws job.start i)) bin)
@@ -210,3 +212,14 @@ pub arrived : (job : Job) (key : List ℕ) (stream place steps : ℕ) (d : DrawP
 arrived job key stream place steps d t k s e trail =
     subst (λ (n : ℕ). IsTrail job (draw key stream) n t) e
     (subst (λ (n : ℕ). IsTrail job (draw key n) place t) s (subst (λ (n : List ℕ). IsTrail job (draw n d.stream) place t) k trail))
+
+-- one step on, by the draw after
+pub on_track : (job : Job) (plan : List ℕ) (place : ℕ) (before after : DrawPlace) (t : Trail) → before.place ≡ place
+    → after ≡ record { key = before.key; stream = before.stream; place = before.place + 1 }
+    → plan ≡ visit job (draw before.key before.stream) job.start (place + 1) → IsTrail job (draw before.key before.stream) (place + 1) t
+    → IsOnTrack job plan (place + 1) (record { draws = after; trail = t })
+on_track job plan place before after t here drawn visited trail = record {
+  at = ap (λ (d : DrawPlace). d.place) drawn ∙ ap (λ (n : ℕ). n + 1) here;
+  visited = subst (λ (d : DrawPlace). plan ≡ visit job (draw d.key d.stream) job.start (place + 1)) (sym drawn) visited;
+  trail = subst (λ (d : DrawPlace). IsTrail job (draw d.key d.stream) (place + 1) t) (sym drawn) trail;
+}

@@ -5,12 +5,13 @@ use Rattle.audit_model.specs.Below.{count_below}
 use Rattle.audit_model.specs.Job.{Job}
 use Rattle.audit_model.specs.Step.{next}
 use Rattle.audit_model.specs.Trajectory.{visit, moves}
-use Rattle.model_laws.proofs.Below.{count_below_le}
-use Rattle.draw_definitions.specs.Draw.{draw}
+use Rattle.audit_model.proofs.Below.{count_below_le}
+use Rattle.audit_statement.specs.Draw.{draw}
 use mir.Val.{bool_byte}
 use Rattle.chacha_draws.specs.DrawPlace.{DrawPlace}
 use Rattle.flip_kernel.specs.Held.{Held}
 
+-- a count over one number more
 pub count_below_more : (n : ℕ) (test : ℕ → Bool) → count_below (n + 1) test ≡ count_below n test + cond (test n) 1 0
 unfolding count_below
 count_below_more n test = rw (add-one n) refl
@@ -46,6 +47,7 @@ pub record IsWalked (job : Job) (key : List ℕ) (stream : ℕ) (plan : List ℕ
   pub same_place : draws.place ≡ steps
   pub counted : moved ≡ moves job (draw key stream) plan steps
 
+-- before the first step the plan is visited
 pub walked_none : (job : Job) (key : List ℕ) (stream : ℕ) (plan : List ℕ) (state : Held) (draws : DrawPlace) → state.job ≡ job → state.plan ≡ plan
     → draws.key ≡ key → draws.stream ≡ stream → draws.place ≡ 0 → IsWalked job key stream plan 0 state draws 0
 walked_none job key stream plan state draws made at k s first = record {
@@ -62,6 +64,7 @@ pub byte_cond : (b : Bool) → bool_byte b ≡ cond b 1 0
 byte_cond true = refl
 byte_cond false = refl
 
+-- and it is at most one
 pub byte_le : (b : Bool) → bool_byte b ≤ 1
 byte_le true = omega arith
 byte_le false = omega arith

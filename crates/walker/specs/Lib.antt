@@ -1,5 +1,5 @@
 pub mod Asked
 pub mod Binned
 pub mod Judges
-pub mod Seated
+pub mod Track
 pub mod Trail

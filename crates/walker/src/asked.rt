@@ -2,11 +2,8 @@
 
 ghost use Rattle.std.specs.Prelude.{◌≡◌, ◌+◌, ◌*◌, ◌<◌, ◌^◌, ◌∷◌, [], length, slice_index, ℕ, pos};
 ghost use Rattle.std.specs.List.{slice_get};
-ghost use Rattle.audit_model.specs.JobOf.{IsJob};
 ghost use Rattle.audit_model.specs.Trajectory.{plan_value};
-ghost use Rattle.flip_kernel.specs.Judged.{held_of};
 ghost use Rattle.walker.specs.Asked.{each, asked_value, four_more, inside};
-ghost use Rattle.audit_model.specs.Limits.{most_districts};
 
 use audit_model::setting::{Ask, Score};
 use flip_guard::judge::Judge;
@@ -23,10 +20,8 @@ pub struct Tally {
 }
 
 /// The value of each ask for the held plan.
-pub fn values<J: Judge>(state: &State<J>, asks: &[Ask], room: &mut [u64]) -> [i64; 4]
-    requires sound { IsJob (held_of state.now).job }
-    requires room { length room.old ≡ most_districts }
-    ensures { result ≡ each (asked_value (held_of state.now).job (held_of state.now).plan) asks.now }
+pub fn values<J: Judge>(state: &State<J>, asks: &[Ask], room: &mut [u64; 200]) -> [i64; 4]
+    ensures { result ≡ each (asked_value state.now.job state.now.plan) asks.now }
 {
     [
         value_at(state, asks, 0, room),
@@ -50,12 +45,10 @@ pub fn signed(counts: [u32; 4]) -> [i64; 4]
 
 impl Tally {
     /// A tally that has tested the start plan, which is held, and counted none.
-    pub fn new<J: Judge>(state: &State<J>, asks: &[Ask], room: &mut [u64]) -> Tally
-        requires sound { IsJob (held_of state.now).job }
-        requires room { length room.old ≡ most_districts }
-        requires start { (held_of state.now).plan ≡ (held_of state.now).job.start }
-        ensures start { result.start ≡ each (asked_value (held_of state.now).job (held_of state.now).job.start) asks.now }
-        ensures inside { result.inside ≡ each (inside (held_of state.now).job (held_of state.now).plan) asks.now }
+    pub fn new<J: Judge>(state: &State<J>, asks: &[Ask], room: &mut [u64; 200]) -> Tally
+        requires start { state.now.plan ≡ state.now.job.start }
+        ensures start { result.start ≡ each (asked_value state.now.job state.now.job.start) asks.now }
+        ensures inside { result.inside ≡ each (inside state.now.job state.now.plan) asks.now }
         ensures counts { result.counts ≡ (0 ∷ 0 ∷ 0 ∷ 0 ∷ []) }
     {
         let start = values(state, asks, room);
@@ -69,12 +62,10 @@ impl Tally {
     }
 
     /// Tests the plan that is held now.
-    pub fn renew<J: Judge>(&mut self, state: &State<J>, asks: &[Ask], room: &mut [u64])
-        requires sound { IsJob (held_of state.now).job }
-        requires room { length room.old ≡ most_districts }
-        requires start { self.old.start ≡ each (asked_value (held_of state.now).job (held_of state.now).job.start) asks.now }
+    pub fn renew<J: Judge>(&mut self, state: &State<J>, asks: &[Ask], room: &mut [u64; 200])
+        requires start { self.old.start ≡ each (asked_value state.now.job state.now.job.start) asks.now }
         ensures start { self.new.start ≡ self.old.start }
-        ensures inside { self.new.inside ≡ each (inside (held_of state.now).job (held_of state.now).plan) asks.now }
+        ensures inside { self.new.inside ≡ each (inside state.now.job state.now.plan) asks.now }
         ensures counts { self.new.counts ≡ self.old.counts }
     {
         self.inside = [
@@ -102,22 +93,18 @@ impl Tally {
 }
 
 /// The numerator of a score of the held plan.
-fn held_value<J: Judge>(state: &State<J>, score: Score, room: &mut [u64]) -> i64
-    requires sound { IsJob (held_of state.now).job }
-    requires room { length room.old ≡ most_districts }
-    ensures { result ≡ plan_value (held_of state.now).job (held_of state.now).plan score }
+fn held_value<J: Judge>(state: &State<J>, score: Score, room: &mut [u64; 200]) -> i64
+    ensures { result ≡ plan_value state.now.job state.now.plan score }
 {
-    // Called for what its contract says: the plan is legal.
+    // Called for what its contract says: the job is within its limits, and the plan is legal.
     let _plan = state.plan();
     value(score, state.view(), room)
 }
 
 /// The value of the ask at a place for the held plan.
 #[tactic(auto, unfolding(crate::specs::Asked::asked_value))]
-fn value_at<J: Judge>(state: &State<J>, asks: &[Ask], place: usize, room: &mut [u64]) -> i64
-    requires sound { IsJob (held_of state.now).job }
-    requires room { length room.old ≡ most_districts }
-    ensures { result ≡ asked_value (held_of state.now).job (held_of state.now).plan (slice_get asks.now place) }
+fn value_at<J: Judge>(state: &State<J>, asks: &[Ask], place: usize, room: &mut [u64; 200]) -> i64
+    ensures { result ≡ asked_value state.now.job state.now.plan (slice_get asks.now place) }
 {
     match asks.get(place) {
         None => 0,
@@ -132,12 +119,10 @@ fn inside_at<J: Judge>(
     asks: &[Ask],
     place: usize,
     start: i64,
-    room: &mut [u64],
+    room: &mut [u64; 200],
 ) -> u32
-    requires sound { IsJob (held_of state.now).job }
-    requires room { length room.old ≡ most_districts }
-    requires start { start ≡ asked_value (held_of state.now).job (held_of state.now).job.start (slice_get asks.now place) }
-    ensures { result ≡ inside (held_of state.now).job (held_of state.now).plan (slice_get asks.now place) }
+    requires start { start ≡ asked_value state.now.job state.now.job.start (slice_get asks.now place) }
+    ensures { result ≡ inside state.now.job state.now.plan (slice_get asks.now place) }
 {
     match asks.get(place) {
         None => 0,

@@ -1,12 +1,9 @@
 //! How many of the visited plans are in each bin, by their seats against the start plan's.
 
 ghost use Rattle.std.specs.Prelude.{◌≡◌, ℕ, ◌+◌, ◌*◌, ◌<◌, ◌^◌, ◌==◌, cond, length, slice_index, IsTrue, IsFalse};
-ghost use Rattle.audit_model.specs.JobOf.{IsJob};
 ghost use Rattle.audit_model.specs.Trajectory.{no_bins, plan_seats};
 ghost use Rattle.audit_model.specs.Trajectory as definition;
-ghost use Rattle.flip_kernel.specs.Judged.{held_of};
 ghost use Rattle.walker.specs.Binned.{plan_bin};
-ghost use Rattle.audit_model.specs.Limits.{most_districts};
 
 use audit_model::setting::Score;
 use flip_guard::judge::Judge;
@@ -25,13 +22,11 @@ pub struct Bins {
 
 impl Bins {
     /// The bins of no plan, where the start plan is held.
-    pub fn new<J: Judge>(asked: bool, state: &State<J>, room: &mut [u64]) -> Bins
-        requires sound { IsJob (held_of state.now).job }
-        requires room { length room.old ≡ most_districts }
-        requires start { (held_of state.now).plan ≡ (held_of state.now).job.start }
+    pub fn new<J: Judge>(asked: bool, state: &State<J>, room: &mut [u64; 200]) -> Bins
+        requires start { state.now.plan ≡ state.now.job.start }
         ensures asked { result.asked ≡ asked }
-        ensures start { IsTrue asked → result.start ≡ plan_seats (held_of state.now).job (held_of state.now).job.start }
-        ensures bin { IsTrue asked → result.bin ≡ plan_bin (held_of state.now).job (held_of state.now).plan }
+        ensures start { IsTrue asked → result.start ≡ plan_seats state.now.job state.now.job.start }
+        ensures bin { IsTrue asked → result.bin ≡ plan_bin state.now.job state.now.plan }
         ensures small { result.bin < 9 }
         ensures counts { result.counts ≡ no_bins }
     {
@@ -45,14 +40,12 @@ impl Bins {
     }
 
     /// Takes the bin of the plan that is held now.
-    pub fn renew<J: Judge>(&mut self, state: &State<J>, room: &mut [u64])
-        requires sound { IsJob (held_of state.now).job }
-        requires room { length room.old ≡ most_districts }
-        requires start { IsTrue self.old.asked → self.old.start ≡ plan_seats (held_of state.now).job (held_of state.now).job.start }
+    pub fn renew<J: Judge>(&mut self, state: &State<J>, room: &mut [u64; 200])
+        requires start { IsTrue self.old.asked → self.old.start ≡ plan_seats state.now.job state.now.job.start }
         requires small { self.old.bin < 9 }
         ensures asked { self.new.asked ≡ self.old.asked }
         ensures start { self.new.start ≡ self.old.start }
-        ensures bin { IsTrue self.old.asked → self.new.bin ≡ plan_bin (held_of state.now).job (held_of state.now).plan }
+        ensures bin { IsTrue self.old.asked → self.new.bin ≡ plan_bin state.now.job state.now.plan }
         ensures small { self.new.bin < 9 }
         ensures counts { self.new.counts ≡ self.old.counts }
     {
@@ -80,13 +73,11 @@ impl Bins {
 }
 
 /// The seats of the held plan.
-fn held_seats<J: Judge>(state: &State<J>, room: &mut [u64]) -> u64
-    requires sound { IsJob (held_of state.now).job }
-    requires room { length room.old ≡ most_districts }
-    ensures seats { result ≡ plan_seats (held_of state.now).job (held_of state.now).plan }
+fn held_seats<J: Judge>(state: &State<J>, room: &mut [u64; 200]) -> u64
+    ensures seats { result ≡ plan_seats state.now.job state.now.plan }
     ensures small { result < 2 ^ 63 }
 {
-    // Called for what its contract says: the plan is legal.
+    // Called for what its contract says: the job is within its limits, and the plan is legal.
     let _plan = state.plan();
     value(Score::Seats, state.view(), room) as u64
 }

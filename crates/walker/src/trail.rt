@@ -2,12 +2,9 @@
 
 ghost use Rattle.std.specs.Prelude.{◌≡◌, ℕ, ◌+◌, ◌-◌, ◌*◌, ◌<◌, ◌≤◌, ◌^◌, IsTrue, List, length, slice_index};
 ghost use Rattle.audit_model.specs.Job.{Job};
-ghost use Rattle.audit_model.specs.JobOf.{IsJob};
 ghost use Rattle.audit_model.specs.Trajectory.{plan_seats};
-ghost use Rattle.flip_kernel.specs.Judged.{held_of};
 ghost use Rattle.walker.specs.Asked.{each, asked_value};
 ghost use Rattle.walker.specs.Trail.{IsCounted, IsTested, IsTrail};
-ghost use Rattle.audit_model.specs.Limits.{most_districts};
 
 use crate::asked::Tally;
 use crate::bins::Bins;
@@ -27,11 +24,9 @@ pub struct Trail {
 
 impl Trail {
     /// The trail at the start plan, which is held.
-    pub fn new<J: Judge>(job: &Job, state: &State<J>, shift: bool, room: &mut [u64]) -> Trail
-        requires made { (held_of state.now).job ≡ job.now }
-        requires sound { IsJob job.now }
-        requires room { length room.old ≡ most_districts }
-        requires start { (held_of state.now).plan ≡ job.now.start }
+    pub fn new<J: Judge>(job: &Job, state: &State<J>, shift: bool, room: &mut [u64; 200]) -> Trail
+        requires made { state.now.job ≡ job.now }
+        requires start { state.now.plan ≡ job.now.start }
         ensures asked { result.bins.asked ≡ shift }
         ensures trail { (draws : ℕ → ℕ) → IsTrail job.now draws 0 result }
     {
@@ -64,10 +59,8 @@ impl Trail {
     }
 
     /// Tests the plan that is held now, after a step that changed it.
-    pub fn renew<J: Judge>(&mut self, job: &Job, state: &State<J>, room: &mut [u64])
-        requires made { (held_of state.now).job ≡ job.now }
-        requires sound { IsJob job.now }
-        requires room { length room.old ≡ most_districts }
+    pub fn renew<J: Judge>(&mut self, job: &Job, state: &State<J>, room: &mut [u64; 200])
+        requires made { state.now.job ≡ job.now }
         requires few { self.old.moved < 10 ^ 9 }
         requires start { self.old.tally.start ≡ each (asked_value job.now job.now.start) job.now.setting.asks }
         requires seats { IsTrue self.old.bins.asked → self.old.bins.start ≡ plan_seats job.now job.now.start }
@@ -75,7 +68,7 @@ impl Trail {
         ensures moved { self.new.moved ≡ self.old.moved + 1 }
         ensures visits { self.new.visits ≡ self.old.visits }
         ensures asked { self.new.bins.asked ≡ self.old.bins.asked }
-        ensures tested { IsTested job.now (held_of state.now).plan self.new }
+        ensures tested { IsTested job.now state.now.plan self.new }
         ensures counted { (draws : ℕ → ℕ) (visits : ℕ) → IsCounted job.now draws visits self.old → IsCounted job.now draws visits self.new }
     {
         self.moved += 1;

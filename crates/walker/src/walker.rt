@@ -1,17 +1,15 @@
 //! The walker of a job.
 
 ghost use Rattle.std.specs.Prelude.{◌≡◌, ◌+◌, ◌-◌, ◌*◌, ◌<◌, ◌≤◌, ◌^◌, length, IfOk};
-ghost use Rattle.draw_definitions.specs.Draw.{draw};
+ghost use Rattle.audit_statement.specs.Draw.{draw};
 ghost use Rattle.audit_model.specs.Plan.{IsLegal};
 ghost use Rattle.audit_model.specs.Trajectory.{hub as hub_of, outcome, outcome_with, walk_outcome, end_outcome};
-ghost use Rattle.audit_model.specs.Job.{rules};
 ghost use Rattle.audit_model.specs.Serially.{run_outcome};
-ghost use Rattle.flip_kernel.specs.Judged.{TakesPlansOf};
+ghost use Rattle.flip_kernel.specs.Judged.{IsJudgeFor};
 ghost use Rattle.walker.specs.Binned.{first_bins};
-ghost use Rattle.walker.specs.Seated.{IsSeated, held_of};
 
 use crate::asked::{signed, values};
-use crate::steps::{count_visits, walk};
+use crate::steps::{Course, count_visits, walk};
 use audit_model::lists::UnitList;
 use audit_model::memory::Memory;
 use audit_model::outcome::Outcome;
@@ -20,26 +18,31 @@ use flip_guard::judge::Judge;
 use flip_kernel::state::State;
 use plan_core::job::Job;
 use std::alloc::Global;
-use std::marker::Brand;
+use std::marker::{Brand, Model};
 use std::sync::ledger::{Blank, Ledger};
 
 /// What walks the trajectories of a job. It holds a plan that is legal for the job, a judge that stands for it, and all memory that
 /// walking takes.
 #[derive(Drop)]
-pub struct Walker<J> {
+pub struct Walker<J: Judge> {
     state: State<J>,
     room: [u64; 200],
 }
 
+impl<J: Judge> Model for Walker<J> {
+    ghost use Rattle.flip_kernel.specs.Held.{Held};
+
+    ghost Value = { Held };
+
+    ghost view = { λ w. w.state };
+}
+
 impl<J: Judge> Walker<J> {
-    /// A walker that holds the job's start plan, and a judge that judges by the job's rules.
+    /// A walker that holds the job's start plan, and a judge for the job.
     pub fn new(alloc: Global, job: &Job, judge: J) -> Result<Walker<J>, Memory>
-        requires kept { J.keeps judge }
-        requires rules { J.rules judge ≡ rules job.now }
-        requires plans { TakesPlansOf job.now (J.takes judge) }
-        ensures job { IfOk result (λ w. (held_of w).job ≡ job.now) }
-        ensures plan { IfOk result (λ w. (held_of w).plan ≡ job.now.start) }
-        ensures seated { IfOk result (λ w. IsSeated job.now J.keeps J.stands J.takes J.rules w) }
+        requires judge { IsJudgeFor job.now (J.judging judge) }
+        ensures job { IfOk result (λ w. w.job ≡ job.now) }
+        ensures plan { IfOk result (λ w. w.plan ≡ job.now.start) }
     {
         Ok(Walker {
             state: State::new(alloc, job, judge)?,
@@ -49,8 +52,8 @@ impl<J: Judge> Walker<J> {
 
     /// The plan that is held.
     pub fn plan(&self) -> &UnitList
-        ensures value { result.now ≡ (held_of self.now).plan }
-        ensures legal { IsLegal (held_of self.now).job (held_of self.now).plan }
+        ensures value { result.now ≡ self.now.plan }
+        ensures legal { IsLegal self.now.job self.now.plan }
     {
         self.state.plan()
     }
@@ -58,13 +61,11 @@ impl<J: Judge> Walker<J> {
     /// Walks the trajectory with this id, and answers what it finds: one of the outlier test from the start
     /// plan, or one of the parallel test from the hub, which is read for no other. It takes no memory.
     pub fn walk(&mut self, job: &Job, hub: &[u32], id: u32) -> Outcome
-        requires made { (held_of self.old).job ≡ job.now }
-        requires seated { IsSeated job.now J.keeps J.stands J.takes J.rules self.old }
+        requires made { self.old.job ≡ job.now }
         requires id { id < job.now.setting.walks + job.now.setting.ends }
         requires hub { job.now.setting.walks ≤ id → hub.now ≡ hub_of job.now (draw job.now.setting.key) }
         ensures outcome { result ≡ outcome job.now (draw job.now.setting.key) id }
-        ensures made { (held_of self.new).job ≡ job.now }
-        ensures seated { IsSeated job.now J.keeps J.stands J.takes J.rules self.new }
+        ensures made { self.new.job ≡ job.now }
     {
         self.walk_by::<Brand>(job, hub, id, Blank::new(1))
     }
@@ -72,24 +73,20 @@ impl<J: Judge> Walker<J> {
     /// Walks so many steps from the start plan along a stream, and answers what it finds, without bins: the moves, and for each ask
     /// how many of the visited plans are in its tail, the start plan among them. The id is 0. It takes no memory.
     pub fn run(&mut self, job: &Job, stream: u64, steps: u32) -> Outcome
-        requires made { (held_of self.old).job ≡ job.now }
-        requires seated { IsSeated job.now J.keeps J.stands J.takes J.rules self.old }
+        requires made { self.old.job ≡ job.now }
         requires few { steps ≤ 10 ^ 9 }
         ensures outcome { result ≡ run_outcome job.now (draw job.now.setting.key) stream steps }
-        ensures made { (held_of self.new).job ≡ job.now }
-        ensures seated { IsSeated job.now J.keeps J.stands J.takes J.rules self.new }
+        ensures made { self.new.job ≡ job.now }
     {
         self.run_by::<Brand>(job, stream, steps, Blank::new(1))
     }
 
     /// Writes the plan from which the trajectories of the parallel test start. It takes no memory.
     pub fn hub_into(&mut self, job: &Job, hub: &mut [u32])
-        requires made { (held_of self.old).job ≡ job.now }
-        requires seated { IsSeated job.now J.keeps J.stands J.takes J.rules self.old }
+        requires made { self.old.job ≡ job.now }
         requires units { length hub.old ≡ job.now.graph.units }
         ensures hub { hub.new ≡ hub_of job.now (draw job.now.setting.key) }
-        ensures made { (held_of self.new).job ≡ job.now }
-        ensures seated { IsSeated job.now J.keeps J.stands J.takes J.rules self.new }
+        ensures made { self.new.job ≡ job.now }
     {
         self.walk_to_hub::<Brand>(job, Blank::new(1));
         hub.copy_from_slice(self.state.plan().as_slice());
@@ -100,12 +97,10 @@ impl<J: Judge> Walker<J> {
         requires name { blank.name ≡ L.name }
         requires parts { blank.parts ≡ L.parts }
         requires some { 0 < L.parts }
-        requires made { (held_of self.old).job ≡ job.now }
-        requires seated { IsSeated job.now J.keeps J.stands J.takes J.rules self.old }
+        requires made { self.old.job ≡ job.now }
         requires hub { job.now.setting.walks ≤ id → hub.now ≡ hub_of job.now (draw job.now.setting.key) }
         ensures outcome { result ≡ outcome_with job.now.setting.shift job.now (draw job.now.setting.key) id }
-        ensures made { (held_of self.new).job ≡ job.now }
-        ensures seated { IsSeated job.now J.keeps J.stands J.takes J.rules self.new }
+        ensures made { self.new.job ≡ job.now }
     {
         let mut counter: Steps<L> = Steps::new(blank);
         if id < job.setting().walks {
@@ -120,45 +115,36 @@ impl<J: Judge> Walker<J> {
         requires name { blank.name ≡ L.name }
         requires parts { blank.parts ≡ L.parts }
         requires some { 0 < L.parts }
-        requires made { (held_of self.old).job ≡ job.now }
-        requires seated { IsSeated job.now J.keeps J.stands J.takes J.rules self.old }
+        requires made { self.old.job ≡ job.now }
         requires few { steps ≤ 10 ^ 9 }
         ensures outcome { result ≡ run_outcome job.now (draw job.now.setting.key) stream steps }
-        ensures made { (held_of self.new).job ≡ job.now }
-        ensures seated { IsSeated job.now J.keeps J.stands J.takes J.rules self.new }
+        ensures made { self.new.job ≡ job.now }
     {
         let mut counter: Steps<L> = Steps::new(blank);
-        self.walk_along(job, stream, steps, false, &mut counter)
+        let course = Course {
+            stream,
+            steps,
+            shift: false,
+        };
+        self.walk_along(job, course, &mut counter)
     }
 
     // A walk from the start plan, which counts bins where they are asked for. The id is 0.
     fn walk_along<L: Ledger>(
         &mut self,
         job: &Job,
-        stream: u64,
-        steps: u32,
-        shift: bool,
+        course: Course,
         counter: &mut Steps<L>,
     ) -> Outcome
-        requires made { (held_of self.old).job ≡ job.now }
-        requires seated { IsSeated job.now J.keeps J.stands J.takes J.rules self.old }
-        requires few { steps ≤ 10 ^ 9 }
-        ensures outcome { result ≡ record (run_outcome job.now (draw job.now.setting.key) stream steps) {
-          bins = first_bins shift job.now (draw job.now.setting.key stream) (steps + 1);
+        requires made { self.old.job ≡ job.now }
+        requires few { course.steps ≤ 10 ^ 9 }
+        ensures outcome { result ≡ record (run_outcome job.now (draw job.now.setting.key) course.stream course.steps) {
+          bins = first_bins course.shift job.now (draw job.now.setting.key course.stream) (course.steps + 1);
         } }
-        ensures made { (held_of self.new).job ≡ job.now }
-        ensures seated { IsSeated job.now J.keeps J.stands J.takes J.rules self.new }
+        ensures made { self.new.job ≡ job.now }
     {
         self.state.set(job, job.start().as_slice());
-        let found = count_visits(
-            job,
-            &mut self.state,
-            stream,
-            steps,
-            shift,
-            &mut self.room,
-            counter,
-        );
+        let found = count_visits(job, &mut self.state, course, &mut self.room, counter);
         let bins = found.bins.counts;
         Outcome {
             id: 0,
@@ -170,17 +156,20 @@ impl<J: Judge> Walker<J> {
 
     // A trajectory of the outlier test.
     fn walk_from_start<L: Ledger>(&mut self, job: &Job, id: u32, counter: &mut Steps<L>) -> Outcome
-        requires made { (held_of self.old).job ≡ job.now }
-        requires seated { IsSeated job.now J.keeps J.stands J.takes J.rules self.old }
+        requires made { self.old.job ≡ job.now }
         ensures outcome { result ≡ walk_outcome job.now.setting.shift job.now (draw job.now.setting.key) id }
-        ensures made { (held_of self.new).job ≡ job.now }
-        ensures seated { IsSeated job.now J.keeps J.stands J.takes J.rules self.new }
+        ensures made { self.new.job ≡ job.now }
     {
         // Called for what its contract says: the job is within its limits, and its start plan is legal.
         let _units = job.units();
         let setting = job.setting();
         let stream = 2 * u64::from(id);
-        let mut found = self.walk_along(job, stream, setting.steps, setting.shift, counter);
+        let course = Course {
+            stream,
+            steps: setting.steps,
+            shift: setting.shift,
+        };
+        let mut found = self.walk_along(job, course, counter);
         found.id = id;
         found
     }
@@ -193,13 +182,11 @@ impl<J: Judge> Walker<J> {
         id: u32,
         counter: &mut Steps<L>,
     ) -> Outcome
-        requires made { (held_of self.old).job ≡ job.now }
-        requires seated { IsSeated job.now J.keeps J.stands J.takes J.rules self.old }
+        requires made { self.old.job ≡ job.now }
         requires id { job.now.setting.walks ≤ id }
         requires hub { hub.now ≡ hub_of job.now (draw job.now.setting.key) }
         ensures outcome { result ≡ end_outcome job.now (draw job.now.setting.key) id }
-        ensures made { (held_of self.new).job ≡ job.now }
-        ensures seated { IsSeated job.now J.keeps J.stands J.takes J.rules self.new }
+        ensures made { self.new.job ≡ job.now }
     {
         // Called for what its contract says: the job is within its limits, and its start plan is legal.
         let _units = job.units();
@@ -220,10 +207,8 @@ impl<J: Judge> Walker<J> {
         requires name { blank.name ≡ L.name }
         requires parts { blank.parts ≡ L.parts }
         requires some { 0 < L.parts }
-        requires made { (held_of self.old).job ≡ job.now }
-        requires seated { IsSeated job.now J.keeps J.stands J.takes J.rules self.old }
-        ensures held { held_of self.new ≡ record (held_of self.old) { plan = hub_of job.now (draw job.now.setting.key) } }
-        ensures seated { IsSeated job.now J.keeps J.stands J.takes J.rules self.new }
+        requires made { self.old.job ≡ job.now }
+        ensures held { self.new ≡ record self.old { plan = hub_of job.now (draw job.now.setting.key) } }
     {
         let mut counter: Steps<L> = Steps::new(blank);
         self.state.set(job, job.start().as_slice());

@@ -1,7 +1,7 @@
 use Rattle.std.proofs.Common.{◌-◌, ◌*◌, ◌/◌, ◌^◌, subst, sym}
 use Rattle.std.specs.Prelude.{nat_le}
 use Rattle.audit_model.specs.Least.{IsLeast}
-use Rattle.model_laws.proofs.Least.{bound_is_least}
+use Rattle.audit_model.proofs.Least.{bound_is_least}
 use Rattle.outlier_tests.proofs.bound.Goals as goal
 use Rattle.outlier_tests.proofs.Roots.{bound_from_root}
 

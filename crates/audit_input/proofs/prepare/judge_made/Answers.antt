@@ -1,7 +1,7 @@
 use Rattle.std.proofs.Common.{List, [], ℕ, ap}
-use Rattle.draw_definitions.specs.Grid.{grid}
+use Rattle.audit_statement.specs.Grid.{grid}
 use Rattle.dual_graph.specs.Read.{parsed_of}
-use Rattle.audit_statement.specs.Accepted.{regions_by}
+use Rattle.audit_statement.specs.Regions.{regions_by}
 use Rattle.audit_input.proofs.Judging.{is_judged, judged_plan_end, no_regions, within_limits}
 use Rattle.audit_input.proofs.prepare.judge_made.Goals as goal
 

@@ -1,8 +1,8 @@
 use Rattle.std.proofs.Common.{Ok, sym, subst, ◌≡◌}
 use Rattle.audit_model.specs.declared.setting.Columns.{Columns}
-use Rattle.draw_definitions.specs.Grid.{grid}
+use Rattle.audit_statement.specs.Grid.{grid}
 use Rattle.dual_graph.specs.Read.{parsed_of}
-use Rattle.graph_definitions.specs.Reading.{reading}
+use Rattle.audit_statement.specs.Reading.{reading}
 use Rattle.audit_input.proofs.prepare.prepare_grid.Goals as goal
 
 pub judge_made-requires-clause-read : goal.judge_made-requires-clause-read

@@ -1,8 +1,8 @@
 use Rattle.std.proofs.Common.{◌≡◌, ◌∙◌, ◌&&◌, sym, ap, subst, not, take, arith}
 use Rattle.audit_model.specs.Below.{filter_below}
 use Rattle.audit_model.specs.Run.{total, has_id, is_in_part}
-use Rattle.claim_crew.specs.Walks.{IsTodo}
-use Rattle.audit_steps.proofs.Listing.{run_ids_fit}
+use Rattle.claim_counter.specs.Walks.{IsTodo}
+use Rattle.audit_laws.proofs.Listing.{run_ids_fit}
 use Rattle.audit_walks.proofs.todo.todo_of.Goals as goal
 
 pub returns-clause-todo : goal.returns-clause-todo

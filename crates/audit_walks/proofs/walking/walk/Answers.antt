@@ -1,13 +1,9 @@
-use Rattle.std.proofs.Common.{◌∙◌, refl, sym, subst}
-use Rattle.claim_crew.specs.Walks.{IsWithin}
-use Rattle.audit_steps.proofs.Running.{are_all}
+use Rattle.std.proofs.Common.{length, subst}
+use Rattle.audit_walks.specs.Means.{AreWorkersFor}
 use Rattle.audit_walks.proofs.walking.walk.Goals as goal
 
-pub returns : goal.returns
-returns g c = record {
-  all = are_all c.args.job.now c.requires.run c.args.ready.book.outcomes c.args.ready.book.outcomes c.as_slice.result.now c.walk_run.new.out.items
-      refl c.requires.fit (c.as_slice.ensures ∙ c.requires.ready.ids) (subst (IsWithin c.args.job.now) (sym c.as_slice.ensures) c.requires.ready.todo.within)
-      c.walk_run.ensures.full c.walk_run.ensures.all c.walk_run.ensures.rising;
-  blank = c.requires.ready.blank;
-  report_room = c.requires.ready.report_room;
-}
+pub walk_all-requires-clause-workers : goal.walk_all-requires-clause-workers
+walk_all-requires-clause-workers g c κs within = subst (AreWorkersFor c.args.job.now (length c.args.ready.todo)) c.in-All.is c.requires.workers
+
+pub walk_early-requires-clause-workers : goal.walk_early-requires-clause-workers
+walk_early-requires-clause-workers g c κs within = subst (AreWorkersFor c.args.job.now (length c.args.ready.todo)) c.in-Early.is c.requires.workers

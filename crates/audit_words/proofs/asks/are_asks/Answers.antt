@@ -2,8 +2,8 @@ use Rattle.std.proofs.Common.{◌≡◌, ◌∙◌, ◌+◌, ◌-◌, ap, arith,
 use Rattle.std.proofs.lemmas.Str.Pattern.{split_once_first, split_parts}
 use Rattle.std.specs.Prelude.{bytes_eq, is_some}
 use Rattle.std.specs.List.{list_any}
-use Rattle.model_laws.proofs.Options.{none_from}
-use Rattle.word_definitions.specs.Words.{ask_of, parts_between}
+use Rattle.audit_model.proofs.Options.{none_from}
+use Rattle.audit_statement.specs.Words.{ask_of, parts_between}
 use Rattle.audit_words.proofs.Parting.{are_within, are_within-bad, are_within-full, are_within-last, are_within-more, are_within-twice, parts_between-first, parts_between-whole}
 use Rattle.audit_words.proofs.asks.are_asks.Goals as goal
 use Rattle.audit_words.proofs.asks.are_asks.Goals.{then-is_none-via-then-is_none, then-is_none-via-else-is_none+then-has_part}

@@ -1,7 +1,7 @@
 use Rattle.std.proofs.Common.{◌≡◌, ◌-◌}
 use denote.Shadow.{shadow}
 use denote.Text.{Utf8}
-use Rattle.word_definitions.specs.Words.{are_asks, parts_between}
+use Rattle.audit_statement.specs.Words.{are_asks, parts_between}
 use Rattle.audit_words.proofs.Parting.{are_within}
 use Rattle.audit_words.proofs.asks.are_asks.Given as goal
 

@@ -3,7 +3,7 @@ use Rattle.std.proofs.lemmas.List.{map-id}
 use Rattle.std.specs.List.{filter_map}
 use Rattle.std.proofs.lemmas.Iterator.Consumers.{YieldsList-at, YieldsList-from_filter_map, YieldsList-end}
 use Rattle.std.proofs.lemmas.Iterator.Splits.{YieldsList-from_str_split}
-use Rattle.word_definitions.specs.Words.{ask_of}
+use Rattle.audit_statement.specs.Words.{ask_of}
 use Rattle.audit_words.proofs.Parting.{parts_between-split}
 use Rattle.audit_words.proofs.asks.asks_of.Goals as goal
 

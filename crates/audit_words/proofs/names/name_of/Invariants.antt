@@ -1,6 +1,6 @@
 use Rattle.std.proofs.Common.{◌≡◌, drop, find, bytes_eq}
 use Rattle.audit_model.specs.Names.{name_text}
-use Rattle.word_definitions.specs.Words as definition
+use Rattle.audit_statement.specs.Words as definition
 use Rattle.audit_words.proofs.names.name_of.Given as goal
 
 abbrev pub invariant-loop-name : goal.invariant-loop-name

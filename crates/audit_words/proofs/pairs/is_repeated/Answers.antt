@@ -1,11 +1,11 @@
 use Rattle.std.proofs.Common.{◌≡◌, true, sym, bytes_eq, arith}
 use Rattle.audit_model.specs.declared.setting.Command.TheVariants as command
-use Rattle.model_laws.proofs.Below.{any_below_from}
+use Rattle.audit_model.proofs.Below.{any_below_from}
 use Rattle.audit_words.specs.Spoken.{pairs_in}
-use Rattle.word_definitions.specs.Words as definition
+use Rattle.audit_statement.specs.Words as definition
 use Rattle.audit_words.proofs.pairs.is_repeated.Goals as goal
 
 pub returns-then-eq : goal.returns-then-eq
 returns-then-eq c =
-    let same : bytes_eq (definition.pair_at command.Check (pairs_in c.args.words.now) c.loop-j.j).0 (definition.pair_at command.Check (pairs_in c.args.words.now) c.args.place).0 ≡ true = cc in
-    sym (any_below_from c.args.place (λ j. bytes_eq (definition.pair_at command.Check (pairs_in c.args.words.now) j).0 (definition.pair_at command.Check (pairs_in c.args.words.now) c.args.place).0) c.loop-j.j (omega arith) same)
+    let same : bytes_eq (definition.word_pair command.Check (pairs_in c.args.words.now) c.loop-j.j).0 (definition.word_pair command.Check (pairs_in c.args.words.now) c.args.place).0 ≡ true = cc in
+    sym (any_below_from c.args.place (λ j. bytes_eq (definition.word_pair command.Check (pairs_in c.args.words.now) j).0 (definition.word_pair command.Check (pairs_in c.args.words.now) c.args.place).0) c.loop-j.j (omega arith) same)

@@ -2,7 +2,7 @@ use Rattle.std.proofs.Common.{◌≡◌, ◌∙◌, ℕ, List, arith, refl}
 use Rattle.audit_model.specs.declared.fault.Name.{Name}
 use Rattle.audit_model.specs.declared.fault.Name.TheVariants as name
 use Rattle.audit_model.specs.declared.setting.Command.TheVariants as command
-use Rattle.word_definitions.specs.Words as definition
+use Rattle.audit_statement.specs.Words as definition
 use Rattle.audit_words.specs.Spoken.{pairs_in}
 use Rattle.audit_words.proofs.Goodness.{number-bounds, split-bounds}
 use Rattle.audit_words.proofs.settings.check_setting.Goals as goal
@@ -10,7 +10,7 @@ use Rattle.audit_words.proofs.settings.check_setting.Goals as goal
 pub returns : goal.returns
 returns c =
     let text : Name → List ℕ = definition.text_of command.Check (pairs_in c.args.words.now) in
-    let number : Name → ℕ = definition.number_at command.Check (pairs_in c.args.words.now) in
+    let number : Name → ℕ = definition.number_named command.Check (pairs_in c.args.words.now) in
     let slack : c.number_at.result ≡ number name.Slack = c.number_at.ensures (omega (arith, (number-bounds 0 10000 (text name.Slack) c.requires.slack).1)) in
     let max_cut : c.number_at-2.result ≡ number name.MaxCut = c.number_at-2.ensures (omega (arith, (number-bounds 0 400000 (text name.MaxCut) c.requires.max_cut).1)) in
     let region : c.in_ok-copied.field-0 ≡ text name.Region = c.in_ok-copied.ensures ∙ c.text_of.ensures in

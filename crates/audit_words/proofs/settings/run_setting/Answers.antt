@@ -7,7 +7,7 @@ use Rattle.hex.specs.Hex.{decode_sized}
 use Rattle.audit_model.specs.declared.fault.Name.{Name}
 use Rattle.audit_model.specs.declared.fault.Name.TheVariants as name
 use Rattle.audit_model.specs.declared.setting.Command.TheVariants as command
-use Rattle.word_definitions.specs.Words as definition
+use Rattle.audit_statement.specs.Words as definition
 use Rattle.audit_words.specs.Spoken.{pairs_in}
 use Rattle.audit_words.proofs.Goodness.{asks_of-good, number-bounds}
 use Rattle.audit_words.proofs.settings.run_setting.Goals as goal
@@ -15,7 +15,7 @@ use Rattle.audit_words.proofs.settings.run_setting.Goals as goal
 pub returns : goal.returns
 returns c =
     let text : Name → List ℕ = definition.text_of command.Check (pairs_in c.args.words.now) in
-    let number : Name → ℕ = definition.number_at command.Check (pairs_in c.args.words.now) in
+    let number : Name → ℕ = definition.number_named command.Check (pairs_in c.args.words.now) in
     let slack : c.number_at.result ≡ number name.Slack = c.number_at.ensures (omega (arith, (number-bounds 0 10000 (text name.Slack) c.requires.slack).1)) in
     let key : c.unwrap.result ≡ unwrap_or (result_ok (decode_sized (text name.Key) 32)) [] =
     ap (λ o. unwrap_or o []) (sym c.unwrap.ensures ∙ c.key_of.ensures ∙ ap (λ t. result_ok (decode_sized t 32)) c.text_of.ensures) in

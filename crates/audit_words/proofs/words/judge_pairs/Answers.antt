@@ -1,10 +1,10 @@
 use Rattle.std.proofs.Common.{◌≡◌, ◌+◌, subst, arith, None, inl, inr, length}
 use Rattle.std.proofs.lemmas.Result.{err_from_is_err_and}
 use Rattle.audit_model.specs.First.{first_some_below}
-use Rattle.model_laws.proofs.First.{first_some_below_found}
+use Rattle.audit_model.proofs.First.{first_some_below_found}
 use Rattle.audit_words.specs.Spoken.{pairs_in}
 use Rattle.audit_words.proofs.Finding.{first_some_below-none}
-use Rattle.word_definitions.specs.Words as definition
+use Rattle.audit_statement.specs.Words as definition
 use Rattle.audit_words.proofs.words.judge_pairs.Goals as goal
 
 pub returns-in_err-judge_pair : goal.returns-in_err-judge_pair

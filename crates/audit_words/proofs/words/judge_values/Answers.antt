@@ -3,7 +3,7 @@ use Rattle.audit_model.specs.declared.fault.Name.TheVariants.{Pop}
 use Rattle.audit_model.specs.declared.fault.WordFault.TheVariants.{BadValue, Memory}
 use Rattle.audit_words.specs.Judged.{RestsOnGood, fault_of_values}
 use Rattle.audit_words.specs.Spoken.{pairs_in}
-use Rattle.word_definitions.specs.Words.{is_good, names_of}
+use Rattle.audit_statement.specs.Words.{is_good, names_of}
 use Rattle.audit_words.proofs.Finding.{find-failing, find-no_failing}
 use Rattle.audit_words.proofs.Order.{RestsOnGood-behind}
 use Rattle.audit_words.proofs.words.judge_values.Goals as goal

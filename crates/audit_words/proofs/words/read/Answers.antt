@@ -6,7 +6,7 @@ use Rattle.audit_words.specs.Spoken.{spoken, pairs_in}
 use Rattle.audit_words.proofs.Accepted.{IsSetting-good}
 use Rattle.audit_words.proofs.Goodness.{AreReadable-good}
 use Rattle.audit_words.proofs.Reading.{spoken-empty, setting_of-no_words, setting_of-other_word, setting_of-command, refused_by_pairs, refused_by_names, refused_by_values, taken}
-use Rattle.word_definitions.specs.Words as definition
+use Rattle.audit_statement.specs.Words as definition
 use Rattle.audit_words.proofs.words.read.Goals as goal
 
 pub returns-in_default-clause-exact : goal.returns-in_default-clause-exact

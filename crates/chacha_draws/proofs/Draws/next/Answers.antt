@@ -1,6 +1,6 @@
 use Rattle.std.proofs.Common.{◌≡◌, ℕ, ◌+◌, ◌<◌, ◌^◌, ◌*◌, ◌%◌, List, ap, ◌∙◌, arith}
 use Rattle.std.proofs.Math.Nat.{mul_comm}
-use Rattle.draw_definitions.specs.Draw.{draw}
+use Rattle.audit_statement.specs.Draw.{draw}
 use Rattle.rand_chacha.specs.ChaCha.{ChaCha, word_at, key_of, next_word}
 use Rattle.rand_core.specs.Steps.{u64_via_u32}
 use Rattle.chacha_draws.specs.DrawPlace.{DrawPlace}

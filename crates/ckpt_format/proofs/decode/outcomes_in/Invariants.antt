@@ -1,6 +1,6 @@
 use Rattle.std.proofs.Common.{◌≡◌}
 use Rattle.audit_model.specs.Below.{map_below}
-use Rattle.checkpoint_definitions.specs.Slots.{outcome_in}
+use Rattle.audit_statement.specs.Slots.{outcome_in}
 use Rattle.ckpt_format.proofs.decode.outcomes_in.Given as goal
 
 abbrev pub invariant-loop-place : goal.invariant-loop-place

@@ -1,7 +1,7 @@
 use Rattle.std.proofs.Common.{◌≡◌, ◌<◌, ◌≤◌, ap, length, sym, subst, arith, ◌∙◌}
 use Rattle.audit_model.specs.Below.{map_below}
-use Rattle.checkpoint_definitions.specs.Checkpoint.{outcome_start}
-use Rattle.checkpoint_definitions.specs.Slots.{outcome_in, outcomes_in}
+use Rattle.audit_statement.specs.Checkpoint.{outcome_start}
+use Rattle.audit_statement.specs.Slots.{outcome_in, outcomes_in}
 use Rattle.ckpt_format.proofs.Faulting.{IsFaultless-from_none}
 use Rattle.ckpt_format.proofs.Whole.{read_as_checkpoint}
 use Rattle.ckpt_format.proofs.decode.read.Goals as goal

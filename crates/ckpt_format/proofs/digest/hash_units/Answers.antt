@@ -1,4 +1,4 @@
-use Rattle.checkpoint_definitions.specs.Checkpoint.{unit_bytes}
+use Rattle.audit_statement.specs.Checkpoint.{unit_bytes}
 use Rattle.ckpt_format.proofs.Hashing.{hashes_next, hashes_none}
 use Rattle.ckpt_format.proofs.digest.hash_units.Goals as goal
 

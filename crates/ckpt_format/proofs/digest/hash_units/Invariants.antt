@@ -1,6 +1,6 @@
 use Rattle.std.specs.List.{flat_map}
 use Rattle.audit_model.specs.Below.{map_below}
-use Rattle.checkpoint_definitions.specs.Checkpoint.{unit_bytes}
+use Rattle.audit_statement.specs.Checkpoint.{unit_bytes}
 use Rattle.ckpt_format.specs.Hashed.{Hashes}
 use Rattle.ckpt_format.proofs.digest.hash_units.Given as goal
 

@@ -2,7 +2,7 @@ use Rattle.std.proofs.Common.{◌≡◌, true, ap, ◌∙◌}
 use Rattle.audit_model.specs.declared.rules.Rules.{Rules}
 use Rattle.audit_model.specs.declared.setting.Setting.{Setting}
 use Rattle.audit_model.specs.Graph.{count_edges}
-use Rattle.checkpoint_definitions.specs.Checkpoint.{edge_bytes, has_rules, job_bytes, job_digest}
+use Rattle.audit_statement.specs.Checkpoint.{edge_bytes, has_rules, job_bytes, job_digest}
 use Rattle.ckpt_format.specs.Hashed.{counts_bytes, has_limits, limit_bytes, setting_bytes}
 use Rattle.ckpt_format.proofs.Hashing.{digest_of_parts, hashes_same}
 use Rattle.ckpt_format.proofs.digest.job_digest.Goals as goal

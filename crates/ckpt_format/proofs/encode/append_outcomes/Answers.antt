@@ -2,7 +2,7 @@ use Rattle.std.proofs.Common.{take, subst, arith}
 use Rattle.std.proofs.lemmas.List.{take_all}
 use Rattle.std.proofs.lemmas.List.Elements.{All-more, recursion_from_All}
 use Rattle.std.specs.List.{All}
-use Rattle.checkpoint_definitions.specs.Checkpoint.{IsOutcome, outcome_bytes, outcome_size}
+use Rattle.audit_statement.specs.Checkpoint.{IsOutcome, outcome_bytes, outcome_size}
 use Rattle.ckpt_format.proofs.Appending.{appends_more}
 use Rattle.ckpt_format.proofs.Sizes.{length-outcomes, room_for_next}
 use Rattle.ckpt_format.proofs.encode.append_outcomes.Goals as goal

@@ -5,7 +5,7 @@ use Rattle.std.proofs.lemmas.List.Elements.{All-more, recursion_from_All}
 use Rattle.std.specs.Prelude.{FitsSigned}
 use Rattle.std.specs.List.{All}
 use Rattle.std.specs.Int.{to_be_bytes, cast_unsigned}
-use Rattle.ckpt_format.specs.Written.{Appends}
+use Rattle.ckpt_format.specs.Written.{AppendsBytes}
 use Rattle.ckpt_format.proofs.Appending.{appends_more}
 use Rattle.ckpt_format.proofs.Sizes.{length-even_pieces, room_for_next}
 use Rattle.ckpt_format.proofs.encode.append_values.Goals as goal
@@ -23,9 +23,9 @@ loop-value-preserved c =
     let i = c.loop-value.value-index in
     let v : ℤ = get_or values i (pos 0) in
     let fits : SFits w64 v = search rules in
-    let appended : Appends c.loop-value.out c.append_i64.new.out (to_be_bytes w64 (cast_unsigned w64 (to_z w64 (of_z w64 v)))) = c.append_i64.ensures in
-    let this : Appends c.loop-value.out c.append_i64.new.out (to_be_bytes w64 (cast_unsigned w64 v)) =
-    subst (λ z. Appends c.loop-value.out c.append_i64.new.out (to_be_bytes w64 (cast_unsigned w64 z))) (to_z-of_z w64 v fits) appended in
+    let appended : AppendsBytes c.loop-value.out c.append_i64.new.out (to_be_bytes w64 (cast_unsigned w64 (to_z w64 (of_z w64 v)))) = c.append_i64.ensures in
+    let this : AppendsBytes c.loop-value.out c.append_i64.new.out (to_be_bytes w64 (cast_unsigned w64 v)) =
+    subst (λ z. AppendsBytes c.loop-value.out c.append_i64.new.out (to_be_bytes w64 (cast_unsigned w64 z))) (to_z-of_z w64 v fits) appended in
     record {
       bytes = appends_more (λ v. to_be_bytes w64 (cast_unsigned w64 v)) values i (pos 0) c.args.out.now c.loop-value.out c.append_i64.new.out c.loop-value-test.true c.loop-value.invariant.bytes this;
       sound = All-more (FitsSigned w64) values i (pos 0) c.loop-value-test.true c.loop-value.invariant.sound fits;

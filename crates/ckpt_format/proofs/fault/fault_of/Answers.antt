@@ -1,6 +1,6 @@
 use Rattle.std.proofs.Common.{◌≤◌, length, sym, ap, subst, ◌∙◌, arith}
 use Rattle.std.specs.Option.{option_or}
-use Rattle.checkpoint_definitions.specs.Checkpoint.{outcome_start, stated_count}
+use Rattle.audit_statement.specs.Checkpoint.{outcome_start, stated_count}
 use Rattle.ckpt_format.specs.Faults.{order_fault, digest_fault}
 use Rattle.ckpt_format.proofs.Faulting.{fault_of_few, fault_of_many, head_is_right}
 use Rattle.ckpt_format.proofs.fault.fault_of.Goals as goal

@@ -1,10 +1,10 @@
 use Rattle.std.proofs.Common.{sym, arith}
 use Rattle.std.specs.Prelude.{◌-◌, nat_lt, nat_le}
 use Rattle.std.proofs.lemmas.Bool.{and_from, lt-ltb, le-leb}
-use Rattle.checkpoint_definitions.specs.Checkpoint.{stated_id}
+use Rattle.audit_statement.specs.Checkpoint.{stated_id}
 use Rattle.ckpt_format.specs.Faults.{is_unordered}
 use Rattle.ckpt_format.proofs.fault.first_unordered.Goals as goal
-use Rattle.model_laws.proofs.First.{first_below_here}
+use Rattle.audit_model.proofs.First.{first_below_here}
 
 pub returns-then-id_at : goal.returns-then-id_at
 returns-then-id_at c =

@@ -3,7 +3,7 @@ use Rattle.ckpt_store.specs.Fitting.{is_unfit}
 use Rattle.ckpt_store.proofs.Fits.{fit_here, unfit_here}
 use Rattle.std.specs.Prelude.{length}
 use Rattle.ckpt_store.proofs.fitting.first_unfit.Goals as goal
-use Rattle.model_laws.proofs.First.{first_below_here, first_below_more}
+use Rattle.audit_model.proofs.First.{first_below_here, first_below_more}
 
 pub returns-then-not-fits : goal.returns-then-not-fits
 returns-then-not-fits c =

@@ -1,5 +1,5 @@
 use Rattle.std.proofs.Common.{List, ℕ, subst}
-use Rattle.audit_io.specs.Slots.{HoldsBytes}
+use Rattle.audit_model.specs.Pair.{HoldsBytes}
 use Rattle.ckpt_store.proofs.Turns.{newest_where_told}
 use Rattle.ckpt_store.proofs.save.save.Goals as goal
 

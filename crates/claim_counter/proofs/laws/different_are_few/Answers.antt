@@ -1,5 +1,5 @@
 use Rattle.claim_counter.proofs.laws.different_are_few.Goals as goal
-use Rattle.model_laws.proofs.Times.{length-apart}
+use Rattle.audit_model.proofs.Times.{length-apart}
 
 pub returns : goal.returns
 returns c = length-apart

@@ -7,5 +7,5 @@ use Rattle.contig.proofs.flood.mates_are_whole.Goals as goal
 
 pub returns-clause-whole : goal.returns-clause-whole
 returns-clause-whole c =
-    subst (λ (near : List ℕ). (c.is_whole.result ≡ true) ↔ IsConnected c.args.graph.now (λ v. has near v && in_district c.args.plan.now (get_or c.args.plan.now c.args.unit 0) v))
+    subst (λ (near : List ℕ). (c.is_whole.result ≡ true) ↔ IsConnected c.args.leaving.graph.now (λ v. has near v && in_district c.args.leaving.plan.now (get_or c.args.leaving.plan.now c.args.leaving.unit 0) v))
     c.neighbours.ensures.list c.is_whole.ensures.whole

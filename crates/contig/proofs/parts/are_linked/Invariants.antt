@@ -1,5 +1,5 @@
-use Rattle.contig.specs.Parts.{IsLinking}
+use Rattle.contig.proofs.Between.{IsLinking}
 use Rattle.contig.proofs.parts.are_linked.Given as goal
 
 abbrev pub invariant-loop-place : goal.invariant-loop-place
-invariant-loop-place l = IsLinking l.graph l.plan l.unit l.marks l.roots l.place
+invariant-loop-place l = IsLinking l.leaving.graph.now l.leaving.plan.now l.leaving.unit l.marks l.roots l.place

@@ -2,18 +2,18 @@ use Rattle.std.proofs.Common.{◌≡◌, ℕ, ◌+◌, ◌<◌, ◌++◌, ◌∷
 use Rattle.std.proofs.lemmas.List.{take_more}
 use Rattle.audit_model.specs.Graph.{Graph, has, adjacent}
 use Rattle.audit_model.specs.Local.{is_mate}
-use Rattle.model_laws.proofs.Lists.{at_has}
+use Rattle.audit_model.proofs.ListFacts.{at_has}
 use Rattle.dual_graph.specs.Marked.{Marked}
 use Rattle.contig.specs.Parts.{IsSpread}
 use Rattle.contig.proofs.Spreading.{spread_passed, spread_joined, labels_stay_small, above_zero}
 use Rattle.contig.proofs.parts.link.Goals as goal
 use Rattle.contig.proofs.parts.link.Goals.{then-there-ne0+then-roots-there, else-there-ne0, else-there-ne0-via-then-there-ne0+else-roots-there, else-there-ne0-via-else-there-ne0}
-use Rattle.model_laws.specs.Replaced.{Replaced}
+use Rattle.audit_model.specs.Replaced.{Replaced}
 
 pub loop-other-preserved : goal.loop-other-preserved
 loop-other-preserved c =
-    let g : Graph = c.args.graph.now in
-    let inside : ℕ → Bool = is_mate g c.args.plan.now c.args.leaving in
+    let g : Graph = c.args.leaving.graph.now in
+    let inside : ℕ → Bool = is_mate g c.args.leaving.plan.now c.args.leaving.unit in
     let row : List ℕ = c.neighbours-other-items.result.now in
     let i : ℕ = c.loop-other.other-index in
     let lt : i < length row = c.loop-other-test.true in
@@ -32,15 +32,16 @@ loop-other-preserved c =
     let found : get_or m.labels unit 0 ≡ label = sym c.label-label.ensures in
     let pos : 0 < label = subst (λ t. 0 < t) found c.requires.label in
     let uv : adjacent g unit v ≡ true = subst (λ (xs : List ℕ). has xs v ≡ true) c.neighbours-other-items.ensures.list (at_has row i lt) in
-    let vu : adjacent g v unit ≡ true = c.requires.graph.symmetric v unit ∙ uv in
-    let few : (w : ℕ) → get_or m.labels w 0 < length before = λ w. omega (arith, c.requires.seeded.small w, c.requires.roots) in
+    let vu : adjacent g v unit ≡ true = c.args.leaving.sound.symmetric v unit ∙ uv in
+    let wide : length before ≡ 17 = c.told-roots in
+    let few : (w : ℕ) → get_or m.labels w 0 < length before = λ w. omega (arith, c.requires.seeded.small w, c.requires.seeded.few, wide) in
     let small : (w : ℕ) → get_or m.labels w 0 < length after = λ w. labels_stay_small g inside (take i row) label m m before after s few unit found w in
     elim c.if-there-ne0.branch [
       | then-there-ne0+then-roots-there w ↦
           let there : 0 < get_or m.labels v 0 = above_zero c.label-there.result (get_or m.labels v 0) c.label-there.ensures w.if-there-ne0.true in
-          far w.join.new.roots w.roots-is
-          (spread_joined g inside (take i row) label m m before after v s unit found pos (c.requires.seeded.mates v there) uv vu w.join.new.roots there small
-          (subst (λ t. Replaced after w.join.new.roots t label) c.label-there.ensures w.join.ensures) w.join.auto.roots)
+          far w.join.new.classes w.roots-is
+          (spread_joined g inside (take i row) label m m before after v s unit found pos (c.requires.seeded.mates v there) uv vu w.join.new.classes there small
+          (subst (λ t. Replaced after w.join.new.classes t label) c.label-there.ensures w.join.ensures) w.join.auto.classes)
       | else-there-ne0 w ↦ far after w.roots-is (spread_passed g inside (take i row) label m m before after v s (λ is_in.
           let there : 0 < get_or m.labels v 0 = c.requires.seeded.complete v is_in in (
             there,

@@ -4,9 +4,9 @@ use Rattle.std.proofs.lemmas.Bool.{and_parts, and_from, eqb-true, eq-eqb}
 use Rattle.std.proofs.lemmas.List.{take_more}
 use Rattle.audit_model.specs.Graph.{Graph, has, adjacent}
 use Rattle.audit_model.specs.Plan.{in_district}
-use Rattle.model_laws.proofs.Lists.{at_has}
+use Rattle.audit_model.proofs.ListFacts.{at_has}
 use Rattle.dual_graph.specs.Marked.{Marked}
-use Rattle.contig.specs.Parts.{IsSeeding}
+use Rattle.contig.proofs.Between.{IsSeeding}
 use Rattle.contig.proofs.Seeding.{seeding_passed, seeding_marked, not_labelled, not_before}
 use Rattle.contig.proofs.parts.mark_mates.Goals as goal
 use Rattle.contig.proofs.parts.mark_mates.Goals.{then-plan-v+else-count-eq-MOST, else-plan-v}
@@ -16,14 +16,14 @@ mark_as-requires-clause-absent c =
     let row : List ℕ = c.neighbours-other-items.result.now in
     let i = c.loop-other.other-index in
     let rising : (j : ℕ) → j + 1 < length row → get_or row j 0 < get_or row (j + 1) 0 =
-    subst (λ (xs : List ℕ). (j : ℕ) → j + 1 < length xs → get_or xs j 0 < get_or xs (j + 1) 0) (sym c.neighbours-other-items.ensures.list) (c.units-units.ensures.sound.rising c.args.unit) in
-    not_labelled c.args.graph.now c.args.plan.now c.args.unit (take i row) c.loop-other.count c.loop-other.marks (get_or row i 0) c.loop-other.invariant.seeding (not_before row i rising c.loop-other-test.true)
+    subst (λ (xs : List ℕ). (j : ℕ) → j + 1 < length xs → get_or xs j 0 < get_or xs (j + 1) 0) (sym c.neighbours-other-items.ensures.list) (c.args.leaving.sound.rising c.args.leaving.unit) in
+    not_labelled c.args.leaving.graph.now c.args.leaving.plan.now c.args.leaving.unit (take i row) c.loop-other.count c.loop-other.marks (get_or row i 0) c.loop-other.invariant.seeding (not_before row i rising c.loop-other-test.true)
 
 pub loop-other-preserved : goal.loop-other-preserved
 loop-other-preserved c =
-    let g : Graph = c.args.graph.now in
-    let plan : List ℕ = c.args.plan.now in
-    let u : ℕ = c.args.unit in
+    let g : Graph = c.args.leaving.graph.now in
+    let plan : List ℕ = c.args.leaving.plan.now in
+    let u : ℕ = c.args.leaving.unit in
     let row : List ℕ = c.neighbours-other-items.result.now in
     let i : ℕ = c.loop-other.other-index in
     let lt : i < length row = c.loop-other-test.true in
@@ -31,7 +31,7 @@ loop-other-preserved c =
     let m : Marked = c.loop-other.marks in
     let count : ℕ = c.loop-other.count in
     let rising : (j : ℕ) → j + 1 < length row → get_or row j 0 < get_or row (j + 1) 0 =
-    subst (λ (xs : List ℕ). (j : ℕ) → j + 1 < length xs → get_or xs j 0 < get_or xs (j + 1) 0) (sym c.neighbours-other-items.ensures.list) (c.units-units.ensures.sound.rising u) in
+    subst (λ (xs : List ℕ). (j : ℕ) → j + 1 < length xs → get_or xs j 0 < get_or xs (j + 1) 0) (sym c.neighbours-other-items.ensures.list) (c.args.leaving.sound.rising u) in
     let fresh : has (take i row) v ≡ true → ⊥ = not_before row i rising lt in
     let more : take i row ++ v ∷ [] ≡ take (i + 1) row = sym (take_more row i 0 lt) in
     let s : IsSeeding g plan u (take i row) count m = c.loop-other.invariant.seeding in

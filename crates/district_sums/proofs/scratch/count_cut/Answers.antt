@@ -1,7 +1,7 @@
 use Rattle.std.proofs.Common.{◌≡◌, ℕ, ◌+◌, ◌==◌, ◌&&◌, Bool, not, get_or, ap, ◌∙◌, arith, add-one}
 use Rattle.audit_model.specs.Below.{count_below, sum_below}
 use Rattle.audit_model.specs.Graph.{adjacent}
-use Rattle.model_laws.proofs.Rows.{counted_edges_le}
+use Rattle.audit_model.proofs.Rows.{counted_edges_le}
 use Rattle.district_sums.proofs.scratch.count_cut.Goals as goal
 
 pub overflow_add-cut : goal.overflow_add-cut
@@ -12,7 +12,7 @@ overflow_add-cut c =
     let each : ℕ → ℕ = λ v. count_below v (λ u. adjacent g u v && test u v) in
     let more : sum_below (unit + 1) each ≡ sum_below unit each + each unit = ap (λ (n : ℕ). sum_below n each) (add-one unit) in
     let few = counted_edges_le g test (unit + 1) (omega (arith, c.loop-unit-test.true, c.units-unit-end.ensures.units)) in
-    omega (arith, c.loop-unit.invariant, c.others_below-cut.ensures, more, few, c.requires.few)
+    omega (arith, c.loop-unit.invariant, c.others_below-cut.ensures, more, few, c.edges-edges.ensures.few)
 
 pub returns : goal.returns
 returns c =

@@ -2,7 +2,7 @@ use Rattle.std.proofs.Common.{◌≡◌, ℕ, ◌≤◌, ◌==◌, ◌&&◌, Boo
 use Rattle.std.specs.Prelude.{nat_lt, count_by}
 use Rattle.audit_model.specs.Below.{count_below}
 use Rattle.audit_model.specs.Graph.{Graph, IsGraph, adjacent}
-use Rattle.model_laws.proofs.Below.{count_below_le}
+use Rattle.audit_model.proofs.Below.{count_below_le}
 use Rattle.district_sums.proofs.scratch.others_below.Goals as goal
 use Rattle.district_sums.proofs.Counting.{count_neighbours}
 
@@ -16,14 +16,14 @@ row_counted g unit bound others i test row sound is end counted =
 
 pub overflow_cast-result : goal.overflow_cast-result
 overflow_cast-result c =
-    let test : ℕ → Bool = λ v. not (get_or c.args.plan.now v 0 == get_or c.args.plan.now c.args.unit 0) in
-    let is = row_counted c.args.graph.now c.args.unit c.args.bound c.loop-other.others c.loop-other.other-index test c.neighbours-other-items.result.now
-    c.requires.graph c.neighbours-other-items.ensures.list c.loop-other-test.false c.loop-other.invariant in
-    let small = count_below_le c.args.bound (λ v. adjacent c.args.graph.now v c.args.unit && test v) in
+    let test : ℕ → Bool = λ v. not (get_or c.args.member.plan.now v 0 == get_or c.args.member.plan.now c.args.member.unit 0) in
+    let is = row_counted c.args.member.graph.now c.args.member.unit c.args.bound c.loop-other.others c.loop-other.other-index test c.neighbours-other-items.result.now
+    c.args.member.sound c.neighbours-other-items.ensures.list c.loop-other-test.false c.loop-other.invariant in
+    let small = count_below_le c.args.bound (λ v. adjacent c.args.member.graph.now v c.args.member.unit && test v) in
     omega (arith, is, small, c.ranges.bound)
 
 pub returns : goal.returns
 returns c =
-    row_counted c.args.graph.now c.args.unit c.args.bound c.loop-other.others c.loop-other.other-index
-    (λ v. not (get_or c.args.plan.now v 0 == get_or c.args.plan.now c.args.unit 0)) c.neighbours-other-items.result.now
-    c.requires.graph c.neighbours-other-items.ensures.list c.loop-other-test.false c.loop-other.invariant
+    row_counted c.args.member.graph.now c.args.member.unit c.args.bound c.loop-other.others c.loop-other.other-index
+    (λ v. not (get_or c.args.member.plan.now v 0 == get_or c.args.member.plan.now c.args.member.unit 0)) c.neighbours-other-items.result.now
+    c.args.member.sound c.neighbours-other-items.ensures.list c.loop-other-test.false c.loop-other.invariant

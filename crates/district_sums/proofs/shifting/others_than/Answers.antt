@@ -2,8 +2,8 @@ use Rattle.std.proofs.Common.{◌≡◌, ℕ, ◌≤◌, ◌==◌, ◌&&◌, Boo
 use Rattle.std.specs.Prelude.{count_by}
 use Rattle.audit_model.specs.Below.{count_below}
 use Rattle.audit_model.specs.Graph.{Graph, IsGraph, adjacent}
-use Rattle.model_laws.proofs.Below.{count_below_le}
-use Rattle.model_laws.proofs.Rows.{row_counted}
+use Rattle.audit_model.proofs.Below.{count_below_le}
+use Rattle.audit_model.proofs.Rows.{row_counted}
 use Rattle.district_sums.proofs.shifting.others_than.Goals as goal
 
 -- at the end of the row
@@ -13,13 +13,13 @@ all_counted g unit others i test row sound is end counted = counted ∙ ap (coun
 
 pub overflow_cast-result : goal.overflow_cast-result
 overflow_cast-result c =
-    let g : Graph = c.args.graph.now in
-    let test : ℕ → Bool = λ v. not (get_or c.args.plan.now v 0 == c.args.district) in
-    let is = all_counted g c.args.unit c.loop-other.others c.loop-other.other-index test c.neighbours-other-items.result.now
-    c.units-units.ensures.sound c.neighbours-other-items.ensures.list c.loop-other-test.false c.loop-other.invariant in
-    omega (arith, is, count_below_le g.units (λ v. adjacent g c.args.unit v && test v), c.units-units.ensures.few)
+    let g : Graph = c.args.member.graph.now in
+    let test : ℕ → Bool = λ v. not (get_or c.args.member.plan.now v 0 == c.args.district) in
+    let is = all_counted g c.args.member.unit c.loop-other.others c.loop-other.other-index test c.neighbours-other-items.result.now
+    c.args.member.sound c.neighbours-other-items.ensures.list c.loop-other-test.false c.loop-other.invariant in
+    omega (arith, is, count_below_le g.units (λ v. adjacent g c.args.member.unit v && test v), c.args.member.few)
 
 pub returns : goal.returns
 returns c =
-    all_counted c.args.graph.now c.args.unit c.loop-other.others c.loop-other.other-index (λ v. not (get_or c.args.plan.now v 0 == c.args.district))
-    c.neighbours-other-items.result.now c.units-units.ensures.sound c.neighbours-other-items.ensures.list c.loop-other-test.false c.loop-other.invariant
+    all_counted c.args.member.graph.now c.args.member.unit c.loop-other.others c.loop-other.other-index (λ v. not (get_or c.args.member.plan.now v 0 == c.args.district))
+    c.neighbours-other-items.result.now c.args.member.sound c.neighbours-other-items.ensures.list c.loop-other-test.false c.loop-other.invariant

@@ -1,7 +1,7 @@
 use Rattle.std.proofs.Common.{◌≡◌, length, sym, ap, ◌∙◌, arith}
 use Rattle.std.specs.Option.{unwrap_or}
 use Rattle.audit_model.specs.Below.{map_below}
-use Rattle.model_laws.proofs.Below.{map_below_more}
+use Rattle.audit_model.proofs.Below.{map_below_more}
 use Rattle.dual_json.specs.Columns.{count_in}
 use Rattle.dual_json.specs.Places.{object_at}
 use Rattle.dual_json.specs.Shape.{views}

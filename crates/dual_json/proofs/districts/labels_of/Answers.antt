@@ -1,6 +1,6 @@
 use Rattle.std.proofs.Common.{◌≡◌, length, ap, sym, ◌∙◌, arith}
 use Rattle.audit_model.specs.Below.{map_below}
-use Rattle.model_laws.proofs.Below.{map_below_more}
+use Rattle.audit_model.proofs.Below.{map_below_more}
 use Rattle.dual_json.specs.Places.{nth, labels_from}
 use Rattle.dual_json.proofs.Named.{nth_get, labels_listed}
 use Rattle.dual_json.proofs.districts.labels_of.Goals as goal

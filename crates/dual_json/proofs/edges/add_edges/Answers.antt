@@ -2,7 +2,7 @@ use Rattle.std.proofs.Common.{◌≡◌, ℕ, length, None, refl, sym, ap, ◌�
 use Rattle.std.specs.Option.{option_map, is_none}
 use Rattle.audit_model.specs.declared.fault.GraphFault.TheVariants.{UnknownNeighbour}
 use Rattle.audit_model.specs.First.{first_below}
-use Rattle.model_laws.proofs.First.{first_below_more, first_below_found}
+use Rattle.audit_model.proofs.First.{first_below_more, first_below_here}
 use Rattle.dual_json.specs.Edges.{is_unknown, AddsEdges}
 use Rattle.dual_json.specs.Places.{object_at}
 use Rattle.dual_json.specs.Shape.{views}
@@ -17,7 +17,7 @@ pub returns-in_default : goal.returns-in_default
 returns-in_default c =
     let l = c.loop-place-test.true in
     inr (ap (option_map (UnknownNeighbour c.args.node))
-    (first_below_found (length (views c.args.entries.now)) c.loop-place.place (λ k. is_unknown c.args.index.now (object_at (views c.args.entries.now) k)) (omega (arith, l, length-views c.args.entries.now)) c.loop-place.invariant.0
+    (first_below_here (length (views c.args.entries.now)) c.loop-place.place (λ k. is_unknown c.args.index.now (object_at (views c.args.entries.now) k)) c.loop-place.invariant.0 (omega (arith, l, length-views c.args.entries.now))
     (ap (is_unknown c.args.index.now) (object_is c.args.entries.now c.loop-place.place c.index-entries-place.result l c.index-entries-place.is)
     ∙ ap is_none (sym c.node_of.ensures ∙ c.in_default.is))))
 

@@ -2,7 +2,7 @@ use Rattle.std.proofs.Common.{◌≡◌, ℕ, length, None, refl, sym, ap, ◌�
 use Rattle.std.specs.Option.{option_map}
 use Rattle.audit_model.specs.declared.fault.GraphFault.TheVariants.{BadNeighbour}
 use Rattle.audit_model.specs.First.{first_some_below}
-use Rattle.model_laws.proofs.First.{first_some_below_more, first_some_below_found}
+use Rattle.audit_model.proofs.First.{first_some_below_more, first_some_below_found}
 use Rattle.dual_json.specs.Edges.{entries_at, first_in, is_unnamed}
 use Rattle.dual_json.specs.Shape.{lists_in}
 use Rattle.dual_json.proofs.Listed.{length-lists_in}

@@ -3,9 +3,9 @@ use Rattle.std.specs.Prelude.{nat_lt, ◌↔◌}
 use Rattle.std.proofs.lemmas.Bool.{lt-ltb, le-ltb}
 use Rattle.audit_model.specs.declared.fault.GraphFault.TheVariants.{TooManyEdges, UnknownNeighbour}
 use Rattle.audit_model.specs.Graph.{adjacent}
-use Rattle.model_laws.proofs.Options.{none_or, or_of_none}
-use Rattle.model_laws.proofs.Results.{match_map}
-use Rattle.graph_definitions.specs.Reading.{refused_if}
+use Rattle.audit_model.proofs.Options.{none_or, or_of_none}
+use Rattle.audit_model.proofs.Results.{match_map}
+use Rattle.audit_statement.specs.Reading.{refused_if}
 use Rattle.dual_graph.specs.Pairs.{ArePairs, Joins}
 use Rattle.dual_json.specs.Edges.{edges_in, first_entry_in, is_unknown}
 use Rattle.dual_json.specs.Shape.{lists_in}

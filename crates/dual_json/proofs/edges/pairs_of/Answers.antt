@@ -3,7 +3,7 @@ use Rattle.std.specs.Prelude.{◌⊎◌}
 use Rattle.std.specs.Option.{option_map}
 use Rattle.audit_model.specs.declared.fault.GraphFault.TheVariants.{Memory, UnknownNeighbour}
 use Rattle.audit_model.specs.First.{first_some_below}
-use Rattle.model_laws.proofs.First.{first_some_below_more, first_some_below_found}
+use Rattle.audit_model.proofs.First.{first_some_below_more, first_some_below_found}
 use Rattle.dual_json.specs.Edges.{entries_at, first_in, first_entry_in, is_unknown, AreListed}
 use Rattle.dual_json.specs.Shape.{views, lists_in}
 use Rattle.dual_json.proofs.Edging.{listed_none, listed_more}

@@ -1,7 +1,7 @@
 use Rattle.std.proofs.Common.{◌≡◌, ℕ, length, None, refl, sym, ap, ◌∙◌, subst, arith}
 use Rattle.std.specs.Option.{is_none}
 use Rattle.audit_model.specs.First.{first_below}
-use Rattle.model_laws.proofs.First.{first_below_more, first_below_found}
+use Rattle.audit_model.proofs.First.{first_below_more, first_below_here}
 use Rattle.dual_json.specs.Edges.{is_unnamed}
 use Rattle.dual_json.specs.Places.{object_at}
 use Rattle.dual_json.specs.Shape.{views}
@@ -14,7 +14,7 @@ loop-place-init c = refl
 pub returns-then-is_none : goal.returns-then-is_none
 returns-then-is_none c =
     let l = c.loop-place-test.true in
-    sym (first_below_found (length (views c.args.entries.now)) c.loop-place.place (λ k. is_unnamed (object_at (views c.args.entries.now) k)) (omega (arith, l, length-views c.args.entries.now)) c.loop-place.invariant
+    sym (first_below_here (length (views c.args.entries.now)) c.loop-place.place (λ k. is_unnamed (object_at (views c.args.entries.now) k)) c.loop-place.invariant (omega (arith, l, length-views c.args.entries.now))
     (ap is_unnamed (object_is c.args.entries.now c.loop-place.place c.index-entries-place.result l c.index-entries-place.is)
     ∙ ap is_none (sym c.name_at.ensures) ∙ unnamed_is c.name_at.result c.is_none.result c.is_none.ensures ∙ c.if-is_none.true))
 

@@ -2,12 +2,12 @@ use Rattle.std.proofs.Common.{◌≡◌, ◌≤◌, true, List, length, None, Er
 use Rattle.audit_model.specs.declared.fault.GraphFault.TheVariants.{BadNeighbour}
 use Rattle.audit_model.specs.declared.setting.Label.{Label}
 use Rattle.audit_model.specs.Graph.{Graph, count_edges}
-use Rattle.model_laws.proofs.Options.{none_or, or_of_none}
-use Rattle.model_laws.proofs.First.{or_some}
-use Rattle.model_laws.proofs.Results.{match_map, err_at}
-use Rattle.graph_definitions.specs.Reading.{Document}
+use Rattle.audit_model.proofs.Options.{none_or, or_of_none}
+use Rattle.audit_model.proofs.First.{or_some}
+use Rattle.audit_model.proofs.Results.{match_map, err_at}
+use Rattle.audit_statement.specs.Reading.{Document}
 use Rattle.dual_json.specs.Edges.{is_unnamed}
-use Rattle.dual_json.specs.Shape.{views, lists_in, document_of, frame_fault}
+use Rattle.dual_json.specs.Shape.{views, lists_in, document_of_parts, frame_fault}
 use Rattle.dual_json.specs.Stages.{ids_fault, entry_fault}
 use Rattle.dual_json.proofs.Bridge.{entry_same, edges_same, graph_same}
 use Rattle.dual_json.proofs.Listed.{length-views, length-lists_in}
@@ -17,7 +17,7 @@ pub returns-in_err-check_entries : goal.returns-in_err-check_entries
 returns-in_err-check_entries c =
     let f = c.in_err-check_entries.field-0.0 in
     let e : c.from_residual-in_err-check_entries.result ≡ Err f = search rules in
-    let d : Document = document_of c.args.parts.now in
+    let d : Document = document_of_parts c.args.parts.now in
     let nodes = c.args.parts.now.nodes.now in
     let lists = c.args.parts.now.adjacency.now in
     let directed = c.args.parts.now.directed in
@@ -32,7 +32,7 @@ returns-in_err-check_entries c =
 
 pub returns : goal.returns
 returns c =
-    let d : Document = document_of c.args.parts.now in
+    let d : Document = document_of_parts c.args.parts.now in
     let nodes = c.args.parts.now.nodes.now in
     let lists = c.args.parts.now.adjacency.now in
     let directed = c.args.parts.now.directed in

@@ -3,9 +3,9 @@ use Rattle.std.specs.Prelude.{codes}
 use Rattle.std.specs.Option.{option_map}
 use Rattle.audit_model.specs.declared.fault.GraphFault.TheVariants.{BadId}
 use Rattle.audit_model.specs.declared.setting.Label.{Label}
-use Rattle.model_laws.proofs.Options.{none_or, or_of_none}
-use Rattle.model_laws.proofs.Results.{match_map}
-use Rattle.dual_json.specs.Places.{labels_from, first_unnamed, repeated, AreLabels}
+use Rattle.audit_model.proofs.Options.{none_or, or_of_none}
+use Rattle.audit_model.proofs.Results.{match_map}
+use Rattle.dual_json.specs.Places.{labels_from, first_unnamed, repeated_label, AreLabels}
 use Rattle.dual_json.specs.Shape.{views}
 use Rattle.dual_json.specs.Stages.{repeated_in}
 use Rattle.dual_json.proofs.Bridge.{repeated_same}
@@ -20,7 +20,7 @@ returns-in-Ok c =
     (λ index h. (
       or_of_none (option_map BadId (first_unnamed (codes "id") nodes)) (repeated_in nodes) named (repeated_same nodes ids c.in-Ok.ensures.1 ∙ h.0),
       subst (λ (ls : List Label). AreLabels (codes "id") nodes ls) (sym h.1) c.in-Ok.ensures.1,
-      subst (λ (ls : List Label). repeated ls ≡ None) (sym h.1) h.0,
+      subst (λ (ls : List Label). repeated_label ls ≡ None) (sym h.1) h.0,
     ))
     (λ f h. elim h [
       | inl e ↦ inl e

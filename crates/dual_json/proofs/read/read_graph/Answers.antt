@@ -1,10 +1,10 @@
 use Rattle.std.proofs.Common.{◌≡◌, Ok, Err, sym, ap, ◌∙◌, inl, inr, rules}
 use Rattle.std.specs.Prelude.{◌⊎◌}
 use Rattle.audit_model.specs.declared.fault.GraphFault.TheVariants.{Memory}
-use Rattle.model_laws.proofs.Results.{match_map, err_at}
+use Rattle.audit_model.proofs.Results.{match_map, err_at}
 use Rattle.serde_json.specs.View.{view}
-use Rattle.graph_definitions.specs.Reading.{Document, reading, of_root, accepted_or, parsed, refusal}
-use Rattle.dual_json.specs.Shape.{document_of}
+use Rattle.audit_statement.specs.Reading.{Document, reading, of_root, accepted_or, parsed, refusal}
+use Rattle.dual_json.specs.Shape.{document_of_parts}
 use Rattle.dual_json.proofs.Bridge.{reading_of, reading_none}
 use Rattle.dual_json.proofs.read.read_graph.Goals as goal
 
@@ -22,7 +22,7 @@ pub returns-in-Ok-clause-read : goal.returns-in-Ok-clause-read
 returns-in-Ok-clause-read c =
     let columns = c.args.cols.now in
     let root = view c.in_ok-root.root in
-    let d : Document = document_of c.in-Ok.parts in
+    let d : Document = document_of_parts c.in-Ok.parts in
     let read = reading_of c.args.bytes.now columns root c.in_ok-root.ensures ∙ ap (of_root columns root) c.in-Ok.ensures.0
     ∙ ap (λ (x : Document). accepted_or (parsed x columns) (refusal x columns)) c.in-Ok.ensures.1 in
     match_map c.read_parts.result _ _ _ _ c.read_parts.ensures.read

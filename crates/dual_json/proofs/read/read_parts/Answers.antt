@@ -3,12 +3,12 @@ use Rattle.std.specs.Prelude.{◌⊎◌}
 use Rattle.audit_model.specs.declared.fault.GraphFault.TheVariants.{Memory}
 use Rattle.audit_model.specs.declared.setting.Label.{Label}
 use Rattle.audit_model.specs.Graph.{Graph}
-use Rattle.model_laws.proofs.Options.{none_or, or_of_none}
-use Rattle.model_laws.proofs.Results.{err_at}
-use Rattle.graph_definitions.specs.Reading.{Document, refusal}
-use Rattle.dual_json.specs.Districts.{count_fault, different_count}
+use Rattle.audit_model.proofs.Options.{none_or, or_of_none}
+use Rattle.audit_model.proofs.Results.{err_at}
+use Rattle.audit_statement.specs.Reading.{Document, refusal}
+use Rattle.dual_json.specs.Districts.{district_count_fault, different_count}
 use Rattle.dual_json.specs.Places.{labels_from}
-use Rattle.dual_json.specs.Shape.{views, document_of}
+use Rattle.dual_json.specs.Shape.{views, document_of_parts}
 use Rattle.dual_json.specs.Stages.{graph_fault, labels_fault}
 use Rattle.dual_json.specs.declared.names.Name.{Name}
 use Rattle.dual_json.proofs.Bridge.{refusal_is, different_same, parsed_is, within_is}
@@ -19,23 +19,23 @@ pub returns-in_err-rows-clause-read : goal.returns-in_err-rows-clause-read
 returns-in_err-rows-clause-read c =
     let f = c.in_err-rows.field-0.0 in
     let e : c.from_residual-in_err-rows.result ≡ Err f = search rules in
-    let d : Document = document_of c.args.parts.now in
+    let d : Document = document_of_parts c.args.parts.now in
     let columns = c.args.columns.now in
     let labels : List Label = labels_from c.in_ok-names.names.items in
     let why : (f ≡ Memory) ⊎ (refusal d columns ≡ Some f) = elim c.in_err-rows.ensures [
       | inl m ↦ inl m
       | inr h ↦ inr (refusal_is d columns ∙ none_or (graph_fault d) _ c.in_ok-graph.ensures.0 ∙ none_or (labels_fault columns d.nodes) _ c.in_ok-names.ensures.0
-          ∙ ap count_fault (different_same d columns labels c.in_ok-names.ensures.1) ∙ ap (λ (ns : List Name). count_fault (different_count (labels_from ns))) (sym c.deref.ensures.value) ∙ h)
+          ∙ ap district_count_fault (different_same d columns labels c.in_ok-names.ensures.1) ∙ ap (λ (ns : List Name). district_count_fault (different_count (labels_from ns))) (sym c.deref.ensures.value) ∙ h)
     ] in
     err_at c.from_residual-in_err-rows.result f _ _ e why
 
 pub returns-clause-read : goal.returns-clause-read
 returns-clause-read c =
-    let d : Document = document_of c.args.parts.now in
+    let d : Document = document_of_parts c.args.parts.now in
     let columns = c.args.columns.now in
     let labels : List Label = labels_from c.in_ok-names.names.items in (
       refusal_is d columns ∙ or_of_none (graph_fault d) _ c.in_ok-graph.ensures.0 (or_of_none (labels_fault columns d.nodes) _ c.in_ok-names.ensures.0
-          (ap count_fault (different_same d columns labels c.in_ok-names.ensures.1) ∙ ap (λ (ns : List Name). count_fault (different_count (labels_from ns))) (sym c.deref.ensures.value) ∙ c.in_ok-rows.ensures.0)),
+          (ap district_count_fault (different_same d columns labels c.in_ok-names.ensures.1) ∙ ap (λ (ns : List Name). district_count_fault (different_count (labels_from ns))) (sym c.deref.ensures.value) ∙ c.in_ok-rows.ensures.0)),
       parsed_is d columns c.in_ok-graph.graph c.in_ok-rows.rows.counts c.in_ok-rows.rows.start c.in_ok-rows.rows.labels c.in_ok-graph.ensures.1 c.in_ok-rows.ensures.1,
     )
 

@@ -1,8 +1,8 @@
 use Rattle.std.proofs.Common.{◌≡◌, List, length, Err, sym, ap, subst, ◌∙◌, inr, arith, rules}
 use Rattle.std.proofs.lemmas.List.{length-map}
 use Rattle.audit_model.specs.declared.setting.Label.{Label}
-use Rattle.model_laws.proofs.Results.{err_at}
-use Rattle.dual_json.specs.Districts.{count_fault, different_count, AreDistricts}
+use Rattle.audit_model.proofs.Results.{err_at}
+use Rattle.dual_json.specs.Districts.{district_count_fault, different_count, AreDistricts}
 use Rattle.dual_json.specs.Names.{label_from}
 use Rattle.dual_json.specs.Places.{labels_from}
 use Rattle.dual_json.specs.declared.names.Name.{Name}
@@ -16,7 +16,7 @@ returns-in_err-check_count c =
     let e : c.from_residual-in_err-check_count.result ≡ Err f = search rules in
     let amount : different_count (labels_from c.args.names.now) ≡ c.len.result =
     omega (arith, label_count_is (labels_from c.args.names.now) (labels_from c.deref.result.now) c.in_ok-start.start c.in_ok-start.ensures, length-map c.deref.result.now label_from, c.deref.ensures.len, c.len.ensures) in
-    err_at c.from_residual-in_err-check_count.result f _ _ e (inr (ap count_fault amount ∙ c.in_err-check_count.ensures))
+    err_at c.from_residual-in_err-check_count.result f _ _ e (inr (ap district_count_fault amount ∙ c.in_err-check_count.ensures))
 
 pub returns : goal.returns
 returns c =
@@ -28,7 +28,7 @@ returns c =
     let within = count_within c.len.result c.in_ok-check_count.ensures in
     let low = within.0 in
     let high = within.1 in (
-      ap count_fault amount ∙ c.in_ok-check_count.ensures,
+      ap district_count_fault amount ∙ c.in_ok-check_count.ensures,
       record {
         population = c.in_ok-counts.ensures.population;
         first = c.in_ok-counts.ensures.first;

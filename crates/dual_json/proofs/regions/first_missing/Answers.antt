@@ -3,7 +3,7 @@ use Rattle.std.specs.Option.{is_none}
 use Rattle.serde_json.specs.Find.{get as member}
 use Rattle.serde_json.specs.View.{view}
 use Rattle.audit_model.specs.First.{first_below}
-use Rattle.model_laws.proofs.First.{first_below_more, first_below_found}
+use Rattle.audit_model.proofs.First.{first_below_more, first_below_here}
 use Rattle.dual_json.specs.Places.{object_at}
 use Rattle.dual_json.specs.Shape.{views}
 use Rattle.dual_json.proofs.Listed.{object_is, length-views}
@@ -16,7 +16,7 @@ loop-node-init c = refl
 pub returns-then-is_none : goal.returns-then-is_none
 returns-then-is_none c =
     let l = c.loop-node-test.true in
-    sym (first_below_found (length (views c.args.nodes.now)) c.loop-node.node (λ i. is_none (member c.args.column.now (object_at (views c.args.nodes.now) i))) (omega (arith, l, length-views c.args.nodes.now)) c.loop-node.invariant
+    sym (first_below_here (length (views c.args.nodes.now)) c.loop-node.node (λ i. is_none (member c.args.column.now (object_at (views c.args.nodes.now) i))) c.loop-node.invariant (omega (arith, l, length-views c.args.nodes.now))
     (ap (λ d. is_none (member c.args.column.now d)) (object_is c.args.nodes.now c.loop-node.node c.index-nodes-node.result l c.index-nodes-node.is)
     ∙ ap (λ k. is_none (member k (view c.index-nodes-node.result))) (sym c.as_str.ensures) ∙ absent_is _ c.get.result (member c.as_str.result.now (view c.index-nodes-node.result)) c.is_none.result c.get.ensures c.is_none.ensures ∙ c.if-is_none.true))
 

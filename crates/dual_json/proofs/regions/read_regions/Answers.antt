@@ -1,9 +1,9 @@
 use Rattle.std.proofs.Common.{◌≡◌, Option, Some, None, Ok, sym, ap, subst, ◌∙◌, inl, inr, arith}
 use Rattle.serde_json.specs.View.{view}
 use Rattle.audit_model.specs.Limits.{AreRegions}
-use Rattle.model_laws.proofs.Results.{match_map, ok_map}
-use Rattle.graph_definitions.specs.Regions.{regions, regions_or}
-use Rattle.dual_json.specs.Shape.{document_of}
+use Rattle.audit_model.proofs.Results.{match_map, ok_map}
+use Rattle.audit_statement.specs.Regions.{regions, regions_or}
+use Rattle.dual_json.specs.Shape.{document_of_parts}
 use Rattle.dual_json.proofs.Listed.{length-views}
 use Rattle.dual_json.proofs.Regioned.{part_none, few_nodes, units_are, region_reading_of}
 use Rattle.dual_json.proofs.regions.read_regions.Goals as goal
@@ -11,7 +11,7 @@ use Rattle.dual_json.proofs.regions.read_regions.Goals as goal
 pub regions_in-requires : goal.regions_in-requires
 regions_in-requires c =
     let g = c.requires.graph in
-    let few = few_nodes c.args.bytes.now g.columns (view c.in-Ok.root) g.parsed c.in-Ok.ensures g.accepted (document_of c.in-Ok-parts_of.parts) c.in-Ok-parts_of.ensures.1 in
+    let few = few_nodes c.args.bytes.now g.columns (view c.in-Ok.root) g.parsed c.in-Ok.ensures g.accepted (document_of_parts c.in-Ok-parts_of.parts) c.in-Ok-parts_of.ensures.1 in
     omega (arith, few, length-views c.in-Ok-parts_of.parts.nodes.now)
 
 pub unreachable-requires : goal.unreachable-requires
@@ -25,7 +25,7 @@ unreachable-requires c =
 
 pub returns-in-Ok-parts_of-clause-read : goal.returns-in-Ok-parts_of-clause-read
 returns-in-Ok-parts_of-clause-read c =
-    let d = document_of c.in-Ok-parts_of.parts in
+    let d = document_of_parts c.in-Ok-parts_of.parts in
     let column = c.args.column.now in
     let read = region_reading_of c.args.bytes.now column (view c.in-Ok.root) d c.in-Ok.ensures c.in-Ok-parts_of.ensures.1 in
     match_map c.regions_in.result _ _ _ _ c.regions_in.ensures.read
@@ -37,7 +37,7 @@ returns-in-Ok-parts_of-clause-read c =
 
 pub returns-in-Ok-parts_of-clause-within : goal.returns-in-Ok-parts_of-clause-within
 returns-in-Ok-parts_of-clause-within c =
-    let d = document_of c.in-Ok-parts_of.parts in
+    let d = document_of_parts c.in-Ok-parts_of.parts in
     ok_map c.regions_in.result _ _ c.regions_in.ensures.within
     (λ numbers h columns parsed accepted.
     let units = units_are c.args.bytes.now columns (view c.in-Ok.root) parsed c.in-Ok.ensures accepted d c.in-Ok-parts_of.ensures.1 in

@@ -1,11 +1,11 @@
 use Rattle.std.proofs.Common.{◌≡◌, ℕ, List, Option, Some, None, sym, ap, subst, ◌∙◌, inl, inr}
 use Rattle.audit_model.specs.declared.fault.RegionFault.TheVariants.{BadLabel}
 use Rattle.audit_model.specs.declared.setting.Label.{Label}
-use Rattle.model_laws.proofs.Results.{match_map, ok_from}
+use Rattle.audit_model.proofs.Results.{match_map, ok_from}
 use Rattle.dual_json.specs.Numbered.{first_without}
-use Rattle.graph_definitions.specs.Regions.{region_fault}
-use Rattle.dual_json.specs.Places.{labels_from, first_unnamed, AreLabels, Tells}
-use Rattle.dual_json.specs.Shape.{views, document_of}
+use Rattle.audit_statement.specs.Regions.{region_fault}
+use Rattle.dual_json.specs.Places.{labels_from, first_unnamed, AreLabels, TellsUnnamed}
+use Rattle.dual_json.specs.Shape.{views, document_of_parts}
 use Rattle.dual_json.specs.declared.names.Name.{Name}
 use Rattle.dual_json.specs.declared.names.Unnamed.{Unnamed}
 use Rattle.dual_json.specs.declared.names.Unnamed.TheVariants.{At, Memory as NoMemory}
@@ -15,7 +15,7 @@ use Rattle.dual_json.proofs.regions.regions_in.Goals as goal
 
 pub returns-in-Ok-clause-read : goal.returns-in-Ok-clause-read
 returns-in-Ok-clause-read c =
-    let d = document_of c.args.parts.now in
+    let d = document_of_parts c.args.parts.now in
     let column = c.args.column.now in
     let labels : List Label = labels_from c.deref.result.now in
     let all : first_without column d.nodes ≡ None = sym c.first_missing.ensures ∙ c.in_default.is in
@@ -41,13 +41,13 @@ returns-in-Ok-clause-within c =
 
 pub returns-in-Err-At-clause-read : goal.returns-in-Err-At-clause-read
 returns-in-Err-At-clause-read c =
-    let d = document_of c.args.parts.now in
+    let d = document_of_parts c.args.parts.now in
     let column = c.args.column.now in
     let all : first_without column d.nodes ≡ None = sym c.first_missing.ensures ∙ c.in_default.is in
     let bad : first_unnamed column d.nodes ≡ Some c.in-Err-At.node = told c.in-Err-At.field-0 _ c.in-Err-At.node
-    (subst (λ k. Tells c.in-Err-At.field-0 (first_unnamed k d.nodes)) c.as_str.ensures (c.in-Err-At.ensures {u = tt})) c.in-Err-At.field-0-is in
+    (subst (λ k. TellsUnnamed c.in-Err-At.field-0 (first_unnamed k d.nodes)) c.as_str.ensures (c.in-Err-At.ensures {u = tt})) c.in-Err-At.field-0-is in
     inr (subst (λ n. region_fault d column ≡ Some (BadLabel n)) (sym c.in-Err-At.node-is) (fault_unlabelled d column c.in-Err-At.node all bad))
   where
-    told : (why : Unnamed) (found : Option ℕ) (node : ℕ) → Tells why found → why ≡ At node → found ≡ Some node
+    told : (why : Unnamed) (found : Option ℕ) (node : ℕ) → TellsUnnamed why found → why ≡ At node → found ≡ Some node
     told (At i) found node tells is = tells ∙ ap Some (cc is)
     told NoMemory found node tells is = cc is

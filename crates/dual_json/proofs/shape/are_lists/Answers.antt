@@ -3,7 +3,7 @@ use Rattle.std.specs.Option.{is_some}
 use Rattle.std.proofs.lemmas.Bool.{cases_eq}
 use Rattle.serde_json.specs.Find.{as_array}
 use Rattle.serde_json.specs.View.{view}
-use Rattle.graph_definitions.specs.Reading.{list_of}
+use Rattle.audit_statement.specs.Reading.{list_of}
 use Rattle.dual_json.specs.Places.{object_at}
 use Rattle.dual_json.specs.Shape.{views}
 use Rattle.dual_json.proofs.Listed.{object_is, is_some-elements, list_all_from, list_all_fails, length-views}

@@ -1,6 +1,6 @@
 use Rattle.std.proofs.Common.{◌≡◌, ℕ, ◌<◌, true}
 use Rattle.std.specs.Option.{is_some}
-use Rattle.graph_definitions.specs.Reading.{list_of}
+use Rattle.audit_statement.specs.Reading.{list_of}
 use Rattle.dual_json.specs.Places.{object_at}
 use Rattle.dual_json.specs.Shape.{views}
 use Rattle.dual_json.proofs.shape.are_lists.Given as goal

@@ -2,7 +2,7 @@ use Rattle.std.proofs.Common.{List, [], sym, ap, ◌∙◌, arith}
 use Rattle.std.specs.Option.{option_map, unwrap_or}
 use Rattle.serde_json.specs.View.{view}
 use Rattle.serde_json.specs.declared.value.Value.{Value}
-use Rattle.graph_definitions.specs.Reading.{elements, list_of}
+use Rattle.audit_statement.specs.Reading.{elements, list_of}
 use Rattle.dual_json.specs.Shape.{views}
 use Rattle.dual_json.proofs.Listed.{elements-items_view, get_or-map_at, length-views}
 use Rattle.dual_json.proofs.shape.entries_of.Goals as goal

@@ -1,6 +1,6 @@
 use Rattle.std.proofs.Common.{List, Some, sym, ap, ◌∙◌}
 use Rattle.std.specs.Option.{option_map, option_and_then}
-use Rattle.graph_definitions.specs.Reading.{elements, list_of}
+use Rattle.audit_statement.specs.Reading.{elements, list_of}
 use Rattle.serde_json.specs.declared.value.Value.{Value}
 use Rattle.dual_json.specs.Shape.{views}
 use Rattle.dual_json.proofs.Listed.{elements-items_view}

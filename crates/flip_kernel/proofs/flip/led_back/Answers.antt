@@ -4,7 +4,7 @@ use Rattle.audit_model.specs.Job.{Job}
 use Rattle.audit_model.specs.Plan.{IsLegal}
 use Rattle.audit_model.specs.Proposal.{proposal}
 use Rattle.audit_model.specs.Step.{next, mirrored}
-use Rattle.model_laws.proofs.Mirror.{mirrored_below, mirrored_stays}
+use Rattle.audit_model.proofs.Mirror.{mirrored_below, mirrored_stays}
 use Rattle.flip_kernel.specs.Held.{IsMove, ProposesOpen}
 use Rattle.flip_kernel.proofs.flip.led_back.Goals as goal
 use Rattle.flip_kernel.proofs.Flipping.{next_moved, next_stays, move_differs, mirrored_turned}
@@ -19,13 +19,13 @@ turned job plan draw unit district minus plus is l move less more =
 
 pub returns-in-None-clause-value : goal.returns-in-None-clause-value
 returns-in-None-clause-value g c =
-    let plan : List ℕ = c.args.state.now.board.plan in
+    let plan : List ℕ = c.args.state.now.plan in
     sym (mirrored_stays c.args.job.now plan c.args.draw (subst (λ (j : Job). next j plan c.args.draw ≡ plan) c.requires.made c.in-None.ensures))
 
 pub overflow_add-result : goal.overflow_add-result
 overflow_add-result g c =
     let job = c.args.job.now in
-    let plan : List ℕ = c.args.state.now.board.plan in
+    let plan : List ℕ = c.args.state.now.plan in
     let offer : ProposesOpen job plan c.args.draw c.in-Some.unit c.in-Some.district =
     subst (λ (j : Job). ProposesOpen j plan c.args.draw c.in-Some.unit c.in-Some.district) c.requires.made c.in-Some.ensures in
     let legal : IsLegal job plan = subst (λ (j : Job). IsLegal j plan) c.requires.made c.plan-plan.ensures.legal in
@@ -38,7 +38,7 @@ overflow_add-result g c =
 pub returns-then-may_move-clause-value : goal.returns-then-may_move-clause-value
 returns-then-may_move-clause-value g c =
     let job = c.args.job.now in
-    let plan : List ℕ = c.args.state.now.board.plan in
+    let plan : List ℕ = c.args.state.now.plan in
     let offer : ProposesOpen job plan c.args.draw c.in-Some.unit c.in-Some.district =
     subst (λ (j : Job). ProposesOpen j plan c.args.draw c.in-Some.unit c.in-Some.district) c.requires.made c.in-Some.ensures in
     turned job plan c.args.draw c.in-Some.unit c.in-Some.district c.from.result c.from-then-may_move.result offer.proposed offer.inside (c.may_move.ensures.moves.0 c.if-may_move.true)
@@ -47,7 +47,7 @@ returns-then-may_move-clause-value g c =
 pub returns-clause-value : goal.returns-clause-value
 returns-clause-value g c =
     let job = c.args.job.now in
-    let plan : List ℕ = c.args.state.now.board.plan in
+    let plan : List ℕ = c.args.state.now.plan in
     let offer : ProposesOpen job plan c.args.draw c.in-Some.unit c.in-Some.district =
     subst (λ (j : Job). ProposesOpen j plan c.args.draw c.in-Some.unit c.in-Some.district) c.requires.made c.in-Some.ensures in
     sym (mirrored_stays job plan c.args.draw (next_stays job plan c.args.draw c.in-Some.unit c.in-Some.district offer.proposed

@@ -17,4 +17,4 @@ returns c =
     c.above.result c.left.result c.right.result c.below.result _ _ _ _ (ap (λ (vs : List Value). map view vs) c.new-list.ensures.items)
     c.above.ensures (c.in_ok-push_entry.ensures {u = tt}) c.left.ensures (c.in_ok-push_entry-2.ensures {u = tt})
     c.right.ensures (c.in_ok-push_entry-3.ensures {u = tt}) c.below.ensures (c.in_ok-push_entry-4.ensures {u = tt})
-    ∙ ap (λ (units : List ℕ). map entry_tree units) (sym (four_beside c.args.size c.args.unit c.requires.size.0 c.requires.unit)))
+    ∙ ap (λ (units : List ℕ). map entry_tree units) (sym (four_beside c.args.square.size c.args.unit c.args.square.some c.requires)))

@@ -1,6 +1,6 @@
 use Rattle.std.proofs.Common.{◌≡◌, ◌-◌}
 use Rattle.audit_model.specs.Below.{map_below}
-use Rattle.draw_definitions.specs.Grid.{first_votes_of}
+use Rattle.audit_statement.specs.Grid.{first_votes_of}
 use Rattle.grid_maker.proofs.made.counts_of.Given as goal
 
 abbrev pub invariant-loop-unit : goal.invariant-loop-unit

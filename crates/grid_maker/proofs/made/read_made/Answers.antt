@@ -1,7 +1,7 @@
 use Rattle.std.proofs.Common.{◌≡◌, ℕ, List, length, true, sym, ap, ◌∙◌, subst, arith}
 use Rattle.std.specs.Prelude.{◌↔◌}
 use Rattle.audit_model.specs.Graph.{adjacent}
-use Rattle.draw_definitions.specs.Grid.{side}
+use Rattle.audit_statement.specs.Grid.{grid_side}
 use Rattle.dual_graph.specs.Pairs.{ArePairs, Joins}
 use Rattle.grid_maker.proofs.Assembled.{made_graph, made_rows, made_is_read, made_within}
 use Rattle.grid_maker.proofs.Districts.{units_of, few_units}
@@ -12,7 +12,7 @@ pub from_pairs-requires-clause-few : goal.from_pairs-requires-clause-few
 from_pairs-requires-clause-few c =
     let size = c.args.size in
     let few = few_units size c.requires.1 in
-    let long = length-until (side size) (units_of size) in (
+    let long = length-until (grid_side size) (units_of size) in (
       omega (arith, few),
       omega (arith, few, long, ap (λ (ps : List (ℕ × ℕ)). length ps) (c.deref.ensures.value ∙ c.in_ok-pairs.ensures {u = tt})),
     )
@@ -20,7 +20,7 @@ from_pairs-requires-clause-few c =
 pub from_pairs-requires-clause-pairs : goal.from_pairs-requires-clause-pairs
 from_pairs-requires-clause-pairs c =
     subst (λ (ps : List (ℕ × ℕ)). ArePairs (units_of c.args.size) ps) (sym (c.deref.ensures.value ∙ c.in_ok-pairs.ensures {u = tt}))
-    (let some = c.requires.0 in pairs_rise (side c.args.size) (omega (arith, some)))
+    (let some = c.requires.0 in pairs_rise (grid_side c.args.size) (omega (arith, some)))
 
 pub returns-clause-read : goal.returns-clause-read
 returns-clause-read c =
@@ -41,7 +41,7 @@ returns-clause-within c =
     let g = c.in_ok-graph.graph in
     let counts = c.in_ok-counts.counts in
     let few = few_units size c.requires.1 in
-    let long = length-until (side size) (units_of size) in
+    let long = length-until (grid_side size) (units_of size) in
     let rows = made_rows size key c.requires.0 c.requires.1 counts c.in_ok-start.start c.in_ok-labels.labels
     c.in_ok-counts.ensures.population c.in_ok-counts.ensures.first c.in_ok-counts.ensures.second c.in_ok-start.ensures c.in_ok-labels.ensures in
     made_within size key c.requires.0 c.requires.1 g counts c.in_ok-start.start c.in_ok-labels.labels c.in_ok-graph.ensures.sound c.in_ok-graph.ensures.units

@@ -9,5 +9,5 @@ invariant-loop-unit l = record {
   key : l.draws.key ≡ l.fn.key;
   stream : l.draws.stream ≡ 4294967296;
   place : l.draws.place ≡ l.unit;
-  nodes : map view l.list.items ≡ map_below l.unit (node_tree l.size l.fn.key);
+  nodes : map view l.list.items ≡ map_below l.unit (node_tree l.square.size l.fn.key);
 }

@@ -3,7 +3,7 @@ use Rattle.std.specs.Prelude.{option_map}
 use Rattle.plan_core.specs.Outside.{is_outside, outside}
 use Rattle.plan_core.proofs.Bounded.{outside_passes}
 use Rattle.plan_core.proofs.bounds.first_outside.Goals as goal
-use Rattle.model_laws.proofs.First.{first_below_here}
+use Rattle.audit_model.proofs.First.{first_below_here}
 
 pub returns-then-population-low : goal.returns-then-population-low
 returns-then-population-low c =

@@ -1,7 +1,7 @@
 use Rattle.std.proofs.Common.{ℕ, ◌≡◌, ◌+◌, max, get_or, ap, ◌∙◌, take, arith}
 use Rattle.std.proofs.lemmas.List.{take_more}
 use Rattle.audit_model.specs.Below.{above_all}
-use Rattle.model_laws.proofs.Lists.{above_all_more}
+use Rattle.audit_model.proofs.ListFacts.{above_all_more}
 use Rattle.plan_core.proofs.splits.above_all.Goals as goal
 use Rattle.plan_core.proofs.splits.above_all.Goals.{then-above-number, else-above-number}
 

@@ -2,7 +2,7 @@ use Rattle.std.proofs.Common.{ℕ, Bool, false, ◌∙◌, arith}
 use Rattle.std.specs.List.{slice_index_or}
 use Rattle.plan_core.proofs.splits.count_marked.Goals as goal
 use Rattle.plan_core.proofs.splits.count_marked.Goals.{then-seen-place, else-seen-place}
-use Rattle.model_laws.proofs.Below.{counted_none, counted_on, counted_off}
+use Rattle.audit_model.proofs.Below.{counted_none, counted_on, counted_off}
 
 pub loop-place-init : goal.loop-place-init
 loop-place-init c = record { count = counted_none (λ d. slice_index_or c.args.seen.now d false); few = omega arith }

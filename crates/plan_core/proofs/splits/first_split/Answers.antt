@@ -4,7 +4,7 @@ use Rattle.std.proofs.lemmas.Bool.{lt-ltb}
 use Rattle.audit_model.specs.declared.fault.PlanFault.TheVariants.{TooManySplit}
 use Rattle.audit_model.specs.Below.{above_all}
 use Rattle.audit_model.specs.Meets.{split_of}
-use Rattle.model_laws.proofs.First.{first_below_here}
+use Rattle.audit_model.proofs.First.{first_below_here}
 use Rattle.plan_core.specs.Splits.{is_split, split}
 use Rattle.plan_core.proofs.splits.first_split.Goals as goal
 

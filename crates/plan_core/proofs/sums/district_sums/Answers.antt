@@ -22,7 +22,7 @@ loop-unit-preserved c =
     let unit : ℕ = c.loop-unit.unit in
     let lt : unit < length plan = c.loop-unit-test.true in
     let below : get_or plan unit 0 < 200 = c.requires.districts unit lt in
-    let one : get_or column unit 0 ≤ 1000000000 = All-get_or (λ n. n ≤ 1000000000) column unit 0 (omega (arith, lt, c.requires.width)) c.requires.small in
+    let one : get_or column unit 0 ≤ 1000000000 = All-get_or (λ n. n ≤ 1000000000) column unit 0 (omega (arith, lt, c.requires.column.width)) c.requires.column.small in
     record {
       width = length-set sums (get_or plan unit 0) (get_or sums (get_or plan unit 0) 0 + get_or column unit 0) ∙ c.loop-unit.invariant.width;
       sums = λ d l. sums_more plan column sums unit d c.loop-unit.invariant.width below (c.loop-unit.invariant.sums d l);

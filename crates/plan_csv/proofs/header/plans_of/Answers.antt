@@ -1,7 +1,7 @@
 use Rattle.std.proofs.Common.{◌≡◌, ◌+◌, ◌∙◌, sym, ap, suc, arith, []}
 use Rattle.csv.specs.Records.{fields_of}
 use Rattle.std.specs.List.{slice_index_or}
-use Rattle.table_definitions.specs.Table.{is_plan_name}
+use Rattle.audit_statement.specs.Table.{is_plan_name}
 use Rattle.plan_csv.proofs.Heads.{bad_here}
 use Rattle.plan_csv.proofs.header.plans_of.Goals as goal
 

@@ -1,7 +1,7 @@
 use Rattle.std.proofs.Common.{◌≡◌, None, [], not}
 use Rattle.csv.specs.Records.{fields_of}
 use Rattle.audit_model.specs.First.{first_below}
-use Rattle.table_definitions.specs.Table.{is_plan_name, plan_name}
+use Rattle.audit_statement.specs.Table.{is_plan_name, plan_name}
 use Rattle.plan_csv.proofs.header.plans_of.Given as goal
 
 abbrev pub invariant-loop-plan : goal.invariant-loop-plan

@@ -1,6 +1,6 @@
 use Rattle.std.proofs.Common.{◌≡◌, ℕ, length, get_or, refl, ap, ◌∙◌, arith}
 use Rattle.audit_model.specs.Below.{map_below}
-use Rattle.model_laws.proofs.Below.{map_below_more}
+use Rattle.audit_model.proofs.Below.{map_below_more}
 use Rattle.plan_csv.proofs.labels.picked.Goals as goal
 
 pub loop-unit-preserved : goal.loop-unit-preserved

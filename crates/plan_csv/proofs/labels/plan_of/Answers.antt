@@ -8,7 +8,7 @@ use Rattle.dual_json.specs.Districts.{AreDifferent}
 use Rattle.dual_json.specs.Names.{label_from}
 use Rattle.dual_json.specs.Places.{labels_from}
 use Rattle.dual_json.specs.declared.names.Name.{Name}
-use Rattle.table_definitions.specs.Table.{label_count, plan_name}
+use Rattle.audit_statement.specs.Table.{label_count, plan_name}
 use Rattle.plan_csv.specs.Stages.{IsAssigned}
 use Rattle.plan_csv.proofs.Labelled.{districts_are, counted, assigned_is, fits}
 use Rattle.plan_csv.proofs.labels.plan_of.Goals as goal

@@ -3,7 +3,7 @@ use Rattle.std.specs.List.{All}
 use Rattle.std.proofs.lemmas.List.{length-map}
 use Rattle.csv.specs.Records.{fields_of}
 use Rattle.audit_model.specs.declared.setting.Label.{Label}
-use Rattle.model_laws.proofs.Results.{match_map, ok_map}
+use Rattle.audit_model.proofs.Results.{match_map, ok_map}
 use Rattle.plan_csv.specs.Fit.{IsPlanOf}
 use Rattle.plan_csv.specs.Stages.{AreRecords, refused_units}
 use Rattle.plan_csv.proofs.Assembled.{plans_are}

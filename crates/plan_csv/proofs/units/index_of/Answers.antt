@@ -2,7 +2,7 @@ use Rattle.std.proofs.Common.{refl, sym, ap, inr, arith, string_bytes, ◌∙◌
 use Rattle.std.specs.Map.{lookup}
 use Rattle.std.specs.Cmp.Lexicographic.{slice_cmp}
 use Rattle.std.specs.Ordering.{is_eq, nat_cmp}
-use Rattle.table_definitions.specs.Table.{id_text}
+use Rattle.audit_statement.specs.Table.{id_text}
 use Rattle.audit_model.specs.declared.setting.Label.TheVariants.{Word}
 use Rattle.plan_csv.proofs.Pushed.{item_is}
 use Rattle.plan_csv.proofs.Indexed.{shared_here, indexed_more, indexed_all}

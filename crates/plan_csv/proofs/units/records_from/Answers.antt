@@ -1,6 +1,6 @@
 use Rattle.std.proofs.Common.{◌<◌, ap, arith, length, map, sym, inl, inr, subst, get_or, List, ℕ}
 use Rattle.std.proofs.lemmas.Result.{err_from_is_err_and}
-use Rattle.model_laws.proofs.Results.{match_map}
+use Rattle.audit_model.proofs.Results.{match_map}
 use Rattle.csv.specs.Records.{fields_of}
 use Rattle.plan_csv.proofs.Bridge.{unit_under}
 use Rattle.plan_csv.proofs.Refused.{twice_first, missing_first, none_refused, all_records}

@@ -1,8 +1,8 @@
 use Rattle.std.proofs.Common.{ℕ, ◌+◌, ◌*◌, ◌<◌, ◌&&◌, ◌==◌, get_or, refl, sym, ◌∙◌, arith}
 use Rattle.region_guard.proofs.Moves.{counted_on}
 use Rattle.region_guard.proofs.counting.count_units.Goals as goal
-use Rattle.model_laws.proofs.Below.{count_below_le, count_below_zero}
-use Rattle.model_laws.proofs.Numbers.{place_below}
+use Rattle.audit_model.proofs.Below.{count_below_le, count_below_zero}
+use Rattle.audit_model.proofs.Numbers.{place_below}
 
 pub loop-unit-init : goal.loop-unit-init
 loop-unit-init c = λ q d lq ld.

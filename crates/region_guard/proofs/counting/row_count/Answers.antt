@@ -1,7 +1,7 @@
 use Rattle.std.proofs.Common.{ℕ, List, take, get_or, ap, ◌∙◌, arith}
 use Rattle.std.proofs.lemmas.List.{take_more}
 use Rattle.audit_model.specs.Below.{above_all}
-use Rattle.model_laws.proofs.Lists.{above_all_more}
+use Rattle.audit_model.proofs.ListFacts.{above_all_more}
 use Rattle.region_guard.proofs.counting.row_count.Goals as goal
 use Rattle.region_guard.proofs.counting.row_count.Goals.{then-region-rows, else-region-rows}
 

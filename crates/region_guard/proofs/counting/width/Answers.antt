@@ -5,7 +5,7 @@ use Rattle.region_guard.specs.Standing.{cell}
 use Rattle.region_guard.proofs.Moves.{next_counted}
 use Rattle.region_guard.proofs.counting.width.Goals as goal
 use Rattle.region_guard.proofs.counting.width.Goals.{then-cells-region-gt0, else-cells-region-gt0}
-use Rattle.model_laws.proofs.Below.{count_below_le, count_below_zero}
+use Rattle.audit_model.proofs.Below.{count_below_le, count_below_zero}
 
 pub loop-district-init : goal.loop-district-init
 loop-district-init c = sym (count_below_zero (λ d. nat_lt 0 (cell c.args.districts c.args.cells.now c.args.region d)))

@@ -1,7 +1,7 @@
 use Rattle.std.proofs.Common.{◌++◌}
 use Rattle.report.specs.Parts.{key_line}
 use Rattle.report.proofs.Written.{appends-two}
-use Rattle.text_definitions.specs.Report.{graph_line, population_line, rule_lines, setting_line, stop_line, title_line}
+use Rattle.audit_statement.specs.Report.{graph_line, population_line, rule_lines, setting_line, stop_line, title_line}
 use Rattle.report.proofs.audit.push_head.Goals as goal
 
 pub returns : goal.returns

@@ -1,7 +1,7 @@
 use Rattle.std.proofs.Common.{◌++◌, ◌∷◌, [], codes}
 use Rattle.report.specs.Parts.{head}
 use Rattle.report.proofs.Written.{appends-two}
-use Rattle.text_definitions.specs.Report.{line, serial_lines, shift_line, test_lines, walk_lines}
+use Rattle.audit_statement.specs.Report.{line, serial_lines, shift_line, test_lines, walk_lines}
 use Rattle.report.proofs.audit.push_report.Goals as goal
 
 pub returns : goal.returns

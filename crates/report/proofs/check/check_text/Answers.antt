@@ -1,7 +1,7 @@
 use Rattle.std.proofs.Common.{◌++◌, ◌∙◌, ◌∷◌, [], ap, codes}
 use Rattle.std.proofs.lemmas.Result.{on_ok_weaker}
 use Rattle.report.proofs.Written.{appended-five}
-use Rattle.text_definitions.specs.Report.{check_text, line, graph_line, population_line, rule_lines}
+use Rattle.audit_statement.specs.Report.{check_text, line, graph_line, population_line, rule_lines}
 use Rattle.report.proofs.check.check_text.Goals as goal
 
 pub returns-clause-ok : goal.returns-clause-ok

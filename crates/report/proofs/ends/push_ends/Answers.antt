@@ -1,7 +1,7 @@
 use Rattle.std.proofs.Common.{arith}
 use Rattle.std.proofs.lemmas.Result.{err_from_is_err_and}
 use Rattle.audit_model.specs.Stopping.{placed_asks}
-use Rattle.text_definitions.specs.Report.{ends_line}
+use Rattle.audit_statement.specs.Report.{ends_line}
 use Rattle.report.proofs.Pieces.{no_ask, placed, placed_within, placed_all, pieces-more, pieces-err, pieces-all}
 use Rattle.report.proofs.ends.push_ends.Goals as goal
 

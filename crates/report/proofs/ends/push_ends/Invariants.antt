@@ -1,6 +1,6 @@
 use Rattle.report.proofs.Pieces.{ArePieces}
 use Rattle.audit_model.specs.Stopping.{placed_asks}
-use Rattle.text_definitions.specs.Report.{ends_line}
+use Rattle.audit_statement.specs.Report.{ends_line}
 use Rattle.report.proofs.ends.push_ends.Given as goal
 
 abbrev pub invariant-loop-place : goal.invariant-loop-place

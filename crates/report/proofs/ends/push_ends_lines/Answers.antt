@@ -2,7 +2,7 @@ use Rattle.std.proofs.Common.{flat_map, ap, ◌∙◌}
 use Rattle.report.proofs.Ranked.{lines_alone}
 use Rattle.report.proofs.Written.{appends-by}
 use Rattle.audit_model.specs.Stopping.{placed_asks}
-use Rattle.text_definitions.specs.Report.{ends_line, ends_lines}
+use Rattle.audit_statement.specs.Report.{ends_line, ends_lines}
 use Rattle.report.proofs.ends.push_ends_lines.Goals as goal
 
 pub returns : goal.returns

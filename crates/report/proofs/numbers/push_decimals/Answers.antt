@@ -1,6 +1,6 @@
 use Rattle.std.proofs.Common.{◌∷◌, []}
 use Rattle.std.proofs.lemmas.Result.{err_from_is_err_and}
-use Rattle.text_definitions.specs.Report.{nine_digits}
+use Rattle.audit_statement.specs.Report.{nine_digits}
 use Rattle.report.proofs.Written.{appends-two, appends-err}
 use Rattle.report.proofs.numbers.push_decimals.Goals as goal
 

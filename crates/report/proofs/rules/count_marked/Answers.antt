@@ -2,7 +2,7 @@ use Rattle.std.proofs.Common.{ℕ, Bool, false, ◌∙◌, arith}
 use Rattle.std.specs.List.{slice_index_or}
 use Rattle.report.proofs.rules.count_marked.Goals as goal
 use Rattle.report.proofs.rules.count_marked.Goals.{then-seen-number, else-seen-number}
-use Rattle.model_laws.proofs.Below.{counted_none, counted_on, counted_off}
+use Rattle.audit_model.proofs.Below.{counted_none, counted_on, counted_off}
 
 pub loop-number-init : goal.loop-number-init
 loop-number-init c = record { count = counted_none (λ r. slice_index_or c.args.seen.now r false); few = omega arith }

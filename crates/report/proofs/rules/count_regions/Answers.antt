@@ -1,7 +1,7 @@
 use Rattle.std.proofs.Common.{false, ◌∙◌}
 use Rattle.std.specs.List.{slice_index_or}
 use Rattle.audit_model.specs.Graph.{has}
-use Rattle.model_laws.proofs.Below.{count_below_same}
+use Rattle.audit_model.proofs.Below.{count_below_same}
 use Rattle.report.proofs.Regions.{regions_counted}
 use Rattle.report.proofs.rules.count_regions.Goals as goal
 

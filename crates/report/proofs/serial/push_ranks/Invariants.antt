@@ -1,6 +1,6 @@
 use Rattle.audit_model.specs.Stopping.{placed_asks}
 use Rattle.report.proofs.Pieces.{ArePieces}
-use Rattle.text_definitions.specs.Report.{serial_line}
+use Rattle.audit_statement.specs.Report.{serial_line}
 use Rattle.report.proofs.serial.push_ranks.Given as goal
 
 abbrev pub invariant-loop-k : goal.invariant-loop-k

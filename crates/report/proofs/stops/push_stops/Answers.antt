@@ -1,7 +1,7 @@
 use Rattle.std.proofs.Common.{[], arith}
 use Rattle.std.specs.Prelude.{zip}
 use Rattle.std.proofs.lemmas.Result.{err_from_is_err_and}
-use Rattle.text_definitions.specs.Report.{stopped_line}
+use Rattle.audit_statement.specs.Report.{stopped_line}
 use Rattle.report.proofs.Pieces.{no_ask, zipped, zipped_within, zipped_all, pieces-more, pieces-err, pieces-all}
 use Rattle.report.proofs.stops.push_stops.Goals as goal
 

@@ -1,6 +1,6 @@
 use Rattle.std.specs.Prelude.{zip}
 use Rattle.report.proofs.Pieces.{ArePieces}
-use Rattle.text_definitions.specs.Report.{stopped_line}
+use Rattle.audit_statement.specs.Report.{stopped_line}
 use Rattle.report.proofs.stops.push_stops.Given as goal
 
 abbrev pub invariant-loop-place : goal.invariant-loop-place

@@ -1,5 +1,5 @@
 use Rattle.audit_model.specs.Machine.{new_machine}
-use Rattle.model_laws.proofs.Running.{events_keep, step_keeps}
+use Rattle.audit_model.proofs.Running.{events_keep, step_keeps}
 use Rattle.run_core.proofs.Stepping.{opening_is_run, fresh_is_run}
 use Rattle.run_core.proofs.laws.runs_stay_right.Goals as goal
 

@@ -1,6 +1,6 @@
 use Rattle.std.proofs.Common.{length, ap, false, not, get_or, arith}
 use Rattle.run_core.proofs.marks.list_unmarked.Goals as goal
-use Rattle.model_laws.proofs.Below.{length-filter_below}
+use Rattle.audit_model.proofs.Below.{length-filter_below}
 
 pub push_reserved-requires : goal.push_reserved-requires
 push_reserved-requires c =

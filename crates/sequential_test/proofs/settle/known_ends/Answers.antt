@@ -6,6 +6,6 @@ pub loop-short-init : goal.loop-short-init
 loop-short-init c = record {
   below = omega arith;
   within = omega arith;
-  known = ends_ranked c.args.walks c.args.posted.now 0 ∙ ranked_none c.args.walks (λ o. true) c.args.posted.now;
+  known = ends_ranked c.args.span.walks c.args.posted.now 0 ∙ ranked_none c.args.span.walks (λ o. true) c.args.posted.now;
   short = λ l. absurd (omega (arith, l));
 }

@@ -1,7 +1,7 @@
 use Rattle.std.proofs.Common.{◌≡◌, ◌∙◌, ℕ, ◌+◌, ◌-◌, ◌≤◌, List, ap, sym, subst, arith}
 use Rattle.audit_model.specs.declared.setting.Setting.{Setting}
 use Rattle.audit_model.specs.Serially.{run_outcome}
-use Rattle.draw_definitions.specs.Draw.{draw}
+use Rattle.audit_statement.specs.Draw.{draw}
 use Rattle.serial_test.specs.Places.{ArePlaces}
 use Rattle.serial_test.specs.Ranks.{HasRanks}
 use Rattle.serial_test.proofs.Powers.{run_has_places}
@@ -9,8 +9,8 @@ use Rattle.serial_test.proofs.Ranking.{moves_few, ranks_found, ranks_within, ser
 use Rattle.serial_test.proofs.Settings.{run_setting}
 use Rattle.serial_test.proofs.run.serial.Goals as goal
 
-pub start_place-place-requires : goal.start_place-place-requires
-start_place-place-requires g c =
+pub place-start-requires : goal.place-start-requires
+place-start-requires g c =
     let job = c.args.job.now in
     let steps : c.from.result ≡ job.setting.steps = c.from.ensures ∙ ap (λ (s : Setting). s.steps) c.setting-setting.ensures in
     subst (λ (n : ℕ). ArePlaces (n + 1)) (sym steps)
@@ -24,21 +24,21 @@ overflow_add-result g c =
     let few = (run_setting job c.units-units.ensures.sound c.requires.some).few_steps in
     let ahead = moves_few job draws _ _ c.run-forward.result c.run-forward.ensures.outcome in
     let back = moves_few job draws _ _ c.run-backward.result c.run-backward.ensures.outcome in
-    omega (arith, ahead, back, steps, few, c.start_place-place.ensures.within, c.from.ensures)
+    omega (arith, ahead, back, steps, few, c.place-start.ensures.within, c.from.ensures)
 
 pub returns-clause-serial : goal.returns-clause-serial
 returns-clause-serial g c =
     let job = c.args.job.now in
     let draws = draw job.setting.key in
     let steps : c.setting-setting.result.now.steps ≡ job.setting.steps = ap (λ (s : Setting). s.steps) c.setting-setting.ensures in
-    serial_found job draws c.next-drawn.result (c.from.result + 1) c.start_place-place.result c.run-forward.result c.run-backward.result c.ranks.result
+    serial_found job draws c.next-drawn.result (c.from.result + 1) c.place-start.result c.run-forward.result c.run-backward.result c.ranks.result
     (c.next-drawn.ensures.value
     ∙ ap (λ (key : List ℕ). draw key c.new-draws.result.stream c.new-draws.result.place) (c.new-draws.ensures.key ∙ ap (λ (s : Setting). s.key) c.setting-setting.ensures)
     ∙ ap (λ (stream : ℕ). draw job.setting.key stream c.new-draws.result.place) c.new-draws.ensures.stream
     ∙ ap (λ (place : ℕ). draw job.setting.key 8589934592 place) c.new-draws.ensures.place)
-    (ap (λ (n : ℕ). n + 1) (c.from.ensures ∙ steps)) c.start_place-place.ensures.place
+    (ap (λ (n : ℕ). n + 1) (c.from.ensures ∙ steps)) c.place-start.ensures.place
     c.run-forward.ensures.outcome
-    (c.run-backward.ensures.outcome ∙ ap (λ (n : ℕ). run_outcome job draws 8589934594 (n - c.start_place-place.result)) steps)
+    (c.run-backward.ensures.outcome ∙ ap (λ (n : ℕ). run_outcome job draws 8589934594 (n - c.place-start.result)) steps)
     c.ranks.ensures
 
 pub returns-clause-ranks : goal.returns-clause-ranks
@@ -46,12 +46,12 @@ returns-clause-ranks g c =
     let job = c.args.job.now in
     let draws = draw job.setting.key in
     let steps : c.setting-setting.result.now.steps ≡ job.setting.steps = ap (λ (s : Setting). s.steps) c.setting-setting.ensures in
-    let inside : c.start_place-place.result ≤ job.setting.steps = omega (arith, steps, c.start_place-place.ensures.within, c.from.ensures) in
+    let inside : c.place-start.result ≤ job.setting.steps = omega (arith, steps, c.place-start.ensures.within, c.from.ensures) in
     subst (HasRanks job)
     (sym (c.ranks.ensures
-    ∙ ranks_found job draws c.start_place-place.result c.run-forward.result c.run-backward.result c.run-forward.ensures.outcome
-    (c.run-backward.ensures.outcome ∙ ap (λ (n : ℕ). run_outcome job draws 8589934594 (n - c.start_place-place.result)) steps)))
-    (ranks_within job draws c.start_place-place.result inside (run_setting job c.units-units.ensures.sound c.requires.some).few_asks)
+    ∙ ranks_found job draws c.place-start.result c.run-forward.result c.run-backward.result c.run-forward.ensures.outcome
+    (c.run-backward.ensures.outcome ∙ ap (λ (n : ℕ). run_outcome job draws 8589934594 (n - c.place-start.result)) steps)))
+    (ranks_within job draws c.place-start.result inside (run_setting job c.units-units.ensures.sound c.requires.some).few_asks)
 
 pub returns-clause-legal : goal.returns-clause-legal
 returns-clause-legal g c =

@@ -7,10 +7,10 @@ use Rattle.walker.proofs.bins.held_seats.Goals as goal
 pub value-requires-clause-votes : goal.value-requires-clause-votes
 value-requires-clause-votes g c =
     subst (λ (s : SumsView). AreVotes s.first s.second) (sym c.view.ensures)
-    (legal_votes c.args.state.now.board.job c.args.state.now.board.plan c.requires.sound c.plan-plan.ensures.legal)
+    (legal_votes c.args.state.now.job c.args.state.now.plan c.plan-plan.ensures.sound c.plan-plan.ensures.legal)
 
 pub value-requires-clause-room : goal.value-requires-clause-room
 value-requires-clause-room g c =
-    let votes = legal_votes c.args.state.now.board.job c.args.state.now.board.plan c.requires.sound c.plan-plan.ensures.legal in
+    let votes = legal_votes c.args.state.now.job c.args.state.now.plan c.plan-plan.ensures.sound c.plan-plan.ensures.legal in
     let same = ap (λ (s : SumsView). length s.first) c.view.ensures in
-    omega (arith, same, votes.few, c.requires.room)
+    omega (arith, same, votes.few, c.told-room)

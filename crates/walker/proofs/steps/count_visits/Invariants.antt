@@ -1,18 +1,12 @@
 use Rattle.std.proofs.Common.{◌≡◌}
-use Rattle.audit_model.specs.Trajectory.{visit}
-use Rattle.draw_definitions.specs.Draw.{draw}
-use Rattle.flip_kernel.specs.Judged.{IsSeated}
-use Rattle.walker.specs.Trail.{IsTrail}
+use Rattle.walker.specs.Track.{IsOnTrack}
 use Rattle.walker.proofs.steps.count_visits.Given as goal
 
 abbrev pub invariant-loop-place : goal.invariant-loop-place
 invariant-loop-place g l = record {
-  made : l.state.board.job ≡ l.job;
-  seated : IsSeated l.job g.J.Judge.keeps g.J.Judge.stands g.J.Judge.takes g.J.Judge.rules l.state;
-  same_key : l.draws.key ≡ l.job.setting.key;
-  same_stream : l.draws.stream ≡ l.stream;
-  same_place : l.draws.place ≡ l.place;
-  visited : l.state.board.plan ≡ visit l.job (draw l.draws.key l.draws.stream) l.job.start l.place;
-  asked : l.trail.bins.asked ≡ l.shift;
-  trail : IsTrail l.job (draw l.draws.key l.draws.stream) l.place l.trail;
+  made : l.state.job ≡ l.job;
+  on : IsOnTrack l.job l.state.plan l.place l.track;
+  same_key : l.track.draws.key ≡ l.job.setting.key;
+  same_stream : l.track.draws.stream ≡ l.course.stream;
+  asked : l.track.trail.bins.asked ≡ l.course.shift;
 }

@@ -7,8 +7,7 @@ pub loop-place-init : goal.loop-place-init
 loop-place-init g c =
     let job = c.args.job.now in
     record {
-      seated = c.requires.seated;
-      walked = walked_none job job.setting.key c.args.stream c.args.state.now.board.plan c.args.state.now.board c.new-draws.result c.requires.made refl
+      walked = walked_none job job.setting.key c.args.stream c.args.state.now.plan c.args.state.now c.new-draws.result c.requires.made refl
           (c.new-draws.ensures.key ∙ ap (λ (s : Setting). s.key) c.setting-setting.ensures) c.new-draws.ensures.stream c.new-draws.ensures.place;
     }
 
@@ -26,15 +25,14 @@ pub loop-place-preserved : goal.loop-place-preserved
 loop-place-preserved g c =
     let job = c.args.job.now in
     record {
-      seated = c.step.ensures.seated;
-      walked = walked_more job job.setting.key c.args.stream c.args.state.now.board.plan c.loop-place.place c.loop-place.state.board c.loop-place.draws c.loop-place.moved
-          c.loop-place.invariant.walked c.step.new.state.board c.step.new.draws c.step.ensures.plan c.step.ensures.draws
+      walked = walked_more job job.setting.key c.args.stream c.args.state.now.plan c.loop-place.place c.loop-place.state c.loop-place.draws c.loop-place.moved
+          c.loop-place.invariant.walked c.step.new.state c.step.new.draws c.step.ensures.plan c.step.ensures.draws
           (c.loop-place.moved + c.from-moved.result) c.step.result c.step.ensures.moved (ap (λ (n : ℕ). c.loop-place.moved + n) (c.from-moved.ensures ∙ byte_cond c.step.result));
     }
 
 pub returns-clause-plan : goal.returns-clause-plan
 returns-clause-plan g c =
-    walked_state _ _ _ _ _ _ _ _ c.loop-place.invariant.walked c.args.steps (omega (arith, c.loop-place-test.false, c.loop-place.auto.place-end)) c.args.state.now.board c.requires.made
+    walked_state _ _ _ _ _ _ _ _ c.loop-place.invariant.walked c.args.steps (omega (arith, c.loop-place-test.false, c.loop-place.auto.place-end)) c.args.state.now c.requires.made
 
 pub returns-clause-moved : goal.returns-clause-moved
 returns-clause-moved g c =

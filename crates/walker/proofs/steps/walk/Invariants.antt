@@ -1,9 +1,7 @@
-use Rattle.flip_kernel.specs.Judged.{IsSeated}
 use Rattle.walker.proofs.Stepping.{IsWalked}
 use Rattle.walker.proofs.steps.walk.Given as goal
 
 abbrev pub invariant-loop-place : goal.invariant-loop-place
 invariant-loop-place g l = record {
-  walked : IsWalked l.job l.job.setting.key l.stream l.initial.state.board.plan l.place l.state.board l.draws l.moved;
-  seated : IsSeated l.job g.J.Judge.keeps g.J.Judge.stands g.J.Judge.takes g.J.Judge.rules l.state;
+  walked : IsWalked l.job l.job.setting.key l.stream l.initial.state.plan l.place l.state l.draws l.moved;
 }

@@ -25,7 +25,7 @@ use denote.Triple.Entry.{alive}
 use denote.Triple.Spec.{Meets, triple_of}
 use denote.Triple.Table.{entered}
 use denote.Triple.Walked.{says, Stays, stay_dropped, walk_of, ends_at, walk_Meets, Goes-dropped}
-use Rattle.audit_io.specs.Tries.{try_of}
+use Rattle.audit_model.specs.Tries.{try_of}
 use Rattle.audit_io.proofs.Walks.{none, none_made}
 use Rattle.audit_io.specs.contracts.tries.Tries as Tries
 use Rattle.audit_io.specs.contracts.tries.Save as Save

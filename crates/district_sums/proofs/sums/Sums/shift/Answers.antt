@@ -1,8 +1,8 @@
 use Rattle.std.proofs.Common.{◌≡◌, ℕ, ◌+◌, ◌-◌, ◌<◌, List, length, get_or, ap, ◌∙◌, arith}
 use Rattle.std.proofs.Math.ListN.{set}
 use Rattle.audit_model.specs.Plan.{district_sum, cut_edges}
-use Rattle.model_laws.proofs.Meeting.{cut_edges_few}
-use Rattle.model_laws.proofs.Below.{get_or-map_below}
+use Rattle.audit_model.proofs.Meeting.{cut_edges_few}
+use Rattle.audit_model.proofs.Below.{get_or-map_below}
 use Rattle.district_sums.specs.Following.{Following, apart_of}
 use Rattle.district_sums.proofs.Shifted.{places, shifted_cut}
 use Rattle.district_sums.proofs.Walking.{apart_few}
@@ -14,11 +14,6 @@ bounds-as_slice-unit c =
     let width = apart_width c.args.graph.now c.args.counts.now c.args.plan.now c.args.self.now c.requires.stands in
     let is = ap (length {A = ℕ}) (c.as_slice.ensures ∙ ap (λ (s : Following). s.apart) c.self.view_is) in
     omega (arith, width, is, c.requires.unit)
-
-pub shift_apart-requires-clause-width : goal.shift_apart-requires-clause-width
-shift_apart-requires-clause-width c =
-    ap (λ (s : Following). length s.apart) c.self.view_is
-    ∙ apart_width c.args.graph.now c.args.counts.now c.args.plan.now c.args.self.now c.requires.stands
 
 pub bounds-as_slice-unit-2 : goal.bounds-as_slice-unit-2
 bounds-as_slice-unit-2 c =

@@ -1,7 +1,7 @@
 use Rattle.std.proofs.Common.{◌≡◌, ℕ, ◌<◌, ◌≤◌, List, true, length, take, get_or, sym, ap, subst, ◌∙◌, refl, arith}
 use Rattle.std.proofs.lemmas.List.{length-take-le, get_or-take, get_or_read}
 use Rattle.audit_model.specs.Graph.{has}
-use Rattle.model_laws.proofs.Lists.{at_has}
+use Rattle.audit_model.proofs.ListFacts.{at_has}
 use Rattle.dual_graph.specs.Marked.{Marked, IsMarked}
 use Rattle.dual_graph.proofs.Marking.{clearing_done, marked_none}
 use Rattle.dual_graph.proofs.marks.Marks.clear.Goals as goal

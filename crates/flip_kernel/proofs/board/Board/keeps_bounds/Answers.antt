@@ -8,47 +8,47 @@ use Rattle.flip_kernel.proofs.board.Board.keeps_bounds.Goals as goal
 pub are_kept-requires-clause-people : goal.are_kept-requires-clause-people
 are_kept-requires-clause-people c =
     let s = c.self.inside in
-    let job = c.args.job.now in
+    let job = c.args.flip.job.now in
     let plan : List ℕ = c.args.self.now.plan in
     let populations : List ℕ = c.as_slice-populations.result.now in
     let at = ap (λ (h : Held). h.plan) c.self.view_is in
     let held = held_for s.job.value job s.plan plan s.sums s.marks.units s.openings s.pairs s.low s.high s.faces s.counts
     (ap (λ (h : Held). h.job) c.self.view_is ∙ c.requires.made) at c.self.invariant in
-    let people = ap (λ (xs : List ℕ). get_or xs c.args.unit 0) (c.as_slice.ensures ∙ ap (λ (k : Counts). k.population) c.counts.ensures) in
-    let home = ap (λ (p : List ℕ). get_or p c.args.unit 0) (c.as_slice-2.ensures ∙ at) in
-    let from = population_at job plan s.sums s.marks.units s.openings s.pairs s.low s.high s.faces s.counts held c.view.result.now populations (get_or plan c.args.unit 0)
-    c.view.ensures c.as_slice-populations.ensures (held.legal.in_range c.args.unit c.requires.unit) in
-    let fit = people_fit job plan c.args.unit c.args.district held.numbers.sound held.legal c.requires.unit c.requires.district c.requires.elsewhere in
+    let people = ap (λ (xs : List ℕ). get_or xs c.args.flip.unit 0) (c.as_slice.ensures ∙ ap (λ (k : Counts). k.population) c.counts.ensures) in
+    let home = ap (λ (p : List ℕ). get_or p c.args.flip.unit 0) (c.as_slice-2.ensures ∙ at) in
+    let from = population_at job plan s.sums s.marks.units s.openings s.pairs s.low s.high s.faces s.counts held c.view.result.now populations (get_or plan c.args.flip.unit 0)
+    c.view.ensures c.as_slice-populations.ensures (held.summed.legal.in_range c.args.flip.unit c.args.flip.unit_below) in
+    let fit = people_fit job plan c.args.flip.unit c.args.flip.district held.numbers.sound held.summed.legal c.args.flip.unit_below c.args.flip.district_below c.requires.elsewhere in
     omega (arith, people, ap (λ (e : ℕ). get_or populations e 0) home, from, fit.0)
 
 pub are_kept-requires-clause-from : goal.are_kept-requires-clause-from
 are_kept-requires-clause-from c =
     let s = c.self.inside in
-    let job = c.args.job.now in
+    let job = c.args.flip.job.now in
     let plan : List ℕ = c.args.self.now.plan in
     let populations : List ℕ = c.as_slice-populations.result.now in
     let at = ap (λ (h : Held). h.plan) c.self.view_is in
     let held = held_for s.job.value job s.plan plan s.sums s.marks.units s.openings s.pairs s.low s.high s.faces s.counts
     (ap (λ (h : Held). h.job) c.self.view_is ∙ c.requires.made) at c.self.invariant in
-    let home = ap (λ (p : List ℕ). get_or p c.args.unit 0) (c.as_slice-2.ensures ∙ at) in
-    let from = population_at job plan s.sums s.marks.units s.openings s.pairs s.low s.high s.faces s.counts held c.view.result.now populations (get_or plan c.args.unit 0)
-    c.view.ensures c.as_slice-populations.ensures (held.legal.in_range c.args.unit c.requires.unit) in
-    let fit = people_fit job plan c.args.unit c.args.district held.numbers.sound held.legal c.requires.unit c.requires.district c.requires.elsewhere in
+    let home = ap (λ (p : List ℕ). get_or p c.args.flip.unit 0) (c.as_slice-2.ensures ∙ at) in
+    let from = population_at job plan s.sums s.marks.units s.openings s.pairs s.low s.high s.faces s.counts held c.view.result.now populations (get_or plan c.args.flip.unit 0)
+    c.view.ensures c.as_slice-populations.ensures (held.summed.legal.in_range c.args.flip.unit c.args.flip.unit_below) in
+    let fit = people_fit job plan c.args.flip.unit c.args.flip.district held.numbers.sound held.summed.legal c.args.flip.unit_below c.args.flip.district_below c.requires.elsewhere in
     omega (arith, ap (λ (e : ℕ). get_or populations e 0) home, from, fit.1, held.numbers.greatest)
 
 pub returns : goal.returns
 returns c =
     let s = c.self.inside in
-    let job = c.args.job.now in
+    let job = c.args.flip.job.now in
     let plan : List ℕ = c.args.self.now.plan in
     let populations : List ℕ = c.as_slice-populations.result.now in
     let at = ap (λ (h : Held). h.plan) c.self.view_is in
     let held = held_for s.job.value job s.plan plan s.sums s.marks.units s.openings s.pairs s.low s.high s.faces s.counts
     (ap (λ (h : Held). h.job) c.self.view_is ∙ c.requires.made) at c.self.invariant in
-    let people = ap (λ (xs : List ℕ). get_or xs c.args.unit 0) (c.as_slice.ensures ∙ ap (λ (k : Counts). k.population) c.counts.ensures) in
-    let home = ap (λ (p : List ℕ). get_or p c.args.unit 0) (c.as_slice-2.ensures ∙ at) in
-    let from = population_at job plan s.sums s.marks.units s.openings s.pairs s.low s.high s.faces s.counts held c.view.result.now populations (get_or plan c.args.unit 0)
-    c.view.ensures c.as_slice-populations.ensures (held.legal.in_range c.args.unit c.requires.unit) in
-    let to = population_at job plan s.sums s.marks.units s.openings s.pairs s.low s.high s.faces s.counts held c.view.result.now populations c.args.district
-    c.view.ensures c.as_slice-populations.ensures c.requires.district in
+    let people = ap (λ (xs : List ℕ). get_or xs c.args.flip.unit 0) (c.as_slice.ensures ∙ ap (λ (k : Counts). k.population) c.counts.ensures) in
+    let home = ap (λ (p : List ℕ). get_or p c.args.flip.unit 0) (c.as_slice-2.ensures ∙ at) in
+    let from = population_at job plan s.sums s.marks.units s.openings s.pairs s.low s.high s.faces s.counts held c.view.result.now populations (get_or plan c.args.flip.unit 0)
+    c.view.ensures c.as_slice-populations.ensures (held.summed.legal.in_range c.args.flip.unit c.args.flip.unit_below) in
+    let to = population_at job plan s.sums s.marks.units s.openings s.pairs s.low s.high s.faces s.counts held c.view.result.now populations c.args.flip.district
+    c.view.ensures c.as_slice-populations.ensures c.args.flip.district_below in
     keeps_same c.are_kept.result s.low s.high _ _ _ _ _ _ _ _ held.numbers.least held.numbers.greatest people (ap (λ (e : ℕ). get_or populations e 0) home ∙ from) to c.are_kept.ensures

@@ -2,19 +2,19 @@ use Rattle.std.proofs.Common.{◌≡◌, ℕ, Bool, List, get_or, sym, ap, ◌�
 use Rattle.audit_model.specs.Graph.{Graph}
 use Rattle.audit_model.specs.Job.{Job}
 use Rattle.flip_kernel.specs.Held.{Held}
-use Rattle.flip_kernel.specs.Openings.{IsTable}
+use Rattle.flip_kernel.specs.Openings.{TellsOpen}
 use Rattle.flip_kernel.proofs.Holding.{put_back}
 use Rattle.flip_kernel.proofs.board.Board.make_move.Goals as goal
 
 -- the same table, of equal graphs, plans and numbers of districts
-table_of : (g h : Graph) (p q : List ℕ) (m n : ℕ) (table : List Bool) → g ≡ h → p ≡ q → m ≡ n → IsTable g p m table → IsTable h q n table
+table_of : (g h : Graph) (p q : List ℕ) (m n : ℕ) (table : List Bool) → g ≡ h → p ≡ q → m ≡ n → TellsOpen g p m table → TellsOpen h q n table
 table_of g h p q m n table eg ep em is =
-    subst (λ (x : Graph). IsTable x q n table) eg (subst (λ (x : List ℕ). IsTable g x n table) ep (subst (λ (x : ℕ). IsTable g p x table) em is))
+    subst (λ (x : Graph). TellsOpen x q n table) eg (subst (λ (x : List ℕ). TellsOpen g x n table) ep (subst (λ (x : ℕ). TellsOpen g p x table) em is))
 
 pub renew-requires-clause-table : goal.renew-requires-clause-table
 renew-requires-clause-table c =
     let s = c.self.inside in
-    let same : s.job.value ≡ c.args.job.now = ap (λ (h : Held). h.job) c.self.view_is ∙ c.requires.made in
-    let back = put_back s.plan c.as_slice-3.result.now c.args.unit c.args.district _ (c.as_slice-3.ensures ∙ c.shift.ensures.plan) (ap (λ (p : List ℕ). get_or p c.args.unit 0) c.as_slice.ensures) in
-    table_of s.job.value.graph c.graph-2.result.now s.plan _ s.job.value.districts s.pairs.districts s.openings
-    (ap (λ (j : Job). j.graph) same ∙ sym c.graph-2.ensures) (sym back) (sym c.self.invariant.numbers.districts) c.self.invariant.opened
+    let same : s.job.value ≡ c.args.flip.job.now = ap (λ (h : Held). h.job) c.self.view_is ∙ c.requires.made in
+    let back = put_back s.plan c.as_slice-3.result.now c.args.flip.unit c.args.flip.district _ (c.as_slice-3.ensures ∙ c.shift.ensures.plan) (ap (λ (p : List ℕ). get_or p c.args.flip.unit 0) c.as_slice.ensures) in
+    table_of s.job.value.graph c.graph-graph.result.now s.plan _ s.job.value.districts s.pairs.districts s.openings
+    (ap (λ (j : Job). j.graph) same ∙ sym c.graph-graph.ensures) (sym back) (sym c.self.invariant.numbers.districts) c.self.invariant.opened

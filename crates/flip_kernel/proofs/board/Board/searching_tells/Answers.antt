@@ -12,6 +12,6 @@ returns-clause-leaves g c =
     let at = ap (λ (h : Held). h.plan) c.self.view_is in
     let held = held_for s.job.value job s.plan plan s.sums s.marks.units s.openings s.pairs s.low s.high s.faces s.counts
     (ap (λ (h : Held). h.job) c.self.view_is ∙ c.requires.made) at c.self.invariant in
-    leaves_of c.leaves_connected.result c.graph.result.now job.graph c.as_slice.result.now plan c.args.unit c.graph.ensures (c.as_slice.ensures ∙ at)
-    (c.leaves_connected.ensures.leaves
-    (home_connected job c.graph.result.now plan c.as_slice.result.now c.args.unit c.graph.ensures (c.as_slice.ensures ∙ at) held.legal c.requires.unit))
+    leaves_of c.may_leave.result c.graph.result.now job.graph c.as_slice.result.now plan c.args.unit c.graph.ensures (c.as_slice.ensures ∙ at)
+    (c.may_leave.ensures.leaves
+    (home_connected job c.graph.result.now plan c.as_slice.result.now c.args.unit c.graph.ensures (c.as_slice.ensures ∙ at) held.summed.legal c.requires.unit))

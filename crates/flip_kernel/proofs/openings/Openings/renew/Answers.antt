@@ -1,8 +1,8 @@
 use Rattle.std.proofs.Common.{◌≡◌, ℕ, ◌+◌, ◌*◌, ◌<◌, Bool, true, false, not, ◌==◌, List, length, get_or, set, refl, sym, ap, subst, ◌∙◌, arith, length-set}
 use Rattle.std.proofs.lemmas.List.Elements.{All-get_or}
 use Rattle.audit_model.specs.Graph.{has, adjacent}
-use Rattle.model_laws.proofs.Lists.{at_has}
-use Rattle.flip_kernel.specs.Openings.{IsTable}
+use Rattle.audit_model.proofs.ListFacts.{at_has}
+use Rattle.flip_kernel.specs.Openings.{TellsOpen}
 use Rattle.flip_kernel.proofs.Beside.{not_open, open_to_neighbour}
 use Rattle.flip_kernel.proofs.Tables.{place_within, IsRenewing, renewing_none, renewing_more, renewing_all}
 use Rattle.flip_kernel.proofs.openings.Openings.renew.Goals as goal
@@ -58,7 +58,7 @@ returns c =
     let i : ℕ = c.loop-other.other-index in
     let unit : ℕ = c.args.unit in
     let district : ℕ = get_or plan c.args.unit 0 in
-    subst (λ (t : List Bool). IsTable g plan c.args.districts t)
+    subst (λ (t : List Bool). TellsOpen g plan c.args.districts t)
     (twice c.loop-other.self c.put-2.new.self c.put-3.new.self (unit * c.args.districts + district) (unit * c.args.districts + c.args.home) _ _ c.put-2.ensures c.put-3.ensures)
     (renewing_all g plan c.args.districts unit district c.args.home false c.is_open-2.result c.loop-other.self c.requires.unit
     (c.requires.in_range c.args.unit c.requires.unit) c.requires.home c.loop-other.invariant.width

@@ -4,7 +4,7 @@ use Rattle.region_guard.proofs.Cells.{one_if}
 use Rattle.region_guard.proofs.Moves.{next_counted}
 use Rattle.region_guard.proofs.guard.RegionGuard.count_broken.Goals as goal
 use Rattle.region_guard.proofs.guard.RegionGuard.count_broken.Goals.{then-not-passes, else-not-passes}
-use Rattle.model_laws.proofs.Below.{count_below_le, count_below_zero}
+use Rattle.audit_model.proofs.Below.{count_below_le, count_below_zero}
 
 pub loop-region-init : goal.loop-region-init
 loop-region-init g c = sym (count_below_zero (λ q. not (nat_le (get_or c.as_slice-widths.result.now q 0) c.args.self.now.rules.max_split)))

@@ -1,7 +1,7 @@
 use Rattle.std.proofs.Common.{◌≡◌, ℕ, ◌*◌, length, sym, ap, ◌∙◌}
 use Rattle.std.proofs.lemmas.List.{length-replicate}
 use Rattle.audit_model.specs.Below.{above_all}
-use Rattle.model_laws.proofs.Lists.{above_all_most}
+use Rattle.audit_model.proofs.ListFacts.{above_all_most}
 use Rattle.region_guard.proofs.guard.RegionGuard.new.Goals as goal
 
 pub returns-clause-table : goal.returns-clause-table

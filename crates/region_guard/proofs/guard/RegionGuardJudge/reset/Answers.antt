@@ -1,9 +1,8 @@
 use Rattle.std.proofs.Common.{◌≡◌, ℕ, List, length, get_or, ap, ◌∙◌, arith}
 use Rattle.std.specs.Prelude.{nat_lt}
-use Rattle.audit_model.specs.Below.{count_below}
+use Rattle.audit_model.specs.Below.{count_below, above_all}
 use Rattle.region_guard.specs.Standing.{IsTable, cell, units_among}
-use Rattle.audit_model.specs.Below.{above_all}
-use Rattle.model_laws.proofs.Meeting.{below_above_all}
+use Rattle.audit_model.proofs.Meeting.{below_above_all}
 use Rattle.region_guard.proofs.Moves.{fitting_parts, stands_anew, over_is}
 use Rattle.region_guard.proofs.guard.RegionGuardJudge.reset.Goals as goal
 

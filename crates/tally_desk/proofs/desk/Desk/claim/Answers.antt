@@ -7,7 +7,7 @@ use Rattle.tally_desk.specs.Views.{PassView, view_in}
 use Rattle.tally_desk.proofs.Seating.{drew_end, drew_few, drew_new, drew_place, only_view, still_empty}
 use Rattle.tally_desk.proofs.Steps.{claim}
 use Rattle.tally_desk.proofs.desk.Desk.claim.Goals as goal
-use Rattle.model_laws.specs.Times.{times}
+use Rattle.audit_model.specs.Times.{times}
 
 pub fetch_add-drawn-requires : goal.fetch_add-drawn-requires
 fetch_add-drawn-requires g c =

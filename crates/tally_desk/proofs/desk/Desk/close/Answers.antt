@@ -4,14 +4,14 @@ use Rattle.std.specs.Slots.{slots_items}
 use Rattle.std.proofs.lemmas.List.{length-map}
 use Rattle.std.proofs.lemmas.List.Sorted.{length_permutation}
 use Rattle.atomic_table.specs.Table.{Final, Seen}
-use Rattle.ckpt_store.specs.declared.slots.Place.{Place}
+use Rattle.audit_model.specs.declared.place.Place.{Place}
 use Rattle.outcome_book.specs.Booked.{Booked}
 use mathlib.Core.Option.{some-injective}
 use Rattle.tally_desk.specs.declared.home.Home.{Home}
 use Rattle.tally_desk.specs.Desks.{IsSettled, Tallied}
 use Rattle.tally_desk.specs.Founded.{parts_of}
 use Rattle.tally_desk.specs.Homes.{HomeAs, KeptAs}
-use Rattle.tally_desk.specs.Entries.{ends_saved, id_of, saves}
+use Rattle.tally_desk.specs.Entries.{ends_saved, posted_id, saves_made}
 use Rattle.tally_desk.specs.Views.{PassView, view_in}
 use Rattle.tally_desk.proofs.Permuting.{permutation_from_sums}
 use Rattle.tally_desk.proofs.Slotting.{moved_generation, moved_slot}
@@ -36,12 +36,12 @@ returns g c =
     let drawn = get_or (slots_items c.close_with-closed.result.words) 0 0 in
     let k = subst (λ (h : Home g.row.C.Denot). IsSettled (HomeAs g.C.Keeper.state) parts drawn h v) same s.2 in
     let all = complete (HomeAs g.C.Keeper.state) parts drawn c.take-home.result v k c.requires.ended c.requires.posted in
-    let count : length k.posted ≡ length parts.todo = sym (length_permutation _ _ all ∙ length-map k.posted id_of) in
+    let count : length k.posted ≡ length parts.todo = sym (length_permutation _ _ all ∙ length-map k.posted posted_id) in
     let place = c.hand_over.ensures.place ∙ k.holds.kept.place_is in
     record {
       plan = k.plan;
-      slot = subst (λ (p : Place). p.slot < 2) (sym place) (moved_slot (saves k.posted) parts.place k.plan.slot);
-      generation = subst (λ (p : Place). p.generation < 3) (sym place) (moved_generation (saves k.posted) parts.place k.plan.generation);
+      slot = subst (λ (p : Place). p.slot < 2) (sym place) (moved_slot (saves_made k.posted) parts.place k.plan.slot);
+      generation = subst (λ (p : Place). p.generation < 3) (sym place) (moved_generation (saves_made k.posted) parts.place k.plan.generation);
       posted = k.posted;
       own_posts = permutation_from_sums v.entries k.posted k.own_posts;
       in_order = k.in_order ∙ ap (range_with_len 0) count;

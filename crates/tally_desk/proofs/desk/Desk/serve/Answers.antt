@@ -2,7 +2,7 @@ use Rattle.std.proofs.Common.{rules, arith, sym, subst, ap, ◌∙◌, ◌≡◌
 use Rattle.atomic_table.specs.Table.{rest}
 use Rattle.std.specs.List.{range_with_len}
 use Rattle.tally_desk.specs.declared.home.Home.{Home}
-use Rattle.tally_desk.specs.Entries.{entry, is_due}
+use Rattle.tally_desk.specs.Entries.{post_of, is_due}
 use Rattle.tally_desk.specs.Founded.{parts_of}
 use Rattle.tally_desk.specs.Homes.{HomeAs, MayTurn}
 use Rattle.tally_desk.proofs.Steps.{carried_now, held_home, posted_len, serve}
@@ -50,7 +50,7 @@ store-requires g c =
       to_do = turn.awaits.to_do;
       unposted = turn.awaits.unposted;
     } in
-    let turned = subst (λ (t : ℕ). HomeAs g.C.Keeper.state parts c.turn.new.self (turn.posted ++ entry t c.args.outcome.id c.turn.result ∷ []) × (c.turn.result ≡ true → is_due parts.save_every (entry t c.args.outcome.id c.turn.result) ≡ true))
+    let turned = subst (λ (t : ℕ). HomeAs g.C.Keeper.state parts c.turn.new.self (turn.posted ++ post_of t c.args.outcome.id c.turn.result ∷ []) × (c.turn.result ≡ true → is_due parts.save_every (post_of t c.args.outcome.id c.turn.result) ≡ true))
     len ((c.turn.ensures.turned parts turn.posted may).holds, (c.turn.ensures.turned parts turn.posted may).due) in (
       search rules,
       search rules,
@@ -65,8 +65,8 @@ returns-clause-served g c =
     let len = posted_len (HomeAs g.C.Keeper.state) parts _ _ _ turn in
     let held = held_home (HomeAs g.C.Keeper.state) parts _ _ _ _ turn c.slot_mut-home.ensures.value in
     let home_len : length c.slot_mut-home.result.now.posted.items ≡ c.args.ticket = ap length held.entries ∙ len in
-    let entries : c.turn.new.self.posted.items ≡ c.slot_mut-home.result.now.posted.items ++ entry c.args.ticket c.args.outcome.id c.turn.result ∷ [] =
-    c.turn.ensures.entry ∙ ap (λ (t : ℕ). c.slot_mut-home.result.now.posted.items ++ entry t c.args.outcome.id c.turn.result ∷ []) home_len in
+    let entries : c.turn.new.self.posted.items ≡ c.slot_mut-home.result.now.posted.items ++ post_of c.args.ticket c.args.outcome.id c.turn.result ∷ [] =
+    c.turn.ensures.entry ∙ ap (λ (t : ℕ). c.slot_mut-home.result.now.posted.items ++ post_of t c.args.outcome.id c.turn.result ∷ []) home_len in
     let served = c.store.ensures.2 in
     record {
       saved = c.turn.result;

@@ -10,4 +10,4 @@ save-saved-requires-clause-few g c =
 pub save-saved-requires-clause-room : goal.save-saved-requires-clause-room
 save-saved-requires-clause-room g c =
     let same : length c.as_slice.result.now ≡ length c.sorted_into.new.out.items = ap length c.as_slice.ensures in
-    omega (arith, same, length_permutation _ _ c.sorted_into.ensures.all, c.len-count.ensures.sound.few, c.requires.save_room)
+    omega (arith, same, length_permutation _ _ c.sorted_into.ensures.all, c.len-count.ensures.sound.few, c.requires.room.save_room)

@@ -1,5 +1,5 @@
 use Rattle.std.proofs.Common.{◌≡◌, ◌∙◌, ◌+◌, ◌<◌, ◌∷◌, [], ◌++◌, ap, arith, refl, sym, subst, length, vec_len, vec_capacity, ℕ}
-use Rattle.tally_desk.specs.Entries.{entry}
+use Rattle.tally_desk.specs.Entries.{post_of}
 use Rattle.tally_desk.specs.Saving.{SavedWhereDue}
 use Rattle.tally_desk.proofs.Turning.{done, few_failed, few_visits, generation_below, id_absent, id_below, slot_below, some_left, total_is, turned}
 use Rattle.tally_desk.proofs.home.Home.turn.Goals as goal
@@ -20,29 +20,24 @@ post-requires-clause-bins g c =
 pub save_where_due-saved-requires-clause-every : goal.save_where_due-saved-requires-clause-every
 save_where_due-saved-requires-clause-every g c = let may = c.requires.1.1 in omega (arith, may.holds.equipped.every, may.plan.every)
 
-pub save_where_due-saved-requires-clause-slot : goal.save_where_due-saved-requires-clause-slot
-save_where_due-saved-requires-clause-slot g c =
-    slot_below g.C.Keeper.state c.requires.0 c.args.self.now c.requires.1.0 c.args.outcome c.requires.1.1
-
-pub save_where_due-saved-requires-clause-generation : goal.save_where_due-saved-requires-clause-generation
-save_where_due-saved-requires-clause-generation g c =
-    generation_below g.C.Keeper.state c.requires.0 c.args.self.now c.requires.1.0 c.args.outcome c.requires.1.1
+pub save_where_due-saved-requires-clause-place : goal.save_where_due-saved-requires-clause-place
+save_where_due-saved-requires-clause-place g c = record {
+  slot = slot_below g.C.Keeper.state c.requires.0 c.args.self.now c.requires.1.0 c.args.outcome c.requires.1.1;
+  generation = generation_below g.C.Keeper.state c.requires.0 c.args.self.now c.requires.1.0 c.args.outcome c.requires.1.1;
+}
 
 pub save_where_due-saved-requires-clause-count : goal.save_where_due-saved-requires-clause-count
 save_where_due-saved-requires-clause-count g c =
     few_failed g.C.Keeper.state c.requires.0 c.args.self.now c.requires.1.0 c.args.outcome c.requires.1.1
 
-pub save_where_due-saved-requires-clause-sorted_room : goal.save_where_due-saved-requires-clause-sorted_room
-save_where_due-saved-requires-clause-sorted_room g c =
+pub save_where_due-saved-requires-clause-room : goal.save_where_due-saved-requires-clause-room
+save_where_due-saved-requires-clause-room g c =
     let may = c.requires.1.1 in
     let total = total_is g.C.Keeper.state c.requires.0 c.args.self.now c.requires.1.0 c.args.outcome may in
-    omega (arith, total, may.holds.equipped.sorted_room, c.post.ensures.total)
-
-pub save_where_due-saved-requires-clause-save_room : goal.save_where_due-saved-requires-clause-save_room
-save_where_due-saved-requires-clause-save_room g c =
-    let may = c.requires.1.1 in
-    let total = total_is g.C.Keeper.state c.requires.0 c.args.self.now c.requires.1.0 c.args.outcome may in
-    omega (arith, total, may.holds.equipped.save_room, c.post.ensures.total)
+    record {
+      sorted_room = omega (arith, total, may.holds.equipped.sorted_room, c.post.ensures.total);
+      save_room = omega (arith, total, may.holds.equipped.save_room, c.post.ensures.total);
+    }
 
 pub push_reserved-requires : goal.push_reserved-requires
 push_reserved-requires g c =
@@ -70,5 +65,5 @@ returns-clause-turned g c = λ parts posted may.
     let d = done g.C.Keeper.state parts y posted c.args.outcome may c.post.new.self c.post.ensures.total c.post.ensures.outcomes
     c.saved_slots_are_newest.ensures c.checkpoints_are_ours.ensures c.save_where_due-saved.new.self saved effect in
     turned g.C.Keeper.state parts y posted c.args.outcome may c.save_where_due-saved.new.self _ saved d
-    (c.push_reserved.ensures.items ∙ ap (λ (k : ℕ). c.save_where_due-saved.new.self.posted.items ++ entry k c.args.outcome.id saved ∷ []) ticket)
+    (c.push_reserved.ensures.items ∙ ap (λ (k : ℕ). c.save_where_due-saved.new.self.posted.items ++ post_of k c.args.outcome.id saved ∷ []) ticket)
     c.push_reserved.ensures.capacity refl refl refl refl refl refl refl refl

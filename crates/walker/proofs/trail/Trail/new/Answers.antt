@@ -6,7 +6,7 @@ use Rattle.walker.proofs.trail.Trail.new.Goals as goal
 pub returns-clause-trail : goal.returns-clause-trail
 returns-clause-trail g c =
     let job = c.args.job.now in
-    let held = c.args.state.now.board in
+    let held = c.args.state.now in
     λ draws. trail_none job draws _ refl refl
     (tested_first job held.job held.plan c.as_slice.result.now _ c.requires.made c.requires.start
     (c.as_slice.ensures ∙ ap (λ (s : Setting). s.asks) c.setting.ensures) c.new-tally.ensures.start c.new-tally.ensures.inside

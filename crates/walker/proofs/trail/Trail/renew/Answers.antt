@@ -6,7 +6,7 @@ use Rattle.walker.proofs.trail.Trail.renew.Goals as goal
 pub returns-clause-tested : goal.returns-clause-tested
 returns-clause-tested g c =
     let job = c.args.job.now in
-    let held = c.args.state.now.board in
+    let held = c.args.state.now in
     tested_of job held.job held.plan c.as_slice.result.now _ c.requires.made
     (c.as_slice.ensures ∙ ap (λ (s : Setting). s.asks) c.setting.ensures) (c.renew.ensures.start ∙ c.requires.start) c.renew.ensures.inside
     (λ asked. c.renew-2.ensures.start ∙ c.requires.seats (sym c.renew-2.ensures.asked ∙ asked)) (λ asked. c.renew-2.ensures.bin (sym c.renew-2.ensures.asked ∙ asked))

@@ -1,5 +1,5 @@
 use Rattle.std.proofs.Common.{◌+◌, ◌∙◌}
-use Rattle.draw_definitions.specs.Draw.{draw}
+use Rattle.audit_statement.specs.Draw.{draw}
 use Rattle.walker.specs.Binned.{first_bins}
 use Rattle.walker.proofs.Finding.{run_found}
 use Rattle.walker.proofs.walker.Walker.walk_along.Goals as goal
@@ -8,6 +8,6 @@ pub returns-clause-outcome : goal.returns-clause-outcome
 returns-clause-outcome g c =
     let job = c.args.job.now in
     let found = c.count_visits-found in
-    run_found job (draw job.setting.key) c.args.stream c.args.steps c.from.result found.result.tally.counts found.result.bins.counts
-    (first_bins c.args.shift job (draw job.setting.key c.args.stream) (c.args.steps + 1)) c.signed.result
+    run_found job (draw job.setting.key) c.args.course.stream c.args.course.steps c.from.result found.result.tally.counts found.result.bins.counts
+    (first_bins c.args.course.shift job (draw job.setting.key c.args.course.stream) (c.args.course.steps + 1)) c.signed.result
     (c.from.ensures ∙ found.ensures.moved) found.ensures.counts c.signed.ensures found.ensures.bins

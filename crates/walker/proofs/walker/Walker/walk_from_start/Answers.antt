@@ -1,7 +1,7 @@
 use Rattle.std.proofs.Common.{ℕ, ◌*◌, ap, arith}
 use Rattle.audit_model.specs.declared.setting.Setting.{Setting}
-use Rattle.model_laws.proofs.Limits.{few_steps}
-use Rattle.draw_definitions.specs.Draw.{draw}
+use Rattle.audit_model.proofs.Limits.{few_steps}
+use Rattle.audit_statement.specs.Draw.{draw}
 use Rattle.walker.proofs.Finding.{walk_found}
 use Rattle.walker.proofs.walker.Walker.walk_from_start.Goals as goal
 

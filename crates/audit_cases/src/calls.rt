@@ -1,0 +1,43 @@
+//! The calls that are made directly.
+
+use crate::flips::show_proposals;
+use crate::jobs::{grid_job, other_job, plain_job, strict_job};
+use crate::shown::{Shown, show_job};
+use case_lines::{
+    show_book, show_checkpoint, show_leaving, show_machine, show_outside, show_rings, show_texts,
+};
+use std::{fs, io};
+
+fn show_path_text(rt: &HostRuntime, text: &[u8]) -> io::Result<()> {
+    show_texts(rt, text)?;
+    show_job(rt, strict_job(rt.alloc(), text, "a"), Shown::Legal)?;
+    show_job(rt, strict_job(rt.alloc(), text, "district"), Shown::Legal)?;
+    show_job(rt, other_job(rt.alloc(), text), Shown::Legal)?;
+    show_proposals(rt)?;
+    show_job(rt, plain_job(rt.alloc(), text), Shown::Flips)
+}
+
+// Four units in a row.
+fn show_path(rt: &HostRuntime) -> io::Result<()> {
+    let text = fs::read(rt, "four_in_a_row.json")?;
+    show_path_text(rt, text.as_slice())
+}
+
+// A ring of six units with one beside it: its district has a hole, so that counting alone does not tell.
+fn show_ring(rt: &HostRuntime) -> io::Result<()> {
+    let text = fs::read(rt, "ring_and_one.json")?;
+    show_job(rt, plain_job(rt.alloc(), text.as_slice()), Shown::Flips)
+}
+
+/// Makes each call, and shows what it answers.
+pub fn show_calls(rt: &HostRuntime) -> io::Result<()> {
+    show_outside(rt)?;
+    show_checkpoint(rt)?;
+    show_book(rt)?;
+    show_machine(rt)?;
+    show_rings(rt)?;
+    show_leaving(rt)?;
+    show_path(rt)?;
+    show_ring(rt)?;
+    show_job(rt, grid_job(rt.alloc()), Shown::Flips)
+}

@@ -1,0 +1,71 @@
+//! Proposals near the last draw, the draw that leads back, and walks whose searches are counted.
+
+ghost use Rattle.std.specs.Prelude.{◌≡◌, ◌<◌, ◌≤◌};
+ghost use Rattle.flip_kernel.specs.Judged.{IsJudgeFor};
+
+use crate::searches::show_walk;
+use audit_model::lists::UnitList;
+use audit_model::outcome::SumsView;
+use audit_model::rules::Rules;
+use flip_guard::guard::Guard;
+use flip_guard::judge::Judge;
+use flip_kernel::flip::mirror;
+use flip_kernel::proposal::propose;
+use flip_kernel::state::State;
+use plan_core::job::Job;
+use std::alloc::Global;
+use std::io;
+use std::marker::Brand;
+use std::sync::ledger::Blank;
+
+// Shows what a draw proposes, of three units and three districts.
+fn show_proposal(rt: &HostRuntime, draw: u64) -> io::Result<()> {
+    match propose(draw, 3, 3) {
+        Some((unit, district)) => println!(rt; "draw {draw} unit {unit} district {district}"),
+        None => println!(rt; "draw {draw} nothing"),
+    }
+}
+
+/// Shows proposals of the last draws.
+pub fn show_proposals(rt: &HostRuntime) -> io::Result<()> {
+    for draw in [u64::MAX, u64::MAX - 6, u64::MAX - 7] {
+        show_proposal(rt, draw)?;
+    }
+    Ok(())
+}
+
+// Shows the mirrored draw of one that moves a unit of the path, and a walk.
+fn show_state<J: Judge>(rt: &HostRuntime, job: &Job, state: &mut State<J>) -> io::Result<()>
+    requires made { state.old.job ≡ job.now }
+{
+    let mirrored = mirror(job, state, 0x8665eeb269b687c3);
+    println!(rt; "mirrored {mirrored}")?;
+    show_walk::<J, Brand>(rt, job, state, Blank::new(1))
+}
+
+fn show_judged<J: Judge>(rt: &HostRuntime, job: &Job, judge: J) -> io::Result<()>
+    requires { IsJudgeFor job.now (J.judging judge) }
+{
+    match State::new(rt.alloc(), job, judge) {
+        Ok(mut state) => show_state(rt, job, &mut state),
+        Err(_) => rt.println("memory"),
+    }
+}
+
+/// Shows flips of a job without regions.
+pub fn show_flips(rt: &HostRuntime, job: &Job) -> io::Result<()> {
+    if job.rules().regions.len() > 0 {
+        return rt.println("regions");
+    }
+    let max_cut = job.rules().max_cut;
+    let rules = Rules {
+        max_cut,
+        regions: UnitList::new(rt.alloc()),
+        max_split: job.rules().max_split,
+    };
+    show_judged(
+        rt,
+        job,
+        Guard::new(move |sums: &SumsView| sums.cut <= max_cut, rules),
+    )
+}

@@ -1,0 +1,65 @@
+//! The job of the words of a run and of the graph on standard input.
+
+use crate::gather::gather_job;
+use crate::slots::show_job;
+use crate::told::{end_shown, end_told};
+use audit_input::prepare::prepare;
+use audit_io::std_adapters::ReadSource;
+use audit_model::fault::WordFault;
+use audit_model::text::Text;
+use plan_core::job::Job;
+use report::ended::Ended;
+use std::alloc::Global;
+use std::process::ExitCode;
+
+/// What is done with the job.
+#[derive(Clone, Copy)]
+pub enum Task<'a> {
+    /// To tell of the slots in a folder.
+    Slots(&'a str),
+    /// To gather the slots of folders, or only to look at them.
+    Gather(&'a [String], bool),
+}
+
+fn run_task(rt: &HostRuntime, job: &Job, task: Task<'_>) -> ExitCode {
+    match task {
+        Task::Slots(folder) => end_shown(rt, &show_job(rt, folder, job), 0),
+        Task::Gather(folders, looks) => gather_job(rt, job, folders, looks),
+    }
+}
+
+fn run_read(rt: &HostRuntime, words: &[String], task: Task<'_>) -> ExitCode {
+    match prepare(rt.alloc(), words, &mut ReadSource::new(rt.stdin())) {
+        Ok(job) => run_task(rt, &job, task),
+        Err(why) => end_told(rt, &why),
+    }
+}
+
+// The refusal of a command that saves nothing.
+fn no_run(alloc: Global, command: &str) -> Ended {
+    let mut word = Text::new(alloc);
+    match word.push_str(command) {
+        Ok(()) => Ended::BadWords(WordFault::UnknownCommand(word)),
+        Err(_) => Ended::NoMemory,
+    }
+}
+
+// The command of the words, where it is one that saves nothing.
+fn idle_command(words: &[String]) -> Option<&str> {
+    match words {
+        [word, ..] => match word.as_str() {
+            "check" => Some("check"),
+            "plans" => Some("plans"),
+            _ => None,
+        },
+        [] => None,
+    }
+}
+
+/// Does the task with the job of these words and of the graph on standard input.
+pub fn run_words(rt: &HostRuntime, words: &[String], task: Task<'_>) -> ExitCode {
+    match idle_command(words) {
+        Some(command) => end_told(rt, &no_run(rt.alloc(), command)),
+        None => run_read(rt, words, task),
+    }
+}

@@ -1,0 +1,53 @@
+-- Where the bytes of a run without regions are accepted, no test of theirs has refused them.
+use Rattle.std.proofs.Common.{◌≡◌, ℕ, Bool, true, false, List, [], length, Option, Some, None, Result, Ok, Err, refl, subst}
+use Rattle.std.specs.Prelude.{nat_lt}
+use Rattle.audit_model.specs.declared.fault.GraphFault.{GraphFault}
+use Rattle.audit_model.specs.declared.fault.PlanFault.{PlanFault}
+use Rattle.audit_model.specs.declared.setting.Setting.{Setting}
+use Rattle.audit_model.specs.Job.{Job}
+use Rattle.audit_model.specs.JobOf.{job_from, job_of, job_or, plan_fault}
+use Rattle.audit_model.specs.Parsed.{Parsed}
+use Rattle.audit_statement.specs.Reading.{reading}
+use Rattle.audit_statement.specs.Accepted.{from_job, from_regions, from_parsed, from_bytes, judged, most_bytes}
+use Rattle.audit_statement.specs.Regions.{regions_by}
+
+-- the job of such a text
+pub record IsJudged (setting : Setting) (bytes : List ℕ) (job : Job) : Type 0 where
+  pub parsed : Parsed
+  pub read_so : reading bytes setting.columns ≡ Ok parsed
+  pub made : job_from parsed setting [] ≡ job
+
+-- a job that is made and has no fault is the one that is made
+made_is : (made job : Job) (fault : Option PlanFault) → job_or made fault ≡ Ok job → made ≡ job
+made_is made job None e = cc
+made_is made job (Some f) e = cc
+
+-- a job that is judged is one that was made
+pub from_job_is : (r : Result Job PlanFault) (job : Job) → from_job r ≡ Ok job → r ≡ Ok job
+from_job_is (Ok made) job e = cc
+from_job_is (Err f) job e = cc
+
+-- the job of what is parsed, with no regions, is the one that is made of it
+job_is : (p : Parsed) (setting : Setting) (job : Job) → job_of p setting [] ≡ Ok job → job_from p setting [] ≡ job
+unfolding job_of
+job_is p setting job e = made_is (job_from p setting []) job (plan_fault (job_from p setting [])) e
+
+-- a job that is judged of what is read is the job of these bytes
+from_parsed_is : (setting : Setting) (bytes : List ℕ) (r : Result Parsed GraphFault) (job : Job) → setting.region ≡ [] → reading bytes setting.columns ≡ r
+    → from_parsed setting bytes r ≡ Ok job → IsJudged setting bytes job
+from_parsed_is setting bytes (Ok p) job none is e =
+    let plain : from_regions setting p (Ok []) ≡ Ok job =
+    subst (λ (region : List ℕ). from_regions setting p (regions_by region bytes) ≡ Ok job) none e in
+    record { parsed = p; read_so = is; made = job_is p setting job (from_job_is (job_of p setting []) job plain) }
+from_parsed_is setting bytes (Err f) job none is e = cc
+
+-- a job that is judged of bytes is the job of these bytes
+from_bytes_is : (setting : Setting) (bytes : List ℕ) (many : Bool) (job : Job) → setting.region ≡ [] → from_bytes setting bytes many ≡ Ok job
+    → IsJudged setting bytes job
+from_bytes_is setting bytes true job none e = cc
+from_bytes_is setting bytes false job none e = from_parsed_is setting bytes (reading bytes setting.columns) job none refl e
+
+-- a job that is judged of a setting and bytes is the job of these bytes
+pub judged_is : (setting : Setting) (bytes : List ℕ) (job : Job) → setting.region ≡ [] → judged setting bytes ≡ Ok job → IsJudged setting bytes job
+unfolding judged
+judged_is setting bytes job none e = from_bytes_is setting bytes (nat_lt most_bytes (length bytes)) job none e

@@ -1,0 +1,228 @@
+-- What is known of a run.
+use Rattle.std.proofs.Common.{◌≡◌, ◌⊎◌, inl, inr, ℕ, zero, suc, ◌+◌, ◌<◌, ◌≤◌, ◌||◌, not, Bool, true, false, List, [], ◌∷◌, ◌++◌, length, map, refl, sym, subst, ap, ◌∙◌, cond, length-append, get_or, Option, Some, None, All, AllPairs, arith}
+use Rattle.std.specs.Prelude.{IsTrue, IsPermutation, ◌==◌, find}
+use Rattle.std.specs.List.{list_all}
+use Rattle.std.proofs.lemmas.Bool.{cases_order, eqb-true, le-ltb, lt-ltb, ltb-true, and_from, and_parts, ne_eqb}
+use Rattle.std.proofs.lemmas.List.{get_or-map, map-append, length-map}
+use Rattle.std.proofs.lemmas.List.Elements.{All-append, All-map}
+use Rattle.std.proofs.lemmas.List.Sorted.{All-permutation, IsPermutation-sym, length_permutation}
+use Rattle.audit_model.specs.Apart.{AllApart}
+use Rattle.audit_model.specs.Below.{filter_below, map_below}
+use Rattle.audit_model.specs.declared.outcome.Outcome.{Outcome}
+use Rattle.audit_model.specs.declared.setting.Command.{Command}
+use Rattle.audit_model.specs.declared.setting.Command.TheVariants.{Check, Run, Make, Plans}
+use Rattle.audit_model.specs.declared.setting.Setting.{Setting}
+use Rattle.audit_model.specs.Graph.{has}
+use Rattle.audit_model.specs.Job.{Job}
+use Rattle.audit_model.specs.Limits.{IsRunSetting, IsSettingOf}
+use Rattle.audit_model.specs.Run.{total, has_id, run_ids, fits, kept_or, outcome_from, full}
+use Rattle.audit_statement.specs.Checkpoint.{AreRising}
+use Rattle.ckpt_store.specs.Fitting.{AreFit}
+use Rattle.audit_model.proofs.Fitting as fitting
+use Rattle.audit_model.proofs.Below.{length-filter_below}
+use Rattle.audit_model.proofs.ListFacts.{find_passes}
+use Rattle.audit_statement.specs.Draw.{draw}
+use Rattle.outcome_book.specs.Booked.{AreApart}
+use Rattle.report.specs.Outcomes.{AreOutcomesOf, AreStopsBy, AreStopsOf, reported, reported_by}
+use Rattle.audit_statement.specs.Endings.{is_walking, leaves_work, lacking, to_walk, full_of}
+use Rattle.audit_laws.specs.Runs.{AcceptedJobsAreRuns, AreAll, IsRunJob}
+use Rattle.claim_counter.specs.Walks.{found}
+use Rattle.audit_laws.proofs.Counting.{few_run_ids, lacking_rest, walks_all}
+use Rattle.audit_laws.proofs.Starting.{every_id}
+use Rattle.audit_laws.proofs.Words.{accepted_words_are_even, accepted_words_cover, accepted_words_stop_alone}
+
+-- ---- what is known of the job
+
+-- a setting of a command that walks is that of a run
+run_setting_by : (command : Command) (setting : Setting) → is_walking command ≡ true → IsSettingOf command setting → IsRunSetting setting
+run_setting_by Check setting walking within = cc
+run_setting_by Run setting walking within = within
+run_setting_by Make setting walking within = within
+run_setting_by Plans setting walking within = within
+
+-- the setting of a run is within the limits of a run
+pub run_setting : (job : Job) → IsRunJob job → IsRunSetting job.setting
+run_setting job run = run_setting_by job.setting.command job.setting run.walking run.sound.within.setting.command
+
+-- a job of accepted words that is walked is a run
+pub accepted_jobs_are_runs : AcceptedJobsAreRuns
+accepted_jobs_are_runs words job words_are sound walking =
+    record {
+      sound = sound;
+      walking = walking;
+      covered = accepted_words_cover words job.setting words_are walking;
+      alone = accepted_words_stop_alone words job.setting words_are;
+      even = accepted_words_are_even words job.setting words_are;
+    }
+
+-- no test stops early
+pub no_stops : (job : Job) → job.setting.stop ≡ 0 → AreStopsOf job []
+no_stops job plain = subst (λ (n : ℕ). AreStopsBy n job []) (sym plain) refl
+
+-- so the report is on all trajectories
+pub reports_all : (job : Job) → job.setting.stop ≡ 0 → reported job ≡ total job
+reports_all job plain = ap (λ (n : ℕ). reported_by n job) plain
+
+-- no more ids are walked than there are
+pub few_ids : (job : Job) (outcomes : List Outcome) (budget : ℕ) → length (run_ids job outcomes budget) ≤ total job
+few_ids job outcomes budget = omega (arith, few_run_ids job outcomes budget, length-filter_below (total job) (λ id. not (has_id outcomes id)))
+
+-- a run has at most 100000 ids to do
+pub few_run_todo : (job : Job) → IsRunJob job → (ids : List ℕ) (outcomes : List Outcome) (budget : ℕ) → ids ≡ run_ids job outcomes budget → length ids ≤ 100000
+few_run_todo job run ids outcomes budget same = omega (arith, ap length same, few_ids job outcomes budget, (run_setting job run).few)
+
+-- a run that saves nothing has one part
+pub one_part : (job : Job) → IsRunJob job → job.setting.save_every ≡ 0 → (job.setting.parts ≡ 1) × (job.setting.part ≡ 0)
+one_part job run none = by (cases_order job.setting.parts 1)
+  where
+    by : (job.setting.parts ≡ 1) ⊎ ((job.setting.parts < 1) ⊎ (1 < job.setting.parts)) → (job.setting.parts ≡ 1) × (job.setting.part ≡ 0)
+    by (inl one) = (one, omega (arith, one, run.sound.within.setting.part.one_of))
+    by (inr (inl fewer)) = absurd (omega (arith, fewer, run.sound.within.setting.part.some))
+    by (inr (inr more)) = absurd (omega (arith, none, run.sound.within.setting.part.saves (omega (arith, more))))
+
+-- so it leaves no work
+pub leaves_none : (job : Job) (outcomes : List Outcome) → IsRunJob job → job.setting.save_every ≡ 0 → leaves_work job outcomes ≡ false
+leaves_none job outcomes run none =
+    let whole = one_part job run none in
+    le-ltb (to_walk job outcomes) (lacking job outcomes) (walks_all job outcomes job.setting.budget whole.0 whole.1 (run.covered none))
+
+-- ---- outcomes that fit
+
+-- ids that rise differ
+pub rising_above : (x : ℕ) (ids : List ℕ) → AreRising (x ∷ ids) → All (λ y. x < y) ids
+rising_above x [] rising k d inside = absurd (omega arith)
+rising_above x (y ∷ ids) rising zero d inside = rising.0
+rising_above x (y ∷ ids) rising (suc k) d inside = let above = rising_above y ids rising.1 k d (omega arith) in let first = rising.0 in omega arith
+
+-- a rising list rises without its first number
+pub rising_rest : (x : ℕ) (ids : List ℕ) → AreRising (x ∷ ids) → AreRising ids
+rising_rest x [] rising = tt
+rising_rest x (y ∷ ids) rising = rising.1
+
+-- a list whose numbers are all above a number does not have it
+has_none : (x : ℕ) (ids : List ℕ) → All (λ y. x < y) ids → has ids x ≡ false
+has_none x [] above = refl
+has_none x (y ∷ ids) above =
+    let first = above 0 y (omega arith) in
+    rw (ne_eqb y x (λ (e : y ≡ x). absurd (omega (arith, e, first)))) (has_none x ids (λ k d inside. above (suc k) d (omega arith)))
+
+-- ids that rise stand once each
+pub rising_once : (ids : List ℕ) → AreRising ids → AllApart ids
+rising_once [] rising = tt
+rising_once (x ∷ ids) rising = (has_none x ids (rising_above x ids rising), rising_once ids (rising_rest x ids rising))
+
+-- outcomes with ids that rise have different ids
+pub rising_apart : (outcomes : List Outcome) → AreRising (map (λ o. o.id) outcomes) → AreApart outcomes
+rising_apart [] rising i j d before inside same = absurd (omega arith)
+rising_apart (x ∷ xs) rising zero zero d before inside same = absurd (omega arith)
+rising_apart (x ∷ xs) rising zero (suc j) d before inside same =
+    let more : x.id < (get_or xs j d).id = subst (λ n. x.id < n) (get_or-map (λ (o : Outcome). o.id) xs j d 0 (omega arith))
+    (rising_above x.id (map (λ o. o.id) xs) rising j 0 (omega (arith, inside, length-map xs (λ (o : Outcome). o.id)))) in
+    absurd (omega (arith, more, same))
+rising_apart (x ∷ xs) rising (suc i) zero d before inside same = absurd (omega arith)
+rising_apart (x ∷ xs) rising (suc i) (suc j) d before inside same =
+    rising_apart xs (rising_rest x.id (map (λ o. o.id) xs) rising) i j d (omega arith) (omega arith) same
+
+-- an outcome that fits has an id of the job's
+pub fit_below : (job : Job) (o : Outcome) → fits job o ≡ true → o.id < total job
+fit_below job o fit = ltb-true o.id (total job) (and_parts _ _ (and_parts _ _ (and_parts _ _ (and_parts _ _ fit).0).0).0).0
+
+-- outcomes that fit have ids below the total
+pub all_below_total : (job : Job) (outcomes : List Outcome) → All (λ o. IsTrue (fits job o)) outcomes → All (λ o. o.id < total job) outcomes
+all_below_total job outcomes fit k d inside = fit_below job (get_or outcomes k d) (fit k d inside)
+
+-- each fits, in both forms
+pub fit_list : (job : Job) (outcomes : List Outcome) → All (λ o. IsTrue (fits job o)) outcomes → list_all (fits job) outcomes ≡ true
+fit_list job [] fit = refl
+fit_list job (x ∷ xs) fit = and_from (fits job x) (list_all (fits job) xs) (fit 0 x (omega arith)) (fit_list job xs (λ k d inside. fit (suc k) d (omega arith)))
+
+-- ---- all outcomes
+
+-- the outcomes of the opening and what was found fit, whatever their order
+pub found_fit : (job : Job) → IsRunJob job → (opening : List Outcome) (todo : List ℕ) (outcomes : List Outcome) → AreFit job opening → All (λ id. id < total job) todo
+    → IsPermutation outcomes (opening ++ map (found job) todo) → All (λ o. IsTrue (fits job o)) outcomes
+unfolding found
+found_fit job run opening todo outcomes fit within moved =
+    All-permutation (λ (o : Outcome). IsTrue (fits job o)) (opening ++ map (found job) todo) outcomes
+    (IsPermutation-sym outcomes (opening ++ map (found job) todo) moved)
+    (All-append (λ (o : Outcome). IsTrue (fits job o)) opening (map (found job) todo) fit.fit
+    (All-map (λ (o : Outcome). IsTrue (fits job o)) (found job) todo
+    (λ k d inside. fitting.found_fits job (draw job.setting.key) job.setting.shift (run_setting job run).few_asks (get_or todo k d) (within k d inside))))
+
+-- outcomes by rising id have ids that rise
+pairs_rise : (outcomes : List Outcome) → AllPairs (λ a b. a.id < b.id) outcomes → AreRising (map (λ o. o.id) outcomes)
+pairs_rise [] rising = tt
+pairs_rise (x ∷ []) rising = tt
+pairs_rise (x ∷ y ∷ xs) rising =
+    (rising 0 1 x (omega arith) (omega arith), pairs_rise (y ∷ xs) (λ i j d before inside. rising (suc i) (suc j) d (omega arith) (omega arith)))
+
+-- what was walked, by rising id, with what the run started with
+pub are_all : (job : Job) → IsRunJob job → (opening kept : List Outcome) (todo : List ℕ) (sorted : List Outcome) → kept ≡ opening → AreFit job opening
+    → todo ≡ run_ids job opening job.setting.budget → All (λ id. id < total job) todo
+    → ((budget : ℕ) → todo ≡ run_ids job kept budget → sorted ≡ full job (draw job.setting.key) kept budget)
+    → IsPermutation sorted (kept ++ map (found job) todo) → AllPairs (λ a b. a.id < b.id) sorted → AreAll job opening sorted
+are_all job run opening kept todo sorted same start ids within fullness moved rising =
+    let here : IsPermutation sorted (opening ++ map (found job) todo) = subst (λ os. IsPermutation sorted (os ++ map (found job) todo)) same moved in
+    let counted : length sorted ≡ length opening + length (run_ids job opening job.setting.budget) =
+    omega (arith, length_permutation sorted (opening ++ map (found job) todo) here, length-append opening (map (found job) todo), length-map todo (found job), ap length ids) in
+    let rest : lacking job opening + length opening ≡ total job = lacking_rest job opening (rising_apart opening start.rising) (all_below_total job opening start.fit) in
+    let few : length (run_ids job opening job.setting.budget) ≤ lacking job opening = few_run_ids job opening job.setting.budget in
+    let most = (run_setting job run).few in
+    record {
+      full = fullness job.setting.budget (ids ∙ ap (λ os. run_ids job os job.setting.budget) (sym same)) ∙ ap (λ os. full job (draw job.setting.key) os job.setting.budget) same;
+      count = counted;
+      few = omega (arith, counted, rest, few);
+      fit = record {
+        few = omega (arith, counted, rest, few, most);
+        rising = pairs_rise sorted rising;
+        fit = found_fit job run opening todo sorted start within here;
+      };
+      start = start;
+    }
+
+module _ (job : Job) (opening outcomes : List Outcome) (all : AreAll job opening outcomes) where
+  -- what is left when the run started, and what it started with
+  rest_is : lacking job opening + length opening ≡ total job
+  rest_is = lacking_rest job opening (rising_apart opening all.start.rising) (all_below_total job opening all.start.fit)
+
+  -- fewer outcomes than trajectories: not all that is lacking was walked
+  pub short_leaves : length outcomes < total job → leaves_work job opening ≡ true
+  short_leaves short = lt-ltb (to_walk job opening) (lacking job opening) (omega (arith, short, all.count, rest_is))
+
+  -- an outcome for each trajectory: all that is lacking was walked
+  pub whole_leaves : total job ≤ length outcomes → leaves_work job opening ≡ false
+  whole_leaves whole = le-ltb (to_walk job opening) (lacking job opening) (omega (arith, whole, all.count, rest_is))
+
+-- the outcome of an id, kept or found, has this id
+pub kept_id : (job : Job) (opening : List Outcome) (id : ℕ) → (outcome_from job (draw job.setting.key) opening id).id ≡ id
+kept_id job opening id = by (find (λ o. o.id == id) opening) refl
+  where
+    by : (o : Option Outcome) → find (λ o. o.id == id) opening ≡ o → (kept_or job (draw job.setting.key) id o).id ≡ id
+    by None e = fitting.found_id job (draw job.setting.key) job.setting.shift id
+    by (Some o) e = eqb-true o.id id (find_passes (λ o. o.id == id) opening o e)
+
+-- where each number passes, the outcomes of those that pass are those of all
+all_ids : (n : ℕ) (test : ℕ → Bool) (f : ℕ → Outcome) → ((k : ℕ) → k < n → test k ≡ true) → ((k : ℕ) → (f k).id ≡ k)
+    → map (λ o. o.id) (map f (filter_below n test)) ≡ map_below n (λ id. id)
+all_ids zero test f each same = refl
+all_ids (suc n) test f each same =
+    ap (λ xs. map (λ o. o.id) xs) (map-append f (filter_below n test) (cond (test n) (n ∷ []) []))
+    ∙ map-append (λ (o : Outcome). o.id) (map f (filter_below n test)) (map f (cond (test n) (n ∷ []) []))
+    ∙ ap (λ xs. xs ++ map (λ o. o.id) (map f (cond (test n) (n ∷ []) []))) (all_ids n test f (λ k l. each k (omega arith)) same)
+    ∙ ap (λ b. map_below n (λ id. id) ++ map (λ o. o.id) (map f (cond b (n ∷ []) []))) (each n (omega arith))
+    ∙ ap (λ id. map_below n (λ id. id) ++ id ∷ []) (same n)
+
+-- where no work is left, the outcomes have all ids
+full_ids : (job : Job) (opening : List Outcome) → leaves_work job opening ≡ false → map (λ o. o.id) (full_of job opening) ≡ map_below (total job) (λ id. id)
+unfolding full
+full_ids job opening none =
+    all_ids (total job) (λ id. has_id opening id || has (run_ids job opening job.setting.budget) id) (outcome_from job (draw job.setting.key) opening)
+    (every_id job opening none) (kept_id job opening)
+
+-- as many outcomes as trajectories are one of each
+pub whole_outcomes : (job : Job) → job.setting.stop ≡ 0 → (opening outcomes : List Outcome) → AreAll job opening outcomes → total job ≤ length outcomes → AreOutcomesOf job outcomes
+whole_outcomes job plain opening outcomes all whole = record {
+  ids = ap (λ os. map (λ o. o.id) os) all.full ∙ full_ids job opening (whole_leaves job opening outcomes all whole)
+      ∙ ap (λ n. map_below n (λ id. id)) (sym (reports_all job plain));
+  fitting = fit_list job outcomes all.fit.fit;
+}

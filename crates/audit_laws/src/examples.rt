@@ -1,0 +1,7 @@
+//! Examples that the definitions compute, so that each definition was tried on cases small enough to work out by hand.
+
+pub mod formats;
+pub mod further;
+pub mod model;
+pub mod rules;
+pub mod tables;

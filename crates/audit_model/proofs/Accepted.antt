@@ -1,0 +1,112 @@
+-- The population bounds as two numbers, and which start plans are accepted.
+use Rattle.std.proofs.Common.{◌≡◌, ℕ, ◌+◌, ◌-◌, ◌*◌, ◌/◌, ◌<◌, ◌≤◌, false, [], ◌∷◌, length, Some, None, ap, ◌∙◌, arith}
+use Rattle.std.specs.Prelude.{◌↔◌, slice_index, option_map}
+use Rattle.std.specs.Option.{option_or}
+use Rattle.std.proofs.Math.Nat.{mul_comm}
+use Rattle.std.proofs.lemmas.Bool.{cond-false, leb-true, le-leb, le-ltb, ltb-false, not-false, not_from_true}
+use Rattle.std.proofs.lemmas.Nat.{mul-le, div-add-mod', le-div}
+use Rattle.audit_model.specs.Below.{above_all}
+use Rattle.audit_model.specs.First.{first_some, first_below}
+use Rattle.audit_model.specs.Job.{Job, total_population}
+use Rattle.audit_model.specs.JobOf.{lacks_votes, is_unbalanced, is_parted, cuts_too_many, is_oversplit, votes_fault, bounds_fault, path_fault, cut_fault, split_fault, out_of_bounds, disconnected, oversplit, plan_fault}
+use Rattle.audit_model.specs.declared.fault.PlanFault.TheVariants.{NoVotes, TooManyCut}
+use Rattle.audit_model.specs.Meets.{split_of}
+use Rattle.audit_model.specs.Path.{is_connected}
+use Rattle.audit_model.specs.Plan.{in_district, district_sum, cut_edges, IsBalanced, IsLegal, is_balanced, least_population, greatest_population}
+use Rattle.audit_model.specs.Rounded.{quotient_up}
+use Rattle.audit_model.proofs.Connected.{connected_passes, passes_connected}
+use Rattle.audit_model.proofs.Least.{quotient_up_is_least}
+use Rattle.audit_model.proofs.Legal.{balanced_passes, passes_balanced}
+use Rattle.audit_model.proofs.Meeting.{splits_from}
+use Rattle.audit_model.proofs.Options.{option_map_none, option_or_none, cond_some_none}
+use Rattle.audit_model.proofs.First.{first_below_none, none_first_below}
+
+-- ---- the bounds
+
+-- a product is enough exactly from the rounded quotient on
+pub enough_from : (a b p : ℕ) → 0 < b → (a ≤ b * p) ↔ (quotient_up a b ≤ p)
+enough_from a b p above =
+    let least = quotient_up_is_least a b above in (
+      λ h. least.least p (le-leb a (p * b) (omega (arith, h, mul_comm b p))),
+      λ h.
+          let reached : a ≤ quotient_up a b * b = leb-true a (quotient_up a b * b) least.passes in
+          let more : quotient_up a b * b ≤ p * b = mul-le (quotient_up a b) b p b h (omega arith) in
+          omega (arith, reached, more, mul_comm b p),
+    )
+
+-- a product is small enough exactly up to the quotient
+pub small_up_to : (b c p : ℕ) → 0 < b → (b * p ≤ c) ↔ (p ≤ c / b)
+small_up_to b c p above = (
+  λ h. le-div p c b above (omega (arith, h, mul_comm b p)),
+  λ h.
+      let more : p * b ≤ c / b * b = mul-le p b (c / b) b h (omega arith) in
+      omega (arith, more, mul_comm b p, div-add-mod' c b),
+)
+
+-- a population is balanced exactly where it lies between the least and the greatest that the slack allows
+pub balanced_between : (job : Job) (population : ℕ) → 0 < job.districts
+    → IsBalanced job population ↔ ((least_population job ≤ population) × (population ≤ greatest_population job))
+balanced_between job population above =
+    let low = enough_from ((10000 - job.setting.slack) * total_population job) (10000 * job.districts) population (omega arith) in
+    let high = small_up_to (10000 * job.districts) ((10000 + job.setting.slack) * total_population job) population (omega arith) in
+    (λ h. (low.0 h.0, high.0 h.1), λ h. (low.1 h.0, high.1 h.1))
+
+-- ---- the first of several
+
+-- ---- which start plans are accepted
+
+-- where a job has no fault, none of its five tests finds one
+no_fault_parts : (job : Job) → plan_fault job ≡ None
+    → (votes_fault job ≡ None) × (bounds_fault job ≡ None) × (path_fault job ≡ None) × (cut_fault job ≡ None) × (split_fault job ≡ None)
+no_fault_parts job h =
+    let first = option_or_none (votes_fault job) (first_some (bounds_fault job ∷ path_fault job ∷ cut_fault job ∷ split_fault job ∷ [])) h in
+    let second = option_or_none (bounds_fault job) (first_some (path_fault job ∷ cut_fault job ∷ split_fault job ∷ [])) first.1 in
+    let third = option_or_none (path_fault job) (first_some (cut_fault job ∷ split_fault job ∷ [])) second.1 in
+    let fourth = option_or_none (cut_fault job) (first_some (split_fault job ∷ [])) third.1 in
+    let fifth = option_or_none (split_fault job) (first_some []) fourth.1 in
+    (first.0, second.0, third.0, fourth.0, fifth.0)
+
+-- with no fault there are votes where they are asked for, and the start plan is legal
+pub accepted_is_legal : (job : Job) → length job.start ≡ job.graph.units
+    → ((u : ℕ) → u < job.graph.units → slice_index job.start u < job.districts)
+    → plan_fault job ≡ None → (lacks_votes job ≡ false) × IsLegal job job.start
+accepted_is_legal job complete in_range h =
+    let parts = no_fault_parts job h in (
+      cond_some_none (lacks_votes job) NoVotes parts.0,
+      record {
+        complete = complete;
+        in_range = in_range;
+        connected = λ d l. passes_connected job.graph (in_district job.start d)
+            (not-false (is_connected job.graph (in_district job.start d))
+            (first_below_none job.districts (is_parted job) d (option_map_none (disconnected job) (first_below job.districts (is_parted job)) parts.2) l));
+        balanced = λ d l. passes_balanced job (district_sum job.counts.population job.start d)
+            (not-false (is_balanced job (district_sum job.counts.population job.start d))
+            (first_below_none job.districts (is_unbalanced job) d (option_map_none (out_of_bounds job) (first_below job.districts (is_unbalanced job)) parts.1) l));
+        meeting = record {
+          few_cuts = ltb-false job.setting.max_cut (cut_edges job.graph job.start)
+              (cond_some_none (cuts_too_many job) (TooManyCut (cut_edges job.graph job.start) job.setting.max_cut) parts.3);
+          few_splits = splits_from job.regions job.start job.setting.max_split (λ region l.
+              ltb-false job.setting.max_split (split_of job.regions job.start region)
+              (first_below_none (above_all job.regions) (is_oversplit job) region
+              (option_map_none (oversplit job) (first_below (above_all job.regions) (is_oversplit job)) parts.4) l));
+        };
+      },
+    )
+
+-- and the other way round
+pub legal_is_accepted : (job : Job) → lacks_votes job ≡ false → IsLegal job job.start → plan_fault job ≡ None
+legal_is_accepted job votes legal =
+    ap (λ o. option_or o (first_some (bounds_fault job ∷ path_fault job ∷ cut_fault job ∷ split_fault job ∷ [])))
+    (cond-false (lacks_votes job) (Some NoVotes) None votes)
+    ∙ ap (λ o. option_or (option_map (out_of_bounds job) o) (first_some (path_fault job ∷ cut_fault job ∷ split_fault job ∷ [])))
+    (none_first_below job.districts (is_unbalanced job) (λ d l. not_from_true (is_balanced job (district_sum job.counts.population job.start d))
+    (balanced_passes job (district_sum job.counts.population job.start d) (legal.balanced d l))))
+    ∙ ap (λ o. option_or (option_map (disconnected job) o) (first_some (cut_fault job ∷ split_fault job ∷ [])))
+    (none_first_below job.districts (is_parted job) (λ d l. not_from_true (is_connected job.graph (in_district job.start d))
+    (connected_passes job.graph (in_district job.start d) (legal.connected d l))))
+    ∙ ap (λ o. option_or o (first_some (split_fault job ∷ [])))
+    (cond-false (cuts_too_many job) (Some (TooManyCut (cut_edges job.graph job.start) job.setting.max_cut)) None
+    (le-ltb job.setting.max_cut (cut_edges job.graph job.start) legal.meeting.few_cuts))
+    ∙ ap (λ o. option_or (option_map (oversplit job) o) (first_some []))
+    (none_first_below (above_all job.regions) (is_oversplit job) (λ region l.
+    le-ltb job.setting.max_split (split_of job.regions job.start region) (legal.meeting.few_splits region)))

@@ -1,0 +1,60 @@
+-- The parts of what is to be walked.
+use Rattle.std.proofs.Common.{◌≡◌, ℕ, ◌<◌, Bool, true, false, ◌&&◌, not, List, take, refl, sym, ap, ◌∙◌}
+use Rattle.std.specs.Prelude.{◌==◌, ◌%◌}
+use Rattle.std.proofs.lemmas.Bool.{and_from, and_parts, eq-eqb, eqb-true, not-true}
+use Rattle.std.proofs.lemmas.List.{take_all}
+use Rattle.std.proofs.Math.Nat.{mod-one}
+use Rattle.audit_model.specs.declared.outcome.Outcome.{Outcome}
+use Rattle.audit_model.specs.Apart.{AllApart}
+use Rattle.audit_model.specs.Below.{filter_below}
+use Rattle.audit_model.specs.Graph.{has}
+use Rattle.audit_model.specs.Job.{Job}
+use Rattle.audit_model.specs.Run.{has_id, is_in_part, lacking_ids, part_ids, total}
+use Rattle.audit_model.proofs.Bools.{and_true, same_bool}
+use Rattle.audit_model.proofs.Below.{filter_below_same, length-filter_below}
+use Rattle.audit_model.proofs.Connected.{filter_below-has, has-filter_below}
+use Rattle.audit_model.proofs.ListFacts.{has-take}
+use Rattle.audit_model.proofs.Running.{apart-filter_below, apart-take}
+
+-- with enough budget all that pass are taken
+enough : (n : ℕ) (test : ℕ → Bool) (id : ℕ) → has (take n (filter_below n test)) id ≡ has (filter_below n test) id
+enough n test id = ap (λ xs. has xs id) (take_all n (filter_below n test) (length-filter_below n test))
+
+module _ (parts part : ℕ) (job : Job) (opening : List Outcome) where
+  lacks : ℕ → Bool
+  lacks id = not (has_id opening id)
+
+  lies : ℕ → Bool
+  lies id = lacks id && (id % parts == part)
+
+  pub each_in_its_part : (id : ℕ) → has (part_ids parts part job opening (total job)) id ≡ (has (lacking_ids job opening) id && is_in_part parts part id)
+  unfolding lies lacks
+  each_in_its_part id =
+      enough (total job) lies id
+      ∙ same_bool (has (filter_below (total job) lies) id) (has (filter_below (total job) lacks) id && (id % parts == part))
+      (λ h.
+      let found = has-filter_below (total job) lies id h in
+      let both = and_parts (lacks id) (id % parts == part) found.1 in
+      and_from (has (filter_below (total job) lacks) id) (id % parts == part) (filter_below-has (total job) lacks id found.0 both.0) both.1)
+      (λ h.
+      let both = and_parts (has (filter_below (total job) lacks) id) (id % parts == part) h in
+      let found = has-filter_below (total job) lacks id both.0 in
+      filter_below-has (total job) lies id found.0 (and_from (lacks id) (id % parts == part) found.1 both.1))
+
+  pub within_its_part : (budget id : ℕ) → has (part_ids parts part job opening budget) id ≡ true
+      → (id < total job) × ((has_id opening id ≡ false) × (id % parts ≡ part))
+  unfolding lies lacks
+  within_its_part budget id h =
+      let found = has-filter_below (total job) lies id (has-take budget (filter_below (total job) lies) id h) in
+      let both = and_parts (lacks id) (id % parts == part) found.1 in
+      (found.0, (not-true (has_id opening id) both.0, eqb-true (id % parts) part both.1))
+
+  pub once_in_its_part : (budget : ℕ) → AllApart (part_ids parts part job opening budget)
+  unfolding lies lacks
+  once_in_its_part budget = apart-take budget (filter_below (total job) lies) (apart-filter_below (total job) lies)
+
+-- the one part of a run that is not parted has all ids that are lacking
+pub only_part : (job : Job) (opening : List Outcome) (budget : ℕ) → part_ids 1 0 job opening budget ≡ take budget (lacking_ids job opening)
+only_part job opening budget =
+    ap (take budget) (filter_below_same (total job) (λ id. not (has_id opening id) && (id % 1 == 0)) (λ id. not (has_id opening id))
+    (λ k l. and_true (not (has_id opening k)) (k % 1 == 0) (eq-eqb (k % 1) 0 (mod-one k))))

@@ -1,0 +1,35 @@
+-- What a keeper's two slots hold, where it tells, and what a load and a save do.
+use Rattle.std.specs.Prelude.{◌≡◌, ℕ, zero, suc, Bool, true, false, List, Option, Some, None}
+use Rattle.audit_model.specs.Told.{IfTold, IfBothTold}
+
+-- a slot is absent, or a list of bytes
+abbrev pub Stored : Type 0
+Stored = Option (List ℕ)
+
+-- both slots
+pub record Pair : Type 0 where
+  pub zero_slot : Stored
+  pub one_slot : Stored
+
+-- the slot with this number
+abbrev pub stored : Pair → ℕ → Stored
+stored p zero = p.zero_slot
+stored p (suc n) = p.one_slot
+
+-- the slot that has not this number
+abbrev pub other_stored : Pair → ℕ → Stored
+other_stored p zero = p.one_slot
+other_stored p (suc n) = p.zero_slot
+
+-- whatever a save answers, the other slot is as it was
+abbrev pub KeepsOther : Option Pair → Option Pair → ℕ → Type 0
+KeepsOther old new slot = IfBothTold old new (λ p q. other_stored q slot ≡ other_stored p slot)
+
+-- the slot holds exactly these bytes
+abbrev pub HoldsBytes : Option Pair → ℕ → List ℕ → Type 0
+HoldsBytes slots slot bytes = IfTold slots (λ q. stored q slot ≡ Some bytes)
+
+-- the bytes, where the slot is there
+abbrev pub stored_if : Bool → List ℕ → Stored
+stored_if true bytes = Some bytes
+stored_if false bytes = None

@@ -1,6 +1,0 @@
-mod Following
-mod Likeness
-mod Pairing
-mod Preparing
-mod Visiting
-mod Words

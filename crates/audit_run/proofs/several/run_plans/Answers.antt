@@ -1,0 +1,18 @@
+use Rattle.audit_run.proofs.Preparing.{reported_run}
+use Rattle.audit_run.proofs.Words.{run_alone, same_key}
+use Rattle.audit_run.proofs.several.run_plans.Goals as goal
+
+pub report_all-requires-after_bounds : goal.report_all-requires-after_bounds
+report_all-requires-after_bounds g c κs within = record {
+  setting = c.in-Ok.ensures.setting;
+  shared = c.in-Ok.ensures.shared;
+  alone = run_alone c.accepted_jobs_are_runs.ensures _ _ _ c.in-Ok.plans.items c.requires c.in-Ok.ensures;
+}
+
+pub returns-in-Ok : goal.returns-in-Ok
+returns-in-Ok g c = λ keeper.
+    reported_run _ _ _ c.in-Ok.plans.items c.in-Ok.ensures _ _ keeper c.report_all.result
+    (c.report_all.ensures c.in-Ok.ensures.setting.key (same_key _ _ _ c.in-Ok.plans.items c.in-Ok.ensures))
+
+pub returns-in-Err : goal.returns-in-Err
+returns-in-Err g c = λ keeper. c.in-Err.ensures (g.K.Sink.state c.args.out.now) keeper

@@ -1,0 +1,15 @@
+use Rattle.audit_run.proofs.Ending.{ends_for}
+use Rattle.audit_run.proofs.single.audit_single.Goals as goal
+
+pub finish-why-requires-clause-run : goal.finish-why-requires-clause-run
+finish-why-requires-clause-run g c κs within = c.accepted_jobs_are_runs.ensures _ _ c.in-Ok.ensures.accepted.words_are c.in-Ok.ensures.sound
+
+pub returns-in-Ok : goal.returns-in-Ok
+returns-in-Ok g c =
+    c.ended_calls_keep_their_promise.ensures _ _ _ _ _ _
+    (ends_for _ _ _ _ _ _ _ (c.finish-why.ensures _ _ _ c.in-Ok.ensures) c.tell.ensures.status c.tell.ensures.told)
+
+pub returns-in-Err : goal.returns-in-Err
+returns-in-Err g c =
+    c.ended_calls_keep_their_promise.ensures _ _ _ _ _ _
+    (ends_for _ _ _ _ _ _ _ (c.in-Err.ensures _ _) c.tell-in-Err.ensures.status c.tell-in-Err.ensures.told)

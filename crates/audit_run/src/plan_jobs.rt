@@ -1,0 +1,90 @@
+//! From the words and the source to the jobs of several plans.
+
+ghost use Rattle.std.specs.Prelude.{◌≡◌, ◌≤◌, MatchResult, length};
+ghost use Rattle.std.specs.Io.KnownBytes.{IsAtEnd};
+ghost use Rattle.audit_model.specs.Limits.{IsSetting};
+ghost use Rattle.audit_run.specs.Stages.{AreReadyFor, ArePlansReady, PlansRefused, PlansRunTo, plans_ended, read_ended};
+ghost use Rattle.audit_statement.specs.Accepted.{most_bytes};
+ghost use Rattle.audit_model.specs.State.{Kept, Stream};
+ghost use Rattle.audit_model.specs.Told.{IfTold};
+ghost use Rattle.audit_statement.specs.World.{world};
+ghost use Rattle.audit_words.specs.Spoken.{spoken};
+
+use audit_input::prepare::word_end;
+use audit_input::reading::{ReadEnd, read_source};
+use audit_io::source::Source;
+use audit_model::fault::PlansFault;
+use audit_model::setting::Setting;
+use audit_words::read;
+use plan_csv::named::Named;
+use plan_csv::read_jobs;
+use report::ended::Ended;
+use std::alloc::Global;
+
+fn plans_end(fault: PlansFault, setting: Setting) -> Ended
+    ensures { result ≡ plans_ended setting fault }
+{
+    match fault {
+        PlansFault::Graph(fault) => Ended::BadGraph(fault, setting.columns),
+        PlansFault::Regions(fault) => Ended::BadRegions(fault, setting.region),
+        PlansFault::Table(fault) => Ended::BadTable(fault),
+        PlansFault::Own(fault) => Ended::BadPlan(fault),
+        PlansFault::Other(name, fault) => Ended::BadPlanNamed(name, fault),
+        PlansFault::Memory => Ended::NoMemory,
+    }
+}
+
+// How a call ends whose source was not read to its end.
+fn read_end(end: ReadEnd) -> Ended
+    ensures { result ≡ read_ended end }
+{
+    match end {
+        ReadEnd::Failed => Ended::ReadFault,
+        ReadEnd::TooMany => Ended::TooManyBytes,
+        ReadEnd::Memory => Ended::NoMemory,
+    }
+}
+
+// The jobs of the bytes that a source had, or why there are none.
+fn judge_plans(alloc: Global, setting: Setting, bytes: &[u8]) -> Result<Vec<Named>, Ended>
+    requires few { length bytes.now ≤ most_bytes }
+    requires within { IsSetting setting }
+    ensures { (before after : Stream) → IfTold before.bytes (λ left. left ≡ bytes.now) → after.faults ≡ before.faults
+        → MatchResult result (λ plans. IsAtEnd after.bytes → AreReadyFor setting before after plans.items) (λ why. PlansRefused setting before after why) }
+{
+    match read_jobs(alloc, &setting, bytes) {
+        Ok(plans) => Ok(plans),
+        Err(fault) => Err(plans_end(fault, setting)),
+    }
+}
+
+// The jobs of what the source has, or why there are none.
+fn prepare_jobs<S: Source>(
+    alloc: Global,
+    setting: Setting,
+    source: &mut S,
+) -> Result<Vec<Named>, Ended>
+    requires { IsSetting setting }
+    ensures { MatchResult result (λ plans. AreReadyFor setting (S.state source.old) (S.state source.new) plans.items)
+        (λ why. PlansRefused setting (S.state source.old) (S.state source.new) why) }
+{
+    match read_source(alloc, source) {
+        Ok(bytes) => judge_plans(alloc, setting, bytes.as_slice()),
+        Err(end) => Err(read_end(end)),
+    }
+}
+
+/// The jobs that the words and the source give, or why there are none.
+pub fn prepare_plans<S: Source>(
+    alloc: Global,
+    words: &[String],
+    source: &mut S,
+) -> Result<Vec<Named>, Ended>
+    ensures { MatchResult result (λ plans. ArePlansReady (spoken words.now) (S.state source.old) (S.state source.new) plans.items)
+        (λ why. (out : Stream) (keeper : Kept) → PlansRunTo (spoken words.now) (world (S.state source.old) out keeper) (world (S.state source.new) out keeper) why) }
+{
+    match read(alloc, words) {
+        Ok(setting) => prepare_jobs(alloc, setting, source),
+        Err(fault) => Err(word_end(fault)),
+    }
+}

@@ -1,0 +1,97 @@
+//! The rest of a call on several plans: all memory is taken, then one plan after the other is walked and told.
+
+ghost use Rattle.std.specs.Prelude.{◌≡◌, ◌<◌, ◌≢◌, ℕ, [], List, length, All, slice_index_or};
+ghost use Rattle.plan_csv.specs.declared.named.Named.{Named as NamedOf};
+ghost use Rattle.plan_csv.specs.Named.{jobs_of};
+ghost use Rattle.audit_run.specs.Alike.{MayRunTogether};
+ghost use Rattle.audit_saving.specs.Plans.{ReportsPlans};
+
+use crate::benches::{cut_benches, split_benches};
+use audit_io::gate::Gate;
+use audit_io::sink::Sink;
+use audit_model::outcome::SumsView;
+use audit_saving::plans::report_plans;
+use claim_counter::runtime::Runtime;
+use plan_core::job::Job;
+use plan_csv::named::Named;
+use report::ended::Ended;
+use std::thread::Threads;
+
+// The job of the first plan.
+fn first_of(plans: &[Named]) -> &Job
+    requires { 0 < length plans.now }
+    ensures { (n : NamedOf) × (n ≡ slice_index_or plans.now 0 n) × (result.now ≡ n.job) }
+{
+    &plans[0].job
+}
+
+// Reports on plans of a graph without regions.
+fn report_cut<R: Threads + Sync, K: Sink, G: Gate + Sync>(
+    rt: &Runtime<'_, R, G>,
+    plans: Vec<Named>,
+    out: &mut K,
+) -> Ended
+    requires plans { MayRunTogether plans.items }
+    requires no_regions { All (λ n. n.job.regions ≡ []) plans.items }
+    ensures { (key : List ℕ) → All (λ n. n.job.setting.key ≡ key) plans.items → ReportsPlans key (jobs_of plans.items) (K.state out.old) (K.state out.new) result }
+{
+    let first = first_of(plans.as_slice());
+    let rules = first.rules();
+    let max_cut = rules.max_cut;
+    let workers = first.setting().workers;
+    match cut_benches(
+        rt.alloc,
+        move |sums: &SumsView| sums.cut <= max_cut,
+        max_cut,
+        rules.max_split,
+        workers + 1,
+        plans.len(),
+    ) {
+        Ok(benches) => report_plans(rt, plans, benches, out),
+        Err(_) => Ended::NoMemory,
+    }
+}
+
+// Reports on plans of a graph with regions.
+fn report_split<R: Threads + Sync, K: Sink, G: Gate + Sync>(
+    rt: &Runtime<'_, R, G>,
+    plans: Vec<Named>,
+    out: &mut K,
+) -> Ended
+    requires plans { MayRunTogether plans.items }
+    requires some_regions { All (λ n. n.job.regions ≢ []) plans.items }
+    ensures { (key : List ℕ) → All (λ n. n.job.setting.key ≡ key) plans.items → ReportsPlans key (jobs_of plans.items) (K.state out.old) (K.state out.new) result }
+{
+    let first = first_of(plans.as_slice());
+    let rules = first.rules();
+    let cut_limit = rules.max_cut;
+    let split_limit = rules.max_split;
+    let workers = first.setting().workers;
+    match split_benches(
+        rt.alloc,
+        move |sums: &SumsView| sums.cut <= cut_limit,
+        move |width: u32| width <= split_limit,
+        rules,
+        workers + 1,
+        plans.as_slice(),
+    ) {
+        Ok(benches) => report_plans(rt, plans, benches, out),
+        Err(_) => Ended::NoMemory,
+    }
+}
+
+/// Takes all memory that the plans need, walks one after the other, and writes their names and reports.
+pub fn report_all<R: Threads + Sync, K: Sink, G: Gate + Sync>(
+    rt: &Runtime<'_, R, G>,
+    plans: Vec<Named>,
+    out: &mut K,
+) -> Ended
+    requires { MayRunTogether plans.items }
+    ensures { (key : List ℕ) → All (λ n. n.job.setting.key ≡ key) plans.items → ReportsPlans key (jobs_of plans.items) (K.state out.old) (K.state out.new) result }
+{
+    if first_of(plans.as_slice()).rules().regions.len() == 0 {
+        report_cut(rt, plans, out)
+    } else {
+        report_split(rt, plans, out)
+    }
+}

@@ -1,0 +1,159 @@
+//! The rest of a run of one plan: with what it starts, its judges, and whether it saves.
+
+ghost use Rattle.std.specs.Prelude.{◌≡◌, ◌≢◌, [], false};
+ghost use Rattle.audit_model.specs.State.{Kept};
+ghost use Rattle.audit_statement.specs.Endings.{IsOpening, saves};
+ghost use Rattle.audit_laws.specs.Calls.{Finishes};
+ghost use Rattle.audit_laws.specs.Runs.{IsRunJob};
+ghost use Rattle.audit_input.specs.Opening.{IsOpened};
+ghost use Rattle.audit_walks.specs.Means.{IsBench};
+ghost use Rattle.audit_walks.specs.Ready.{IsStartOf};
+
+use audit_input::opening::{Opening, open};
+use audit_io::gate::Gate;
+use audit_io::keeper::Keeper;
+use audit_io::sink::Sink;
+use audit_model::outcome::{Outcome, SumsView};
+use audit_saving::saving::{finish_saved, make_saved_means};
+use audit_walks::judges::guards;
+use audit_walks::means::make_means;
+use audit_walks::walking::finish_unsaved;
+use claim_counter::runtime::Runtime;
+use flip_guard::judge::Judge;
+use plan_core::job::Job;
+use region_guard::judges::region_guards;
+use report::ended::Ended;
+use std::sync::Wait;
+use std::thread::Threads;
+
+// Does the rest of a run that starts with these outcomes and saves nothing.
+fn run_unsaved<R: Threads + Sync, K: Sink, J: Judge + Send, G: Gate + Sync>(
+    rt: &Runtime<'_, R, G>,
+    job: &Job,
+    outcomes: &[Outcome],
+    judges: Vec<J>,
+    out: &mut K,
+) -> Ended
+    requires start { IsStartOf job.now outcomes.now }
+    requires unsaved { saves job.now.setting ≡ false }
+    requires judges { IsBench J.judging job.now judges }
+    ensures { (k : Kept) → IsOpening job.now k.slots outcomes.now → Finishes job.now (K.state out.old) (K.state out.new) k k result }
+{
+    match make_means(rt.alloc, job, outcomes, judges) {
+        Ok(means) => finish_unsaved(rt, job, means, out).ended(),
+        Err(_) => Ended::NoMemory,
+    }
+}
+
+// Does the rest of a run that starts so, with a judge for each worker and one for the serial test.
+fn finish_judged<
+    R: Threads + Wait + Sync,
+    K: Sink,
+    C: Keeper + Send,
+    J: Judge + Send,
+    G: Gate + Sync,
+>(
+    rt: &Runtime<'_, R, G>,
+    job: &Job,
+    opening: Opening,
+    judges: Vec<J>,
+    out: &mut K,
+    keeper: C,
+) -> (Ended, C)
+    requires opened { IsOpened job.now (C.state keeper).slots opening }
+    requires judges { IsBench J.judging job.now judges }
+    ensures { Finishes job.now (K.state out.old) (K.state out.new)
+        (C.state keeper) (C.state result.1) result.0 }
+{
+    let Opening { outcomes, target } = opening;
+    match target {
+        None => (
+            run_unsaved(rt, job, outcomes.as_slice(), judges, out),
+            keeper,
+        ),
+        Some(target) => match make_saved_means(rt.alloc, job, outcomes.as_slice(), target, judges) {
+            Ok(means) => finish_saved(rt, job, means, out, keeper),
+            Err(_) => (Ended::NoMemory, keeper),
+        },
+    }
+}
+
+// Does the rest of a run that starts so, of a job without regions.
+fn finish_cut<R: Threads + Wait + Sync, K: Sink, C: Keeper + Send, G: Gate + Sync>(
+    rt: &Runtime<'_, R, G>,
+    job: &Job,
+    opening: Opening,
+    out: &mut K,
+    keeper: C,
+) -> (Ended, C)
+    requires opened { IsOpened job.now (C.state keeper).slots opening }
+    requires no_regions { job.now.regions ≡ [] }
+    ensures { Finishes job.now (K.state out.old) (K.state out.new)
+        (C.state keeper) (C.state result.1) result.0 }
+{
+    let max_cut = job.rules().max_cut;
+    let max_split = job.rules().max_split;
+    let workers = job.setting().workers;
+    match guards(
+        rt.alloc,
+        move |sums: &SumsView| sums.cut <= max_cut,
+        max_cut,
+        max_split,
+        workers + 1,
+    ) {
+        Ok(judges) => finish_judged(rt, job, opening, judges, out, keeper),
+        Err(_) => (Ended::NoMemory, keeper),
+    }
+}
+
+// Does the rest of a run that starts so, of a job with regions.
+fn finish_split<R: Threads + Wait + Sync, K: Sink, C: Keeper + Send, G: Gate + Sync>(
+    rt: &Runtime<'_, R, G>,
+    job: &Job,
+    opening: Opening,
+    out: &mut K,
+    keeper: C,
+) -> (Ended, C)
+    requires opened { IsOpened job.now (C.state keeper).slots opening }
+    requires some_regions { job.now.regions ≢ [] }
+    ensures { Finishes job.now (K.state out.old) (K.state out.new)
+        (C.state keeper) (C.state result.1) result.0 }
+{
+    let cut_limit = job.rules().max_cut;
+    let split_limit = job.rules().max_split;
+    let workers = job.setting().workers;
+    match region_guards(
+        rt.alloc,
+        move |sums: &SumsView| sums.cut <= cut_limit,
+        move |width: u32| width <= split_limit,
+        job.rules(),
+        job.districts(),
+        workers + 1,
+    ) {
+        Ok(judges) => finish_judged(rt, job, opening, judges, out, keeper),
+        Err(_) => (Ended::NoMemory, keeper),
+    }
+}
+
+/// Looks with what the run starts, takes all its memory, walks as many trajectories of its part as the budget allows, saves now and then and at the end where
+/// the setting asks for it, and writes the report where all are done.
+pub fn finish_run<R: Threads + Wait + Sync, K: Sink, C: Keeper + Send, G: Gate + Sync>(
+    rt: &Runtime<'_, R, G>,
+    job: &Job,
+    out: &mut K,
+    mut keeper: C,
+) -> (Ended, C)
+    requires { IsRunJob job.now }
+    ensures { Finishes job.now (K.state out.old) (K.state out.new)
+        (C.state keeper) (C.state result.1) result.0 }
+{
+    let opening = match open(rt.alloc, job, &mut keeper) {
+        Ok(opening) => opening,
+        Err(why) => return (why, keeper),
+    };
+    if job.rules().regions.len() == 0 {
+        finish_cut(rt, job, opening, out, keeper)
+    } else {
+        finish_split(rt, job, opening, out, keeper)
+    }
+}

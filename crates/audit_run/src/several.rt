@@ -1,0 +1,60 @@
+//! The call on several plans of one graph.
+
+ghost use Rattle.std.specs.Prelude.{◌≡◌, true};
+ghost use Rattle.audit_run.specs.Stages.{PlansRunTo};
+ghost use Rattle.audit_statement.specs.Several.{KeepsPlansPromise, names_plans};
+ghost use Rattle.audit_model.specs.State.{Kept};
+ghost use Rattle.audit_statement.specs.World.{world};
+ghost use Rattle.audit_words.specs.Spoken.{spoken};
+
+use crate::plan_jobs::prepare_plans;
+use crate::plan_reports::report_all;
+use audit_io::gate::Gate;
+use audit_io::sink::Sink;
+use audit_io::source::Source;
+use audit_laws::step_laws::accepted_jobs_are_runs;
+use claim_counter::runtime::Runtime;
+use report::ended::Ended;
+use report::note::tell;
+use std::thread::Threads;
+
+// Does what such words ask for, but for the note.
+fn run_plans<R: Threads + Sync, S: Source, K: Sink, G: Gate + Sync>(
+    rt: &Runtime<'_, R, G>,
+    words: &[String],
+    graph: &mut S,
+    out: &mut K,
+) -> Ended
+    requires { names_plans (spoken words.now) ≡ true }
+    ensures { (keeper : Kept) → PlansRunTo (spoken words.now)
+        (world (S.state graph.old) (K.state out.old) keeper)
+        (world (S.state graph.new) (K.state out.new) keeper) result }
+{
+    accepted_jobs_are_runs();
+    match prepare_plans(rt.alloc, words, graph) {
+        Ok(plans) => report_all(rt, plans, out),
+        Err(why) => why,
+    }
+}
+
+/// Does what words ask for that are those of the command on several plans, and answers the status. No slot is looked at.
+///
+/// The source is read to its end, or to one byte more than 67,108,864: the graph up to its first line feed, and behind it the table. The name and the
+/// report of each plan go to `out`, and the reason of each status but 0 to `note`: 1 for refused words, 2 for a refused graph, table or plan, 3 for want
+/// of memory, 4 for a failed read, 5 for a failed write.
+pub fn audit_plans<R: Threads + Sync, S: Source, K: Sink, N: Sink, G: Gate + Sync>(
+    rt: &Runtime<'_, R, G>,
+    words: &[String],
+    graph: &mut S,
+    out: &mut K,
+    note: &mut N,
+) -> u8
+    requires { names_plans (spoken words.now) ≡ true }
+    ensures { (keeper : Kept) → KeepsPlansPromise (spoken words.now)
+        (world (S.state graph.old) (K.state out.old) keeper)
+        (world (S.state graph.new) (K.state out.new) keeper)
+        (N.state note.old) (N.state note.new) result }
+{
+    let why = run_plans(rt, words, graph, out);
+    tell(&why, note)
+}

@@ -1,0 +1,99 @@
+//! The call that does all that the program does with one plan.
+
+ghost use Rattle.std.specs.Prelude.{◌≡◌, IsTrue};
+ghost use Rattle.audit_model.specs.declared.setting.Command.TheVariants.{Check};
+ghost use Rattle.audit_statement.specs.Endings.{is_walking};
+ghost use Rattle.audit_statement.specs.Promise.{KeepsItsPromise};
+ghost use Rattle.audit_laws.specs.Calls.{Finishes};
+ghost use Rattle.audit_laws.specs.Runs.{IsRunJob};
+ghost use Rattle.audit_model.specs.State.{Kept};
+ghost use Rattle.audit_statement.specs.World.{world};
+ghost use Rattle.audit_words.specs.Spoken.{spoken};
+
+use crate::run::finish_run;
+use audit_input::prepare::prepare;
+use audit_io::gate::Gate;
+use audit_io::keeper::Keeper;
+use audit_io::sink::Sink;
+use audit_io::source::Source;
+use audit_laws::laws::ended_calls_keep_their_promise;
+use audit_laws::step_laws::accepted_jobs_are_runs;
+use audit_model::buffers::Bytes;
+use audit_model::setting::Command;
+use claim_counter::runtime::Runtime;
+use plan_core::job::Job;
+use report::check::check_text;
+use report::ended::Ended;
+use report::note::tell;
+use report::writing::write_all;
+use std::alloc::Global;
+use std::sync::Wait;
+use std::thread::Threads;
+
+// Writes the text of a check.
+fn finish_check<K: Sink>(alloc: Global, job: &Job, out: &mut K) -> Ended
+    requires { job.now.setting.command ≡ Check }
+    ensures { (keeper : Kept) → Finishes job.now (K.state out.old) (K.state out.new) keeper keeper result }
+{
+    let mut text = Bytes::new(alloc);
+    match check_text(alloc, job, &mut text) {
+        Err(_) => Ended::NoMemory,
+        Ok(()) => match write_all(out, text.as_slice()) {
+            Ok(()) => Ended::Done,
+            Err(_) => Ended::WriteFault,
+        },
+    }
+}
+
+// Does what the command asks for, with this job.
+fn finish<R: Threads + Wait + Sync, K: Sink, C: Keeper + Send, G: Gate + Sync>(
+    rt: &Runtime<'_, R, G>,
+    job: &Job,
+    out: &mut K,
+    keeper: C,
+) -> (Ended, C)
+    requires run { IsTrue (is_walking job.now.setting.command) → IsRunJob job.now }
+    ensures { Finishes job.now (K.state out.old) (K.state out.new)
+        (C.state keeper) (C.state result.1) result.0 }
+{
+    match job.setting().command {
+        Command::Check => (finish_check(rt.alloc, job, out), keeper),
+        Command::Run | Command::Make | Command::Plans => finish_run(rt, job, out, keeper),
+    }
+}
+
+/// Does what the words ask for, and answers the status and the keeper.
+///
+/// The graph is read to its end, or to one byte more than 67,108,864. The text of a check or the report of a run goes to `out`, and the
+/// reason of each status but 0 to `note`: 1 for refused words, 2 for a refused graph or plan, 3 for want of memory, 4 for a failed read, 5 for a failed write,
+/// 6 for a failed load of a checkpoint, 7 where trajectories are left to another run, 8 for slots from which a run cannot go on, 9 for a failed save.
+pub fn audit_single<
+    R: Threads + Wait + Sync,
+    S: Source,
+    K: Sink,
+    N: Sink,
+    C: Keeper + Send,
+    G: Gate + Sync,
+>(
+    rt: &Runtime<'_, R, G>,
+    words: &[String],
+    graph: &mut S,
+    out: &mut K,
+    note: &mut N,
+    keeper: C,
+) -> (u8, C)
+    ensures { let before = world (S.state graph.old) (K.state out.old) (C.state keeper) in
+        let after = world (S.state graph.new) (K.state out.new) (C.state result.1) in
+        KeepsItsPromise (spoken words.now) before after (N.state note.old) (N.state note.new) result.0 }
+{
+    // Laws, called for what their contracts say: an accepted job is within its limits, and a call that ends for a reason keeps its promise.
+    accepted_jobs_are_runs();
+    ended_calls_keep_their_promise();
+    match prepare(rt.alloc, words, graph) {
+        Ok(job) => {
+            let (why, keeper) = finish(rt, &job, out, keeper);
+            (tell(&why, note), keeper)
+        }
+        Err(why) => (tell(&why, note), keeper),
+    }
+}

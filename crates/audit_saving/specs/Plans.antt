@@ -1,0 +1,57 @@
+-- What several plans take before the first of them is walked, and how their reports are written.
+use Rattle.std.specs.Prelude.{◌≡◌, ℕ, Bool, false, List, [], ◌∷◌, map, Vec, codes}
+use Rattle.std.specs.List.{All}
+use Rattle.std.specs.Io.KnownBytes.{Appends}
+use Rattle.audit_model.specs.Faults.{Rose}
+use Rattle.audit_model.specs.State.{Stream}
+use Rattle.flip_guard.specs.Judging.{Judging}
+use Rattle.audit_model.specs.Job.{Job}
+use Rattle.audit_statement.specs.Draw.{draw}
+use Rattle.audit_statement.specs.Report.{line, plans_text}
+use Rattle.plan_csv.specs.declared.named.Named.{Named}
+use Rattle.plan_csv.specs.Named.{pair_of}
+use Rattle.audit_statement.specs.Jobs.{Jobs}
+use Rattle.report.specs.declared.ended.Ended.{Ended}
+use Rattle.report.specs.declared.ended.Ended.TheVariants as ended
+use Rattle.audit_statement.specs.Endings.{AppendsPart}
+use Rattle.audit_laws.specs.Runs.{IsRunJob}
+use Rattle.audit_walks.specs.Means.{IsBench, IsMeansFor}
+use Rattle.audit_saving.specs.declared.plans.PlanWalk.{PlanWalk}
+use Rattle.audit_saving.specs.Paired.{ArePaired}
+
+-- a run that saves nothing and does not resume
+pub record RunsAlone (job : Job) : Type 0 where
+  pub run : IsRunJob job
+  pub unsaved : job.setting.save_every ≡ 0
+  pub fresh : job.setting.resume ≡ false
+
+-- the line that names a plan
+abbrev pub plan_title : List ℕ → List ℕ
+plan_title name = line (codes "plan" ∷ name ∷ [])
+
+-- a name and its job
+abbrev pub walk_pair : {J : Type 0} → PlanWalk J → List ℕ × Job
+walk_pair w = pair_of w.plan
+
+-- each plan has judges of its own
+abbrev pub AreBenches : {J A : Type 0} → (J → Judging) → List Named → List (Vec J A) → Type 0
+AreBenches by named benches = ArePaired (λ n judges. IsBench by n.job judges) named benches
+
+module _ {J : Type 0} where
+  -- a plan that runs alone, and all that walking it takes
+  pub record IsWalkOf (w : PlanWalk J) : Type 0 where
+    pub run : RunsAlone w.plan.job
+    pub means : IsMeansFor w.plan.job w.means
+    pub fresh : w.means.ready.book.outcomes ≡ []
+
+  -- of each of these jobs in order
+  pub record AreWalksFor (jobs : Jobs) (walks : List (PlanWalk J)) : Type 0 where
+    pub pairs : map walk_pair walks ≡ jobs
+    pub each : All IsWalkOf walks
+
+-- how the reports of these jobs were written, by draws of this key
+abbrev pub ReportsPlans : List ℕ → Jobs → Stream → Stream → Ended → Type 0
+ReportsPlans key jobs before after ended.Done = Appends before.bytes after.bytes (plans_text (draw key) jobs) × (after.faults ≡ before.faults)
+ReportsPlans key jobs before after ended.WriteFault = AppendsPart before.bytes after.bytes (plans_text (draw key) jobs) × Rose before.faults after.faults
+ReportsPlans key jobs before after ended.NoMemory = after ≡ before
+ReportsPlans key jobs before after _ = ⊥

@@ -1,0 +1,201 @@
+-- The bytes of a checkpoint, the digest of a job, and the first fault in what is no checkpoint.
+-- FIPS 180-4 for SHA-256, this project's format for the rest. A checkpoint is one whole text; the code reads fields at offsets.
+use Rattle.std.specs.Prelude.{◌≡◌, ◌⊎◌, ℕ, ◌+◌, ◌-◌, ◌*◌, ◌^◌, ◌<◌, ◌≤◌, ◌==◌, ◌&&◌, ◌||◌, Bool, true, false, not, cond, nat_lt, nat_le, List, [], ◌∷◌, ◌++◌, length, map, take, drop, flat_map, codes, bytes_eq, slice_index, slice_range, FitsSigned, Option, Some, None, option_map}
+use Rattle.std.specs.Int.{Width, w32, w64, byte_len, to_be_bytes, from_be_bytes, cast_unsigned}
+use Rattle.std.specs.List.{AllByRecursion}
+use Rattle.sha2.specs.Sha256.{sha256}
+use Rattle.audit_model.specs.declared.fault.CkptFault.{CkptFault}
+use Rattle.audit_model.specs.declared.fault.CkptFault.TheVariants.{TooShort, BadMagic, BadVersion, BadGeneration, BadCount, BadOrder, BadDigest}
+use Rattle.audit_model.specs.declared.outcome.Outcome.{Outcome}
+use Rattle.audit_model.specs.declared.setting.Score.{Score}
+use Rattle.audit_model.specs.declared.setting.Score.TheVariants.{Seats, MeanMedian, Gap, CutEdges}
+use Rattle.audit_model.specs.declared.setting.Tail.{Tail}
+use Rattle.audit_model.specs.declared.setting.Tail.TheVariants.{Low, High}
+use Rattle.audit_model.specs.Below.{filter_below, map_below}
+use Rattle.audit_model.specs.First.{first_some, first_below}
+use Rattle.audit_model.specs.Graph.{Graph, adjacent, count_edges}
+use Rattle.audit_model.specs.Job.{Job}
+use Rattle.audit_model.specs.Trajectory.{no_bins}
+use Rattle.audit_model.specs.Limits.{most_trajectories, most_edges}
+
+-- ---- writing
+
+-- the second version of the format holds bins
+abbrev pub has_bins : ℕ → Bool
+has_bins version = version == 2
+
+-- the bins, where the version has them
+abbrev pub bin_bytes : Bool → List ℕ → List ℕ
+bin_bytes true bins = flat_map (to_be_bytes w32) bins
+bin_bytes false bins = []
+
+-- an outcome: its id, its moves and its values, and in the second version its bins
+abbrev pub outcome_bytes : ℕ → Outcome → List ℕ
+outcome_bytes version o =
+    to_be_bytes w32 o.id ++ to_be_bytes w64 o.moved ++ flat_map (λ v. to_be_bytes w64 (cast_unsigned w64 v)) o.values ++ bin_bytes (has_bins version) o.bins
+
+-- all but the last 32 bytes
+abbrev pub checkpoint_body : ℕ → List ℕ → ℕ → List Outcome → List ℕ
+checkpoint_body version digest generation outcomes =
+    codes "DISTCKPT" ++ to_be_bytes w32 version ++ digest ++ to_be_bytes w32 generation
+    ++ to_be_bytes w32 (length outcomes) ++ flat_map (outcome_bytes version) outcomes
+
+-- the checkpoint of a version, a job's digest, a generation and outcomes
+unfoldable pub checkpoint : ℕ → List ℕ → ℕ → List Outcome → List ℕ
+checkpoint version digest generation outcomes =
+    let body = checkpoint_body version digest generation outcomes in body ++ sha256 body
+
+-- each id is greater than the one before it
+abbrev pub AreRising : List ℕ → Type 0
+AreRising [] = Unit {0}
+AreRising (x ∷ []) = Unit {0}
+AreRising (x ∷ y ∷ rest) = (x < y) × AreRising (y ∷ rest)
+
+-- what an outcome's fields hold
+pub record IsOutcome (o : Outcome) : Type 0 where
+  pub id : o.id < 2 ^ 32
+  pub moved : o.moved < 2 ^ 64
+  pub four : length o.values ≡ 4
+  pub values : AllByRecursion (FitsSigned w64) o.values
+  pub nine : length o.bins ≡ 9
+  pub bins : AllByRecursion (λ n. n < 2 ^ 32) o.bins
+
+-- the second version holds any bins, and the first none
+abbrev pub HoldsBins : ℕ → List Outcome → Type 0
+HoldsBins version outcomes = (version ≡ 2) ⊎ ((version ≡ 1) × AllByRecursion (λ o. o.bins ≡ no_bins) outcomes)
+
+-- the bytes are the checkpoint of this version, digest, generation and outcomes
+pub record IsCheckpoint (bytes : List ℕ) (version : ℕ) (digest : List ℕ) (generation : ℕ) (outcomes : List Outcome) : Type 0 where
+  pub bins_held : HoldsBins version outcomes
+  pub digest_length : length digest ≡ 32
+  pub digest_bytes : AllByRecursion (λ b. b < 256) digest
+  pub generation_below : generation < 3
+  pub few : length outcomes ≤ most_trajectories
+  pub rising : AreRising (map (λ o. o.id) outcomes)
+  pub each : AllByRecursion IsOutcome outcomes
+  pub spelled : bytes ≡ checkpoint version digest generation outcomes
+
+-- ---- the first fault
+
+-- the number of this width at a place
+abbrev pub number_at : Width → ℕ → List ℕ → ℕ
+number_at w at bytes = from_be_bytes w (slice_range bytes at (at + byte_len w))
+
+-- the places of a checkpoint's parts: behind the eight bytes of the format's name its version, the digest, the generation and the number of
+-- outcomes, and then the outcomes
+abbrev pub version_place : ℕ
+version_place = 8
+
+-- where the digest begins
+abbrev pub digest_place : ℕ
+digest_place = 12
+
+-- where the generation stands
+abbrev pub generation_place : ℕ
+generation_place = 44
+
+-- where the number of outcomes stands
+abbrev pub count_place : ℕ
+count_place = 48
+
+-- where the outcomes begin
+abbrev pub outcomes_place : ℕ
+outcomes_place = 52
+
+-- how many bytes a checkpoint has beside its outcomes: those before them, and the checksum
+abbrev pub bare_length : ℕ
+bare_length = 84
+
+-- the version that the bytes say they are of
+abbrev pub stated_version : List ℕ → ℕ
+stated_version bytes = number_at w32 version_place bytes
+
+-- how many bytes an outcome has
+abbrev pub outcome_size : ℕ → ℕ
+outcome_size version = cond (has_bins version) 80 44
+
+-- where the outcome at a place begins
+abbrev pub outcome_start : List ℕ → ℕ → ℕ
+outcome_start bytes place = outcomes_place + outcome_size (stated_version bytes) * place
+
+-- the number of outcomes that the bytes say they have
+abbrev pub stated_count : List ℕ → ℕ
+stated_count bytes = number_at w32 count_place bytes
+
+-- the id of the outcome at a place
+abbrev pub stated_id : List ℕ → ℕ → ℕ
+stated_id bytes place = number_at w32 (outcome_start bytes place) bytes
+
+-- the first reason why bytes are no checkpoint
+unfoldable pub checkpoint_fault : List ℕ → Option CkptFault
+checkpoint_fault bytes = first_some (
+    cond (nat_lt (length bytes) bare_length) (Some (TooShort (length bytes))) None
+    ∷ cond (bytes_eq (take version_place bytes) (codes "DISTCKPT")) None (Some BadMagic)
+    ∷ cond ((stated_version bytes == 1) || (stated_version bytes == 2)) None (Some (BadVersion (stated_version bytes)))
+    ∷ cond (nat_lt 2 (number_at w32 generation_place bytes)) (Some (BadGeneration (number_at w32 generation_place bytes))) None
+    ∷ cond (nat_lt most_trajectories (stated_count bytes) || not (length bytes == bare_length + outcome_size (stated_version bytes) * stated_count bytes)) (Some (BadCount (stated_count bytes) (length bytes))) None
+    ∷ option_map BadOrder (first_below (stated_count bytes) (λ place. nat_lt 0 place && nat_le (stated_id bytes place) (stated_id bytes (place - 1))))
+    ∷ cond (bytes_eq (drop (length bytes - 32) bytes) (sha256 (take (length bytes - 32) bytes))) None
+    (Some (BadDigest (drop (length bytes - 32) bytes) (sha256 (take (length bytes - 32) bytes))))
+    ∷ [])
+
+-- ---- the digest of a job
+
+-- the number of a score in the digest
+abbrev pub score_code : Score → ℕ
+score_code Seats = 0
+score_code MeanMedian = 1
+score_code Gap = 2
+score_code CutEdges = 3
+
+-- the number of a tail in the digest
+abbrev pub tail_code : Tail → ℕ
+tail_code Low = 0
+tail_code High = 1
+
+-- each edge, its smaller end first, in rising order
+abbrev pub edge_bytes : Graph → List ℕ
+edge_bytes g = flat_map (λ u. flat_map (λ v. to_be_bytes w32 u ++ to_be_bytes w32 v) (filter_below g.units (λ v. nat_lt u v && adjacent g u v))) (map_below g.units (λ u. u))
+
+-- the counts of a unit, and its district at the start
+abbrev pub unit_bytes : Job → ℕ → List ℕ
+unit_bytes job u =
+    to_be_bytes w64 (slice_index job.counts.population u) ++ to_be_bytes w64 (slice_index job.counts.first u)
+    ++ to_be_bytes w64 (slice_index job.counts.second u) ++ to_be_bytes w32 (slice_index job.start u)
+
+-- the job limits the cut edges, or has regions
+abbrev pub has_rules : Job → Bool
+has_rules job = nat_lt job.setting.max_cut most_edges || not (length job.regions == 0)
+
+-- the first bytes of what is digested, by whether the job has rules
+abbrev pub digest_name : Bool → List ℕ
+digest_name true = codes "district-job 2"
+digest_name false = codes "district-job 1"
+
+-- the limit of the regions, and each unit's region, where there are regions
+abbrev pub region_bytes : ℕ → List ℕ → List ℕ
+region_bytes max_split [] = []
+region_bytes max_split (r ∷ rest) = to_be_bytes w32 max_split ++ flat_map (to_be_bytes w32) (r ∷ rest)
+
+-- the rules, where the job has some
+abbrev pub rule_bytes : Bool → Job → List ℕ
+rule_bytes true job = to_be_bytes w32 job.setting.max_cut ++ region_bytes job.setting.max_split job.regions
+rule_bytes false job = []
+
+-- all that a job's outcomes depend on, but whether they have bins
+abbrev pub job_bytes : Job → List ℕ
+job_bytes job =
+    digest_name (has_rules job)
+    ++ to_be_bytes w32 job.graph.units ++ to_be_bytes w32 (count_edges job.graph (λ u v. true)) ++ to_be_bytes w32 job.districts
+    ++ edge_bytes job.graph
+    ++ flat_map (unit_bytes job) (map_below job.graph.units (λ u. u))
+    ++ to_be_bytes w32 job.setting.slack ++ job.setting.key
+    ++ to_be_bytes w32 job.setting.walks ++ to_be_bytes w32 job.setting.steps
+    ++ to_be_bytes w32 job.setting.ends ++ to_be_bytes w32 job.setting.hub_steps
+    ++ to_be_bytes w32 (length job.setting.asks)
+    ++ flat_map (λ ask. to_be_bytes w32 (score_code ask.score) ++ to_be_bytes w32 (tail_code ask.tail)) job.setting.asks
+    ++ rule_bytes (has_rules job) job
+
+-- the digest of a job
+unfoldable pub job_digest : Job → List ℕ
+job_digest job = sha256 (job_bytes job)

@@ -1,0 +1,70 @@
+-- Exactly which saves a run tries, by the order in which the outcomes of its ids were taken in.
+use Rattle.std.specs.Prelude.{◌≡◌, ℕ, suc, ◌+◌, ◌*◌, ◌/◌, ◌%◌, ◌==◌, ◌&&◌, Bool, false, cond, List, [], ◌∷◌, ◌++◌, length, map, take, ⊤, IsPermutation, zero, ◌-◌, ◌||◌, not, count_by}
+use Rattle.audit_model.specs.Tries.{Try}
+use Rattle.audit_model.specs.declared.outcome.Outcome.{Outcome}
+use Rattle.audit_model.specs.Job.{Job}
+use Rattle.audit_model.specs.Run.{total, by_id}
+use Rattle.audit_model.specs.Trajectory.{outcome}
+use Rattle.audit_statement.specs.Checkpoint.{IsCheckpoint, checkpoint, job_digest}
+use Rattle.audit_model.specs.declared.place.Place.{Place}
+use Rattle.audit_statement.specs.Draw.{draw}
+
+-- the other slot, with the next generation of three in turn
+abbrev pub next_place : Place → Place
+next_place p = record { slot = 1 - p.slot; generation = (p.generation + 1) % 3 }
+
+-- moved on so often
+abbrev pub moved : ℕ → Place → Place
+moved zero p = p
+moved (suc n) p = next_place (moved n p)
+
+-- how many saves are made for so many posts: one for each whole group, and a last one where the last post had none
+abbrev pub saves_of : ℕ → ℕ → ℕ
+saves_of posts every = posts / every + cond {A = ℕ} ((posts == 0) || not (posts % every == 0)) 1 0
+
+-- how many of them failed
+abbrev pub failed_of : List Try → ℕ
+failed_of tries = count_by (λ t. not t.succeeded) tries
+
+-- the outcomes of the opening and what the trajectories of these ids find, by rising id
+abbrev pub taken_in : Job → List Outcome → List ℕ → List Outcome
+taken_in job opening ids = by_id (total job) (opening ++ map (outcome job (draw job.setting.key)) ids)
+
+-- the save went to this place, with the checkpoint of the opening and of these ids, which holds each outcome of the opening and of an id once
+pub record IsSaveOfIds (job : Job) (opening : List Outcome) (place : Place) (ids : List ℕ) (t : Try) : Type 0 where
+  pub slot : t.slot ≡ place.slot
+  pub bytes : t.bytes ≡ checkpoint 2 (job_digest job) place.generation (taken_in job opening ids)
+  pub sound : IsCheckpoint t.bytes 2 (job_digest job) place.generation (taken_in job opening ids)
+  pub all : IsPermutation (opening ++ map (outcome job (draw job.setting.key)) ids) (taken_in job opening ids)
+
+-- a save that succeeded moves the place on to the other slot and the next generation, and one that failed leaves it
+abbrev pub place_after : Place → Try → Place
+place_after place t = cond t.succeeded (next_place place) place
+
+-- the n-th save is of the first n times as many ids as a save is asked for after, and of all where there are fewer; the next one is of as many more,
+-- and so on, each at the place after the last that succeeded
+abbrev pub AreSavesFrom : Job → List Outcome → ℕ → List ℕ → ℕ → Place → List Try → Type 0
+AreSavesFrom job opening every walked n place [] = ⊤
+AreSavesFrom job opening every walked n place (t ∷ rest) =
+    IsSaveOfIds job opening place (take (n * every) walked) t
+    × AreSavesFrom job opening every walked (suc n) (place_after place t) rest
+
+-- whether the last of the saves succeeded
+abbrev pub last_succeeded_from : Bool → List Try → Bool
+last_succeeded_from last [] = last
+last_succeeded_from last (t ∷ tries) = last_succeeded_from t.succeeded tries
+
+-- the same of all saves; where there are none, none did
+abbrev pub last_succeeded : List Try → Bool
+last_succeeded tries = last_succeeded_from false tries
+
+-- how many saves a run tries that tries these: one for each time that as many ids were taken in as was asked for, and one more of all ids, but where
+-- the last of the former was of all of them and succeeded
+abbrev pub count_of_tries : ℕ → ℕ → List Try → ℕ
+count_of_tries every ids tries =
+    ids / every + cond {A = ℕ} ((ids % every == 0) && last_succeeded (take (ids / every) tries)) 0 1
+
+-- these are exactly the saves of a run that started with this opening and this place, and took in the outcomes of these ids in this order
+pub record AreSavesOf (job : Job) (opening : List Outcome) (every : ℕ) (place : Place) (walked : List ℕ) (tries : List Try) : Type 0 where
+  pub each : AreSavesFrom job opening every walked 1 place tries
+  pub counted : length tries ≡ count_of_tries every (length walked) tries

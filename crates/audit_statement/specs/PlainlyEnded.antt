@@ -1,0 +1,62 @@
+-- When a run with none of the features that may be left out ends well: it cannot refuse a graph that is as it has to be.
+-- This project's claim. It is the other direction: what status 0 means is said by itself.
+use Rattle.std.specs.Prelude.{◌≡◌, ◌⊎◌, ℕ, ◌≤◌, IsTrue, List, ◌∷◌, length, codes, Some, Ok, true, Bool, IsFalse}
+use Rattle.std.specs.Str.{is_utf8}
+use Rattle.serde_json.specs.Data.{Data, boolean}
+use Rattle.serde_json.specs.Read.{read}
+use Rattle.audit_model.specs.Faults.{Rose}
+use Rattle.audit_model.specs.Job.{Job}
+use Rattle.audit_statement.specs.Accepted.{most_bytes}
+use Rattle.audit_statement.specs.World.{World}
+use Rattle.audit_statement.specs.Given.{IsGiven}
+use Rattle.audit_statement.specs.Valid.{IsValid}
+use Rattle.audit_statement.specs.Said.{ArePlain}
+use Rattle.audit_statement.specs.Words.{setting_of}
+use Rattle.std.specs.List.{All}
+use Rattle.serde_json.specs.Find.{get}
+use Rattle.audit_model.specs.Graph.{count_edges}
+use Rattle.audit_model.specs.JobOf.{lacks_votes}
+use Rattle.audit_model.specs.Limits.{most_districts, most_edges, most_people, most_units}
+
+-- where there is a value at the key, it is a truth value
+abbrev pub IsFlag : List ℕ → Data → Type 0
+IsFlag key root = (value : Data) → get key root ≡ Some value → (b : Bool) × (value ≡ boolean b)
+
+-- The limits: at most 100,000 units, 400,000 edges and 200 districts, two at least, and 10 ^ 9 people or votes of a unit; truth values where networkx
+-- writes such; and votes, where the gap is asked for.
+pub record IsAllowed (root : Data) (job : Job) : Type 0 where
+  pub directed : IsFlag (codes "directed") root
+  pub multigraph : IsFlag (codes "multigraph") root
+  pub units : job.graph.units ≤ most_units
+  pub edges : count_edges job.graph (λ u v. true) ≤ most_edges
+  pub two : 2 ≤ job.districts
+  pub districts : job.districts ≤ most_districts
+  pub population : All (λ n. n ≤ most_people) job.counts.population
+  pub first : All (λ n. n ≤ most_people) job.counts.first
+  pub second : All (λ n. n ≤ most_people) job.counts.second
+  pub votes : IsFalse (lacks_votes job)
+
+-- the words are accepted, and the bytes are JSON that gives a job of their setting with a valid start plan, all within the limits
+pub record AreWellFormed (words : List (List ℕ)) (bytes : List ℕ) : Type 0 where
+  pub job : Job
+  pub words_are : setting_of words ≡ Ok job.setting
+  pub few_bytes : length bytes ≤ most_bytes
+  pub root : Data
+  pub is_text : IsTrue (is_utf8 bytes)
+  pub is_json : read bytes ≡ Some root
+  pub given : IsGiven root job
+  pub start : IsValid job job.start
+  pub allowed : IsAllowed root job
+
+-- no read, write, load or save failed
+pub record NoneFailed (before after : World) : Type 0 where
+  pub reads : Rose before.source.faults after.source.faults → ⊥
+  pub writes : Rose before.out.faults after.out.faults → ⊥
+  pub loads : Rose before.keeper.load_faults after.keeper.load_faults → ⊥
+  pub saves : Rose before.keeper.save_faults after.keeper.save_faults → ⊥
+
+-- a call on the word 'run' and words that name none of the features that may be left out, over a source that tells its bytes, where the words and the
+-- bytes are fit and nothing failed, ends with status 0, or with 3, for want of memory
+abbrev pub EndsPlainly : List (List ℕ) → World → World → ℕ → Type 0
+EndsPlainly words before after status = (rest : List (List ℕ)) (bytes : List ℕ) → words ≡ codes "run" ∷ rest → ArePlain rest
+    → before.source.bytes ≡ Some bytes → AreWellFormed words bytes → NoneFailed before after → (status ≡ 0) ⊎ (status ≡ 3)

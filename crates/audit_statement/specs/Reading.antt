@@ -1,0 +1,240 @@
+-- The graph that networkx adjacency data holds, or the first reason to refuse it.
+-- networkx's adjacency format, which GerryChain's `Graph.from_json` reads; JSON is what `serde_json` reads. Edges are a test on pairs; the
+-- code looks ids up and sorts.
+use Rattle.std.specs.Prelude.{ℕ, ◌==◌, ◌&&◌, ◌||◌, Bool, true, false, not, cond, nat_lt, nat_le, List, [], ◌∷◌, length, map, codes, Option, Some, None, is_some, is_none, unwrap_or, option_map, option_and_then, Result, Ok, Err}
+use Rattle.std.specs.List.{slice_index_or, list_all}
+use Rattle.std.specs.Str.{is_utf8}
+use Rattle.serde_json.specs.Data.{Data, null, boolean, number, string, array, object, Items, no_items, item}
+use Rattle.serde_json.specs.Read.{read}
+use Rattle.serde_json.specs.Find.{get, as_bool, as_array, as_object, as_number, as_integer, as_u64}
+use Rattle.audit_model.specs.declared.fault.Column.{Column}
+use Rattle.audit_model.specs.declared.fault.Column.TheVariants as column
+use Rattle.audit_model.specs.declared.fault.GraphFault.{GraphFault}
+use Rattle.audit_model.specs.declared.fault.GraphFault.TheVariants as fault
+use Rattle.audit_model.specs.declared.fault.Part.{Part}
+use Rattle.audit_model.specs.declared.fault.Part.TheVariants as part
+use Rattle.audit_model.specs.declared.setting.Columns.{Columns}
+use Rattle.audit_model.specs.declared.setting.Label.{Label}
+use Rattle.audit_model.specs.declared.setting.Label.TheVariants.{Whole, Word}
+use Rattle.audit_model.specs.Below.{any_below, count_below, filter_below, map_below}
+use Rattle.audit_model.specs.First.{first_some, first_below, first_some_below}
+use Rattle.audit_model.specs.Graph.{Graph, count_edges}
+use Rattle.audit_model.specs.Label.{same_label, label_before}
+use Rattle.audit_model.specs.Parsed.{Parsed}
+use Rattle.audit_model.specs.Limits.{most_people, most_units, most_edges, most_districts}
+
+-- the fault where the test passes, and nothing elsewhere
+abbrev pub refused_if : {A : Type 0} → Bool → A → Option A
+refused_if b f = cond b (Some f) None
+
+-- ---- the parts of the root
+
+-- the elements of an array
+abbrev pub elements : Items → List Data
+elements no_items = []
+elements (item d ds) = d ∷ elements ds
+
+-- the elements, where it is an array
+abbrev pub list_of : Data → Option (List Data)
+list_of d = option_map elements (as_array d)
+
+-- the elements of the array at a key
+abbrev pub list_at : List ℕ → Data → Option (List Data)
+list_at key root = option_and_then list_of (get key root)
+
+-- there is a value at the key, and it is no truth value
+abbrev pub is_no_flag : List ℕ → Data → Bool
+is_no_flag key root = unwrap_or (option_map (λ d. is_none (as_bool d)) (get key root)) false
+
+-- the first part that has not its shape
+abbrev pub bad_part : Data → Option Part
+bad_part root = first_some (
+    refused_if (is_none (as_object root)) part.Root
+    ∷ refused_if (is_none (list_at (codes "nodes") root)) part.Nodes
+    ∷ refused_if (not (list_all (λ d. is_some (list_of d)) (unwrap_or (list_at (codes "adjacency") root) (null ∷ [])))) part.Adjacency
+    ∷ refused_if (is_no_flag (codes "directed") root) part.Directed
+    ∷ refused_if (is_no_flag (codes "multigraph") root) part.Multigraph
+    ∷ [])
+
+-- what is read of the root
+pub record Document : Type 0 where
+  pub nodes : List Data
+  pub adjacency : List (List Data)
+  pub directed : Bool
+
+-- the parts of the root, and nothing in the place of one that is not there
+abbrev pub document : Data → Document
+document root = record {
+  nodes = unwrap_or (list_at (codes "nodes") root) [];
+  adjacency = map (λ d. unwrap_or (list_of d) []) (unwrap_or (list_at (codes "adjacency") root) []);
+  directed = unwrap_or (option_and_then as_bool (get (codes "directed") root)) false;
+}
+
+-- ---- ids and edges
+
+-- a whole number or a text
+abbrev pub label_of : Data → Option Label
+label_of null = None
+label_of (boolean b) = None
+label_of (number n) = option_map Whole (as_integer n)
+label_of (string s) = Some (Word s)
+label_of (array ds) = None
+label_of (object ms) = None
+
+-- the id of a node, or of an entry of a list of neighbours
+abbrev pub id_of : Data → Option Label
+id_of d = option_and_then label_of (get (codes "id") d)
+
+-- both are there and are the same
+abbrev pub same_id : Option Label → Option Label → Bool
+same_id None other = false
+same_id (Some a) None = false
+same_id (Some a) (Some b) = same_label a b
+
+module _ (read_of : Document) where
+  -- how many nodes there are
+  abbrev pub node_count : ℕ
+  node_count = length read_of.nodes
+
+  -- the node at a place
+  abbrev pub node : ℕ → Data
+  node i = slice_index_or read_of.nodes i null
+
+  -- the entries of the neighbours of a node
+  abbrev pub entries : ℕ → List Data
+  entries i = slice_index_or read_of.adjacency i []
+
+  -- the entry at a place of these
+  abbrev pub entry : ℕ → ℕ → Data
+  entry i place = slice_index_or (entries i) place null
+
+  -- whether a node lists another
+  abbrev pub lists : ℕ → ℕ → Bool
+  lists i j = any_below (length (entries i)) (λ place. same_id (id_of (entry i place)) (id_of (node j)))
+
+  -- whether two different nodes are joined: at least one lists the other
+  abbrev pub joined : ℕ → ℕ → Bool
+  joined i j = not (i == j) && (lists i j || lists j i)
+
+  -- the graph: the neighbours of each node in rising order
+  abbrev pub graph : Graph
+  graph = record { units = node_count; neighbours = map_below node_count (λ i. filter_below node_count (joined i)) }
+
+  -- ---- columns
+
+  module _ (columns : Columns) where
+    -- the key of a column
+    abbrev pub key_of : Column → List ℕ
+    key_of column.Population = columns.population
+    key_of column.First = columns.first
+    key_of column.Second = columns.second
+    key_of column.District = columns.district
+
+    -- a node's value in a column
+    abbrev pub cell : ℕ → Column → Option Data
+    cell i c = get (key_of c) (node i)
+
+    -- a whole number from 0 to 10 ^ 9
+    abbrev pub count_of : Data → Option ℕ
+    count_of d = option_and_then (λ n. cond (nat_le n most_people) (Some n) None) (option_and_then as_u64 (as_number d))
+
+    -- the number in a node's column, and 0 where there is none
+    abbrev pub count_at : Column → ℕ → ℕ
+    count_at c i = unwrap_or (option_and_then count_of (cell i c)) 0
+
+    -- the label of a node's district
+    abbrev pub label_at : ℕ → Label
+    label_at i = unwrap_or (option_and_then label_of (cell i column.District)) (Word [])
+
+    -- no earlier node has the label
+    abbrev pub is_new_label : ℕ → Bool
+    is_new_label i = not (any_below i (λ j. same_label (label_at j) (label_at i)))
+
+    -- how many different labels there are
+    abbrev pub label_count : ℕ
+    label_count = count_below node_count is_new_label
+
+    -- how many different labels are before the node's
+    abbrev pub district_at : ℕ → ℕ
+    district_at i = count_below node_count (λ j. is_new_label j && label_before (label_at j) (label_at i))
+
+    -- ---- the refusals, each at its least place
+
+    -- the first node whose id an earlier one has, and the first that has it
+    abbrev pub repeated_id : Option GraphFault
+    repeated_id = option_map
+        (λ j. fault.SameId (unwrap_or (first_below j (λ i. same_id (id_of (node i)) (id_of (node j)))) 0) j)
+        (first_below node_count (λ j. any_below j (λ i. same_id (id_of (node i)) (id_of (node j)))))
+
+    -- the first entry of a list of neighbours that passes the test
+    abbrev pub first_entry : (Data → Bool) → (ℕ → ℕ → GraphFault) → Option GraphFault
+    first_entry test f = first_some_below node_count
+        (λ i. option_map (f i) (first_below (length (entries i)) (λ place. test (entry i place))))
+
+    -- the first column that a node lacks
+    abbrev pub missing_column : ℕ → Option GraphFault
+    missing_column i = option_map (fault.Missing i) (first_some (
+        refused_if (is_none (cell i column.Population)) column.Population
+        ∷ refused_if (is_none (cell i column.First)) column.First
+        ∷ refused_if (is_none (cell i column.Second)) column.Second
+        ∷ refused_if (is_none (cell i column.District)) column.District
+        ∷ []))
+
+    -- the first column of a node that has no such number
+    abbrev pub bad_number : ℕ → Option GraphFault
+    bad_number i = option_map (fault.BadNumber i) (first_some (
+        refused_if (is_none (option_and_then count_of (cell i column.Population))) column.Population
+        ∷ refused_if (is_none (option_and_then count_of (cell i column.First))) column.First
+        ∷ refused_if (is_none (option_and_then count_of (cell i column.Second))) column.Second
+        ∷ []))
+
+    -- the first refusal, in their order
+    abbrev pub refusal : Option GraphFault
+    refusal = first_some (
+        refused_if read_of.directed fault.Directed
+        ∷ refused_if (not (node_count == length read_of.adjacency)) (fault.LengthsDiffer node_count (length read_of.adjacency))
+        ∷ refused_if (nat_lt most_units node_count) (fault.TooManyUnits node_count)
+        ∷ option_map fault.BadId (first_below node_count (λ i. is_none (id_of (node i))))
+        ∷ repeated_id
+        ∷ first_entry (λ d. is_none (id_of d)) fault.BadNeighbour
+        ∷ first_entry (λ d. not (any_below node_count (λ j. same_id (id_of d) (id_of (node j))))) fault.UnknownNeighbour
+        ∷ refused_if (nat_lt most_edges (count_edges graph (λ u v. true))) (fault.TooManyEdges (count_edges graph (λ u v. true)))
+        ∷ first_some_below node_count missing_column
+        ∷ first_some_below node_count bad_number
+        ∷ option_map fault.BadLabel (first_below node_count (λ i. is_none (option_and_then label_of (cell i column.District))))
+        ∷ refused_if (nat_lt label_count 2 || nat_lt most_districts label_count) (fault.DistrictCount label_count)
+        ∷ [])
+
+    -- what is read where nothing is refused
+    abbrev pub parsed : Parsed
+    parsed = record {
+      graph = graph;
+      counts = record {
+        population = map_below node_count (count_at column.Population);
+        first = map_below node_count (count_at column.First);
+        second = map_below node_count (count_at column.Second);
+      };
+      start = map_below node_count district_at;
+      labels = map_below label_count (λ d. unwrap_or (option_map label_at (first_below node_count (λ i. district_at i == d))) (Word []));
+    }
+
+-- ---- the whole reading
+
+-- what is read, where nothing is refused
+abbrev pub accepted_or : {A : Type 0} → A → Option GraphFault → Result A GraphFault
+accepted_or x None = Ok x
+accepted_or x (Some f) = Err f
+
+-- of a root, by its first part that has not its shape
+abbrev pub of_root : Columns → Data → Option Part → Result Parsed GraphFault
+of_root columns root (Some p) = Err (fault.BadShape p)
+of_root columns root None = accepted_or (parsed (document root) columns) (refusal (document root) columns)
+
+-- of JSON, where it is any
+abbrev pub of_json : Columns → Option Data → Result Parsed GraphFault
+of_json columns None = Err fault.NotJson
+of_json columns (Some root) = of_root columns root (bad_part root)
+
+-- the graph of a text, or the first refusal
+unfoldable pub reading : List ℕ → Columns → Result Parsed GraphFault
+reading bytes columns = of_json columns (cond (is_utf8 bytes) (read bytes) None)

@@ -1,0 +1,183 @@
+-- The report, the check text, and their lines, as lists of bytes.
+-- This project's formats. A text is one list of lines; the code appends to room that was made before.
+use Rattle.std.specs.Prelude.{ℕ, zero, suc, ◌+◌, ◌-◌, ◌/◌, ◌%◌, ◌^◌, Bool, true, false, cond, nat_lt, List, [], ◌∷◌, ◌++◌, length, map, replicate, slice_index, codes, decimal, flat_map, filter, zip, Option, Some, None, ℤ, unsigned_abs}
+use Rattle.std.specs.Fmt.{signed_decimal}
+use Rattle.hex.specs.Hex.{encode_lower}
+use Rattle.audit_model.specs.declared.outcome.Outcome.{Outcome}
+use Rattle.audit_model.specs.declared.setting.Ask.{Ask}
+use Rattle.audit_model.specs.Graph.{count_edges}
+use Rattle.audit_model.specs.Job.{Job, total_population, total_votes}
+use Rattle.audit_model.specs.Meets.{region_count}
+use Rattle.audit_model.specs.Plan.{least_population, greatest_population}
+use Rattle.audit_model.specs.Score.{denominator}
+use Rattle.audit_model.specs.Serially.{serial_told}
+use Rattle.audit_model.specs.Stopping.{placed_asks, stops_of}
+use Rattle.audit_model.specs.Test.{bound, p_value}
+use Rattle.audit_model.specs.Trajectory.{Draws, plan_value, rank, sequence, tally, value_at}
+use Rattle.audit_statement.specs.Names.{score_name, tail_name}
+use Rattle.audit_model.specs.Limits.{most_edges}
+
+-- the words with a space between each two, and a line feed at the end
+abbrev pub line : List (List ℕ) → List ℕ
+line [] = 10 ∷ []
+line (word ∷ []) = word ++ 10 ∷ []
+line (word ∷ next ∷ words) = word ++ 32 ∷ line (next ∷ words)
+
+-- nine digits, with zeros in front
+abbrev pub nine_digits : ℕ → List ℕ
+nine_digits n = replicate (9 - length (decimal n)) 48 ++ decimal n
+
+-- a number of billionths: the whole part, a point and nine digits
+abbrev pub billionths : ℕ → List ℕ
+billionths n = decimal (n / 10 ^ 9) ++ 46 ∷ nine_digits (n % 10 ^ 9)
+
+-- a numerator and a denominator
+abbrev pub fraction : ℤ → ℕ → List ℕ
+fraction top bottom = signed_decimal top ++ 47 ∷ decimal bottom
+
+-- how many units, edges and districts there are
+abbrev pub graph_line : Job → List ℕ
+graph_line job = line (
+    codes "units" ∷ decimal job.graph.units ∷ codes "edges" ∷ decimal (count_edges job.graph (λ u v. true))
+    ∷ codes "districts" ∷ decimal job.districts ∷ [])
+
+-- the population and its bounds
+abbrev pub population_line : Job → List ℕ
+population_line job = line (
+    codes "population" ∷ decimal (total_population job) ∷ codes "slack" ∷ decimal job.setting.slack
+    ∷ codes "low" ∷ decimal (least_population job) ∷ codes "high" ∷ decimal (greatest_population job) ∷ [])
+
+-- the most cut edges, where they are limited
+abbrev pub cut_line : Job → List ℕ
+cut_line job = cond (nat_lt job.setting.max_cut most_edges) (line (codes "max-cut" ∷ decimal job.setting.max_cut ∷ [])) []
+
+-- among how many districts a region may be split, and how many regions there are, where there are any
+abbrev pub split_line : ℕ → List ℕ → List ℕ
+split_line max_split [] = []
+split_line max_split (r ∷ rest) = line (codes "max-split" ∷ decimal max_split ∷ codes "regions" ∷ decimal (region_count (r ∷ rest)) ∷ [])
+
+-- the rules, where there are some
+abbrev pub rule_lines : Job → List ℕ
+rule_lines job = cut_line job ++ split_line job.setting.max_split job.regions
+
+-- how many trajectories of how many steps there are
+abbrev pub setting_line : Job → List ℕ
+setting_line job = line (
+    codes "walks" ∷ decimal job.setting.walks ∷ codes "steps" ∷ decimal job.setting.steps
+    ∷ codes "ends" ∷ decimal job.setting.ends ∷ codes "hub-steps" ∷ decimal job.setting.hub_steps ∷ [])
+
+-- the ask, and the start plan's value of its score
+abbrev pub ask_words : Job → Ask → List (List ℕ)
+ask_words job ask =
+    score_name ask.score ∷ tail_name ask.tail ∷ codes "start"
+    ∷ fraction (plan_value job job.start ask.score) (denominator ask.score job.districts (total_votes job)) ∷ []
+
+-- what an outlier trajectory found for the ask at this place
+abbrev pub walk_line : Job → Outcome → ℕ × Ask → List ℕ
+walk_line job found ask = line (
+    (codes "walk" ∷ decimal found.id ∷ codes "moved" ∷ decimal found.moved ∷ []) ++ ask_words job ask.1
+    ++ codes "count" ∷ signed_decimal (value_at found ask.0) ∷ codes "of" ∷ decimal (job.setting.steps + 1)
+    ∷ codes "bound" ∷ billionths (bound (unsigned_abs (value_at found ask.0)) (job.setting.steps + 1)) ∷ [])
+
+-- what the parallel test found for the ask at this place
+abbrev pub ends_line : Job → List Outcome → ℕ × Ask → List ℕ
+ends_line job outcomes ask = line (
+    (codes "ends" ∷ []) ++ ask_words job ask.1
+    ++ codes "rank" ∷ decimal (rank job ask.1 ask.0 outcomes) ∷ codes "of" ∷ decimal (job.setting.ends + 1)
+    ∷ codes "p" ∷ billionths (p_value (rank job ask.1 ask.0 outcomes) (job.setting.ends + 1)) ∷ [])
+
+-- a line for each outlier trajectory and each ask
+abbrev pub walk_lines : Job → List Outcome → List ℕ
+walk_lines job outcomes =
+    flat_map (λ found. flat_map (walk_line job found) (placed_asks job)) (filter (λ o. nat_lt o.id job.setting.walks) outcomes)
+
+-- a line for each ask, where there are trajectories of the parallel test
+abbrev pub ends_lines : ℕ → Job → List Outcome → List ℕ
+ends_lines zero job outcomes = []
+ends_lines (suc ends) job outcomes = flat_map (ends_line job outcomes) (placed_asks job)
+
+-- ---- what a run may ask for beside these lines
+
+-- after how many ends in the tail a test stops, where it stops early
+abbrev pub stop_line : ℕ → List ℕ
+stop_line zero = []
+stop_line (suc h) = line (codes "stop" ∷ decimal (suc h) ∷ [])
+
+-- the first line tells whether the seats of the visited plans are told
+abbrev pub title_line : Bool → List ℕ
+title_line true = line (codes "district-audit 2" ∷ [])
+title_line false = line (codes "district-audit 1" ∷ [])
+
+-- the sum of each bin over the outcomes, where bins are asked for
+abbrev pub shift_line : Bool → List Outcome → List ℕ
+shift_line true outcomes = line (codes "shift" ∷ map decimal (tally outcomes))
+shift_line false outcomes = []
+
+-- where the test of an ask stopped: the place, and the numbers of its p-value
+abbrev pub stopped_line : Job → Ask × List ℕ → List ℕ
+stopped_line job stopped = line (
+    (codes "stop" ∷ []) ++ ask_words job stopped.0
+    ++ codes "place" ∷ decimal (slice_index stopped.1 0)
+    ∷ codes "value" ∷ (decimal (slice_index stopped.1 1) ++ 47 ∷ decimal (slice_index stopped.1 2))
+    ∷ codes "p" ∷ billionths (p_value (slice_index stopped.1 1) (slice_index stopped.1 2)) ∷ [])
+
+-- a line for each ask: of all ends, or of those up to the stop
+abbrev pub test_lines : ℕ → Job → List Outcome → List (List ℕ) → List ℕ
+test_lines zero job outcomes stops = ends_lines job.setting.ends job outcomes
+test_lines (suc h) job outcomes stops = flat_map (stopped_line job) (zip job.setting.asks stops)
+
+-- what the serial test found for the ask at a place: the place of the start plan in its run, and its rank
+abbrev pub serial_line : Job → ℕ → List ℕ → ℕ × Ask → List ℕ
+serial_line job place ranks ask = line (
+    (codes "serial" ∷ []) ++ ask_words job ask.1
+    ++ codes "place" ∷ decimal place
+    ∷ codes "rank" ∷ decimal (slice_index ranks ask.0) ∷ codes "of" ∷ decimal (job.setting.steps + 1)
+    ∷ codes "p" ∷ billionths (p_value (slice_index ranks ask.0) (job.setting.steps + 1)) ∷ [])
+
+-- a line for each ask, where the serial test was made
+abbrev pub serial_lines : Job → Option (ℕ × List ℕ) → List ℕ
+serial_lines job None = []
+serial_lines job (Some found) = flat_map (serial_line job found.0 found.1) (placed_asks job)
+
+-- ---- whole texts
+
+-- the report on these outcomes, on where the tests of the asks stopped, and on what the serial test found
+unfoldable pub report : Job → List Outcome → List (List ℕ) → Option (ℕ × List ℕ) → List ℕ
+report job outcomes stops serial =
+    title_line job.setting.shift
+    ++ line (codes "key" ∷ encode_lower job.setting.key ∷ [])
+    ++ graph_line job
+    ++ population_line job
+    ++ rule_lines job
+    ++ setting_line job
+    ++ stop_line job.setting.stop
+    ++ walk_lines job outcomes
+    ++ shift_line job.setting.shift outcomes
+    ++ test_lines job.setting.stop job outcomes stops
+    ++ serial_lines job serial
+    ++ line (codes "end" ∷ [])
+
+-- the report on outcomes that were all looked at
+abbrev pub full_report : Job → Draws → List Outcome → List ℕ
+full_report job draws outcomes = report job outcomes (stops_of job outcomes) (serial_told job draws)
+
+-- the report that one thread gives by walking each trajectory once
+unfoldable pub thread_report : Job → Draws → List ℕ
+thread_report job draws = full_report job draws (sequence job draws)
+
+-- the text of a check
+unfoldable pub check_text : Job → List ℕ
+check_text job =
+    line (codes "plan-check 1" ∷ [])
+    ++ graph_line job
+    ++ population_line job
+    ++ rule_lines job
+    ++ line (codes "end" ∷ [])
+
+-- the report of a plan under its name
+abbrev pub plan_text : Draws → List ℕ × Job → List ℕ
+plan_text draws plan = line (codes "plan" ∷ plan.0 ∷ []) ++ thread_report plan.1 draws
+
+-- the reports of several plans of one graph, one after the other
+unfoldable pub plans_text : Draws → List (List ℕ × Job) → List ℕ
+plans_text draws plans = flat_map (plan_text draws) plans

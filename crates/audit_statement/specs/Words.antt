@@ -1,0 +1,330 @@
+-- The setting that the words of a command line give, or the first fault in them.
+-- This project's grammar. The definition looks at the whole list; the code reads from left to right.
+use Rattle.std.specs.Prelude.{ℕ, ◌+◌, ◌-◌, ◌*◌, ◌==◌, ◌&&◌, ◌||◌, Bool, true, false, not, cond, nat_le, nat_lt, List, [], ◌∷◌, ◌++◌, length, find, fold, replicate, codes, decimal, bytes_eq, Option, Some, None, is_some, is_none, unwrap_or, option_map, option_and_then, Result, Ok, Err}
+use Rattle.std.specs.Result.{result_ok}
+use Rattle.std.specs.List.{list_any, slice_index_or}
+use Rattle.std.specs.Option.{option_or}
+use Rattle.hex.specs.Hex.{decode_sized}
+use Rattle.audit_model.specs.declared.fault.Name.{Name}
+use Rattle.audit_model.specs.declared.fault.Name.TheVariants.{Pop, First, Second, District, Size, Slack, Key, Walks, Steps, Ends, HubSteps, Ask, Workers, Budget, Save, Resume, MaxCut, Shift, Stop, Serial, Region, MaxSplit, Parts, Part}
+use Rattle.audit_model.specs.declared.fault.WordFault.{WordFault}
+use Rattle.audit_model.specs.declared.fault.WordFault.TheVariants.{NoCommand, UnknownCommand, UnknownName, Twice, NoValue, MissingName, BadValue}
+use Rattle.audit_model.specs.declared.setting.Ask.{Ask as AskOf}
+use Rattle.audit_model.specs.declared.setting.Command.{Command}
+use Rattle.audit_model.specs.declared.setting.Command.TheVariants.{Check, Run, Make, Plans}
+use Rattle.audit_model.specs.declared.setting.Score.TheVariants.{Seats, MeanMedian, Gap, CutEdges}
+use Rattle.audit_model.specs.declared.setting.Setting.{Setting}
+use Rattle.audit_model.specs.declared.setting.Tail.TheVariants.{Low, High}
+use Rattle.audit_model.specs.Below.{any_below}
+use Rattle.audit_model.specs.First.{first_some, first_some_below}
+use Rattle.audit_model.specs.Graph.{has}
+use Rattle.audit_model.specs.Names.{name_text}
+use Rattle.audit_model.specs.Power.{is_power_of_two}
+use Rattle.audit_statement.specs.Names.{score_name, tail_name}
+use Rattle.audit_model.specs.Limits.{most_trajectories, most_districts, most_steps, most_workers, most_edges}
+
+-- ---- the table of names
+
+-- the names that a command takes, in the order of the table
+abbrev pub names_of : Command → List Name
+names_of Check = Pop ∷ First ∷ Second ∷ District ∷ Slack ∷ MaxCut ∷ Region ∷ MaxSplit ∷ []
+names_of Run =
+    Pop ∷ First ∷ Second ∷ District ∷ Slack ∷ Key ∷ Walks ∷ Steps ∷ Ends ∷ HubSteps ∷ Ask ∷ Workers ∷ Budget ∷ Save ∷ Resume ∷ MaxCut ∷ Shift ∷ Stop ∷ Serial ∷ Region ∷ MaxSplit ∷ Parts ∷ Part ∷ []
+names_of Make = Size ∷ Slack ∷ Key ∷ Walks ∷ Steps ∷ Ends ∷ HubSteps ∷ Ask ∷ Workers ∷ Budget ∷ Save ∷ Resume ∷ MaxCut ∷ Shift ∷ Stop ∷ Serial ∷ Parts ∷ Part ∷ []
+names_of Plans =
+    Pop ∷ First ∷ Second ∷ District ∷ Slack ∷ Key ∷ Walks ∷ Steps ∷ Ends ∷ HubSteps ∷ Ask ∷ Workers ∷ MaxCut ∷ Shift ∷ Stop ∷ Serial ∷ Region ∷ MaxSplit ∷ []
+
+-- the value of a name that is not given, where it may be left out
+abbrev pub default_of : Name → Option (List ℕ)
+default_of Pop = None
+default_of First = None
+default_of Second = None
+default_of District = None
+default_of Size = None
+default_of Slack = Some (codes "500")
+default_of Key = None
+default_of Walks = Some (codes "1")
+default_of Steps = Some (codes "1000")
+default_of Ends = Some (codes "0")
+default_of HubSteps = Some (codes "1000")
+default_of Ask = None
+default_of Workers = Some (codes "1")
+default_of Budget = Some (codes "100000")
+default_of Save = Some (codes "0")
+default_of Resume = Some (codes "no")
+default_of MaxCut = Some (codes "400000")
+default_of Shift = Some (codes "no")
+default_of Stop = Some (codes "0")
+default_of Serial = Some (codes "no")
+default_of Region = Some []
+default_of MaxSplit = Some (codes "200")
+default_of Parts = Some (codes "1")
+default_of Part = Some (codes "0")
+
+-- ---- values
+
+-- the number that a text of digits stands for
+abbrev pub digits_value : List ℕ → ℕ
+digits_value text = fold (λ n c. 10 * n + (c - 48)) 0 text
+
+-- a number as it is printed: digits with no sign and no leading zero
+abbrev pub number_of : List ℕ → Option ℕ
+number_of text = cond (bytes_eq (decimal (digits_value text)) text) (Some (digits_value text)) None
+
+-- whether the text is a number within these bounds
+abbrev pub is_number : ℕ → ℕ → List ℕ → Bool
+is_number low high text = unwrap_or (option_map (λ n. nat_le low n && nat_le n high) (number_of text)) false
+
+-- the first of these parts with a byte before it
+abbrev pub starts_with_byte : ℕ → List (List ℕ) → List (List ℕ)
+starts_with_byte c [] = (c ∷ []) ∷ []
+starts_with_byte c (part ∷ parts) = (c ∷ part) ∷ parts
+
+-- the parts of a text between separators
+abbrev pub parts_between : ℕ → List ℕ → List (List ℕ)
+parts_between separator [] = [] ∷ []
+parts_between separator (c ∷ rest) = cond (c == separator) ([] ∷ parts_between separator rest) (starts_with_byte c (parts_between separator rest))
+
+-- every ask
+abbrev pub all_asks : List AskOf
+all_asks =
+    record { score = Seats; tail = Low } ∷ record { score = Seats; tail = High }
+    ∷ record { score = MeanMedian; tail = Low } ∷ record { score = MeanMedian; tail = High }
+    ∷ record { score = Gap; tail = Low } ∷ record { score = Gap; tail = High }
+    ∷ record { score = CutEdges; tail = Low } ∷ record { score = CutEdges; tail = High } ∷ []
+
+-- how an ask is spelled
+abbrev pub ask_text : AskOf → List ℕ
+ask_text ask = score_name ask.score ++ codes ":" ++ tail_name ask.tail
+
+-- the ask that a text spells
+abbrev pub ask_of : List ℕ → Option AskOf
+ask_of text = find (λ ask. bytes_eq (ask_text ask) text) all_asks
+
+-- one ask more, where each part spells one
+abbrev pub with_ask : Option AskOf → Option (List AskOf) → Option (List AskOf)
+with_ask None asks = None
+with_ask (Some ask) None = None
+with_ask (Some ask) (Some asks) = Some (ask ∷ asks)
+
+-- the asks that these parts spell, where each does
+abbrev pub asks_of : List (List ℕ) → Option (List AskOf)
+asks_of [] = Some []
+asks_of (part ∷ parts) = with_ask (ask_of part) (asks_of parts)
+
+-- none is like one after it
+abbrev pub all_different : List (List ℕ) → Bool
+all_different [] = true
+all_different (part ∷ parts) = not (list_any (λ other. bytes_eq other part) parts) && all_different parts
+
+-- the text has asks between commas, four at most and all different
+abbrev pub are_asks : List ℕ → Bool
+are_asks text = is_some (asks_of (parts_between 44 text)) && nat_le (length (parts_between 44 text)) 4 && all_different (parts_between 44 text)
+
+-- ---- the pairs of a name and a value
+
+-- a name, and its value where one follows
+abbrev pub NameAndValue : Type 0
+NameAndValue = List ℕ × Option (List ℕ)
+
+-- words as such pairs
+abbrev pub pairs : List (List ℕ) → List NameAndValue
+pairs [] = []
+pairs (name ∷ []) = (name, None) ∷ []
+pairs (name ∷ value ∷ rest) = (name, Some value) ∷ pairs rest
+
+-- the command that a word spells
+abbrev pub command_of : List ℕ → Option Command
+command_of word =
+    cond (bytes_eq word (codes "check")) (Some Check)
+    (cond (bytes_eq word (codes "run")) (Some Run)
+    (cond (bytes_eq word (codes "make")) (Some Make) (cond (bytes_eq word (codes "plans")) (Some Plans) None)))
+
+-- the name of the district column is a line of the report of several plans
+abbrev pub is_one_line : Command → List ℕ → Bool
+is_one_line Check text = true
+is_one_line Run text = true
+is_one_line Make text = true
+is_one_line Plans text = not (has text 10)
+
+module _ (command : Command) (words : List NameAndValue) where
+  -- the pair at a place
+  abbrev pub word_pair : ℕ → NameAndValue
+  word_pair k = slice_index_or words k ([], None)
+
+  -- the name that a word spells
+  abbrev pub name_of : List ℕ → Option Name
+  name_of word = find (λ name. bytes_eq (name_text name) word) (names_of command)
+
+  -- the word stood in an earlier pair
+  abbrev pub is_repeated : ℕ → Bool
+  is_repeated k = any_below k (λ j. bytes_eq (word_pair j).0 (word_pair k).0)
+
+  -- the fault of a pair, by the name that its word spells
+  abbrev pub known_fault : ℕ → Option Name → Option WordFault
+  known_fault k None = Some (UnknownName (word_pair k).0)
+  known_fault k (Some name) = cond (is_repeated k) (Some (Twice name)) (cond (is_none (word_pair k).1) (Some (NoValue name)) None)
+
+  -- the fault of the pair at a place
+  abbrev pub pair_fault : ℕ → Option WordFault
+  pair_fault k = known_fault k (name_of (word_pair k).0)
+
+  -- the value that the words give a name
+  abbrev pub given : Name → Option (List ℕ)
+  given name = option_and_then (λ pair. pair.1) (find (λ pair. bytes_eq pair.0 (name_text name)) words)
+
+  -- that, or the value of a name that is not given
+  abbrev pub given_or_default : Name → Option (List ℕ)
+  given_or_default name = option_or (given name) (default_of name)
+
+  -- the same as a text
+  abbrev pub text_of : Name → List ℕ
+  text_of name = unwrap_or (given_or_default name) []
+
+  -- the number that it spells
+  abbrev pub number_named : Name → ℕ
+  number_named name = unwrap_or (number_of (text_of name)) 0
+
+  -- the trajectories that are asked for are neither none nor too many
+  abbrev pub has_walks : Bool
+  has_walks = nat_le 1 (number_named Walks + number_named Ends) && nat_le (number_named Walks + number_named Ends) most_trajectories
+
+  -- a run that saves nothing does all of them
+  abbrev pub covers_walks : Bool
+  covers_walks = not (is_number 0 0 (text_of Save)) || nat_le (number_named Walks + number_named Ends) (number_named Budget)
+
+  -- it is `yes`
+  abbrev pub is_yes : Name → Bool
+  is_yes name = bytes_eq (text_of name) (codes "yes")
+
+  -- it is `yes` or `no`
+  abbrev pub is_yes_or_no : Name → Bool
+  is_yes_or_no name = is_yes name || bytes_eq (text_of name) (codes "no")
+
+  -- a test that stops early has ends to test, and neither saves nor resumes
+  abbrev pub stops_alone : Bool
+  stops_alone = (number_named Stop == 0) || (nat_le 1 (number_named Ends) && (number_named Save == 0) && not (is_yes Resume))
+
+  -- the serial test needs a number of plans by which draws divide evenly
+  abbrev pub divides_draws : Bool
+  divides_draws = not (is_yes Serial) || is_power_of_two (number_named Steps + 1)
+
+  -- only regions are split
+  abbrev pub has_split : Bool
+  has_split = (number_named MaxSplit == most_districts) || not (length (text_of Region) == 0)
+
+  -- what is walked of one of several parts is saved
+  abbrev pub saves_parts : Bool
+  saves_parts = (number_named Parts == 1) || nat_le 1 (number_named Save)
+
+  -- whether the value of a name is one that it may have
+  abbrev pub is_good : Name → Bool
+  is_good Pop = true
+  is_good First = true
+  is_good Second = true
+  is_good District = is_one_line command (text_of District)
+  is_good Size = is_number 1 30 (text_of Size)
+  is_good Slack = is_number 0 10000 (text_of Slack)
+  is_good Key = is_some (result_ok (decode_sized (text_of Key) 32))
+  is_good Walks = is_number 0 most_trajectories (text_of Walks)
+  is_good Steps = is_number 1 most_steps (text_of Steps)
+  is_good Ends = is_number 0 most_trajectories (text_of Ends) && has_walks
+  is_good HubSteps = is_number 1 most_steps (text_of HubSteps)
+  is_good Ask = are_asks (text_of Ask)
+  is_good Workers = is_number 1 most_workers (text_of Workers)
+  is_good Budget = is_number 0 most_trajectories (text_of Budget) && covers_walks
+  is_good Save = is_number 0 most_trajectories (text_of Save)
+  is_good Resume = is_yes_or_no Resume
+  is_good MaxCut = is_number 0 most_edges (text_of MaxCut)
+  is_good Shift = is_yes_or_no Shift
+  is_good Stop = is_number 0 most_trajectories (text_of Stop) && stops_alone
+  is_good Serial = is_yes_or_no Serial && divides_draws
+  is_good Region = true
+  is_good MaxSplit = is_number 1 most_districts (text_of MaxSplit) && has_split
+  is_good Parts = is_number 1 most_trajectories (text_of Parts) && saves_parts
+  is_good Part = is_number 0 most_trajectories (text_of Part) && nat_lt (number_named Part) (number_named Parts)
+
+  -- the first fault, in the order of the refusals
+  abbrev pub fault_of : Option WordFault
+  fault_of = first_some (
+      first_some_below (length words) pair_fault
+      ∷ option_map MissingName (find (λ name. is_none (given_or_default name)) (names_of command))
+      ∷ option_map BadValue (find (λ name. not (is_good name)) (names_of command))
+      ∷ [])
+
+  -- what the values say
+  abbrev pub as_run : Setting
+  as_run = record {
+    command = command;
+    columns = record { population = text_of Pop; first = text_of First; second = text_of Second; district = text_of District };
+    slack = number_named Slack;
+    key = unwrap_or (result_ok (decode_sized (text_of Key) 32)) [];
+    walks = number_named Walks;
+    steps = number_named Steps;
+    ends = number_named Ends;
+    hub_steps = number_named HubSteps;
+    asks = unwrap_or (asks_of (parts_between 44 (text_of Ask))) [];
+    workers = number_named Workers;
+    budget = number_named Budget;
+    save_every = number_named Save;
+    resume = is_yes Resume;
+    size = 0;
+    max_cut = number_named MaxCut;
+    shift = is_yes Shift;
+    stop = number_named Stop;
+    serial = is_yes Serial;
+    region = text_of Region;
+    max_split = number_named MaxSplit;
+    parts = number_named Parts;
+    part = number_named Part;
+  }
+
+-- with what a command fixes
+abbrev pub setting_for : Command → List NameAndValue → Setting
+setting_for Check words = record {
+  command = Check;
+  columns = (as_run Check words).columns;
+  slack = number_named Check words Slack;
+  key = replicate 32 0;
+  walks = 0;
+  steps = 0;
+  ends = 0;
+  hub_steps = 0;
+  asks = [];
+  workers = 1;
+  budget = 0;
+  save_every = 0;
+  resume = false;
+  size = 0;
+  max_cut = number_named Check words MaxCut;
+  shift = false;
+  stop = 0;
+  serial = false;
+  region = text_of Check words Region;
+  max_split = number_named Check words MaxSplit;
+  parts = 1;
+  part = 0;
+}
+setting_for Run words = as_run Run words
+setting_for Make words = record (as_run Make words) {
+  columns = record { population = codes "pop"; first = codes "a"; second = codes "b"; district = codes "district" };
+  size = number_named Make words Size;
+  region = [];
+  max_split = most_districts;
+}
+setting_for Plans words = as_run Plans words
+
+-- the setting, where there is no fault
+abbrev pub setting_or : Command → List NameAndValue → Option WordFault → Result Setting WordFault
+setting_or command words None = Ok (setting_for command words)
+setting_or command words (Some fault) = Err fault
+
+-- by the command that the first word spells
+abbrev pub of_command : List ℕ → List NameAndValue → Option Command → Result Setting WordFault
+of_command word words None = Err (UnknownCommand word)
+of_command word words (Some command) = setting_or command words (fault_of command words)
+
+-- the setting, or the first fault
+unfoldable pub setting_of : List (List ℕ) → Result Setting WordFault
+setting_of [] = Err NoCommand
+setting_of (word ∷ rest) = of_command word (pairs rest) (command_of word)

@@ -1,2 +1,0 @@
-mod Finished
-mod Reported

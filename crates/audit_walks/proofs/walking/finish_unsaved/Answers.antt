@@ -1,0 +1,11 @@
+use Rattle.std.proofs.Common.{Ok, refl, sym, subst}
+use Rattle.audit_walks.specs.Ending.{SavedBy}
+use Rattle.audit_walks.proofs.walking.finish_unsaved.Goals as goal
+
+pub end_run-requires-clause-tellable : goal.end_run-requires-clause-tellable
+end_run-requires-clause-tellable g c = c.walk-found.ensures.tellable
+
+pub returns : goal.returns
+returns g c = λ k opened.
+    let opening = c.args.means.ready.book.outcomes in
+    c.end_run.ensures opening k k opened c.walk-found.ensures (subst (λ b. SavedBy b c.args.job.now opening k k (Ok tt)) (sym c.requires.unsaved) (refl, refl))

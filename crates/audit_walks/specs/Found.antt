@@ -1,0 +1,48 @@
+-- What a run has found.
+use Rattle.std.specs.Prelude.{◌≡◌, ℕ, ◌<◌, ◌≤◌, List, [], length, take}
+use Rattle.audit_model.specs.declared.outcome.Outcome.{Outcome}
+use Rattle.audit_model.specs.Job.{Job}
+use Rattle.audit_model.specs.Run.{total}
+use Rattle.audit_model.specs.Serially.{serial_told}
+use Rattle.audit_statement.specs.Draw.{draw}
+use Rattle.audit_statement.specs.Report.{full_report, report}
+use Rattle.report.specs.Outcomes.{AreOutcomesOf, AreStopsOf, reported}
+use Rattle.audit_laws.specs.Runs.{AreAll, IsRunJob}
+use Rattle.audit_walks.specs.declared.found.Found.{Found}
+use Rattle.audit_walks.specs.Ready.{HasReportRoom}
+
+-- the outcomes of which the report tells
+abbrev pub listed_in : Found → List Outcome
+listed_in f = take f.listed f.sorted.items
+
+-- the stops of which it tells
+abbrev pub told_in : Found → List (List ℕ)
+told_in f = take f.told f.stops
+
+-- of a run, the stops can be told, and the outcomes where as many are there as the report is on; and there is room for the report
+pub record IsTellable (job : Job) (f : Found) : Type 0 where
+  pub run : IsRunJob job
+  pub enough : f.listed ≤ length f.sorted.items
+  pub enough_stops : f.told ≤ length f.stops
+  pub outcomes : reported job ≤ f.listed → AreOutcomesOf job (listed_in f)
+  pub stops : AreStopsOf job (told_in f)
+  pub blank : f.text.items ≡ []
+  pub report_room : HasReportRoom job f.text.spare
+
+-- the report on what was found is the report on all outcomes of a run that started with the opening's
+pub record TellsAll (job : Job) (opening : List Outcome) (f : Found) : Type 0 where
+  pub outcomes : List Outcome
+  pub all : AreAll job opening outcomes
+  pub whole : total job ≤ length outcomes
+  pub same : report job (listed_in f) (told_in f) (serial_told job (draw job.setting.key)) ≡ full_report job (draw job.setting.key) outcomes
+
+-- all outcomes of such a run are there, and they are fewer than the job has trajectories
+pub record LeavesSome (job : Job) (opening : List Outcome) (f : Found) : Type 0 where
+  pub all : AreAll job opening (listed_in f)
+  pub due : reported job ≡ total job
+
+-- what a run found that started with the opening's outcomes: as many as the report is on, or fewer
+pub record HasFound (job : Job) (opening : List Outcome) (f : Found) : Type 0 where
+  pub tellable : IsTellable job f
+  pub whole : reported job ≤ f.listed → TellsAll job opening f
+  pub short : f.listed < reported job → LeavesSome job opening f

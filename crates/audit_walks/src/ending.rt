@@ -1,0 +1,128 @@
+//! How a run ends that has walked.
+
+ghost use Rattle.std.specs.Prelude.{◌≡◌, ◌≤◌, List};
+ghost use Rattle.audit_model.specs.declared.outcome.Outcome as model;
+ghost use Rattle.audit_model.specs.Serially.{serial_told};
+ghost use Rattle.audit_statement.specs.Draw.{draw};
+ghost use Rattle.audit_statement.specs.Report.{report};
+ghost use Rattle.report.specs.Outcomes.{reported};
+ghost use Rattle.audit_statement.specs.Endings.{IsOpening, saves};
+ghost use Rattle.audit_walks.specs.Ending.{SavedBy, ended_as, ended_by, stopped_by};
+ghost use Rattle.audit_walks.specs.Found.{HasFound, IsTellable, listed_in, told_in};
+ghost use Rattle.audit_walks.specs.Serially.{IsTester};
+ghost use Rattle.audit_laws.specs.Calls.{Finishes};
+ghost use Rattle.audit_model.specs.State.{Kept};
+
+use crate::found::{Found, first_outcomes, first_stops};
+use crate::serially::test_serially;
+use audit_io::sink::Sink;
+use audit_io::source::Failed;
+use audit_model::buffers::Bytes;
+use flip_guard::judge::Judge;
+use plan_core::job::Job;
+use report::ended::Ended;
+use report::writing::write_all;
+use walker::walker::Walker;
+
+/// How a run ends that has walked: for want of memory it no longer can.
+#[derive(Clone, Copy)]
+pub enum Finished {
+    /// The report was written.
+    Done,
+    /// The report was not written whole.
+    WriteFault,
+    /// So many of all trajectories are done, and the rest is left to another run.
+    Stopped { done: u32, total: u32 },
+    /// A save failed.
+    SaveFault,
+}
+
+impl Finished {
+    /// How the call ends.
+    pub fn ended(self) -> Ended
+        ensures { result ≡ ended_as self }
+    {
+        match self {
+            Finished::Done => Ended::Done,
+            Finished::WriteFault => Ended::WriteFault,
+            Finished::Stopped { done, total } => Ended::Stopped { done, total },
+            Finished::SaveFault => Ended::SaveFault,
+        }
+    }
+}
+
+// How a run ends that leaves work.
+fn stop(done: u32, total: u32, saved: Result<(), Failed>) -> Finished
+    ensures { result ≡ stopped_by done total saved }
+{
+    match saved {
+        Ok(()) => Finished::Stopped { done, total },
+        Err(_) => Finished::SaveFault,
+    }
+}
+
+/// How a run ends that has written its report, or a part.
+pub fn end(written: Result<(), Failed>, saved: Result<(), Failed>) -> Finished
+    ensures { result ≡ ended_by written saved }
+{
+    match (written, saved) {
+        (Err(_), _) => Finished::WriteFault,
+        (Ok(()), Err(_)) => Finished::SaveFault,
+        (Ok(()), Ok(())) => Finished::Done,
+    }
+}
+
+// How many outcomes the report is on.
+fn due(job: &Job) -> u32
+    ensures { result ≡ reported job.now }
+{
+    if job.setting().stop == 0 {
+        job.total()
+    } else {
+        job.setting().walks
+    }
+}
+
+/// Makes the serial test where it is asked for, and the report on what was found. It takes no memory.
+pub fn text_of<J: Judge>(job: &Job, found: Found, tester: Option<Walker<J>>) -> Bytes
+    requires tellable { IsTellable job.now found }
+    requires whole { reported job.now ≤ found.listed }
+    requires tester { IsTester job.now tester }
+    ensures { result.items ≡ report job.now (listed_in found) (told_in found) (serial_told job.now (draw job.now.setting.key)) }
+{
+    let Found {
+        sorted,
+        listed,
+        stops,
+        told,
+        mut text,
+    } = found;
+    let outcomes = first_outcomes(sorted.as_slice(), listed);
+    let places = first_stops(&stops, told);
+    let serial = test_serially(job, tester);
+    report::text(job, outcomes, places, serial, &mut text);
+    text
+}
+
+/// How a run ends that has found this: where nothing is left it makes the serial test where it is asked for, and writes the report. It takes no memory.
+pub fn end_run<K: Sink, J: Judge>(
+    job: &Job,
+    found: Found,
+    tester: Option<Walker<J>>,
+    saved: Result<(), Failed>,
+    out: &mut K,
+) -> Finished
+    requires tellable { IsTellable job.now found }
+    requires tester { IsTester job.now tester }
+    ensures { (opening : List model.Outcome) (before after : Kept) → IsOpening job.now before.slots opening → HasFound job.now opening found
+        → SavedBy (saves job.now.setting) job.now opening before after saved
+        → Finishes job.now (K.state out.old) (K.state out.new) before after (ended_as result) }
+{
+    let due = due(job);
+    if found.listed < due as usize {
+        return stop(found.listed as u32, due, saved);
+    }
+    let text = text_of(job, found, tester);
+    let written = write_all(out, text.as_slice());
+    end(written, saved)
+}

@@ -1,0 +1,78 @@
+//! All that a run takes that saves nothing, made before it walks.
+
+ghost use Rattle.std.specs.Prelude.{◌≡◌, IfOk, length, vec_len};
+ghost use Rattle.walker.specs.Judges.{AreJudges};
+ghost use Rattle.audit_walks.specs.Means.{AreWorkersFor, IsBench, IsMeansFor};
+ghost use Rattle.audit_walks.specs.Ready.{IsReadyFor, IsStartOf};
+
+use crate::ready::{Ready, make_ready};
+use crate::serially::make_tester;
+use audit_model::memory::Memory;
+use audit_model::outcome::Outcome;
+use claim_counter::crew::{Crew, recruit};
+use flip_guard::judge::Judge;
+use plan_core::job::Job;
+use sequential_test::crew::StoppingCrew;
+use std::alloc::Global;
+use walker::walker::Walker;
+
+/// The workers of a run that saves nothing: of one that walks all its trajectories, or of one whose tests stop early.
+#[derive(Drop)]
+pub enum Workers<J: Judge> {
+    All(Crew<J>),
+    Early(StoppingCrew<J>),
+}
+
+/// All that a run takes that saves nothing: what each run holds before it walks, its workers, and what makes its serial test where it is asked for.
+#[derive(Drop)]
+pub struct Means<J: Judge> {
+    pub ready: Ready,
+    pub workers: Workers<J>,
+    pub tester: Option<Walker<J>>,
+}
+
+// The workers of a run that holds this, one for each judge.
+fn make_workers<J: Judge>(
+    alloc: Global,
+    job: &Job,
+    ready: &Ready,
+    judges: Vec<J>,
+) -> Result<Workers<J>, Memory>
+    requires ready { IsReadyFor job.now ready.now }
+    requires judges { AreJudges job.now J.judging judges.items }
+    requires workers { vec_len judges ≡ job.now.setting.workers }
+    ensures { IfOk result (AreWorkersFor job.now (length ready.now.todo)) }
+{
+    if job.setting().stop > 0 {
+        let crew = sequential_test::crew::recruit(alloc, job, judges)?;
+        return Ok(Workers::Early(crew));
+    }
+    let crew = recruit(alloc, job, ready.todo.len() as u32, judges)?;
+    Ok(Workers::All(crew))
+}
+
+/// All that a run takes that starts with these outcomes and saves nothing, with a judge for each worker and one for the serial test. The only error is want of
+/// memory.
+pub fn make_means<J: Judge>(
+    alloc: Global,
+    job: &Job,
+    outcomes: &[Outcome],
+    mut judges: Vec<J>,
+) -> Result<Means<J>, Memory>
+    requires start { IsStartOf job.now outcomes.now }
+    requires judges { IsBench J.judging job.now judges }
+    ensures means { IfOk result (IsMeansFor job.now) }
+    ensures outcomes { IfOk result (λ m. m.ready.book.outcomes ≡ outcomes.now) }
+{
+    let Some(judge) = judges.pop() else {
+        unreachable!()
+    };
+    let tester = make_tester(alloc, job, judge)?;
+    let ready = make_ready(alloc, job, outcomes)?;
+    let workers = make_workers(alloc, job, &ready, judges)?;
+    Ok(Means {
+        ready,
+        workers,
+        tester,
+    })
+}

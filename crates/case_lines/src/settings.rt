@@ -1,0 +1,90 @@
+//! The setting of a run over small graphs.
+
+use audit_model::memory::Memory;
+use audit_model::setting::{Columns, Setting};
+use audit_model::text::Text;
+use audit_words::read;
+use std::alloc::{AllocError, Global};
+use std::marker::Model;
+
+/// The words of a run.
+const WORDS: &str =
+    "run --pop pop --first a --second b --district district --slack 5000 --key 0000000000000000000000000000000000000000000000000000000000000000 --ask gap:low";
+
+/// A setting within the limits.
+#[derive(Drop)]
+pub struct Accepted {
+    setting: Setting,
+}
+
+impl Model for Accepted {
+    ghost use Rattle.audit_model.specs.declared.setting.Setting.{Setting as SettingValue};
+    ghost use Rattle.audit_model.specs.Limits.{IsSetting};
+
+    ghost Value = { SettingValue };
+
+    ghost view = { λ a. a.setting };
+
+    ghost invariant = { λ a. IsSetting a.setting };
+}
+
+impl Accepted {
+    ghost use Rattle.std.specs.Prelude.{◌≡◌};
+    ghost use Rattle.audit_model.specs.Limits.{IsSetting};
+
+    /// The columns.
+    pub fn columns(&self) -> &Columns
+        ensures { result.now ≡ self.now.columns }
+    {
+        &self.setting.columns
+    }
+
+    /// The same, where no region may lie in two districts.
+    pub fn strict(self) -> Accepted {
+        let setting = self.setting;
+        Accepted {
+            setting: Setting {
+                max_split: 1,
+                ..setting
+            },
+        }
+    }
+
+    /// The setting itself.
+    pub fn into_setting(self) -> Setting
+        ensures same { result ≡ self }
+        ensures limits { IsSetting result }
+    {
+        self.setting
+    }
+}
+
+fn words_of(alloc: Global) -> Result<Vec<String>, AllocError> {
+    let mut words = Vec::new(alloc);
+    for word in WORDS.split_whitespace() {
+        words.push(String::from_str(alloc, word)?)?;
+    }
+    Ok(words)
+}
+
+fn setting_of(alloc: Global, words: &[String]) -> Option<Accepted> {
+    match read(alloc, words) {
+        Ok(setting) => Some(Accepted { setting }),
+        Err(_) => None,
+    }
+}
+
+/// The setting of these words.
+pub fn setting(alloc: Global) -> Option<Accepted> {
+    match words_of(alloc) {
+        Ok(words) => setting_of(alloc, words.as_slice()),
+        Err(_) => None,
+    }
+}
+
+/// The name of a column.
+pub fn column_of(alloc: Global, name: &str) -> Result<Text, Memory> {
+    let mut column = Text::new(alloc);
+    column.push_str(name)?;
+    Ok(column)
+}

@@ -1,2 +1,0 @@
-pub mod Checkpoint
-pub mod Slots

@@ -1,0 +1,13 @@
+-- What fits a job of what folders give.
+use Rattle.std.specs.Prelude.{⊤}
+use Rattle.audit_model.specs.Job.{Job}
+use Rattle.ckpt_store.specs.Fitting.{AreFit}
+use Rattle.ckpt_store.specs.declared.given.Given.{Given}
+use Rattle.ckpt_store.specs.declared.given.Given.TheVariants as given
+
+-- outcomes that a folder gives fit the job, and rise
+abbrev pub IsFitGiven : Job → Given → Type 0
+IsFitGiven job (given.Outcomes l) = AreFit job l.items
+IsFitGiven job given.Nothing = ⊤
+IsFitGiven job given.OtherJob = ⊤
+IsFitGiven job given.Damaged = ⊤

@@ -1,0 +1,35 @@
+-- What the file of a slot holds, whatever the job, and which slot is the newest.
+-- This project's. A job's digest is not looked at: a checkpoint of any job is whole.
+use Rattle.std.specs.Prelude.{◌≡◌, ◌⊎◌, ℕ, ◌<◌, ◌≤◌, List, length, Option, Some, None}
+use Rattle.audit_model.specs.declared.fault.CkptFault.TheVariants.{TooLong}
+use Rattle.audit_statement.specs.Checkpoint.{IsCheckpoint, checkpoint_fault}
+use Rattle.audit_statement.specs.Slots.{checkpoint_limit, newest_of}
+use Rattle.ckpt_format.specs.declared.decode.Checkpoint.{Checkpoint}
+use Rattle.audit_model.specs.declared.fault.CkptFault.{CkptFault}
+use Rattle.ckpt_store.specs.declared.held.Held.{Held}
+use Rattle.ckpt_store.specs.declared.held.Held.TheVariants as held
+
+-- the bytes are no checkpoint, and this is why: they are too many, or this is their first fault
+abbrev pub IsFault : List ℕ → CkptFault → Type 0
+IsFault bytes fault = ((checkpoint_limit < length bytes) × (fault ≡ TooLong checkpoint_limit)) ⊎ ((length bytes ≤ checkpoint_limit) × (checkpoint_fault bytes ≡ Some fault))
+
+-- what the bytes of a slot are
+abbrev pub Holds : List ℕ → Held → Type 0
+Holds bytes held.Absent = ⊥
+Holds bytes (held.Broken fault) = IsFault bytes fault
+Holds bytes (held.Whole c) = (length bytes ≤ checkpoint_limit) × IsCheckpoint bytes c.version c.digest c.generation c.outcomes.items
+
+-- what a slot holds, whose file may be absent
+abbrev pub HoldsStored : Option (List ℕ) → Held → Type 0
+HoldsStored None h = h ≡ held.Absent
+HoldsStored (Some bytes) h = Holds bytes h
+
+-- the generation of an intact slot
+abbrev pub generation_in : Held → Option ℕ
+generation_in held.Absent = None
+generation_in (held.Broken fault) = None
+generation_in (held.Whole c) = Some c.generation
+
+-- the number of the newest of both slots
+abbrev pub newest_in : Held → Held → Option ℕ
+newest_in first second = newest_of (generation_in first) (generation_in second)

@@ -1,0 +1,61 @@
+-- What a whole gathering does.
+-- This project's. It says what stands in the slots by what was found; the code looks at one folder after the other.
+use Rattle.std.specs.Prelude.{◌≡◌, ℕ, Bool, true, false, ◌&&◌, List, [], length, Option}
+use Rattle.audit_model.specs.Faults.{Rose}
+use Rattle.audit_model.specs.Pair.{HoldsBytes, KeepsOther, Pair}
+use Rattle.audit_model.specs.State.{Kept}
+use Rattle.audit_model.specs.Told.{IfTold}
+use Rattle.audit_model.specs.Tries.{tried_too}
+use Rattle.audit_model.specs.declared.outcome.Outcome.{Outcome}
+use Rattle.audit_model.specs.Job.{Job}
+use Rattle.audit_statement.specs.Checkpoint.{IsCheckpoint, checkpoint}
+use Rattle.ckpt_store.specs.declared.finding.Finding.{Finding}
+use Rattle.ckpt_store.specs.declared.told.Told.{Told}
+use Rattle.ckpt_store.specs.declared.told.Ungathered.{Ungathered}
+use Rattle.ckpt_store.specs.declared.told.Ungathered.TheVariants as ungathered
+use Rattle.ckpt_store.specs.Findings.{AreFound, Finds, may_save}
+use Rattle.ckpt_store.specs.Gives.{gives, has_broken}
+use Rattle.audit_statement.specs.Slots.{place_for}
+
+-- one save put the checkpoint of the outcomes into the slot of a place, with the place's generation, and the other slot is as before
+pub record IsSavedUnion (digest : List ℕ) (place : ℕ × ℕ) (outcomes : List Outcome) (before after : Kept) : Type 0 where
+  pub bytes : HoldsBytes after.slots place.0 (checkpoint 2 digest place.1 outcomes)
+  pub sound : IsCheckpoint (checkpoint 2 digest place.1 outcomes) 2 digest place.1 outcomes
+  pub other : KeepsOther before.slots after.slots place.0
+  pub tried : after.tried ≡ tried_too before.tried place.0 (checkpoint 2 digest place.1 outcomes) true
+
+-- nothing was saved, and no save was tried
+pub record IsUntouched (before after : Kept) : Type 0 where
+  pub slots : after.slots ≡ before.slots
+  pub tried : after.tried ≡ before.tried
+  pub saves : after.save_faults ≡ before.save_faults
+
+-- what an answer that tells nothing says of the keeper
+abbrev pub IsUnsaved : Kept → Kept → Ungathered → Type 0
+IsUnsaved before after ungathered.Memory = IsUntouched before after
+IsUnsaved before after ungathered.Unread = IsUntouched before after × Rose before.load_faults after.load_faults
+IsUnsaved before after ungathered.Unsaved = Rose before.save_faults after.save_faults
+
+abbrev pub IsSavedIf : Bool → List ℕ → ℕ × ℕ → List Outcome → Kept → Kept → Type 0
+IsSavedIf true digest place outcomes before after = IsSavedUnion digest place outcomes before after
+IsSavedIf false digest place outcomes before after = IsUntouched before after
+
+-- what a gathering found in the slots of the working folder
+pub record HasBegun (job : Job) (digest : List ℕ) (told : Option Pair) (place : ℕ × ℕ) (own : Finding) (start : List Outcome) : Type 0 where
+  pub pair : Pair
+  pub same : IfTold told (λ p. pair ≡ p)
+  pub finds : Finds [] (gives job digest pair) (has_broken job digest pair) own start
+  pub place_is : place ≡ place_for job digest pair
+
+-- the whole: what was found in the working folder and then in each folder, one after the other. The union of it all is saved at the place for the next
+-- checkpoint of the working folder exactly where it is asked for, the working folder has no checkpoint or an intact newest one of this job, each folder
+-- has an intact newest one of this job, and no two outcomes of an id differ. Else nothing is saved
+pub record IsGathering (job : Job) (digest : List ℕ) (saves : Bool) (before after : Kept) (folders : List (Option Pair)) (told : Told) : Type 0 where
+  pub place : ℕ × ℕ
+  pub start : List Outcome
+  pub all : List Outcome
+  pub own : HasBegun job digest before.slots place told.own start
+  pub each : AreFound job digest folders start told.folders all
+  pub done : told.done ≡ length all
+  pub when : told.saved ≡ (saves && may_save told.own told.folders)
+  pub saved : IsSavedIf told.saved digest place all before after

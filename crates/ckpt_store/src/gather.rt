@@ -1,0 +1,84 @@
+//! What a folder's slots hold, and the save of what was gathered.
+
+ghost use Rattle.std.specs.Prelude.{◌≡◌, ◌≤◌, IfErr, IfOk, OnErr, OnOk, length, count_by, not};
+ghost use Rattle.audit_model.specs.Limits.{most_trajectories};
+ghost use Rattle.audit_model.specs.Run.{has_id, total};
+ghost use Rattle.ckpt_store.specs.Fitting.{AreFit};
+ghost use Rattle.ckpt_store.specs.Places.{IsPlace};
+ghost use Rattle.ckpt_store.specs.Whole.{IsSavedUnion, IsUnsaved};
+ghost use Rattle.outcome_book.specs.Union.{AreAgreed, AreById, IsFirstDifference, IsUnion};
+
+use crate::save::save;
+use crate::told::Ungathered;
+use audit_io::keeper::Keeper;
+use audit_model::buffers::Bytes;
+use audit_model::outcome::Outcome;
+use audit_model::place::Place;
+use outcome_book::gathering::Gathering;
+use plan_core::job::Job;
+use std::alloc::Global;
+
+/// Adds what a folder holds of the job, and says how many of its outcomes have ids of which none was gathered.
+///
+/// # Errors
+///
+/// The least id of which it says something else than what was gathered: then nothing is added.
+pub fn add(gathering: &mut Gathering, job: &Job, found: &[Outcome]) -> Result<u32, u32>
+    requires total { gathering.old.total ≡ total job.now }
+    requires fit { AreFit job.now found.now }
+    ensures total { gathering.new.total ≡ gathering.old.total }
+    ensures union { OnOk result (IsUnion gathering.old.outcomes found.now gathering.new.outcomes) }
+    ensures agreed { OnOk result (AreAgreed gathering.old.outcomes found.now) }
+    ensures count { IfOk result (λ n. n ≡ count_by (λ o. not (has_id gathering.old.outcomes o.id)) found.now) }
+    ensures differs { IfErr result (IsFirstDifference gathering.old.outcomes found.now) }
+    ensures kept { OnErr result (gathering.new ≡ gathering.old) }
+{
+    gathering.merge(found)
+}
+
+/// Saves what was gathered in the slot of a place.
+///
+/// # Errors
+///
+/// - `Memory`: there was no memory for the outcomes or their bytes, and no save was tried.
+/// - `Unsaved`: the keeper failed, and the slot of the place may hold anything.
+pub fn save_gathered<C: Keeper>(
+    alloc: Global,
+    keeper: &mut C,
+    place: Place,
+    digest: &[u8; 32],
+    gathering: &Gathering,
+) -> Result<(), Ungathered>
+    requires place { IsPlace place }
+    ensures saved { OnOk result (IsSavedUnion digest.now (place.slot, place.generation) gathering.now.outcomes (C.state keeper.old) (C.state keeper.new)) }
+    ensures cause { IfErr result (IsUnsaved (C.state keeper.old) (C.state keeper.new)) }
+{
+    match gathering.to_list(alloc) {
+        Ok(list) => save_list(alloc, keeper, place, digest, list.as_slice()),
+        Err(_) => Err(Ungathered::Memory),
+    }
+}
+
+// Saves outcomes by rising id in the slot of a place.
+fn save_list<C: Keeper>(
+    alloc: Global,
+    keeper: &mut C,
+    place: Place,
+    digest: &[u8; 32],
+    outcomes: &[Outcome],
+) -> Result<(), Ungathered>
+    requires place { IsPlace place }
+    requires few { length outcomes.now ≤ most_trajectories }
+    requires rising { AreById outcomes.now }
+    ensures saved { OnOk result (IsSavedUnion digest.now (place.slot, place.generation) outcomes.now (C.state keeper.old) (C.state keeper.new)) }
+    ensures cause { IfErr result (IsUnsaved (C.state keeper.old) (C.state keeper.new)) }
+{
+    let mut place = place;
+    match Bytes::with_room(alloc, 84 + 80 * outcomes.len()) {
+        Ok(mut room) => match save(keeper, &mut place, digest, outcomes, &mut room) {
+            Ok(()) => Ok(()),
+            Err(_) => Err(Ungathered::Unsaved),
+        },
+        Err(_) => Err(Ungathered::Memory),
+    }
+}

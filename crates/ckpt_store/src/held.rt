@@ -1,0 +1,89 @@
+//! What the file of a slot holds, whatever the job, and which slot is the newest.
+
+ghost use Rattle.std.specs.Prelude.{◌≡◌, Some, IfOk, OnOk, option_map};
+ghost use Rattle.audit_model.specs.declared.fault.CkptFault.TheVariants as variant;
+ghost use Rattle.ckpt_store.specs.Holding.{Holds, HoldsStored, generation_in, newest_in};
+
+use crate::slots::generation_after;
+use audit_model::buffers::Bytes;
+use audit_model::fault::CkptFault;
+use audit_model::memory::Memory;
+use ckpt_format::decode::{Checkpoint, decode};
+use std::alloc::Global;
+
+/// The most bytes of a checkpoint.
+pub const LIMIT: u64 = 8_000_084;
+
+/// What a slot holds, whatever the job.
+#[derive(Drop)]
+pub enum Held {
+    /// There is no such file.
+    Absent,
+    /// It is no checkpoint.
+    Broken(CkptFault),
+    /// It is a checkpoint.
+    Whole(Checkpoint),
+}
+
+/// What a slot holds: nothing, bytes that are too many or no checkpoint, for the first of their faults, or a checkpoint.
+///
+/// # Errors
+///
+/// There was no memory for the outcomes of a checkpoint.
+pub fn held_of(alloc: Global, stored: &Option<Bytes>) -> Result<Held, Memory>
+    ensures { IfOk result (HoldsStored (option_map (λ b. b.items) stored.now)) }
+{
+    match stored {
+        None => Ok(Held::Absent),
+        Some(bytes) => held_in(alloc, bytes.as_slice()),
+    }
+}
+
+/// What the bytes of a slot are.
+fn held_in(alloc: Global, bytes: &[u8]) -> Result<Held, Memory>
+    ensures { IfOk result (Holds bytes.now) }
+{
+    if bytes.len() as u64 > LIMIT {
+        return Ok(Held::Broken(CkptFault::TooLong(LIMIT)));
+    }
+    match decode(alloc, bytes) {
+        Ok(checkpoint) => Ok(Held::Whole(checkpoint)),
+        Err(fault) => broken(fault),
+    }
+}
+
+/// The slot of a fault, which may be want of memory.
+fn broken(fault: CkptFault) -> Result<Held, Memory>
+    ensures slot { IfOk result (λ h. h ≡ Held.Broken fault) }
+    ensures known { OnOk result (fault ≡ variant.Memory → ⊥) }
+{
+    match fault {
+        CkptFault::Memory => Err(Memory),
+        fault => Ok(Held::Broken(fault)),
+    }
+}
+
+impl Held {
+    /// The generation, where the slot is intact.
+    fn generation(&self) -> Option<u8>
+        ensures { result ≡ generation_in self.now }
+    {
+        match self {
+            Held::Absent | Held::Broken(_) => None,
+            Held::Whole(checkpoint) => Some(checkpoint.generation),
+        }
+    }
+}
+
+/// The number of the newest slot: of two intact ones the second where its generation follows the first's, else the first; none where
+/// none is intact.
+pub fn newest(zero: &Held, one: &Held) -> Option<u8>
+    ensures { result ≡ newest_in zero.now one.now }
+{
+    match (zero.generation(), one.generation()) {
+        (None, None) => None,
+        (None, Some(_)) => Some(1),
+        (Some(_), None) => Some(0),
+        (Some(zero), Some(one)) => Some(u8::from(one == generation_after(zero))),
+    }
+}

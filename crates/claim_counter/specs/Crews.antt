@@ -1,0 +1,10 @@
+-- What clauses say of all workers of a run.
+use Rattle.std.specs.Prelude.{ℕ}
+use Rattle.audit_model.specs.Job.{Job}
+use Rattle.claim_counter.specs.declared.crew.Crew.{Crew}
+use Rattle.claim_counter.specs.Parts.{IsFreshPart, IsTeam}
+
+-- so many workers, who are ready to walk so many trajectories of the job
+pub record IsCrew {J : Type 0} (job : Job) (count workers : ℕ) (c : Crew J) : Type 0 where
+  pub part : IsFreshPart count workers c.part
+  pub team : IsTeam job workers c.team

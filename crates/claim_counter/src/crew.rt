@@ -1,0 +1,37 @@
+//! All workers of a run.
+
+ghost use Rattle.std.specs.Prelude.{◌≤◌, IfOk, vec_len};
+ghost use Rattle.claim_counter.specs.Crews.{IsCrew};
+ghost use Rattle.walker.specs.Judges.{AreJudges};
+ghost use Rattle.audit_model.specs.Limits.{most_trajectories, most_workers};
+
+use crate::parts::{Part, Team, muster};
+use audit_model::memory::Memory;
+use flip_guard::judge::Judge;
+use plan_core::job::Job;
+use std::alloc::Global;
+
+/// All that walking takes: the workers and the hub, and with what the one part of the run is walked.
+#[derive(Drop)]
+pub struct Crew<J: Judge> {
+    pub(crate) part: Part,
+    pub(crate) team: Team<J>,
+}
+
+/// A worker for each judge, who will walk `count` trajectories of the job together. The only error is want of memory, and walking takes no
+/// more of it.
+pub fn recruit<J: Judge>(
+    alloc: Global,
+    job: &Job,
+    count: u32,
+    judges: Vec<J>,
+) -> Result<Crew<J>, Memory>
+    requires count { count ≤ most_trajectories }
+    requires workers { (1 ≤ vec_len judges) × (vec_len judges ≤ most_workers) }
+    requires judges { AreJudges job.now J.judging judges.items }
+    ensures { IfOk result (IsCrew job.now count (vec_len judges)) }
+{
+    let part = Part::new(alloc, count, judges.len() as u32)?;
+    let team = muster(alloc, job, judges)?;
+    Ok(Crew { part, team })
+}

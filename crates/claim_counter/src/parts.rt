@@ -1,0 +1,338 @@
+//! A run that is walked in parts, one after the other: each worker is made once, and each part has a counter of its own.
+
+ghost use Rattle.std.specs.Prelude.{◌≡◌, true, ◌+◌, ◌-◌, ◌<◌, ◌≤◌, ◌++◌, All, IfOk, IsPermutation, length, map, vec_capacity, vec_len};
+ghost use Rattle.audit_model.specs.Run.{total};
+ghost use Rattle.audit_model.specs.Trajectory.{hub as hub_of};
+ghost use Rattle.claim_counter.specs.Records.{fresh, joined_passes, AreDifferentBelow};
+ghost use Rattle.claim_counter.specs.Passes.{own, size_of, BelongsTo};
+ghost use Rattle.audit_statement.specs.Draw.{draw};
+ghost use Rattle.outcome_book.specs.Booked.{IsShareFor};
+ghost use Rattle.flip_kernel.specs.Judged.{IsJudgeFor};
+ghost use Rattle.walker.specs.Judges.{AreJudges};
+ghost use Rattle.claim_counter.specs.Parts.{AreBack, AreResting, HasPlace, IsBack, IsFreshPart, IsHand, IsLent, IsTeam, MayRest};
+ghost use Rattle.claim_counter.specs.Workers.{IsShared};
+ghost use Rattle.claim_counter.specs.Walks.{found, found_at, LacksIds, ServesEnds};
+ghost use Rattle.audit_model.specs.Limits.{most_trajectories, most_workers};
+
+use crate::runtime::Runtime;
+use crate::worker::Worker;
+use crate::{Claims, Pass};
+use audit_io::gate::Gate;
+use audit_model::buffers::OutcomeList;
+use audit_model::lists::UnitList;
+use audit_model::memory::Memory;
+use flip_guard::judge::Judge;
+use outcome_book::book::Book;
+use outcome_book::laws::outcomes_have_few_visits;
+use plan_core::job::Job;
+use std::alloc::Global;
+use std::thread;
+use std::thread::Threads;
+use walker::walker::Walker;
+
+/// What one part is walked with: a counter of its places, and the pass that has all seats of it.
+#[derive(Drop)]
+pub struct Part {
+    pub(crate) claims: Claims,
+    pub(crate) pass: Pass,
+}
+
+impl Part {
+    /// For `count` trajectories and so many workers. The only error is want of memory.
+    pub fn new(alloc: Global, count: u32, workers: u32) -> Result<Part, Memory>
+        requires count { count ≤ most_trajectories }
+        requires workers { (1 ≤ workers) × (workers ≤ most_workers) }
+        ensures { IfOk result (IsFreshPart count workers) }
+    {
+        let (claims, pass) = Claims::new(alloc, count, workers)?;
+        Ok(Part { claims, pass })
+    }
+}
+
+/// A worker between two parts: a walker, and an empty share with room for the outcomes of all trajectories.
+#[derive(Drop)]
+pub struct Hand<J: Judge> {
+    pub(crate) walker: Walker<J>,
+    pub(crate) share: OutcomeList,
+}
+
+/// All workers of a run in parts, and the hub.
+#[derive(Drop)]
+pub struct Team<J: Judge> {
+    pub(crate) hands: Vec<Hand<J>>,
+    pub(crate) workers: Vec<Worker<J>>,
+    pub(crate) hub: UnitList,
+}
+
+// A worker without a pass.
+fn make_hand<J: Judge>(alloc: Global, job: &Job, judge: J) -> Result<Hand<J>, Memory>
+    requires judge { IsJudgeFor job.now (J.judging judge) }
+    ensures { IfOk result (IsHand job.now) }
+{
+    let walker = Walker::new(alloc, job, judge)?;
+    let share = OutcomeList::with_room(alloc, job.total() as usize)?;
+    Ok(Hand { walker, share })
+}
+
+// A worker without a pass for each judge.
+fn make_hands<J: Judge>(
+    alloc: Global,
+    job: &Job,
+    mut judges: Vec<J>,
+) -> Result<Vec<Hand<J>>, Memory>
+    requires judges { AreJudges job.now J.judging judges.items }
+    ensures hands { IfOk result (λ h. All (IsHand job.now) h.items) }
+    ensures count { IfOk result (λ h. vec_len h ≡ vec_len judges) }
+    ensures room { IfOk result (λ h. vec_len judges ≤ vec_capacity h) }
+{
+    let mut hands = Vec::with_capacity(alloc, judges.len())?;
+    while let Some(judge) = judges.pop() {
+        hands.push_reserved(make_hand(alloc, job, judge)?);
+    }
+    Ok(hands)
+}
+
+/// A worker for each judge. The only error is want of memory, and walking takes no more of it.
+pub fn muster<J: Judge>(alloc: Global, job: &Job, judges: Vec<J>) -> Result<Team<J>, Memory>
+    requires workers { 1 ≤ vec_len judges }
+    requires judges { AreJudges job.now J.judging judges.items }
+    ensures { IfOk result (IsTeam job.now (vec_len judges)) }
+{
+    let workers = Vec::with_capacity(alloc, judges.len())?;
+    let hands = make_hands(alloc, job, judges)?;
+    let hub = UnitList::zeros(alloc, job.units() as usize)?;
+    Ok(Team {
+        hands,
+        workers,
+        hub,
+    })
+}
+
+// The worker takes part, with this pass.
+fn lend<J: Judge>(job: &Job, claims: &Claims, hand: Hand<J>, pass: Pass) -> Worker<J>
+    requires limit { (size_of claims.now).limit ≤ total job.now }
+    requires pass { BelongsTo claims.now pass × (own pass ≡ fresh 0) }
+    requires hand { IsHand job.now hand }
+    ensures { IsLent job.now claims.now result }
+{
+    // Called for what its contract says: so many trajectories there are, which fits 32 bits.
+    let _total = job.total();
+    let Hand { walker, share } = hand;
+    Worker {
+        walker,
+        pass,
+        share,
+    }
+}
+
+// All take part: each gets a pass.
+fn lend_all<J: Judge>(
+    job: &Job,
+    claims: &Claims,
+    mut pass: Pass,
+    hands: &mut Vec<Hand<J>>,
+    workers: &mut Vec<Worker<J>>,
+)
+    requires limit { (size_of claims.now).limit ≤ total job.now }
+    requires pass { BelongsTo claims.now pass × (own pass ≡ fresh (vec_len hands.old - 1)) }
+    requires resting { AreResting job.now hands.old workers.old }
+    ensures lent { All (IsLent job.now claims.now) workers.new.items }
+    ensures count { vec_len workers.new ≡ vec_len hands.old }
+    ensures none { vec_len hands.new ≡ 0 }
+    ensures hands_room { vec_capacity hands.new ≡ vec_capacity hands.old }
+    ensures room { vec_capacity workers.new ≡ vec_capacity workers.old }
+{
+    let Some(last) = hands.pop() else {
+        unreachable!()
+    };
+    while let Some(hand) = hands.pop() {
+        let part = claims.split(&mut pass);
+        workers.push_reserved(lend(job, claims, hand, part));
+    }
+    workers.push_reserved(lend(job, claims, last, pass));
+}
+
+// Each in a thread of its own, where one can be started.
+fn run_all<R: Threads + Sync, J: Judge + Send, G: Gate + Sync>(
+    rt: &Runtime<R, G>,
+    job: &Job,
+    todo: &[u32],
+    hub: &[u32],
+    claims: &Claims,
+    workers: &mut [Worker<J>],
+)
+    requires lent { All (IsLent job.now claims.now) workers.old }
+    requires shared { IsShared job.now todo.now hub.now claims.now }
+    ensures { All (IsBack job.now todo.now claims.now) workers.new }
+{
+    let threads = workers.len().max(1);
+    let gate = rt.gate;
+    thread::for_each_mut(
+        rt.threads,
+        workers,
+        threads,
+        &|_, worker: &mut Worker<J>|
+            requires lent { IsLent job.now claims.now worker.now }
+            requires shared { IsShared job.now todo.now hub.now claims.now }
+            ensures { IsBack job.entry.now todo.entry.now claims.entry.now worker.new }
+        { worker.run(job, todo, hub, gate, claims) },
+    );
+}
+
+// The worker has no pass any more, and its share is empty again.
+fn rest<J: Judge>(job: &Job, walker: Walker<J>, mut share: OutcomeList, hands: &mut Vec<Hand<J>>)
+    requires hand { MayRest job.now walker share }
+    requires hands { HasPlace job.now hands.old }
+    ensures hands { All (IsHand job.now) hands.new.items }
+    ensures count { vec_len hands.new ≡ vec_len hands.old + 1 }
+    ensures room { vec_capacity hands.new ≡ vec_capacity hands.old }
+{
+    // Called for what its contract says: so many trajectories there are, which fits 32 bits.
+    let _total = job.total();
+    share.clear();
+    hands.push_reserved(Hand { walker, share });
+}
+
+// The share of a worker goes into the book, and its pass comes back.
+fn take_first<J: Judge>(
+    job: &Job,
+    worker: Worker<J>,
+    hands: &mut Vec<Hand<J>>,
+    book: &mut Book,
+) -> Pass
+    requires share { IsShareFor book.old worker.share.items }
+    requires hand { MayRest job.now worker.walker worker.share }
+    requires hands { HasPlace job.now hands.old }
+    ensures pass { result ≡ worker.pass }
+    ensures total { book.new.total ≡ book.old.total }
+    ensures outcomes { book.new.outcomes ≡ book.old.outcomes ++ worker.share.items }
+    ensures hands { All (IsHand job.now) hands.new.items }
+    ensures count { vec_len hands.new ≡ vec_len hands.old + 1 }
+    ensures room { vec_capacity hands.new ≡ vec_capacity hands.old }
+{
+    let Worker {
+        walker,
+        pass,
+        share,
+    } = worker;
+    book.merge(share.as_slice());
+    rest(job, walker, share, hands);
+    pass
+}
+
+// The pass of one worker more goes into the pass of those before it, and its share into the book.
+fn take_next<J: Judge>(
+    job: &Job,
+    claims: &Claims,
+    pass: Pass,
+    worker: Worker<J>,
+    hands: &mut Vec<Hand<J>>,
+    book: &mut Book,
+) -> Pass
+    requires pass { BelongsTo claims.now pass }
+    requires worker { BelongsTo claims.now worker.pass }
+    requires share { AreDifferentBelow (size_of claims.now).limit ((own pass).claims ++ (own worker.pass).claims)
+        → IsShareFor book.old worker.share.items }
+    requires hand { MayRest job.now worker.walker worker.share }
+    requires hands { HasPlace job.now hands.old }
+    ensures pass { BelongsTo claims.now result }
+    ensures both { own result ≡ joined_passes (own pass) (own worker.pass) }
+    ensures different { AreDifferentBelow (size_of claims.now).limit (own result).claims }
+    ensures total { book.new.total ≡ book.old.total }
+    ensures outcomes { book.new.outcomes ≡ book.old.outcomes ++ worker.share.items }
+    ensures hands { All (IsHand job.now) hands.new.items }
+    ensures count { vec_len hands.new ≡ vec_len hands.old + 1 }
+    ensures room { vec_capacity hands.new ≡ vec_capacity hands.old }
+{
+    let Worker {
+        walker,
+        pass: other,
+        share: outcomes,
+    } = worker;
+    let both = claims.join(pass, other);
+    book.merge(outcomes.as_slice());
+    rest(job, walker, outcomes, hands);
+    both
+}
+
+// The shares of all go into the book, and one pass for all comes back.
+fn take_all<J: Judge>(
+    job: &Job,
+    todo: &[u32],
+    claims: &Claims,
+    workers: &mut Vec<Worker<J>>,
+    hands: &mut Vec<Hand<J>>,
+    book: &mut Book,
+) -> Pass
+    requires back { AreBack job.now todo.now claims.now workers.old hands.old }
+    requires limit { (size_of claims.now).limit ≡ length todo.now }
+    requires todo { LacksIds job.now book.old todo.now }
+    ensures pass { BelongsTo claims.now result }
+    ensures ended { (own result).ended ≡ true }
+    ensures seats { (own result).weight + (own result).spare ≡ vec_len workers.old }
+    ensures total { book.new.total ≡ book.old.total }
+    ensures outcomes { book.new.outcomes ≡ book.old.outcomes ++ map (found_at job.now todo.now) (own result).claims }
+    ensures hands { All (IsHand job.now) hands.new.items }
+    ensures count { vec_len hands.new ≡ vec_len workers.old }
+    ensures room { vec_capacity hands.new ≡ vec_capacity hands.old }
+    ensures none { vec_len workers.new ≡ 0 }
+    ensures workers_room { vec_capacity workers.new ≡ vec_capacity workers.old }
+{
+    // Called for what their contracts say: bins add up to few enough for a book, and the job is within its limits.
+    outcomes_have_few_visits();
+    let _units = job.units();
+    let Some(first) = workers.pop() else {
+        unreachable!()
+    };
+    let mut pass = take_first(job, first, hands, book);
+    while let Some(worker) = workers.pop() {
+        pass = take_next(job, claims, pass, worker, hands, book);
+    }
+    pass
+}
+
+/// Walks to the hub. It takes no memory.
+pub fn find_hub<J: Judge>(job: &Job, team: &mut Team<J>)
+    requires team { IsTeam job.now (vec_len team.old.hands) team.old }
+    ensures team { IsTeam job.now (vec_len team.old.hands) team.new }
+    ensures hub { team.new.hub ≡ hub_of job.now (draw job.now.setting.key) }
+{
+    let hand = &mut team.hands[0];
+    hand.walker.hub_into(job, team.hub.as_mut_slice());
+}
+
+/// Walks the trajectories with these ids, and adds their outcomes to the book. Each worker is a thread, where one can be started, and each
+/// id goes to whichever of them asks next; before it walks an id it tells the gate. It takes no memory, and the workers are as ready as
+/// before.
+pub fn walk_part<R: Threads + Sync, J: Judge + Send, G: Gate + Sync>(
+    rt: &Runtime<R, G>,
+    job: &Job,
+    todo: &[u32],
+    part: Part,
+    team: &mut Team<J>,
+    book: &mut Book,
+)
+    requires team { IsTeam job.now (vec_len team.old.hands) team.old }
+    requires part { IsFreshPart (length todo.now) (vec_len team.old.hands) part }
+    requires todo { LacksIds job.now book.old todo.now }
+    requires hub { ServesEnds job.now todo.now team.old.hub }
+    ensures team { IsTeam job.now (vec_len team.old.hands) team.new }
+    ensures hub { team.new.hub ≡ team.old.hub }
+    ensures total { book.new.total ≡ book.old.total }
+    ensures outcomes { IsPermutation book.new.outcomes (book.old.outcomes ++ map (found job.now) todo.now) }
+{
+    let Part { claims, pass } = part;
+    let hands = &mut team.hands;
+    let workers = &mut team.workers;
+    lend_all(job, &claims, pass, hands, workers);
+    run_all(
+        rt,
+        job,
+        todo,
+        team.hub.as_slice(),
+        &claims,
+        workers.as_mut_slice(),
+    );
+    let all = take_all(job, todo, &claims, workers, hands, book);
+    claims.close(all);
+}

@@ -1,0 +1,91 @@
+//! The trajectories of a run, walked by several threads.
+
+ghost use Rattle.std.specs.List.{AllPairs};
+ghost use Rattle.std.specs.Prelude.{◌≡◌, ◌+◌, ◌<◌, ◌≤◌, ◌++◌, ℕ, All, IsFalse, length, map, vec_len, IsPermutation};
+ghost use Rattle.audit_model.specs.Run.{run_ids, full};
+ghost use Rattle.audit_statement.specs.Draw.{draw};
+ghost use Rattle.claim_counter.specs.Crews.{IsCrew};
+ghost use Rattle.claim_counter.specs.Parts.{IsTeam};
+ghost use Rattle.claim_counter.specs.Walks.{found, LacksIds, ServesEnds};
+
+use crate::crew::Crew;
+use crate::parts::{Team, find_hub, walk_part};
+use crate::runtime::Runtime;
+use audit_io::gate::Gate;
+use audit_model::buffers::OutcomeList;
+use flip_guard::judge::Judge;
+use outcome_book::book::Book;
+use outcome_book::laws::outcomes_by_id_are_mapped;
+use plan_core::job::Job;
+use std::thread::Threads;
+
+/// Whether one of the ids is not below the bound.
+pub fn has_above(ids: &[u32], bound: u32) -> bool
+    ensures { IsFalse result → All (λ id. id < bound) ids.now }
+{
+    for id in ids {
+        if *id >= bound {
+            return true;
+        }
+    }
+    false
+}
+
+// Walks to the hub, where one of the trajectories starts from it.
+fn walk_hub<J: Judge>(job: &Job, todo: &[u32], team: &mut Team<J>)
+    requires team { IsTeam job.now (vec_len team.old.hands) team.old }
+    ensures team { IsTeam job.now (vec_len team.old.hands) team.new }
+    ensures hub { ServesEnds job.now todo.now team.new.hub }
+{
+    if has_above(todo, job.setting().walks) {
+        find_hub(job, team);
+    }
+}
+
+// Walks the trajectories with these ids, and adds their outcomes to the book.
+fn walk_all<R: Threads + Sync, J: Judge + Send, G: Gate + Sync>(
+    rt: &Runtime<R, G>,
+    job: &Job,
+    todo: &[u32],
+    crew: Crew<J>,
+    book: &mut Book,
+)
+    requires crew { IsCrew job.now (length todo.now) job.now.setting.workers crew }
+    requires todo { LacksIds job.now book.old todo.now }
+    ensures total { book.new.total ≡ book.old.total }
+    ensures outcomes { IsPermutation book.new.outcomes (book.old.outcomes ++ map (found job.now) todo.now) }
+{
+    let Crew { part, mut team } = crew;
+    walk_hub(job, todo, &mut team);
+    walk_part(rt, job, todo, part, &mut team, book);
+}
+
+/// Walks the trajectories with these ids, adds their outcomes to the book, and makes `out` the outcomes of the book by rising id. Each worker is a
+/// thread, where one can be started, and each id goes to whichever of them asks next; before it walks an id it tells the gate. It takes no memory.
+pub fn walk_run<R: Threads + Sync, J: Judge + Send, G: Gate + Sync>(
+    rt: &Runtime<R, G>,
+    job: &Job,
+    todo: &[u32],
+    crew: Crew<J>,
+    book: &mut Book,
+    out: &mut OutcomeList,
+)
+    requires crew { IsCrew job.now (length todo.now) job.now.setting.workers crew }
+    requires todo { LacksIds job.now book.old todo.now }
+    requires room { book.old.total ≤ length out.old.items + out.old.spare }
+    ensures total { book.new.total ≡ book.old.total }
+    ensures outcomes { IsPermutation book.new.outcomes (book.old.outcomes ++ map (found job.now) todo.now) }
+    ensures full { (budget : ℕ) → todo.now ≡ run_ids job.now book.old.outcomes budget
+        → out.new.items ≡ full job.now (draw job.now.setting.key) book.old.outcomes budget }
+    ensures rising { AllPairs (λ a b. a.id < b.id) out.new.items }
+    ensures all { IsPermutation out.new.items (book.old.outcomes ++ map (found job.now) todo.now) }
+    ensures room { length out.new.items + out.new.spare ≡ length out.old.items + out.old.spare }
+{
+    // Called for what its contract says: the book holds no more than it has room for.
+    let _kept = book.len();
+    walk_all(rt, job, todo, crew, book);
+    // Called for what their contracts say: the book holds no more than it has room for, and its outcomes by id are all that were walked.
+    let _all = book.len();
+    outcomes_by_id_are_mapped();
+    book.sorted_into(out);
+}

@@ -1,0 +1,50 @@
+//! One thread's part of a run.
+
+use crate::{Claims, Pass};
+use audit_io::gate::Gate;
+use audit_model::buffers::OutcomeList;
+use audit_model::outcome::Outcome;
+use flip_guard::judge::Judge;
+use plan_core::job::Job;
+use walker::walker::Walker;
+
+/// A walker, a pass, and room for the outcomes of all numbers that the pass may draw.
+#[derive(Drop)]
+pub struct Worker<J: Judge> {
+    pub walker: Walker<J>,
+    pub pass: Pass,
+    pub share: OutcomeList,
+}
+
+impl<J: Judge> Worker<J> {
+    ghost use Rattle.claim_counter.specs.Workers.{IsShared};
+    ghost use Rattle.claim_counter.specs.Parts.{IsBack, IsLent};
+
+    /// Draws places of `todo` until none is left, and walks the trajectories with the ids that stand there.
+    pub fn run<G: Gate>(&mut self, job: &Job, todo: &[u32], hub: &[u32], gate: &G, claims: &Claims)
+        requires lent { IsLent job.now claims.now self.old }
+        requires shared { IsShared job.now todo.now hub.now claims.now }
+        ensures { IsBack job.now todo.now claims.now self.new }
+    {
+        let walker = &mut self.walker;
+        let pass = &mut self.pass;
+        let share = &mut self.share;
+        while let Some(place) = claims.claim(pass) {
+            let id = todo[place as usize];
+            gate.before(id);
+            append(share, walker.walk(job, hub, id));
+        }
+    }
+}
+
+ghost use Rattle.std.specs.Prelude.{◌≡◌, ◌≤◌, ◌+◌, ◌++◌, [], ◌∷◌};
+
+// Appends an outcome for which there is room.
+fn append(share: &mut OutcomeList, outcome: Outcome)
+    requires { 1 ≤ share.old.spare }
+    ensures items { share.new.items ≡ share.old.items ++ outcome ∷ [] }
+    ensures spare { share.new.spare + 1 ≡ share.old.spare }
+{
+    // There is room, so it takes no memory and cannot fail.
+    let _ = share.push(outcome);
+}

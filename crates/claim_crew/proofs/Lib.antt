@@ -1,5 +1,0 @@
-pub mod Completing
-pub mod Crossing
-mod Fitting
-pub mod Gathering
-pub mod Sharing

@@ -1,8 +1,0 @@
-use denote.Exit.{no}
-use denote.Param.Send.{arg_send, param_send}
-use Rattle.claim_crew.specs.contracts.parts.run_all.{J-row}
-use Rattle.claim_crew.proofs.Crossing.{worker_send}
-use Rattle.claim_crew.proofs.parts.run_all.Goals as goal
-
-pub for_each_mut-requires-send-T : goal.for_each_mut-requires-send-T
-for_each_mut-requires-send-T g c κs within = param_send 1 _ (arg_send _ no _ (worker_send (J-row g.row.R g.row.J g.row.G) c.type_bounds.send-J))

@@ -1,4 +1,0 @@
-pub mod Crews
-pub mod Parts
-pub mod Walks
-pub mod Workers

@@ -1,0 +1,89 @@
+-- One more corner in the rows, and the rings of a list of faces.
+use Rattle.std.proofs.Common.{◌≡◌, ℕ, zero, suc, ◌+◌, ◌<◌, List, [], ◌∷◌, ◌++◌, length, get_or, set, take, map, refl, sym, ap, ◌∙◌, subst, inl, inr, arith, length-set, get_or-set_same, get_or-set_other}
+use Rattle.std.specs.Prelude.{◌==◌, All}
+use Rattle.std.proofs.lemmas.Bool.{cases_eq, eq-eqb, ne_eqb, cond-true, cond-false}
+use Rattle.std.proofs.lemmas.List.{append-nil, map_push, take_more, length_push}
+use Rattle.std.proofs.lemmas.List.Elements.{All-push}
+use Rattle.audit_model.specs.Graph.{Graph}
+use Rattle.contig.specs.Faces.{IsRing, AreFaces}
+use Rattle.contig.specs.Listed.{rings}
+use Rattle.contig.specs.Rings.{ring_of}
+use Rattle.contig.specs.declared.face.Face.{Face}
+use Rattle.contig.proofs.Listing.{rings_more}
+use Rattle.contig.specs.declared.corner.Corner.{Corner}
+use Rattle.contig.specs.Corners.{HasCorners, IsOnRow, units_of, with_corner}
+
+-- the rows with one more corner at u
+pub one_more : (g : Graph) (corners : ℕ → List (ℕ × ℕ × ℕ)) (rows new : List (List Corner)) (u : ℕ) (corner : Corner) (one other : ℕ)
+    → u < g.units → IsOnRow g (get_or g.neighbours u []) corner
+    → get_or (get_or g.neighbours u []) corner.one 0 ≡ one → get_or (get_or g.neighbours u []) corner.other 0 ≡ other
+    → new ≡ set rows u (get_or rows u [] ++ corner ∷ [])
+    → HasCorners g corners rows → HasCorners g (λ w. with_corner w (corners w) u (one, other, corner.far)) new
+one_more g corners rows new u corner one other lu placed is_one is_other is_new h = record {
+  width = ap length is_new ∙ length-set rows u (get_or rows u [] ++ corner ∷ []) ∙ h.width;
+  placed = λ w l. elim (cases_eq w u) [
+    | inl e ↦ subst (λ t. All (IsOnRow g (get_or g.neighbours t [])) (get_or new t [])) (sym e)
+        (subst (λ (xs : List Corner). All (IsOnRow g (get_or g.neighbours u [])) xs) (sym at_u)
+        (All-push (IsOnRow g (get_or g.neighbours u [])) (get_or rows u []) corner (h.placed u lu) placed))
+    | inr off ↦ subst (λ (xs : List Corner). All (IsOnRow g (get_or g.neighbours w [])) xs) (sym (off_u w off)) (h.placed w l)
+  ];
+  seen = λ w l. elim (cases_eq w u) [
+    | inl e ↦ subst (λ t. map (units_of (get_or g.neighbours t [])) (get_or new t []) ≡ with_corner t (corners t) u (one, other, corner.far)) (sym e)
+        (ap (map (units_of (get_or g.neighbours u []))) at_u
+        ∙ map_push (units_of (get_or g.neighbours u [])) (get_or rows u []) corner
+        ∙ ap (λ (xs : List (ℕ × ℕ × ℕ)). xs ++ units_of (get_or g.neighbours u []) corner ∷ []) (h.seen u lu)
+        ∙ ap (λ (t : ℕ × ℕ × ℕ). corners u ++ t ∷ []) same_units
+        ∙ ap (λ (xs : List (ℕ × ℕ × ℕ)). corners u ++ xs)
+        (sym (cond-true {A = List (ℕ × ℕ × ℕ)} (u == u) ((one, other, corner.far) ∷ []) [] (eq-eqb u u refl))))
+    | inr off ↦
+        ap (map (units_of (get_or g.neighbours w []))) (off_u w off)
+        ∙ h.seen w l
+        ∙ sym (append-nil (corners w))
+        ∙ ap (λ (xs : List (ℕ × ℕ × ℕ)). corners w ++ xs)
+        (sym (cond-false {A = List (ℕ × ℕ × ℕ)} (u == w) ((one, other, corner.far) ∷ []) [] (ne_eqb u w (λ e. off (sym e)))))
+  ];
+}
+  where
+    at_u : get_or new u [] ≡ get_or rows u [] ++ corner ∷ []
+    at_u = ap (λ (t : List (List Corner)). get_or t u []) is_new ∙ get_or-set_same rows u (get_or rows u [] ++ corner ∷ []) [] (subst (λ t. u < t) (sym h.width) lu)
+
+    off_u : (w : ℕ) → (w ≡ u → ⊥) → get_or new w [] ≡ get_or rows w []
+    off_u w off = ap (λ (t : List (List Corner)). get_or t w []) is_new ∙ get_or-set_other rows u w (get_or rows u [] ++ corner ∷ []) [] off
+
+    same_units : units_of (get_or g.neighbours u []) corner ≡ (one, other, corner.far)
+    same_units = ap (λ t. (t, get_or (get_or g.neighbours u []) corner.other 0, corner.far)) is_one ∙ ap (λ t. (one, t, corner.far)) is_other
+
+-- ---- the rings of a list of faces
+
+abbrev AllRings : Graph → List (List ℕ) → Type 0
+AllRings g [] = Unit {0}
+AllRings g (ring ∷ later) = IsRing g ring × AllRings g later
+
+-- faces of a graph are rings of it, all of them
+all_rings : (g : Graph) (faces : List (List ℕ)) → AreFaces g faces → AllRings g faces
+all_rings g [] are = tt
+all_rings g (face ∷ later) are = (are.0, all_rings g later are.2)
+
+-- where all of a list with one more are rings, the list is, and the one more
+rings_split : (g : Graph) (rest : List (List ℕ)) (ring : List ℕ) → AllRings g (rest ++ ring ∷ []) → AllRings g rest × IsRing g ring
+rings_split g [] ring h = (tt, h.0)
+rings_split g (face ∷ rest) ring h = let more = rings_split g rest ring h.1 in ((h.0, more.0), more.1)
+
+-- where all are rings, the face at a place is one
+ring_in : (g : Graph) (faces : List Face) (k : ℕ) (d : Face) → k < length faces → AllRings g (rings faces) → IsRing g (ring_of (get_or faces k d))
+ring_in g [] k d l h = absurd (omega arith)
+ring_in g (face ∷ later) zero d l h = (rings_split g (rings later) (ring_of face) h).1
+ring_in g (face ∷ later) (suc k) d l h = ring_in g later k d (omega arith) (rings_split g (rings later) (ring_of face) h).0
+
+-- the face at a place of faces of a graph is a ring of it
+pub ring_at : (g : Graph) (faces : List Face) (k : ℕ) (d : Face) → k < length faces → AreFaces g (rings faces) → IsRing g (ring_of (get_or faces k d))
+ring_at g faces k d l are = ring_in g faces k d l (all_rings g (rings faces) are)
+
+-- the rings of one face more are that face before those of the faces so far
+pub rings_step : (faces : List Face) (k : ℕ) (d : Face) → k < length faces → rings (take (k + 1) faces) ≡ ring_of (get_or faces k d) ∷ rings (take k faces)
+rings_step faces k d l = ap rings (take_more faces k d l) ∙ rings_more (take k faces) (get_or faces k d)
+
+-- there is one ring for each face
+pub rings_length : (faces : List Face) → length (rings faces) ≡ length faces
+rings_length [] = refl
+rings_length (face ∷ later) = omega (arith, length_push (rings later) (ring_of face), rings_length later)

@@ -1,0 +1,192 @@
+-- Faces that a program tests and lists.
+use Rattle.std.proofs.Common.{◌≡◌, ℕ, ◌<◌, Bool, true, false, not, ◌||◌, List, [], ◌∷◌, ◌++◌, refl, sym, ap, ◌∙◌, subst, inl, inr, arith}
+use Rattle.std.specs.Prelude.{◌==◌, nat_lt}
+use Rattle.std.specs.List.{list_any}
+use Rattle.std.proofs.lemmas.Bool.{and_parts, or_cases, cases_order, cond-true, cond-false, lt-ltb, le-ltb, false_from_ne_true, or_from, ltb-true, eqb-true, eq-eqb, not-true, both_ways, false≢true}
+use Rattle.audit_model.specs.Graph.{Graph, IsGraph, adjacent}
+use Rattle.audit_model.specs.Local.{IsSimple}
+use Rattle.contig.proofs.Rings.{pair_is}
+use Rattle.contig.specs.declared.face.Face.{Face}
+use Rattle.contig.specs.declared.face.Face.TheVariants.{Triangle, Square}
+use Rattle.contig.specs.Faces.{is_pair, has_side, IsRing, OwnsSide, AreFaces}
+use Rattle.contig.specs.Listed.{rings, side, own_side}
+use Rattle.contig.specs.Rings.{ring_of, goes_round}
+
+-- what is not one way round is not the other
+swapped : (a b : ℕ) → (a == b) ≡ false → (b == a) ≡ false
+swapped a b h = go (b == a) refl
+  where
+    go : (c : Bool) → (b == a) ≡ c → c ≡ false
+    go true e = absurd (both_ways (a == b) h (subst (λ k. (a == k) ≡ true) (sym (eqb-true b a e)) (eq-eqb a a refl)))
+    go false e = refl
+
+-- a pair of adjacent units is adjacent either way
+pair_near : (g : Graph) (a b x y : ℕ) → IsSimple g → adjacent g a b ≡ true → is_pair a b x y ≡ true → adjacent g x y ≡ true
+pair_near g a b x y simple near h = elim (pair_is a b x y h) [
+  | inl e ↦ subst (λ k. adjacent g x k ≡ true) e.1 (subst (λ k. adjacent g k b ≡ true) e.0 near)
+  | inr e ↦ subst (λ k. adjacent g x k ≡ true) e.0 (subst (λ k. adjacent g k a ≡ true) e.1 (simple.symmetric b a ∙ near))
+]
+
+-- what passes the test is a ring
+pub goes_round_ring : (g : Graph) (face : Face) → IsSimple g → goes_round g face ≡ true → IsRing g (ring_of face)
+goes_round_ring g (Triangle a b c) simple h =
+    let h1 = and_parts (nat_lt a g.units) _ h in
+    let h2 = and_parts (nat_lt b g.units) _ h1.1 in
+    let h3 = and_parts (nat_lt c g.units) _ h2.1 in
+    let h4 = and_parts (not (a == b)) _ h3.1 in
+    let h5 = and_parts (not (a == c)) _ h4.1 in
+    let h6 = and_parts (not (b == c)) _ h5.1 in
+    let h7 = and_parts (adjacent g a b) _ h6.1 in
+    let h8 = and_parts (adjacent g b c) (adjacent g c a) h7.1 in
+    record {
+      size = inl refl;
+      apart = (
+        or_from (b == a) (c == a || false) (swapped a b (not-true (a == b) h4.0)) (or_from (c == a) false (swapped a c (not-true (a == c) h5.0)) refl),
+        (or_from (c == b) false (swapped b c (not-true (b == c) h6.0)) refl, (refl, tt)),
+      );
+      below = λ v m. elim (or_cases (a == v) ((b == v) || ((c == v) || false)) m) [
+        | inl e ↦ subst (λ k. k < g.units) (eqb-true a v e) (ltb-true a g.units h1.0)
+        | inr m' ↦ elim (or_cases (b == v) ((c == v) || false) m') [
+          | inl e ↦ subst (λ k. k < g.units) (eqb-true b v e) (ltb-true b g.units h2.0)
+          | inr n ↦ elim (or_cases (c == v) false n) [
+            | inl e ↦ subst (λ k. k < g.units) (eqb-true c v e) (ltb-true c g.units h3.0)
+            | inr z ↦ absurd (false≢true z)
+          ]
+        ]
+      ];
+      sides = λ x y s. elim (or_cases (is_pair a b x y || is_pair b c x y) (is_pair c a x y) s) [
+        | inl e ↦ elim (or_cases (is_pair a b x y) (is_pair b c x y) e) [
+          | inl f ↦ pair_near g a b x y simple h7.0 f
+          | inr f ↦ pair_near g b c x y simple h8.0 f
+        ]
+        | inr f ↦ pair_near g c a x y simple h8.1 f
+      ];
+    }
+goes_round_ring g (Square a b c d) simple h =
+    let h1 = and_parts (nat_lt a g.units) _ h in
+    let h2 = and_parts (nat_lt b g.units) _ h1.1 in
+    let h3 = and_parts (nat_lt c g.units) _ h2.1 in
+    let h4 = and_parts (nat_lt d g.units) _ h3.1 in
+    let ab = and_parts (not (a == b)) _ h4.1 in
+    let ac = and_parts (not (a == c)) _ ab.1 in
+    let ad = and_parts (not (a == d)) _ ac.1 in
+    let bc = and_parts (not (b == c)) _ ad.1 in
+    let bd = and_parts (not (b == d)) _ bc.1 in
+    let cd = and_parts (not (c == d)) _ bd.1 in
+    let n1 = and_parts (adjacent g a b) _ cd.1 in
+    let n2 = and_parts (adjacent g b c) _ n1.1 in
+    let n3 = and_parts (adjacent g c d) (adjacent g d a) n2.1 in
+    record {
+      size = inr refl;
+      apart = (
+        or_from (b == a) (c == a || (d == a || false)) (swapped a b (not-true (a == b) ab.0))
+            (or_from (c == a) (d == a || false) (swapped a c (not-true (a == c) ac.0)) (or_from (d == a) false (swapped a d (not-true (a == d) ad.0)) refl)),
+        (
+          or_from (c == b) (d == b || false) (swapped b c (not-true (b == c) bc.0)) (or_from (d == b) false (swapped b d (not-true (b == d) bd.0)) refl),
+          (or_from (d == c) false (swapped c d (not-true (c == d) cd.0)) refl, (refl, tt)),
+        ),
+      );
+      below = λ v m. elim (or_cases (a == v) ((b == v) || ((c == v) || ((d == v) || false))) m) [
+        | inl e ↦ subst (λ k. k < g.units) (eqb-true a v e) (ltb-true a g.units h1.0)
+        | inr m' ↦ elim (or_cases (b == v) ((c == v) || ((d == v) || false)) m') [
+          | inl e ↦ subst (λ k. k < g.units) (eqb-true b v e) (ltb-true b g.units h2.0)
+          | inr n ↦ elim (or_cases (c == v) ((d == v) || false) n) [
+            | inl e ↦ subst (λ k. k < g.units) (eqb-true c v e) (ltb-true c g.units h3.0)
+            | inr n' ↦ elim (or_cases (d == v) false n') [
+              | inl e ↦ subst (λ k. k < g.units) (eqb-true d v e) (ltb-true d g.units h4.0)
+              | inr z ↦ absurd (false≢true z)
+            ]
+          ]
+        ]
+      ];
+      sides = λ x y s. elim (or_cases (is_pair a b x y || is_pair b c x y || is_pair c d x y) (is_pair d a x y) s) [
+        | inl e ↦ elim (or_cases (is_pair a b x y || is_pair b c x y) (is_pair c d x y) e) [
+          | inl e' ↦ elim (or_cases (is_pair a b x y) (is_pair b c x y) e') [
+            | inl f ↦ pair_near g a b x y simple n1.0 f
+            | inr f ↦ pair_near g b c x y simple n2.0 f
+          ]
+          | inr f ↦ pair_near g c d x y simple n3.0 f
+        ]
+        | inr f ↦ pair_near g d a x y simple n3.1 f
+      ];
+    }
+
+-- ---- sides
+
+-- a side is the same whichever of its units is named first
+side_turned : (x y : ℕ) → side x y ≡ side y x
+side_turned x y = elim (cases_order x y) [
+  | inl e ↦ subst (λ k. side x k ≡ side k x) e refl
+  | inr o ↦ elim o [
+    | inl l ↦ cond-true {A = ℕ × ℕ} (nat_lt x y) (x, y) (y, x) (lt-ltb x y l)
+        ∙ sym (cond-false {A = ℕ × ℕ} (nat_lt y x) (y, x) (x, y) (le-ltb y x (omega (arith, l))))
+    | inr l ↦ cond-false {A = ℕ × ℕ} (nat_lt x y) (x, y) (y, x) (le-ltb x y (omega (arith, l)))
+        ∙ sym (cond-true {A = ℕ × ℕ} (nat_lt y x) (y, x) (x, y) (lt-ltb y x l))
+  ]
+]
+
+-- the same two units are the same side
+pub pair_side : (a b x y : ℕ) → is_pair a b x y ≡ true → side a b ≡ side x y
+pair_side a b x y h = elim (pair_is a b x y h) [
+  | inl e ↦ ap (λ k. side k b) e.0 ∙ ap (λ k. side x k) e.1
+  | inr e ↦ ap (λ k. side k b) e.0 ∙ ap (λ k. side y k) e.1 ∙ side_turned y x
+]
+
+-- where its sides pass a test, so do those of all pairs on a side
+pub triangle_sides : (test : ℕ × ℕ → Bool) (a b c : ℕ) → test (side a b) ≡ true → test (side b c) ≡ true → test (side c a) ≡ true
+    → (x y : ℕ) → has_side (a ∷ b ∷ c ∷ []) x y ≡ true → test (side x y) ≡ true
+triangle_sides test a b c ab bc ca x y h = elim (or_cases (is_pair a b x y || is_pair b c x y) (is_pair c a x y) h) [
+  | inl e ↦ elim (or_cases (is_pair a b x y) (is_pair b c x y) e) [
+    | inl f ↦ subst (λ k. test k ≡ true) (pair_side a b x y f) ab
+    | inr f ↦ subst (λ k. test k ≡ true) (pair_side b c x y f) bc
+  ]
+  | inr f ↦ subst (λ k. test k ≡ true) (pair_side c a x y f) ca
+]
+
+-- what holds of the four sides of a square holds of each pair that follows on it
+pub square_sides : (test : ℕ × ℕ → Bool) (a b c d : ℕ) → test (side a b) ≡ true → test (side b c) ≡ true → test (side c d) ≡ true → test (side d a) ≡ true
+    → (x y : ℕ) → has_side (a ∷ b ∷ c ∷ d ∷ []) x y ≡ true → test (side x y) ≡ true
+square_sides test a b c d ab bc cd da x y h = elim (or_cases (is_pair a b x y || is_pair b c x y || is_pair c d x y) (is_pair d a x y) h) [
+  | inl e ↦ elim (or_cases (is_pair a b x y || is_pair b c x y) (is_pair c d x y) e) [
+    | inl e' ↦ elim (or_cases (is_pair a b x y) (is_pair b c x y) e') [
+      | inl f ↦ subst (λ k. test k ≡ true) (pair_side a b x y f) ab
+      | inr f ↦ subst (λ k. test k ≡ true) (pair_side b c x y f) bc
+    ]
+    | inr f ↦ subst (λ k. test k ≡ true) (pair_side c d x y f) cd
+  ]
+  | inr f ↦ subst (λ k. test k ≡ true) (pair_side d a x y f) da
+]
+
+-- ---- one face more
+
+-- a face appended to a list is the first of its rings
+pub rings_more : (faces : List Face) (face : Face) → rings (faces ++ face ∷ []) ≡ ring_of face ∷ rings faces
+rings_more [] face = refl
+rings_more (first ∷ faces) face = ap (λ (l : List (List ℕ)). l ++ ring_of first ∷ []) (rings_more faces face)
+
+-- a face whose own side is not there owns it
+pub owns : (faces : List (List ℕ)) (there : ℕ × ℕ → Bool) (face : Face) → ((x y : ℕ) → list_any (λ f. has_side f x y) faces ≡ true → there (side x y) ≡ true)
+    → there (own_side face) ≡ false → OwnsSide (ring_of face) faces
+owns faces there (Triangle a b c) holds new = false_from_ne_true (list_any (λ f. has_side f a b) faces) (λ h. both_ways (there (side a b)) new (holds a b h))
+owns faces there (Square a b c d) holds new = false_from_ne_true (list_any (λ f. has_side f a b) faces) (λ h. both_ways (there (side a b)) new (holds a b h))
+
+-- the sides of one face more are in the set
+pub holds_more : (faces new : List Face) (face : Face) (before after : ℕ × ℕ → Bool) → new ≡ faces ++ face ∷ []
+    → ((x y : ℕ) → list_any (λ f. has_side f x y) (rings faces) ≡ true → before (side x y) ≡ true) → ((q : ℕ × ℕ) → before q ≡ true → after q ≡ true)
+    → ((x y : ℕ) → has_side (ring_of face) x y ≡ true → after (side x y) ≡ true)
+    → (x y : ℕ) → list_any (λ f. has_side f x y) (rings new) ≡ true → after (side x y) ≡ true
+holds_more faces new face before after e holds kept there x y h =
+    let at : list_any (λ f. has_side f x y) (ring_of face ∷ rings faces) ≡ true =
+    subst (λ (l : List (List ℕ)). list_any (λ f. has_side f x y) l ≡ true) (ap rings e ∙ rings_more faces face) h in
+    elim (or_cases (has_side (ring_of face) x y) (list_any (λ f. has_side f x y) (rings faces)) at) [
+      | inl f ↦ there x y f
+      | inr f ↦ kept (side x y) (holds x y f)
+    ]
+
+-- a ring whose own side no face has can be put in front of the faces
+pub faces_more : (g : Graph) (faces new : List Face) (face : Face) (there : ℕ × ℕ → Bool) → new ≡ faces ++ face ∷ [] → IsGraph g → goes_round g face ≡ true
+    → ((x y : ℕ) → list_any (λ f. has_side f x y) (rings faces) ≡ true → there (side x y) ≡ true) → there (own_side face) ≡ false
+    → AreFaces g (rings faces) → AreFaces g (rings new)
+faces_more g faces new face there e sound round holds fresh are =
+    subst (AreFaces g) (sym (ap rings e ∙ rings_more faces face))
+    (goes_round_ring g face (record { symmetric = sound.symmetric; loopless = sound.loopless }) round, owns (rings faces) there face holds fresh, are)

@@ -1,0 +1,25 @@
+-- The rings that faces of a program stand for.
+use Rattle.std.specs.Prelude.{ℕ, Bool, not, ◌&&◌, ◌==◌, nat_lt, List, [], ◌∷◌}
+use Rattle.audit_model.specs.Graph.{Graph, adjacent}
+use Rattle.contig.specs.declared.face.Face.{Face}
+use Rattle.contig.specs.declared.face.Face.TheVariants.{Triangle, Square}
+
+-- the units of a face in order
+abbrev pub ring_of : Face → List ℕ
+ring_of (Triangle a b c) = a ∷ b ∷ c ∷ []
+ring_of (Square a b c d) = a ∷ b ∷ c ∷ d ∷ []
+
+-- whether the units are different ones of the graph, each adjacent to the next and the last to the first
+abbrev pub goes_round : Graph → Face → Bool
+goes_round g (Triangle a b c) =
+    nat_lt a g.units && (nat_lt b g.units && (nat_lt c g.units && (not (a == b) && (not (a == c) && (not (b == c)
+    && (adjacent g a b && (adjacent g b c && adjacent g c a)))))))
+goes_round g (Square a b c d) =
+    nat_lt a g.units && (nat_lt b g.units && (nat_lt c g.units && (nat_lt d g.units
+    && (not (a == b) && (not (a == c) && (not (a == d) && (not (b == c) && (not (b == d) && (not (c == d)
+    && (adjacent g a b && (adjacent g b c && (adjacent g c d && adjacent g d a))))))))))))
+
+-- the same ring from its second unit on
+abbrev pub turned : Face → Face
+turned (Triangle a b c) = Triangle b c a
+turned (Square a b c d) = Square b c d a

@@ -1,0 +1,19 @@
+//! Classes of numbered things: things with one number are of one class.
+
+ghost use Rattle.std.specs.Prelude.{◌<◌, length};
+ghost use Rattle.audit_model.specs.Replaced.{Replaced};
+
+/// Gives the things of one class the number of another thing's.
+#[inline]
+pub fn join(classes: &mut [u8], from: usize, into: usize)
+    requires from { from < length classes.old }
+    requires into { into < length classes.old }
+    ensures { Replaced classes.old classes.new from into }
+{
+    let old = classes[from];
+    let new = classes[into];
+    for class in classes.iter_mut() {
+        let before = *class;
+        *class = if before == old { new } else { before };
+    }
+}

@@ -1,0 +1,196 @@
+//! What is counted in each district, as its units move.
+
+ghost use Rattle.std.specs.Prelude.{◌≡◌, ◌≢◌, ℕ, ◌+◌, ◌-◌, ◌<◌, ◌≤◌, ◌↔◌, length, replicate, slice_index, slice_set, count_by, IsTrue, IfOk};
+ghost use Rattle.contig.specs.Corners.{is_filled, corners_at};
+ghost use Rattle.contig.specs.Counts.{AreCounts, HasNoHole, is_before};
+ghost use Rattle.contig.specs.Faces.{count_mates};
+ghost use Rattle.audit_model.specs.Limits.{most_edges};
+
+use crate::table::FaceTable;
+use audit_model::memory::Memory;
+use dual_graph::graph::Graph;
+use dual_graph::member::Member;
+use std::alloc::Global;
+use std::marker::Model;
+
+/// For each district its inner edges, and its units and inner faces together.
+#[derive(Drop)]
+pub struct FaceCounts {
+    edges: Vec<u64>,
+    filled: Vec<u64>,
+}
+
+impl Model for FaceCounts {
+    ghost use Rattle.std.specs.Prelude.{◌≡◌, length};
+    ghost use Rattle.contig.specs.Counts.{Counted};
+
+    ghost Value = { Counted };
+
+    ghost view = { λ c. record { edges = c.edges.items; filled = c.filled.items } };
+
+    ghost invariant = { λ c. length c.filled.items ≡ length c.edges.items };
+}
+
+impl FaceCounts {
+    /// Zeros, for so many districts.
+    fn zeros(alloc: Global, districts: u32) -> Result<FaceCounts, Memory>
+        ensures edges { IfOk result (λ c. length c.edges ≡ districts) }
+        ensures filled { IfOk result (λ c. length c.filled ≡ districts) }
+    {
+        Ok(FaceCounts {
+            edges: vec![in alloc; 0; districts as usize]?,
+            filled: vec![in alloc; 0; districts as usize]?,
+        })
+    }
+
+    /// The counts of a plan's districts.
+    pub fn new(
+        alloc: Global,
+        graph: &Graph,
+        table: &FaceTable,
+        districts: u32,
+        plan: &[u32],
+    ) -> Result<FaceCounts, Memory>
+        requires made { table.now.graph ≡ graph.now }
+        requires plan { length plan.now ≡ graph.now.units }
+        requires in_range { (u : ℕ) → u < graph.now.units → slice_index plan.now u < districts }
+        ensures { IfOk result (λ c. AreCounts graph.now table.now.faces districts plan.now c) }
+    {
+        let mut counts = FaceCounts::zeros(alloc, districts)?;
+        counts.reset(graph, table, plan);
+        Ok(counts)
+    }
+
+    /// Makes all counts 0.
+    fn clear(&mut self)
+        ensures edges { self.new.edges ≡ replicate (length self.old.edges) 0 }
+        ensures filled { self.new.filled ≡ replicate (length self.old.edges) 0 }
+    {
+        self.edges.fill(0);
+        self.filled.fill(0);
+    }
+
+    /// Counts a unit with so many mates and inner corners into a district.
+    #[inline]
+    fn raise(&mut self, district: u32, mates: u64, corners: u64)
+        requires district { district < length self.old.edges }
+        requires edges { slice_index self.old.edges district + mates ≤ most_edges }
+        requires filled { slice_index self.old.filled district + 1 + corners ≤ 4100000 }
+        ensures edges { self.new.edges ≡ slice_set self.old.edges district (slice_index self.old.edges district + mates) }
+        ensures filled { self.new.filled ≡ slice_set self.old.filled district (slice_index self.old.filled district + 1 + corners) }
+    {
+        self.edges[district as usize] += mates;
+        self.filled[district as usize] += 1 + corners;
+    }
+
+    /// Counts a unit with so many mates and inner corners out of a district.
+    #[inline]
+    fn lower(&mut self, district: u32, mates: u64, corners: u64)
+        requires district { district < length self.old.edges }
+        requires edges { mates ≤ slice_index self.old.edges district }
+        requires filled { 1 + corners ≤ slice_index self.old.filled district }
+        ensures edges { self.new.edges ≡ slice_set self.old.edges district (slice_index self.old.edges district - mates) }
+        ensures filled { self.new.filled ≡ slice_set self.old.filled district (slice_index self.old.filled district - (1 + corners)) }
+    {
+        self.edges[district as usize] -= mates;
+        let before = self.filled[district as usize];
+        self.filled[district as usize] = before - (1 + corners);
+    }
+
+    /// Makes the counts those of another plan. It takes no memory.
+    pub fn reset(&mut self, graph: &Graph, table: &FaceTable, plan: &[u32])
+        requires made { table.now.graph ≡ graph.now }
+        requires plan { length plan.now ≡ graph.now.units }
+        requires in_range { (u : ℕ) → u < graph.now.units → slice_index plan.now u < length self.old.edges }
+        ensures { AreCounts graph.now table.now.faces (length self.old.edges) plan.now self.new }
+    {
+        // Called for what their contracts say: the table's faces are the graph's, and few, and the graph has at most 400,000 edges.
+        let _units = table.units();
+        let _edges = graph.edges();
+        self.clear();
+        for unit in 0..graph.units() {
+            let member = Member { graph, plan, unit };
+            let district = plan[unit as usize];
+            let mates = mates_in(member, district, unit);
+            let corners = corners_in(member, table, district, unit);
+            self.raise(district, mates, corners);
+        }
+    }
+
+    /// Follows a unit that will move from its district to another one. It reads the unit's neighbours and faces alone,
+    /// and takes no memory.
+    pub fn follow(&mut self, table: &FaceTable, leaving: Member, district: u32)
+        requires made { table.now.graph ≡ leaving.graph.now }
+        requires home { slice_index leaving.plan.now leaving.unit < length self.old.edges }
+        requires district { district < length self.old.edges }
+        requires elsewhere { slice_index leaving.plan.now leaving.unit ≢ district }
+        requires counts { AreCounts leaving.graph.now table.now.faces (length self.old.edges) leaving.plan.now self.old }
+        ensures { AreCounts leaving.entry.graph.now table.now.faces (length self.old.edges) (slice_set leaving.entry.plan.now leaving.entry.unit district) self.new }
+    {
+        let units = leaving.graph.units();
+        // Called for what their contracts say: the graph has at most 400,000 edges, and the table's faces are the graph's, and few.
+        let _edges = leaving.graph.edges();
+        let _units = table.units();
+        let home = leaving.plan[leaving.unit as usize];
+        self.lower(
+            home,
+            mates_in(leaving, home, units),
+            corners_in(leaving, table, home, units),
+        );
+        self.raise(
+            district,
+            mates_in(leaving, district, units),
+            corners_in(leaving, table, district, units),
+        );
+    }
+
+    /// Whether a district's counts say that it has no hole.
+    #[inline]
+    pub fn has_no_hole(&self, district: u32) -> bool
+        requires { district < length self.now.edges }
+        ensures { IsTrue result ↔ HasNoHole self.now district }
+    {
+        self.edges[district as usize] < self.filled[district as usize]
+    }
+}
+
+/// How many neighbours of a unit are in a district, of the units before an end.
+#[inline]
+fn mates_in(member: Member, district: u32, end: u32) -> u64
+    ensures { result ≡ count_mates member.entry.graph.now (is_before member.entry.plan.now end district) member.entry.unit }
+{
+    let plan = member.plan;
+    let mut count = 0;
+    for other in member.graph.neighbours(member.unit) {
+        if plan[*other as usize] == district && *other < end {
+            count += 1;
+        }
+    }
+    count
+}
+
+/// How many faces at a unit have all their other units in a district, of the units before an end.
+#[inline]
+fn corners_in(member: Member, table: &FaceTable, district: u32, end: u32) -> u64
+    requires { table.now.graph ≡ member.graph.now }
+    ensures { result ≡ count_by (is_filled (is_before member.entry.plan.now end district)) (corners_at member.entry.unit table.now.faces) }
+{
+    let plan = member.plan;
+    let row = member.graph.neighbours(member.unit);
+    let mut count = 0;
+    for corner in table.at(member.unit) {
+        let one = row[corner.one as usize];
+        let other = row[corner.other as usize];
+        let far = corner.far;
+        if plan[one as usize] == district
+            && one < end
+            && plan[other as usize] == district
+            && other < end
+            && plan[far as usize] == district
+            && far < end
+        {
+            count += 1;
+        }
+    }
+    count
+}

@@ -1,0 +1,61 @@
+//! Rings of three or four units.
+
+ghost use Rattle.std.specs.Prelude.{◌≡◌};
+ghost use Rattle.contig.specs.Rings.{goes_round, turned};
+
+use dual_graph::graph::Graph;
+
+/// The units of a ring in order. Its own side is that between the first two.
+#[derive(Clone, Copy, Debug, PartialEq, Eq)]
+pub enum Face {
+    Triangle(u32, u32, u32),
+    Square(u32, u32, u32, u32),
+}
+
+impl Face {
+    /// Whether the units are different ones of the graph, each adjacent to the next and the last to the first.
+    pub fn is_ring(&self, graph: &Graph) -> bool
+        ensures { result ≡ goes_round graph.now self.now }
+    {
+        let n = graph.units();
+        match *self {
+            Face::Triangle(a, b, c) => {
+                a < n
+                    && b < n
+                    && c < n
+                    && a != b
+                    && a != c
+                    && b != c
+                    && graph.adjacent(a, b)
+                    && graph.adjacent(b, c)
+                    && graph.adjacent(c, a)
+            }
+            Face::Square(a, b, c, d) => {
+                a < n
+                    && b < n
+                    && c < n
+                    && d < n
+                    && a != b
+                    && a != c
+                    && a != d
+                    && b != c
+                    && b != d
+                    && c != d
+                    && graph.adjacent(a, b)
+                    && graph.adjacent(b, c)
+                    && graph.adjacent(c, d)
+                    && graph.adjacent(d, a)
+            }
+        }
+    }
+
+    /// The same ring from its second unit on.
+    pub fn turned(self) -> Face
+        ensures { result ≡ turned self }
+    {
+        match self {
+            Face::Triangle(a, b, c) => Face::Triangle(b, c, a),
+            Face::Square(a, b, c, d) => Face::Square(b, c, d, a),
+        }
+    }
+}

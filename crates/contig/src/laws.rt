@@ -1,0 +1,49 @@
+//! Laws of faces, each the contract of a function that does nothing.
+
+ghost use Rattle.std.specs.Prelude.{◌≡◌, ◌≢◌, ◌&&◌, ◌==◌, ◌+◌, ◌<◌, ◌≤◌, ℕ, Bool, not, List, IsTrue, slice_index};
+ghost use Rattle.audit_model.specs.Graph.{Graph, adjacent, IsIn};
+ghost use Rattle.audit_model.specs.Local.{IsSimple, is_mate, MayLeave};
+ghost use Rattle.audit_model.specs.Path.{HasPath, IsConnected};
+ghost use Rattle.audit_model.specs.Plan.{in_district};
+ghost use Rattle.contig.specs.Faces.{AreFaces, AreLinked, IsClassing, count_units, count_inner_edges, count_inner_faces, without_unit, count_mates, count_inner_faces_at};
+
+/// Where a connected set has no hole, two neighbours of a unit that are of different classes are apart without it.
+pub fn classes_part_mates()
+    ensures { (g : Graph) (faces : List (List ℕ)) (inside : ℕ → Bool) (u x y : ℕ) (class : ℕ → ℕ) →
+        IsSimple g → AreFaces g faces → IsConnected g inside → IsIn g inside u →
+        count_inner_edges g inside + 1 ≤ count_units g inside + count_inner_faces inside faces →
+        IsClassing faces inside u class →
+        IsIn g inside x → IsTrue (adjacent g u x) → IsIn g inside y → IsTrue (adjacent g u y) → class x ≢ class y →
+        HasPath g (λ v. inside v && not (v == u)) x y → ⊥ }
+{}
+
+/// The same of a unit and its district: where the district has no hole, and two mates are of different classes, the unit may not leave.
+pub fn parting_units_may_not_leave()
+    ensures { (g : Graph) (faces : List (List ℕ)) (plan : List ℕ) (u x y : ℕ) (class : ℕ → ℕ) →
+        IsSimple g → AreFaces g faces → u < g.units → IsConnected g (in_district plan (slice_index plan u)) →
+        count_inner_edges g (in_district plan (slice_index plan u)) + 1
+        ≤ count_units g (in_district plan (slice_index plan u)) + count_inner_faces (in_district plan (slice_index plan u)) faces →
+        IsClassing faces (in_district plan (slice_index plan u)) u class →
+        IsIn g (is_mate g plan u) x → IsIn g (is_mate g plan u) y → class x ≢ class y → MayLeave g plan u → ⊥ }
+{}
+
+/// What the three counts of a set are more than those of the set without a unit of it.
+pub fn counts_with_a_unit()
+    ensures units { (g : Graph) (inside : ℕ → Bool) (u : ℕ) → IsIn g inside u →
+        count_units g inside ≡ count_units g (without_unit inside u) + 1 }
+    ensures edges { (g : Graph) (inside : ℕ → Bool) (u : ℕ) → IsSimple g → IsIn g inside u →
+        count_inner_edges g inside ≡ count_inner_edges g (without_unit inside u) + count_mates g inside u }
+    ensures faces { (inside : ℕ → Bool) (u : ℕ) (faces : List (List ℕ)) →
+        count_inner_faces inside faces ≡ count_inner_faces (without_unit inside u) faces + count_inner_faces_at u inside faces }
+{}
+
+/// A unit whose mates are linked through faces may leave; where its district has no hole, no other unit may.
+pub fn linked_units_may_leave()
+    ensures linked { (g : Graph) (faces : List (List ℕ)) (plan : List ℕ) (u : ℕ) →
+        IsSimple g → AreFaces g faces → IsConnected g (in_district plan (slice_index plan u)) → AreLinked g faces plan u → MayLeave g plan u }
+    ensures unlinked { (g : Graph) (faces : List (List ℕ)) (plan : List ℕ) (u : ℕ) →
+        IsSimple g → AreFaces g faces → u < g.units → IsConnected g (in_district plan (slice_index plan u)) →
+        count_inner_edges g (in_district plan (slice_index plan u)) + 1
+        ≤ count_units g (in_district plan (slice_index plan u)) + count_inner_faces (in_district plan (slice_index plan u)) faces →
+        MayLeave g plan u → AreLinked g faces plan u }
+{}

@@ -1,0 +1,106 @@
+//! Whether the neighbours of a unit in its district are linked through faces.
+
+ghost use Rattle.std.specs.Prelude.{◌≡◌, ◌≢◌, ◌<◌, ◌≤◌, ◌↔◌, ℕ, List, [], length, map, slice_index, All, IsTrue, IsFalse, MatchOption};
+ghost use Rattle.std.specs.List.{slice_index_or};
+ghost use Rattle.audit_model.specs.Graph.{IsGraph, IsIn};
+ghost use Rattle.audit_model.specs.Local.{is_mate};
+ghost use Rattle.contig.specs.Corners.{IsOnRow, units_of, corners_at};
+ghost use Rattle.contig.specs.Links.{AreClasses, AreMerged, is_inner};
+ghost use Rattle.contig.specs.Faces.{AreFaces, AreLinked};
+ghost use Rattle.audit_model.specs.Replaced.{Replaced};
+
+use crate::classes::join;
+use crate::corner::Corner;
+use dual_graph::member::Member;
+
+/// A unit with more neighbours is not asked.
+pub const MOST: usize = 32;
+
+/// Whether the neighbours of a unit in its district are linked, one to the next, through faces inside it.
+pub fn are_linked(leaving: Member, corners: &[Corner]) -> bool
+    requires few { length (slice_index_or leaving.graph.now.neighbours leaving.unit []) ≤ 32 }
+    requires placed { All (IsOnRow leaving.graph.now (slice_index_or leaving.graph.now.neighbours leaving.unit [])) corners.now }
+    ensures { let g = leaving.entry.graph.now in let u = leaving.entry.unit in
+        (faces : List (List ℕ)) → AreFaces g faces → map (units_of (slice_index_or g.neighbours u [])) corners.now ≡ corners_at u faces → IsTrue result ↔ AreLinked g faces leaving.entry.plan.now u }
+{
+    match first_mate(leaving) {
+        None => false,
+        Some(first) => {
+            let mut classes: [u8; 32] = [
+                0, 1, 2, 3, 4, 5, 6, 7, 8, 9, 10, 11, 12, 13, 14, 15, 16, 17, 18, 19, 20, 21, 22,
+                23, 24, 25, 26, 27, 28, 29, 30, 31,
+            ];
+            merge(leaving, corners, &mut classes);
+            all_of(leaving, &classes, classes[first])
+        }
+    }
+}
+
+/// Whether the units of a corner at u are all in u's district.
+#[inline]
+fn is_inner(leaving: Member, corner: Corner) -> bool
+    requires { IsOnRow leaving.graph.now (slice_index_or leaving.graph.now.neighbours leaving.unit []) corner }
+    ensures { result ≡ is_inner leaving.entry.graph.now leaving.entry.plan.now leaving.entry.unit corner }
+{
+    let plan = leaving.plan;
+    let row = leaving.graph.neighbours(leaving.unit);
+    let district = plan[leaving.unit as usize];
+    plan[row[corner.one as usize] as usize] == district
+        && plan[row[corner.other as usize] as usize] == district
+        && plan[corner.far as usize] == district
+}
+
+/// Makes the classes of neighbours one that share a face inside their district.
+#[inline]
+fn merge(leaving: Member, corners: &[Corner], classes: &mut [u8; 32])
+    requires few { length (slice_index_or leaving.graph.now.neighbours leaving.unit []) ≤ 32 }
+    requires placed { All (IsOnRow leaving.graph.now (slice_index_or leaving.graph.now.neighbours leaving.unit [])) corners.now }
+    ensures merged { AreMerged leaving.entry.graph.now leaving.entry.plan.now leaving.entry.unit corners.now classes.new }
+    ensures linked { let g = leaving.entry.graph.now in let plan = leaving.entry.plan.now in let u = leaving.entry.unit in
+        (faces : List (List ℕ)) → AreFaces g faces → map (units_of (slice_index_or g.neighbours u [])) corners.now ≡ corners_at u faces → AreClasses g faces plan u classes.old → AreClasses g faces plan u classes.new }
+{
+    for corner in corners {
+        if is_inner(leaving, *corner)
+            && classes[corner.one as usize] != classes[corner.other as usize]
+        {
+            join(classes, corner.one as usize, corner.other as usize);
+        }
+    }
+}
+
+/// The place of the first neighbour in the unit's district.
+#[inline]
+fn first_mate(leaving: Member) -> Option<usize>
+    ensures { let g = leaving.entry.graph.now in let plan = leaving.entry.plan.now in let u = leaving.entry.unit in
+        MatchOption result ((v : ℕ) → IsIn g (is_mate g plan u) v → ⊥) (λ i. (i < length (slice_index_or g.neighbours u [])) × IsIn g (is_mate g plan u) (slice_index (slice_index_or g.neighbours u []) i)) }
+{
+    let plan = leaving.plan;
+    let row = leaving.graph.neighbours(leaving.unit);
+    let district = plan[leaving.unit as usize];
+    for place in 0..row.len() {
+        if plan[row[place] as usize] == district {
+            return Some(place);
+        }
+    }
+    None
+}
+
+/// Whether all neighbours in the unit's district are of this class.
+#[inline]
+fn all_of(leaving: Member, classes: &[u8; 32], class: u8) -> bool
+    requires { length (slice_index_or leaving.graph.now.neighbours leaving.unit []) ≤ 32 }
+    ensures yes { let g = leaving.entry.graph.now in let u = leaving.entry.unit in
+        IsTrue result → (i : ℕ) → i < length (slice_index_or g.neighbours u []) → IsIn g (is_mate g leaving.entry.plan.now u) (slice_index (slice_index_or g.neighbours u []) i) → slice_index classes.now i ≡ class }
+    ensures no { let g = leaving.entry.graph.now in let u = leaving.entry.unit in
+        IsFalse result → (i : ℕ) × (i < length (slice_index_or g.neighbours u [])) × IsIn g (is_mate g leaving.entry.plan.now u) (slice_index (slice_index_or g.neighbours u []) i) × (slice_index classes.now i ≢ class) }
+{
+    let plan = leaving.plan;
+    let row = leaving.graph.neighbours(leaving.unit);
+    let district = plan[leaving.unit as usize];
+    for place in 0..row.len() {
+        if plan[row[place] as usize] == district && classes[place] != class {
+            return false;
+        }
+    }
+    true
+}

@@ -1,0 +1,131 @@
+//! Lists of faces in which each has a side that no later one has.
+
+ghost use Rattle.std.specs.Prelude.{◌≡◌, ℕ, [], ◌∷◌, not, IsTrue, IfOk, OnOk, OnErr};
+ghost use Rattle.std.specs.Bool.{OnTrue, OnFalse};
+ghost use Rattle.std.specs.HashSet.{contains};
+ghost use Rattle.contig.specs.Faces.{AreFaces, has_side};
+ghost use Rattle.contig.specs.Listed.{rings, same_side, side, own_side};
+ghost use Rattle.contig.specs.Rings.{ring_of};
+
+use crate::face::Face;
+use audit_model::memory::Memory;
+use dual_graph::graph::Graph;
+use std::alloc::Global;
+use std::collections::HashSet;
+use std::marker::Model;
+
+/// Faces, seen as their rings with the last first.
+#[derive(Drop)]
+pub struct FaceList {
+    faces: Vec<Face>,
+    sides: HashSet<(u32, u32)>,
+}
+
+impl Model for FaceList {
+    ghost use Rattle.std.specs.Prelude.{ℕ, List};
+    ghost use Rattle.contig.specs.Listed.{rings, HoldsSides};
+
+    ghost Value = { List (List ℕ) };
+
+    ghost view = { λ l. rings l.faces.items };
+
+    ghost invariant = { λ l. HoldsSides (rings l.faces.items) l.sides };
+}
+
+impl FaceList {
+    /// The empty list.
+    pub fn new(alloc: Global) -> FaceList
+        ensures { result ≡ [] }
+    {
+        FaceList {
+            faces: Vec::new(alloc),
+            sides: HashSet::new(alloc),
+        }
+    }
+
+    /// The faces, the last of the list first.
+    pub fn faces(&self) -> &[Face]
+        ensures { rings result.now ≡ self.now }
+    {
+        // Reads the fields, so that what the type says of them is known.
+        let _ = &self.sides;
+        &self.faces
+    }
+
+    /// Puts a face in front, where it is a ring and no face of the list has its own side.
+    pub fn push(&mut self, graph: &Graph, face: Face) -> Result<bool, Memory>
+        requires faces { AreFaces graph.now self.old }
+        ensures faces { AreFaces graph.now self.new }
+        ensures added { IfOk result (λ added. OnTrue added (self.new ≡ ring_of face ∷ self.old)) }
+        ensures unchanged { IfOk result (λ added. OnFalse added (self.new ≡ self.old)) }
+        ensures err { OnErr result (self.new ≡ self.old) }
+    {
+        // Called for what its contract says: the graph is sound, and has at most 100,000 units.
+        let _units = graph.units();
+        if !face.is_ring(graph) || has_own(&self.sides, face) {
+            return Ok(false);
+        }
+        note_sides(&mut self.sides, face)?;
+        self.faces.push(face)?;
+        Ok(true)
+    }
+}
+
+/// The faces among the candidates, each put in front of those before it where it has a side that none of them has.
+pub fn list_faces(alloc: Global, graph: &Graph, candidates: &[Face]) -> Result<FaceList, Memory>
+    ensures { IfOk result (λ l. AreFaces graph.now l) }
+{
+    let mut list = FaceList::new(alloc);
+    for face in candidates {
+        list.push(graph, *face)?;
+    }
+    Ok(list)
+}
+
+/// Two units, the smaller first.
+fn side_of(x: u32, y: u32) -> (u32, u32)
+    ensures { result ≡ side x y }
+{
+    if x < y { (x, y) } else { (y, x) }
+}
+
+/// Puts the side of two units into the set.
+fn note(sides: &mut HashSet<(u32, u32)>, x: u32, y: u32) -> Result<(), Memory>
+    ensures kept { (q : ℕ × ℕ) → IsTrue (contains same_side sides.old q) → IsTrue (contains same_side sides.new q) }
+    ensures there { OnOk result (IsTrue (contains same_side sides.new (side x y))) }
+{
+    sides.insert(side_of(x, y))?;
+    Ok(())
+}
+
+/// Puts all sides of a face into the set.
+fn note_sides(sides: &mut HashSet<(u32, u32)>, face: Face) -> Result<(), Memory>
+    ensures kept { (q : ℕ × ℕ) → IsTrue (contains same_side sides.old q) → IsTrue (contains same_side sides.new q) }
+    ensures there { OnOk result ((x y : ℕ) → IsTrue (has_side (ring_of face) x y) → IsTrue (contains same_side sides.new (side x y))) }
+{
+    match face {
+        Face::Triangle(a, b, c) => {
+            note(sides, a, b)?;
+            note(sides, b, c)?;
+            note(sides, c, a)?;
+            Ok(())
+        }
+        Face::Square(a, b, c, d) => {
+            note(sides, a, b)?;
+            note(sides, b, c)?;
+            note(sides, c, d)?;
+            note(sides, d, a)?;
+            Ok(())
+        }
+    }
+}
+
+/// Whether a face's own side is in the set.
+fn has_own(sides: &HashSet<(u32, u32)>, face: Face) -> bool
+    ensures { result ≡ contains same_side sides.now (own_side face) }
+{
+    match face {
+        Face::Triangle(a, b, _) => sides.contains(&side_of(a, b)),
+        Face::Square(a, b, _, _) => sides.contains(&side_of(a, b)),
+    }
+}

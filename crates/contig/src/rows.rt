@@ -1,0 +1,106 @@
+//! The corners at each unit.
+
+ghost use Rattle.std.specs.Prelude.{◌≡◌, ◌<◌, ℕ, List, [], length, slice_index, IsTrue, IfOk, OnOk};
+ghost use Rattle.std.specs.List.{slice_index_or};
+ghost use Rattle.audit_model.specs.Graph.{adjacent};
+ghost use Rattle.contig.specs.Corners.{HasCorners, with_corner, with_face, corners_at};
+ghost use Rattle.contig.specs.Faces.{IsRing, AreFaces};
+ghost use Rattle.contig.specs.Listed.{rings};
+ghost use Rattle.contig.specs.Rings.{ring_of};
+
+use crate::corner::{Corner, CornerList};
+use crate::face::Face;
+use audit_model::memory::Memory;
+use dual_graph::graph::Graph;
+use std::alloc::Global;
+
+/// The corners of the faces at each unit.
+pub fn rows_of(alloc: Global, graph: &Graph, faces: &[Face]) -> Result<Vec<CornerList>, Memory>
+    requires faces { AreFaces graph.now (rings faces.now) }
+    ensures { IfOk result (λ rows. HasCorners graph.now (λ w. corners_at w (rings faces.now)) rows.items) }
+{
+    let mut rows = no_rows(alloc, graph.units())?;
+    for face in faces {
+        add_face(graph, &mut rows, *face)?;
+    }
+    Ok(rows)
+}
+
+/// The place of a neighbour among a unit's neighbours.
+fn place_of(graph: &Graph, unit: u32, other: u32) -> u32
+    requires { IsTrue (adjacent graph.now unit other) }
+    ensures within { result < length (slice_index_or graph.now.neighbours unit []) }
+    ensures there { slice_index (slice_index_or graph.now.neighbours unit []) result ≡ other }
+{
+    // Called for what its contract says: the graph is sound, and has at most 100,000 units.
+    let _units = graph.units();
+    let row = graph.neighbours(unit);
+    for place in 0..row.len() {
+        if row[place] == other {
+            return place as u32;
+        }
+    }
+    0
+}
+
+/// Adds a corner at a unit.
+fn add_corner(
+    graph: &Graph,
+    rows: &mut Vec<CornerList>,
+    unit: u32,
+    one: u32,
+    other: u32,
+    far: u32,
+) -> Result<(), Memory>
+    requires units { (unit < graph.now.units) × (far < graph.now.units) }
+    requires near { IsTrue (adjacent graph.now unit one) × IsTrue (adjacent graph.now unit other) }
+    requires rows { length rows.old.items ≡ graph.now.units }
+    ensures width { length rows.new.items ≡ graph.now.units }
+    ensures added { OnOk result ((corners : ℕ → List (ℕ × ℕ × ℕ)) → HasCorners graph.now corners rows.old.items →
+        HasCorners graph.now (λ w. with_corner w (corners w) unit (one, other, far)) rows.new.items) }
+{
+    let corner = Corner {
+        one: place_of(graph, unit, one),
+        other: place_of(graph, unit, other),
+        far,
+    };
+    rows[unit as usize].push(corner)?;
+    Ok(())
+}
+
+/// Adds the corners of a face.
+fn add_face(graph: &Graph, rows: &mut Vec<CornerList>, face: Face) -> Result<(), Memory>
+    requires ring { IsRing graph.now (ring_of face) }
+    requires rows { length rows.old.items ≡ graph.now.units }
+    ensures width { length rows.new.items ≡ graph.now.units }
+    ensures added { OnOk result ((corners : ℕ → List (ℕ × ℕ × ℕ)) → HasCorners graph.now corners rows.old.items →
+        HasCorners graph.now (λ w. with_face w (corners w) (ring_of face)) rows.new.items) }
+{
+    match face {
+        Face::Triangle(a, b, c) => {
+            add_corner(graph, rows, a, b, c, c)?;
+            add_corner(graph, rows, b, c, a, a)?;
+            add_corner(graph, rows, c, a, b, b)?;
+            Ok(())
+        }
+        Face::Square(a, b, c, d) => {
+            add_corner(graph, rows, a, b, d, c)?;
+            add_corner(graph, rows, b, c, a, d)?;
+            add_corner(graph, rows, c, d, b, a)?;
+            add_corner(graph, rows, d, a, c, b)?;
+            Ok(())
+        }
+    }
+}
+
+/// No corner at any unit.
+fn no_rows(alloc: Global, units: u32) -> Result<Vec<CornerList>, Memory>
+    ensures width { IfOk result (λ rows. length rows.items ≡ units) }
+    ensures none { IfOk result (λ rows. (u : ℕ) → slice_index_or rows.items u [] ≡ []) }
+{
+    let mut rows = Vec::with_capacity(alloc, units as usize)?;
+    for _ in 0..units {
+        rows.push(CornerList::new(alloc))?;
+    }
+    Ok(rows)
+}

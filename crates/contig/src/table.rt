@@ -1,0 +1,105 @@
+//! The faces of a graph, as a walk asks for them.
+
+ghost use Rattle.std.specs.Prelude.{◌≡◌, ◌+◌, ◌<◌, ◌≤◌, ◌↔◌, [], length, map, slice_index, IsTrue, IsFalse, IfOk, All};
+ghost use Rattle.std.specs.List.{slice_index_or};
+ghost use Rattle.contig.specs.Corners.{IsOnRow, units_of, corners_at};
+ghost use Rattle.audit_model.specs.Local.{MayLeave};
+ghost use Rattle.audit_model.specs.Path.{IsConnected};
+ghost use Rattle.audit_model.specs.Plan.{in_district};
+ghost use Rattle.contig.specs.Counts.{filled_of};
+ghost use Rattle.contig.specs.Faces.{AreFaces, AreLinked, count_inner_edges};
+
+use crate::corner::{Corner, CornerList};
+use crate::links::are_linked;
+use crate::list::FaceList;
+use crate::near::faces_of;
+use crate::rows::rows_of;
+use audit_model::memory::Memory;
+use dual_graph::graph::Graph;
+use dual_graph::member::Member;
+use std::alloc::Global;
+use std::marker::Model;
+use std::snapshot::Snapshot;
+
+/// With more faces there are none.
+const MOST: usize = 4000000;
+
+/// The faces of a graph, by the units that they are at.
+#[derive(Drop)]
+pub struct FaceTable {
+    graph: Snapshot<Graph>,
+    list: Snapshot<FaceList>,
+    rows: Vec<CornerList>,
+}
+
+impl Model for FaceTable {
+    ghost use Rattle.contig.specs.Table.{Faced, IsFaceTable};
+
+    ghost Value = { Faced };
+
+    ghost view = { λ t. record { graph = t.graph.value; faces = t.list.value } };
+
+    ghost invariant = { λ t. IsFaceTable (record { graph = t.graph.value; faces = t.list.value }) t.rows.items };
+}
+
+impl FaceTable {
+    /// The faces of a graph.
+    pub fn of(alloc: Global, graph: &Graph) -> Result<FaceTable, Memory>
+        ensures { IfOk result (λ t. t.graph ≡ graph.now) }
+    {
+        let list = some_faces(alloc, graph)?;
+        let rows = rows_of(alloc, graph, list.faces())?;
+        Ok(FaceTable {
+            graph: Snapshot::of(graph),
+            list: Snapshot::of(&list),
+            rows,
+        })
+    }
+
+    /// How many units there are.
+    #[inline]
+    pub fn units(&self) -> usize
+        ensures units { result ≡ self.now.graph.units }
+        ensures faces { AreFaces self.now.graph self.now.faces }
+        ensures few { length self.now.faces ≤ 4000000 }
+    {
+        self.rows.len()
+    }
+
+    /// The faces at a unit.
+    #[inline]
+    pub fn at(&self, unit: u32) -> &[Corner]
+        requires { unit < self.now.graph.units }
+        ensures faces { AreFaces self.now.graph self.now.faces }
+        ensures placed { All (IsOnRow self.now.graph (slice_index_or self.now.graph.neighbours unit [])) result.now }
+        ensures seen { map (units_of (slice_index_or self.now.graph.neighbours unit [])) result.now ≡ corners_at unit self.now.faces }
+    {
+        self.rows[unit as usize].as_slice()
+    }
+
+    /// Whether the neighbours of a unit in its district are linked, one to the next, through faces inside it. Where the
+    /// district is connected, a unit may leave it then; and no other may where the district has no hole.
+    pub fn links_mates(&self, leaving: Member) -> bool
+        requires made { self.now.graph ≡ leaving.graph.now }
+        requires few { length (slice_index_or leaving.graph.now.neighbours leaving.unit []) ≤ 32 }
+        ensures linked { IsTrue result ↔ AreLinked leaving.entry.graph.now self.now.faces leaving.entry.plan.now leaving.entry.unit }
+        ensures may { let g = leaving.entry.graph.now in let plan = leaving.entry.plan.now in let u = leaving.entry.unit in
+            IsTrue result → IsConnected g (in_district plan (slice_index plan u)) → MayLeave g plan u }
+        ensures may_not { let g = leaving.entry.graph.now in let plan = leaving.entry.plan.now in let u = leaving.entry.unit in
+            IsFalse result → IsConnected g (in_district plan (slice_index plan u)) → count_inner_edges g (in_district plan (slice_index plan u)) + 1 ≤ filled_of g self.now.faces (in_district plan (slice_index plan u)) → MayLeave g plan u → ⊥ }
+    {
+        are_linked(leaving, self.at(leaving.unit))
+    }
+}
+
+/// The faces of a graph, or none where they are too many.
+fn some_faces(alloc: Global, graph: &Graph) -> Result<FaceList, Memory>
+    ensures faces { IfOk result (λ l. AreFaces graph.now l) }
+    ensures few { IfOk result (λ l. length l ≤ 4000000) }
+{
+    let list = faces_of(alloc, graph)?;
+    if list.faces().len() > MOST {
+        return Ok(FaceList::new(alloc));
+    }
+    Ok(list)
+}

@@ -1,5 +1,0 @@
-use Rattle.std.proofs.Common.{◌<◌, ℕ, get_or}
-use Rattle.desk_crew.proofs.hub.has_above.Given as goal
-
-abbrev pub invariant-loop-id : goal.invariant-loop-id
-invariant-loop-id l = (k d : ℕ) → k < l.id-index → get_or l.ids k d < l.bound

@@ -1,6 +1,0 @@
-use Rattle.desk_crew.proofs.ran.run_over.Goals as goal
-
-pub returns-in-Ok-clause-ran : goal.returns-in-Ok-clause-ran
-returns-in-Ok-clause-ran g c =
-    let closed = c.in-Ok.ensures.closed in
-    c.finish.ensures _ closed.0 (record { closed = closed.1; digest_is = c.requires.digest })

@@ -1,0 +1,112 @@
+//! A plain search within a set of units, from its least one.
+
+ghost use Rattle.std.specs.Prelude.{◌≡◌, ◌<◌, ◌↔◌, ◌&&◌, ℕ, [], not, IsTrue};
+ghost use Rattle.std.specs.List.{slice_index_or};
+ghost use Rattle.audit_model.specs.First.{first_below};
+ghost use Rattle.audit_model.specs.Graph.{has, IsIn};
+ghost use Rattle.audit_model.specs.Path.{HasPath, IsConnected};
+ghost use Rattle.dual_graph.specs.Marked.{IsMarked};
+ghost use Rattle.audit_model.specs.Search.{AddsFrom};
+ghost use Rattle.dual_graph.specs.Parting.{parting_of};
+
+use crate::graph::Graph;
+use crate::inside::Inside;
+use crate::marks::Marks;
+
+/// A set of units of a graph, which knows each of them.
+#[derive(Drop)]
+struct Within<'a, I: Inside> {
+    graph: &'a Graph,
+    set: &'a I,
+    ghost sized: { I.units set.now ≡ graph.now.units },
+}
+
+/// Marks the neighbours of a unit that are in the set.
+fn mark_neighbours<I: Inside>(within: &Within<I>, unit: u32, marks: &mut Marks)
+    requires unit { unit < within.now.graph.now.units }
+    requires units { marks.old.units ≡ within.now.graph.now.units }
+    requires marked { IsMarked marks.old }
+    ensures units { marks.new.units ≡ within.now.graph.now.units }
+    ensures marked { IsMarked marks.new }
+    ensures added { AddsFrom within.now.graph.now (I.inside within.now.set.now) (slice_index_or within.now.graph.now.neighbours unit []) marks.old.items marks.new.items }
+{
+    for other in within.graph.neighbours(unit) {
+        let neighbour = *other;
+        if within.set.holds(neighbour) {
+            marks.mark(neighbour);
+        }
+    }
+}
+
+/// Marks the units of the set to which a path within it leads from the start.
+fn reach<I: Inside>(within: &Within<I>, start: u32, marks: &mut Marks)
+    requires start { IsIn within.now.graph.now (I.inside within.now.set.now) start }
+    requires units { marks.old.units ≡ within.now.graph.now.units }
+    ensures units { marks.new.units ≡ within.now.graph.now.units }
+    ensures found { (v : ℕ) → IsTrue (has marks.new.items v) ↔ HasPath within.now.graph.now (I.inside within.now.set.now) start v }
+{
+    marks.clear();
+    marks.mark(start);
+    let mut next = 0;
+    while next < marks.count() {
+        let unit = marks.at(next);
+        mark_neighbours(within, unit, marks);
+        next += 1;
+    }
+}
+
+/// The least unit of the set.
+fn first_unit<I: Inside>(within: &Within<I>) -> Option<u32>
+    ensures { result ≡ first_below within.now.graph.now.units (I.inside within.now.set.now) }
+{
+    for unit in 0..within.graph.units() {
+        if within.set.holds(unit) {
+            return Some(unit);
+        }
+    }
+    None
+}
+
+/// The least unit of the set that is not marked.
+fn first_unmarked<I: Inside>(within: &Within<I>, marks: &Marks) -> Option<u32>
+    requires units { marks.now.units ≡ within.now.graph.now.units }
+    ensures { result ≡ first_below within.now.graph.now.units (λ u. I.inside within.now.set.now u && not (has marks.now.items u)) }
+{
+    for unit in 0..within.graph.units() {
+        if within.set.holds(unit) && !marks.has(unit) {
+            return Some(unit);
+        }
+    }
+    None
+}
+
+/// The least unit of the set and the least one to which no path within it leads from there, where it
+/// is not connected; two zeros where it is empty.
+pub fn parting<I: Inside>(graph: &Graph, set: &I, marks: &mut Marks) -> Option<(u32, u32)>
+    requires set { I.units set.now ≡ graph.now.units }
+    requires units { marks.old.units ≡ graph.now.units }
+    ensures units { marks.new.units ≡ graph.now.units }
+    ensures parting { result ≡ parting_of graph.now (I.inside set.now) }
+{
+    // Called for what its contract says: the graph is sound, and has at most 100,000 units.
+    let _units = graph.units();
+    let within = Within { graph, set };
+    match first_unit(&within) {
+        None => Some((0, 0)),
+        Some(one) => {
+            reach(&within, one, marks);
+            let other = first_unmarked(&within, marks)?;
+            Some((one, other))
+        }
+    }
+}
+
+/// Whether the set has a unit and is connected.
+pub fn is_whole<I: Inside>(graph: &Graph, set: &I, marks: &mut Marks) -> bool
+    requires set { I.units set.now ≡ graph.now.units }
+    requires units { marks.old.units ≡ graph.now.units }
+    ensures units { marks.new.units ≡ graph.now.units }
+    ensures whole { IsTrue result ↔ IsConnected graph.now (I.inside set.now) }
+{
+    parting(graph, set, marks).is_none()
+}

@@ -1,6 +1,0 @@
-mod Counting
-mod Adding
-mod Seeing
-mod Merging
-mod Changing
-mod Raising

@@ -1,7 +1,0 @@
-use Rattle.std.proofs.Common.{take}
-use Rattle.faces.specs.Listed.{rings}
-use Rattle.face_table.specs.Corners.{HasCorners, corners_at}
-use Rattle.face_table.proofs.rows.rows_of.Given as goal
-
-abbrev pub invariant-loop-face : goal.invariant-loop-face
-invariant-loop-face l = HasCorners l.graph (λ w. corners_at w (rings (take l.face-index l.faces))) l.rows.items

@@ -1,4 +1,0 @@
-pub mod Corners
-pub mod Links
-pub mod Table
-pub mod Counts

@@ -1,5 +1,0 @@
-use Rattle.faces.proofs.Parting.{district_parts}
-use Rattle.faces.proofs.laws.parting_units_may_not_leave.Goals as goal
-
-pub returns : goal.returns
-returns c = district_parts

@@ -1,5 +1,0 @@
-use Rattle.faces.specs.Faces.{AreFaces}
-use Rattle.faces.proofs.list.list_faces.Given as goal
-
-abbrev pub invariant-loop-face : goal.invariant-loop-face
-invariant-loop-face l = AreFaces l.graph l.list

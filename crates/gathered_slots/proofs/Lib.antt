@@ -1,4 +1,0 @@
-mod Found
-mod Gathered
-mod Rising
-mod Untouched

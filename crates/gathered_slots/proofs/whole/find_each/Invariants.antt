@@ -1,9 +1,0 @@
-use Rattle.std.proofs.Common.{◌≡◌, map, take, drop, length}
-use Rattle.gathered_slots.specs.Findings.{AreFound}
-use Rattle.gathered_slots.proofs.whole.find_each.Given as goal
-
-abbrev pub invariant-loop-place : goal.invariant-loop-place
-invariant-loop-place g l =
-    (l.gathering.total ≡ l.initial.gathering.total) × (length l.folders ≡ length l.initial.folders)
-    × (drop l.place l.folders ≡ drop l.place l.initial.folders)
-    × AreFound l.job l.digest (map (λ k. (g.F.Keeper.state k).slots) (take l.place l.initial.folders)) l.initial.gathering.outcomes l.findings l.gathering.outcomes

@@ -1,4 +1,0 @@
-mod Adding
-mod Same
-mod Tables
-mod Unions

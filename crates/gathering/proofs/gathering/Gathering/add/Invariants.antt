@@ -1,9 +1,0 @@
-use Rattle.std.proofs.Common.{◌≡◌, take}
-use Rattle.gathering.specs.Union.{HoldsBoth}
-use Rattle.gathering.proofs.gathering.Gathering.add.Given as goal
-
-abbrev pub invariant-loop-outcome : goal.invariant-loop-outcome
-invariant-loop-outcome l = record {
-  total : l.self.total ≡ l.initial.self.total;
-  both : HoldsBoth l.initial.self.outcomes (take l.outcome-index l.found) l.self.outcomes;
-}

@@ -1,6 +1,0 @@
-use Rattle.std.proofs.Common.{All, take}
-use Rattle.gathering.specs.Union.{AgreesWith}
-use Rattle.gathering.proofs.gathering.Gathering.difference.Given as goal
-
-abbrev pub invariant-loop-outcome : goal.invariant-loop-outcome
-invariant-loop-outcome l = record { agreed : All (AgreesWith l.self.outcomes) (take l.outcome-index l.found) }

@@ -1,4 +1,0 @@
-pub mod Gathered
-pub mod Laws
-pub mod Placed
-pub mod Union

@@ -1,5 +1,0 @@
-use Rattle.graph_definitions.proofs.Simple.{graph_is_simple}
-use Rattle.graph_definitions.proofs.laws.graphs_are_simple.Goals as goal
-
-pub returns : goal.returns
-returns c = graph_is_simple

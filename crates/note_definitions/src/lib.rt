@@ -1,2 +1,0 @@
-//! The line that tells why a run ended without a whole report.
-#![tactic(auto)]

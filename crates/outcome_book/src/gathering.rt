@@ -1,0 +1,247 @@
+//! The outcomes that several runs of one job have found, each id once.
+
+ghost use Rattle.std.specs.Prelude.{◌≡◌, ◌∷◌, [], ◌≤◌, ◌+◌, ◌<◌, ◌++◌, All, IfErr, IfOk, IfNone, IfSome, OnErr, OnOk, Some, length, replicate, count_by, not, slice_index_or};
+ghost use Rattle.std.specs.Bool.{Decides};
+ghost use Rattle.audit_model.specs.Limits.{most_trajectories};
+ghost use Rattle.audit_model.specs.Run.{has_id};
+ghost use Rattle.audit_model.specs.Trajectory.{bare};
+ghost use Rattle.outcome_book.specs.Placed.{those_there};
+ghost use Rattle.outcome_book.specs.Union.{Agree, AgreeIf, AgreesWith, AreAgreed, AreById, HoldsBoth, IsFirstDifference, IsUnion, MayBeAdded, fuller, fuller_if};
+
+use audit_model::buffers::OutcomeList;
+use audit_model::memory::Memory;
+use audit_model::outcome::Outcome;
+use std::alloc::Global;
+use std::marker::Model;
+
+/// Outcomes with ids below a total, by rising id, to which those of other runs are added.
+#[derive(Drop)]
+pub struct Gathering {
+    places: Vec<Option<Outcome>>,
+}
+
+impl Model for Gathering {
+    ghost use Rattle.std.specs.Prelude.{◌≤◌, length};
+    ghost use Rattle.audit_model.specs.Limits.{most_trajectories};
+    ghost use Rattle.outcome_book.specs.Gathered.{Gathered};
+    ghost use Rattle.outcome_book.specs.Placed.{ArePlacedById, those_there};
+
+    ghost Value = { Gathered };
+
+    ghost view = { λ g. record { total = length g.places.items; outcomes = those_there g.places.items } };
+
+    ghost invariant = { λ g. ArePlacedById 0 g.places.items × (length g.places.items ≤ most_trajectories) };
+}
+
+impl Gathering {
+    /// No outcomes, with room for one of each id below `total`.
+    pub fn with_room(alloc: Global, total: u32) -> Result<Gathering, Memory>
+        requires { total ≤ most_trajectories }
+        ensures total { IfOk result (λ g. g.total ≡ total) }
+        ensures empty { IfOk result (λ g. g.outcomes ≡ []) }
+    {
+        Ok(Gathering {
+            places: vec![in alloc; None; total as usize]?,
+        })
+    }
+
+    /// The least id of which other outcomes say something else than what was gathered.
+    pub fn difference(&self, found: &[Outcome]) -> Option<u32>
+        requires { MayBeAdded self.now.total found.now }
+        ensures none { IfNone result (AreAgreed self.now.outcomes found.now) }
+        ensures some { IfSome result (IsFirstDifference self.now.outcomes found.now) }
+    {
+        for outcome in found {
+            if !self.agrees(outcome) {
+                return Some(outcome.id);
+            }
+        }
+        None
+    }
+
+    /// Whether what was gathered says nothing else of the outcome's id.
+    fn agrees(&self, outcome: &Outcome) -> bool
+        requires { outcome.now.id < self.now.total }
+        ensures { Decides result (AgreesWith self.now.outcomes outcome.now) }
+    {
+        match &self.places[outcome.id as usize] {
+            Some(held) => agree(held, outcome),
+            None => true,
+        }
+    }
+
+    /// Adds outcomes, and says how many of them have ids of which none was gathered.
+    ///
+    /// # Errors
+    ///
+    /// The least id of which they say something else than what was gathered: then nothing is added.
+    pub fn merge(&mut self, found: &[Outcome]) -> Result<u32, u32>
+        requires { MayBeAdded self.old.total found.now }
+        ensures total { self.new.total ≡ self.old.total }
+        ensures union { OnOk result (IsUnion self.old.outcomes found.now self.new.outcomes) }
+        ensures agreed { OnOk result (AreAgreed self.old.outcomes found.now) }
+        ensures count { IfOk result (λ n. n ≡ count_by (λ o. not (has_id self.old.outcomes o.id)) found.now) }
+        ensures differs { IfErr result (IsFirstDifference self.old.outcomes found.now) }
+        ensures kept { OnErr result (self.new ≡ self.old) }
+    {
+        match self.difference(found) {
+            Some(id) => Err(id),
+            None => {
+                let count = self.count_new(found);
+                self.add(found);
+                Ok(count)
+            }
+        }
+    }
+
+    /// How many outcomes have ids of which none was gathered.
+    pub fn count_new(&self, found: &[Outcome]) -> u32
+        requires { MayBeAdded self.now.total found.now }
+        ensures { result ≡ count_by (λ o. not (has_id self.now.outcomes o.id)) found.now }
+    {
+        // Reads the fields, so that what the type says of them is known.
+        let _ = &self.places;
+        let mut count = 0;
+        for outcome in found {
+            count = self.count_with(count, outcome);
+        }
+        count
+    }
+
+    /// One more, where the outcome's id is one of which none was gathered.
+    fn count_with(&self, count: u32, outcome: &Outcome) -> u32
+        requires below { outcome.now.id < self.now.total }
+        requires few { count < most_trajectories }
+        ensures { result ≡ count + count_by (λ o. not (has_id self.now.outcomes o.id)) (outcome.now ∷ []) }
+    {
+        match self.places[outcome.id as usize] {
+            Some(_) => count,
+            None => count + 1,
+        }
+    }
+
+    /// Adds outcomes with which all that was gathered agrees: where only one of two has its bins, that one is kept.
+    pub fn add(&mut self, found: &[Outcome])
+        requires { MayBeAdded self.old.total found.now }
+        ensures total { self.new.total ≡ self.old.total }
+        ensures union { IsUnion self.old.outcomes found.now self.new.outcomes }
+    {
+        for outcome in found {
+            self.put(outcome);
+        }
+        // Reads the fields, so that what the type says of them is known.
+        let _ = &self.places;
+    }
+
+    /// Adds one.
+    fn put(&mut self, outcome: &Outcome)
+        requires { outcome.now.id < self.old.total }
+        ensures total { self.new.total ≡ self.old.total }
+        ensures both { HoldsBoth self.old.outcomes (outcome.now ∷ []) self.new.outcomes }
+    {
+        let place = outcome.id as usize;
+        let kept = kept_of(&self.places[place], outcome);
+        self.places[place] = Some(kept);
+    }
+
+    /// What was gathered, by rising id. The only error is want of memory.
+    pub fn to_list(&self, alloc: Global) -> Result<OutcomeList, Memory>
+        ensures items { IfOk result (λ l. l.items ≡ self.now.outcomes) }
+        ensures rising { IfOk result (λ l. AreById l.items) }
+        ensures few { IfOk result (λ l. length l.items ≤ self.now.total) }
+        ensures small { IfOk result (λ l. length l.items ≤ most_trajectories) }
+    {
+        let mut out = OutcomeList::with_room(alloc, self.places.len())?;
+        self.copy_into(&mut out);
+        Ok(out)
+    }
+
+    /// Makes `out` what was gathered.
+    pub fn copy_into(&self, out: &mut OutcomeList)
+        requires { length self.now.outcomes ≤ length out.old.items + out.old.spare }
+        ensures outcomes { out.new.items ≡ self.now.outcomes }
+        ensures rising { AreById out.new.items }
+        ensures few { length out.new.items ≤ self.now.total }
+        ensures room { length out.new.items + out.new.spare ≡ length out.old.items + out.old.spare }
+    {
+        out.clear();
+        append_all(out, &self.places);
+    }
+}
+
+// An outcome without its bins.
+fn bare(outcome: &Outcome) -> Outcome
+    ensures { result ≡ bare outcome.now }
+{
+    Outcome {
+        bins: [0; 9],
+        ..*outcome
+    }
+}
+
+// Whether both are the same.
+fn is_same(one: &Outcome, other: &Outcome) -> bool
+    ensures { Decides result (one.now ≡ other.now) }
+{
+    *one == *other
+}
+
+// Whether the outcome is the other one without its bins.
+fn is_bare_of(outcome: &Outcome, other: &Outcome) -> bool
+    ensures { Decides result (outcome.now ≡ bare other.now) }
+{
+    is_same(outcome, &bare(other))
+}
+
+// Whether both say the same, but that one may lack its bins.
+fn agree(one: &Outcome, other: &Outcome) -> bool
+    ensures { Decides result (Agree one.now other.now) }
+{
+    if is_same(one, other) {
+        return true;
+    }
+    if is_bare_of(one, other) {
+        return true;
+    }
+    is_bare_of(other, one)
+}
+
+// Of two outcomes the one that has its bins, where one has.
+fn fuller(one: &Outcome, other: &Outcome) -> Outcome
+    ensures { result ≡ fuller one.now other.now }
+{
+    if one.bins == [0; 9] { *other } else { *one }
+}
+
+// What is held of an id after one more outcome of it.
+fn kept_of(held: &Option<Outcome>, outcome: &Outcome) -> Outcome
+    ensures { Some result ≡ fuller_if held.now (Some outcome.now) }
+{
+    match held {
+        Some(held) => fuller(held, outcome),
+        None => *outcome,
+    }
+}
+
+// Appends the outcomes that are there, for which there is room.
+fn append_all(out: &mut OutcomeList, places: &[Option<Outcome>])
+    requires { length (those_there places.now) ≤ out.old.spare }
+    ensures items { out.new.items ≡ out.old.items ++ those_there places.now }
+    ensures room { length out.new.items + out.new.spare ≡ length out.old.items + out.old.spare }
+{
+    for place in places {
+        append_if(out, place);
+    }
+}
+
+// Appends an outcome, if there is one, for which there is room.
+fn append_if(out: &mut OutcomeList, place: &Option<Outcome>)
+    requires { length (those_there (place.now ∷ [])) ≤ out.old.spare }
+    ensures items { out.new.items ≡ out.old.items ++ those_there (place.now ∷ []) }
+    ensures spare { length out.new.items + out.new.spare ≡ length out.old.items + out.old.spare }
+{
+    if let Some(outcome) = place {
+        // There is room, so it takes no memory and cannot fail.
+        let _ = out.push(*outcome);
+    }
+}

@@ -1,4 +1,0 @@
-pub mod Determined
-pub mod Given
-pub mod Taken
-pub mod Valid

@@ -1,8 +1,0 @@
-use Rattle.std.proofs.Common.{sym, arith, ◌∙◌}
-use Rattle.model_laws.proofs.First.{first_below_here}
-use Rattle.plain_search.proofs.search.first_unit.Goals as goal
-
-pub returns-then-holds : goal.returns-then-holds
-returns-then-holds g c =
-    sym (first_below_here c.args.graph.now.units c.loop-unit.unit (g.I.Inside.inside c.args.set.now) c.loop-unit.invariant (omega arith)
-    (sym c.holds.ensures ∙ c.if-holds.true))

@@ -1,7 +1,0 @@
-use Rattle.std.proofs.Common.{◌≡◌, None, not, ◌&&◌}
-use Rattle.audit_model.specs.First.{first_below}
-use Rattle.audit_model.specs.Graph.{has}
-use Rattle.plain_search.proofs.search.first_unmarked.Given as goal
-
-abbrev pub invariant-loop-unit : goal.invariant-loop-unit
-invariant-loop-unit g l = first_below l.unit (λ u. g.I.Inside.inside l.set u && not (has l.marks.items u)) ≡ None

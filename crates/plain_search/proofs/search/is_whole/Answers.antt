@@ -1,5 +1,0 @@
-use Rattle.plain_search.proofs.Parted.{none_is_whole}
-use Rattle.plain_search.proofs.search.is_whole.Goals as goal
-
-pub returns-clause-whole : goal.returns-clause-whole
-returns-clause-whole g c = none_is_whole c.args.graph.now (g.I.Inside.inside c.args.set.now) c.parting.result c.is_none.result c.parting.ensures.parting c.is_none.ensures

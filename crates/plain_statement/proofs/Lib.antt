@@ -1,6 +1,0 @@
-mod Ending
-mod Judged
-mod One
-mod Plainly
-mod Reported
-mod Saying

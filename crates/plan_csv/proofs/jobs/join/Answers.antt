@@ -1,0 +1,12 @@
+use Rattle.std.proofs.Common.{rules, ◌≡◌, ◌∷◌, length, refl, sym, subst, ap, arith, ◌<◌, List}
+use Rattle.std.specs.List.{All}
+use Rattle.plan_csv.specs.declared.named.Named.{Named}
+use Rattle.plan_csv.specs.Named.{IsOneOf}
+use Rattle.plan_csv.specs.Shared.{AreShared}
+use Rattle.plan_csv.proofs.Reading.{shared_with}
+use Rattle.plan_csv.proofs.jobs.join.Goals as goal
+
+pub returns-in-Ok-insert-clause-shared : goal.returns-in-Ok-insert-clause-shared
+returns-in-Ok-insert-clause-shared c =
+    subst (λ (ns : List Named). AreShared c.args.own.job.setting ns) (sym c.in-Ok-insert.ensures.items)
+    (shared_with c.args.own c.in-Ok.named.items c.requires.sound c.in-Ok.ensures.each)

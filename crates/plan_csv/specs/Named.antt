@@ -1,0 +1,19 @@
+-- Jobs under the names of their plans.
+use Rattle.std.specs.Prelude.{◌≡◌, ℕ, List, map}
+use Rattle.audit_model.specs.declared.setting.Setting.{Setting}
+use Rattle.audit_model.specs.Job.{Job}
+use Rattle.audit_model.specs.JobOf.{IsJob}
+use Rattle.plan_csv.specs.declared.named.Named.{Named}
+
+-- the names and the jobs
+abbrev pub pair_of : Named → List ℕ × Job
+pair_of n = (n.name, n.job)
+
+abbrev pub jobs_of : List Named → List (List ℕ × Job)
+jobs_of named = map pair_of named
+
+-- it is a job with this setting and these regions
+pub record IsOneOf (setting : Setting) (regions : List ℕ) (n : Named) : Type 0 where
+  pub sound : IsJob n.job
+  pub set : n.job.setting ≡ setting
+  pub regioned : n.job.regions ≡ regions

@@ -1,0 +1,12 @@
+-- What the jobs of several plans share.
+use Rattle.std.specs.Prelude.{ℕ, ◌<◌, List, length}
+use Rattle.std.specs.List.{All}
+use Rattle.audit_model.specs.declared.setting.Setting.{Setting}
+use Rattle.plan_csv.specs.declared.named.Named.{Named}
+use Rattle.plan_csv.specs.Named.{IsOneOf}
+
+-- there is one, and all are jobs with this setting and with the same regions
+pub record AreShared (setting : Setting) (named : List Named) : Type 0 where
+  pub some : 0 < length named
+  pub regions : List ℕ
+  pub each : All (IsOneOf setting regions) named

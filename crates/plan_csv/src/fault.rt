@@ -1,0 +1,57 @@
+//! Why several plans of one graph are refused.
+
+ghost use Rattle.std.specs.Prelude.{◌≡◌};
+ghost use Rattle.plan_csv.specs.Refusals.{graph_end, region_end, table_end, plan_end, named_end};
+
+use audit_model::fault::{GraphFault, PlanFault, PlansFault, RegionFault, TableFault};
+use audit_model::text::Text;
+
+/// The refusal of a graph.
+pub fn of_graph(fault: GraphFault) -> PlansFault
+    ensures { result ≡ graph_end fault }
+{
+    match fault {
+        GraphFault::Memory => PlansFault::Memory,
+        fault => PlansFault::Graph(fault),
+    }
+}
+
+/// The refusal of its regions.
+pub fn of_regions(fault: RegionFault) -> PlansFault
+    ensures { result ≡ region_end fault }
+{
+    match fault {
+        RegionFault::Memory => PlansFault::Memory,
+        fault => PlansFault::Regions(fault),
+    }
+}
+
+/// The refusal of a table.
+pub fn of_table(fault: TableFault) -> PlansFault
+    ensures { result ≡ table_end fault }
+{
+    match fault {
+        TableFault::Memory => PlansFault::Memory,
+        fault => PlansFault::Table(fault),
+    }
+}
+
+/// The refusal of the graph's own plan.
+pub fn of_own(fault: PlanFault) -> PlansFault
+    ensures { result ≡ plan_end fault }
+{
+    match fault {
+        PlanFault::Memory => PlansFault::Memory,
+        fault => PlansFault::Own(fault),
+    }
+}
+
+/// The refusal of the plan of a name.
+pub fn of_other(name: Text, fault: PlanFault) -> PlansFault
+    ensures { result ≡ named_end name fault }
+{
+    match fault {
+        PlanFault::Memory => PlansFault::Memory,
+        fault => PlansFault::Other(name, fault),
+    }
+}

@@ -1,0 +1,158 @@
+//! From the input to the jobs.
+
+ghost use Rattle.std.specs.Prelude.{◌≡◌, ◌⊎◌, ◌∷◌, [], Ok, Err, length, All, IfOk, MatchResult};
+ghost use Rattle.audit_model.specs.declared.fault.RegionFault.TheVariants as region;
+ghost use Rattle.audit_model.specs.declared.setting.Columns.{Columns as ColumnsValue};
+ghost use Rattle.audit_model.specs.JobOf.{IsJob, job_of};
+ghost use Rattle.audit_model.specs.Limits.{AreRegions, AreWithin, IsSetting};
+ghost use Rattle.audit_model.specs.Parsed.{Parsed as ParsedOf};
+ghost use Rattle.dual_graph.specs.Read.{parsed_of};
+ghost use Rattle.dual_json.specs.Numbered.{IsGraphText};
+ghost use Rattle.audit_statement.specs.Reading.{reading};
+ghost use Rattle.plan_csv.specs.Fit.{IsPlanOf};
+ghost use Rattle.audit_model.specs.declared.fault.PlansFault.TheVariants as fault;
+ghost use Rattle.plan_csv.specs.Named.{jobs_of, IsOneOf};
+ghost use Rattle.audit_statement.specs.Jobs.{from_graph, from_others, jobs_over_regions, jobs_reading};
+ghost use Rattle.audit_statement.specs.Regions.{regions_by};
+ghost use Rattle.plan_csv.specs.Shared.{AreShared};
+ghost use Rattle.plan_csv.specs.JobStages.{IsOwn, IsOwnFault};
+ghost use Rattle.audit_model.specs.Several.{named_jobs};
+
+use crate::fault::{of_graph, of_own, of_regions, of_table};
+use crate::named::{Named, named_all};
+use crate::parts::parts_of;
+use crate::read_plans;
+use audit_model::fault::{PlansFault, RegionFault};
+use audit_model::lists::UnitList;
+use audit_model::plans::Assigned;
+use audit_model::setting::Setting;
+use audit_model::text::Text;
+use dual_graph::parsed::Parsed;
+use dual_json::{read_graph, read_ids, read_regions};
+use plan_core::job::Job;
+use std::alloc::Global;
+
+/// The regions of a text that is a graph, and none where no column is named.
+fn regions_of(alloc: Global, bytes: &[u8], column: &Text) -> Result<UnitList, RegionFault>
+    requires graph { IsGraphText bytes.now }
+    ensures read { MatchResult result (λ regions. regions_by column.now bytes.now ≡ Ok regions)
+        (λ f. (f ≡ region.Memory) ⊎ (regions_by column.now bytes.now ≡ Err f)) }
+    ensures within { IfOk result (λ regions. (columns : ColumnsValue) (parsed : ParsedOf) → reading bytes.now columns ≡ Ok parsed → AreRegions parsed.graph.units regions) }
+{
+    if column.as_str().is_empty() {
+        return Ok(UnitList::new(alloc));
+    }
+    read_regions(alloc, bytes, column)
+}
+
+/// The jobs of the plans of a table after that of the graph's own plan.
+fn join(alloc: Global, own: Named, plans: &[Assigned]) -> Result<Vec<Named>, PlansFault>
+    requires sound { IsJob own.job }
+    requires fit { All (IsPlanOf own.job.graph.units) plans.now }
+    ensures read { MatchResult result (λ named. from_others own.name own.job (named_jobs own.job plans.now) ≡ Ok (jobs_of named.items))
+        (λ f. (f ≡ fault.Memory) ⊎ (from_others own.name own.job (named_jobs own.job plans.now) ≡ Err f)) }
+    ensures shared { IfOk result (λ named. AreShared own.job.setting named.items) }
+{
+    match named_all(alloc, &own.job, plans) {
+        Err(fault) => Err(fault),
+        Ok(mut named) => match named.insert(0, own) {
+            Ok(()) => Ok(named),
+            Err(_) => Err(PlansFault::Memory),
+        },
+    }
+}
+
+/// The job of the graph's own plan, under the name of its district column.
+fn own_of(
+    alloc: Global,
+    setting: &Setting,
+    parsed: Parsed,
+    regions: UnitList,
+) -> Result<Named, PlansFault>
+    requires within { AreWithin parsed.graph parsed.counts parsed.start (length parsed.labels) }
+    requires setting { IsSetting setting.now }
+    requires regions { AreRegions parsed.graph.units regions }
+    ensures { MatchResult result (IsOwn setting.now (parsed_of parsed) regions)
+        (λ f. (f ≡ fault.Memory) ⊎ IsOwnFault (job_of (parsed_of parsed) setting.now regions) f) }
+{
+    let Ok(name) = setting.columns.district.copy() else {
+        return Err(PlansFault::Memory);
+    };
+    let Ok(setting) = setting.copy() else {
+        return Err(PlansFault::Memory);
+    };
+    match Job::with_regions(alloc, parsed, setting, regions) {
+        Err(fault) => Err(of_own(fault)),
+        Ok(job) => Ok(Named { name, job }),
+    }
+}
+
+/// The jobs of a graph that was read, with these regions, and of a table.
+fn jobs_from(
+    alloc: Global,
+    setting: &Setting,
+    graph: &[u8],
+    table: &[u8],
+    parsed: Parsed,
+    regions: UnitList,
+) -> Result<Vec<Named>, PlansFault>
+    requires read { reading graph.now setting.now.columns ≡ Ok (parsed_of parsed) }
+    requires within { AreWithin parsed.graph parsed.counts parsed.start (length parsed.labels) }
+    requires setting { IsSetting setting.now }
+    requires regions { AreRegions parsed.graph.units regions }
+    ensures read { MatchResult result (λ named. jobs_over_regions setting.now graph.now table.now (parsed_of parsed) (Ok regions) ≡ Ok (jobs_of named.items))
+        (λ f. (f ≡ fault.Memory) ⊎ (jobs_over_regions setting.now graph.now table.now (parsed_of parsed) (Ok regions) ≡ Err f)) }
+    ensures shared { IfOk result (λ named. AreShared setting.now named.items) }
+{
+    let Ok(ids) = read_ids(alloc, graph) else {
+        return Err(PlansFault::Memory);
+    };
+    match read_plans(alloc, table, &ids) {
+        Err(fault) => Err(of_table(fault)),
+        Ok(plans) => match own_of(alloc, setting, parsed, regions) {
+            Err(fault) => Err(fault),
+            Ok(own) => join(alloc, own, plans.as_slice()),
+        },
+    }
+}
+
+/// The jobs of a graph that was read, and of a table.
+fn jobs_read(
+    alloc: Global,
+    setting: &Setting,
+    graph: &[u8],
+    table: &[u8],
+    parsed: Parsed,
+) -> Result<Vec<Named>, PlansFault>
+    requires read { reading graph.now setting.now.columns ≡ Ok (parsed_of parsed) }
+    requires within { AreWithin parsed.graph parsed.counts parsed.start (length parsed.labels) }
+    requires setting { IsSetting setting.now }
+    ensures read { MatchResult result (λ named. from_graph setting.now graph.now table.now (Ok (parsed_of parsed)) ≡ Ok (jobs_of named.items))
+        (λ f. (f ≡ fault.Memory) ⊎ (from_graph setting.now graph.now table.now (Ok (parsed_of parsed)) ≡ Err f)) }
+    ensures shared { IfOk result (λ named. AreShared setting.now named.items) }
+{
+    match regions_of(alloc, graph, &setting.region) {
+        Err(fault) => Err(of_regions(fault)),
+        Ok(regions) => jobs_from(alloc, setting, graph, table, parsed, regions),
+    }
+}
+
+/// The jobs of several plans of one graph: of the graph's own plan under the name of its district column, and then of each plan of the table
+/// that stands behind the first line feed.
+///
+/// # Errors
+///
+/// The first of these, want of memory excepted, which may come at any place: what refuses the graph, its regions, the table, the graph's own plan,
+/// and the plans of the table in their order, with the name of the plan.
+pub fn read_jobs(alloc: Global, setting: &Setting, bytes: &[u8]) -> Result<Vec<Named>, PlansFault>
+    requires { IsSetting setting.now }
+    ensures read { MatchResult result (λ named. jobs_reading setting.now bytes.now ≡ Ok (jobs_of named.items))
+        (λ f. (f ≡ fault.Memory) ⊎ (jobs_reading setting.now bytes.now ≡ Err f)) }
+    ensures shared { IfOk result (λ named. AreShared setting.now named.items) }
+{
+    let (graph, table) = parts_of(bytes);
+    match read_graph(alloc, graph, &setting.columns) {
+        Err(fault) => Err(of_graph(fault)),
+        Ok(parsed) => jobs_read(alloc, setting, graph, table, parsed),
+    }
+}

@@ -1,5 +1,0 @@
-use Rattle.plan_jobs.proofs.Naming.{AreNamed}
-use Rattle.plan_jobs.proofs.named.named_all.Given as goal
-
-abbrev pub invariant-loop-plan : goal.invariant-loop-plan
-invariant-loop-plan l = AreNamed l.job l.plans l.plan-index l.named.items

@@ -1,5 +1,0 @@
-pub mod Refusals
-pub mod Named
-pub mod Reading
-pub mod Shared
-pub mod Stages

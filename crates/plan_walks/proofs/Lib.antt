@@ -1,2 +1,0 @@
-mod Reported
-mod Turning

@@ -1,0 +1,20 @@
+//! A text, written whole.
+
+ghost use Rattle.report.specs.Said.{WritesAllOf};
+
+use audit_io::sink::Sink;
+use audit_io::source::Failed;
+
+/// Writes all of the text, or as much as the sink takes before it fails.
+pub fn write_all<K: Sink>(out: &mut K, text: &[u8]) -> Result<(), Failed>
+    ensures { WritesAllOf (K.state out.old) (K.state out.new) text.now result }
+{
+    let mut at = 0;
+    'turns: while at < text.len() {
+        match out.write(&text[at..]) {
+            Ok(count) => at += count,
+            Err(_) => return Err(Failed),
+        }
+    }
+    Ok(())
+}

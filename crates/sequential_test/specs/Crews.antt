@@ -1,0 +1,36 @@
+-- What clauses say of the workers of a run whose tests stop early.
+use Rattle.std.specs.Prelude.{◌≡◌, ℕ, suc, ◌+◌, ◌-◌, ◌<◌, ◌≤◌, Bool, List, length, vec_len, IsPermutation}
+use Rattle.std.specs.List.{slice_index_or}
+use Rattle.audit_model.specs.Job.{Job}
+use Rattle.audit_model.specs.Room.{RoomyOutcomes}
+use Rattle.audit_model.specs.Run.{total}
+use Rattle.audit_model.specs.Trajectory.{hub}
+use Rattle.audit_statement.specs.Draw.{draw}
+use Rattle.outcome_book.specs.Booked.{Booked}
+use Rattle.claim_counter.specs.declared.parts.Team.{Team}
+use Rattle.claim_counter.specs.declared.parts.Part.{Part}
+use Rattle.claim_counter.specs.Parts.{IsFreshPart, IsTeam}
+use Rattle.sequential_test.specs.declared.crew.StoppingCrew.{StoppingCrew}
+use Rattle.sequential_test.specs.Rounds.{ends_after, found_below}
+
+-- the rounds after so many, the first of them at the end of the list
+abbrev pub AreRounds : ℕ → ℕ → ℕ → List Part → Type 0
+AreRounds ends seats done rounds = (k : ℕ) (d : Part) (i : ℕ) → k < length rounds → i + k + 1 ≡ done + length rounds
+    → IsFreshPart (ends_after ends (suc i) - ends_after ends i) seats (slice_index_or rounds k d)
+
+module _ {J : Type 0} where
+  -- so many workers, a part for all outlier trajectories, and rounds for all ends
+  pub record IsStoppingCrew (job : Job) (workers : ℕ) (c : StoppingCrew J) : Type 0 where
+    pub workers_are : c.seats ≡ workers
+    pub team : IsTeam job c.seats c.team
+    pub walks : IsFreshPart job.setting.walks c.seats c.walks
+    pub rounds : AreRounds job.setting.ends c.seats 0 c.rounds.items
+    pub all : ends_after job.setting.ends (vec_len c.rounds) ≡ job.setting.ends
+
+  -- the trajectories with the first ids were walked, and the workers are ready for more, with the hub and with room for all outcomes
+  pub record HasWalkedTo (job : Job) (seats count : ℕ) (t : Team J) (b : Booked) (sorted : RoomyOutcomes) : Type 0 where
+    pub team : IsTeam job seats t
+    pub hub_is : t.hub ≡ hub job (draw job.setting.key)
+    pub whole : b.total ≡ total job
+    pub walked : IsPermutation b.outcomes (found_below job count)
+    pub room : total job ≤ length sorted.items + sorted.spare

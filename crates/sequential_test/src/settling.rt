@@ -1,0 +1,32 @@
+//! Whether every test has stopped.
+
+ghost use Rattle.std.specs.Prelude.{◌≡◌, ◌≤◌, length, IfNone, IfSome};
+ghost use Rattle.std.specs.List.{AllPairs};
+ghost use Rattle.sequential_test.specs.Rounds.{AreParts, AreSettled, AreSettledBelow};
+
+use crate::settle::settle;
+use audit_model::outcome::Outcome;
+use plan_core::job::Job;
+
+/// Where the test of each ask has stopped, as far as these outcomes tell: the place, and a part of the values up to it. `None` where one
+/// has not. It takes no memory.
+pub fn settle_all(job: &Job, outcomes: &[Outcome]) -> Option<[[u32; 3]; 4]>
+    requires some { 1 ≤ job.now.setting.stop }
+    requires apart { AllPairs (λ a b. a.id ≡ b.id → ⊥) outcomes.now }
+    ensures all { IfSome result (AreSettledBelow job.now outcomes.now (length job.now.setting.asks)) }
+    ensures parts { IfSome result (AreParts job.now.setting.ends (length job.now.setting.asks)) }
+    ensures four { IfSome result (λ stops. length stops ≡ 4) }
+    ensures none { IfNone result (AreSettled job.now outcomes.now → ⊥) }
+{
+    // Called for what its contract says: the job is within its limits, and its start plan is legal.
+    let _units = job.units();
+    let enough = job.setting().stop;
+    let mut stops = [[0; 3]; 4];
+    for place in 0..job.setting().asks.len() {
+        match settle(job, place as u32, enough, outcomes) {
+            Some(stop) => stops[place] = [stop.place, stop.top, stop.of],
+            None => return None,
+        }
+    }
+    Some(stops)
+}

@@ -1,0 +1,17 @@
+-- A worker may go to another thread, where its judge may.
+use denote.RattleType.{RattleType}
+use denote.Param.Send.{IsSend, sendable}
+use Rattle.std.proofs.Crossing.{crosses}
+use Rattle.atomic_table.proofs.badge.Badge.TheSendSync.{the_send as badge_send}
+use Rattle.tally_desk.specs.contracts.pass.DeskPass as DeskPass
+use Rattle.flip_guard.specs.declared.judge.Judge.{Ghosts}
+use Rattle.walker.proofs.Crossing.{walker_send}
+use Rattle.tally_desk.specs.contracts.worker.DeskWorker as DeskWorker
+
+-- a pass may cross threads
+pass_send : IsSend DeskPass.the_field.row
+pass_send = search (badge_send, crosses, sendable) depth 20
+
+-- so may a worker, where its judge may
+pub worker_send : (J : RattleType) (g : Ghosts J.Denot) → IsSend J → IsSend (DeskWorker.the_row J g)
+worker_send J g judge = search (walker_send, pass_send, sendable) depth 20

@@ -1,0 +1,21 @@
+use Rattle.std.proofs.Common.{◌≡◌, ◌+◌, ◌≤◌, All, vec_capacity, vec_len, false}
+use Rattle.tally_desk.specs.Founded.{parts_of}
+use Rattle.tally_desk.specs.Passes.{Belongs, HasPostedAll, view_of}
+use Rattle.tally_desk.specs.Crews.{AreWalkers, IsReadyAtDesk}
+use Rattle.tally_desk.proofs.crew.seat.Given as goal
+
+abbrev pub invariant-loop-walker : goal.invariant-loop-walker
+invariant-loop-walker g l = record {
+  walkers : AreWalkers l.desk.table.shared.key.job.value l.walkers.items;
+  ready : All (IsReadyAtDesk l.desk.table.shared.table_id (parts_of g.C.Keeper.state l.desk.table.shared.key)) l.workers.items;
+  pass : Belongs l.desk.table.shared.table_id (parts_of g.C.Keeper.state l.desk.table.shared.key) l.pass;
+  going : (view_of l.pass).own.ended ≡ false;
+  weight : (view_of l.pass).own.weight ≡ 1;
+  spare : (view_of l.pass).own.spare ≡ vec_len l.walkers;
+  whole : HasPostedAll (parts_of g.C.Keeper.state l.desk.table.shared.key) (view_of l.pass);
+  count : vec_len l.workers + vec_len l.walkers + 1 ≡ vec_len l.fn.walkers;
+  room : vec_len l.fn.walkers ≤ vec_capacity l.workers;
+}
+
+abbrev pub decreases-loop-walker : goal.decreases-loop-walker
+decreases-loop-walker g l = vec_len l.walkers

@@ -1,0 +1,54 @@
+-- The last save of a run that saves while it walks.
+use Rattle.std.specs.Prelude.{◌≡◌, ℕ, Bool, true, false, List, [], ◌∷◌, ◌++◌, Result, OnOk, is_ok}
+use Rattle.audit_io.specs.declared.source.Failed.{Failed}
+use Rattle.audit_model.specs.Faults.{HasCause}
+use Rattle.audit_model.specs.State.{Kept as KeeperState}
+use Rattle.audit_model.specs.Told.{IfTold}
+use Rattle.audit_model.specs.Pair.{HoldsBytes, KeepsOther}
+use Rattle.audit_model.specs.Tries.{Try, tried_too, try_of}
+use Rattle.audit_model.specs.declared.outcome.Outcome.{Outcome}
+use Rattle.audit_model.specs.Run.{total, by_id}
+use Rattle.audit_statement.specs.Checkpoint.{IsCheckpoint, checkpoint, job_digest}
+use Rattle.audit_model.specs.declared.place.Place.{Place}
+use Rattle.ckpt_store.specs.Laws.{IsNewestForFitJobs}
+use Rattle.tally_desk.specs.declared.entry.Entry.{Entry}
+use Rattle.tally_desk.specs.declared.handing.Kept.{Kept}
+use Rattle.tally_desk.specs.Entries.{saves_made}
+use Rattle.tally_desk.specs.Homes.{booked, tries}
+use Rattle.audit_statement.specs.InOrder.{moved}
+use Rattle.tally_desk.specs.Parts.{Parts}
+use Rattle.tally_desk.specs.Passes.{IsClosed}
+use Rattle.tally_desk.specs.Views.{PassView}
+
+-- this is what a desk left that was closed, and the digest is the job's
+pub record IsClosedWith {C : Type 0} (state : C → KeeperState) (parts : Parts) (v : PassView) (kept : Kept C) (digest : List ℕ) : Type 0 where
+  pub closed : IsClosed state parts v kept.book kept.keeper kept.place kept.failed_saves kept.last_saved
+  pub digest_is : digest ≡ job_digest parts.job
+
+-- a checkpoint of these outcomes was saved at the place, or the save failed
+pub record SavesThese {C : Type 0} (state : C → KeeperState) (before now : C) (place : Place) (digest : List ℕ)
+    (outcomes : List Outcome) (result : Result (Unit {0}) Failed) : Type 0 where
+  pub sound : IsCheckpoint (checkpoint 2 digest place.generation outcomes) 2 digest place.generation outcomes
+  pub held : OnOk result (HoldsBytes (state now).slots place.slot (checkpoint 2 digest place.generation outcomes))
+  pub newest : OnOk result (IfTold (state now).slots (IsNewestForFitJobs digest place.slot place.generation outcomes))
+  pub other : KeepsOther (state before).slots (state now).slots place.slot
+  pub cause : HasCause (state before).save_faults (state now).save_faults result
+  pub loads : (state now).load_faults ≡ (state before).load_faults
+  pub tried : (state now).tried ≡ tried_too (state before).tried place.slot (checkpoint 2 digest place.generation outcomes) (is_ok result)
+
+-- where a save was made with the last post nothing is done, and elsewhere a last one is made
+pub record MakesLastSave {C : Type 0} (state : C → KeeperState) (before now : Kept C) (digest : List ℕ)
+    (outcomes : List Outcome) (result : Result (Unit {0}) Failed) : Type 0 where
+  pub failed : now.failed_saves ≡ before.failed_saves
+  pub saved : before.last_saved ≡ true → (now.keeper ≡ before.keeper) × (is_ok result ≡ true)
+  pub unsaved : before.last_saved ≡ false → SavesThese state before.keeper now.keeper before.place digest outcomes result
+
+-- all saves that a run over a desk tried: those of its desk, and where none was made with the last post, one of all posts, which succeeded or not
+abbrev pub rest_tries : Bool → Bool → Parts → List Entry → List Try
+rest_tries true succeeded parts posted = []
+rest_tries false succeeded parts posted =
+    let place = moved (saves_made posted) parts.place in
+    try_of place.slot (checkpoint 2 (job_digest parts.job) place.generation (by_id (total parts.job) (booked parts posted))) succeeded ∷ []
+
+abbrev pub run_tries : Bool → Bool → Parts → List Entry → List Try
+run_tries last_saved succeeded parts posted = tries parts posted ++ rest_tries last_saved succeeded parts posted

@@ -1,0 +1,22 @@
+//! The plan from which the trajectories of the parallel test start.
+
+ghost use Rattle.std.specs.Prelude.{◌≡◌, ◌<◌, ℕ, All, IsFalse, List, length};
+ghost use Rattle.tally_desk.specs.Crews.{IsWalker};
+ghost use Rattle.claim_counter.specs.Walks.{ServesEnds};
+
+use audit_model::lists::UnitList;
+use flip_guard::judge::Judge;
+use plan_core::job::Job;
+use walker::walker::Walker;
+
+/// Writes the hub, where it is needed.
+pub fn walk_hub<J: Judge>(job: &Job, needed: bool, walker: &mut Walker<J>, hub: &mut UnitList)
+    requires walks { IsWalker job.now walker.old }
+    requires units { length hub.old ≡ job.now.graph.units }
+    ensures walks { IsWalker job.now walker.new }
+    ensures hub { (todo : List ℕ) → (IsFalse needed → All (λ id. id < job.now.setting.walks) todo) → ServesEnds job.now todo hub.new }
+{
+    if needed {
+        walker.hub_into(job, hub.as_mut_slice());
+    }
+}

@@ -1,0 +1,74 @@
+//! The trajectories of a run that saves, walked by several threads.
+
+ghost use Rattle.std.specs.Prelude.{◌≡◌, ◌+◌, ◌<◌, ℕ, All, true, vec_len};
+ghost use Rattle.tally_desk.specs.Founded.{parts_of};
+ghost use Rattle.tally_desk.specs.Passes.{Belongs, HasPostedAll, view_of};
+ghost use Rattle.tally_desk.specs.Crews.{IsDeskWorkerDone, IsReadyAtDesk, WalksAtDesk};
+
+use crate::desk::Desk;
+use crate::laws::posts_stay_whole;
+use crate::pass::DeskPass;
+use crate::worker::DeskWorker;
+use audit_io::gate::Gate;
+use audit_io::keeper::Keeper;
+use claim_counter::runtime::Runtime;
+use flip_guard::judge::Judge;
+use plan_core::job::Job;
+use std::sync::Wait;
+use std::thread;
+use std::thread::Threads;
+
+/// Each worker in a thread of its own, where one can be started.
+pub fn walk_each<R: Threads + Wait + Sync, C: Keeper + Send, J: Judge + Send, G: Gate + Sync>(
+    rt: &Runtime<R, G>,
+    job: &Job,
+    hub: &[u32],
+    desk: &Desk<C>,
+    workers: &mut [DeskWorker<J>],
+)
+    requires ready { All (IsReadyAtDesk desk.now.table.shared.table_id (parts_of C.state desk.now.table.shared.key)) workers.old }
+    requires shared { WalksAtDesk job.now (parts_of C.state desk.now.table.shared.key) hub.now }
+    ensures { All (IsDeskWorkerDone desk.now.table.shared.table_id (parts_of C.state desk.now.table.shared.key)) workers.new }
+{
+    let count = workers.len().max(1);
+    let threads = rt.threads;
+    let gate = rt.gate;
+    thread::for_each_mut(
+        threads,
+        workers,
+        count,
+        &|_, worker: &mut DeskWorker<J>|
+            requires ready { IsReadyAtDesk desk.now.table.shared.table_id (parts_of C.state desk.now.table.shared.key) worker.now }
+            requires shared { WalksAtDesk job.now (parts_of C.state desk.now.table.shared.key) hub.now }
+            ensures { IsDeskWorkerDone desk.entry.now.table.shared.table_id (parts_of C.state desk.entry.now.table.shared.key) worker.new }
+        { worker.run(threads, job, hub, gate, desk) },
+    );
+}
+
+/// One pass for all workers.
+pub fn gather<C: Keeper, J: Judge>(desk: &Desk<C>, mut workers: Vec<DeskWorker<J>>) -> DeskPass
+    requires workers { All (IsDeskWorkerDone desk.now.table.shared.table_id (parts_of C.state desk.now.table.shared.key)) workers.items }
+    requires some { 0 < vec_len workers }
+    ensures pass { Belongs desk.now.table.shared.table_id (parts_of C.state desk.now.table.shared.key) result }
+    ensures ended { (view_of result).own.ended ≡ true }
+    ensures seats { (view_of result).own.weight + (view_of result).own.spare ≡ vec_len workers }
+    ensures whole { HasPostedAll (parts_of C.state desk.now.table.shared.key) (view_of result) }
+{
+    // A law, called for what its contract says: a pass that posts what it claims has posted all that it claimed.
+    posts_stay_whole();
+    let Some(first) = workers.pop() else {
+        unreachable!()
+    };
+    let mut pass = into_pass(first);
+    while let Some(worker) = workers.pop() {
+        pass = desk.join(pass, into_pass(worker));
+    }
+    pass
+}
+
+fn into_pass<J: Judge>(worker: DeskWorker<J>) -> DeskPass
+    ensures { result ≡ worker.pass }
+{
+    let DeskWorker { walker: _, pass } = worker;
+    pass
+}

@@ -1,2 +1,0 @@
-//! How scores and tails are written, the report and the check text.
-#![tactic(auto)]

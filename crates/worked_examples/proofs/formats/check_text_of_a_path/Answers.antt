@@ -1,9 +1,0 @@
-use Rattle.std.proofs.Common.{refl}
-use Rattle.std.specs.Fmt.{digits}
-use Rattle.audit_model.specs.Below.{count_below}
-use Rattle.text_definitions.specs.Report.{check_text}
-use Rattle.worked_examples.proofs.formats.check_text_of_a_path.Goals as goal
-
-pub returns : goal.returns
-unfolding check_text count_below digits
-returns c = refl
