@@ -97,7 +97,7 @@ def compare(program, gatherer, draw, kills, words, room):
 
 def main(program, gatherer, jobs="20", seed="1", kills="2"):
     draw, count = random.Random(int(seed)), 0
-    program, gatherer = (str(pathlib.Path(path).resolve()) for path in (program, gatherer))
+    program, gatherer = (str(pathlib.Path(path).absolute()) for path in (program, gatherer))
     for job in range(int(jobs)):
         words, room = drawn_words(draw), pathlib.Path(tempfile.mkdtemp())
         try:

@@ -3,11 +3,12 @@
 
 With no word it prints each module of definitions of this repository that the names in the contract of `audit`, and in the traits of its
 arguments, come to by imports. `path CRATE.MODULE.NAME` prints each definition that a name comes to, `count` how many definitions and lines
-each clause takes. `page` writes the quotes in docs/THE_CLAIM.md and the counts in docs/CLAIMS.md anew, behind their marks.
+each clause takes. `page` writes the quotes in docs/THE_CLAIM.md and the counts in docs/CLAIMS.md and docs/DEFINITIONS.md anew, behind their
+marks.
 
-`check` prints nothing where docs/DEFINITIONS.md lists exactly those modules, the plain statement takes at most 130 definitions of 600 lines,
-without the words of the command line, docs/THE_CLAIM.md quotes each definition that it comes to, and all quotes and counts are as `page`
-writes them. Else it prints what is not so, and ends with status 1.
+`check` prints nothing where docs/DEFINITIONS.md lists exactly those modules, no crate of code stands below the statement, the plain statement
+takes at most 130 definitions of 600 lines, without the words of the command line, docs/THE_CLAIM.md quotes each definition that it comes to,
+and all quotes and counts are as `page` writes them. Else it prints what is not so, and ends with status 1.
 """
 import os
 import re
@@ -80,10 +81,11 @@ def listed():
 
 # ---- how much there is to read
 
-PLAIN = ("plain_statement", "Audited", "AuditsPlainly")
-WORDS = [("plain_statement", "Said"), ("word_definitions", "Words")]
+PLAIN = ("audit_statement", "Audited", "AuditsPlainly")
+WORDS = [("audit_statement", "Said"), ("audit_statement", "Words")]
 MOST_DEFINITIONS, MOST_LINES = 130, 600
 RECORDS = [("Promise", "KeepsItsPromise", "one plan"), ("Several", "KeepsPlansPromise", "several plans")]
+WHOLE = [PLAIN, ("audit_statement", "PlainlyEnded", "EndsPlainly"), ("audit_statement", "Whole", "KeepsEachPromise")]
 
 
 def plain_fault():
@@ -103,18 +105,29 @@ def count_table():
     yield "|---|---|---|---|"
     yield count_row("`plain` of `audit_plainly`", Path([PLAIN]))
     yield count_row("the same without the words of the command line", Path([PLAIN], WORDS))
-    yield count_row("`ends` of `audit_plainly`, with the grammar of the words", Path([("plain_statement", "Ended", "EndsPlainly")]))
+    yield count_row("`ends` of `audit_plainly`, with the grammar of the words", Path([WHOLE[1]]))
     for module, record, kind in RECORDS:
         for field, roots in fields_of("audit_statement", module, record):
             yield count_row("`%s` of %s" % (field, kind), Path(roots))
         yield count_row("all of these, `%s`" % record, Path([("audit_statement", module, record)]))
-    yield count_row("all that `audit` promises, `KeepsEachPromise`", Path([("audit_statement", "Whole", "KeepsEachPromise")]))
+    yield count_row("all that `audit` promises, `KeepsEachPromise`", Path([WHOLE[2]]))
+
+
+def crate_table():
+    """How many modules, definitions and lines of each crate the whole contract of `audit_plainly` comes to, as the lines of a table."""
+    yield "| crate | modules | definitions | lines |"
+    yield "|---|---|---|---|"
+    path = Path(WHOLE)
+    for crate in sorted({key[0] for key in path.found}):
+        modules = {key[1] for key in path.found if key[0] == crate} - {"declared"}
+        yield "| `%s` | %d | %d | %s |" % (crate, len(modules), len([k for k in path.found if k[0] == crate]), format(path.lines(crate), ","))
 
 
 # ---- what the documents quote
 
-QUOTING = [os.path.join(TOP, "docs", "THE_CLAIM.md"), os.path.join(TOP, "docs", "CLAIMS.md")]
-MARK = re.compile(r"<!-- (quote|counts|contract)(?: (.*?))? -->$")
+QUOTING = [os.path.join(TOP, "docs", name) for name in ("THE_CLAIM.md", "CLAIMS.md", "DEFINITIONS.md")]
+MARK = re.compile(r"<!-- (quote|counts|crates|contract)(?: (.*?))? -->$")
+TABLES = {"counts": count_table, "crates": crate_table}
 
 
 def quoted_names(words):
@@ -158,11 +171,11 @@ def renewed(text):
         out.append(lines[at])
         found = MARK.match(lines[at])
         at += 1
-        if found and found.group(1) != "counts":
+        if found and found.group(1) not in TABLES:
             out.extend(quote(found.group(2)) if found.group(1) == "quote" else contract())
             at = lines.index("```", at) + 1 if lines[at:at + 1] == ["```text"] else at
         elif found:
-            out.extend(count_table())
+            out.extend(TABLES[found.group(1)]())
             while at < len(lines) and lines[at].startswith("|"):
                 at += 1
     return "\n".join(out)
@@ -208,6 +221,16 @@ def unlisted():
         yield "docs/DEFINITIONS.md lists what is not there: %s %s" % (crate, module)
 
 
+def code_below():
+    """The crates of this repository, beside the plain types, that the modules of the statement name."""
+    below = set()
+    for file in os.listdir(os.path.join(CRATES, "audit_statement", "specs")):
+        found = re.findall(r"^(?:pub )?use Rattle\.(\w+)\.", text_of("audit_statement", "specs", file), re.M)
+        below |= {crate for crate in found if os.path.isdir(os.path.join(CRATES, crate))}
+    for crate in sorted(below - {"audit_model", "audit_statement"}):
+        yield "the statement stands on code: audit_statement names %s" % crate
+
+
 def show_path(name):
     """The definitions that one name comes to, with their lines."""
     path = Path([tuple(name.split("."))])
@@ -219,7 +242,7 @@ def show_path(name):
 def main():
     word = sys.argv[1] if len(sys.argv) > 1 else ""
     if word == "check":
-        faults = list(unlisted()) + list(plain_fault()) + list(stale())
+        faults = list(unlisted()) + list(code_below()) + list(plain_fault()) + list(stale())
         print("\n".join(faults), end="\n" if faults else "")
         return 1 if faults else 0
     if word == "page":

@@ -91,17 +91,57 @@ run 8 "checkpoint: slot 0 absent, slot 1 too long" --save 2 --resume yes
 nothing
 [ "$(stat -c %s audit-1.ckpt)" = 8000085 ] || fail "the $name run changed the long file"
 
-# A device that takes all bytes and cannot be synced: each save there fails, and the report is whole.
-folder unsynced
-ln -s /dev/null audit-0.ckpt
-run 9 "checkpoint save fault" --save 2
-whole
-[ "$(ls)" = audit-0.ckpt ] || fail "the $name run went on to the other slot after a save that failed"
+# What is no plain file is there, and is neither opened nor written: devices, a pipe that nobody writes to, and a link to nothing. With and without
+# going on.
+for kind in null full pipe nothing; do
+    for more in "" "--resume yes"; do
+        folder "$kind${more// /-}"
+        case $kind in
+            pipe) mkfifo audit-0.ckpt ;;
+            nothing) ln -s elsewhere audit-0.ckpt ;;
+            *) ln -s "/dev/$kind" audit-0.ckpt ;;
+        esac
+        # shellcheck disable=SC2086
+        run 6 "checkpoint load fault" --save 2 $more
+        nothing
+        [ "$(ls)" = audit-0.ckpt ] || fail "the $name run left something beside what is no plain file"
+    done
+done
 
-# A full device: the same.
+# Two slots that are one file, by a link of either kind; and a link to a plain file of its own, which is a slot as any other.
+for kind in hard soft; do
+    folder "$kind"
+    run 7 "stopped: 4 of 12 done" --save 4 --budget 4
+    if [ $kind = hard ]; then ln audit-0.ckpt audit-1.ckpt; else ln -s audit-0.ckpt audit-1.ckpt; fi
+    run 6 "checkpoint load fault" --save 2 --resume yes
+    nothing
+    [ "$(stat -c %s audit-0.ckpt)" = 404 ] || fail "the $name run wrote to a slot that is the other one"
+done
+folder elsewhere
+run 7 "stopped: 4 of 12 done" --save 4 --budget 4
+mkdir "$room/far" && mv audit-0.ckpt "$room/far/kept" && ln -s "$room/far/kept" audit-0.ckpt
+run 0 "" --save 2 --resume yes
+whole
+
+# Makes a run that can write no byte to any file; its report and its note go through pipes.
+limited='import resource, signal, subprocess, sys
+def limit():
+    signal.signal(signal.SIGXFSZ, signal.SIG_IGN)
+    resource.setrlimit(resource.RLIMIT_FSIZE, (0, 0))
+end = subprocess.run(sys.argv[3:], stdin=sys.stdin, capture_output=True, preexec_fn=limit)
+open(sys.argv[1], "wb").write(end.stdout)
+open(sys.argv[2], "wb").write(end.stderr)
+sys.exit(end.returncode)'
+run_limited() {
+    local wanted=$1 note=$2
+    shift 2
+    python3 -c "$limited" "$room/$name.out" "$room/$name.note" "$program" "${words[@]}" "$@" <"$here/cycle.json"
+    ended $? "$wanted" "$note"
+}
+
+# No byte can be written: each save fails, to the same slot, and the report is whole.
 folder full
-ln -s /dev/full audit-0.ckpt
-run 9 "checkpoint save fault" --save 2
+run_limited 9 "checkpoint save fault" --save 2
 whole
 [ "$(ls)" = audit-0.ckpt ] || fail "the $name run went on to the other slot after a save that failed"
 
@@ -116,11 +156,9 @@ folder half
 run 7 "stopped: 4 of 12 done" --save 4 --budget 4
 [ "$(ls)" = audit-0.ckpt ] || fail "the $name run saved elsewhere than in its first slot"
 run 7 "stopped: 8 of 12 done" --save 4 --budget 4 --resume yes
-rm audit-0.ckpt && ln -s /dev/full audit-0.ckpt
-run 9 "checkpoint save fault" --save 2 --budget 2 --resume yes
+run_limited 9 "checkpoint save fault" --save 2 --budget 2 --resume yes
 nothing
 [ "$(stat -c %s audit-1.ckpt)" = 724 ] || fail "the $name run changed the newest slot"
-rm audit-0.ckpt
 run 0 "" --save 2 --resume yes
 whole
 
@@ -136,22 +174,26 @@ head -c 10 <pipe >/dev/null &
 ended $? 5 "write fault"
 wait
 
-# A pipe that answers that it would have to wait, for output and for input: each is a failed call.
+# A pipe that answers that it would have to wait, for output and for input: the run goes on as soon as the other end does.
 unwaiting='import fcntl, os, sys
 stream = int(sys.argv[1])
 fcntl.fcntl(stream, fcntl.F_SETFL, fcntl.fcntl(stream, fcntl.F_GETFL) | os.O_NONBLOCK)
 os.execv(sys.argv[2], sys.argv[2:])'
+long=(run "${words[@]:1:12}" --walks 5000 --steps 8 --ask gap:low,cut-edges:low)
+"$program" "${long[@]}" <"$here/cycle.json" >"$room/$name.long" 2>"$room/$name.note"
+ended $? 0 ""
+[ "$(stat -c %s "$room/$name.long")" -gt 200000 ] || fail "the long report would go through a pipe at once"
 mkfifo slow
-sleep 60 <slow &
-python3 -c "$unwaiting" 1 "$program" run "${words[@]:1:12}" --walks 5000 --steps 8 --ask gap:low,cut-edges:low <"$here/cycle.json" \
-    >slow 2>"$room/$name.note"
-ended $? 5 "write fault"
-{ kill $! && wait $!; } 2>/dev/null
-sleep 60 >slow &
+{ sleep 1; cat >"$room/$name.out"; } <slow &
+python3 -c "$unwaiting" 1 "$program" "${long[@]}" <"$here/cycle.json" >slow 2>"$room/$name.note"
+ended $? 0 ""
+wait
+cmp -s "$room/$name.out" "$room/$name.long" || fail "the report through a pipe that does not wait is not the report"
+{ sleep 1; cat "$here/cycle.json"; } >slow &
 python3 -c "$unwaiting" 0 "$program" "${words[@]}" <slow >"$room/$name.out" 2>"$room/$name.note"
-ended $? 4 "read fault"
-nothing
-{ kill $! && wait $!; } 2>/dev/null
+ended $? 0 ""
+whole
+wait
 
 # Standard input: a folder, and closed.
 "$program" "${words[@]}" <"$room" >"$room/$name.out" 2>"$room/$name.note"

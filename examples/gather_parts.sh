@@ -26,8 +26,10 @@ built() {
 }
 
 program=$(realpath "${1:-$(built audit_program)}") || exit 1
-gatherer=$(realpath "${2:-$(built audit_gather)}") || exit 1
+gatherer=${2:-$(built audit_folders)}
 room=$(mktemp -d) || fail "no temporary folder"
+# The program goes by the name under which it is called.
+ln -s "$(realpath "$gatherer")" "$room/audit_gather" && gatherer=$room/audit_gather || exit 1
 trap 'kill -9 $(jobs -p) 2>/dev/null; rm -rf "$room"; echo "${told:-gather_parts.sh: $passed passed, 0 failed}"' EXIT
 cd "$room" || exit 1
 key=0000000000000000000000000000000000000000000000000000000000000000

@@ -8,7 +8,7 @@ the file to no bytes, each piece of what was written, and its length without its
 Which of these are tried: all up to each piece, each piece alone, all but each piece, and some drawn ones; of two files that are not stored, drawn pairs.
 Of all states so many are drawn (all where no number is given). In each the program is resumed: status, report, note and files have to be those
 of the plain model in model.py, and a run that ends well has to write the one report. No save that the program has taken for done may be lost,
-but in one case: where a run goes on after another was killed within a save, and has not yet stored the file anew that the other left.
+neither by the run that made it nor by one that goes on after it was killed.
 Prints how many states there were, and each that is not so; ends with 1 where there is one. Says so where strace cannot trace.
 """
 import itertools
@@ -60,7 +60,7 @@ def whole_lines(text):
 
 def calls_of(text):
     """What a run did to the two files and to their folder, in turn: what, which file, and where and which bytes."""
-    files, folders, at = {}, set(), {}
+    files, folders, read, at = {}, set(), {}, {}
     for line in whole_lines(text):
         found = CALL.match(line)
         if not found:
@@ -74,6 +74,8 @@ def calls_of(text):
                 yield "make" if "O_EXCL" in said else "open", file
                 if "O_TRUNC" in said:
                     yield "cut", file, 0
+            elif name in NAMES:
+                read[answer] = NAMES.index(name)
             elif name == ".":
                 folders.add(answer)
             continue
@@ -83,8 +85,11 @@ def calls_of(text):
             yield "close", files.pop(number)
         elif call == "close":
             folders.discard(number)
+            read.pop(number, None)
         elif call in ("fsync", "fdatasync") and number in files and answer == 0:
             yield "sync", files[number]
+        elif call in ("fsync", "fdatasync") and number in read and answer == 0:
+            yield "sync", read[number]
         elif call == "fsync" and number in folders and answer == 0:
             yield "sync folder", None
         elif call == "write" and number in files and answer >= 0:
@@ -171,15 +176,10 @@ def pieces(step, draw):
 
 
 class Disk:
-    """Both files, how many outcomes the last save has that the program takes for done, and which files a killed run left without their bytes or
-    their name being stored: a name counts until the next run's first save is done, and bytes until that file is saved again."""
+    """Both files, and how many outcomes the last save has that a program takes for done."""
 
     def __init__(self):
-        self.files, self.done, self.loose, self.unwritten = (File(), File()), 0, set(), set()
-
-    @property
-    def may_lose(self):
-        return bool(self.loose)
+        self.files, self.done = (File(), File()), 0
 
     def take(self, call):
         """Takes a call as done."""
@@ -196,16 +196,14 @@ class Disk:
         elif what == "sync":
             file.sync()
         elif what == "close":
-            self.done, self.loose = outcomes(file.now), self.unwritten - {number}
-            self.unwritten = set(self.loose)
-
-    def kill(self):
-        """The program is killed: what it wrote is read by the next, and may not be stored."""
-        self.unwritten = {number for number, file in enumerate(self.files) if file.pending}
-        self.loose = self.unwritten | {number for number, file in enumerate(self.files) if file.now is not None and not file.is_named}
+            self.done = outcomes(file.now)
 
     def now(self):
         return tuple(file.now for file in self.files)
+
+    def stored(self):
+        """Whether each file and its name is stored for sure."""
+        return tuple((not file.pending, file.is_named) for file in self.files)
 
     def states(self, draw, drawn):
         """What both files may hold where the power is cut now."""
@@ -229,14 +227,12 @@ def outcomes_in(slots):
 # ---- the states
 
 def listed(disk, calls, draw, drawn, found):
-    """Lists what may be stored before, between and after these calls: for each state the most outcomes that had been saved, of those that may not
-    be lost and of those that may."""
+    """Lists what may be stored before, between and after these calls: for each state the most outcomes that had been saved."""
     for call in [None, *calls]:
         if call:
             disk.take(call)
         for state in disk.states(draw, drawn):
-            kept, risked = found.get(state, (0, 0))
-            found[state] = (kept, max(risked, disk.done)) if disk.may_lose else (max(kept, disk.done), risked)
+            found[state] = max(found.get(state, 0), disk.done)
 
 
 def all_states(program, folder, draw, drawn):
@@ -248,8 +244,7 @@ def all_states(program, folder, draw, drawn):
         disk = Disk()
         for call in first[:count]:
             disk.take(call)
-        disk.kill()
-        mark = disk.now(), disk.may_lose
+        mark = disk.now(), disk.stored()
         if mark in tried:
             continue
         tried.add(mark)
@@ -280,10 +275,9 @@ def named(slots):
 
 
 def lost_in(states):
-    """In how many states a save is lost that may be, and those where one is that may not."""
-    left = [(slots, outcomes_in(slots), kept, risked) for slots, (kept, risked) in states.items()]
-    wrong = [f"{named(slots)}: {one} outcomes are left of {kept} that were saved" for slots, one, kept, _ in left if one < kept]
-    return sum(one < risked for _, one, _, risked in left), wrong
+    """The states in which a save is lost."""
+    left = [(slots, outcomes_in(slots), kept) for slots, kept in states.items()]
+    return [f"{named(slots)}: {one} outcomes are left of {kept} that were saved" for slots, one, kept in left if one < kept]
 
 
 def resumed(program, folder, chosen, report):
@@ -312,17 +306,14 @@ def main(program, states="0", seed="1"):
         folder = pathlib.Path(name)
         found, later, calls, kills = all_states(program, folder, draw, 60)
         most = (int(states) + 1) // 2 or len(found) + len(later)
-        lost, wrong = 0, []
-        for some in (found, later):
-            more, wrongs = lost_in(some)
-            lost, wrong = lost + more, wrong + wrongs
+        wrong = lost_in(found) + lost_in(later)
         chosen = drawn_states(found, most, draw) + drawn_states(later, most, draw)
         ends, wrongs = resumed(program, folder, chosen, model.audit(WHOLE, CYCLE, [None, None]).out)
         wrong += wrongs
     for one in wrong[:20]:
         print("WRONG:", one)
-    print(f"{len(found)} states of a run of {calls} calls and {len(later)} of the {kills} runs that go on where it was killed; in {lost} a save is "
-          f"lost after a kill. Of {len(chosen)} that were resumed {ends[0]} ended with the one report, and {ends[8]} were refused by name. "
+    print(f"{len(found)} states of a run of {calls} calls and {len(later)} of the {kills} runs that go on where it was killed. Of "
+          f"{len(chosen)} that were resumed {ends[0]} ended with the one report, and {ends[8]} were refused by name. "
           f"{len(wrong)} are not as they have to be")
     return 1 if wrong or not calls or not ends[0] or not ends[8] else 0
 

@@ -170,9 +170,11 @@ class Path:
         self.waiting.extend(here.uses[w] if w in here.uses else (crate, module, w)
                             for w in definition.words() if w != name and (w in here.uses or w in here.definitions or w in here.cases))
 
-    def lines(self):
-        over = {(key[:2], line) for key, d in self.found.items() for line in d.over}
-        return sum(len([t for t in d.lines if t.strip()]) for d in self.found.values()) + len(over)
+    def lines(self, crate=None):
+        """How many lines these definitions have, or those of one crate."""
+        found = {key: d for key, d in self.found.items() if crate in (None, key[0])}
+        over = {(key[:2], line) for key, d in found.items() for line in d.over}
+        return sum(len([t for t in d.lines if t.strip()]) for d in found.values()) + len(over)
 
 
 def fields_of(crate, module, name):

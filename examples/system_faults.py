@@ -167,6 +167,14 @@ def injected(room):
         run(f"the closing of {path} fails", fresh, absent, "close", path, "error=EIO", done, saved(fresh, absent, {}))
     run("no save is synced", fresh, absent, "fsync", NAMES[0], "error=EIO", fault, saved(fresh, absent, dict.fromkeys(range(1, 9), whole)))
     run("the folder is never synced", fresh, absent, "fsync", room.slots, "error=EIO", fault, saved(fresh, absent, dict.fromkeys(range(1, 9), whole)))
+    for error in ("EINVAL", "EOPNOTSUPP"):
+        run(f"the folder is never synced, and the system says why: {error}", fresh, absent, "fsync", room.slots, f"error={error}", done,
+            saved(fresh, absent, {}))
+    for path, what in ((NAMES[0], "newest file"), (room.slots, "folder")):
+        run(f"the {what} is not synced before the first save", resumed, first, "fsync", path, "error=EIO:when=1", fault,
+            saved(resumed, first, {1: lambda data: first[1]}))
+    for path in NAMES:
+        run(f"{path} cannot be looked at", resumed, first, "newfstatat", path, "error=EIO", (6, "checkpoint load fault\n"), first)
     run("a new file is refused", fresh, absent, "openat", NAMES[0], "error=EACCES:when=2", fault, saved(fresh, absent, {1: lambda data: None}))
     run("an old file is not opened", resumed, first, "openat", NAMES[1], "error=EMFILE:when=3", fault, saved(resumed, first, {1: lambda data: first[1]}))
     for path in NAMES:

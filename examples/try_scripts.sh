@@ -53,8 +53,11 @@ program() {
 }
 
 auditor=$(program audit_program)
-slots=$(program audit_slots)
-gatherer=$(program audit_gather)
+# One program under two names.
+folders=$(program audit_folders)
+slots=$room/audit_slots gatherer=$room/audit_gather
+ln -s "$folders" "$slots"
+ln -s "$folders" "$gatherer"
 columns=(--pop TOTPOP --first DEM --second REP --district CD)
 key=0000000000000000000000000000000000000000000000000000000000000000
 
@@ -172,7 +175,7 @@ tells() {
 
 # The second program has to end with this status and this note, and to write nothing.
 ends_slots() {
-    (cd "$room/run" && "$slots" "${@:3}" <"$room/graph.json" >"$room/told" 2>"$room/note")
+    (cd "$room/run" && timeout 20 "$slots" "${@:3}" <"$room/graph.json" >"$room/told" 2>"$room/note")
     [ $? -eq "$1" ] && [ "$(cat "$room/note")" = "$2" ] && [ ! -s "$room/told" ]
     judge $? "audit_slots does not end with $1 and '$2': $(head -c 200 "$room/told" "$room/note" | tr '\n' '|')"
 }
@@ -198,6 +201,17 @@ refuses_slots() {
     mkdir "$room/run/audit-1.ckpt"
     ends_slots 6 "checkpoint load fault"
     rmdir "$room/run/audit-1.ckpt"
+    mkfifo "$room/run/audit-0.ckpt"
+    ends_slots 6 "checkpoint load fault" "${words[@]}"
+    (cd "$room/run" && timeout 20 "$gatherer" --look yes "$room/run" "${words[@]}" <"$room/graph.json" >"$room/told" 2>"$room/note")
+    [ $? -eq 6 ] && [ "$(cat "$room/note")" = "checkpoint load fault" ]
+    judge $? "audit_gather waits for a pipe in a slot's place: $(head -c 300 "$room/told" "$room/note" | tr '\n' '|')"
+    rm "$room/run/audit-0.ckpt"
+    "$folders" 2>"$room/note"
+    [ $? -eq 1 ] && [ "$(cat "$room/note")" = "words: neither slots nor gather" ]
+    judge $? "audit_folders takes no words"
+    (cd "$room/run" && "$folders" slots >"$room/told" 2>&1 && "$slots" | cmp -s - "$room/told")
+    judge $? "audit_folders tells something else than audit_slots"
     (cd "$room/run" && "$slots" <"$room/graph.json" >/dev/full 2>"$room/note")
     [ $? -eq 5 ] && [ "$(cat "$room/note")" = "write fault" ]
     judge $? "audit_slots does not tell of a failed write"

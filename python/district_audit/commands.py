@@ -9,7 +9,7 @@ import typing
 
 from . import labels as naming
 from . import progress as bars
-from .errors import PrepareRefused, ProgramMissing, ReportRefused
+from .errors import MissingExtra, PrepareRefused, ProgramMissing, ReportRefused
 from .preparing import Prepared
 from .preparing import prepare as prepared_of
 from .program import found, stop
@@ -48,7 +48,7 @@ All is black, grey and white: shapes and words tell things apart. A text that is
 """
 RUN = """Usage: district-audit-run WORDS < GRAPH > REPORT
 
-Runs the auditor with these words, which are those of `run`, or of `make` where that is the first of them. Standard output, status and note
+Runs the auditor with these words, which are those of `run`, or of `make` or `check` where that is the first of them. Standard output, status and note
 are the program's own. Where it saves and standard error is a terminal, a bar shows how far it is. Where it refuses the graph, a second line
 says in the graph's own ids and labels what its numbers stand for. Ctrl-C ends it, and tells how to go on.
 """
@@ -107,7 +107,7 @@ def prepare(words: typing.Sequence[str] | None = None) -> int:
         else:
             sys.stdout.buffer.write(ready.data)
             sys.stdout.flush()
-    except (PrepareRefused, OSError) as why:
+    except (PrepareRefused, MissingExtra, OSError) as why:
         faults = why.faults if isinstance(why, PrepareRefused) else []
         some = faults if args.all else faults[:10]
         for fault in some:
@@ -132,8 +132,8 @@ def picture(words: typing.Sequence[str] | None = None) -> int:
             with open(args.report, encoding="ascii", newline="") as file:
                 text = file.read()
         Report.parse(text).plot(args.name)
-    except ImportError:
-        print("picture: matplotlib is missing (Debian: python3-matplotlib; else: pip install matplotlib)", file=sys.stderr)
+    except MissingExtra as why:
+        print("picture: not drawn: %s" % why, file=sys.stderr)
         return 3
     except ReportRefused as why:
         print("picture: not drawn: this is no whole report: %s" % why, file=sys.stderr)
@@ -163,7 +163,7 @@ def run(words: typing.Sequence[str] | None = None) -> int:
     if words[:1] in ([], ["-h"], ["--help"]):
         print(RUN, file=sys.stderr)
         return 0 if words else 1
-    if words[0] not in ("run", "make"):
+    if words[0] not in ("run", "make", "check"):
         words.insert(0, "run")
     saves = value_of(words, "--save", "0") != "0"
     try:
@@ -172,7 +172,7 @@ def run(words: typing.Sequence[str] | None = None) -> int:
     except ProgramMissing as why:
         print("district-audit-run: %s" % why, file=sys.stderr)
         return 127
-    data = sys.stdin.buffer.read() if words[0] == "run" else b""
+    data = b"" if words[0] == "make" else sys.stdin.buffer.read()
     watch = None
     if slots is not None:
         path = slots

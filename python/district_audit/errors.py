@@ -1,6 +1,7 @@
 """What a call may end with in place of an answer: one exception for each status of the program, and a few of the package's own."""
 from __future__ import annotations
 
+import importlib
 import typing
 
 if typing.TYPE_CHECKING:
@@ -93,6 +94,34 @@ class ProgramFailed(Exception):
 
 class ProgramMissing(FileNotFoundError):
     """The installed program is not to be found."""
+
+
+class MissingExtra(ImportError):
+    """An optional module is not installed, or cannot be imported; the message says what it is for and how to install it.
+
+    `name` is the module, as in every ImportError, and `extra` the name of the extra that has it.
+    """
+
+    def __init__(self, module: str) -> None:
+        self.extra, what = EXTRAS[module]
+        super().__init__("%s is missing, which %s: it is the extra `%s` (Debian: apt-get install python3-%s; else: pip install %s)" % (
+            module, what, self.extra, module, module), name=module)
+
+
+# For each optional module without which something cannot be done: the extra that has it, and what it does.
+EXTRAS = {
+    "networkx": ("graphs", "reads files of GraphML and GML"),
+    "pandas": ("frames", "makes tables"),
+    "matplotlib": ("pictures", "draws pictures"),
+}
+
+
+def extra(module: str) -> typing.Any:
+    """An optional module; MissingExtra where it cannot be imported."""
+    try:
+        return importlib.import_module(module)
+    except ImportError as why:
+        raise MissingExtra(module) from why
 
 
 class Interrupted(KeyboardInterrupt):

@@ -8,7 +8,7 @@ import numbers
 import os
 import typing
 
-from .errors import PrepareRefused
+from .errors import PrepareRefused, extra
 
 SHOWN = 10
 
@@ -41,7 +41,7 @@ def as_json(value: object) -> str:
 # ---- reading
 
 def raw_of(graph: object) -> Raw:
-    """A graph of any kind that `prepare` takes; PrepareRefused where it cannot be read."""
+    """A graph of any kind that `prepare` takes; PrepareRefused where it cannot be read, MissingExtra where that takes networkx."""
     if isinstance(graph, (bytes, bytearray, memoryview)):
         return of_root(parsed(bytes(graph), "the graph"), "the graph")
     if isinstance(graph, (str, os.PathLike)):
@@ -64,10 +64,7 @@ def of_object(graph: typing.Any) -> Raw:
 def of_file(name: str) -> Raw:
     """A file; GraphML and GML are read by networkx."""
     if name.endswith((".graphml", ".gml")):
-        try:
-            import networkx
-        except ImportError:
-            raise PrepareRefused("networkx is missing, which reads %s (a .json file needs nothing)" % name) from None
+        networkx = extra("networkx")
         try:
             return of_object(networkx.read_graphml(name) if name.endswith(".graphml") else networkx.read_gml(name))
         except Exception as error:  # networkx and its readers of XML have many

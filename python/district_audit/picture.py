@@ -8,6 +8,7 @@ from __future__ import annotations
 
 import typing
 
+from .errors import extra
 from .report import SEATS, Report, Shift, Walk
 
 if typing.TYPE_CHECKING:
@@ -60,11 +61,17 @@ def test_rows(report: Report) -> list[Test]:
 
 
 def percent(count: int, whole: int) -> str:
-    """A part in percent, in as many digits as show that it is more than nothing."""
+    """A part in percent, so that it is seen whether it is more than nothing and less than all."""
     if count == 0:
         return "0"
     part = 100 * count / whole
+    if count < whole and part >= 99.95:
+        return "> 99.9 %"
     return "%.1f %%" % part if part >= 0.05 else "< 0.1 %"
+
+
+def so_many(count: int, what: str) -> str:
+    return "%d %s%s" % (count, what, "" if count == 1 else "s")
 
 
 def about(report: Report) -> str:
@@ -72,10 +79,11 @@ def about(report: Report) -> str:
     rules, setting = report.rules, report.setting
     limits = "" if rules.max_cut is None else "; at most %d cut edges" % rules.max_cut
     limits += "" if rules.regions is None else "; %d regions, each in at most %d districts" % (rules.regions, rules.max_split or 0)
-    ends = "%d ends of %d steps" % (setting.ends, setting.hub_steps) if setting.ends else "no ends"
-    return "%d units, %d districts, %d people; %d to %d people a district (slack %g %%)%s\n%d walks of %d steps; %s\nkey %s" % (
-        report.units, report.districts, report.population, rules.low, rules.high, rules.slack / 100, limits, setting.walks, setting.steps, ends,
-        report.key)
+    ends = "%s of %s" % (so_many(setting.ends, "end"), so_many(setting.hub_steps, "step")) if setting.ends else "no ends"
+    ends += ", a test stops after %d in its tail" % setting.stop if setting.stop else ""
+    walks = "%s of %s" % (so_many(setting.walks, "walk"), so_many(setting.steps, "step")) if setting.walks else "no walks"
+    return "%d units, %d districts, %d people; %d to %d people a district (slack %g %%)%s\n%s; %s\nkey %s" % (
+        report.units, report.districts, report.population, rules.low, rules.high, rules.slack / 100, limits, walks, ends, report.key)
 
 
 # ---- drawing
@@ -142,7 +150,8 @@ def finish(axes: Axes, labels: list[str], title: str) -> None:
 
 
 def draw(report: Report) -> Figure:
-    """The figure of a report, which has a walk or a test."""
+    """The figure of a report, which has a walk or a test. MissingExtra where matplotlib is not installed."""
+    extra("matplotlib")
     from matplotlib.backends.backend_agg import FigureCanvasAgg
     from matplotlib.figure import Figure
 

@@ -146,7 +146,8 @@ def prepare(graph: object, *, population: str, first: str, second: str, district
     empty: "error" refuses it, "zero" makes it 0 in a column of people or votes, "drop" leaves its unit out. `More` has what else may be
     said: `assignment`, `join`, `keep`, `fill_region`, `own_region`, `slack`, `max_split`, `show_all`.
 
-    PrepareRefused, a ValueError, where something is refused; its `faults` has a line for each value.
+    PrepareRefused, a ValueError, where something is refused; its `faults` has a line for each value. MissingExtra, an ImportError, where a
+    file can be read only by networkx, and that is not installed.
     """
     for name, value, good in (("numbers", numbers, ("error", "nearest", "floor")), ("missing", missing, ("error", "zero", "drop"))):
         if value not in good:
@@ -293,15 +294,21 @@ def suspicions(choices: Choices, rows: dict[Label, dict[str, typing.Any]], befor
     """Warnings of columns that are no counts of heads, and of what was lost where fractions were made whole."""
     found = []
     broken = {column for column, values in before.items() if any(value.denominator != 1 for value in values.values())}
+    people = sum(row[choices.population] for row in rows.values())
+    both = [(value, before[choices.second][unit]) for unit, value in before[choices.first].items() if unit in before[choices.second]]
+    add_up = bool(broken & {choices.first, choices.second}) and bool(both) and all(99 <= one + other <= 101 for one, other in both)
     for column in choices.counted:
         values = {unit: value for unit, value in before[column].items() if unit in rows}
         whole, lost = sum(values.values()), sum(abs(rows[unit][column] - value) for unit, value in values.items())
-        if column in broken and all(value <= 1 for value in values.values()):
+        is_small = column in broken and all(value <= 100 for value in values.values())
+        if is_small and all(value <= 1 for value in values.values()):
             found.append("column %s looks like shares and not like counts: all its values are from 0 to 1, and made whole they say nothing" % column)
+        elif is_small and column != choices.population and not add_up and people > 1000 * len(rows):
+            found.append("column %s may have percentages and not counts: all its values are from 0 to 100, and a unit has %d people on average" % (
+                column, people // len(rows)))
         elif lost * 100 > whole:
             found.append("column %s: making its values whole changes them by %.3g percent in all" % (column, float(100 * lost / whole) if whole else 100))
-    both = [(value, before[choices.second][unit]) for unit, value in before[choices.first].items() if unit in before[choices.second]]
-    if broken & {choices.first, choices.second} and both and all(99 <= one + other <= 101 for one, other in both):
+    if add_up:
         found.append("columns %s and %s look like percentages and not like counts: they add up to 100 in each unit" % (choices.first, choices.second))
     return found
 

@@ -14,7 +14,7 @@ import typing
 from decimal import Decimal
 from fractions import Fraction
 
-from .errors import ReportRefused
+from .errors import ReportRefused, extra
 
 if typing.TYPE_CHECKING:
     import matplotlib.figure
@@ -547,9 +547,9 @@ class Report:
         """A pandas DataFrame with a row for each line of a test. `count` is the count of a walk, the rank of a parallel or serial test, and
         the top of a sequential test's value. Starts, bounds and p-values are floats; with exact=True they are Fraction and Decimal.
 
-        ImportError where pandas is not installed.
+        MissingExtra, an ImportError, where pandas is not installed.
         """
-        import pandas
+        pandas = extra("pandas")
 
         def plain(value: object) -> object:
             if isinstance(value, Start):
@@ -561,7 +561,7 @@ class Report:
     def plot(self, name: str | None = None) -> matplotlib.figure.Figure:
         """A picture of the report, as a matplotlib figure; with a name it is written to NAME.png and NAME.svg, too.
 
-        ImportError where matplotlib is not installed.
+        MissingExtra, an ImportError, where matplotlib is not installed.
         """
         from . import picture
         figure = picture.draw(self)

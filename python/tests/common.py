@@ -4,6 +4,7 @@ import importlib.util
 import json
 import os
 import pathlib
+import re
 import stat
 import sys
 import tempfile
@@ -40,6 +41,15 @@ def built(crate, variable):
     if not os.access(path, os.X_OK):
         lacking("the program of crates/%s" % crate)
     return path
+
+
+def slots(folder):
+    """The program that tells of slots, which goes by the name under which it is called: a link in the folder, or what a variable names."""
+    if os.environ.get("DISTRICT_AUDIT_SLOTS"):
+        return os.environ["DISTRICT_AUDIT_SLOTS"]
+    link = pathlib.Path(folder) / "audit_slots"
+    link.symlink_to(built("audit_folders", "DISTRICT_AUDIT_SLOTS"))
+    return str(link)
 
 
 class FolderCase(unittest.TestCase):
@@ -100,6 +110,12 @@ class StandInPartition:
 
 def example(name):
     return json.loads((EXAMPLES / name).read_text(encoding="utf-8"))
+
+
+def readme_report():
+    """The report that the README prints, which a court's reader would copy."""
+    text = (TOP / "README.md").read_text(encoding="utf-8")
+    return next(block for block in re.findall("^```\\w*\n(.*?)^```$", text, re.DOTALL | re.MULTILINE) if block.startswith("district-audit") and "ends seats" in block)
 
 
 @contextlib.contextmanager

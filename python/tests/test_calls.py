@@ -149,6 +149,24 @@ class Exceptions(common.ProgramCase):
                              region="county", max_split=1, **common.WORDS)
         self.assertEqual(error.labels, 'region 0 is "Kings"')
 
+    def test_2_region_of_a_real_map(self):
+        """Which county of upstate New York is split too often, and what its number is, is counted here from the file."""
+        nodes = common.example("ny8.json")["nodes"]
+        split = {}
+        for node in nodes:
+            split.setdefault(node["COUNTY"], set()).add(node["PLAN8"])
+        most = max(map(len, split.values()))
+        number, county = next((number, county) for number, county in enumerate(sorted(split)) if len(split[county]) == most)
+        self.assertNotEqual(county, str(number))
+        words = dict(population="POP8", first="OWNING", second="OTHERS", district="PLAN8", numbers="nearest", region="COUNTY", slack=1000)
+        with warnings.catch_warnings():
+            warnings.simplefilter("ignore", district_audit.GraphChanged)
+            error = self.refused(district_audit.GraphRefused, "plan: region %d lies in %d districts, more than %d" % (number, most, most - 1),
+                                 graph=common.StandInGraph(common.example("ny8.json")), max_split=most - 1, **words)
+            self.assertEqual(error.labels, 'region %d is "%s"' % (number, county))
+            plan = district_audit.check(common.StandInGraph(common.example("ny8.json")), program=self.program, max_split=most, **words)
+        self.assertEqual((plan.units, plan.districts, plan.rules.regions, plan.population), (len(nodes), 8, len(split), sum(int(node["POP8"]) for node in nodes)))
+
     def test_2_a_plan_of_a_table(self):
         crossed = {node["id"]: name for node, name in zip(common.example("cycle.json")["nodes"], "QRQR")}
         with self.assertRaises(district_audit.GraphRefused) as caught:
@@ -218,7 +236,7 @@ class Noted:
 class Progress(common.ProgramCase):
     def setUp(self):
         super().setUp()
-        self.slots = common.built("audit_slots", "DISTRICT_AUDIT_SLOTS")
+        self.slots = common.slots(self.folder)
 
     def run_with(self, **words):
         bar = Noted()
@@ -328,6 +346,15 @@ class Commands(common.ProgramCase):
         first, second = told.stderr.decode().splitlines()
         self.assertEqual((told.returncode, first), (2, "plan: district 0 has no path from unit 0 to unit 2"))
         self.assertIn('district-audit-run: district 0 is "Q"; ', second)
+        root = common.example("counties.json")
+        for node, name in zip(root["nodes"], ("Kings", "Kings", "Queens", "Queens")):
+            node.update(county=name, d="y")
+        root["nodes"][0]["d"] = "x"
+        told = self.called("check", *self.WORDS[:8], "--slack", "5000", "--region", "county", "--max-split", "1", graph=json.dumps(root).encode())
+        self.assertEqual((told.returncode, told.stdout), (2, b""))
+        self.assertEqual(told.stderr.decode().splitlines(), ["plan: region 0 lies in 2 districts, more than 1", 'district-audit-run: region 0 is "Kings"'])
+        told = self.called("check", *self.WORDS[:10])
+        self.assertEqual((told.returncode, told.stdout[:13], told.stderr), (0, b"plan-check 1\n", b""))
 
     def test_ctrl_c_and_a_signal_to_end(self):
         for number, status, said in ((signal.SIGINT, 130, b"the same command with --resume yes goes on"), (signal.SIGTERM, 143, b"")):

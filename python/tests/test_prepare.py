@@ -90,6 +90,9 @@ class Changes(unittest.TestCase):
         ready = prepared(square(a=[1.4, 2.4, 3.4, 4.4]), numbers="nearest")
         self.assertIn("column a: making its values whole changes them by 13.8 percent in all", ready.warnings)
         self.assertEqual(prepared(square(a=[100.4, 200.4, 300, 400]), numbers="nearest").warnings, [])
+        ready = prepared(square(pop=[5000] * 4, a=[20.76, 75.6, 8.2, 11.43], b=[1000.2, 2000, 3000, 4000]), numbers="nearest")
+        self.assertEqual(ready.warnings, ["column a may have percentages and not counts: all its values are from 0 to 100, and a unit has 5000 people on average"])
+        self.assertEqual(prepared(square(pop=[100] * 4, a=[20.9, 75.1, 60, 51]), numbers="nearest").warnings, [])
         self.assertEqual(prepared(square(a=[0, 1, 1, 0])).warnings, [])
 
     def test_parts_are_told_and_joined(self):
@@ -106,6 +109,28 @@ class Changes(unittest.TestCase):
         self.assertEqual([str(change) for change in joined.changes], ["units 5 and 6 made neighbours", "units 1 and 2 made neighbours", "units 2 and 3 were neighbours already"])
         self.refused('"9", which is to be joined, is no unit', root, join=[("9", "1")])
         self.refused("1 cannot be joined to itself", root, join=[(1, 1)])
+
+    def test_real_maps(self):
+        """Counties of North Carolina with whole floats, and tracts of upstate New York with fractions; what is changed is counted here."""
+        ready = prepare(common.EXAMPLES / "nc.json", population="BIR74", first="NWBIR74", second="WBIR74", district="PLAN11", slack=1000)
+        self.assertEqual((ready.refusals, ready.warnings, ready.notes), ([], [], ["100 units, 231 edges, 11 districts, 329962 people"]))
+        self.assertEqual({change.what for change in ready.changes if change.units},
+                         {"column %s: whole floats written as whole numbers" % column for column in ("BIR74", "NWBIR74", "WBIR74")})
+        nodes = common.example("ny8.json")["nodes"]
+        said = dict(population="POP8", first="OWNING", second="OTHERS", district="PLAN8", region="COUNTY", slack=1000)
+        broken = {column: [node["id"] for node in nodes if node[column] % 1] for column in ("OWNING", "OTHERS")}
+        with self.assertRaises(PrepareRefused) as caught:
+            prepare(common.EXAMPLES / "ny8.json", **said)
+        self.assertEqual(len(caught.exception.faults), sum(map(len, broken.values())))
+        ready = prepare(common.EXAMPLES / "ny8.json", numbers="nearest", **said)
+        self.assertEqual((ready.refusals, ready.warnings), ([], []))
+        for column, units in broken.items():
+            change = next(change for change in ready.changes if change.what == "column %s: fractions made whole by `nearest`" % column)
+            self.assertEqual(change.units, units)
+            self.assertAlmostEqual(change.moved, sum(round(node[column]) - node[column] for node in nodes), places=6)
+        with self.assertRaises(PrepareRefused) as caught:
+            prepare(common.EXAMPLES / "ny8.json", **{**said, "first": "OWNNING"}, numbers="nearest", missing="zero")
+        self.assertIn("no unit has a column OWNNING", str(caught.exception))
 
     def test_what_the_auditor_would_refuse_has_its_number(self):
         ready = prepare(common.EXAMPLES / "apart.json", **common.COLUMNS)

@@ -54,15 +54,9 @@ class RoundTrip(unittest.TestCase):
                 Report.parse(text[:length])
 
 
-def readme_report():
-    """The report that the README prints, which a court's reader would copy."""
-    text = (common.TOP / "README.md").read_text(encoding="utf-8")
-    return next(block for block in re.findall("^```\\w*\n(.*?)^```$", text, re.DOTALL | re.MULTILINE) if block.startswith("district-audit") and "ends seats" in block)
-
-
 class Values(unittest.TestCase):
     def setUp(self):
-        self.report = Report.parse(readme_report())
+        self.report = Report.parse(common.readme_report())
 
     def test_numbers_are_exact(self):
         walk, report = self.report.walks[2], self.report
@@ -108,7 +102,7 @@ class Pictures(common.FolderCase):
         return figure, svg
 
     def test_rows_and_head(self):
-        _, svg = self.drawn(readme_report())
+        _, svg = self.drawn(common.readme_report())
         for words in ("cut-edges low, walk 1", "rank 1 of 100, p 0.010000000", "2 of 100001, bound 0.006324524", "4500 to 5500 people a district (slack 10 %)"):
             self.assertIn(words, svg)
 
@@ -118,9 +112,12 @@ class Pictures(common.FolderCase):
         self.assertIn("%s regions, each in at most %s districts" % (regions[2], regions[1]), self.drawn(text)[1])
         text = next(text for _, _, text in texts() if "\nmax-cut " in text and text.startswith("district-audit"))
         self.assertIn("at most %s cut edges" % re.search("max-cut ([0-9]+)", text)[1], self.drawn(text)[1])
+        text = next(text for _, _, text in texts() if re.search("\nstop [0-9]", text) and "\nwalks 1 " in text and text.startswith("district-audit"))
+        self.assertIn("1 walk of %s steps; " % re.search("\nwalks 1 steps ([0-9]+)", text)[1], self.drawn(text)[1])
+        self.assertIn("a test stops after %s in its tail" % re.search("\nstop ([0-9]+)", text)[1], self.drawn(text)[1])
 
     def test_seats_of_millions_of_plans_have_no_power_of_ten_and_no_empty_bar(self):
-        text = readme_report().replace("district-audit 1", "district-audit 2").replace(
+        text = common.readme_report().replace("district-audit 1", "district-audit 2").replace(
             "ends seats", "shift 0 0 9 103587 96405 1 0 0 0\nends seats", 1)
         text = text.replace("count 44391 of 100001 bound 0.942237296", "count 100001 of 100001 bound 1.414213563")
         text = text.replace("count 59205 of 100001 bound 1.088158150", "count 100000 of 100001 bound 1.414206492")
@@ -128,14 +125,15 @@ class Pictures(common.FolderCase):
         self.assertNotIn("1e", svg.split("<defs>")[0] + " ".join(re.findall("<text[^>]*>([^<]*)</text>", svg)))
         self.assertEqual((percent(9, 200002), percent(1, 200002), percent(0, 200002), percent(1, 1000)), ("< 0.1 %", "< 0.1 %", "0", "0.1 %"))
         self.assertIn("&lt; 0.1 %", svg)
+        self.assertEqual((percent(2559, 2560), percent(2560, 2560), percent(999, 1000)), ("> 99.9 %", "100.0 %", "99.9 %"))
 
     def test_more_than_eight_walks_have_one_row(self):
         text = next(text for _, _, text in texts() if "\nwalks 12 " in text and "gap low" in text and text.startswith("district-audit 1"))
         self.assertIn("gap low, 12 walks", self.drawn(text)[1])
 
     def test_the_same_bytes_each_time(self):
-        first = self.drawn(readme_report())[1], (self.folder / "picture.png").read_bytes()
-        self.assertEqual((self.drawn(readme_report())[1], (self.folder / "picture.png").read_bytes()), first)
+        first = self.drawn(common.readme_report())[1], (self.folder / "picture.png").read_bytes()
+        self.assertEqual((self.drawn(common.readme_report())[1], (self.folder / "picture.png").read_bytes()), first)
 
     def test_sequential_and_serial_tests_have_rows(self):
         for form, title in (("\nstop (seats|mean-median|gap|cut-edges) ", "sequential test"), ("\nserial ", "serial test")):
@@ -154,7 +152,7 @@ class Refusals(unittest.TestCase):
 
     def test_one_changed_word_in_a_report(self):
         """For each row: the words, what stands there instead, and the number of the line that is refused."""
-        text = readme_report()
+        text = common.readme_report()
         for old, new, number in (
                 ("district-audit 1", "district-audit 3", 1),
                 ("key 2b", "key 2B", 2),
@@ -238,7 +236,7 @@ class Refusals(unittest.TestCase):
         with self.assertRaises(ReportRefused):
             Report.parse_plans("")
         with self.assertRaises(ReportRefused) as caught:
-            Report.parse_plans("plan CD\n" + readme_report() + "plan blocks\n")
+            Report.parse_plans("plan CD\n" + common.readme_report() + "plan blocks\n")
         self.assertEqual(caught.exception.number, 18)
 
 
