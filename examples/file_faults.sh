@@ -95,7 +95,7 @@ nothing
 # going on.
 for kind in null full pipe nothing; do
     for more in "" "--resume yes"; do
-        folder "$kind${more// /-}"
+        folder "a $kind${more// /-}"
         case $kind in
             pipe) mkfifo audit-0.ckpt ;;
             nothing) ln -s elsewhere audit-0.ckpt ;;

@@ -174,7 +174,7 @@ def injected(room):
         run(f"the {what} is not synced before the first save", resumed, first, "fsync", path, "error=EIO:when=1", fault,
             saved(resumed, first, {1: lambda data: first[1]}))
     for path in NAMES:
-        run(f"{path} cannot be looked at", resumed, first, "newfstatat", path, "error=EIO", (6, "checkpoint load fault\n"), first)
+        run(f"{path} cannot be looked at", resumed, first, "statx", path, "error=EIO", (6, "checkpoint load fault\n"), first)
     run("a new file is refused", fresh, absent, "openat", NAMES[0], "error=EACCES:when=2", fault, saved(fresh, absent, {1: lambda data: None}))
     run("an old file is not opened", resumed, first, "openat", NAMES[1], "error=EMFILE:when=3", fault, saved(resumed, first, {1: lambda data: first[1]}))
     for path in NAMES:

@@ -199,8 +199,10 @@ class Exceptions(common.ProgramCase):
         self.assertEqual(report, district_audit.run(CYCLE, program=self.program, **common.WALK))
 
     def test_9_saving(self):
-        (self.folder / "audit-0.ckpt").symlink_to("/dev/full")
-        error = self.refused(district_audit.SaveFault, "checkpoint save fault", call=district_audit.run, folder=self.folder, save=2, **common.WALK)
+        # No byte can be written to a file.
+        program = self.wrapper("trap '' XFSZ; ulimit -f 0; exec PROGRAM")
+        error = self.refused(district_audit.SaveFault, "checkpoint save fault", program=program, call=district_audit.run, folder=self.folder, save=2,
+                             **common.WALK)
         self.assertEqual(error.report, district_audit.run(CYCLE, program=self.program, **common.WALK))
 
     def test_programs_that_are_not_there_or_do_not_end_by_themselves(self):
