@@ -8,6 +8,9 @@ use audit_model::memory::Memory;
 use dual_graph::graph::Graph;
 use std::alloc::Global;
 
+/// No ring has more sides.
+const MOST_SIDES: u8 = 4;
+
 /// For each side how many of the rings that are left have it, and the exclusive or of their numbers.
 #[derive(Drop)]
 struct Sides {
@@ -118,6 +121,20 @@ impl Sides {
         None
     }
 
+    /// How many sides of a ring more than two rings have.
+    fn crowded(&self, graph: &Graph, ring: Face) -> u8 {
+        let mut crowded = 0u8;
+        let mut turn = ring;
+        for _ in 0..length_of(ring) {
+            let side = self.own(graph, turn);
+            if side < self.counts.len() && self.counts[side] > 2 {
+                crowded = crowded.wrapping_add(1);
+            }
+            turn = turn.turned();
+        }
+        crowded
+    }
+
     /// The ring begun with a side.
     fn begun(&self, graph: &Graph, ring: Face, side: usize) -> Face {
         let mut turn = ring;
@@ -132,18 +149,41 @@ impl Sides {
 }
 
 /// The rings that are taken off while one has a side alone, the last first, each begun with that side. Where none has,
-/// one is dropped.
+/// one is dropped: a face has its sides with one other at most, so first those with the most sides that more rings have.
 pub fn peeled(alloc: Global, graph: &Graph, rings: &[Face]) -> Result<Vec<Face>, Memory> {
     let mut sides = Sides::of(alloc, graph, rings)?;
+    let order = drop_order(alloc, graph, &sides, rings)?;
     let mut left: Vec<bool> = vec![in alloc; true; rings.len()]?;
     let mut kept = Vec::new(alloc);
-    for number in 0..rings.len() {
+    for number in order {
         keep_ready(graph, rings, &mut sides, &mut left, &mut kept)?;
         take_off(graph, rings, &mut sides, &mut left, number)?;
     }
     keep_ready(graph, rings, &mut sides, &mut left, &mut kept)?;
     kept.reverse();
     Ok(kept)
+}
+
+/// The numbers of the rings, those with the most crowded sides first.
+fn drop_order(
+    alloc: Global,
+    graph: &Graph,
+    sides: &Sides,
+    rings: &[Face],
+) -> Result<Vec<usize>, Memory> {
+    let mut order = Vec::with_capacity(alloc, rings.len())?;
+    let mut crowds = Vec::with_capacity(alloc, rings.len())?;
+    for ring in rings {
+        crowds.push(sides.crowded(graph, *ring))?;
+    }
+    for fewer in 0..MOST_SIDES + 1 {
+        for number in 0..crowds.len() {
+            if crowds[number] == MOST_SIDES - fewer {
+                order.push(number)?;
+            }
+        }
+    }
+    Ok(order)
 }
 
 /// The number of the first side of each unit, and behind them that of all.
