@@ -59,7 +59,7 @@ impl Surroundings {
         }
         let least = if ring.len() == 3 { 6 } else { 4 };
         let followed = self.grow(graph, least);
-        if self.parts.hangs < least {
+        if self.parts.are_settled(least) {
             return true;
         }
         self.leave_open(graph, followed);
@@ -119,7 +119,7 @@ impl Surroundings {
         ensures { self.new ≡ self.old }
     {
         for at in 0..FOLLOWED {
-            if at >= self.marks.count() || self.parts.hangs < least {
+            if at >= self.marks.count() || self.parts.are_settled(least) {
                 return at;
             }
             let unit = self.marks.at(at);
@@ -180,6 +180,8 @@ struct Parts {
     open: [bool; 256],
     /// The greatest label.
     last: u8,
+    /// How many parts there are.
+    count: u32,
     /// On how many units the parts hang, taken together.
     hangs: u32,
 }
@@ -192,6 +194,7 @@ impl Parts {
             touches: [0; 256],
             open: [false; 256],
             last: RING,
+            count: 0,
             hangs: 0,
         }
     }
@@ -199,6 +202,7 @@ impl Parts {
     /// Takes all parts away.
     fn clear(&mut self) {
         self.last = RING;
+        self.count = 0;
         self.hangs = 0;
     }
 
@@ -214,8 +218,14 @@ impl Parts {
         self.roots[label as usize] = label;
         self.touches[label as usize] = place;
         self.open[label as usize] = false;
+        self.count = self.count.wrapping_add(1);
         self.hangs = self.hangs.wrapping_add(1);
         Some(label)
+    }
+
+    /// Whether no two parts can cross each other: there is one, or all together hang on too few units.
+    fn are_settled(&self, least: u32) -> bool {
+        self.count < 2 || self.hangs < least
     }
 
     /// The label that stands for a label's part.
@@ -247,6 +257,7 @@ impl Parts {
         if from != into {
             let twice = self.touches[from as usize] & self.touches[into as usize];
             self.roots[from as usize] = into;
+            self.count = self.count.wrapping_sub(1);
             self.touches[into as usize] |= self.touches[from as usize];
             self.hangs = self.hangs.wrapping_sub(twice.count_ones());
         }
