@@ -6,6 +6,8 @@ pub mod Indexed
 pub mod Joined
 pub mod Listed
 pub mod Named
+pub mod Parsing
 pub mod Regioned
 pub mod Shapes
 pub mod Started
+pub mod Turns

@@ -7,8 +7,9 @@ use Rattle.std.proofs.lemmas.List.{length-map}
 use Rattle.audit_model.specs.First.{first_some_below}
 use Rattle.audit_model.proofs.First.{first_some_below_more, first_some_below_found}
 use Rattle.serde_json.specs.Data.{Data, Items, null}
-use Rattle.serde_json.specs.View.{items_of, items_view, view}
-use Rattle.serde_json.specs.declared.value.Value.{Value}
+use Rattle.serde_json.specs.View.{items_of}
+use Rattle.dual_json.specs.Values.{value_data, items_data}
+use Rattle.dual_json.specs.declared.value.Value.{Value}
 use Rattle.audit_statement.specs.Reading.{elements, list_of}
 use Rattle.dual_json.specs.Names.{label_from}
 use Rattle.dual_json.specs.declared.names.Name.{Name}
@@ -27,12 +28,12 @@ elements-items_of [] = refl
 elements-items_of (d ∷ ds) = ap (λ (rest : List Data). d ∷ rest) (elements-items_of ds)
 
 -- the elements of a list of values are what the values are seen as
-pub elements-items_view : (vs : List Value) → elements (items_view vs) ≡ views vs
-elements-items_view vs = elements-items_of (map view vs)
+pub elements-items_data : (vs : List Value) → elements (items_data vs) ≡ views vs
+elements-items_data vs = elements-items_of (map value_data vs)
 
 -- there is one datum for each value
 pub length-views : (vs : List Value) → length (views vs) ≡ length vs
-length-views vs = length-map vs view
+length-views vs = length-map vs value_data
 
 -- there is one list for each value
 pub length-lists_in : (vs : List Value) → length (lists_in vs) ≡ length vs
@@ -46,8 +47,8 @@ unnamed_is (Some x) true e = cc e
 unnamed_is (Some x) false e = refl
 
 -- the object at a place is what the value there is seen as
-pub object_is : (vs : List Value) (i : ℕ) (x : Value) → i < length vs → x ≡ get_or vs i x → object_at (views vs) i ≡ view x
-object_is vs i x l is = get_or-map_at view vs i x null l is
+pub object_is : (vs : List Value) (i : ℕ) (x : Value) → i < length vs → x ≡ get_or vs i x → object_at (views vs) i ≡ value_data x
+object_is vs i x l is = get_or-map_at value_data vs i x null l is
 
 -- a list is there exactly where its elements are
 pub is_some-elements : (o : Option Items) → is_some (option_map elements o) ≡ is_some o
@@ -68,12 +69,12 @@ list_all_fails test (x ∷ xs) (suc k) l fails = and_right (test x) (list_all te
 -- ---- a loop that gives the first of what a function gives of the objects
 
 module _ {A : Type 0} (vs : List Value) (f : ℕ → Data → Option A) where
-  pub objects_found : (i : ℕ) (x : Value) (a : A) → i < length vs → x ≡ get_or vs i x → first_some_below i (λ k. f k (object_at (views vs) k)) ≡ None → f i (view x) ≡ Some a
+  pub objects_found : (i : ℕ) (x : Value) (a : A) → i < length vs → x ≡ get_or vs i x → first_some_below i (λ k. f k (object_at (views vs) k)) ≡ None → f i (value_data x) ≡ Some a
       → first_some_below (length (views vs)) (λ k. f k (object_at (views vs) k)) ≡ Some a
   objects_found i x a l is none gives =
       first_some_below_found (length (views vs)) i (λ k. f k (object_at (views vs) k)) a (omega (arith, l, length-views vs)) none (ap (f i) (object_is vs i x l is) ∙ gives)
 
-  pub objects_more : (i : ℕ) (x : Value) → i < length vs → x ≡ get_or vs i x → first_some_below i (λ k. f k (object_at (views vs) k)) ≡ None → f i (view x) ≡ None
+  pub objects_more : (i : ℕ) (x : Value) → i < length vs → x ≡ get_or vs i x → first_some_below i (λ k. f k (object_at (views vs) k)) ≡ None → f i (value_data x) ≡ None
       → first_some_below (i + 1) (λ k. f k (object_at (views vs) k)) ≡ None
   objects_more i x l is none nothing = first_some_below_more i (λ k. f k (object_at (views vs) k)) none (ap (f i) (object_is vs i x l is) ∙ nothing)
 

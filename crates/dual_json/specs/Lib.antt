@@ -6,3 +6,4 @@ pub mod Numbered
 pub mod Places
 pub mod Shape
 pub mod Stages
+pub mod Values

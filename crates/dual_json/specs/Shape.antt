@@ -1,8 +1,8 @@
 -- What is read of the root.
 use Rattle.std.specs.Prelude.{ℕ, ◌==◌, Bool, not, nat_lt, List, [], ◌∷◌, map, Option, unwrap_or}
 use Rattle.serde_json.specs.Data.{Data}
-use Rattle.serde_json.specs.View.{view}
-use Rattle.serde_json.specs.declared.value.Value.{Value}
+use Rattle.dual_json.specs.Values.{value_data}
+use Rattle.dual_json.specs.declared.value.Value.{Value}
 use Rattle.audit_model.specs.declared.fault.GraphFault.{GraphFault}
 use Rattle.audit_model.specs.declared.fault.GraphFault.TheVariants as fault
 use Rattle.audit_model.specs.First.{first_some}
@@ -12,7 +12,7 @@ use Rattle.audit_model.specs.Limits.{most_units}
 
 -- the data of several values
 abbrev pub views : List Value → List Data
-views values = map view values
+views values = map value_data values
 
 -- the elements of each of several lists
 abbrev pub lists_in : List Value → List (List Data)

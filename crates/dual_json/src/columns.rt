@@ -2,21 +2,21 @@
 
 ghost use Rattle.std.specs.Prelude.{◌≡◌, ◌≤◌, None, Some, length, IfOk, IfErr, MatchResult};
 ghost use Rattle.audit_model.specs.declared.fault.GraphFault.TheVariants.{Memory};
-ghost use Rattle.serde_json.specs.View.{view};
+ghost use Rattle.dual_json.specs.Values.{value_data};
 ghost use Rattle.dual_json.specs.Columns.{count_in, missing_in, bad_in, missing, bad, numbers_in};
 ghost use Rattle.dual_json.specs.Shape.{views};
 ghost use Rattle.audit_model.specs.Limits.{most_units};
 
+use crate::value::Value;
 use audit_model::fault::{Column, GraphFault};
 use audit_model::lists::NumList;
 use audit_model::outcome::Counts;
 use audit_model::setting::Columns;
 use audit_model::text::Text;
-use serde_json::Value;
 use std::alloc::Global;
 
 /// Whether each node has all columns, or the first that has not.
-pub fn check_columns(nodes: &[Value], columns: &Columns) -> Result<(), GraphFault>
+pub fn check_columns(nodes: &[Value<'_>], columns: &Columns) -> Result<(), GraphFault>
     requires { length nodes.now ≤ most_units }
     ensures { MatchResult result (λ _. missing columns.now (views nodes.now) ≡ None) (λ f. missing columns.now (views nodes.now) ≡ Some f) }
 {
@@ -32,7 +32,7 @@ pub fn check_columns(nodes: &[Value], columns: &Columns) -> Result<(), GraphFaul
 }
 
 /// Whether each node has its numbers, or the first that has not.
-pub fn check_numbers(nodes: &[Value], columns: &Columns) -> Result<(), GraphFault>
+pub fn check_numbers(nodes: &[Value<'_>], columns: &Columns) -> Result<(), GraphFault>
     requires { length nodes.now ≤ most_units }
     ensures { MatchResult result (λ _. bad columns.now (views nodes.now) ≡ None) (λ f. bad columns.now (views nodes.now) ≡ Some f) }
 {
@@ -48,7 +48,11 @@ pub fn check_numbers(nodes: &[Value], columns: &Columns) -> Result<(), GraphFaul
 }
 
 /// The three columns.
-pub fn counts_of(alloc: Global, nodes: &[Value], columns: &Columns) -> Result<Counts, GraphFault>
+pub fn counts_of(
+    alloc: Global,
+    nodes: &[Value<'_>],
+    columns: &Columns,
+) -> Result<Counts, GraphFault>
     ensures memory { IfErr result (λ f. f ≡ Memory) }
     ensures population { IfOk result (λ counts. counts.population ≡ numbers_in columns.now.population (views nodes.now)) }
     ensures first { IfOk result (λ counts. counts.first ≡ numbers_in columns.now.first (views nodes.now)) }
@@ -62,8 +66,8 @@ pub fn counts_of(alloc: Global, nodes: &[Value], columns: &Columns) -> Result<Co
 }
 
 /// The first column that a node has not.
-fn missing_column(node: &Value, columns: &Columns) -> Option<Column>
-    ensures { result ≡ missing_in columns.now (view node.now) }
+fn missing_column(node: &Value<'_>, columns: &Columns) -> Option<Column>
+    ensures { result ≡ missing_in columns.now (value_data node.now) }
 {
     if node.get(columns.population.as_str()).is_none() {
         Some(Column::Population)
@@ -79,8 +83,8 @@ fn missing_column(node: &Value, columns: &Columns) -> Option<Column>
 }
 
 /// The whole number from 0 to 10^9 in a column.
-fn count_at(node: &Value, key: &Text) -> Option<u64>
-    ensures { result ≡ count_in key.now (view node.now) }
+fn count_at(node: &Value<'_>, key: &Text) -> Option<u64>
+    ensures { result ≡ count_in key.now (value_data node.now) }
 {
     let Some(value) = node.get(key.as_str()) else {
         return None;
@@ -98,8 +102,8 @@ fn count_at(node: &Value, key: &Text) -> Option<u64>
 }
 
 /// The first column of numbers in which a node has no such number.
-fn bad_number(node: &Value, columns: &Columns) -> Option<Column>
-    ensures { result ≡ bad_in columns.now (view node.now) }
+fn bad_number(node: &Value<'_>, columns: &Columns) -> Option<Column>
+    ensures { result ≡ bad_in columns.now (value_data node.now) }
 {
     if count_at(node, &columns.population).is_none() {
         Some(Column::Population)
@@ -113,7 +117,7 @@ fn bad_number(node: &Value, columns: &Columns) -> Option<Column>
 }
 
 /// One column.
-fn numbers_of(alloc: Global, nodes: &[Value], key: &Text) -> Result<NumList, GraphFault>
+fn numbers_of(alloc: Global, nodes: &[Value<'_>], key: &Text) -> Result<NumList, GraphFault>
     ensures { MatchResult result (λ numbers. numbers ≡ numbers_in key.now (views nodes.now)) (λ f. f ≡ Memory) }
 {
     let mut numbers = NumList::new(alloc);

@@ -1,7 +1,7 @@
 //! The edges of the graph.
 
 ghost use Rattle.std.specs.Prelude.{◌≡◌, ◌<◌, ◌≤◌, ◌⊎◌, ◌↔◌, ℕ, IsTrue, None, Some, length, option_map, MatchResult};
-ghost use Rattle.serde_json.specs.View.{view};
+ghost use Rattle.dual_json.specs.Values.{value_data};
 ghost use Rattle.audit_model.specs.declared.fault.GraphFault.TheVariants.{Memory, BadNeighbour, UnknownNeighbour};
 ghost use Rattle.audit_model.specs.Graph.{IsGraph, adjacent};
 ghost use Rattle.dual_json.specs.Edges.{edge, first_in, first_entry_in, is_unnamed, is_unknown, edges_fault, edges_in, graph_in, AddsEdges, AreListed, PushesEdge};
@@ -13,14 +13,14 @@ ghost use Rattle.audit_model.specs.Limits.{most_units, most_edges};
 use crate::index::Index;
 use crate::names::name_at;
 use crate::shape::entries_of;
+use crate::value::Value;
 use audit_model::fault::GraphFault;
 use dual_graph::graph::Graph;
 use dual_graph::pairs::put_in_order;
-use serde_json::Value;
 use std::alloc::Global;
 
 /// Whether each entry has an id, or the first that has none.
-pub fn check_entries(adjacency: &[Value]) -> Result<(), GraphFault>
+pub fn check_entries(adjacency: &[Value<'_>]) -> Result<(), GraphFault>
     requires { length adjacency.now ≤ most_units }
     ensures { MatchResult result (λ _. first_entry_in is_unnamed BadNeighbour (lists_in adjacency.now) ≡ None)
         (λ f. first_entry_in is_unnamed BadNeighbour (lists_in adjacency.now) ≡ Some f) }
@@ -40,7 +40,7 @@ pub fn check_entries(adjacency: &[Value]) -> Result<(), GraphFault>
 pub fn graph_of<'v>(
     alloc: Global,
     units: u32,
-    adjacency: &'v [Value],
+    adjacency: &[Value<'v>],
     index: &Index<'v>,
 ) -> Result<Graph, GraphFault>
     requires few { units ≤ most_units }
@@ -61,7 +61,7 @@ pub fn graph_of<'v>(
 }
 
 /// The first entry that has no id.
-fn unnamed_entry(entries: &[Value]) -> Option<usize>
+fn unnamed_entry(entries: &[Value<'_>]) -> Option<usize>
     ensures { result ≡ first_in is_unnamed (views entries.now) }
 {
     for place in 0..entries.len() {
@@ -98,7 +98,7 @@ fn push_edge(pairs: &mut Vec<(u32, u32)>, node: u32, other: u32) -> Result<(), G
 fn add_edges<'v>(
     pairs: &mut Vec<(u32, u32)>,
     index: &Index<'v>,
-    entries: &'v [Value],
+    entries: &[Value<'v>],
     node: u32,
 ) -> Result<(), GraphFault>
     ensures { MatchResult result
@@ -120,7 +120,7 @@ fn add_edges<'v>(
 /// The edges that the nodes list, in any order, some of them more than once.
 fn pairs_of<'v>(
     alloc: Global,
-    adjacency: &'v [Value],
+    adjacency: &[Value<'v>],
     index: &Index<'v>,
 ) -> Result<Vec<(u32, u32)>, GraphFault>
     requires { length adjacency.now ≤ most_units }

@@ -14,9 +14,10 @@ use crate::districts::labels_of;
 use crate::names::{Unnamed, names_at};
 use crate::read::value_of;
 use crate::shape::parts_of;
+use crate::value::Value;
 use audit_model::lists::LabelList;
 use audit_model::memory::Memory;
-use serde_json::Value;
+use json::Scratch;
 use std::alloc::Global;
 
 /// The ids of the units of a text that is a graph, in their order.
@@ -26,7 +27,22 @@ pub fn read_ids(alloc: Global, bytes: &[u8]) -> Result<LabelList, Memory>
     ensures width { IfOk result (λ ids. (columns : Columns) (parsed : Parsed) → reading bytes.now columns ≡ Ok parsed → length ids ≡ parsed.graph.units) }
     ensures few { IfOk result (λ ids. length ids ≤ most_units) }
 {
-    match value_of(alloc, bytes) {
+    let mut scratch = Scratch::new(alloc);
+    ids_beside(alloc, bytes, &mut scratch)
+}
+
+/// The same, with the room for texts that have escapes.
+fn ids_beside<'t>(
+    alloc: Global,
+    bytes: &'t [u8],
+    scratch: &'t mut Scratch,
+) -> Result<LabelList, Memory>
+    requires graph { IsGraphText bytes.now }
+    ensures read { IfOk result (λ ids. ids ≡ id_reading bytes.now) }
+    ensures width { IfOk result (λ ids. (columns : Columns) (parsed : Parsed) → reading bytes.now columns ≡ Ok parsed → length ids ≡ parsed.graph.units) }
+    ensures few { IfOk result (λ ids. length ids ≤ most_units) }
+{
+    match value_of(alloc, bytes, scratch) {
         Ok(root) => match parts_of(&root) {
             Ok(parts) => ids_in(alloc, parts.nodes),
             Err(_) => unreachable!(),
@@ -36,7 +52,7 @@ pub fn read_ids(alloc: Global, bytes: &[u8]) -> Result<LabelList, Memory>
 }
 
 /// The ids of the nodes, each of which has one.
-fn ids_in(alloc: Global, nodes: &[Value]) -> Result<LabelList, Memory>
+fn ids_in(alloc: Global, nodes: &[Value<'_>]) -> Result<LabelList, Memory>
     requires few { length nodes.now ≤ most_units }
     requires named { first_unnamed (codes "id") (views nodes.now) ≡ None }
     ensures { IfOk result (λ ids. AreLabels (codes "id") (views nodes.now) ids) }

@@ -1,14 +1,14 @@
 //! The place of each id.
 
 ghost use Rattle.std.specs.Prelude.{◌≡◌, ◌≤◌, ◌⊎◌, None, Some, length, MatchResult};
-ghost use Rattle.serde_json.specs.View.{view};
+ghost use Rattle.dual_json.specs.Values.{value_data};
 ghost use Rattle.audit_model.specs.declared.fault.GraphFault.TheVariants.{Memory};
 ghost use Rattle.dual_json.specs.Places.{labels_from, repeated_label, place_of_entry, IsLabelIndex};
 ghost use Rattle.audit_model.specs.Limits.{most_units};
 
 use crate::names::{Name, name_at};
+use crate::value::Value;
 use audit_model::fault::GraphFault;
-use serde_json::Value;
 use std::alloc::Global;
 use std::collections::HashMap;
 use std::marker::Model;
@@ -44,8 +44,8 @@ impl<'v> Index<'v> {
     }
 
     /// The node that an entry names.
-    pub fn node_of(&self, entry: &'v Value) -> Option<u32>
-        ensures { result ≡ place_of_entry self.now (view entry.now) }
+    pub fn node_of(&self, entry: &Value<'v>) -> Option<u32>
+        ensures { result ≡ place_of_entry self.now (value_data entry.now) }
     {
         // Reads the fields, so that what the type says of them is known.
         let _ = &self.names;

@@ -7,9 +7,12 @@ mod edges;
 mod ids;
 mod index;
 pub mod names;
+mod number;
+mod parse;
 mod read;
 mod regions;
 mod shape;
+mod value;
 
 pub use crate::ids::read_ids;
 pub use crate::read::read_graph;

@@ -2,17 +2,17 @@
 
 ghost use Rattle.std.specs.Prelude.{◌≡◌, ◌≤◌, refl, None, Some, length, IfOk, MatchResult, option_map, option_and_then};
 ghost use Rattle.audit_model.specs.Label.{label_cmp, same_label};
-ghost use Rattle.serde_json.specs.View.{view};
+ghost use Rattle.dual_json.specs.Values.{value_data};
 ghost use Rattle.audit_statement.specs.Reading.{label_of};
 ghost use Rattle.dual_json.specs.Places.{label_at_key, labels_from, first_unnamed, AreLabels, TellsUnnamed};
 ghost use Rattle.dual_json.specs.Shape.{views};
 ghost use Rattle.dual_json.specs.Names.{label_from, name_cmp, same_name, name_writes, name_equiv, name_total, name_per, name_po, name_hashes};
 ghost use Rattle.audit_model.specs.Limits.{most_units};
 
+use crate::value::Value;
 use audit_model::memory::Memory;
 use audit_model::setting::Label;
 use audit_model::text::Text;
-use serde_json::Value;
 use std::alloc::Global;
 use std::cmp::Ordering;
 use std::hash::{Hash, Hasher};
@@ -97,22 +97,22 @@ impl Hash for Name<'_> {
 }
 
 /// The name that a value is, where it is a whole number or a text.
-pub fn name_of(value: &Value) -> Option<Name<'_>>
-    ensures { option_map label_from result ≡ label_of (view value.now) }
+pub fn name_of<'v>(value: &Value<'v>) -> Option<Name<'v>>
+    ensures { option_map label_from result ≡ label_of (value_data value.now) }
 {
     match value {
         Value::Number(number) => match number.as_i128() {
             Some(whole) => Some(Name::Whole(whole)),
             None => None,
         },
-        Value::String(text) => Some(Name::Word(text.as_str())),
+        Value::String(text) => Some(Name::Word(*text)),
         _ => None,
     }
 }
 
 /// The name at a key of an object.
-pub fn name_at<'v>(object: &'v Value, key: &str) -> Option<Name<'v>>
-    ensures { option_map label_from result ≡ label_at_key key.now (view object.now) }
+pub fn name_at<'v>(object: &Value<'v>, key: &str) -> Option<Name<'v>>
+    ensures { option_map label_from result ≡ label_at_key key.now (value_data object.now) }
 {
     match object.get(key) {
         Some(value) => name_of(value),
@@ -130,7 +130,7 @@ pub enum Unnamed {
 /// The names at a key of each of the objects, or the place of the first that has none.
 pub fn names_at<'v>(
     alloc: Global,
-    objects: &'v [Value],
+    objects: &[Value<'v>],
     key: &str,
 ) -> Result<Vec<Name<'v>>, Unnamed>
     requires { length objects.now ≤ most_units }

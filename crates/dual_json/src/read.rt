@@ -3,7 +3,7 @@
 ghost use Rattle.std.specs.Prelude.{◌≡◌, ◌≤◌, ◌⊎◌, true, None, Some, Ok, Err, cond, length, codes, IfOk, MatchResult};
 ghost use Rattle.std.specs.Str.{is_utf8};
 ghost use Rattle.serde_json.specs.Read.{read};
-ghost use Rattle.serde_json.specs.View.{view};
+ghost use Rattle.dual_json.specs.Values.{value_data};
 ghost use Rattle.audit_model.specs.declared.fault.GraphFault.TheVariants as fault;
 ghost use Rattle.audit_model.specs.Graph.{IsGraph, count_edges};
 ghost use Rattle.audit_model.specs.Limits.{AreWithin, most_units, most_edges};
@@ -19,28 +19,35 @@ use crate::districts::{check_count, different, labels_of, start_of};
 use crate::edges::{check_entries, graph_of};
 use crate::index::Index;
 use crate::names::{Name, Unnamed, names_at};
+use crate::parse::parse;
 use crate::shape::{Parts, check_frame, parts_of};
+use crate::value::Value;
 use audit_model::fault::GraphFault;
 use audit_model::lists::{LabelList, UnitList};
 use audit_model::outcome::Counts;
 use audit_model::setting::Columns;
 use dual_graph::graph::Graph;
 use dual_graph::parsed::Parsed;
-use serde_json::Value;
-use serde_json::error::Category;
+use json::{Error, Scratch};
 use std::alloc::Global;
+use std::str::from_utf8;
 
 /// The value of a text.
-pub(crate) fn value_of(alloc: Global, bytes: &[u8]) -> Result<Value, GraphFault>
-    ensures { MatchResult result (λ root. cond (is_utf8 bytes.now) (read bytes.now) None ≡ Some (view root))
+pub(crate) fn value_of<'t>(
+    alloc: Global,
+    bytes: &'t [u8],
+    scratch: &'t mut Scratch,
+) -> Result<Value<'t>, GraphFault>
+    ensures { MatchResult result (λ root. cond (is_utf8 bytes.now) (read bytes.now) None ≡ Some (value_data root))
         (λ f. (f ≡ fault.Memory) ⊎ ((f ≡ fault.NotJson) × (cond (is_utf8 bytes.now) (read bytes.now) None ≡ None))) }
 {
-    match Value::from_slice(alloc, bytes) {
+    let Ok(text) = from_utf8(bytes) else {
+        return Err(GraphFault::NotJson);
+    };
+    match parse(alloc, text, scratch) {
         Ok(value) => Ok(value),
-        Err(error) => match error.classify() {
-            Category::Memory => Err(GraphFault::Memory),
-            _ => Err(GraphFault::NotJson),
-        },
+        Err(Error::Invalid) => Err(GraphFault::NotJson),
+        Err(_) => Err(GraphFault::Memory),
     }
 }
 
@@ -60,7 +67,22 @@ pub fn read_graph(alloc: Global, bytes: &[u8], cols: &Columns) -> Result<Parsed,
         (λ f. (f ≡ fault.Memory) ⊎ (reading bytes.now cols.now ≡ Err f)) }
     ensures within { IfOk result (λ p. AreWithin p.graph p.counts p.start (length p.labels)) }
 {
-    let root = value_of(alloc, bytes)?;
+    let mut scratch = Scratch::new(alloc);
+    read_beside(alloc, bytes, cols, &mut scratch)
+}
+
+/// The same, with the room for texts that have escapes.
+fn read_beside<'t>(
+    alloc: Global,
+    bytes: &'t [u8],
+    cols: &Columns,
+    scratch: &'t mut Scratch,
+) -> Result<Parsed, GraphFault>
+    ensures read { MatchResult result (λ p. reading bytes.now cols.now ≡ Ok (parsed_of p))
+        (λ f. (f ≡ fault.Memory) ⊎ (reading bytes.now cols.now ≡ Err f)) }
+    ensures within { IfOk result (λ p. AreWithin p.graph p.counts p.start (length p.labels)) }
+{
+    let root = value_of(alloc, bytes, scratch)?;
     match parts_of(&root) {
         Ok(parts) => read_parts(alloc, &parts, cols),
         Err(part) => Err(GraphFault::BadShape(part)),
@@ -68,7 +90,7 @@ pub fn read_graph(alloc: Global, bytes: &[u8], cols: &Columns) -> Result<Parsed,
 }
 
 /// The ids of the nodes.
-fn ids_of<'v>(alloc: Global, nodes: &'v [Value]) -> Result<Index<'v>, GraphFault>
+fn ids_of<'v>(alloc: Global, nodes: &[Value<'v>]) -> Result<Index<'v>, GraphFault>
     requires { length nodes.now ≤ most_units }
     ensures { MatchResult result (λ index. (ids_fault (views nodes.now) ≡ None) × AreLabels (codes "id") (views nodes.now) index × (repeated_label index ≡ None))
         (λ f. (f ≡ fault.Memory) ⊎ (ids_fault (views nodes.now) ≡ Some f)) }
@@ -81,7 +103,7 @@ fn ids_of<'v>(alloc: Global, nodes: &'v [Value]) -> Result<Index<'v>, GraphFault
 }
 
 /// The graph of the parts.
-fn graph_in(alloc: Global, parts: &Parts<'_>) -> Result<Graph, GraphFault>
+fn graph_in(alloc: Global, parts: &Parts<'_, '_>) -> Result<Graph, GraphFault>
     ensures { MatchResult result
         (λ g. (graph_fault (document_of_parts parts.now) ≡ None) × (graph (document_of_parts parts.now) ≡ g) × (length parts.now.nodes.now ≤ most_units) × IsGraph g × (count_edges g (λ u v. true) ≤ most_edges))
         (λ f. (f ≡ fault.Memory) ⊎ (graph_fault (document_of_parts parts.now) ≡ Some f)) }
@@ -95,7 +117,7 @@ fn graph_in(alloc: Global, parts: &Parts<'_>) -> Result<Graph, GraphFault>
 /// The label of each node's district, where all columns are there and all numbers are good.
 fn names_in<'v>(
     alloc: Global,
-    nodes: &'v [Value],
+    nodes: &[Value<'v>],
     columns: &Columns,
 ) -> Result<Vec<Name<'v>>, GraphFault>
     requires { length nodes.now ≤ most_units }
@@ -115,7 +137,7 @@ fn names_in<'v>(
 /// The districts of the nodes with these labels.
 fn rows_of<'v>(
     alloc: Global,
-    nodes: &[Value],
+    nodes: &[Value<'_>],
     columns: &Columns,
     names: &[Name<'v>],
 ) -> Result<Rows, GraphFault>
@@ -138,7 +160,7 @@ fn rows_of<'v>(
 }
 
 /// What is read of the parts.
-fn read_parts(alloc: Global, parts: &Parts<'_>, columns: &Columns) -> Result<Parsed, GraphFault>
+fn read_parts(alloc: Global, parts: &Parts<'_, '_>, columns: &Columns) -> Result<Parsed, GraphFault>
     ensures read { MatchResult result
         (λ p. (refusal (document_of_parts parts.now) columns.now ≡ None) × (parsed (document_of_parts parts.now) columns.now ≡ parsed_of p))
         (λ f. (f ≡ fault.Memory) ⊎ (refusal (document_of_parts parts.now) columns.now ≡ Some f)) }

@@ -1,7 +1,7 @@
 //! The regions of the units.
 
 ghost use Rattle.std.specs.Prelude.{◌≡◌, ◌<◌, ◌≤◌, ◌⊎◌, true, false, None, Some, Ok, Err, nat_lt, length, All, IfOk, MatchResult};
-ghost use Rattle.serde_json.specs.View.{view};
+ghost use Rattle.dual_json.specs.Values.{value_data};
 ghost use Rattle.audit_model.specs.declared.fault.RegionFault.TheVariants as fault;
 ghost use Rattle.audit_model.specs.declared.setting.Columns.{Columns};
 ghost use Rattle.audit_model.specs.Limits.{AreRegions, most_units, most_regions};
@@ -17,10 +17,11 @@ use crate::districts::{different, start_of};
 use crate::names::{Name, Unnamed, names_at};
 use crate::read::value_of;
 use crate::shape::{Parts, parts_of};
+use crate::value::Value;
 use audit_model::fault::RegionFault;
 use audit_model::lists::UnitList;
 use audit_model::text::Text;
-use serde_json::Value;
+use json::Scratch;
 use std::alloc::Global;
 
 /// The region of each unit of a text that is a graph, or the first reason to refuse them.
@@ -39,7 +40,23 @@ pub fn read_regions(alloc: Global, bytes: &[u8], column: &Text) -> Result<UnitLi
         (λ f. (f ≡ fault.Memory) ⊎ (region_reading bytes.now column.now ≡ Err f)) }
     ensures within { IfOk result (λ numbers. (columns : Columns) (parsed : Parsed) → reading bytes.now columns ≡ Ok parsed → AreRegions parsed.graph.units numbers) }
 {
-    match value_of(alloc, bytes) {
+    let mut scratch = Scratch::new(alloc);
+    regions_beside(alloc, bytes, column, &mut scratch)
+}
+
+/// The same, with the room for texts that have escapes.
+fn regions_beside<'t>(
+    alloc: Global,
+    bytes: &'t [u8],
+    column: &Text,
+    scratch: &'t mut Scratch,
+) -> Result<UnitList, RegionFault>
+    requires graph { IsGraphText bytes.now }
+    ensures read { MatchResult result (λ numbers. region_reading bytes.now column.now ≡ Ok numbers)
+        (λ f. (f ≡ fault.Memory) ⊎ (region_reading bytes.now column.now ≡ Err f)) }
+    ensures within { IfOk result (λ numbers. (columns : Columns) (parsed : Parsed) → reading bytes.now columns ≡ Ok parsed → AreRegions parsed.graph.units numbers) }
+{
+    match value_of(alloc, bytes, scratch) {
         Ok(root) => match parts_of(&root) {
             Ok(parts) => regions_in(alloc, &parts, column),
             Err(_) => unreachable!(),
@@ -49,7 +66,7 @@ pub fn read_regions(alloc: Global, bytes: &[u8], column: &Text) -> Result<UnitLi
 }
 
 /// The first node that has not the column.
-fn first_missing(nodes: &[Value], column: &Text) -> Option<u32>
+fn first_missing(nodes: &[Value<'_>], column: &Text) -> Option<u32>
     requires { length nodes.now ≤ most_units }
     ensures { result ≡ first_without column.now (views nodes.now) }
 {
@@ -82,7 +99,7 @@ fn numbers_of(alloc: Global, names: &[Name<'_>]) -> Result<UnitList, RegionFault
 }
 
 /// The regions of the nodes.
-fn regions_in(alloc: Global, parts: &Parts<'_>, column: &Text) -> Result<UnitList, RegionFault>
+fn regions_in(alloc: Global, parts: &Parts<'_, '_>, column: &Text) -> Result<UnitList, RegionFault>
     requires { length parts.now.nodes.now ≤ most_units }
     ensures read { MatchResult result
         (λ numbers. (region_fault (document_of_parts parts.now) column.now ≡ None) × (regions (document_of_parts parts.now) column.now ≡ numbers))

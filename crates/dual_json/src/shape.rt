@@ -3,26 +3,26 @@
 ghost use Rattle.std.specs.Prelude.{◌≡◌, ◌<◌, ◌≤◌, true, false, None, Some, [], length, map, codes, is_some, option_map, option_and_then, unwrap_or, MatchOption, MatchResult};
 ghost use Rattle.std.specs.List.{list_all, slice_index_or};
 ghost use Rattle.serde_json.specs.Find.{get, as_bool};
-ghost use Rattle.serde_json.specs.View.{view};
+ghost use Rattle.dual_json.specs.Values.{value_data};
 ghost use Rattle.audit_statement.specs.Reading.{bad_part, document, is_no_flag, list_at as list_in, list_of};
 ghost use Rattle.dual_json.specs.Shape.{views, lists_in, document_of_parts, frame_fault};
 ghost use Rattle.audit_model.specs.Limits.{most_units};
 
+use crate::value::Value;
 use audit_model::fault::{GraphFault, Part};
-use serde_json::Value;
 
 /// What is read of the root: its nodes, the list of neighbours of each, and whether the graph is directed.
 #[derive(Clone, Copy)]
-pub struct Parts<'v> {
-    pub nodes: &'v [Value],
-    pub adjacency: &'v [Value],
+pub struct Parts<'v, 't> {
+    pub nodes: &'v [Value<'t>],
+    pub adjacency: &'v [Value<'t>],
     pub directed: bool,
 }
 
 /// The parts, or the first of them that has not its shape.
-pub fn parts_of(root: &Value) -> Result<Parts<'_>, Part>
-    ensures { MatchResult result (λ parts. (bad_part (view root.now) ≡ None) × (document (view root.now) ≡ document_of_parts parts))
-        (λ part. bad_part (view root.now) ≡ Some part) }
+pub fn parts_of<'v, 't>(root: &'v Value<'t>) -> Result<Parts<'v, 't>, Part>
+    ensures { MatchResult result (λ parts. (bad_part (value_data root.now) ≡ None) × (document (value_data root.now) ≡ document_of_parts parts))
+        (λ part. bad_part (value_data root.now) ≡ Some part) }
 {
     if !root.is_object() {
         return Err(Part::Root);
@@ -50,7 +50,7 @@ pub fn parts_of(root: &Value) -> Result<Parts<'_>, Part>
 }
 
 /// Whether the graph is directed, its two lists differ in length, or there are too many units.
-pub fn check_frame(parts: &Parts<'_>) -> Result<(), GraphFault>
+pub fn check_frame(parts: &Parts<'_, '_>) -> Result<(), GraphFault>
     ensures { MatchResult result (λ _. (frame_fault parts.now.directed (length parts.now.nodes.now) (length parts.now.adjacency.now) ≡ None)
         × (length parts.now.nodes.now ≡ length parts.now.adjacency.now) × (length parts.now.nodes.now ≤ most_units))
         (λ f. frame_fault parts.now.directed (length parts.now.nodes.now) (length parts.now.adjacency.now) ≡ Some f) }
@@ -70,19 +70,19 @@ pub fn check_frame(parts: &Parts<'_>) -> Result<(), GraphFault>
 }
 
 /// The entries of the neighbours of a node.
-pub fn entries_of<'v>(adjacency: &'v [Value], node: usize) -> &'v [Value]
+pub fn entries_of<'v, 't>(adjacency: &'v [Value<'t>], node: usize) -> &'v [Value<'t>]
     requires { node < length adjacency.now }
     ensures { views result.now ≡ slice_index_or (lists_in adjacency.now) node [] }
 {
     match adjacency[node].as_array() {
         Some(list) => list.as_slice(),
-        None => &[],
+        None => &adjacency[..0],
     }
 }
 
 /// The elements of the list at a key.
-fn list_at<'v>(root: &'v Value, key: &str) -> Option<&'v [Value]>
-    ensures { option_map (λ s. views s.now) result ≡ list_in key.now (view root.now) }
+fn list_at<'v, 't>(root: &'v Value<'t>, key: &str) -> Option<&'v [Value<'t>]>
+    ensures { option_map (λ s. views s.now) result ≡ list_in key.now (value_data root.now) }
 {
     match root.get(key) {
         Some(value) => match value.as_array() {
@@ -94,7 +94,7 @@ fn list_at<'v>(root: &'v Value, key: &str) -> Option<&'v [Value]>
 }
 
 /// Whether each value is a list.
-fn are_lists(values: &[Value]) -> bool
+fn are_lists(values: &[Value<'_>]) -> bool
     ensures { result ≡ list_all (λ d. is_some (list_of d)) (views values.now) }
 {
     for value in values {
@@ -106,9 +106,9 @@ fn are_lists(values: &[Value]) -> bool
 }
 
 /// The truth value at a key, false where there is no such key; none where there is another value.
-fn flag_at(root: &Value, key: &str) -> Option<bool>
-    ensures { MatchOption result (is_no_flag key.now (view root.now) ≡ true)
-        (λ flag. (is_no_flag key.now (view root.now) ≡ false) × (unwrap_or (option_and_then as_bool (get key.now (view root.now))) false ≡ flag)) }
+fn flag_at(root: &Value<'_>, key: &str) -> Option<bool>
+    ensures { MatchOption result (is_no_flag key.now (value_data root.now) ≡ true)
+        (λ flag. (is_no_flag key.now (value_data root.now) ≡ false) × (unwrap_or (option_and_then as_bool (get key.now (value_data root.now))) false ≡ flag)) }
 {
     match root.get(key) {
         Some(value) => value.as_bool(),

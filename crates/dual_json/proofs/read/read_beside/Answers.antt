@@ -2,11 +2,11 @@ use Rattle.std.proofs.Common.{◌≡◌, Ok, Err, sym, ap, ◌∙◌, inl, inr, 
 use Rattle.std.specs.Prelude.{◌⊎◌}
 use Rattle.audit_model.specs.declared.fault.GraphFault.TheVariants.{Memory}
 use Rattle.audit_model.proofs.Results.{match_map, err_at}
-use Rattle.serde_json.specs.View.{view}
+use Rattle.dual_json.specs.Values.{value_data}
 use Rattle.audit_statement.specs.Reading.{Document, reading, of_root, accepted_or, parsed, refusal}
 use Rattle.dual_json.specs.Shape.{document_of_parts}
 use Rattle.dual_json.proofs.Bridge.{reading_of, reading_none}
-use Rattle.dual_json.proofs.read.read_graph.Goals as goal
+use Rattle.dual_json.proofs.read.read_beside.Goals as goal
 
 pub returns-in_err-root-clause-read : goal.returns-in_err-root-clause-read
 returns-in_err-root-clause-read c =
@@ -21,7 +21,7 @@ returns-in_err-root-clause-read c =
 pub returns-in-Ok-clause-read : goal.returns-in-Ok-clause-read
 returns-in-Ok-clause-read c =
     let columns = c.args.cols.now in
-    let root = view c.in_ok-root.root in
+    let root = value_data c.in_ok-root.root in
     let d : Document = document_of_parts c.in-Ok.parts in
     let read = reading_of c.args.bytes.now columns root c.in_ok-root.ensures ∙ ap (of_root columns root) c.in-Ok.ensures.0
     ∙ ap (λ (x : Document). accepted_or (parsed x columns) (refusal x columns)) c.in-Ok.ensures.1 in
@@ -35,5 +35,5 @@ returns-in-Ok-clause-read c =
 pub returns-clause-read : goal.returns-clause-read
 returns-clause-read c =
     let columns = c.args.cols.now in
-    let root = view c.in_ok-root.root in
+    let root = value_data c.in_ok-root.root in
     inr (reading_of c.args.bytes.now columns root c.in_ok-root.ensures ∙ ap (of_root columns root) c.in-Err.ensures)

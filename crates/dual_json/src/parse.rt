@@ -1,0 +1,126 @@
+//! From a text to its value, in one pass over its tokens.
+
+ghost use Rattle.std.specs.Prelude.{◌≡◌, ◌<◌, ◌++◌, ◌∷◌, [], length, Some, None, Err, IfOk, OnOk, OnErr};
+ghost use Rattle.json.specs.Json.{value, items, members};
+ghost use Rattle.serde_json.specs.Data.{no_members};
+ghost use Rattle.serde_json.specs.Read.{of_json, of_items, of_members, converted, read as read_text};
+ghost use Rattle.dual_json.specs.Values.{value_data, items_data, members_data};
+
+use crate::number::number_of;
+use crate::value::Value;
+use json::{Error, Reader, Scratch, Token};
+use std::alloc::Global;
+
+/// How deep lists and objects may nest, as in `serde_json`.
+const MAX_DEPTH: usize = 127;
+
+/// The value of a text. Texts with escapes go into the scratch.
+pub fn parse<'t>(alloc: Global, text: &'t str, scratch: &'t mut Scratch) -> Result<Value<'t>, Error>
+    ensures ok { IfOk result (λ v. read_text text.now ≡ Some (value_data v)) }
+    ensures err { result ≡ Err Error.Invalid → read_text text.now ≡ None }
+{
+    let Ok(mut reader) = Reader::new(text, scratch) else {
+        return Err(Error::OutOfMemory);
+    };
+    let value = match read(alloc, &mut reader, MAX_DEPTH) {
+        Ok(value) => value,
+        Err(error) => return Err(error),
+    };
+    if reader.next().is_some() {
+        return Err(Error::Invalid);
+    }
+    Ok(value)
+}
+
+/// The next value, with lists and objects nested no deeper than this.
+#[cycle(read)]
+#[inline(always)]
+fn read<'t>(alloc: Global, reader: &mut Reader<'t>, depth: usize) -> Result<Value<'t>, Error>
+    ensures ok { IfOk result
+        (λ v. converted of_json (value depth reader.old) ≡ Some (value_data v, reader.new)) }
+    ensures shorter { OnOk result (length reader.new < length reader.old) }
+    ensures err { result ≡ Err Error.Invalid → converted of_json (value depth reader.old) ≡ None }
+{
+    let token = reader.next().ok_or(Error::Invalid)?;
+    match token {
+        Token::String(text) => Ok(Value::String(text)),
+        Token::Number(text) => match number_of(text) {
+            Some(number) => Ok(Value::Number(number)),
+            None => Err(Error::Invalid),
+        },
+        Token::Bool(b) => Ok(Value::Bool(b)),
+        Token::Null => Ok(Value::Null),
+        Token::EndObject | Token::EndArray | Token::Key(_) | Token::Bad => Err(Error::Invalid),
+        Token::BeginArray => {
+            if depth == 0 {
+                return Err(Error::Invalid);
+            }
+            Ok(Value::Array(read_items(alloc, reader, depth - 1)?))
+        }
+        Token::BeginObject => {
+            if depth == 0 {
+                return Err(Error::Invalid);
+            }
+            Ok(Value::Object(read_members(alloc, reader, depth - 1)?))
+        }
+    }
+}
+
+/// The items of a list, to its end.
+#[cycle(read)]
+#[inline(never)]
+fn read_items<'t>(
+    alloc: Global,
+    reader: &mut Reader<'t>,
+    depth: usize,
+) -> Result<Vec<Value<'t>>, Error>
+    ensures ok { IfOk result
+        (λ v. converted of_items (items (value depth) (length reader.old) reader.old)
+        ≡ Some (items_data v.items, reader.new)) }
+    ensures shorter { OnOk result (length reader.new < length reader.old) }
+    ensures err { result ≡ Err Error.Invalid
+        → converted of_items (items (value depth) (length reader.old) reader.old) ≡ None }
+{
+    let mut found = Vec::new(alloc);
+    'items: while !reader.take_end_array() {
+        let item = read(alloc, reader, depth)?;
+        push(&mut found, item)?;
+    }
+    Ok(found)
+}
+
+/// The members of an object, to its end. Most objects, the entries of a list of neighbours, have one or two: so there is room for one at first.
+#[cycle(read)]
+#[inline(never)]
+fn read_members<'t>(
+    alloc: Global,
+    reader: &mut Reader<'t>,
+    depth: usize,
+) -> Result<Vec<(&'t str, Value<'t>)>, Error>
+    ensures ok { IfOk result
+        (λ v. converted (λ ms. of_members ms no_members)
+        (members (value depth) (length reader.old) reader.old)
+        ≡ Some (members_data v.items, reader.new)) }
+    ensures shorter { OnOk result (length reader.new < length reader.old) }
+    ensures err { result ≡ Err Error.Invalid
+        → converted (λ ms. of_members ms no_members)
+        (members (value depth) (length reader.old) reader.old) ≡ None }
+{
+    let mut found = Vec::with_capacity(alloc, 1)?;
+    'members: while let Some(key) = reader.next_key()? {
+        let member = read(alloc, reader, depth)?;
+        push(&mut found, (key, member))?;
+    }
+    Ok(found)
+}
+
+/// Appends an item.
+fn push<T: Drop>(found: &mut Vec<T>, item: T) -> Result<(), Error>
+    ensures ok { OnOk result (found.new.items ≡ found.old.items ++ item ∷ []) }
+    ensures err { OnErr result (result ≡ Err Error.OutOfMemory) }
+{
+    match found.push(item) {
+        Ok(()) => Ok(()),
+        Err(_) => Err(Error::OutOfMemory),
+    }
+}
