@@ -1,5 +1,5 @@
 -- The columns of a node.
-use Rattle.std.specs.Prelude.{ℕ, ◌^◌, cond, nat_le, List, [], ◌∷◌, length, Option, Some, None, is_none, unwrap_or, option_map, option_and_then}
+use Rattle.std.specs.Prelude.{ℕ, cond, nat_le, List, [], ◌∷◌, length, Option, Some, None, is_none, unwrap_or, option_map, option_and_then}
 use Rattle.serde_json.specs.Data.{Data}
 use Rattle.serde_json.specs.Find.{get, as_number, as_u64}
 use Rattle.audit_model.specs.declared.fault.Column.{Column}
