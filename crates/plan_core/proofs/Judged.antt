@@ -1,6 +1,6 @@
 -- What the refusals of a plan say of it.
 use Rattle.std.proofs.Common.{◌≡◌, ℕ, ◌<◌, [], ◌∷◌, Bool, true, false, not, ◌&&◌, List, length, get_or, Option, Some, None, refl, sym, ap, ◌∙◌, subst, inl, inr}
-use Rattle.std.specs.Prelude.{◌↔◌, is_none, is_some, option_map, unwrap_or, ◌⊎◌, Result, Ok, Err, IfOk, MatchResult}
+use Rattle.std.specs.Prelude.{◌↔◌, is_none, is_some, option_map, unwrap_or, ◌⊎◌, Result, Ok, Err, MatchResult}
 use Rattle.std.proofs.lemmas.Bool.{and_parts, and_from, cases_Bool, cond-true, cond-false, le-ltb, ltb-false, not-false, not_from_true, not_from_false, and_left}
 use Rattle.audit_model.specs.declared.fault.PlanFault.{PlanFault}
 use Rattle.audit_model.specs.declared.fault.PlanFault.TheVariants.{Disconnected, TooManyCut, Memory}
@@ -204,13 +204,10 @@ module _ (job : Job) (start : List ℕ) (labels : List Label) (input : Job) (is 
   unfolding job_with
   job_with_some fault some = ap (job_or (restarted job start labels)) (subst (λ (j : Job). plan_fault j ≡ Some fault) is some)
 
--- what was made of a job, or want of memory
-module _ (job : Job) where
-  pub given_job : (judged made : Result Job PlanFault) → MatchResult made (λ given. given ≡ job) (λ fault. fault ≡ Memory) → judged ≡ Ok job
+-- what was made of an input, or why there is none, is what the definition says
+module _ (input : Job) (judged : Result Job PlanFault) (accepted_as : plan_fault input ≡ None → judged ≡ Ok input) (refused_as : (f : PlanFault) → plan_fault input ≡ Some f → judged ≡ Err f) where
+  pub given_job : (made : Result Job PlanFault) → MatchResult made (λ given. (given ≡ input) × (plan_fault input ≡ None)) (λ fault. (fault ≡ Memory) ⊎ (plan_fault input ≡ Some fault))
       → MatchResult made (λ given. judged ≡ Ok given) (λ fault. (fault ≡ Memory) ⊎ (judged ≡ Err fault))
-  given_job judged (Ok given) h is = is ∙ ap (λ (j : Job). Ok j) (sym h)
-  given_job judged (Err fault) h is = inl h
-
-  pub given_sound : (made : Result Job PlanFault) → MatchResult made (λ given. given ≡ job) (λ fault. fault ≡ Memory) → IsJob job → IfOk made (λ given. IsJob given)
-  given_sound (Ok given) h sound = subst IsJob (sym h) sound
-  given_sound (Err fault) h sound = tt
+  given_job (Ok given) h = accepted_as h.1 ∙ ap (λ (j : Job). Ok j) (sym h.0)
+  given_job (Err fault) (inl memory) = inl memory
+  given_job (Err fault) (inr some) = inr (refused_as fault some)

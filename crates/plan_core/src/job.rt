@@ -1,14 +1,15 @@
 //! The job of a run.
 
-ghost use Rattle.std.specs.Prelude.{◌≡◌, ◌+◌, ◌<◌, ◌≤◌, ◌↔◌, ◌⊎◌, ℕ, [], Ok, Err, length, slice_index, pos, IsTrue, IfOk, IfSome, MatchResult};
+ghost use Rattle.std.specs.Prelude.{◌≡◌, ◌+◌, ◌<◌, ◌≤◌, ◌↔◌, ◌⊎◌, ℕ, [], None, Some, Ok, Err, length, slice_index, pos, IsTrue, IfOk, IfSome, MatchResult};
 ghost use Rattle.std.specs.List.{slice_get, slice_index_or};
 ghost use Rattle.audit_model.specs.declared.fault.PlanFault.TheVariants as plan;
 ghost use Rattle.audit_model.specs.Job.{total_population, total_votes, rules};
-ghost use Rattle.audit_model.specs.JobOf.{IsJob, job_from, job_of, job_with};
+ghost use Rattle.audit_model.specs.JobOf.{IsJob, job_from, job_of, job_with, plan_fault};
 ghost use Rattle.audit_model.specs.Limits.{IsWithinLimits, most_districts};
 ghost use Rattle.audit_model.specs.Plan.{IsLegal, is_legal, least_population, greatest_population};
 ghost use Rattle.audit_model.specs.Trajectory.{plan_value};
 ghost use Rattle.dual_graph.specs.Read.{parsed_of};
+ghost use Rattle.plan_core.specs.Valued.{IsValued};
 
 use crate::input::Input;
 use crate::values::start_values;
@@ -32,10 +33,9 @@ pub struct Job {
 
 impl Model for Job {
     ghost use Rattle.audit_model.specs.Job.{Job as JobValue};
+    ghost use Rattle.plan_core.specs.Valued.{IsValued};
 
     ghost Value = { JobValue };
-
-    ghost use Rattle.plan_core.specs.Valued.{IsValued};
 
     ghost view = { λ j. j.input };
 
@@ -48,6 +48,18 @@ fn entry(values: &[i64], place: usize) -> i64
     ensures { result ≡ slice_index_or values.now place (pos 0) }
 {
     values[place]
+}
+
+// The values of the start plan of an input, or the first reason to refuse it.
+fn values_of(alloc: Global, input: &Input) -> Result<[i64; 4], PlanFault>
+    requires { IsWithinLimits input.now }
+    ensures { MatchResult result (λ values. IsValued input.now values × (plan_fault input.now ≡ None))
+        (λ fault. (fault ≡ plan.Memory) ⊎ (plan_fault input.now ≡ Some fault)) }
+{
+    match input.plan_fault(alloc)? {
+        Some(fault) => Err(fault),
+        None => Ok(start_values(alloc, input)?),
+    }
 }
 
 impl Job {
@@ -89,11 +101,7 @@ impl Job {
             (λ fault. (fault ≡ plan.Memory) ⊎ (job_of (parsed_of parsed) setting regions ≡ Err fault)) }
         ensures sound { IfOk result (λ job. IsJob job) }
     {
-        let input = Input::new(parsed, setting, regions);
-        match input.plan_fault(alloc)? {
-            Some(fault) => Err(fault),
-            None => Job::with_values(alloc, input),
-        }
+        Job::of_input(alloc, Input::new(parsed, setting, regions))
     }
 
     /// The job of the same graph, counts, setting and regions with another plan to start from, in which each
@@ -116,20 +124,22 @@ impl Job {
             (λ fault. (fault ≡ plan.Memory) ⊎ (job_with self.now start labels ≡ Err fault)) }
         ensures sound { IfOk result (λ job. IsJob job) }
     {
-        let input = self.input.restarted(start, labels.len() as u32)?;
-        match input.plan_fault(alloc)? {
-            Some(fault) => Err(fault),
-            None => Job::with_values(alloc, input),
+        match self.input.restarted(start, labels.len() as u32) {
+            Ok(input) => Job::of_input(alloc, input),
+            Err(_) => Err(PlanFault::Memory),
         }
     }
 
-    /// The job of an input whose plan is legal.
-    fn with_values(alloc: Global, input: Input) -> Result<Job, PlanFault>
-        requires { IsJob input }
-        ensures { MatchResult result (λ job. job ≡ input) (λ fault. fault ≡ plan.Memory) }
+    // The job of an input.
+    fn of_input(alloc: Global, input: Input) -> Result<Job, PlanFault>
+        ensures job { MatchResult result (λ job. (job ≡ input) × (plan_fault input ≡ None))
+            (λ fault. (fault ≡ plan.Memory) ⊎ (plan_fault input ≡ Some fault)) }
+        ensures sound { IfOk result (λ job. IsJob job) }
     {
-        let values = start_values(alloc, &input)?;
-        Ok(Job { input, values })
+        match values_of(alloc, &input) {
+            Ok(values) => Ok(Job { input, values }),
+            Err(fault) => Err(fault),
+        }
     }
 
     /// The least and the greatest population of a district that is within the bounds. Where none is, the
