@@ -1,5 +1,6 @@
 -- Lines that are written piece by piece.
-use Rattle.std.proofs.Common.{◌≡◌, ◌∙◌, inl, inr, ℕ, zero, suc, ◌+◌, ◌<◌, ◌≤◌, Bool, true, false, List, [], ◌∷◌, ◌++◌, length, drop, drop-cons, get_or, add-one, map, append_assoc, refl, subst, arith}
+use Rattle.std.proofs.Common.{◌≡◌, ◌∙◌, inl, inr, ℕ, zero, suc, ◌+◌, ◌<◌, ◌≤◌, Bool, true, false, List, [], ◌∷◌, ◌++◌, length, drop, drop-cons, get_or, add-one, map, flat_map, replicate, append_assoc, append-nil, refl, sym, ap, subst, arith}
+use Rattle.std.proofs.lemmas.List.{drop_all, map-append}
 use Rattle.std.proofs.KnownBytes.{Appends-nil}
 use Rattle.audit_model.specs.Faults.{Rose}
 use Rattle.audit_statement.specs.Endings.{AddsLine, AppendsPart}
@@ -51,19 +52,51 @@ goes_on start now next going then whole piece left w more = record {
   split = append_assoc w.said piece left ∙ w.split;
 }
 
--- the end of the line
-pub ends_line : (start now next : Stream) (going then : Bool) (whole piece : List ℕ) → IsOnTheWay start now going whole piece
-    → ((from : Stream) (said : List ℕ) → IsSaid from now said going → IsSaid from next (said ++ piece) then) → AddsLine start next whole
-ends_line start now next going then whole piece w more = adds_line (said_adds start next (w.said ++ piece) then (more start w.said w.is_said)) w.split
+-- where nothing is left, the whole was said
+pub all_said : (start now : Stream) (going : Bool) (whole : List ℕ) → IsOnTheWay start now going whole [] → IsSaid start now whole going
+all_said start now going whole w = subst (λ (text : List ℕ). IsSaid start now text going) (sym (append-nil w.said) ∙ w.split) w.is_said
+
+-- ---- the texts of pieces
 
 -- the pieces from a place on are the piece there and those behind it
 pub one_piece_more : (pieces : List Piece) (i : ℕ) (blank : Piece) → i < length pieces
-    → as_line (map piece_text (drop i pieces)) ≡ piece_text (get_or pieces i blank) ++ as_line (map piece_text (drop (i + 1) pieces))
+    → flat_map piece_text (drop i pieces) ≡ piece_text (get_or pieces i blank) ++ flat_map piece_text (drop (i + 1) pieces)
 one_piece_more pieces i blank l = rw (add-one, drop-cons pieces i blank) refl
 
--- behind the last piece stands the line's end
-pub no_piece_left : (pieces : List Piece) (i : ℕ) → length pieces ≤ i → as_line (map piece_text (drop i pieces)) ≡ 10 ∷ []
-no_piece_left [] zero l = refl
-no_piece_left [] (suc i) l = refl
-no_piece_left (piece ∷ pieces) zero l = absurd (omega arith)
-no_piece_left (piece ∷ pieces) (suc i) l = no_piece_left pieces i (omega arith)
+-- behind the last piece stands nothing
+pub no_piece_left : (pieces : List Piece) (i : ℕ) → length pieces ≤ i → flat_map piece_text (drop i pieces) ≡ []
+no_piece_left pieces i over = ap (flat_map piece_text) (drop_all i pieces over)
+
+-- a line that begins with these pieces
+pub line_begins : (pieces : List Piece) (rest : List (List ℕ)) → as_line (map piece_text pieces ++ rest) ≡ flat_map piece_text pieces ++ as_line rest
+line_begins [] rest = refl
+line_begins (piece ∷ pieces) rest = ap (λ t. piece_text piece ++ t) (line_begins pieces rest) ∙ sym (append_assoc (piece_text piece) (flat_map piece_text pieces) (as_line rest))
+
+-- the line of two lists of pieces
+pub two_texts : (first pieces : List Piece) → (flat_map piece_text first ++ flat_map piece_text pieces) ++ 10 ∷ [] ≡ as_line (map piece_text first ++ map piece_text pieces)
+two_texts first pieces =
+    append_assoc (flat_map piece_text first) (flat_map piece_text pieces) (10 ∷ [])
+    ∙ ap (λ t. flat_map piece_text first ++ t) (sym (ap as_line (sym (append-nil (map piece_text pieces))) ∙ line_begins pieces []))
+    ∙ sym (line_begins first (map piece_text pieces))
+
+-- texts of nothing say nothing
+pub blanks_say_nothing : (blank : Piece) (count : ℕ) → piece_text blank ≡ [] → as_line (map piece_text (replicate count blank)) ≡ 10 ∷ []
+blanks_say_nothing blank zero none = refl
+blanks_say_nothing blank (suc count) none = ap (λ t. t ++ as_line (map piece_text (replicate count blank))) none ∙ blanks_say_nothing blank count none
+
+-- so do those of them that are left behind a place
+pub dropped_say_nothing : (blank : Piece) (place count : ℕ) → piece_text blank ≡ [] → as_line (map piece_text (drop place (replicate count blank))) ≡ 10 ∷ []
+dropped_say_nothing blank zero zero none = refl
+dropped_say_nothing blank zero (suc count) none = blanks_say_nothing blank (suc count) none
+dropped_say_nothing blank (suc place) zero none = refl
+dropped_say_nothing blank (suc place) (suc count) none = dropped_say_nothing blank place count none
+
+-- pieces behind which nothing is said
+pub filled_line : (pieces start rest : List Piece) → start ≡ pieces → as_line (map piece_text rest) ≡ 10 ∷ [] → as_line (map piece_text (start ++ rest)) ≡ as_line (map piece_text pieces)
+filled_line pieces start rest is none =
+    ap (λ (ps : List Piece). as_line (map piece_text (ps ++ rest))) is
+    ∙ ap as_line (map-append piece_text pieces rest)
+    ∙ line_begins pieces (map piece_text rest)
+    ∙ ap (λ t. flat_map piece_text pieces ++ t) none
+    ∙ sym (line_begins pieces [])
+    ∙ ap as_line (append-nil (map piece_text pieces))

@@ -23,6 +23,6 @@ pub mod writing;
 pub use audit::text;
 pub use check::check_text;
 pub use ended::Ended;
-pub use note::tell;
+pub use note::{fault_name, tell};
 pub use room::reserve;
 pub use writing::write_all;

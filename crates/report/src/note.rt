@@ -1,6 +1,6 @@
 //! The line that tells why a call ended. It takes no memory.
 
-ghost use Rattle.std.specs.Prelude.{◌≡◌, ◌++◌, ◌∷◌, List, ℕ, codes, decimal, map, []};
+ghost use Rattle.std.specs.Prelude.{◌≡◌, ◌++◌, ◌∷◌, ◌≤◌, List, ℕ, codes, decimal, flat_map, length, map, []};
 ghost use Rattle.ckpt_store.specs.View.{slot_view};
 ghost use Rattle.hex.specs.Hex.{encode_lower};
 ghost use Rattle.report.specs.Ended.{ending_of, columns_kept};
@@ -8,6 +8,7 @@ ghost use Rattle.report.specs.Pieces.{piece_text};
 ghost use Rattle.report.specs.Said.{IsSaid};
 ghost use Rattle.audit_statement.specs.Endings.{AddsLine, TellsWhy};
 ghost use Rattle.audit_statement.specs.Status.{status_of};
+ghost use Rattle.audit_model.specs.Names.{name_text};
 ghost use Rattle.audit_model.specs.State.{Stream};
 ghost use Rattle.audit_statement.specs.Note as terms;
 
@@ -17,7 +18,7 @@ use crate::piece::Piece::{Digest, Number, Text};
 use crate::writing::write_all;
 use audit_io::sink::Sink;
 use audit_model::fault::{
-    CkptFault, Column, GraphFault, Part, PlanFault, RegionFault, TableFault, WordFault,
+    CkptFault, Column, GraphFault, Name, Part, PlanFault, RegionFault, TableFault, WordFault,
 };
 use audit_model::setting::Columns;
 use audit_model::text;
@@ -34,44 +35,45 @@ pub fn tell<N: Sink>(why: &Ended, note: &mut N) -> u8
     status(why)
 }
 
-// Writes the line that begins with this text and goes on with the pieces.
-fn say<N: Sink>(note: &mut N, first: &str, pieces: &[Piece])
-    ensures { AddsLine (N.state note.old) (N.state note.new) (terms.as_line (first.now ∷ map piece_text pieces.now)) }
+// Goes on with a line by these pieces, where none before failed.
+fn add_pieces<N: Sink>(note: &mut N, going: bool, pieces: &[Piece]) -> bool
+    ensures { (start : Stream) (said : List ℕ) → IsSaid start (N.state note.old) said going
+        → IsSaid start (N.state note.new) (said ++ flat_map piece_text pieces.now) result }
 {
-    let mut going = add(note, true, first.as_bytes());
+    let mut going = going;
     for piece in pieces {
         going = add_piece(note, going, piece);
     }
+    going
+}
+
+// Writes the line that begins with these texts and goes on with the pieces.
+fn say<N: Sink>(note: &mut N, first: &[Piece], pieces: &[Piece])
+    ensures { AddsLine (N.state note.old) (N.state note.new) (terms.as_line (map piece_text first.now ++ map piece_text pieces.now)) }
+{
+    let going = add_pieces(note, true, first);
+    let going = add_pieces(note, going, pieces);
     // Nothing follows, whether the whole line was written or a front of it.
     let _ended = add(note, going, b"\n");
 }
 
-// Writes the line of a fault of the words.
-fn say_words<N: Sink>(note: &mut N, pieces: &[Piece])
-    ensures { AddsLine (N.state note.old) (N.state note.new) (terms.as_line (codes "words: " ∷ map piece_text pieces.now)) }
+// Writes the line that is this text.
+fn say_text<N: Sink>(note: &mut N, text: &str)
+    ensures { AddsLine (N.state note.old) (N.state note.new) (terms.as_line (text.now ∷ [])) }
 {
-    say(note, "words: ", pieces);
+    say(note, &[Text(text)], &[]);
 }
 
-// Writes the line of a fault of the graph.
-fn say_graph<N: Sink>(note: &mut N, pieces: &[Piece])
-    ensures { AddsLine (N.state note.old) (N.state note.new) (terms.as_line (codes "graph: " ∷ map piece_text pieces.now)) }
+// Writes the line of a plan of a table that is refused.
+fn say_named<N: Sink>(note: &mut N, name: &text::Text, fault: &PlanFault)
+    ensures { AddsLine (N.state note.old) (N.state note.new) (terms.as_line (codes "plan " ∷ name.now ∷ codes ": " ∷ terms.plan_note fault.now)) }
 {
-    say(note, "graph: ", pieces);
-}
-
-// Writes the line of a fault of a plan.
-fn say_plan<N: Sink>(note: &mut N, pieces: &[Piece])
-    ensures { AddsLine (N.state note.old) (N.state note.new) (terms.as_line (codes "plan: " ∷ map piece_text pieces.now)) }
-{
-    say(note, "plan: ", pieces);
-}
-
-// Writes the line of a fault of the table.
-fn say_table<N: Sink>(note: &mut N, pieces: &[Piece])
-    ensures { AddsLine (N.state note.old) (N.state note.new) (terms.as_line (codes "table: " ∷ map piece_text pieces.now)) }
-{
-    say(note, "table: ", pieces);
+    let name = name.as_str();
+    say(
+        note,
+        &[Text("plan "), Text(name), Text(": ")],
+        &plan_line(fault),
+    );
 }
 
 // Goes on with a line by this piece, where none before failed.
@@ -118,365 +120,265 @@ fn tell_line<N: Sink>(why: &Ended, note: &mut N)
 {
     match why {
         Ended::Done => {}
-        Ended::BadWords(fault) => tell_words(fault, note),
-        Ended::TooManyBytes => say(note, "graph: more than 67108864 bytes", &[]),
-        Ended::BadGraph(fault, columns) => tell_graph(fault, columns, note),
-        Ended::BadRegions(fault, column) => tell_regions(fault, column, note),
-        Ended::BadPlan(fault) => tell_plan(fault, note),
-        Ended::BadTable(fault) => tell_table(fault, note),
-        Ended::BadPlanNamed(name, fault) => tell_named(name, fault, note),
-        Ended::NoMemory => say(note, "memory", &[]),
-        Ended::ReadFault => say(note, "read fault", &[]),
-        Ended::WriteFault => say(note, "write fault", &[]),
-        Ended::LoadFault => say(note, "checkpoint load fault", &[]),
+        Ended::BadWords(fault) => say(note, &[Text("words: ")], &word_line(fault)),
+        Ended::TooManyBytes => say_text(note, "graph: more than 67108864 bytes"),
+        Ended::BadGraph(fault, columns) => say(
+            note,
+            &[Text("graph: ")],
+            &graph_line(fault, columns),
+        ),
+        Ended::BadRegions(fault, column) => say(
+            note,
+            &[Text("graph: ")],
+            &region_line(fault, column),
+        ),
+        Ended::BadPlan(fault) => say(note, &[Text("plan: ")], &plan_line(fault)),
+        Ended::BadTable(fault) => say(note, &[Text("table: ")], &table_line(fault)),
+        Ended::BadPlanNamed(name, fault) => say_named(note, name, fault),
+        Ended::NoMemory => say_text(note, "memory"),
+        Ended::ReadFault => say_text(note, "read fault"),
+        Ended::WriteFault => say_text(note, "write fault"),
+        Ended::LoadFault => say_text(note, "checkpoint load fault"),
         Ended::Stopped { done, total } => tell_stopped(note, *done, *total),
         Ended::Damaged(slots) => tell_damaged(note, slots),
         Ended::OtherJob { found, wanted } => tell_other(note, found, wanted),
-        Ended::SaveFault => say(note, "checkpoint save fault", &[]),
+        Ended::SaveFault => say_text(note, "checkpoint save fault"),
     }
 }
 
-fn tell_words<N: Sink>(fault: &WordFault, note: &mut N)
-    ensures { AddsLine (N.state note.old) (N.state note.new) (terms.as_line (codes "words: " ∷ terms.word_note fault.now)) }
+// The pieces of what a line tells, of which there are at most eight. Behind them stand empty texts.
+type Line<'a> = [Piece<'a>; 8];
+
+// The line of these pieces.
+fn line_of<'a>(pieces: &[Piece<'a>]) -> Line<'a>
+    requires { length pieces.now ≤ 8 }
+    ensures { terms.as_line (map piece_text result) ≡ terms.as_line (map piece_text pieces.now) }
+{
+    let mut line = [Text(""); 8];
+    line[..pieces.len()].copy_from_slice(pieces);
+    line
+}
+
+// The line of this text.
+fn text_line(text: &str) -> Line<'_>
+    ensures { terms.as_line (map piece_text result) ≡ terms.as_line (text.now ∷ []) }
+{
+    line_of(&[Text(text)])
+}
+
+// How a name is spelled.
+fn spelled<'a>(name: &Name) -> &'a str
+    ensures { result.now ≡ name_text name.now }
+{
+    name.text()
+}
+
+// Of a fault of the words.
+fn word_line(fault: &WordFault) -> Line<'_>
+    ensures { terms.as_line (map piece_text result) ≡ terms.as_line (terms.word_note fault.now) }
 {
     match fault {
-        WordFault::NoCommand => say_words(note, &[Text("no command")]),
-        WordFault::UnknownCommand(word) => say_words(
-            note,
-            &[Text("unknown command "), Text(word.as_str())],
-        ),
-        WordFault::UnknownName(word) => say_words(
-            note,
-            &[Text("unknown name "), Text(word.as_str())],
-        ),
-        WordFault::Twice(name) => say_words(note, &[Text(name.text()), Text(" is given twice")]),
-        WordFault::NoValue(name) => say_words(note, &[Text("no value for "), Text(name.text())]),
-        WordFault::MissingName(name) => say_words(note, &[Text(name.text()), Text(" is missing")]),
-        WordFault::BadValue(name) => say_words(note, &[Text("bad value for "), Text(name.text())]),
-        WordFault::Memory => say_words(note, &[Text("memory")]),
+        WordFault::NoCommand => text_line("no command"),
+        WordFault::UnknownCommand(word) => line_of(&[
+            Text("unknown command "),
+            Text(word.as_str()),
+        ]),
+        WordFault::UnknownName(word) => line_of(&[Text("unknown name "), Text(word.as_str())]),
+        WordFault::Twice(name) => line_of(&[Text(spelled(name)), Text(" is given twice")]),
+        WordFault::NoValue(name) => line_of(&[Text("no value for "), Text(spelled(name))]),
+        WordFault::MissingName(name) => line_of(&[Text(spelled(name)), Text(" is missing")]),
+        WordFault::BadValue(name) => line_of(&[Text("bad value for "), Text(spelled(name))]),
+        WordFault::Memory => text_line("memory"),
     }
 }
 
-fn tell_graph<N: Sink>(fault: &GraphFault, columns: &Columns, note: &mut N)
-    ensures { AddsLine (N.state note.old) (N.state note.new) (terms.as_line (codes "graph: " ∷ terms.graph_note columns.now fault.now)) }
+// Of a fault of the graph.
+fn graph_line<'a>(fault: &GraphFault, columns: &'a Columns) -> Line<'a>
+    ensures { terms.as_line (map piece_text result) ≡ terms.as_line (terms.graph_note columns.now fault.now) }
 {
     match fault {
-        GraphFault::NotJson => say_graph(note, &[Text("not JSON")]),
-        GraphFault::BadShape(part) => say_graph(
-            note,
-            &[Text("bad shape of "), Text(part_name(*part))],
-        ),
-        GraphFault::Directed => say_graph(note, &[Text("directed")]),
-        GraphFault::LengthsDiffer { nodes, adjacency } => say_graph(
-            note,
-            &[
-                Number(*nodes),
-                Text(" nodes and "),
-                Number(*adjacency),
-                Text(" adjacency entries"),
-            ],
-        ),
-        GraphFault::TooManyUnits(n) => say_graph(
-            note,
-            &[Number(*n), Text(" units, more than 100000")],
-        ),
-        GraphFault::BadId(node) => say_graph(
-            note,
-            &[
-                Text("node "),
-                Number(u64::from(*node)),
-                Text(" has no usable id"),
-            ],
-        ),
-        GraphFault::SameId { first, second } => say_graph(
-            note,
-            &[
-                Text("nodes "),
-                Number(u64::from(*first)),
-                Text(" and "),
-                Number(u64::from(*second)),
-                Text(" have the same id"),
-            ],
-        ),
-        GraphFault::BadNeighbour { node, place } => say_graph(
-            note,
-            &[
-                Text("neighbour "),
-                Number(*place),
-                Text(" of node "),
-                Number(u64::from(*node)),
-                Text(" has no usable id"),
-            ],
-        ),
-        GraphFault::UnknownNeighbour { node, place } => say_graph(
-            note,
-            &[
-                Text("neighbour "),
-                Number(*place),
-                Text(" of node "),
-                Number(u64::from(*node)),
-                Text(" is unknown"),
-            ],
-        ),
-        GraphFault::TooManyEdges(n) => say_graph(
-            note,
-            &[Number(*n), Text(" edges, more than 400000")],
-        ),
-        GraphFault::Missing { node, column } => say_graph(
-            note,
-            &[
-                Text("node "),
-                Number(u64::from(*node)),
-                Text(" has no column "),
-                Text(column_name(columns, *column)),
-            ],
-        ),
-        GraphFault::BadNumber { node, column } => say_graph(
-            note,
-            &[
-                Text("node "),
-                Number(u64::from(*node)),
-                Text(" has no whole number from 0 to 1000000000 in column "),
-                Text(column_name(columns, *column)),
-            ],
-        ),
-        GraphFault::BadLabel(node) => say_graph(
-            note,
-            &[
-                Text("node "),
-                Number(u64::from(*node)),
-                Text(" has no usable label"),
-            ],
-        ),
-        GraphFault::DistrictCount(n) => say_graph(
-            note,
-            &[Number(*n), Text(" districts, not 2 to 200")],
-        ),
-        GraphFault::Memory => say_graph(note, &[Text("memory")]),
+        GraphFault::NotJson => text_line("not JSON"),
+        GraphFault::BadShape(part) => line_of(&[Text("bad shape of "), Text(part_name(*part))]),
+        GraphFault::Directed => text_line("directed"),
+        GraphFault::LengthsDiffer { nodes, adjacency } => line_of(&[
+            Number(*nodes),
+            Text(" nodes and "),
+            Number(*adjacency),
+            Text(" adjacency entries"),
+        ]),
+        GraphFault::TooManyUnits(n) => line_of(&[Number(*n), Text(" units, more than 100000")]),
+        GraphFault::BadId(node) => line_of(&[
+            Text("node "),
+            Number(u64::from(*node)),
+            Text(" has no usable id"),
+        ]),
+        GraphFault::SameId { first, second } => line_of(&[
+            Text("nodes "),
+            Number(u64::from(*first)),
+            Text(" and "),
+            Number(u64::from(*second)),
+            Text(" have the same id"),
+        ]),
+        GraphFault::BadNeighbour { node, place } => line_of(&[
+            Text("neighbour "),
+            Number(*place),
+            Text(" of node "),
+            Number(u64::from(*node)),
+            Text(" has no usable id"),
+        ]),
+        GraphFault::UnknownNeighbour { node, place } => line_of(&[
+            Text("neighbour "),
+            Number(*place),
+            Text(" of node "),
+            Number(u64::from(*node)),
+            Text(" is unknown"),
+        ]),
+        GraphFault::TooManyEdges(n) => line_of(&[Number(*n), Text(" edges, more than 400000")]),
+        GraphFault::Missing { node, column } => line_of(&[
+            Text("node "),
+            Number(u64::from(*node)),
+            Text(" has no column "),
+            Text(column_name(columns, *column)),
+        ]),
+        GraphFault::BadNumber { node, column } => line_of(&[
+            Text("node "),
+            Number(u64::from(*node)),
+            Text(" has no whole number from 0 to 1000000000 in column "),
+            Text(column_name(columns, *column)),
+        ]),
+        GraphFault::BadLabel(node) => line_of(&[
+            Text("node "),
+            Number(u64::from(*node)),
+            Text(" has no usable label"),
+        ]),
+        GraphFault::DistrictCount(n) => line_of(&[Number(*n), Text(" districts, not 2 to 200")]),
+        GraphFault::Memory => text_line("memory"),
     }
 }
 
-fn tell_regions<N: Sink>(fault: &RegionFault, column: &text::Text, note: &mut N)
-    ensures { AddsLine (N.state note.old) (N.state note.new) (terms.as_line (codes "graph: " ∷ terms.region_note column.now fault.now)) }
+// Of a fault of the regions.
+fn region_line<'a>(fault: &RegionFault, column: &'a text::Text) -> Line<'a>
+    ensures { terms.as_line (map piece_text result) ≡ terms.as_line (terms.region_note column.now fault.now) }
 {
     match fault {
-        RegionFault::Missing(node) => say_graph(
-            note,
-            &[
-                Text("node "),
-                Number(u64::from(*node)),
-                Text(" has no column "),
-                Text(column.as_str()),
-            ],
-        ),
-        RegionFault::BadLabel(node) => say_graph(
-            note,
-            &[
-                Text("node "),
-                Number(u64::from(*node)),
-                Text(" has no usable label in column "),
-                Text(column.as_str()),
-            ],
-        ),
-        RegionFault::TooMany(n) => say_graph(note, &[Number(*n), Text(" regions, more than 5000")]),
-        RegionFault::Memory => say_graph(note, &[Text("memory")]),
+        RegionFault::Missing(node) => line_of(&[
+            Text("node "),
+            Number(u64::from(*node)),
+            Text(" has no column "),
+            Text(column.as_str()),
+        ]),
+        RegionFault::BadLabel(node) => line_of(&[
+            Text("node "),
+            Number(u64::from(*node)),
+            Text(" has no usable label in column "),
+            Text(column.as_str()),
+        ]),
+        RegionFault::TooMany(n) => line_of(&[Number(*n), Text(" regions, more than 5000")]),
+        RegionFault::Memory => text_line("memory"),
     }
 }
 
-fn tell_plan<N: Sink>(fault: &PlanFault, note: &mut N)
-    ensures { AddsLine (N.state note.old) (N.state note.new) (terms.as_line (codes "plan: " ∷ terms.plan_note fault.now)) }
+// Of a fault of a plan.
+fn plan_line(fault: &PlanFault) -> Line<'static>
+    ensures { terms.as_line (map piece_text result) ≡ terms.as_line (terms.plan_note fault.now) }
 {
     match fault {
-        PlanFault::NoVotes => say_plan(note, &[Text("no votes")]),
+        PlanFault::NoVotes => text_line("no votes"),
         PlanFault::OutOfBounds {
             district,
             population,
             low,
             high,
-        } => say_plan(
-            note,
-            &[
-                Text("district "),
-                Number(u64::from(*district)),
-                Text(" has population "),
-                Number(*population),
-                Text(", outside "),
-                Number(*low),
-                Text(" to "),
-                Number(*high),
-            ],
-        ),
+        } => line_of(&[
+            Text("district "),
+            Number(u64::from(*district)),
+            Text(" has population "),
+            Number(*population),
+            Text(", outside "),
+            Number(*low),
+            Text(" to "),
+            Number(*high),
+        ]),
         PlanFault::Disconnected {
             district,
             one,
             other,
-        } => say_plan(
-            note,
-            &[
-                Text("district "),
-                Number(u64::from(*district)),
-                Text(" has no path from unit "),
-                Number(u64::from(*one)),
-                Text(" to unit "),
-                Number(u64::from(*other)),
-            ],
-        ),
-        PlanFault::TooManyCut { cut, most } => say_plan(
-            note,
-            &[
-                Number(u64::from(*cut)),
-                Text(" cut edges, more than "),
-                Number(u64::from(*most)),
-            ],
-        ),
+        } => line_of(&[
+            Text("district "),
+            Number(u64::from(*district)),
+            Text(" has no path from unit "),
+            Number(u64::from(*one)),
+            Text(" to unit "),
+            Number(u64::from(*other)),
+        ]),
+        PlanFault::TooManyCut { cut, most } => line_of(&[
+            Number(u64::from(*cut)),
+            Text(" cut edges, more than "),
+            Number(u64::from(*most)),
+        ]),
         PlanFault::TooManySplit {
             region,
             districts,
             most,
-        } => say_plan(
-            note,
-            &[
-                Text("region "),
-                Number(u64::from(*region)),
-                Text(" lies in "),
-                Number(u64::from(*districts)),
-                Text(" districts, more than "),
-                Number(u64::from(*most)),
-            ],
-        ),
-        PlanFault::Memory => say_plan(note, &[Text("memory")]),
+        } => line_of(&[
+            Text("region "),
+            Number(u64::from(*region)),
+            Text(" lies in "),
+            Number(u64::from(*districts)),
+            Text(" districts, more than "),
+            Number(u64::from(*most)),
+        ]),
+        PlanFault::Memory => text_line("memory"),
     }
 }
 
-fn tell_table<N: Sink>(fault: &TableFault, note: &mut N)
-    ensures { AddsLine (N.state note.old) (N.state note.new) (terms.as_line (codes "table: " ∷ terms.table_note fault.now)) }
+// Of a fault of the table.
+fn table_line(fault: &TableFault) -> Line<'static>
+    ensures { terms.as_line (map piece_text result) ≡ terms.as_line (terms.table_note fault.now) }
 {
     match fault {
-        TableFault::Unreadable(record) => say_table(
-            note,
-            &[Text("record "), Number(*record), Text(" is unreadable")],
-        ),
-        TableFault::NoHeader => say_table(note, &[Text("no header")]),
-        TableFault::TooManyPlans(n) => say_table(note, &[Number(*n), Text(" plans, more than 16")]),
-        TableFault::BadName(plan) => say_table(
-            note,
-            &[
-                Text("plan "),
-                Number(u64::from(*plan)),
-                Text(" has no usable name"),
-            ],
-        ),
-        TableFault::SharedId { one, other } => say_table(
-            note,
-            &[
-                Text("units "),
-                Number(u64::from(*one)),
-                Text(" and "),
-                Number(u64::from(*other)),
-                Text(" share an id"),
-            ],
-        ),
-        TableFault::UnknownId(record) => say_table(
-            note,
-            &[Text("record "), Number(*record), Text(" names no unit")],
-        ),
-        TableFault::Twice(record) => say_table(
-            note,
-            &[Text("record "), Number(*record), Text(" repeats a unit")],
-        ),
-        TableFault::MissingUnit(unit) => say_table(
-            note,
-            &[Text("unit "), Number(u64::from(*unit)), Text(" is missing")],
-        ),
-        TableFault::DistrictCount { plan, count } => say_table(
-            note,
-            &[
-                Text("plan "),
-                Number(u64::from(*plan)),
-                Text(" has "),
-                Number(*count),
-                Text(" districts, not 2 to 200"),
-            ],
-        ),
-        TableFault::Memory => say_table(note, &[Text("memory")]),
-    }
-}
-
-fn tell_named<N: Sink>(name: &text::Text, fault: &PlanFault, note: &mut N)
-    ensures { AddsLine (N.state note.old) (N.state note.new) (terms.as_line (codes "plan " ∷ name.now ∷ codes ": " ∷ terms.plan_note fault.now)) }
-{
-    let name = name.as_str();
-    match fault {
-        PlanFault::NoVotes => say(note, "plan ", &[Text(name), Text(": "), Text("no votes")]),
-        PlanFault::OutOfBounds {
-            district,
-            population,
-            low,
-            high,
-        } => say(
-            note,
-            "plan ",
-            &[
-                Text(name),
-                Text(": "),
-                Text("district "),
-                Number(u64::from(*district)),
-                Text(" has population "),
-                Number(*population),
-                Text(", outside "),
-                Number(*low),
-                Text(" to "),
-                Number(*high),
-            ],
-        ),
-        PlanFault::Disconnected {
-            district,
-            one,
-            other,
-        } => say(
-            note,
-            "plan ",
-            &[
-                Text(name),
-                Text(": "),
-                Text("district "),
-                Number(u64::from(*district)),
-                Text(" has no path from unit "),
-                Number(u64::from(*one)),
-                Text(" to unit "),
-                Number(u64::from(*other)),
-            ],
-        ),
-        PlanFault::TooManyCut { cut, most } => say(
-            note,
-            "plan ",
-            &[
-                Text(name),
-                Text(": "),
-                Number(u64::from(*cut)),
-                Text(" cut edges, more than "),
-                Number(u64::from(*most)),
-            ],
-        ),
-        PlanFault::TooManySplit {
-            region,
-            districts,
-            most,
-        } => say(
-            note,
-            "plan ",
-            &[
-                Text(name),
-                Text(": "),
-                Text("region "),
-                Number(u64::from(*region)),
-                Text(" lies in "),
-                Number(u64::from(*districts)),
-                Text(" districts, more than "),
-                Number(u64::from(*most)),
-            ],
-        ),
-        PlanFault::Memory => say(note, "plan ", &[Text(name), Text(": "), Text("memory")]),
+        TableFault::Unreadable(record) => line_of(&[
+            Text("record "),
+            Number(*record),
+            Text(" is unreadable"),
+        ]),
+        TableFault::NoHeader => text_line("no header"),
+        TableFault::TooManyPlans(n) => line_of(&[Number(*n), Text(" plans, more than 16")]),
+        TableFault::BadName(plan) => line_of(&[
+            Text("plan "),
+            Number(u64::from(*plan)),
+            Text(" has no usable name"),
+        ]),
+        TableFault::SharedId { one, other } => line_of(&[
+            Text("units "),
+            Number(u64::from(*one)),
+            Text(" and "),
+            Number(u64::from(*other)),
+            Text(" share an id"),
+        ]),
+        TableFault::UnknownId(record) => line_of(&[
+            Text("record "),
+            Number(*record),
+            Text(" names no unit"),
+        ]),
+        TableFault::Twice(record) => line_of(&[
+            Text("record "),
+            Number(*record),
+            Text(" repeats a unit"),
+        ]),
+        TableFault::MissingUnit(unit) => line_of(&[
+            Text("unit "),
+            Number(u64::from(*unit)),
+            Text(" is missing"),
+        ]),
+        TableFault::DistrictCount { plan, count } => line_of(&[
+            Text("plan "),
+            Number(u64::from(*plan)),
+            Text(" has "),
+            Number(*count),
+            Text(" districts, not 2 to 200"),
+        ]),
+        TableFault::Memory => text_line("memory"),
     }
 }
 
@@ -485,7 +387,7 @@ fn tell_stopped<N: Sink>(note: &mut N, done: u32, total: u32)
 {
     say(
         note,
-        "stopped: ",
+        &[Text("stopped: ")],
         &[
             Number(u64::from(done)),
             Text(" of "),
@@ -500,7 +402,7 @@ fn tell_damaged<N: Sink>(note: &mut N, slots: &Slots)
 {
     say(
         note,
-        "checkpoint: slot 0 ",
+        &[Text("checkpoint: slot 0 ")],
         &[
             Text(slot_name(&slots.zero)),
             Text(", slot 1 "),
@@ -514,12 +416,12 @@ fn tell_other<'x, N: Sink>(note: &mut N, found: &'x [u8; 32], wanted: &'x [u8; 3
 {
     say(
         note,
-        "checkpoint: other job ",
+        &[Text("checkpoint: other job ")],
         &[Digest(found), Text(", this job "), Digest(wanted)],
     );
 }
 
-fn part_name(part: Part) -> &'static str
+fn part_name<'a>(part: Part) -> &'a str
     ensures { result.now ≡ terms.part_name part }
 {
     match part {
@@ -542,7 +444,8 @@ fn column_name(columns: &Columns, column: Column) -> &str
     }
 }
 
-fn fault_name(fault: &CkptFault) -> &'static str
+/// Why a slot is no checkpoint, in a word or two.
+pub fn fault_name(fault: &CkptFault) -> &'static str
     ensures { result.now ≡ terms.fault_name fault.now }
 {
     match fault {
