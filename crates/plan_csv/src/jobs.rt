@@ -24,6 +24,7 @@ use crate::parts::parts_of;
 use crate::read_plans;
 use audit_model::fault::{PlansFault, RegionFault};
 use audit_model::lists::UnitList;
+use audit_model::memory::Memory;
 use audit_model::plans::Assigned;
 use audit_model::setting::Setting;
 use audit_model::text::Text;
@@ -45,6 +46,17 @@ fn regions_of(alloc: Global, bytes: &[u8], column: &Text) -> Result<UnitList, Re
     read_regions(alloc, bytes, column)
 }
 
+/// The jobs, and this one before them.
+fn with_first(named: Vec<Named>, own: Named) -> Result<Vec<Named>, Memory>
+    ensures { IfOk result (λ all. all.items ≡ own ∷ named.items) }
+{
+    let mut named = named;
+    match named.insert(0, own) {
+        Ok(()) => Ok(named),
+        Err(_) => Err(Memory),
+    }
+}
+
 /// The jobs of the plans of a table after that of the graph's own plan.
 fn join(alloc: Global, own: Named, plans: &[Assigned]) -> Result<Vec<Named>, PlansFault>
     requires sound { IsJob own.job }
@@ -55,8 +67,8 @@ fn join(alloc: Global, own: Named, plans: &[Assigned]) -> Result<Vec<Named>, Pla
 {
     match named_all(alloc, &own.job, plans) {
         Err(fault) => Err(fault),
-        Ok(mut named) => match named.insert(0, own) {
-            Ok(()) => Ok(named),
+        Ok(named) => match with_first(named, own) {
+            Ok(all) => Ok(all),
             Err(_) => Err(PlansFault::Memory),
         },
     }

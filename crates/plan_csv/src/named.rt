@@ -1,6 +1,6 @@
 //! The jobs of the plans of a table.
 
-ghost use Rattle.std.specs.Prelude.{◌≡◌, ◌⊎◌, Ok, All, IfOk, MatchResult};
+ghost use Rattle.std.specs.Prelude.{◌≡◌, ◌⊎◌, [], Ok, All, IfOk, MatchResult};
 ghost use Rattle.audit_model.specs.JobOf.{IsJob, job_with};
 ghost use Rattle.audit_model.specs.Several.{named_jobs};
 ghost use Rattle.plan_csv.specs.Fit.{IsPlanOf};
@@ -43,14 +43,19 @@ fn named_of(alloc: Global, job: &Job, plan: &Assigned) -> Result<Named, PlansFau
     }
 }
 
-/// The jobs of the plans of a table, by the graph, the setting and the regions of another job.
-pub fn named_all(alloc: Global, job: &Job, plans: &[Assigned]) -> Result<Vec<Named>, PlansFault>
+/// Adds the jobs of the plans of a table to none.
+fn add_all(
+    named: &mut Vec<Named>,
+    alloc: Global,
+    job: &Job,
+    plans: &[Assigned],
+) -> Result<(), PlansFault>
+    requires none { named.old.items ≡ [] }
     requires fit { All (IsPlanOf job.now.graph.units) plans.now }
-    ensures read { MatchResult result (λ named. named_jobs job.now plans.now ≡ Ok (jobs_of named.items))
+    ensures read { MatchResult result (λ _. named_jobs job.now plans.now ≡ Ok (jobs_of named.new.items))
         (λ f. (f ≡ fault.Memory) ⊎ IsNamedFault (named_jobs job.now plans.now) f) }
-    ensures each { IfOk result (λ named. All (IsOneOf job.now.setting job.now.regions) named.items) }
+    ensures each { IfOk result (λ _. All (IsOneOf job.now.setting job.now.regions) named.new.items) }
 {
-    let mut named = Vec::new(alloc);
     for plan in plans {
         match named_of(alloc, job, plan) {
             Err(fault) => return Err(fault),
@@ -61,5 +66,19 @@ pub fn named_all(alloc: Global, job: &Job, plans: &[Assigned]) -> Result<Vec<Nam
             }
         }
     }
-    Ok(named)
+    Ok(())
+}
+
+/// The jobs of the plans of a table, by the graph, the setting and the regions of another job.
+pub fn named_all(alloc: Global, job: &Job, plans: &[Assigned]) -> Result<Vec<Named>, PlansFault>
+    requires fit { All (IsPlanOf job.now.graph.units) plans.now }
+    ensures read { MatchResult result (λ named. named_jobs job.now plans.now ≡ Ok (jobs_of named.items))
+        (λ f. (f ≡ fault.Memory) ⊎ IsNamedFault (named_jobs job.now plans.now) f) }
+    ensures each { IfOk result (λ named. All (IsOneOf job.now.setting job.now.regions) named.items) }
+{
+    let mut named = Vec::new(alloc);
+    match add_all(&mut named, alloc, job, plans) {
+        Ok(()) => Ok(named),
+        Err(fault) => Err(fault),
+    }
 }

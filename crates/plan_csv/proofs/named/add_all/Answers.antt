@@ -1,10 +1,10 @@
 use Rattle.std.proofs.Common.{List, sym, subst, inl, inr, arith}
 use Rattle.plan_csv.specs.declared.named.Named.{Named}
 use Rattle.plan_csv.proofs.Naming.{AreNamed, named_none, named_more, refused_here, named_all_of}
-use Rattle.plan_csv.proofs.named.named_all.Goals as goal
+use Rattle.plan_csv.proofs.named.add_all.Goals as goal
 
 pub loop-plan-init : goal.loop-plan-init
-loop-plan-init c = subst (λ (ns : List Named). AreNamed c.args.job.now c.args.plans.now 0 ns) (sym c.new-named.ensures.items) (named_none c.args.job.now c.args.plans.now)
+loop-plan-init c = subst (λ (ns : List Named). AreNamed c.args.job.now c.args.plans.now 0 ns) (sym c.requires.none) (named_none c.args.job.now c.args.plans.now)
 
 pub returns-in-Err-clause-read : goal.returns-in-Err-clause-read
 returns-in-Err-clause-read c =
