@@ -1,20 +1,31 @@
-"""What an audit costs: runs a program on graphs of several sizes and writes a table in Markdown.
+"""What an audit costs: runs a program on graphs of several sizes and writes a table in Markdown, and times beside it.
 
-Usage: python3 cost_table.py PROGRAM [--steps N] [--most UNITS] [--into FILE]
-PROGRAM is the built auditor. Each row is one graph: its units and edges, how long it takes to the first step (read, judged, with one
-worker ready), what a million further steps of one walk take (measured over N, ten million where nothing is said), both in seconds of
-the processor, what each worker beyond the first adds to the start, and the most memory with one worker. The graphs are grids of
-`make` and grids with both diagonals, which the script writes as files, with texts as ids. With `--most` graphs with more units are
-left out. With `--into` the table stands in FILE in place of what is between the lines BEGIN and END below. Takes the best of three
-runs each; ends with 1 where the program does not end with 0.
+Usage: python3 cost_table.py PROGRAM [--steps N] [--most UNITS] [--maps FOLDER] [--into FILE]
+       python3 cost_table.py workers PROGRAM [--plain OTHER] [--steps N] [--into FILE]
+PROGRAM is the built auditor. Each row is one graph: its units, edges and districts, how long it takes to the first step (read, judged,
+with one worker ready), what a million further steps of one walk take (measured over N, ten million where nothing is said), both in
+seconds of the processor, what each worker beyond the first adds to the start, and the most memory with one worker. The graphs are grids
+of `make`; the tracts of ny8.json with two districts and with eight, and with `--maps` the counties that real_maps.py made in FOLDER, with
+two and with thirteen; and grids with both diagonals, which the script writes as files, with texts as ids. With `--most` graphs with more
+units are left out. Below the table stands what 10^9 steps take by it.
+`workers` walks 16 trajectories of N steps (ten million) on the grid of size 10, by one worker and by four, and tells how many times as
+fast the four are, by the clock; with `--plain` the same of OTHER, which takes the same words, in turns with the program, so that what the
+machine has to do otherwise is the same for both.
+With `--into` what is written stands in FILE in place of what is between the lines BEGIN and END below, each with its kind. Takes the best
+of three runs each; ends with 1 where a program does not end with 0.
 """
 import json
 import os
+import shlex
 import subprocess
 import sys
 import tempfile
+import time
 
-BEGIN, END = "<!-- written by examples/cost_table.py -->", "<!-- end of what it wrote -->"
+BEGIN = {"table": "<!-- written by examples/cost_table.py -->", "workers": "<!-- written by examples/cost_table.py workers -->"}
+END = "<!-- end of what it wrote -->"
+HERE = os.path.dirname(os.path.abspath(__file__))
+TRACTS = "--pop POP8 --first OWNING --second OTHERS --numbers nearest --missing zero"
 KEY = ["--key", "0" * 64, "--slack", "1000", "--ask", "cut-edges:low,gap:high"]
 COLUMNS = ["--pop", "pop", "--first", "a", "--second", "b", "--district", "d"]
 
@@ -57,41 +68,124 @@ def megabytes(memory):
     return f"{memory:.0f}" if memory > least + 1 else f"at most {memory:.0f}"
 
 
+def prepared(path, words, column):
+    """The bytes of a real map with the plan of this column as its districts, and the words of `run` for it."""
+    with tempfile.NamedTemporaryFile(suffix=".json") as graph:
+        done = subprocess.run([sys.executable, f"{HERE}/prepare.py", path, *words, "--district", column, "--slack", "1000", "--out", graph.name],
+                              stderr=subprocess.PIPE, text=True, check=False)
+        if done.returncode != 0:
+            sys.exit(done.stderr)
+        return graph.read(), ["run", *words[:6], "--district", column]
+
+
+def real_maps(folder):
+    """Of each map its name, its file, the words for prepare.py, and its districts."""
+    maps = [("tracts of upstate New York", f"{HERE}/ny8.json", shlex.split(TRACTS), (2, 8))]
+    if folder is not None:
+        with open(f"{folder}/plans", encoding="utf-8") as file:
+            words = next(line.rstrip("\n").split("\t")[6] for line in file if line.startswith("counties\t"))
+        maps.append(("counties of the United States", f"{folder}/counties.json", shlex.split(words), (2, 13)))
+    return maps
+
+
 def row_of(program, name, command, data, steps):
+    """The row, and the seconds for a million steps."""
     words = [*command, *KEY]
     start, memory, report = best(program, [*words, "--steps", "1"], data)
     more, _, _ = best(program, [*words, "--steps", "1", "--walks", "5", "--workers", "5"], data)
     alone, _, _ = best(program, [*words, "--steps", "1", "--walks", "5", "--workers", "1"], data)
     walked, _, _ = best(program, [*words, "--steps", str(steps)], data)
-    units, edges = next(line.split()[1:4:2] for line in report.split("\n") if line.startswith("units "))
+    units, edges, districts = next(line.split()[1::2] for line in report.split("\n") if line.startswith("units "))
     million = max(0.0, walked - start) * 1e6 / steps
-    return f"| {name} | {units} | {edges} | {start:.2f} | {million:.3f} | {max(0.0, more - alone) / 4:.2f} | {megabytes(memory)} |"
+    row = f"| {name} | {units} | {edges} | {districts} | {start:.2f} | {million:.3f} | {max(0.0, more - alone) / 4:.2f} | {megabytes(memory)} |"
+    return row, million
 
 
-def main(program, steps, most, into):
-    lines = ["| graph | units | edges | start, s | a million steps, s | each further worker, s | memory, MB |", "|---|---|---|---|---|---|---|"]
+def spoken(least, most):
+    """How long 10^9 steps take, from the seconds for a million."""
+    (low, unit), (high, last) = ((1000 * it, "seconds") if it < 0.1 else (1000 * it / 60, "minutes") for it in (least, most))
+    if unit != last:
+        return f"{low:.0f} {unit} to {high:.0f} {last}"
+    return f"{low:.0f} {unit}" if f"{low:.0f}" == f"{high:.0f}" else f"{low:.0f} to {high:.0f} {unit}"
+
+
+def told(of):
+    """What a walk of 10^9 steps takes by the table, on each kind of graph."""
+    said = "; ".join(f"{kind} {spoken(min(seconds), max(seconds))}" for kind, seconds in of.items() if seconds)
+    return f"By these rows a walk of 10^9 steps takes: {said}."
+
+
+def table(program, steps, most, folder):
+    lines = ["| graph | units | edges | districts | start, s | a million steps, s | each further worker, s | memory, MB |", "|---|---|---|---|---|---|---|---|"]
+    of = {"on the grids of `make`": [], "on real maps with eight districts or more": [], "on real maps with two districts": [], "with diagonals": []}
+
+    def add(kind, name, command, data):
+        row, million = row_of(program, name, command, data, steps)
+        lines.append(row)
+        of[kind].append(million)
+
     for size in (size for size in (1, 3, 10, 30) if 100 * size * size <= most):
-        lines.append(row_of(program, f"`make --size {size}`", ["make", "--size", str(size)], b"", steps))
+        add("on the grids of `make`", f"`make --size {size}`", ["make", "--size", str(size)], b"")
+    for name, path, words, counts in real_maps(folder):
+        for districts in counts:
+            data, command = prepared(path, words, f"PLAN{districts}")
+            if len(json.loads(data)["nodes"]) <= most:
+                add(f"on real maps with {'two districts' if districts == 2 else 'eight districts or more'}", name, command, data)
     for rows, columns in (shape for shape in ((30, 30), (100, 100), (250, 400)) if shape[0] * shape[1] <= most):
         data = crossed(rows, columns, 10)
-        name = f"a file of {len(data) / 1e6:.1f} MB, {rows} by {columns} with diagonals"
-        lines.append(row_of(program, name, ["run", *COLUMNS], data, steps))
-    table = "\n".join(lines)
+        add("with diagonals", f"a file of {len(data) / 1e6:.1f} MB, {rows} by {columns} with diagonals", ["run", *COLUMNS], data)
+    return "\n".join([*lines, "", told(of)])
+
+
+def timed(program, words):
+    begin = time.perf_counter()
+    once(program, words, b"")
+    return time.perf_counter() - begin
+
+
+def workers(program, plain, steps):
+    """How many times as fast four workers are as one, of both programs, in turns."""
+    words = ["make", "--size", "10", *KEY, "--walks", "16", "--steps", str(steps), "--workers"]
+    programs = [("the auditor", program)] + ([("a plain program", plain)] if plain else [])
+    times = {(name, count): [] for name, _ in programs for count in ("1", "4")}
+    for _ in range(3):
+        for count in ("1", "4"):
+            for name, path in programs:
+                times[name, count].append(timed(path, [*words, count]))
+    lines = [f"| 16 walks of {steps} steps | one worker, s | four workers, s | times as fast |", "|---|---|---|---|"]
+    for name, _ in programs:
+        one, four = min(times[name, "1"]), min(times[name, "4"])
+        lines.append(f"| {name} | {one:.2f} | {four:.2f} | {one / four:.2f} |")
+    return "\n".join(lines)
+
+
+def write(text, kind, into):
     if into is None:
-        print(table)
+        print(text)
         return
     with open(into, encoding="utf-8") as file:
-        text = file.read()
-    before, rest = text.split(BEGIN, 1)
+        page = file.read()
+    before, rest = page.split(BEGIN[kind], 1)
     after = rest.split(END, 1)[1]
     with open(into, "w", encoding="utf-8") as file:
-        file.write(f"{before}{BEGIN}\n{table}\n{END}{after}")
+        file.write(f"{before}{BEGIN[kind]}\n{text}\n{END}{after}")
+
+
+def main(given):
+    kind = given.pop(0) if given[:1] == ["workers"] else "table"
+    known = ("--steps", "--plain", "--into") if kind == "workers" else ("--steps", "--most", "--maps", "--into")
+    options = {word: given[place + 1] for place, word in enumerate(given[:-1]) if word in known}
+    names = [word for place, word in enumerate(given) if not word.startswith("--") and (place == 0 or given[place - 1] not in options)]
+    if len(names) != 1:
+        sys.exit("\n".join(__doc__.split("\n\n")[1].split("\n")[:2]))
+    program, steps = os.path.abspath(names[0]), int(options.get("--steps", "10000000"))
+    if kind == "workers":
+        plain = options.get("--plain")
+        text = workers(program, plain and os.path.abspath(plain), steps)
+    else:
+        text = table(program, steps, int(options.get("--most", "100000")), options.get("--maps"))
+    write(text, kind, options.get("--into"))
 
 
 if __name__ == "__main__":
-    given = sys.argv[1:]
-    options = {word: given[place + 1] for place, word in enumerate(given[:-1]) if word in ("--steps", "--most", "--into")}
-    names = [word for place, word in enumerate(given) if not word.startswith("--") and (place == 0 or given[place - 1] not in options)]
-    if len(names) != 1:
-        sys.exit(__doc__.split("\n\n")[1].split("\n")[0])
-    main(os.path.abspath(names[0]), int(options.get("--steps", "10000000")), int(options.get("--most", "100000")), options.get("--into"))
+    main(sys.argv[1:])

@@ -162,8 +162,10 @@ try_needs() {
 try_cost() {
     python3 cost_table.py "$auditor" --most 900 --steps 1000 >"$room/told" 2>&1
     judge $? "cost_table.py: $(tail -n 1 "$room/told")"
-    [ "$(cut -d '|' -f 3,4 "$room/told" | tail -n 3 | tr -d ' ' | tr '\n' ' ')" = "100|180 900|1740 900|3422 " ]
-    judge $? "cost_table.py writes no table of three graphs"
+    [ "$(grep '^|' "$room/told" | cut -d '|' -f 3-5 | tail -n 5 | tr -d ' ' | tr '\n' ' ')" = "100|180|10 900|1740|10 281|764|2 281|764|8 900|3422|10 " ]
+    judge $? "cost_table.py writes no table of five graphs"
+    python3 cost_table.py workers "$auditor" --plain "$auditor" --steps 1000 >"$room/told" 2>&1 && [ "$(grep -c '^| .* | [0-9.]* | [0-9.]* | [0-9.]* |$' "$room/told")" -eq 2 ]
+    judge $? "cost_table.py tells no times of two programs: $(tail -n 1 "$room/told")"
 }
 
 # The second program over the files of a run: its words are those of the run, and the text is to be this.
