@@ -1,9 +1,10 @@
 -- Each step of a desk's table keeps its rule, whatever the slot is to hold.
-use Rattle.std.proofs.Common.{◌≡◌, ℕ, ◌+◌, ◌%◌, ◌^◌, ◌<◌, ◌≤◌, min, Bool, true, false, List, [], ◌∷◌, ◌++◌, map, set, get_or, length, length-set, sym, refl, ap, ◌∙◌, subst, inr, ⊎_elim, arith, Some, Option, unwrap_or, lt_of_not-le}
+use Rattle.std.proofs.Common.{◌≡◌, ℕ, ◌+◌, ◌%◌, ◌^◌, ◌<◌, ◌≤◌, min, Bool, true, false, List, [], ◌∷◌, ◌++◌, map, set, get_or, length, length-set, sym, refl, ap, ◌∙◌, subst, inr, ⊎_elim, arith, Some, Option, unwrap_or, lt_of_not-le, eqb, eq-eqb, ne_eqb}
 use mathlib.Core.Option as maybe
 use mathlib.Core.Logic.{dite}
 use native.Mathlib.Decide.{ℕ_discrete, dec_le}
 use lib.ListN.{get_elem?}
+use prog.Atomic.{either}
 use Rattle.std.specs.List.{sum_by, range_with_len}
 use Rattle.std.specs.List.Sorted.{IsPermutation}
 use Rattle.std.proofs.lemmas.List.{length-map, take_all}
@@ -17,7 +18,7 @@ use Rattle.claim_counter.specs.Records.{IsSole, with_claim, at_end}
 use Rattle.tally_desk.specs.declared.entry.Entry.{Entry}
 use Rattle.tally_desk.specs.declared.home.Home.{Home}
 use Rattle.tally_desk.specs.Counter.{CounterLaws}
-use Rattle.tally_desk.specs.Desks.{BeginsTurn, CanPost, DrawsPlace, FitsDesk, IsInTurn, IsSettled, KeepsTally, IsWaiting, KnowsPosts, LooksForTurn, SeesSeats, Serves, TakesTicket, Tallied, entry_sum, first_view, claimed_ids, is_in_turn, joined_view, left_view, own_of, right_view, with_entry, with_own, with_turn}
+use Rattle.tally_desk.specs.Desks.{BeginsTurn, CanPost, DrawsPlace, FitsDesk, IsInTurn, IsSettled, KeepsTally, IsWaiting, KnowsPosts, LooksForTurn, SeesSeats, Serves, TakesTicket, Tallied, TriesTicket, entry_sum, first_view, claimed_ids, is_in_turn, joined_view, left_view, own_of, right_view, with_entry, with_own, with_turn}
 use Rattle.tally_desk.specs.Entries.{post_of, posted_id, ids_of, is_due, ticket_of}
 use Rattle.tally_desk.specs.Parts.{Parts, IsPlan}
 use Rattle.tally_desk.specs.Passes.{HasPostedAll}
@@ -148,6 +149,32 @@ module _ {C : Type 0} (HomeAs : Parts → Home C → List Entry → Type 0) (par
         subst (λ (z : ℕ). Tallied HomeAs parts (stepped s 1 z id me.1 w keeps)) fits (after_second s k (n + 1) id me w (ticketed HomeAs parts _ n _ k.posted s.homes s.views t id me.0 at o can)),
         record { slots = refl; view = refl },
       )
+
+  -- the number of tickets given out stays
+  unmoved_given : (s : St) → Tallied HomeAs parts s → (id : ℕ) (me : Mine) → get_elem? s.views id ≡ maybe.some me.0 → Tallied HomeAs parts (stepped s 1 (get_or s.words 1 0) id me.1 me.0 keeps)
+  unmoved_given s k id me at = after_second s k (get_or s.words 1 0) id me me.0
+      (subst (KeepsTally HomeAs parts (get_or s.words 0 0) (get_or s.words 1 0) (get_or s.words 2 0) k.posted s.homes) (sym (set_again s.views id me.0 at)) k.tallied)
+
+  -- a try for a ticket takes it, or does nothing
+  pub try_ticket : (slots id : ℕ) (me : Mine) (o old new : ℕ) → new ≡ (old + 1) % 2 ^ 64 → CanPost parts me.0 o
+      → Allows (Tallied HomeAs parts) slots id me 1 (λ n. either (eqb n old) new n) (TriesTicket o (step slots 1 old new maybe.none) me)
+  try_ticket slots id me o old new next can s k deep at small =
+      let n : ℕ = get_or s.words 1 0 in
+      dite (ℕ_discrete n old)
+      (λ hit. let t = ticket slots id me o can s k deep at small in let word : (n + 1) % 2 ^ 64 ≡ new = ap (λ (z : ℕ). (z + 1) % 2 ^ 64) hit ∙ sym next in (
+        t.0,
+        t.1,
+        t.2,
+        subst (λ b. Tallied HomeAs parts (stepped s 1 (either b new n) id me.1 t.0 t.1)) (sym (eq-eqb n old hit)) (subst (λ (z : ℕ). Tallied HomeAs parts (stepped s 1 z id me.1 t.0 t.1)) word t.3),
+        record { takes = λ _. record { slots = t.4.slots; view = t.4.view }; misses = λ miss. absurd (miss hit) },
+      ))
+      (λ miss. (
+        me.0,
+        keeps,
+        tt,
+        subst (λ b. Tallied HomeAs parts (stepped s 1 (either b new n) id me.1 me.0 keeps)) (sym (ne_eqb n old miss)) (unmoved_given s k id me at),
+        record { takes = λ hit. absurd (miss hit); misses = λ _. refl },
+      ))
 
   unmoved : (s : St) → Tallied HomeAs parts s → (id : ℕ) (me : Mine) → get_elem? s.views id ≡ maybe.some me.0 → Tallied HomeAs parts (stepped s 2 (get_or s.words 2 0) id me.1 me.0 keeps)
   unmoved s k id me at = record {

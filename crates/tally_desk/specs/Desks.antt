@@ -165,6 +165,11 @@ module _ {C : Type 0} where
     pub slots : me'.1 ≡ me.1
     pub view : me'.0 ≡ with_turn me.0 (waiting found id)
 
+  -- a try for a ticket: it is the pass's where the number of tickets given out is the one that was asked for, and elsewhere nothing changes
+  pub record TriesTicket (id : ℕ) (st : Step (Home C)) (me : Me (Home C) PassView) (found : ℕ) (me' : Me (Home C) PassView) : Type 0 where
+    pub takes : found ≡ st.first → TakesTicket id st me found me'
+    pub misses : found ≢ st.first → me' ≡ me
+
   -- the turn begins: the pass takes the slot
   pub record BeginsTurn (HomeAs : Parts → Home C → List Entry → Type 0) (parts : Parts) (t i : ℕ) (me me' : Me (Home C) PassView) : Type 0 where
     pub home : Home C

@@ -135,14 +135,20 @@ impl<C: Keeper> Desk<C> {
         ensures posted { Posts outcome.id (view_of pass.old) (view_of pass.new) }
     {
         let mut seat = take_out(&mut pass.badge);
-        let ticket = self.take_ticket::<Brand>(&mut seat, outcome.id);
+        let ticket = self.take_ticket::<R, Brand>(rt, &mut seat, outcome.id);
         self.await_turn(rt, &mut seat, ticket, outcome.id);
         self.serve(&mut seat, ticket, outcome);
         pass.badge = seat.into_badge();
     }
 
-    // Takes a ticket for the post of this id.
-    fn take_ticket<B: Posting>(&self, seat: &mut Seat<Home<C>, View>, id: u32) -> u64
+    // Takes a ticket for the post of this id, as soon as no ticket is out: then it is the one that is served. So the next turn is that of
+    // whichever pass asks first, and none waits for a pass whose thread does not run.
+    fn take_ticket<R: Wait, B: Posting>(
+        &self,
+        rt: &R,
+        seat: &mut Seat<Home<C>, View>,
+        id: u32,
+    ) -> u64
         requires name { B.id ≡ id }
         requires table { seat.old.table_id ≡ self.now.table.shared.table_id }
         requires empty { seat.old.me.1 ≡ [] }
@@ -150,7 +156,33 @@ impl<C: Keeper> Desk<C> {
         ensures table { seat.new.table_id ≡ seat.old.table_id }
         ensures seat { seat.new.me ≡ (with_turn seat.old.me.0 (waiting result id), []) }
     {
-        self.table.shared.fetch_add::<Take<B>>(seat, 1, 1)
+        for _ in rt.forever() {
+            if let Some(ticket) = self.try_ticket::<B>(seat, id) {
+                return ticket;
+            }
+            thread::yield_now();
+        }
+        unreachable!()
+    }
+
+    // Takes a ticket for the post of this id where none is out.
+    fn try_ticket<B: Posting>(&self, seat: &mut Seat<Home<C>, View>, id: u32) -> Option<u64>
+        requires name { B.id ≡ id }
+        requires table { seat.old.table_id ≡ self.now.table.shared.table_id }
+        requires empty { seat.old.me.1 ≡ [] }
+        requires post { CanPost (parts_of C.state self.now.table.shared.key) seat.old.me.0 id }
+        ensures table { seat.new.table_id ≡ seat.old.table_id }
+        ensures taken { IfSome result (λ t. seat.new.me ≡ (with_turn seat.old.me.0 (waiting t id), [])) }
+        ensures missed { IfNone result (seat.new.me ≡ seat.old.me) }
+    {
+        let words = &self.table.shared;
+        let served = words.peek(2);
+        if words.peek(1) != served {
+            return None;
+        }
+        let next = served.wrapping_add(1);
+        let found = words.compare_exchange::<Take<B>>(seat, 1, served, next);
+        if found == served { Some(served) } else { None }
     }
 
     // Looks until the ticket is served, and then has the slot.

@@ -41,15 +41,15 @@ impl Posting for Brand {
     ghost id = { 0 };
 }
 
-/// A ticket for a post.
+/// A try for a ticket for a post.
 pub(crate) struct Take<B> {
     id: PhantomData<B>,
 }
 
 impl<C, B: Posting> Play<Home<C>, View> for Take<B> {
-    ghost use Rattle.tally_desk.specs.Desks.{TakesTicket};
+    ghost use Rattle.tally_desk.specs.Desks.{TriesTicket};
 
-    ghost then = { TakesTicket B.id };
+    ghost then = { TriesTicket B.id };
 }
 
 /// A look at the ticket that is served.
