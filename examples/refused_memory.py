@@ -1,6 +1,6 @@
 """Refuses the program one allocation after the other, and sees that nothing is lost.
 
-Usage: python3 refused_memory.py PROGRAM [DRAWN [SEED]]
+Usage: python3 refused_memory.py PROGRAM [DRAWN|each [SEED]]
 Builds a small library with gcc that stands before the C library's allocations and refuses the one with a given number, or that one and all
 after it, and runs the program under it for each number from 1 until a run ends in which none was refused: over an outlier trajectory, the
 parallel test, the serial test with the tally of seats, a run of three workers, a run with regions, one that stops early, one of several plans,
@@ -8,7 +8,8 @@ a made grid, each run of a chain that is halted and resumed, and one that goes o
 status must be 3 or the run's own; after 3 the output must be empty and both files as before; else output, note and files must be those of the
 run with all its memory.
 With a number only so many allocations of each run are refused, alone and with all after them by turns, drawn each from an equal part of those
-that the run makes.
+that the run makes. With `each` every one is refused once: a call that does not return where there is no memory for it is found so, which no
+contract says of a function that may wait for another thread.
 Prints how many runs there were, and each that is not so; ends with 1 where there is one.
 """
 import json
@@ -231,7 +232,8 @@ class Tries:
                 number += 1
 
 
-def main(program, most="0", seed="1"):
+def main(program, drawn="0", seed="1"):
+    most = sys.maxsize if drawn == "each" else int(drawn)
     if shutil.which("gcc") is None:
         print("no memory refused: gcc is not installed")
         return 0
@@ -243,8 +245,8 @@ def main(program, most="0", seed="1"):
             held = {"audit-0.ckpt": (HERE / "version_1.ckpt").read_bytes()} if name == OLD else {}
             for place, (words, graph) in enumerate(chain):
                 tries = Tries(room, f"{name} {place + 1}", words, graph, held)
-                if int(most):
-                    for number, is_all in drawn_of(tries.made, int(most), draw):
+                if most:
+                    for number, is_all in drawn_of(tries.made, most, draw):
                         tries.refuse(number, is_all)
                 else:
                     tries.refuse_each()

@@ -170,6 +170,8 @@ def injected(room):
     for error in ("EINVAL", "EOPNOTSUPP"):
         run(f"the folder is never synced, and the system says why: {error}", fresh, absent, "fsync", room.slots, f"error={error}", done,
             saved(fresh, absent, {}))
+    for error in ("EOPNOTSUPP", "ENOLCK", "EINVAL", "EIO"):
+        run(f"the folder cannot be locked: {error}", resumed, first, "flock", room.slots, f"error={error}", done, saved(resumed, first, {}))
     for path, what in ((NAMES[0], "newest file"), (room.slots, "folder")):
         run(f"the {what} is not synced before the first save", resumed, first, "fsync", path, "error=EIO:when=1", fault,
             saved(resumed, first, {1: lambda data: first[1]}))

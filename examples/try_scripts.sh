@@ -247,7 +247,7 @@ try_outside() {
     python3 limits.py "$auditor" >"$room/told" 2>&1
     judge $? "limits.py: $(grep -m 1 WRONG "$room/told" || tail -n 1 "$room/told")"
     if command -v gcc >/dev/null; then
-        python3 refused_memory.py "$auditor" 4 1 >"$room/told" 2>&1
+        python3 refused_memory.py "$auditor" each >"$room/told" 2>&1
         judge $? "refused_memory.py: $(grep -m 1 WRONG "$room/told" || tail -n 1 "$room/told")"
     else
         missing refused_memory.py gcc
