@@ -11,9 +11,11 @@ crate=$here/../crates/audit_program
 program=${1:-$crate/out/audit_program}
 
 passed=0
+holder=
 
 fail() {
     echo "file_faults: $1" >&2
+    [ -z "$holder" ] || kill "$holder"
     trap 'rm -rf "$room"; echo "file_faults.sh: $passed passed, 1 failed"' EXIT
     exit 1
 }
@@ -48,6 +50,11 @@ ended() {
     [ "$1" -eq "$2" ] || fail "the $name run ended with status $1 and not $2: $(head -c 200 "$room/$name.note")"
     [ "$(cat "$room/$name.note")" = "$3" ] || fail "the $name run's note is: $(head -c 200 "$room/$name.note")"
     passed=$((passed + 1))
+}
+
+# What is in the folder.
+sum_of_slots() {
+    stat -c '%n %s %y %z' . ./* 2>&1 | cat - ./audit-?.ckpt 2>/dev/null | sha256sum
 }
 
 # The run wrote the whole report, or nothing.
@@ -107,6 +114,35 @@ for kind in null full pipe nothing; do
         [ "$(ls)" = audit-0.ckpt ] || fail "the $name run left something beside what is no plain file"
     done
 done
+
+# A folder that another process holds: a run that saves or resumes, and one that does both, touches nothing, with slots in it and without. A run that
+# does neither goes on, and so does each of them as soon as the folder is let go.
+folder held
+mkfifo "$room/holding"
+for slots in 0 1; do
+    if [ $slots = 1 ]; then run 7 "stopped: 4 of 12 done" --save 4 --budget 4; fi
+    before=$(sum_of_slots)
+    python3 -c 'import fcntl, os, sys, time
+folder = os.open(".", os.O_RDONLY)
+fcntl.flock(folder, fcntl.LOCK_EX)
+open(sys.argv[1], "w").close()
+time.sleep(600)' "$room/holding" &
+    holder=$!
+    : <"$room/holding"
+    for more in "--save 2" "--resume yes" "--save 2 --resume yes"; do
+        # shellcheck disable=SC2086
+        run 6 "checkpoint: another run holds the folder" $more
+        nothing
+        [ "$(sum_of_slots)" = "$before" ] || fail "the $name run touched a folder that another process holds"
+    done
+    run 0 ""
+    whole
+    kill "$holder"
+    wait "$holder" 2>/dev/null
+    holder=
+done
+run 0 "" --save 2 --resume yes
+whole
 
 # Two slots that are one file, by a link of either kind; and a link to a plain file of its own, which is a slot as any other.
 for kind in hard soft; do

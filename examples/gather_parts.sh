@@ -99,7 +99,7 @@ start 2
 two=$started
 start 1
 wait_for_save 1 "$(sum_of nowhere)"
-run second part-1 6 "checkpoint load fault" --save 1 --resume yes --parts 3 --part 1
+run second part-1 6 "checkpoint: another run holds the folder" --save 1 --resume yes --parts 3 --part 1
 [ ! -s second.out ] || fail "a second run in one folder wrote a report"
 kill -9 "$started"
 wait "$started" 2>/dev/null
@@ -168,7 +168,7 @@ let_go
 holds refused ""
 mkdir busy
 hold busy
-gather busy busy 6 'checkpoint load fault' ../small-0 ../small-1
+gather busy busy 6 'checkpoint: another run holds the folder' ../small-0 ../small-1
 let_go
 holds busy ""
 

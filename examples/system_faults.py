@@ -172,6 +172,9 @@ def injected(room):
             saved(fresh, absent, {}))
     for error in ("EOPNOTSUPP", "ENOLCK", "EINVAL", "EIO"):
         run(f"the folder cannot be locked: {error}", resumed, first, "flock", room.slots, f"error={error}", done, saved(resumed, first, {}))
+    for name, words, slots in (("going on", resumed, first), ("a new run", fresh, first), ("a run in an empty folder", fresh, absent)):
+        run(f"another run holds the folder: {name}", words, slots, "flock", room.slots, "error=EAGAIN",
+            (6, "checkpoint: another run holds the folder\n"), list(slots))
     for path, what in ((NAMES[0], "newest file"), (room.slots, "folder")):
         run(f"the {what} is not synced before the first save", resumed, first, "fsync", path, "error=EIO:when=1", fault,
             saved(resumed, first, {1: lambda data: first[1]}))

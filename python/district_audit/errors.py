@@ -53,7 +53,7 @@ class WriteFault(AuditError):
 
 
 class CheckpointUnreadable(AuditError):
-    """Status 6: a checkpoint is there and could not be loaded. Nothing was changed."""
+    """Status 6: a checkpoint is there and could not be loaded, or another run holds the folder. Nothing was changed."""
 
     status = 6
 

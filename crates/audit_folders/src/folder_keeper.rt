@@ -6,6 +6,7 @@ ghost use Rattle.audit_io.specs.Loads.{LoadsWithin};
 use audit_io::file_keeper::load_opened;
 use audit_io::folder_lock::lock_folder;
 use audit_io::keeper::{Keeper, LoadError};
+use audit_io::load_count::LoadCount;
 use audit_io::slot_files::open_plain;
 use audit_io::source::Failed;
 use audit_model::buffers::Bytes;
@@ -21,7 +22,7 @@ pub struct FolderKeeper<'a> {
     folder: &'a str,
     locks: bool,
     is_held: bool,
-    load_faults: u64,
+    load_faults: LoadCount,
     save_faults: u64,
 }
 
@@ -39,7 +40,7 @@ impl<'a> FolderKeeper<'a> {
             folder,
             locks,
             is_held: false,
-            load_faults: 0,
+            load_faults: LoadCount::new(),
             save_faults: 0,
         }
     }
@@ -68,7 +69,7 @@ impl<'a> FolderKeeper<'a> {
                 Ok(_lock) => read_slot(self.rt, self.alloc, self.folder, slot, limit, room),
                 Err(_) => {
                     self.is_held = true;
-                    refuse(LoadError::Failed, room)
+                    refuse(LoadError::Taken, room)
                 }
             },
             Err(_) => refuse(LoadError::Memory, room),
@@ -81,10 +82,7 @@ impl Keeper for FolderKeeper<'_> {
 
     fn load(&mut self, slot: u8, limit: u64, room: &mut Bytes) -> Result<bool, LoadError> {
         let loaded = self.read(slot, limit, room);
-        if loaded == Err(LoadError::Failed) {
-            self.load_faults = self.load_faults.saturating_add(1);
-        }
-        loaded
+        self.load_faults.count(loaded)
     }
 
     /// Fails.

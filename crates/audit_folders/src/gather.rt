@@ -96,6 +96,7 @@ fn ended_of(why: Ungathered) -> Ended {
     match why {
         Ungathered::Memory => Ended::NoMemory,
         Ungathered::Unread => Ended::LoadFault,
+        Ungathered::Taken => Ended::FolderTaken,
         Ungathered::Unsaved => Ended::SaveFault,
     }
 }

@@ -81,5 +81,6 @@ module _ (job : Job) (digest : List ℕ) (slots : Slots) (is : digest ≡ job_di
   refused_ends out k ended.ReadFault walking seen no_opening r = absurd r
   refused_ends out k ended.WriteFault walking seen no_opening r = absurd r
   refused_ends out k ended.LoadFault walking seen no_opening r = absurd r
+  refused_ends out k ended.FolderTaken walking seen no_opening r = absurd r
   refused_ends out k (ended.Stopped done all) walking seen no_opening r = absurd r
   refused_ends out k ended.SaveFault walking seen no_opening r = absurd r

@@ -168,6 +168,7 @@ fn look_and_open<C: Keeper>(alloc: Global, job: &Job, keeper: &mut C) -> Result<
     match look(alloc, keeper, job, &digest, &mut room) {
         Ok(slots) => open_found(alloc, job, slots, digest),
         Err(LookFault::Failed) => Err(Ended::LoadFault),
+        Err(LookFault::Taken) => Err(Ended::FolderTaken),
         Err(LookFault::Memory) => Err(Ended::NoMemory),
     }
 }

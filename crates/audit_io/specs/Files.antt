@@ -7,6 +7,7 @@ use Rattle.audit_io.specs.declared.keeper.LoadError.TheVariants as load
 abbrev pub ReadsWithin : {U : Type 0} → Option (List ℕ) → ℕ → List ℕ → Result U LoadError → Type 0
 ReadsWithin bytes limit room (Ok done) = (length room ≤ limit) × IfSome bytes (λ xs. room ≡ xs)
 ReadsWithin bytes limit room (Err load.Failed) = ⊤
+ReadsWithin bytes limit room (Err load.Taken) = ⊥
 ReadsWithin bytes limit room (Err (load.Long n)) = (n ≡ limit) × IfSome bytes (λ xs. limit < length xs)
 ReadsWithin bytes limit room (Err load.Memory) = ⊤
 
@@ -15,6 +16,7 @@ abbrev pub LoadsFile : Option (List ℕ) → ℕ → List ℕ → Result Bool Lo
 LoadsFile bytes limit room (Ok true) = (length room ≤ limit) × IfSome bytes (λ xs. room ≡ xs)
 LoadsFile bytes limit room (Ok false) = ⊥
 LoadsFile bytes limit room (Err load.Failed) = ⊤
+LoadsFile bytes limit room (Err load.Taken) = ⊥
 LoadsFile bytes limit room (Err (load.Long n)) = (n ≡ limit) × IfSome bytes (λ xs. limit < length xs)
 LoadsFile bytes limit room (Err load.Memory) = ⊤
 

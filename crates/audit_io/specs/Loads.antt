@@ -4,12 +4,14 @@ use Rattle.audit_io.specs.declared.keeper.LoadError.{LoadError}
 use Rattle.audit_io.specs.declared.keeper.LoadError.TheVariants as load
 use Rattle.audit_model.specs.Faults.{Counts, Rose}
 use Rattle.audit_model.specs.Pair.{Stored}
+use Rattle.audit_model.specs.State.{LoadFaults}
 
 -- what a load's answer says of the slot and of the room
 abbrev pub Loads : Stored → ℕ → List ℕ → Result Bool LoadError → Type 0
 Loads slot limit room (Ok true) = slot ≡ Some room
 Loads slot limit room (Ok false) = slot ≡ None
 Loads slot limit room (Err load.Failed) = ⊤
+Loads slot limit room (Err load.Taken) = ⊤
 Loads slot limit room (Err (load.Long n)) = (bytes : List ℕ) × (slot ≡ Some bytes) × (limit < length bytes)
 Loads slot limit room (Err load.Memory) = ⊤
 
@@ -18,6 +20,7 @@ abbrev pub LoadsWithin : ℕ → List ℕ → Result Bool LoadError → Type 0
 LoadsWithin limit room (Ok true) = length room ≤ limit
 LoadsWithin limit room (Ok false) = room ≡ []
 LoadsWithin limit room (Err load.Failed) = room ≡ []
+LoadsWithin limit room (Err load.Taken) = room ≡ []
 LoadsWithin limit room (Err (load.Long n)) = (n ≡ limit) × (room ≡ [])
 LoadsWithin limit room (Err load.Memory) = room ≡ []
 
@@ -25,17 +28,20 @@ LoadsWithin limit room (Err load.Memory) = room ≡ []
 abbrev pub IsFaultless : Result Bool LoadError → Type 0
 IsFaultless (Ok found) = ⊤
 IsFaultless (Err load.Failed) = ⊥
+IsFaultless (Err load.Taken) = ⊥
 IsFaultless (Err (load.Long n)) = ⊤
 IsFaultless (Err load.Memory) = ⊤
 
--- what a load's answer says of its count
-abbrev pub LoadCause : ℕ → ℕ → Result Bool LoadError → Type 0
+-- what a load's answer says of its counts
+abbrev pub LoadCause : LoadFaults → LoadFaults → Result Bool LoadError → Type 0
 LoadCause before now (Ok found) = now ≡ before
-LoadCause before now (Err load.Failed) = Rose before now
+LoadCause before now (Err load.Failed) = Rose before.all now.all × (now.taken ≡ before.taken)
+LoadCause before now (Err load.Taken) = Rose before.all now.all × Rose before.taken now.taken
 LoadCause before now (Err (load.Long limit)) = now ≡ before
 LoadCause before now (Err load.Memory) = now ≡ before
 
--- the load failed only where the count rose, and any other answer leaves the count
-pub record HasLoadCause (before now : ℕ) (result : Result Bool LoadError) : Type 0 where
-  pub counts : Counts before now
+-- the load failed only where the count rose, and since another process holds the slots exactly where it answers so; any other answer leaves both counts
+pub record HasLoadCause (before now : LoadFaults) (result : Result Bool LoadError) : Type 0 where
+  pub counts : Counts before.all now.all
+  pub takings : Counts before.taken now.taken
   pub cause : LoadCause before now result

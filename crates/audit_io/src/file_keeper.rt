@@ -9,6 +9,7 @@ ghost use Rattle.audit_io.specs.Loads.{LoadsWithin};
 use crate::again::read_again;
 use crate::folder_lock::{Taken, lock_folder};
 use crate::keeper::{Keeper, LoadError};
+use crate::load_count::LoadCount;
 use crate::slot_files::{Known, open_slot, save_slot};
 use crate::source::Failed;
 use audit_model::buffers::Bytes;
@@ -37,7 +38,7 @@ pub struct FileKeeper<R: Files<File = File> + Drop> {
     files: R,
     folder: Folder,
     known: Known,
-    load_faults: u64,
+    load_faults: LoadCount,
     save_faults: u64,
 }
 
@@ -55,14 +56,14 @@ impl<R: Files<File = File> + Drop> FileKeeper<R> {
     pub fn new(files: R) -> FileKeeper<R>
         ensures slots { (⟦<FileKeeper<R> as Keeper>⟧.state result).slots ≡ None }
         ensures tried { (⟦<FileKeeper<R> as Keeper>⟧.state result).tried ≡ None }
-        ensures load_faults { (⟦<FileKeeper<R> as Keeper>⟧.state result).load_faults ≡ 0 }
+        ensures load_faults { (⟦<FileKeeper<R> as Keeper>⟧.state result).load_faults ≡ record { all = 0; taken = 0 } }
         ensures save_faults { (⟦<FileKeeper<R> as Keeper>⟧.state result).save_faults ≡ 0 }
     {
         FileKeeper {
             files,
             folder: Folder::Untaken,
             known: Known::new(),
-            load_faults: 0,
+            load_faults: LoadCount::new(),
             save_faults: 0,
         }
     }
@@ -71,17 +72,14 @@ impl<R: Files<File = File> + Drop> FileKeeper<R> {
 impl<R: Files<File = File> + Drop> Keeper for FileKeeper<R> {
     ghost state = { λ k. record { slots = None; tried = None; load_faults = k.load_faults; save_faults = k.save_faults } };
 
-    /// Where another keeper holds the folder, the answer is `Failed`. Else a slot is absent exactly where opening its file answers that there is
+    /// Where another keeper holds the folder, the answer is `Taken`. Else a slot is absent exactly where opening its file answers that there is
     /// none; a file that was read is there, whatever its length. Want of memory, the system's too, is `Memory`.
     fn load(&mut self, slot: u8, limit: u64, room: &mut Bytes) -> Result<bool, LoadError> {
         let loaded = match take_folder(&self.files, &mut self.folder) {
             Ok(()) => load_opened(open_slot(&self.files, slot), limit, room),
             Err(Taken) => refuse(room),
         };
-        if loaded == Err(LoadError::Failed) {
-            self.load_faults = self.load_faults.saturating_add(1);
-        }
-        loaded
+        self.load_faults.count(loaded)
     }
 
     /// Makes the file where there is none, and touches no other. Want of memory is `Failed`.
@@ -112,10 +110,10 @@ fn take_folder<R: Files<File = File>>(files: &R, folder: &mut Folder) -> Result<
 // What a load answers where another keeper holds the folder.
 fn refuse(room: &mut Bytes) -> Result<bool, LoadError>
     ensures room { room.new.items ≡ [] }
-    ensures failed { result ≡ Err LoadError.Failed }
+    ensures taken { result ≡ Err LoadError.Taken }
 {
     room.clear();
-    Err(LoadError::Failed)
+    Err(LoadError::Taken)
 }
 
 // What an error of the file system is for a load.

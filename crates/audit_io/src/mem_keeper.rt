@@ -131,14 +131,14 @@ impl MemKeeper {
 }
 
 impl Keeper for MemKeeper {
-    ghost state = { λ k. record { slots = Some k.slots; tried = Some k.tried; load_faults = k.load_faults; save_faults = k.save_faults } };
+    ghost state = { λ k. record { slots = Some k.slots; tried = Some k.tried; load_faults = record { all = k.load_faults; taken = 0 }; save_faults = k.save_faults } };
 
     fn load(&mut self, slot: u8, limit: u64, room: &mut Bytes) -> Result<bool, LoadError>
         requires { slot < 2 }
         ensures found { Loads (stored self.old.slots slot) limit room.new.items result }
         ensures within { LoadsWithin limit room.new.items result }
         ensures slots { self.new.slots ≡ self.old.slots }
-        ensures cause { HasLoadCause self.old.load_faults self.new.load_faults result }
+        ensures cause { HasLoadCause (record { all = self.old.load_faults; taken = 0 }) (record { all = self.new.load_faults; taken = 0 }) result }
         ensures saves { self.new.save_faults ≡ self.old.save_faults }
         ensures tried { self.new.tried ≡ self.old.tried }
         ensures fails { (result ≡ Err LoadError.Failed) ↔ Contains self.old.load_fails self.new.loads }

@@ -12,7 +12,7 @@ use std::{fs, io};
 
 /// What is known to be stored of what was there before this process.
 #[derive(Drop)]
-pub(crate) struct Known {
+pub struct Known {
     // The file that was there when this process saved for the first time.
     newest: bool,
     // The folder, with the names of all files that this process has made.
@@ -21,7 +21,7 @@ pub(crate) struct Known {
 
 impl Known {
     /// Nothing is known to be stored.
-    pub(crate) fn new() -> Known {
+    pub fn new() -> Known {
         Known {
             newest: false,
             names: false,
@@ -170,12 +170,7 @@ fn save_file<R: Files>(files: &R, name: &str, bytes: &[u8], names: &mut bool) ->
 
 /// Makes a slot's file hold exactly these bytes, and waits until the system has stored them. Before the first save of a process it waits until the
 /// other slot's file is stored, which may be the newest and may have been read though it was not stored.
-pub(crate) fn save_slot<R: Files>(
-    files: &R,
-    slot: u8,
-    bytes: &[u8],
-    known: &mut Known,
-) -> io::Result<()>
+pub fn save_slot<R: Files>(files: &R, slot: u8, bytes: &[u8], known: &mut Known) -> io::Result<()>
     requires { slot < 2 }
     ensures { OnOk result ((known.new.newest ≡ true) × (known.new.names ≡ true)) }
 {

@@ -57,7 +57,7 @@ impl StopKeeper {
 }
 
 impl Keeper for StopKeeper {
-    ghost state = { λ k. record { slots = Some k.inner.slots; tried = Some k.inner.tried; load_faults = k.inner.load_faults; save_faults = min (k.inner.save_faults + k.faults) (2 ^ 64 - 1) } };
+    ghost state = { λ k. record { slots = Some k.inner.slots; tried = Some k.inner.tried; load_faults = record { all = k.inner.load_faults; taken = 0 }; save_faults = min (k.inner.save_faults + k.faults) (2 ^ 64 - 1) } };
 
     fn load(&mut self, slot: u8, limit: u64, room: &mut Bytes) -> Result<bool, LoadError> {
         self.inner.load(slot, limit, room)

@@ -3,7 +3,7 @@ use Rattle.std.proofs.Common.{◌≡◌, ◌≢◌, ℕ, Bool, true, false, List
 use Rattle.std.proofs.lemmas.Bool.{and_right}
 use Rattle.audit_model.specs.declared.fault.WordFault.{WordFault}
 use Rattle.audit_model.specs.declared.setting.Setting.{Setting}
-use Rattle.audit_statement.specs.Note.{Ending, write_fault, load_fault, stopped, save_fault}
+use Rattle.audit_statement.specs.Note.{Ending, write_fault, load_fault, folder_taken, stopped, save_fault}
 use Rattle.audit_statement.specs.Words.{setting_of}
 use Rattle.audit_statement.specs.Status.{status_of}
 use Rattle.audit_statement.specs.Endings.{Cause, EndsFor, IsLoadFault, LeavesUntouched, SameUnless, marks_of, passes, is_reading, saves, loads}
@@ -59,7 +59,8 @@ module _ (words : List (List ℕ)) (before after : World) where
 
   unloaded : (r : Option Ending) → Cause words before after r → LeavesUntouched words before after (marks_of r) → (s : Setting) → setting_of words ≡ Ok s → IsFalse (loads s)
       → after.keeper.load_faults ≡ before.keeper.load_faults
-  unloaded (Some load_fault) c u s e off = absurd (no_load_fault s e off c)
+  unloaded (Some load_fault) c u s e off = absurd (no_load_fault s e off c.fault)
+  unloaded (Some folder_taken) c u s e off = absurd (no_load_fault s e off c.fault)
   unloaded r c u s e off = u.load_faults
 
   alone_at : (r : Option Ending) → Cause words before after r → LeavesUntouched words before after (marks_of r) → LeavesAlone words before after (status_of r)

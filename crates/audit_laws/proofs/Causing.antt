@@ -2,7 +2,7 @@
 use Rattle.std.proofs.Common.{◌≡◌, ◌⊎◌, inl, inr, ℕ, ◌&&◌, Bool, true, false, IsTrue, List, Option, Some, None, Ok, Err, refl, sym, subst, ap, ◌∙◌}
 use Rattle.audit_model.specs.declared.setting.Setting.{Setting}
 use Rattle.audit_model.specs.Job.{Job}
-use Rattle.audit_statement.specs.Note.{Ending, bad_words, too_many_bytes, bad_graph, bad_regions, bad_table, bad_plan, bad_plan_named, no_memory, read_fault, write_fault, load_fault, stopped, damaged, other_job, save_fault}
+use Rattle.audit_statement.specs.Note.{Ending, bad_words, too_many_bytes, bad_graph, bad_regions, bad_table, bad_plan, bad_plan_named, no_memory, read_fault, write_fault, load_fault, folder_taken, stopped, damaged, other_job, save_fault}
 use Rattle.audit_statement.specs.Words.{setting_of}
 use Rattle.audit_statement.specs.Accepted.{IsAccepted, IsRefused, judged, input_of}
 use Rattle.audit_statement.specs.Causes.{IsTold, MayEndWell, IsComplete, HasBudget}
@@ -90,7 +90,8 @@ completes words before after (Some (bad_plan f)) c m = absurd (not_refused words
 completes words before after (Some no_memory) c m = inr refl
 completes words before after (Some read_fault) c m = absurd (m.reads c.rose)
 completes words before after (Some write_fault) c m = absurd (m.writes c.rose)
-completes words before after (Some load_fault) c m = absurd (m.loads c.rose)
+completes words before after (Some load_fault) c m = absurd (m.loads c.fault.rose)
+completes words before after (Some folder_taken) c m = absurd (m.loads c.fault.rose)
 completes words before after (Some (stopped done all)) c m = absurd (not_stopped words before after done all m c)
 completes words before after (Some (damaged zero one)) c m = absurd (not_undefined words before after _ m c)
 completes words before after (Some (other_job found wanted)) c m = absurd (not_undefined words before after _ m c)

@@ -65,9 +65,18 @@ module _ (words : List (List ℕ)) (before after : Stream) (job : Job) (p : IsPr
 
 -- a load that failed, with all else as before, is an end of the call
 pub load_fault_ends : (job : Job) (out : Stream) (k l : Kept) → IsTrue (loads job.setting) → l.slots ≡ k.slots → l.tried ≡ k.tried → l.save_faults ≡ k.save_faults
-    → Rose k.load_faults l.load_faults → Finishes job out out k l ended.LoadFault
-load_fault_ends job out k l loading slots tried saved rose = λ words before after p. record {
-  cause = record { job = job; prepared = p; loading = loading; rose = rose };
+    → Rose k.load_faults.all l.load_faults.all → l.load_faults.taken ≡ k.load_faults.taken → Finishes job out out k l ended.LoadFault
+load_fault_ends job out k l loading slots tried saved rose untaken = λ words before after p. record {
+  cause = record { fault = record { job = job; prepared = p; loading = loading; rose = rose }; untaken = untaken };
+  untouched = left words before after job p out out k l _ refl slots tried refl refl tt saved;
+  line_is = refl;
+}
+
+-- and so is one that failed since another process holds the slots
+pub folder_taken_ends : (job : Job) (out : Stream) (k l : Kept) → IsTrue (loads job.setting) → l.slots ≡ k.slots → l.tried ≡ k.tried → l.save_faults ≡ k.save_faults
+    → Rose k.load_faults.all l.load_faults.all → Rose k.load_faults.taken l.load_faults.taken → Finishes job out out k l ended.FolderTaken
+folder_taken_ends job out k l loading slots tried saved rose taken = λ words before after p. record {
+  cause = record { fault = record { job = job; prepared = p; loading = loading; rose = rose }; taken = taken };
   untouched = left words before after job p out out k l _ refl slots tried refl refl tt saved;
   line_is = refl;
 }

@@ -17,7 +17,7 @@ use Rattle.audit_statement.specs.Accepted.{input_by, judged}
 use Rattle.audit_statement.specs.Causes.{IsTheJob}
 use Rattle.audit_statement.specs.Endings.{Cause, IsDone, StartsFrom, is_walking}
 use Rattle.audit_statement.specs.Headline.{StartsWith}
-use Rattle.audit_statement.specs.Note.{Ending, bad_words, too_many_bytes, bad_graph, bad_regions, bad_table, bad_plan, bad_plan_named, no_memory, read_fault, write_fault, load_fault, stopped, damaged, other_job, save_fault}
+use Rattle.audit_statement.specs.Note.{Ending, bad_words, too_many_bytes, bad_graph, bad_regions, bad_table, bad_plan, bad_plan_named, no_memory, read_fault, write_fault, load_fault, folder_taken, stopped, damaged, other_job, save_fault}
 use Rattle.audit_statement.specs.Status.{status_of}
 use Rattle.audit_statement.specs.Promise.{KeepsItsPromise}
 use Rattle.audit_statement.specs.Several.{names_plans}
@@ -59,6 +59,7 @@ done_only words before after (Some no_memory) c z = absurd (omega arith)
 done_only words before after (Some read_fault) c z = absurd (omega arith)
 done_only words before after (Some write_fault) c z = absurd (omega arith)
 done_only words before after (Some load_fault) c z = absurd (omega arith)
+done_only words before after (Some folder_taken) c z = absurd (omega arith)
 done_only words before after (Some (stopped done all)) c z = absurd (omega arith)
 done_only words before after (Some (damaged a b)) c z = absurd (omega arith)
 done_only words before after (Some (other_job a b)) c z = absurd (omega arith)

@@ -4,7 +4,7 @@ use Rattle.std.proofs.lemmas.Bool.{and_right, both_ways}
 use Rattle.audit_model.specs.declared.setting.Setting.{Setting}
 use Rattle.audit_model.specs.Job.{Job}
 use Rattle.audit_statement.specs.Draw.{draw}
-use Rattle.audit_statement.specs.Note.{Ending, load_fault, stopped, damaged, other_job, save_fault}
+use Rattle.audit_statement.specs.Note.{Ending, load_fault, folder_taken, stopped, damaged, other_job, save_fault}
 use Rattle.audit_statement.specs.Words.{setting_of}
 use Rattle.audit_statement.specs.Causes.{IsTheJob}
 use Rattle.audit_statement.specs.Early.{EndsEarly}
@@ -44,7 +44,8 @@ module _ (words : List (List ℕ)) (before after : World) (setting : Setting) (e
       both_ways (test setting) off (subst (λ (s : Setting). test s ≡ true) same on)
 
   below_six : (r : Option Ending) → Cause words before after r → status_of r < 6
-  below_six (Some load_fault) c = absurd (here c.job.setting loads c.prepared.accepted.words_are (loads_nothing setting alone) c.loading)
+  below_six (Some load_fault) c = absurd (here c.fault.job.setting loads c.fault.prepared.accepted.words_are (loads_nothing setting alone) c.fault.loading)
+  below_six (Some folder_taken) c = absurd (here c.fault.job.setting loads c.fault.prepared.accepted.words_are (loads_nothing setting alone) c.fault.loading)
   below_six (Some (stopped done all)) c = absurd (here c.job.setting saves c.prepared.accepted.words_are (saves_nothing setting alone) c.saving)
   below_six (Some (damaged a b)) c =
       absurd (here c.job.setting (λ s. is_walking s.command && s.resume) c.prepared.accepted.words_are (resumes_nothing setting alone) c.resuming)

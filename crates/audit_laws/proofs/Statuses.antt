@@ -1,5 +1,5 @@
 -- What each status says, from the reason of an ending.
-use Rattle.std.proofs.Common.{◌≡◌, ◌⊎◌, inl, inr, ◌≢◌, ℕ, ◌<◌, Bool, true, false, IsTrue, List, Option, Some, None, Err, IsErr, refl, sym, subst, arith}
+use Rattle.std.proofs.Common.{◌≡◌, ◌⊎◌, inl, inr, ◌≢◌, ℕ, ◌<◌, Bool, true, false, IsTrue, List, Option, Some, None, Err, IsErr, refl, sym, subst, ap, arith}
 use Rattle.std.specs.Prelude.{⊤}
 use Rattle.audit_model.specs.declared.fault.WordFault.{WordFault}
 use Rattle.audit_model.specs.declared.setting.Setting.{Setting}
@@ -9,13 +9,13 @@ use Rattle.audit_model.specs.declared.setting.Command.TheVariants.{Check, Run, M
 use Rattle.audit_model.specs.Pair.{Pair}
 use Rattle.audit_model.specs.Job.{Job}
 use Rattle.audit_model.proofs.Results.{err_is_err, ok_is_no_err}
-use Rattle.audit_statement.specs.Note.{Ending, bad_words, too_many_bytes, bad_graph, bad_regions, bad_table, bad_plan, bad_plan_named, no_memory, read_fault, write_fault, load_fault, stopped, damaged, other_job, save_fault}
+use Rattle.audit_statement.specs.Note.{Ending, bad_words, too_many_bytes, bad_graph, bad_regions, bad_table, bad_plan, bad_plan_named, no_memory, read_fault, write_fault, load_fault, folder_taken, stopped, damaged, other_job, save_fault}
 use Rattle.audit_statement.specs.Words.{setting_of}
 use Rattle.audit_statement.specs.Accepted.{IsAccepted, IsRefused, judged}
 use Rattle.audit_statement.specs.Causes.{IsTold, IsTheJob, LeavesWork, LacksOpening, HasCauses}
 use Rattle.audit_statement.specs.Status.{status_of}
 use Rattle.audit_statement.specs.Endings.{Cause, EndsFor, LeavesUntouched, marks_of, IsDone, IsReadFault, IsWriteFault, IsLoadFault, IsSaveFault, IsStopped, IsPrepared, IsOpening, IsSlotsFault, WritesReport, WritesText, WritesOrStops, TellsOpening, leaves_work, is_walking}
-use Rattle.audit_model.specs.State.{Stream}
+use Rattle.audit_model.specs.State.{LoadFaults, Stream}
 use Rattle.audit_statement.specs.World.{World}
 use Rattle.audit_laws.proofs.Causing.{same_job, not_refused, refused_at, accepted_at}
 use Rattle.audit_laws.proofs.Starting.{opening_known, undefined_known}
@@ -47,7 +47,8 @@ module _ (words : List (List ℕ)) (before after : World) where
   one (Some no_memory) c h = inr refl
   one (Some read_fault) c h = absurd (ok_is_no_err _ _ c.words_are h)
   one (Some write_fault) c h = absurd (ok_is_no_err _ _ c.prepared.accepted.words_are h)
-  one (Some load_fault) c h = absurd (ok_is_no_err _ _ c.prepared.accepted.words_are h)
+  one (Some load_fault) c h = absurd (ok_is_no_err _ _ c.fault.prepared.accepted.words_are h)
+  one (Some folder_taken) c h = absurd (ok_is_no_err _ _ c.fault.prepared.accepted.words_are h)
   one (Some (stopped done all)) c h = absurd (ok_is_no_err _ _ c.prepared.accepted.words_are h)
   one (Some (damaged a b)) c h = absurd (ok_is_no_err _ _ c.prepared.accepted.words_are h)
   one (Some (other_job a b)) c h = absurd (ok_is_no_err _ _ c.prepared.accepted.words_are h)
@@ -75,7 +76,8 @@ module _ (words : List (List ℕ)) (before after : World) where
     two (Some no_memory) c h = inr (inl refl)
     two (Some read_fault) c h = inr (inr refl)
     two (Some write_fault) c h = absurd (accepted_is_no_err words before setting bytes _ told c.prepared.accepted h)
-    two (Some load_fault) c h = absurd (accepted_is_no_err words before setting bytes _ told c.prepared.accepted h)
+    two (Some load_fault) c h = absurd (accepted_is_no_err words before setting bytes _ told c.fault.prepared.accepted h)
+    two (Some folder_taken) c h = absurd (accepted_is_no_err words before setting bytes _ told c.fault.prepared.accepted h)
     two (Some (stopped done all)) c h = absurd (accepted_is_no_err words before setting bytes _ told c.prepared.accepted h)
     two (Some (damaged a b)) c h = absurd (accepted_is_no_err words before setting bytes _ told c.prepared.accepted h)
     two (Some (other_job a b)) c h = absurd (accepted_is_no_err words before setting bytes _ told c.prepared.accepted h)
@@ -90,7 +92,8 @@ module _ (words : List (List ℕ)) (before after : World) where
   five_only r c s = absurd (omega arith)
 
   pub six_only : (r : Option Ending) → Cause words before after r → status_of r ≡ 6 → IsLoadFault words before after
-  six_only (Some load_fault) c s = c
+  six_only (Some load_fault) c s = c.fault
+  six_only (Some folder_taken) c s = c.fault
   six_only r c s = absurd (omega arith)
 
   pub nine_only : (r : Option Ending) → Cause words before after r → status_of r ≡ 9 → IsSaveFault words before after
@@ -105,9 +108,10 @@ module _ (words : List (List ℕ)) (before after : World) where
   five (Some write_fault) u h = refl
   five r u h = absurd (omega (arith, u.write_faults))
 
-  pub six : (r : Option Ending) → LeavesUntouched words before after (marks_of r) → before.keeper.load_faults < after.keeper.load_faults → status_of r ≡ 6
+  pub six : (r : Option Ending) → LeavesUntouched words before after (marks_of r) → before.keeper.load_faults.all < after.keeper.load_faults.all → status_of r ≡ 6
   six (Some load_fault) u h = refl
-  six r u h = absurd (omega (arith, u.load_faults))
+  six (Some folder_taken) u h = refl
+  six r u h = absurd (omega (arith, ap (λ (f : LoadFaults). f.all) u.load_faults))
 
   pub nine : (r : Option Ending) → LeavesUntouched words before after (marks_of r) → before.keeper.save_faults < after.keeper.save_faults → (status_of r ≡ 5) ⊎ (status_of r ≡ 9)
   nine (Some write_fault) u h = inl refl
@@ -127,6 +131,7 @@ module _ (words : List (List ℕ)) (before after : World) where
   zero_only (Some read_fault) c s = absurd (omega arith)
   zero_only (Some write_fault) c s = absurd (omega arith)
   zero_only (Some load_fault) c s = absurd (omega arith)
+  zero_only (Some folder_taken) c s = absurd (omega arith)
   zero_only (Some (stopped done all)) c s = absurd (omega arith)
   zero_only (Some (damaged a b)) c s = absurd (omega arith)
   zero_only (Some (other_job a b)) c s = absurd (omega arith)
@@ -199,6 +204,7 @@ module _ (words : List (List ℕ)) (before after : World) where
   seven (Some read_fault) c l h3 h4 h6 h9 = absurd (h4 refl)
   seven (Some write_fault) c l h3 h4 h6 h9 = absurd (report_leaves_none false l (report_of false l.job c.job l.walking (job_is l.job c.job l.the_job c.prepared) c.written))
   seven (Some load_fault) c l h3 h4 h6 h9 = absurd (h6 refl)
+  seven (Some folder_taken) c l h3 h4 h6 h9 = absurd (h6 refl)
   seven (Some (stopped done all)) c l h3 h4 h6 h9 = refl
   seven (Some (damaged a b)) c l h3 h4 h6 h9 = absurd (slots_fault_opens l.job l.outcomes _ c (job_is l.job c.job l.the_job c.prepared) l.opened)
   seven (Some (other_job a b)) c l h3 h4 h6 h9 = absurd (slots_fault_opens l.job l.outcomes _ c (job_is l.job c.job l.the_job c.prepared) l.opened)
@@ -228,6 +234,7 @@ module _ (words : List (List ℕ)) (before after : World) where
   eight (Some read_fault) c l h3 h4 h6 = absurd (h4 refl)
   eight (Some write_fault) c l h3 h4 h6 = absurd (report_opening false l (report_of false l.job c.job l.walking (job_is l.job c.job l.the_job c.prepared) c.written))
   eight (Some load_fault) c l h3 h4 h6 = absurd (h6 refl)
+  eight (Some folder_taken) c l h3 h4 h6 = absurd (h6 refl)
   eight (Some (stopped done all)) c l h3 h4 h6 = absurd (undefined_not l c.stopped.outcomes (opening_at l.job c.job c.stopped.outcomes (job_is l.job c.job l.the_job c.prepared) c.stopped.opened))
   eight (Some (damaged a b)) c l h3 h4 h6 = refl
   eight (Some (other_job a b)) c l h3 h4 h6 = refl

@@ -8,11 +8,16 @@ pub record Stream : Type 0 where
   pub bytes : Option (List ℕ)
   pub faults : ℕ
 
--- the slots of a keeper and all saves that were tried, where it tells them, and its two counts of faults
+-- how often a load has failed, and how often of these since another process holds the slots
+pub record LoadFaults : Type 0 where
+  pub all : ℕ
+  pub taken : ℕ
+
+-- the slots of a keeper and all saves that were tried, where it tells them, and how often a load has failed, and a save
 pub record Kept : Type 0 where
   pub slots : Option Pair
   pub tried : Option (List Try)
-  pub load_faults : ℕ
+  pub load_faults : LoadFaults
   pub save_faults : ℕ
 
 -- the slots, and all saves that were tried

@@ -4,7 +4,7 @@ use Rattle.std.specs.Prelude.{IsErr}
 use Rattle.std.specs.Io.KnownBytes.{Appends}
 use Rattle.audit_model.specs.declared.fault.WordFault.{WordFault}
 use Rattle.audit_model.specs.declared.setting.Setting.{Setting}
-use Rattle.audit_statement.specs.Note.{Ending, bad_words, too_many_bytes, bad_graph, bad_regions, bad_table, bad_plan, bad_plan_named, no_memory, read_fault, write_fault, load_fault, stopped, damaged, other_job, save_fault}
+use Rattle.audit_statement.specs.Note.{Ending, bad_words, too_many_bytes, bad_graph, bad_regions, bad_table, bad_plan, bad_plan_named, no_memory, read_fault, write_fault, load_fault, folder_taken, stopped, damaged, other_job, save_fault}
 use Rattle.audit_statement.specs.Draw.{draw}
 use Rattle.audit_statement.specs.Jobs.{Jobs}
 use Rattle.audit_statement.specs.Report.{plans_text}
@@ -207,6 +207,7 @@ module _ (words : List (List ℕ)) (before after : World) where
   causes_for (Some read_fault) c left = read_causes c left
   causes_for (Some write_fault) c left = cut_causes c left
   causes_for (Some load_fault) c left = absurd c
+  causes_for (Some folder_taken) c left = absurd c
   causes_for (Some (stopped done all)) c left = absurd c
   causes_for (Some (damaged first second)) c left = absurd c
   causes_for (Some (other_job found wanted)) c left = absurd c

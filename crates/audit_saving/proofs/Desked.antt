@@ -7,7 +7,7 @@ use Rattle.std.proofs.lemmas.List.Elements.{Contains-append_right, Contains-get_
 use Rattle.std.proofs.lemmas.List.Sorted.{IsPermutation-append_right, IsPermutation-map, IsPermutation-sym, IsPermutation-trans, length_permutation, sum_by-IsPermutation}
 use Rattle.audit_io.specs.declared.source.Failed.{Failed}
 use Rattle.audit_model.specs.Pair.{Pair, Stored, stored}
-use Rattle.audit_model.specs.State.{Kept}
+use Rattle.audit_model.specs.State.{Kept, LoadFaults}
 use Rattle.audit_model.specs.Tries.{Try, tried_all}
 use Rattle.audit_model.specs.declared.outcome.Outcome.{Outcome}
 use Rattle.audit_model.specs.Job.{Job}
@@ -207,7 +207,7 @@ module _ (parts : Parts) (plan : IsPlan parts) (todo_is : parts.todo ≡ run_ids
         same_list : ◌≡◌ {A = Option (List Try)} (Some now) (Some (told ++ tries)) → now ≡ told ++ tries
         same_list h = cc
 
-    tries_told : (slots slots_now : Option Pair) (a b : Option (List Try)) (loads loads_now : ℕ) → IfTold slots IsAt → b ≡ tried_all a tries
+    tries_told : (slots slots_now : Option Pair) (a b : Option (List Try)) (loads loads_now : LoadFaults) → IfTold slots IsAt → b ≡ tried_all a tries
         → TriesTold job opening (record { slots = slots; tried = a; load_faults = loads; save_faults = parts.keeper.save_faults })
         (record { slots = slots_now; tried = b; load_faults = loads_now; save_faults = faults_now })
     tries_told None slots_now a b loads loads_now at is = tt

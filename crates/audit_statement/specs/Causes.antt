@@ -28,7 +28,7 @@ pub record MayEndWell (words : List (List ℕ)) (before after : World) : Type 0 
   pub budget : HasBudget (is_walking job.setting.command) job before
   pub reads : Rose before.source.faults after.source.faults → ⊥
   pub writes : Rose before.out.faults after.out.faults → ⊥
-  pub loads : Rose before.keeper.load_faults after.keeper.load_faults → ⊥
+  pub loads : Rose before.keeper.load_faults.all after.keeper.load_faults.all → ⊥
   pub saves : Rose before.keeper.save_faults after.keeper.save_faults → ⊥
 
 -- then all is done, or there was no memory
@@ -69,7 +69,7 @@ pub record HasCauses (words : List (List ℕ)) (before after : World) (status : 
   pub five_only : status ≡ 5 → IsWriteFault words before after
   pub five : before.out.faults < after.out.faults → status ≡ 5
   pub six_only : status ≡ 6 → IsLoadFault words before after
-  pub six : before.keeper.load_faults < after.keeper.load_faults → status ≡ 6
+  pub six : before.keeper.load_faults.all < after.keeper.load_faults.all → status ≡ 6
   pub nine_only : status ≡ 9 → IsSaveFault words before after
   pub nine : before.keeper.save_faults < after.keeper.save_faults → (status ≡ 5) ⊎ (status ≡ 9)
   pub zero_only : status ≡ 0 → IsDone words before after

@@ -18,7 +18,7 @@ use Rattle.audit_model.specs.declared.place.Place.{Place}
 use Rattle.audit_statement.specs.Histories.{AreInTurn, IsRightSave}
 use Rattle.audit_statement.specs.InOrder.{AreSavesOf, failed_of, moved, saves_of}
 use Rattle.audit_statement.specs.Draw.{draw}
-use Rattle.audit_statement.specs.Note.{Ending, bad_words, too_many_bytes, bad_graph, bad_regions, bad_table, bad_plan, bad_plan_named, no_memory, read_fault, write_fault, load_fault, stopped, damaged, other_job, save_fault, note}
+use Rattle.audit_statement.specs.Note.{Ending, bad_words, too_many_bytes, bad_graph, bad_regions, bad_table, bad_plan, bad_plan_named, no_memory, read_fault, write_fault, load_fault, folder_taken, stopped, damaged, other_job, save_fault, note}
 use Rattle.audit_statement.specs.Report.{full_report, check_text}
 use Rattle.audit_statement.specs.Slots.{Slot, other, ours, slot_of, opening, newest, save_place, slot_at}
 use Rattle.audit_statement.specs.Words.{setting_of}
@@ -305,7 +305,17 @@ pub record IsLoadFault (words : List (List ℕ)) (before after : World) : Type 0
   pub job : Job
   pub prepared : IsPrepared words before.source after.source job
   pub loading : IsTrue (loads job.setting)
-  pub rose : Rose before.keeper.load_faults after.keeper.load_faults
+  pub rose : Rose before.keeper.load_faults.all after.keeper.load_faults.all
+
+-- it failed, and not since another process holds the slots
+pub record IsUnread (words : List (List ℕ)) (before after : World) : Type 0 where
+  pub fault : IsLoadFault words before after
+  pub untaken : after.keeper.load_faults.taken ≡ before.keeper.load_faults.taken
+
+-- it failed since another process holds the slots
+pub record IsFolderTaken (words : List (List ℕ)) (before after : World) : Type 0 where
+  pub fault : IsLoadFault words before after
+  pub taken : Rose before.keeper.load_faults.taken after.keeper.load_faults.taken
 
 -- work is left: so many of all trajectories are done and saved
 pub record IsStopped (words : List (List ℕ)) (before after : World) (done all : ℕ) : Type 0 where
@@ -369,7 +379,8 @@ Cause words before after (Some (bad_plan_named name f)) = ⊥
 Cause words before after (Some no_memory) = ⊤
 Cause words before after (Some read_fault) = IsReadFault words before after
 Cause words before after (Some write_fault) = IsWriteFault words before after
-Cause words before after (Some load_fault) = IsLoadFault words before after
+Cause words before after (Some load_fault) = IsUnread words before after
+Cause words before after (Some folder_taken) = IsFolderTaken words before after
 Cause words before after (Some (stopped done all)) = IsStopped words before after done all
 Cause words before after (Some (damaged first second)) = IsSlotsFault words before after (AreDamaged first second)
 Cause words before after (Some (other_job found wanted)) = IsSlotsFault words before after (IsOtherJob found wanted)
@@ -409,6 +420,7 @@ marks_of (Some no_memory) = no_marks
 marks_of (Some read_fault) = record no_marks { read_failed = true }
 marks_of (Some write_fault) = record no_marks { wrote = true; saved = true; write_failed = true; save_failed = true }
 marks_of (Some load_fault) = record no_marks { load_failed = true }
+marks_of (Some folder_taken) = record no_marks { load_failed = true }
 marks_of (Some (stopped done all)) = record no_marks { saved = true }
 marks_of (Some (damaged first second)) = no_marks
 marks_of (Some (other_job found wanted)) = no_marks

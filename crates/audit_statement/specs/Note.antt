@@ -35,6 +35,7 @@ pub data Ending : Type 0 where
   read_fault : Ending
   write_fault : Ending
   load_fault : Ending
+  folder_taken : Ending
   stopped : ℕ → ℕ → Ending
   damaged : Slot → Slot → Ending
   other_job : List ℕ → List ℕ → Ending
@@ -146,6 +147,7 @@ note_pieces columns no_memory = codes "memory" ∷ []
 note_pieces columns read_fault = codes "read fault" ∷ []
 note_pieces columns write_fault = codes "write fault" ∷ []
 note_pieces columns load_fault = codes "checkpoint load fault" ∷ []
+note_pieces columns folder_taken = codes "checkpoint: another run holds the folder" ∷ []
 note_pieces columns (stopped done all) = codes "stopped: " ∷ decimal done ∷ codes " of " ∷ decimal all ∷ codes " done" ∷ []
 note_pieces columns (damaged first second) = codes "checkpoint: slot 0 " ∷ slot_name first ∷ codes ", slot 1 " ∷ slot_name second ∷ []
 note_pieces columns (other_job found wanted) = codes "checkpoint: other job " ∷ encode_lower found ∷ codes ", this job " ∷ encode_lower wanted ∷ []

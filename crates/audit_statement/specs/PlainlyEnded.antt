@@ -52,7 +52,7 @@ pub record AreWellFormed (words : List (List ℕ)) (bytes : List ℕ) : Type 0 w
 pub record NoneFailed (before after : World) : Type 0 where
   pub reads : Rose before.source.faults after.source.faults → ⊥
   pub writes : Rose before.out.faults after.out.faults → ⊥
-  pub loads : Rose before.keeper.load_faults after.keeper.load_faults → ⊥
+  pub loads : Rose before.keeper.load_faults.all after.keeper.load_faults.all → ⊥
   pub saves : Rose before.keeper.save_faults after.keeper.save_faults → ⊥
 
 -- a call on the word 'run' and words that name none of the features that may be left out, over a source that tells its bytes, where the words and the

@@ -8,7 +8,7 @@ use Rattle.audit_model.specs.Job.{Job}
 use Rattle.audit_model.specs.Plan.{IsLegal}
 use Rattle.audit_model.specs.Trajectory.{hub, visit}
 use Rattle.audit_statement.specs.Draw.{draw}
-use Rattle.audit_statement.specs.Note.{Ending, bad_words, too_many_bytes, bad_graph, bad_regions, bad_table, bad_plan, bad_plan_named, no_memory, read_fault, write_fault, load_fault, stopped, damaged, other_job, save_fault}
+use Rattle.audit_statement.specs.Note.{Ending, bad_words, too_many_bytes, bad_graph, bad_regions, bad_table, bad_plan, bad_plan_named, no_memory, read_fault, write_fault, load_fault, folder_taken, stopped, damaged, other_job, save_fault}
 use Rattle.audit_model.specs.declared.fault.PlansFault.{PlansFault}
 use Rattle.audit_model.specs.declared.fault.PlansFault.TheVariants as fault
 use Rattle.audit_statement.specs.Jobs.{Jobs, jobs_reading}
@@ -124,6 +124,7 @@ PlansCause words before after (Some no_memory) = ⊤
 PlansCause words before after (Some read_fault) = IsPlansReadFault words before after
 PlansCause words before after (Some write_fault) = ArePlansCutOff words before after
 PlansCause words before after (Some load_fault) = ⊥
+PlansCause words before after (Some folder_taken) = ⊥
 PlansCause words before after (Some (stopped done all)) = ⊥
 PlansCause words before after (Some (damaged first second)) = ⊥
 PlansCause words before after (Some (other_job found wanted)) = ⊥

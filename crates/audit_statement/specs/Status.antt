@@ -2,7 +2,7 @@
 -- This project's: 0 where all was done, and a status for each kind of reason.
 use Rattle.std.specs.Prelude.{ℕ, List, [], Option, Some, None}
 use Rattle.audit_model.specs.declared.setting.Columns.{Columns}
-use Rattle.audit_statement.specs.Note.{Ending, bad_words, too_many_bytes, bad_graph, bad_regions, bad_table, bad_plan, bad_plan_named, no_memory, read_fault, write_fault, load_fault, stopped, damaged, other_job, save_fault, note}
+use Rattle.audit_statement.specs.Note.{Ending, bad_words, too_many_bytes, bad_graph, bad_regions, bad_table, bad_plan, bad_plan_named, no_memory, read_fault, write_fault, load_fault, folder_taken, stopped, damaged, other_job, save_fault, note}
 
 -- the status of a call that ended so
 abbrev pub status_of : Option Ending → ℕ
@@ -18,6 +18,7 @@ status_of (Some no_memory) = 3
 status_of (Some read_fault) = 4
 status_of (Some write_fault) = 5
 status_of (Some load_fault) = 6
+status_of (Some folder_taken) = 6
 status_of (Some (stopped done total)) = 7
 status_of (Some (damaged zero one)) = 8
 status_of (Some (other_job found wanted)) = 8

@@ -15,7 +15,7 @@ abbrev pub sure_world : List ℕ → SureSlots → World
 sure_world graph keeper = record {
   source = record { bytes = Some graph; faults = 0 };
   out = record { bytes = None; faults = 0 };
-  keeper = record { slots = Some keeper.slots; tried = Some keeper.tried; load_faults = 0; save_faults = 0 };
+  keeper = record { slots = Some keeper.slots; tried = Some keeper.tried; load_faults = record { all = 0; taken = 0 }; save_faults = 0 };
 }
 
 -- words, graph and plan are accepted; a walking command finds an opening, and takes all that it lacks

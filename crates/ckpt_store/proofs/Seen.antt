@@ -28,6 +28,7 @@ pub unloaded_seen : (job : Job) (digest : List ℕ) (told : Option Pair) (number
     → IfTold told (λ p. Loads (stored p number) checkpoint_limit room (Err e)) → LoadsWithin checkpoint_limit room (Err e)
     → IfOk (unloaded e) (SawSlot job digest told number)
 unloaded_seen job digest told number room load.Failed h within = tt
+unloaded_seen job digest told number room load.Taken h within = tt
 unloaded_seen job digest told number room load.Memory h within = tt
 unloaded_seen job digest None number room (load.Long n) h within =
     let some_bytes = longer n in record { bytes = Some some_bytes.0; same = tt; is = too_long job digest some_bytes.0 n within.0 some_bytes.1 }

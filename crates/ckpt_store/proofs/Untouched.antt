@@ -14,7 +14,12 @@ more before between after h k = record { slots = k.slots ∙ h.slots; tried = k.
 of_one : (before between after : Kept) (why : Ungathered) → IsUntouched before between → between.load_faults ≡ before.load_faults → IsUnsaved between after why
     → IsUnsaved before after why
 of_one before between after ungathered.Memory h loads k = more before between after h k
-of_one before between after ungathered.Unread h loads k = (more before between after h k.0, subst (λ n. Rose n after.load_faults) loads k.1)
+of_one before between after ungathered.Unread h loads k = (more before between after h k.0, subst (λ n. Rose n.all after.load_faults.all) loads k.1)
+of_one before between after ungathered.Taken h loads k = (
+  more before between after h k.0,
+  subst (λ n. Rose n.all after.load_faults.all) loads k.1,
+  subst (λ n. Rose n.taken after.load_faults.taken) loads k.2,
+)
 of_one before between after ungathered.Unsaved h loads k = subst (λ n. Rose n after.save_faults) h.saves k
 
 -- so a failure after it says the same of the keeper before it

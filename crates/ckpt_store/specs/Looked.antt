@@ -1,6 +1,7 @@
 -- What a look at the slots says.
 use Rattle.std.specs.Prelude.{◌≡◌, ℕ, List, Option, Result, Ok, Err}
 use Rattle.audit_model.specs.Faults.{Counts, Rose}
+use Rattle.audit_model.specs.State.{LoadFaults}
 use Rattle.audit_model.specs.Told.{IfTold}
 use Rattle.audit_model.specs.Pair.{Pair, Stored, stored}
 use Rattle.audit_io.specs.declared.keeper.LoadError.{LoadError}
@@ -39,22 +40,25 @@ IsByBytes (slot.Broken fault) = fault ≡ Memory → ⊥
 IsByBytes (slot.Other found generation) = Unit {0}
 IsByBytes (slot.Ours checkpoint) = Unit {0}
 
--- what a fault of a look says of the count of loads that failed
-abbrev pub FaultCause : ℕ → ℕ → LookFault → Type 0
-FaultCause before now look.Failed = Rose before now
+-- what a fault of a look says of the counts of loads that failed
+abbrev pub FaultCause : LoadFaults → LoadFaults → LookFault → Type 0
+FaultCause before now look.Failed = Rose before.all now.all × (now.taken ≡ before.taken)
+FaultCause before now look.Taken = Rose before.all now.all × Rose before.taken now.taken
 FaultCause before now look.Memory = now ≡ before
 
-abbrev pub LookCause : {T : Type 0} → ℕ → ℕ → Result T LookFault → Type 0
+abbrev pub LookCause : {T : Type 0} → LoadFaults → LoadFaults → Result T LookFault → Type 0
 LookCause before now (Ok slots) = now ≡ before
 LookCause before now (Err fault) = FaultCause before now fault
 
--- the look failed only where the count rose, and any other answer leaves the count
-pub record HasLookCause {T : Type 0} (before now : ℕ) (result : Result T LookFault) : Type 0 where
-  pub counts : Counts before now
+-- the look failed only where the count rose, and since another process holds the slots where it answers so; any other answer leaves both counts
+pub record HasLookCause {T : Type 0} (before now : LoadFaults) (result : Result T LookFault) : Type 0 where
+  pub counts : Counts before.all now.all
+  pub takings : Counts before.taken now.taken
   pub cause : LookCause before now result
 
 -- what a slot is that was not loaded
 abbrev pub unloaded : LoadError → Result Slot LookFault
 unloaded load.Failed = Err look.Failed
+unloaded load.Taken = Err look.Taken
 unloaded (load.Long limit) = Ok (slot.Broken (TooLong limit))
 unloaded load.Memory = Err look.Memory

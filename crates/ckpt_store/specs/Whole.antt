@@ -33,7 +33,8 @@ pub record IsUntouched (before after : Kept) : Type 0 where
 -- what an answer that tells nothing says of the keeper
 abbrev pub IsUnsaved : Kept → Kept → Ungathered → Type 0
 IsUnsaved before after ungathered.Memory = IsUntouched before after
-IsUnsaved before after ungathered.Unread = IsUntouched before after × Rose before.load_faults after.load_faults
+IsUnsaved before after ungathered.Unread = IsUntouched before after × Rose before.load_faults.all after.load_faults.all
+IsUnsaved before after ungathered.Taken = IsUntouched before after × Rose before.load_faults.all after.load_faults.all × Rose before.load_faults.taken after.load_faults.taken
 IsUnsaved before after ungathered.Unsaved = Rose before.save_faults after.save_faults
 
 abbrev pub IsSavedIf : Bool → List ℕ → ℕ × ℕ → List Outcome → Kept → Kept → Type 0

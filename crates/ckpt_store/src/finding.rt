@@ -104,7 +104,7 @@ pub fn find_in<F: Keeper>(
             let given = given_by(job, digest, slots);
             Ok(find(gathering, job, &given, beside))
         }
-        Err(LookFault::Failed) => Ok(Finding::Unread),
+        Err(LookFault::Failed | LookFault::Taken) => Ok(Finding::Unread),
         Err(LookFault::Memory) => Err(Memory),
     }
 }

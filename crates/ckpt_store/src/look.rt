@@ -25,6 +25,8 @@ const LIMIT: u64 = 8_000_084;
 pub enum LookFault {
     /// The keeper failed.
     Failed,
+    /// It failed, since another process holds the slots.
+    Taken,
     /// There was no memory for a slot's bytes or its outcomes.
     Memory,
 }
@@ -43,6 +45,7 @@ impl From<Memory> for LookFault {
 /// # Errors
 ///
 /// - `Failed`: a load of the keeper failed.
+/// - `Taken`: it failed, since another process holds the slots.
 /// - `Memory`: there was no memory for a slot's bytes or for the outcomes of its checkpoint.
 pub fn look<C: Keeper>(
     alloc: Global,
@@ -114,6 +117,7 @@ fn unloaded(error: LoadError) -> Result<Slot, LookFault>
 {
     match error {
         LoadError::Failed => Err(LookFault::Failed),
+        LoadError::Taken => Err(LookFault::Taken),
         LoadError::Long(limit) => Ok(Slot::Broken(CkptFault::TooLong(limit))),
         LoadError::Memory => Err(LookFault::Memory),
     }

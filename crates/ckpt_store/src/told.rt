@@ -26,6 +26,8 @@ pub enum Ungathered {
     Memory,
     /// A slot of the working folder could not be loaded; no save was tried.
     Unread,
+    /// It could not, since another process holds the folder; no save was tried.
+    Taken,
     /// The save failed, and its slot may hold anything.
     Unsaved,
 }

@@ -39,6 +39,7 @@ struct Begun {
 ///
 /// - `Memory`: there was no memory; no save was tried.
 /// - `Unread`: a slot of the working folder could not be loaded; no save was tried.
+/// - `Taken`: it could not, since another process holds the folder; no save was tried.
 /// - `Unsaved`: the save failed.
 pub fn gather<C: Keeper, F: Keeper>(
     alloc: Global,
@@ -128,6 +129,7 @@ fn begin<C: Keeper>(
             Err(_) => Err(Ungathered::Memory),
         },
         Err(LookFault::Failed) => Err(Ungathered::Unread),
+        Err(LookFault::Taken) => Err(Ungathered::Taken),
         Err(LookFault::Memory) => Err(Ungathered::Memory),
     }
 }

@@ -10,7 +10,7 @@ use Rattle.audit_model.specs.declared.fault.WordFault.{WordFault}
 use Rattle.audit_model.specs.declared.fault.WordFault.TheVariants as word
 use Rattle.report.specs.declared.ended.Ended.{Ended}
 use Rattle.report.specs.declared.ended.Ended.TheVariants as ended
-use Rattle.audit_statement.specs.Note.{Ending, bad_words, too_many_bytes, bad_graph, bad_regions, bad_table, bad_plan, bad_plan_named, no_memory, read_fault, write_fault, load_fault, stopped, damaged, other_job, save_fault}
+use Rattle.audit_statement.specs.Note.{Ending, bad_words, too_many_bytes, bad_graph, bad_regions, bad_table, bad_plan, bad_plan_named, no_memory, read_fault, write_fault, load_fault, folder_taken, stopped, damaged, other_job, save_fault}
 use Rattle.audit_model.specs.declared.setting.Columns.{Columns}
 use Rattle.ckpt_store.specs.View.{slot_view}
 use Rattle.audit_statement.specs.Accepted.{no_columns}
@@ -46,6 +46,7 @@ ending_of ended.NoMemory = Some no_memory
 ending_of ended.ReadFault = Some read_fault
 ending_of ended.WriteFault = Some write_fault
 ending_of ended.LoadFault = Some load_fault
+ending_of ended.FolderTaken = Some folder_taken
 ending_of (ended.Stopped done total) = Some (stopped done total)
 ending_of (ended.Damaged slots) = Some (damaged (slot_view slots.zero) (slot_view slots.one))
 ending_of (ended.OtherJob found wanted) = Some (other_job found wanted)
@@ -65,6 +66,7 @@ columns_kept ended.NoMemory = no_columns
 columns_kept ended.ReadFault = no_columns
 columns_kept ended.WriteFault = no_columns
 columns_kept ended.LoadFault = no_columns
+columns_kept ended.FolderTaken = no_columns
 columns_kept (ended.Stopped done total) = no_columns
 columns_kept (ended.Damaged slots) = no_columns
 columns_kept (ended.OtherJob found wanted) = no_columns

@@ -24,6 +24,8 @@ pub enum Ended {
     ReadFault,
     WriteFault,
     LoadFault,
+    /// Another process holds the folder of the slots.
+    FolderTaken,
     /// So many of all trajectories are done, and the rest is left to another run.
     Stopped { done: u32, total: u32 },
     /// No slot is intact, and one is not absent.

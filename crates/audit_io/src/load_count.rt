@@ -1,0 +1,50 @@
+//! How often loads have failed.
+
+ghost use Rattle.std.specs.Prelude.{◌≡◌};
+ghost use Rattle.audit_io.specs.Loads.{HasLoadCause};
+
+use crate::keeper::LoadError;
+use std::marker::Model;
+
+/// How often a load has failed, and how often of these since another process holds the slots.
+#[derive(Drop)]
+pub struct LoadCount {
+    failed: u64,
+    refused: u64,
+}
+
+impl Model for LoadCount {
+    ghost use Rattle.audit_model.specs.State.{LoadFaults};
+
+    ghost Value = { LoadFaults };
+
+    ghost view = { λ c. record { all = c.failed; taken = c.refused } };
+}
+
+impl LoadCount {
+    /// None has failed.
+    pub fn new() -> LoadCount
+        ensures { result ≡ record { all = 0; taken = 0 } }
+    {
+        LoadCount {
+            failed: 0,
+            refused: 0,
+        }
+    }
+
+    /// Counts what a load answered, and hands it on.
+    pub fn count(&mut self, loaded: Result<bool, LoadError>) -> Result<bool, LoadError>
+        ensures counted { HasLoadCause self.old self.new loaded }
+        ensures same { result ≡ loaded }
+    {
+        match loaded {
+            Err(LoadError::Failed) => self.failed = self.failed.saturating_add(1),
+            Err(LoadError::Taken) => {
+                self.failed = self.failed.saturating_add(1);
+                self.refused = self.refused.saturating_add(1);
+            }
+            Err(LoadError::Long(_)) | Err(LoadError::Memory) | Ok(_) => {}
+        }
+        loaded
+    }
+}
