@@ -2,6 +2,7 @@
 
 use crate::flips::show_proposals;
 use crate::jobs::{grid_job, other_job, plain_job, strict_job};
+use crate::saves::show_saves;
 use crate::shown::{Shown, show_job};
 use case_lines::{
     show_book, show_checkpoint, show_leaving, show_machine, show_outside, show_rings, show_texts,
@@ -32,6 +33,7 @@ fn show_ring(rt: &HostRuntime) -> io::Result<()> {
 /// Makes each call, and shows what it answers.
 pub fn show_calls(rt: &HostRuntime) -> io::Result<()> {
     show_outside(rt)?;
+    show_saves(rt)?;
     show_checkpoint(rt)?;
     show_book(rt)?;
     show_machine(rt)?;

@@ -8,6 +8,8 @@
 mod calls;
 mod flips;
 mod jobs;
+mod noted;
+mod saves;
 mod searches;
 mod shown;
 

@@ -1,0 +1,38 @@
+//! In which order a save writes and stores.
+
+ghost use Rattle.std.specs.Prelude.{◌<◌};
+
+use crate::noted::NotedFiles;
+use audit_io::slot_files::{Known, save_slot};
+use std::{fs, io};
+
+// Saves in a slot, each call of which is told.
+fn show_save(rt: &HostRuntime, slot: u8, known: &mut Known) -> io::Result<()>
+    requires { slot < 2 }
+{
+    println!(rt; "save in slot {slot}")?;
+    save_slot(&NotedFiles { rt }, slot, b"checkpoint", known)
+}
+
+// Saves in these slots in turn, as a process that has saved nothing yet.
+fn show_process(rt: &HostRuntime, first: u8, second: u8, third: u8) -> io::Result<()>
+    requires first { first < 2 }
+    requires second { second < 2 }
+    requires third { third < 2 }
+{
+    rt.println("a process")?;
+    let mut known = Known::new();
+    show_save(rt, first, &mut known)?;
+    show_save(rt, second, &mut known)?;
+    show_save(rt, third, &mut known)
+}
+
+/// Shows in which order saves write and store: in a folder without slots, in one with both, and in one where the first has gone.
+pub fn show_saves(rt: &HostRuntime) -> io::Result<()> {
+    fs::remove_file(rt, "audit-0.ckpt")?;
+    fs::remove_file(rt, "audit-1.ckpt")?;
+    show_process(rt, 0, 1, 0)?;
+    show_process(rt, 1, 0, 1)?;
+    fs::remove_file(rt, "audit-0.ckpt")?;
+    show_process(rt, 0, 1, 0)
+}
