@@ -9,6 +9,7 @@ use Rattle.audit_model.specs.contracts.outcome.Outcome as Outcome
 use Rattle.claim_counter.specs.contracts.pass.Pass as Pass
 use Rattle.flip_guard.specs.declared.judge.Judge.{Ghosts}
 use Rattle.walker.proofs.Crossing.{walker_send}
+use Rattle.claim_counter.specs.contracts.gated.GatedWalker as GatedWalker
 use Rattle.claim_counter.specs.contracts.worker.Worker as Worker
 
 -- an outcome may cross threads
@@ -27,7 +28,11 @@ pass_send = search (seat_send, crosses, sendable) depth 20
 share_field_send : IsSend (RoomyList.the_field Outcome.the_row).row
 share_field_send = search (share_send, crosses, sendable) depth 20
 
+-- a walker that walks what the gate was told of may, where its judge may
+gated_send : (J : RattleType) (g : Ghosts J.Denot) → IsSend J → IsSend (GatedWalker.the_field J g).row
+gated_send J g judge = let a = walker_send J g judge in search (crosses, sendable) depth 20
+
 -- so a worker may, where its judge may
 pub worker_send : (J : RattleType) (g : Ghosts J.Denot) → IsSend J → IsSend (Worker.the_row J g)
 worker_send J g judge =
-    recorded_send (Worker.the_field J g).row _ _ (Worker.the_type J g).to_one (struct_send (shape (Worker.the_type J g)) (walker_send J g judge, (pass_send, (share_field_send, tt))))
+    recorded_send (Worker.the_field J g).row _ _ (Worker.the_type J g).to_one (struct_send (shape (Worker.the_type J g)) (gated_send J g judge, (pass_send, (share_field_send, tt))))

@@ -1,5 +1,5 @@
 -- What clauses say of the workers of a run in parts.
-use Rattle.std.specs.Prelude.{◌≡◌, ℕ, ◌+◌, ◌-◌, ◌<◌, ◌≤◌, Bool, List, [], length, vec_capacity, vec_len, Vec}
+use Rattle.std.specs.Prelude.{◌≡◌, ℕ, ◌+◌, ◌-◌, ◌<◌, ◌≤◌, Bool, List, [], length, replicate, vec_capacity, vec_len, Vec}
 use Rattle.std.specs.List.{All}
 use Rattle.audit_model.specs.Job.{Job}
 use Rattle.audit_model.specs.Run.{total}
@@ -72,3 +72,7 @@ module _ {J : Type 0} where
     pub hands_room : seats ≤ vec_capacity t.hands
     pub room : seats ≤ vec_capacity t.workers
     pub hub : length t.hub ≡ job.graph.units
+
+  -- no hub was walked yet
+  abbrev pub HasNoHub : Job → Team J → Type 0
+  HasNoHub job t = t.hub ≡ replicate job.graph.units 0

@@ -1,7 +1,7 @@
 //! All workers of a run.
 
 ghost use Rattle.std.specs.Prelude.{◌≤◌, IfOk, vec_len};
-ghost use Rattle.claim_counter.specs.Crews.{IsCrew};
+ghost use Rattle.claim_counter.specs.Crews.{HasWalkedNothing, IsCrew};
 ghost use Rattle.walker.specs.Judges.{AreJudges};
 ghost use Rattle.audit_model.specs.Limits.{most_trajectories, most_workers};
 
@@ -19,7 +19,7 @@ pub struct Crew<J: Judge> {
 }
 
 /// A worker for each judge, who will walk `count` trajectories of the job together. The only error is want of memory, and walking takes no
-/// more of it.
+/// more of it. The hub was not walked yet.
 pub fn recruit<J: Judge>(
     alloc: Global,
     job: &Job,
@@ -29,7 +29,8 @@ pub fn recruit<J: Judge>(
     requires count { count ≤ most_trajectories }
     requires workers { (1 ≤ vec_len judges) × (vec_len judges ≤ most_workers) }
     requires judges { AreJudges job.now J.judging judges.items }
-    ensures { IfOk result (IsCrew job.now count (vec_len judges)) }
+    ensures crew { IfOk result (IsCrew job.now count (vec_len judges)) }
+    ensures no_hub { IfOk result (HasWalkedNothing job.now) }
 {
     let part = Part::new(alloc, count, judges.len() as u32)?;
     let team = muster(alloc, job, judges)?;

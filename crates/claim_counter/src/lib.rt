@@ -4,6 +4,7 @@
 
 mod claims;
 pub mod crew;
+pub mod gated;
 pub mod laws;
 pub mod parts;
 mod pass;
@@ -17,6 +18,7 @@ pub mod worker;
 
 pub use claims::{Claims, Closed};
 pub use crew::{Crew, recruit};
+pub use gated::{GatedWalker, Told};
 pub use laws::{
     count_is_bounded, end_keeps, join_keeps, number_keeps, sole_has_all, split_keeps,
     start_is_counted,

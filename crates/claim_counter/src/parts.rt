@@ -9,11 +9,12 @@ ghost use Rattle.audit_statement.specs.Draw.{draw};
 ghost use Rattle.outcome_book.specs.Booked.{IsShareFor};
 ghost use Rattle.flip_kernel.specs.Judged.{IsJudgeFor};
 ghost use Rattle.walker.specs.Judges.{AreJudges};
-ghost use Rattle.claim_counter.specs.Parts.{AreBack, AreResting, HasPlace, IsBack, IsFreshPart, IsHand, IsLent, IsTeam, MayRest};
+ghost use Rattle.claim_counter.specs.Parts.{AreBack, AreResting, HasNoHub, HasPlace, IsBack, IsFreshPart, IsHand, IsLent, IsTeam, MayRest};
 ghost use Rattle.claim_counter.specs.Workers.{IsShared};
 ghost use Rattle.claim_counter.specs.Walks.{found, found_at, LacksIds, ServesEnds};
 ghost use Rattle.audit_model.specs.Limits.{most_trajectories, most_workers};
 
+use crate::gated::GatedWalker;
 use crate::runtime::Runtime;
 use crate::worker::Worker;
 use crate::{Claims, Pass};
@@ -28,7 +29,6 @@ use plan_core::job::Job;
 use std::alloc::Global;
 use std::thread;
 use std::thread::Threads;
-use walker::walker::Walker;
 
 /// What one part is walked with: a counter of its places, and the pass that has all seats of it.
 #[derive(Drop)]
@@ -52,7 +52,7 @@ impl Part {
 /// A worker between two parts: a walker, and an empty share with room for the outcomes of all trajectories.
 #[derive(Drop)]
 pub struct Hand<J: Judge> {
-    pub(crate) walker: Walker<J>,
+    pub(crate) walker: GatedWalker<J>,
     pub(crate) share: OutcomeList,
 }
 
@@ -69,7 +69,7 @@ fn make_hand<J: Judge>(alloc: Global, job: &Job, judge: J) -> Result<Hand<J>, Me
     requires judge { IsJudgeFor job.now (J.judging judge) }
     ensures { IfOk result (IsHand job.now) }
 {
-    let walker = Walker::new(alloc, job, judge)?;
+    let walker = GatedWalker::new(alloc, job, judge)?;
     let share = OutcomeList::with_room(alloc, job.total() as usize)?;
     Ok(Hand { walker, share })
 }
@@ -92,11 +92,12 @@ fn make_hands<J: Judge>(
     Ok(hands)
 }
 
-/// A worker for each judge. The only error is want of memory, and walking takes no more of it.
+/// A worker for each judge, and no hub yet. The only error is want of memory, and walking takes no more of it.
 pub fn muster<J: Judge>(alloc: Global, job: &Job, judges: Vec<J>) -> Result<Team<J>, Memory>
     requires workers { 1 ≤ vec_len judges }
     requires judges { AreJudges job.now J.judging judges.items }
-    ensures { IfOk result (IsTeam job.now (vec_len judges)) }
+    ensures team { IfOk result (IsTeam job.now (vec_len judges)) }
+    ensures no_hub { IfOk result (HasNoHub job.now) }
 {
     let workers = Vec::with_capacity(alloc, judges.len())?;
     let hands = make_hands(alloc, job, judges)?;
@@ -180,7 +181,12 @@ fn run_all<R: Threads + Sync, J: Judge + Send, G: Gate + Sync>(
 }
 
 // The worker has no pass any more, and its share is empty again.
-fn rest<J: Judge>(job: &Job, walker: Walker<J>, mut share: OutcomeList, hands: &mut Vec<Hand<J>>)
+fn rest<J: Judge>(
+    job: &Job,
+    walker: GatedWalker<J>,
+    mut share: OutcomeList,
+    hands: &mut Vec<Hand<J>>,
+)
     requires hand { MayRest job.now walker share }
     requires hands { HasPlace job.now hands.old }
     ensures hands { All (IsHand job.now) hands.new.items }

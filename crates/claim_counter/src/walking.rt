@@ -21,7 +21,8 @@ use std::thread::Threads;
 
 /// Whether one of the ids is not below the bound.
 pub fn has_above(ids: &[u32], bound: u32) -> bool
-    ensures { IsFalse result → All (λ id. id < bound) ids.now }
+    ensures none { IsFalse result → All (λ id. id < bound) ids.now }
+    ensures some { All (λ id. id < bound) ids.now → IsFalse result }
 {
     for id in ids {
         if *id >= bound {
@@ -31,11 +32,12 @@ pub fn has_above(ids: &[u32], bound: u32) -> bool
     false
 }
 
-// Walks to the hub, where one of the trajectories starts from it.
+// Walks to the hub exactly where one of the trajectories starts from it.
 fn walk_hub<J: Judge>(job: &Job, todo: &[u32], team: &mut Team<J>)
     requires team { IsTeam job.now (vec_len team.old.hands) team.old }
     ensures team { IsTeam job.now (vec_len team.old.hands) team.new }
     ensures hub { ServesEnds job.now todo.now team.new.hub }
+    ensures unneeded { All (λ id. id < job.now.setting.walks) todo.now → team.new.hub ≡ team.old.hub }
 {
     if has_above(todo, job.setting().walks) {
         find_hub(job, team);

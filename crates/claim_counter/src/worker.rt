@@ -1,17 +1,17 @@
 //! One thread's part of a run.
 
+use crate::gated::{GatedWalker, Told};
 use crate::{Claims, Pass};
 use audit_io::gate::Gate;
 use audit_model::buffers::OutcomeList;
 use audit_model::outcome::Outcome;
 use flip_guard::judge::Judge;
 use plan_core::job::Job;
-use walker::walker::Walker;
 
 /// A walker, a pass, and room for the outcomes of all numbers that the pass may draw.
 #[derive(Drop)]
 pub struct Worker<J: Judge> {
-    pub walker: Walker<J>,
+    pub walker: GatedWalker<J>,
     pub pass: Pass,
     pub share: OutcomeList,
 }
@@ -31,8 +31,8 @@ impl<J: Judge> Worker<J> {
         let share = &mut self.share;
         while let Some(place) = claims.claim(pass) {
             let id = todo[place as usize];
-            gate.before(id);
-            append(share, walker.walk(job, hub, id));
+            let told = Told::tell(gate, id);
+            append(share, walker.walk(job, hub, told));
         }
     }
 }

@@ -9,7 +9,7 @@ use Rattle.audit_statement.specs.Draw.{draw}
 use Rattle.outcome_book.specs.Booked.{Booked}
 use Rattle.claim_counter.specs.declared.parts.Team.{Team}
 use Rattle.claim_counter.specs.declared.parts.Part.{Part}
-use Rattle.claim_counter.specs.Parts.{IsFreshPart, IsTeam}
+use Rattle.claim_counter.specs.Parts.{HasNoHub, IsFreshPart, IsTeam}
 use Rattle.sequential_test.specs.declared.crew.StoppingCrew.{StoppingCrew}
 use Rattle.sequential_test.specs.Rounds.{ends_after, found_below}
 
@@ -26,6 +26,10 @@ module _ {J : Type 0} where
     pub walks : IsFreshPart job.setting.walks c.seats c.walks
     pub rounds : AreRounds job.setting.ends c.seats 0 c.rounds.items
     pub all : ends_after job.setting.ends (vec_len c.rounds) ≡ job.setting.ends
+
+  -- they have walked nothing, not even to the hub
+  abbrev pub HasWalkedNothing : Job → StoppingCrew J → Type 0
+  HasWalkedNothing job c = HasNoHub job c.team
 
   -- the trajectories with the first ids were walked, and the workers are ready for more, with the hub and with room for all outcomes
   pub record HasWalkedTo (job : Job) (seats count : ℕ) (t : Team J) (b : Booked) (sorted : RoomyOutcomes) : Type 0 where

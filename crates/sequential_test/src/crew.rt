@@ -1,7 +1,7 @@
 //! All that walking takes, made before the first walk.
 
 ghost use Rattle.std.specs.Prelude.{◌≡◌, ◌+◌, ◌*◌, ◌≤◌, min, IfOk, vec_len};
-ghost use Rattle.sequential_test.specs.Crews.{AreRounds, IsStoppingCrew};
+ghost use Rattle.sequential_test.specs.Crews.{AreRounds, HasWalkedNothing, IsStoppingCrew};
 ghost use Rattle.sequential_test.specs.Rounds.{ends_after};
 ghost use Rattle.walker.specs.Judges.{AreJudges};
 ghost use Rattle.audit_model.specs.Limits.{most_trajectories, most_workers};
@@ -51,6 +51,7 @@ fn make_rounds(alloc: Global, ends: u32, seats: u32) -> Result<Vec<Part>, Memory
 }
 
 /// A worker for each judge, and all that they need for any number of rounds. The only error is want of memory, and walking takes no more of it.
+/// The hub was not walked yet.
 pub fn recruit<J: Judge>(
     alloc: Global,
     job: &Job,
@@ -58,7 +59,8 @@ pub fn recruit<J: Judge>(
 ) -> Result<StoppingCrew<J>, Memory>
     requires workers { (1 ≤ vec_len judges) × (vec_len judges ≤ most_workers) }
     requires judges { AreJudges job.now J.judging judges.items }
-    ensures { IfOk result (IsStoppingCrew job.now (vec_len judges)) }
+    ensures crew { IfOk result (IsStoppingCrew job.now (vec_len judges)) }
+    ensures no_hub { IfOk result (HasWalkedNothing job.now) }
 {
     // Called for what its contract says: the job is within its limits, and its start plan is legal.
     let _units = job.units();

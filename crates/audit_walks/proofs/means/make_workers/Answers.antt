@@ -22,7 +22,7 @@ recruit-requires-2-clause-count g c = omega (arith, c.len.ensures, few_run_todo 
 pub returns-then-setting-gt0 : goal.returns-then-setting-gt0
 returns-then-setting-gt0 g c =
     let early : 1 ≤ c.args.job.now.setting.stop = omega (arith, c.if-setting-gt0.true, ap (λ (s : Setting). s.stop) c.setting.ensures) in
-    record { early = early; crew = rw c.requires.workers at c.in_ok-crew.ensures }
+    record { early = early; crew = rw c.requires.workers at c.in_ok-crew.ensures.crew }
 
 pub returns : goal.returns
-returns g c = record { plain = omega (arith, c.if-setting-gt0.false, ap (λ (s : Setting). s.stop) c.setting.ensures); crew = rw (c.requires.workers, c.len.ensures) at c.in_ok-crew-2.ensures }
+returns g c = record { plain = omega (arith, c.if-setting-gt0.false, ap (λ (s : Setting). s.stop) c.setting.ensures); crew = rw (c.requires.workers, c.len.ensures) at c.in_ok-crew-2.ensures.crew }

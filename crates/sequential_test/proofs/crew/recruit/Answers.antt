@@ -5,10 +5,10 @@ use Rattle.sequential_test.specs.Crews.{AreRounds}
 use Rattle.sequential_test.specs.Rounds.{ends_after}
 use Rattle.sequential_test.proofs.crew.recruit.Goals as goal
 
-pub returns : goal.returns
-returns g c = record {
+pub returns-clause-crew : goal.returns-clause-crew
+returns-clause-crew g c = record {
   workers_are = c.len-seats.ensures;
-  team = subst (λ (n : ℕ). IsTeam c.args.job.now n c.in_ok-team.team) (sym c.len-seats.ensures) c.in_ok-team.ensures;
+  team = subst (λ (n : ℕ). IsTeam c.args.job.now n c.in_ok-team.team) (sym c.len-seats.ensures) c.in_ok-team.ensures.team;
   walks = subst (λ (s : Setting). IsFreshPart s.walks c.len-seats.result c.in_ok-walks.walks) c.setting.ensures c.in_ok-walks.ensures;
   rounds = subst (λ (s : Setting). AreRounds s.ends c.len-seats.result 0 c.in_ok-rounds.rounds.items) c.setting-2.ensures c.in_ok-rounds.ensures.rounds;
   all = subst (λ (s : Setting). ends_after s.ends (vec_len c.in_ok-rounds.rounds) ≡ s.ends) c.setting-2.ensures c.in_ok-rounds.ensures.all;

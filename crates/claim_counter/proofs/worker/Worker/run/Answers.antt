@@ -1,4 +1,6 @@
 use Rattle.std.proofs.Common.{◌∙◌, ap, [], ◌∷◌, length, length-append, arith}
+use Rattle.audit_model.specs.Trajectory.{outcome}
+use Rattle.audit_statement.specs.Draw.{draw}
 use Rattle.claim_counter.specs.declared.record.PassRecord.{PassRecord}
 use Rattle.claim_counter.specs.Passes.{own}
 use Rattle.claim_counter.proofs.Sharing.{shared_more}
@@ -18,7 +20,7 @@ loop-place-preserved g c =
         weight = ap (λ (p : PassRecord). p.weight) drawn ∙ was.weight;
         spare = ap (λ (p : PassRecord). p.spare) drawn ∙ was.spare;
         shared = shared_more c.args.job.now c.args.todo.now (own c.loop-place.pass).claims _ c.in-Some.place c.loop-place.share.items _ c.walk.result
-            was.shared (ap (λ (p : PassRecord). p.claims) drawn) items c.walk.ensures.outcome;
+            was.shared (ap (λ (p : PassRecord). p.claims) drawn) items (c.walk.ensures.outcome ∙ ap (outcome c.args.job.now (draw c.args.job.now.setting.key)) c.tell-told.ensures);
         room = omega (arith, was.room, c.append.ensures.spare, ap length items, length-append c.loop-place.share.items (c.walk.result ∷ []));
       };
       kept_room = omega (arith, kept, c.append.ensures.spare, ap length items, length-append c.loop-place.share.items (c.walk.result ∷ []));
