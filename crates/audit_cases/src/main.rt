@@ -2,23 +2,35 @@
 //! each line of `faults`, with what they answer. The crate `case_lines` says what a line has, and what is printed for it.
 //!
 //! After them public calls that no command of the auditor makes, calls whose answer no contract says, and the auditor's outside over real files:
-//! each call is made once, and what it answers is printed. At last walks of which it is shown how many steps searched.
+//! each call is made once, and what it answers is printed. Then walks of which it is shown how many steps searched, counters that passes draw
+//! from in turn and in threads, and tests that stop early. At last audits at gates of other kinds: one for each line of the files `crowds` and
+//! `counted`.
 #![tactic(auto)]
 
 mod calls;
+mod claims;
 mod flips;
+mod gated;
 mod jobs;
 mod noted;
 mod saves;
 mod searches;
+mod settling;
 mod shown;
 
 use crate::calls::show_calls;
+use crate::claims::{draw_all, show_claims};
+use crate::gated::run_gated;
+use crate::settling::show_ends;
+use audit_io::mem_keeper::MemKeeper;
 use audit_io::stop_keeper::StopKeeper;
 use audit_io::sure_keeper::SureKeeper;
 use audit_run::Runtime;
 use audit_run::audit::audit;
 use audit_run::sure::audit_surely;
+use case_lines::counted::{CountedKeeper, CountingGate};
+use case_lines::crowd::CrowdGate;
+use case_lines::gated::{Gated, run_counts, run_crowds};
 use case_lines::lines::{Kind, run_file};
 use case_lines::runs::{Case, SureCase};
 use case_lines::sure;
@@ -72,5 +84,13 @@ fn main(rt: HostRuntime) -> Result<(), Fail> {
     run_file(&rt, &whole, Kind::Faults, "faults")?;
     sure::run_file(&rt, &surely, "sure")?;
     show_calls(&rt)?;
+    show_claims(&rt, &|seats: u32| draw_all(&rt, rt.alloc(), seats))?;
+    show_ends(&rt)?;
+    let held = |case: &mut Gated<CrowdGate>, keeper: MemKeeper| run_gated(&rt, case, keeper);
+    let counted = |case: &mut Gated<CountingGate>, keeper: CountedKeeper<MemKeeper>| {
+        run_gated(&rt, case, keeper)
+    };
+    run_crowds(&rt, &held, "crowds")?;
+    run_counts(&rt, &counted, "counted")?;
     Ok(())
 }

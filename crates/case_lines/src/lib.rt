@@ -13,8 +13,11 @@
 
 pub mod books;
 pub mod checkpoints;
+pub mod counted;
+pub mod crowd;
 mod faults;
 pub mod gate;
+pub mod gated;
 mod given;
 mod graphs;
 mod held;

@@ -11,8 +11,6 @@ mod pass;
 mod record;
 mod rule;
 pub mod runtime;
-#[cfg(test)]
-mod tests;
 pub mod walking;
 pub mod worker;
 

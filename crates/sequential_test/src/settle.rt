@@ -170,6 +170,3 @@ fn settle_values(
         of: known + 1,
     })
 }
-
-#[cfg(test)]
-mod tests;

@@ -1,6 +1,6 @@
 use Rattle.std.proofs.Common.{◌≡◌, false, ◌-◌, length}
 use Rattle.claim_counter.specs.Passes.{own, size_of, BelongsTo}
-use Rattle.claim_counter.proofs.tests.Drawer.draw_all.Given as goal
+use Rattle.audit_cases.proofs.claims.Drawer.draw_all.Given as goal
 
 abbrev pub invariant-loop-number : goal.invariant-loop-number
 invariant-loop-number l = BelongsTo l.claims l.self.pass × ((own l.self.pass).ended ≡ false)

@@ -1,0 +1,180 @@
+//! Passes that draw numbers from a counter: in turn, and each in a thread of its own.
+
+ghost use Rattle.std.specs.Prelude.{◌≡◌, false, All, IfOk};
+ghost use Rattle.claim_counter.specs.Passes.{own, BelongsTo};
+
+use audit_model::memory::Memory;
+use claim_counter::{Claims, Pass};
+use std::alloc::Global;
+use std::thread::Threads;
+use std::{io, thread};
+
+/// How many numbers the threads draw.
+const LIMIT: u32 = 100_000;
+
+// Draws once more, where the pass has not ended.
+fn draw(claims: &Claims, pass: &mut Pass) -> Option<u32>
+    requires { BelongsTo claims.now pass.old }
+    ensures pass { BelongsTo claims.now pass.new }
+    ensures weight { (own pass.new).weight ≡ (own pass.old).weight }
+    ensures spare { (own pass.new).spare ≡ (own pass.old).spare }
+{
+    if pass.ended() {
+        None
+    } else {
+        claims.claim(pass)
+    }
+}
+
+// What three passes draw in turn, twice each, of three numbers; whether all have ended, and how many numbers were given out.
+fn draw_in_turn(alloc: Global) -> Result<([Option<u32>; 6], bool, u32), Memory> {
+    let (claims, mut first) = Claims::new(alloc, 3, 3)?;
+    let mut second = claims.split(&mut first);
+    let mut third = claims.split(&mut first);
+    let drawn = [
+        draw(&claims, &mut first),
+        draw(&claims, &mut second),
+        draw(&claims, &mut third),
+        draw(&claims, &mut first),
+        draw(&claims, &mut second),
+        draw(&claims, &mut third),
+    ];
+    let both = claims.join(first, second);
+    let all = claims.join(both, third);
+    let ended = all.ended() && all.spare() == 0;
+    Ok((drawn, ended, claims.close(all).drawn))
+}
+
+fn show_draw(rt: &HostRuntime, drawn: Option<u32>) -> io::Result<()> {
+    match drawn {
+        Some(number) => print!(rt; " {number}"),
+        None => rt.print(" none"),
+    }
+}
+
+fn show_draws(rt: &HostRuntime, drawn: &[Option<u32>], ended: bool, closed: u32) -> io::Result<()> {
+    rt.print("draws")?;
+    for draw in drawn {
+        show_draw(rt, *draw)?;
+    }
+    println!(rt; " ended {ended} drawn {closed}")
+}
+
+fn show_turns(rt: &HostRuntime) -> io::Result<()> {
+    match draw_in_turn(rt.alloc()) {
+        Ok((drawn, ended, closed)) => show_draws(rt, &drawn, ended, closed),
+        Err(_) => rt.println("memory"),
+    }
+}
+
+// A thread's pass, and how often it drew each number.
+#[derive(Drop)]
+struct Drawer {
+    pass: Pass,
+    times: Vec<u32>,
+}
+
+impl Drawer {
+    fn new(alloc: Global, pass: Pass) -> Result<Drawer, Memory>
+        ensures { IfOk result (λ d. d.pass ≡ pass) }
+    {
+        let mut times = Vec::new(alloc);
+        times.resize(LIMIT as usize, 0)?;
+        Ok(Drawer { pass, times })
+    }
+
+    fn draw_all(&mut self, claims: &Claims)
+        requires pass { BelongsTo claims.now self.old.pass }
+        requires before_end { (own self.old.pass).ended ≡ false }
+    {
+        while let Some(number) = claims.claim(&mut self.pass) {
+            count(self.times.as_mut_slice(), number as usize);
+        }
+    }
+}
+
+fn count(times: &mut [u32], number: usize) {
+    if let Some(times) = times.get_mut(number) {
+        *times = times.wrapping_add(1);
+    }
+}
+
+// A pass for each seat.
+fn recruit(alloc: Global, claims: &Claims, mut pass: Pass) -> Result<Vec<Drawer>, Memory>
+    requires pass { BelongsTo claims.now pass }
+    requires before_end { (own pass).ended ≡ false }
+    ensures { IfOk result (λ crew. All (λ d. BelongsTo claims.now d.pass × ((own d.pass).ended ≡ false)) crew.items) }
+{
+    let mut crew = Vec::new(alloc);
+    while pass.spare() > 0 {
+        crew.push(Drawer::new(alloc, claims.split(&mut pass))?)?;
+    }
+    crew.push(Drawer::new(alloc, pass)?)?;
+    Ok(crew)
+}
+
+// Each pass draws in a thread of its own, where one can be started.
+fn draw_each<R: Threads + Sync>(rt: &R, claims: &Claims, crew: &mut [Drawer])
+    requires { All (λ d. BelongsTo claims.now d.pass × ((own d.pass).ended ≡ false)) crew.old }
+{
+    let threads = crew.len().max(1);
+    thread::for_each_mut(
+        rt,
+        crew,
+        threads,
+        &|_, drawer: &mut Drawer|
+            requires { BelongsTo claims.now drawer.now.pass × ((own drawer.now.pass).ended ≡ false) }
+        { drawer.draw_all(claims) },
+    );
+}
+
+// How often the number was drawn by all together.
+fn times_of(crew: &[Drawer], number: usize) -> u32 {
+    let mut all = 0u32;
+    for drawer in crew.iter() {
+        if let Some(times) = drawer.times.get(number) {
+            all = all.wrapping_add(*times);
+        }
+    }
+    all
+}
+
+// How many of the numbers were drawn once by all together.
+fn drawn_once(crew: &[Drawer]) -> usize {
+    (0..LIMIT as usize)
+        .filter(|number| times_of(crew, *number) == 1)
+        .count()
+}
+
+/// How many passes there were of so many seats, and how many of the numbers they drew once.
+pub fn draw_all<R: Threads + Sync>(
+    rt: &R,
+    alloc: Global,
+    seats: u32,
+) -> Result<(usize, usize), Memory> {
+    let (claims, pass) = Claims::new(alloc, LIMIT, seats.max(1).min(33))?;
+    let mut crew = recruit(alloc, &claims, pass)?;
+    draw_each(rt, &claims, crew.as_mut_slice());
+    Ok((crew.len(), drawn_once(crew.as_slice())))
+}
+
+fn show_drawn(rt: &HostRuntime, drawn: Result<(usize, usize), Memory>) -> io::Result<()> {
+    match drawn {
+        Ok((passes, once)) => println!(rt; "passes {passes} once {once} of {LIMIT}"),
+        Err(_) => rt.println("memory"),
+    }
+}
+
+/// Shows what three passes draw in turn, and what passes draw in threads.
+pub fn show_claims<D: Fn(u32) -> Result<(usize, usize), Memory>>(
+    rt: &HostRuntime,
+    drawing: &D,
+) -> io::Result<()>
+    requires { D.IsAlwaysCallable drawing.now }
+{
+    show_turns(rt)?;
+    for seats in [1, 4, 32] {
+        show_drawn(rt, drawing(seats))?;
+    }
+    Ok(())
+}
