@@ -77,6 +77,17 @@ kept_maps() {
     same "$room/ny8.json" 0 run "${columns[@]}" --slack 1000 --key "$key" --walks 1 --steps 2047 --ends 9 --hub-steps 500 "${region[@]}" 4 \
         --shift yes --ask gap:high,cut-edges:low
     printed ny8.json
+    mkdir "$room/two" && cp nc.json ny8.json "$room/two"
+    local nc='--pop BIR74 --first NWBIR74 --second WBIR74 --numbers nearest --missing zero'
+    local ny8='--pop POP8 --first OWNING --second OTHERS --numbers nearest --missing zero --region COUNTY'
+    printf '%s\t%s\t1000\tPLAN%s\t%s\t%s\t%s\n' nc 2 2 - 0 "$nc" nc 11 11 - 0 "$nc" ny8 2 2 COUNTY 2 "$ny8" ny8 8 8 COUNTY 4 "$ny8" >"$room/two/plans"
+    drawn "$room/two" 12
+}
+
+# Drawn words on the maps of the folder $1, in $2 runs, end as by the plain model.
+drawn() {
+    python3 compare_maps.py "$auditor" "$1" "$2" >"$room/told" 2>&1
+    judge $? "compare_maps.py: $(head -n 1 "$room/told")"
 }
 
 # ---- the twelve maps
@@ -131,6 +142,7 @@ twelve_maps() {
     echo '| map | units | edges | districts | tolerance | moves of a thousand steps | milliseconds for a million steps |'
     echo '| --- | --- | --- | --- | --- | --- | --- |'
     while IFS=$'\t' read -r -a line <&3; do one_plan "${line[@]}"; done 3<"$maps/plans"
+    drawn "$maps" 48
 }
 
 # Downloads the packages and unpacks them; nothing is installed.

@@ -26,8 +26,16 @@ fn draw(claims: &Claims, pass: &mut Pass) -> Option<u32>
     }
 }
 
-// What three passes draw in turn, twice each, of three numbers; whether all have ended, and how many numbers were given out.
-fn draw_in_turn(alloc: Global) -> Result<([Option<u32>; 6], bool, u32), Memory> {
+// What passes drew in turn, whether all have ended, and how many numbers were given out.
+#[derive(Drop)]
+struct Turns {
+    drawn: [Option<u32>; 6],
+    ended: bool,
+    closed: u32,
+}
+
+// Three passes draw in turn, twice each, of three numbers.
+fn draw_in_turn(alloc: Global) -> Result<Turns, Memory> {
     let (claims, mut first) = Claims::new(alloc, 3, 3)?;
     let mut second = claims.split(&mut first);
     let mut third = claims.split(&mut first);
@@ -42,7 +50,12 @@ fn draw_in_turn(alloc: Global) -> Result<([Option<u32>; 6], bool, u32), Memory> 
     let both = claims.join(first, second);
     let all = claims.join(both, third);
     let ended = all.ended() && all.spare() == 0;
-    Ok((drawn, ended, claims.close(all).drawn))
+    let closed = claims.close(all).drawn;
+    Ok(Turns {
+        drawn,
+        ended,
+        closed,
+    })
 }
 
 fn show_draw(rt: &HostRuntime, drawn: Option<u32>) -> io::Result<()> {
@@ -52,17 +65,17 @@ fn show_draw(rt: &HostRuntime, drawn: Option<u32>) -> io::Result<()> {
     }
 }
 
-fn show_draws(rt: &HostRuntime, drawn: &[Option<u32>], ended: bool, closed: u32) -> io::Result<()> {
+fn show_draws(rt: &HostRuntime, turns: &Turns) -> io::Result<()> {
     rt.print("draws")?;
-    for draw in drawn {
+    for draw in turns.drawn.iter() {
         show_draw(rt, *draw)?;
     }
-    println!(rt; " ended {ended} drawn {closed}")
+    println!(rt; " ended {} drawn {}", turns.ended, turns.closed)
 }
 
 fn show_turns(rt: &HostRuntime) -> io::Result<()> {
     match draw_in_turn(rt.alloc()) {
-        Ok((drawn, ended, closed)) => show_draws(rt, &drawn, ended, closed),
+        Ok(turns) => show_draws(rt, &turns),
         Err(_) => rt.println("memory"),
     }
 }

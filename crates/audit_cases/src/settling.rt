@@ -10,24 +10,12 @@ ghost use Rattle.audit_model.specs.Limits.{IsSetting};
 use audit_model::fault::PlanFault;
 use audit_model::outcome::Outcome;
 use audit_model::setting::Setting;
-use case_lines::{Accepted, setting};
+use case_lines::setting_of_ends;
 use dual_json::read_graph;
 use plan_core::job::Job;
 use sequential_test::settle::settle;
 use std::alloc::Global;
 use std::{fs, io};
-
-// The setting of five ends, and no walks.
-fn with_five_ends(accepted: Accepted) -> Setting
-    ensures { IsSetting result }
-{
-    let setting = accepted.into_setting();
-    Setting {
-        walks: 0,
-        ends: 5,
-        ..setting
-    }
-}
 
 fn job_with(alloc: Global, text: &[u8], setting: Setting) -> Result<Job, PlanFault>
     requires { IsSetting setting }
@@ -39,8 +27,8 @@ fn job_with(alloc: Global, text: &[u8], setting: Setting) -> Result<Job, PlanFau
 }
 
 fn job_of(alloc: Global, text: &[u8]) -> Result<Job, PlanFault> {
-    match setting(alloc) {
-        Some(accepted) => job_with(alloc, text, with_five_ends(accepted)),
+    match setting_of_ends(alloc) {
+        Some(accepted) => job_with(alloc, text, accepted.into_setting()),
         None => Err(PlanFault::Memory),
     }
 }

@@ -45,5 +45,5 @@ pub use machine::show_machine;
 pub use outside::show_outside;
 pub use rings::show_rings;
 pub use runs::{Case, SureCase};
-pub use settings::{Accepted, column_of, setting};
+pub use settings::{Accepted, column_of, setting, setting_of_ends};
 pub use texts::show_texts;

@@ -49,9 +49,27 @@ fn faces_kept(alloc: Global) -> Result<usize, Memory> {
     kept(alloc, &graph, &listed)
 }
 
+// A unit with five others round it, but for one side: the four triangles are found though it has more than four neighbours.
+fn faces_of_fan(alloc: Global) -> Result<usize, Memory> {
+    let pairs = [
+        (0, 1),
+        (0, 2),
+        (0, 3),
+        (0, 4),
+        (0, 5),
+        (1, 2),
+        (2, 3),
+        (3, 4),
+        (4, 5),
+    ];
+    let graph = Graph::from_pairs(alloc, 6, &pairs)?;
+    found(alloc, &graph)
+}
+
 /// Shows how many faces the graphs have.
 pub fn show_rings(rt: &HostRuntime) -> io::Result<()> {
     let amid = faces_amid_three(rt.alloc()).unwrap_or(0);
     let kept = faces_kept(rt.alloc()).unwrap_or(0);
-    println!(rt; "faces {amid} {kept}")
+    let fan = faces_of_fan(rt.alloc()).unwrap_or(0);
+    println!(rt; "faces {amid} {kept} {fan}")
 }

@@ -11,6 +11,10 @@ use std::marker::Model;
 const WORDS: &str =
     "run --pop pop --first a --second b --district district --slack 5000 --key 0000000000000000000000000000000000000000000000000000000000000000 --ask gap:low";
 
+/// The words of a run of five ends, and no walks.
+const FIVE_ENDS: &str =
+    "run --pop pop --first a --second b --district district --slack 5000 --key 0000000000000000000000000000000000000000000000000000000000000000 --ask gap:low --walks 0 --ends 5";
+
 /// A setting within the limits.
 #[derive(Drop)]
 pub struct Accepted {
@@ -59,9 +63,9 @@ impl Accepted {
     }
 }
 
-fn words_of(alloc: Global) -> Result<Vec<String>, AllocError> {
+fn words_of(alloc: Global, text: &str) -> Result<Vec<String>, AllocError> {
     let mut words = Vec::new(alloc);
-    for word in WORDS.split_whitespace() {
+    for word in text.split_whitespace() {
         words.push(String::from_str(alloc, word)?)?;
     }
     Ok(words)
@@ -74,12 +78,21 @@ fn setting_of(alloc: Global, words: &[String]) -> Option<Accepted> {
     }
 }
 
-/// The setting of these words.
-pub fn setting(alloc: Global) -> Option<Accepted> {
-    match words_of(alloc) {
+fn read_setting(alloc: Global, text: &str) -> Option<Accepted> {
+    match words_of(alloc, text) {
         Ok(words) => setting_of(alloc, words.as_slice()),
         Err(_) => None,
     }
+}
+
+/// The setting of a run.
+pub fn setting(alloc: Global) -> Option<Accepted> {
+    read_setting(alloc, WORDS)
+}
+
+/// The setting of a run of five ends, and no walks.
+pub fn setting_of_ends(alloc: Global) -> Option<Accepted> {
+    read_setting(alloc, FIVE_ENDS)
 }
 
 /// The name of a column.

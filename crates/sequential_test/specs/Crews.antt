@@ -28,8 +28,8 @@ module _ {J : Type 0} where
     pub all : ends_after job.setting.ends (vec_len c.rounds) ≡ job.setting.ends
 
   -- they have walked nothing, not even to the hub
-  abbrev pub HasWalkedNothing : Job → StoppingCrew J → Type 0
-  HasWalkedNothing job c = HasNoHub job c.team
+  abbrev pub HasStartedNothing : Job → StoppingCrew J → Type 0
+  HasStartedNothing job c = HasNoHub job c.team
 
   -- the trajectories with the first ids were walked, and the workers are ready for more, with the hub and with room for all outcomes
   pub record HasWalkedTo (job : Job) (seats count : ℕ) (t : Team J) (b : Booked) (sorted : RoomyOutcomes) : Type 0 where

@@ -1,7 +1,7 @@
 //! All that walking takes, made before the first walk.
 
 ghost use Rattle.std.specs.Prelude.{◌≡◌, ◌+◌, ◌*◌, ◌≤◌, min, IfOk, vec_len};
-ghost use Rattle.sequential_test.specs.Crews.{AreRounds, HasWalkedNothing, IsStoppingCrew};
+ghost use Rattle.sequential_test.specs.Crews.{AreRounds, HasStartedNothing, IsStoppingCrew};
 ghost use Rattle.sequential_test.specs.Rounds.{ends_after};
 ghost use Rattle.walker.specs.Judges.{AreJudges};
 ghost use Rattle.audit_model.specs.Limits.{most_trajectories, most_workers};
@@ -60,7 +60,7 @@ pub fn recruit<J: Judge>(
     requires workers { (1 ≤ vec_len judges) × (vec_len judges ≤ most_workers) }
     requires judges { AreJudges job.now J.judging judges.items }
     ensures crew { IfOk result (IsStoppingCrew job.now (vec_len judges)) }
-    ensures no_hub { IfOk result (HasWalkedNothing job.now) }
+    ensures no_hub { IfOk result (HasStartedNothing job.now) }
 {
     // Called for what its contract says: the job is within its limits, and its start plan is legal.
     let _units = job.units();

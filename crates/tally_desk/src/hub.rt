@@ -4,13 +4,21 @@ ghost use Rattle.std.specs.Prelude.{◌≡◌, ◌<◌, ℕ, All, IsFalse, List,
 ghost use Rattle.tally_desk.specs.Crews.{IsWalker};
 ghost use Rattle.claim_counter.specs.Walks.{ServesEnds};
 
+use crate::desk::Desk;
+use audit_io::keeper::Keeper;
 use audit_model::lists::UnitList;
 use flip_guard::judge::Judge;
 use plan_core::job::Job;
 use walker::walker::Walker;
 
-/// Writes the hub, where it is needed.
-pub fn walk_hub<J: Judge>(job: &Job, needed: bool, walker: &mut Walker<J>, hub: &mut UnitList)
+/// Writes the hub, where it is needed. It is asked for beside a desk, so that it is walked only once all memory of the desk is taken.
+pub fn walk_hub<C: Keeper, J: Judge>(
+    _desk: &Desk<C>,
+    job: &Job,
+    needed: bool,
+    walker: &mut Walker<J>,
+    hub: &mut UnitList,
+)
     requires walks { IsWalker job.now walker.old }
     requires units { length hub.old ≡ job.now.graph.units }
     ensures walks { IsWalker job.now walker.new }

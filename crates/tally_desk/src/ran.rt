@@ -133,7 +133,7 @@ fn walk_over<R: Threads + Wait + Sync, C: Keeper + Send, J: Judge + Send, G: Gat
     let seats = crew.walkers.len() as u32;
     match Desk::new(rt.alloc, job, plan, todo, seats, book, keeper) {
         Ok((desk, pass)) => {
-            walk_hub(job, needed, &mut crew.walkers[0], &mut crew.hub);
+            walk_hub(&desk, job, needed, &mut crew.walkers[0], &mut crew.hub);
             Ok(work(rt, job, desk, pass, crew))
         }
         Err(refused) => Err(refused),
