@@ -1,10 +1,10 @@
 //! Proposals near the last draw, the draw that leads back, and walks whose searches are counted.
 
-ghost use Rattle.std.specs.Prelude.{◌≡◌, ◌<◌, ◌≤◌};
+ghost use Rattle.std.specs.Prelude.{◌≡◌, ◌<◌, ◌≤◌, []};
+ghost use Rattle.audit_model.specs.Job.{rules};
 ghost use Rattle.flip_kernel.specs.Judged.{IsJudgeFor};
 
 use crate::searches::show_walk;
-use audit_model::lists::UnitList;
 use audit_model::outcome::SumsView;
 use audit_model::rules::Rules;
 use flip_guard::guard::Guard;
@@ -13,7 +13,6 @@ use flip_kernel::flip::mirror;
 use flip_kernel::proposal::propose;
 use flip_kernel::state::State;
 use plan_core::job::Job;
-use std::alloc::Global;
 use std::io;
 use std::marker::Brand;
 use std::sync::ledger::Blank;
@@ -52,20 +51,27 @@ fn show_judged<J: Judge>(rt: &HostRuntime, job: &Job, judge: J) -> io::Result<()
     }
 }
 
-/// Shows flips of a job without regions.
-pub fn show_flips(rt: &HostRuntime, job: &Job) -> io::Result<()> {
-    if job.rules().regions.len() > 0 {
-        return rt.println("regions");
-    }
-    let max_cut = job.rules().max_cut;
-    let rules = Rules {
-        max_cut,
-        regions: UnitList::new(rt.alloc()),
-        max_split: job.rules().max_split,
-    };
+fn show_guarded(rt: &HostRuntime, job: &Job, of_job: Rules) -> io::Result<()>
+    requires same { of_job ≡ rules job.now }
+    requires no_regions { of_job.regions ≡ [] }
+    requires no_majority { of_job.group_districts ≡ 0 }
+{
+    let max_cut = of_job.max_cut;
     show_judged(
         rt,
         job,
-        Guard::new(move |sums: &SumsView| sums.cut <= max_cut, rules),
+        Guard::new(move |sums: &SumsView| sums.cut <= max_cut, of_job),
     )
+}
+
+/// Shows flips of a job without regions that asks for no majority.
+pub fn show_flips(rt: &HostRuntime, job: &Job) -> io::Result<()> {
+    let rules = job.rules();
+    if rules.regions.len() > 0 || rules.group_districts > 0 {
+        return rt.println("rules that no closure knows");
+    }
+    match rules.copy() {
+        Ok(rules) => show_guarded(rt, job, rules),
+        Err(_) => rt.println("memory"),
+    }
 }

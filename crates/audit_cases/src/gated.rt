@@ -2,6 +2,7 @@
 
 use audit_io::gate::Gate;
 use audit_io::keeper::Keeper;
+use audit_run::Runtime;
 use audit_run::audit::audit;
 use case_lines::gated::Gated;
 use std::sync::Wait;
@@ -13,14 +14,17 @@ pub fn run_gated<R: Threads + Wait + Sync + AllocGlobal, C: Keeper + Send, G: Ga
     case: &mut Gated<G>,
     keeper: C,
 ) -> (u8, C) {
+    let lent = Runtime {
+        threads: rt,
+        alloc: rt.alloc(),
+        gate: &case.gate,
+    };
     audit(
-        rt,
-        rt.alloc(),
+        &lent,
         case.words.as_slice(),
         &mut case.source,
         &mut case.out,
         &mut case.note,
         keeper,
-        &case.gate,
     )
 }

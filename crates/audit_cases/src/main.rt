@@ -43,15 +43,18 @@ fn run<R: Threads + Wait + Sync + AllocGlobal>(
     case: &mut Case,
     keeper: StopKeeper,
 ) -> (u8, StopKeeper) {
+    let lent = Runtime {
+        threads: rt,
+        alloc: rt.alloc(),
+        gate: &case.gate,
+    };
     audit(
-        rt,
-        rt.alloc(),
+        &lent,
         case.words.as_slice(),
         &mut case.source,
         &mut case.out,
         &mut case.note,
         keeper,
-        &case.gate,
     )
 }
 

@@ -1,5 +1,5 @@
 -- What is judged of bytes, refusal by refusal.
-use Rattle.std.proofs.Common.{◌≡◌, ◌⊎◌, inl, inr, ℕ, ◌<◌, ◌≤◌, List, [], length, Ok, Err, refl, arith}
+use Rattle.std.proofs.Common.{◌≡◌, ◌⊎◌, inl, inr, ℕ, ◌<◌, ◌≤◌, Bool, false, List, [], length, Option, Some, None, Ok, Err, refl, sym, ap, ◌∙◌, subst, arith}
 use Rattle.audit_model.specs.declared.fault.GraphFault.TheVariants as graph
 use Rattle.audit_model.specs.declared.fault.PlanFault.TheVariants as plan
 use Rattle.audit_model.specs.declared.fault.RegionFault.TheVariants as region
@@ -11,13 +11,14 @@ use Rattle.audit_model.specs.declared.fault.PlanFault.{PlanFault}
 use Rattle.audit_model.specs.declared.fault.RegionFault.{RegionFault}
 use Rattle.audit_model.specs.declared.setting.Setting.{Setting}
 use Rattle.audit_model.specs.Job.{Job}
-use Rattle.audit_model.specs.JobOf.{IsJob, job_from, job_of}
-use Rattle.audit_model.specs.Limits.{AreRegions, AreWithin, IsSetting, IsWithinLimits}
+use Rattle.audit_model.specs.JobOf.{IsJob, job_from, job_of, job_or, plan_fault}
+use Rattle.audit_model.specs.Limits.{AreRegions, AreWithin, IsGroup, IsSetting, IsWithinLimits}
 use Rattle.audit_model.specs.Parsed.{Parsed}
 use Rattle.audit_model.proofs.Jobs.{setting_of_job}
 use Rattle.audit_statement.specs.Note.{too_many_bytes, bad_graph, bad_regions, bad_plan}
 use Rattle.audit_statement.specs.Reading.{reading}
 use Rattle.audit_statement.specs.Accepted.{judged, most_bytes}
+use Rattle.audit_statement.specs.Origin.{origin_if, origin_of, with_origin}
 use Rattle.audit_statement.specs.Regions.{regions_by}
 
 -- too many bytes are refused before they are read
@@ -43,9 +44,10 @@ pub judged_plan : (setting : Setting) (bytes : List ℕ) (p : Parsed) (regions :
 unfolding judged
 judged_plan setting bytes p regions f few r q j = rw (le-ltb most_bytes (length bytes) few, r, q, j)
 
--- what is accepted of the bytes is the job
+-- what is accepted of the bytes is the job, with its origin
 pub judged_job : (setting : Setting) (bytes : List ℕ) (p : Parsed) (regions : List ℕ) (job : Job) → length bytes ≤ most_bytes
-    → reading bytes setting.columns ≡ Ok p → regions_by setting.region bytes ≡ Ok regions → job_of p setting regions ≡ Ok job → judged setting bytes ≡ Ok job
+    → reading bytes setting.columns ≡ Ok p → regions_by setting.region bytes ≡ Ok regions → job_of p setting regions ≡ Ok job
+    → judged setting bytes ≡ Ok (with_origin (origin_of setting bytes) job)
 unfolding judged
 judged_job setting bytes p regions job few r q j = rw (le-ltb most_bytes (length bytes) few, r, q, j)
 
@@ -70,16 +72,41 @@ judged_graph_end setting bytes graph.Memory few r = tt
 judged_graph_end setting bytes f few (inl e) = cc
 judged_graph_end setting bytes f few (inr r) = (judged_graph setting bytes f few r, refl)
 
+-- a job that is made is what was read, with the setting and the regions
+job_made : (p : Parsed) (setting : Setting) (regions : List ℕ) (job : Job) → job_of p setting regions ≡ Ok job → job_from p setting regions ≡ job
+unfolding job_of
+job_made p setting regions job e = by (plan_fault (job_from p setting regions)) e
+  where
+    by : (fault : Option PlanFault) → job_or (job_from p setting regions) fault ≡ Ok job → job_from p setting regions ≡ job
+    by None e = cc
+    by (Some f) e = cc
+
 -- no regions are regions of any graph
 pub no_regions : (units : ℕ) → AreRegions units []
 no_regions units = record { width = inl refl; few = λ k d inside. absurd (omega arith) }
 
 -- what was read, a setting and regions are within the limits
 pub within_limits : (p : Parsed) (setting : Setting) (regions : List ℕ) → AreWithin p.graph p.counts p.start (length p.labels) → IsSetting setting → AreRegions p.graph.units regions
-    → IsWithinLimits (job_from p setting regions)
-within_limits p setting regions input within are = record { input = input; setting = within; regions = are }
+    → IsGroup p.graph.units p.group → IsWithinLimits (job_from p setting regions)
+within_limits p setting regions input within are group = record { input = input; setting = within; regions = are; group = group }
 
--- the job that was made is the one that the bytes give
-pub is_judged : (setting : Setting) (bytes : List ℕ) (p : Parsed) (regions : List ℕ) (job : Job) → length bytes ≤ most_bytes
-    → reading bytes setting.columns ≡ Ok p → regions_by setting.region bytes ≡ Ok regions → job_of p setting regions ≡ Ok job → IsJob job → IsJudged setting bytes job
-is_judged setting bytes p regions job few r q j sound = record { judged_so = judged_job setting bytes p regions job few r q j; same = setting_of_job p setting regions job j; sound = sound }
+-- a job that was made, with the origin for which its setting asks, is the one that the bytes give
+pub is_judged : (setting : Setting) (bytes : List ℕ) (p : Parsed) (regions : List ℕ) (job sourced : Job) → length bytes ≤ most_bytes
+    → reading bytes setting.columns ≡ Ok p → regions_by setting.region bytes ≡ Ok regions → job_of p setting regions ≡ Ok job
+    → sourced ≡ with_origin (origin_of job.setting bytes) job → IsJob sourced → IsJudged setting bytes sourced
+is_judged setting bytes p regions job sourced few r q j is sound =
+    let same : job.setting ≡ setting = setting_of_job p setting regions job j in
+    record {
+      judged_so = judged_job setting bytes p regions job few r q j
+          ∙ ap (λ (s : Setting). Ok (with_origin (origin_of s bytes) job)) (sym same) ∙ ap Ok (sym is);
+      same = ap (λ (j : Job). j.setting) is ∙ same;
+      sound = sound;
+    }
+
+-- where no origin is asked for, a job that was made is the one with it
+pub is_sourced : (p : Parsed) (setting : Setting) (regions : List ℕ) (job : Job) (bytes : List ℕ) → setting.source ≡ false → job_of p setting regions ≡ Ok job
+    → job ≡ with_origin (origin_of job.setting bytes) job
+is_sourced p setting regions job bytes none j =
+    let made : job_from p setting regions ≡ job = job_made p setting regions job j in
+    subst (λ (j : Job). j ≡ with_origin (origin_of j.setting bytes) j) made
+    (ap (λ (b : Bool). with_origin (origin_if b bytes) (job_from p setting regions)) (sym none))

@@ -28,20 +28,21 @@ sized_by Run words setting faultless same make =
 sized_by Make words setting faultless same make =
     subst (λ (n : ℕ). (1 ≤ n) × (n ≤ 30)) (ap (λ (s : Setting). s.size) same) (bounded (number_of (text_of Make words Size)) (good Make words 0 Size faultless refl))
 
--- the setting of a grid names its own columns and no regions
+-- the setting of a grid names its own columns, no regions and no origin
 made_by : (command : Command) (words : List NameAndValue) (setting : Setting) → setting_for command words ≡ setting → setting.command ≡ Make
-    → (setting.columns ≡ grid_columns) × (setting.region ≡ [])
+    → (setting.columns ≡ grid_columns) × (setting.region ≡ []) × (setting.source ≡ false)
 made_by Check words setting same make =
     let check : Check ≡ setting.command = ap (λ (s : Setting). s.command) same in cc
 made_by Plans words setting same make =
     let plans : Plans ≡ setting.command = ap (λ (s : Setting). s.command) same in cc
 made_by Run words setting same make =
     let run : Run ≡ setting.command = ap (λ (s : Setting). s.command) same in cc
-made_by Make words setting same make = (sym (ap (λ (s : Setting). s.columns) same), sym (ap (λ (s : Setting). s.region) same))
+made_by Make words setting same make =
+    (sym (ap (λ (s : Setting). s.columns) same), sym (ap (λ (s : Setting). s.region) same), sym (ap (λ (s : Setting). s.source) same))
 
--- the grid that accepted words ask for has a size from 1 to 30, its own columns and no regions
+-- the grid that accepted words ask for has a size from 1 to 30, its own columns, no regions and no origin
 pub accepted_grid : (words : List (List ℕ)) (setting : Setting) → setting_of words ≡ Ok setting → setting.command ≡ Make → IsMaking setting
 accepted_grid words setting e make =
     let s = accepted_words words setting e in
     let parts = made_by s.command s.words setting s.same make in
-    record { size = sized_by s.command s.words setting s.faultless s.same make; columns = parts.0; region = parts.1 }
+    record { size = sized_by s.command s.words setting s.faultless s.same make; columns = parts.0; region = parts.1; no_source = parts.2 }

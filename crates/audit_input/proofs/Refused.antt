@@ -1,18 +1,18 @@
 -- How a run ends that cannot resume.
-use Rattle.std.proofs.Common.{◌≡◌, ℕ, Bool, true, List, Option, Some, None, refl, sym, subst, ◌∙◌}
+use Rattle.std.proofs.Common.{◌≡◌, ℕ, Bool, true, List, None, refl, sym, subst, ◌∙◌}
 use Rattle.audit_model.specs.Pair.{Pair}
 use Rattle.audit_model.specs.Job.{Job}
 use Rattle.audit_statement.specs.Checkpoint.{job_digest}
 use Rattle.ckpt_store.specs.declared.slots.Slots.{Slots}
 use Rattle.ckpt_store.specs.Looked.{AreSlots, SawSlots}
-use Rattle.ckpt_store.specs.View.{newest_seen, opening_seen, slot_view}
+use Rattle.ckpt_store.specs.View.{newest_seen, slot_view}
 use Rattle.report.specs.declared.ended.Ended.{Ended}
 use Rattle.report.specs.declared.ended.Ended.TheVariants as ended
 use Rattle.audit_statement.specs.Endings.{AreDamaged, IsOtherJob, is_walking, opening_from}
 use Rattle.audit_input.specs.Opening.{IsOtherSeen, RefusesSlots}
 use Rattle.audit_laws.specs.Calls.{Finishes}
 use Rattle.audit_model.specs.State.{Kept, Stream}
-use Rattle.audit_input.proofs.Started.{newest_told, one_told, opening_told, saw_pair, slot_told, zero_told}
+use Rattle.audit_input.proofs.Started.{newest_told, one_told, opening_seen, opening_told, saw_pair, slot_told, zero_told}
 use Rattle.audit_laws.proofs.Leaving.{left}
 
 module _ (job : Job) (digest : List ℕ) (slots : Slots) (is : digest ≡ job_digest job) (resumes : job.setting.resume ≡ true) where

@@ -9,6 +9,7 @@ use Rattle.audit_model.specs.State.{Kept}
 use Rattle.audit_model.specs.Told.{IfTold}
 use Rattle.audit_model.specs.Pair.{Pair}
 use Rattle.audit_model.specs.declared.outcome.Outcome.{Outcome}
+use Rattle.audit_model.specs.declared.setting.Setting.{Setting}
 use Rattle.audit_model.specs.Job.{Job}
 use Rattle.audit_model.specs.Run.{fits, is_bare, taken_up}
 use Rattle.audit_model.specs.Trajectory.{bare}
@@ -23,7 +24,7 @@ use Rattle.ckpt_store.specs.declared.slots.StoreFault.TheVariants.{Damaged, Othe
 use Rattle.ckpt_store.specs.Fitting.{AreFit, HasFitOutcomes}
 use Rattle.ckpt_store.specs.Looked.{AreSlots, SawSlots}
 use Rattle.ckpt_format.specs.declared.decode.Checkpoint.{Checkpoint}
-use Rattle.ckpt_store.specs.View.{answer_at, held_seen, newest_answer, newest_seen, opened, opening_seen, place_seen, slot_view}
+use Rattle.ckpt_store.specs.View.{answer_at, held_seen, newest_answer, newest_seen, opened, place_seen, slot_view}
 use Rattle.report.specs.declared.ended.Ended.{Ended}
 use Rattle.report.specs.declared.ended.Ended.TheVariants as ended
 use Rattle.audit_input.specs.declared.opening.Opening.{Opening}
@@ -35,6 +36,10 @@ use Rattle.audit_laws.proofs.Starting.{saves_not, saves_some}
 use Rattle.audit_laws.proofs.Running.{fit_list, rising_above, rising_once, rising_rest}
 
 -- ---- what was looked at, in the words of the slots that are told
+
+-- the outcomes with which a run that resumes starts, where it may start
+abbrev pub opening_seen : Setting → Slots → Option (List Outcome)
+opening_seen setting slots = opening true setting (slot_view slots.zero) (slot_view slots.one)
 
 module _ (job : Job) (digest : List ℕ) (p : Pair) (slots : Slots) (is : digest ≡ job_digest job) (seen : AreSlots job digest p slots) where
   pub zero_told : slot_view slots.zero ≡ slot_of job (job_digest job) p.zero_slot

@@ -1,5 +1,5 @@
 -- From the words and the source to a job: what its steps say to each other.
-use Rattle.std.specs.Prelude.{◌≡◌, ℕ, ◌<◌, ◌≤◌, true, List, [], length, ⊤, Result, Ok, Err}
+use Rattle.std.specs.Prelude.{◌≡◌, ℕ, ◌<◌, ◌≤◌, true, false, List, [], length, ⊤, Result, Ok, Err}
 use Rattle.std.specs.Io.KnownBytes.{IsAtEnd}
 use Rattle.audit_model.specs.Job.{Job}
 use Rattle.audit_model.specs.JobOf.{IsJob}
@@ -64,11 +64,12 @@ abbrev pub Judges : Setting → List ℕ → Result Job Ended → Type 0
 Judges setting bytes (Ok job) = IsJudged setting bytes job
 Judges setting bytes (Err why) = JudgedSo setting bytes why
 
--- a grid of a size that there is, with its own columns and no regions
+-- a grid of a size that there is, with its own columns, no regions and no origin
 pub record IsMaking (setting : Setting) : Type 0 where
   pub size : (1 ≤ setting.size) × (setting.size ≤ 30)
   pub columns : setting.columns ≡ grid_columns
   pub region : setting.region ≡ []
+  pub no_source : setting.source ≡ false
 
 abbrev pub PreparesFor : Setting → Stream → Stream → Result Job Ended → Type 0
 PreparesFor setting before after result = (words : List (List ℕ)) → setting_of words ≡ Ok setting → Prepares words before after result

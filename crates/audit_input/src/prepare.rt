@@ -3,13 +3,15 @@
 ghost use Rattle.std.specs.Prelude.{◌≡◌, ◌≤◌, ◌⊎◌, IfOk, IsTrue, MatchResult, Ok, Err, length};
 ghost use Rattle.audit_model.specs.declared.fault.RegionFault.TheVariants as region;
 ghost use Rattle.audit_model.specs.declared.setting.Columns.{Columns as ColumnsValue};
-ghost use Rattle.audit_model.specs.Limits.{AreRegions, AreWithin, IsSetting};
+ghost use Rattle.audit_model.specs.Limits.{AreRegions, AreWithin, IsGroup, IsSetting};
+ghost use Rattle.audit_model.specs.JobOf.{IsJob};
 ghost use Rattle.audit_model.specs.Parsed.{Parsed};
 ghost use Rattle.dual_graph.specs.Read.{parsed_of};
 ghost use Rattle.dual_json.specs.Numbered.{IsGraphText};
 ghost use Rattle.audit_statement.specs.Reading.{reading};
 ghost use Rattle.audit_model.specs.declared.setting.Command.TheVariants as command;
 ghost use Rattle.audit_statement.specs.Accepted.{most_bytes};
+ghost use Rattle.audit_statement.specs.Origin as definition;
 ghost use Rattle.audit_statement.specs.Regions.{regions_by};
 ghost use Rattle.report.specs.Ended.{word_ended, graph_ended, region_ended, plan_ended};
 ghost use Rattle.audit_statement.specs.Endings.{is_reading};
@@ -25,6 +27,7 @@ use audit_model::lists::UnitList;
 use audit_model::setting::{Columns, Command, Setting};
 use audit_model::text::Text;
 use audit_words::read;
+use ckpt_format::origin::origin_of;
 use dual_graph::parsed::Parsed as ReadParsed;
 use dual_json::{read_graph, read_regions};
 use grid_maker::laws::grids_are_short;
@@ -83,6 +86,15 @@ fn regions_of(alloc: Global, bytes: &[u8], column: &Text) -> Result<UnitList, Re
     read_regions(alloc, bytes, column)
 }
 
+// The job with these bytes as its origin, where its setting asks for it.
+fn with_source(job: Job, bytes: &[u8]) -> Job
+    ensures job { result ≡ definition.with_origin (definition.origin_of job.setting bytes.now) job }
+    ensures sound { IsJob result }
+{
+    let origin = origin_of(job.setting(), bytes);
+    job.with_origin(origin)
+}
+
 // The job of what was read of these bytes, or why there is none.
 fn judge_read(
     alloc: Global,
@@ -94,11 +106,12 @@ fn judge_read(
     requires setting { IsSetting setting }
     requires read { reading bytes.now setting.columns ≡ Ok (parsed_of parsed) }
     requires within { AreWithin parsed.graph parsed.counts parsed.start (length parsed.labels) }
+    requires group { IsGroup parsed.graph.units parsed.group }
     ensures { Judges setting bytes.now result }
 {
     match regions_of(alloc, bytes, &setting.region) {
         Ok(regions) => match Job::with_regions(alloc, parsed, setting, regions) {
-            Ok(job) => Ok(job),
+            Ok(job) => Ok(with_source(job, bytes)),
             Err(fault) => Err(plan_end(fault)),
         },
         Err(fault) => Err(region_end(fault, setting.region)),
@@ -117,12 +130,13 @@ fn judge(alloc: Global, setting: Setting, bytes: &[u8]) -> Result<Job, Ended>
     }
 }
 
-// The job of what is read of the grid, which has no regions, or why there is none.
+// The job of what is read of the grid, which has no regions and no origin, or why there is none.
 fn judge_made(alloc: Global, setting: Setting, parsed: ReadParsed) -> Result<Job, Ended>
     requires made { IsMaking setting }
     requires setting { IsSetting setting }
     requires read { reading (grid setting.size setting.key) setting.columns ≡ Ok (parsed_of parsed) }
     requires within { AreWithin parsed.graph parsed.counts parsed.start (length parsed.labels) }
+    requires group { IsGroup parsed.graph.units parsed.group }
     ensures { Judges setting (grid setting.size setting.key) result }
 {
     // A law, called for what its contract says: the text of each grid is no longer than a graph's may be.

@@ -1,23 +1,22 @@
 -- What JSON gives is one thing.
-use Rattle.std.proofs.Common.{◌≡◌, ◌≢◌, ◌⊎◌, ℕ, ◌<◌, Bool, true, false, List, [], ◌∷◌, length, map, Option, Some, refl, sym, ap, ◌∙◌, subst, arith}
+use Rattle.std.proofs.Common.{◌≡◌, ◌≢◌, ◌⊎◌, ℕ, ◌<◌, Bool, true, List, [], ◌∷◌, length, map, Option, Some, refl, sym, ap, ◌∙◌, subst, arith}
 use Rattle.std.specs.Prelude.{slice_index, codes, option_and_then, unwrap_or}
 use Rattle.std.specs.List.{slice_index_or}
 use Rattle.std.proofs.lemmas.Bool.{eqb-true}
 use Rattle.std.proofs.lemmas.List.{ext_get_or}
 use Rattle.serde_json.specs.Data.{Data}
 use Rattle.serde_json.specs.Find.{as_number, as_u64, get}
-use Rattle.audit_model.specs.declared.setting.Columns.{Columns}
 use Rattle.audit_model.specs.declared.setting.Label.{Label}
 use Rattle.audit_model.specs.declared.setting.Label.TheVariants.{Word}
 use Rattle.audit_model.specs.Graph.{adjacent}
 use Rattle.audit_model.specs.Job.{Job}
 use Rattle.audit_model.specs.Label.{label_before}
-use Rattle.audit_statement.specs.Reading.{elements, list_of}
+use Rattle.audit_statement.specs.Reading.{list_of}
 use Rattle.audit_model.proofs.Bools.{same_bool}
 use Rattle.dual_json.proofs.Listed.{elements-items_of}
 use Rattle.audit_laws.proofs.Numbering.{IsOnto, same_bound, same_numbers}
-use Rattle.audit_laws.specs.Determined.{AreOfOneGraph, GivenJobsAreOfOneGraph}
-use Rattle.audit_statement.specs.Given.{IsGiven, Names, count, items_of, label_under, list}
+use Rattle.audit_laws.specs.Determined.{AreOfOneGraph, GivenJobsAreOfOneGraph, ReadAlike}
+use Rattle.audit_statement.specs.Given.{IsGiven, Names, count, label_under, list}
 use Rattle.audit_statement.specs.Valid.{IsValid}
 
 -- a function that can be undone makes different lists of different ones
@@ -52,7 +51,7 @@ valid_is_numbered a valid = record {
   };
 }
 
-module _ (root : Data) (a b : Job) (columns : a.setting.columns ≡ b.setting.columns) (g : IsGiven root a) (h : IsGiven root b)
+module _ (root : Data) (a b : Job) (columns : ReadAlike a.setting.columns b.setting.columns) (g : IsGiven root a) (h : IsGiven root b)
     (valid : IsNumbered a) (other : IsNumbered b) where
   nodes : g.nodes ≡ h.nodes
   nodes = same_arrays (get (codes "nodes") root) g.nodes h.nodes g.nodes_are h.nodes_are
@@ -67,15 +66,14 @@ module _ (root : Data) (a b : Job) (columns : a.setting.columns ≡ b.setting.co
 
   labels : g.labels ≡ h.labels
   labels = same_lists Some (λ (o : Option Label). unwrap_or o (Word [])) (λ x. refl) g.labels h.labels
-      (sym g.labels_are ∙ ap (λ (c : Columns). map (label_under c.district) g.nodes) columns ∙ ap (map (label_under b.setting.columns.district)) nodes ∙ h.labels_are)
+      (sym g.labels_are ∙ ap (λ (key : List ℕ). map (label_under key) g.nodes) columns.district ∙ ap (map (label_under b.setting.columns.district)) nodes ∙ h.labels_are)
 
   units : a.graph.units ≡ b.graph.units
   units = sym g.units.0 ∙ ap length nodes ∙ h.units.0
 
-  numbers : (of : Columns → List ℕ) (xs ys : List ℕ) → map (get (of a.setting.columns)) g.nodes ≡ map count xs
-      → map (get (of b.setting.columns)) h.nodes ≡ map count ys → xs ≡ ys
-  numbers of xs ys p q = same_lists count (λ (o : Option Data). unwrap_or (option_and_then as_u64 (option_and_then as_number o)) 0) (λ n. refl) xs ys
-      (sym p ∙ ap (λ (c : Columns). map (get (of c)) g.nodes) columns ∙ ap (map (get (of b.setting.columns))) nodes ∙ q)
+  numbers : (key other : List ℕ) (xs ys : List ℕ) → key ≡ other → map (get key) g.nodes ≡ map count xs → map (get other) h.nodes ≡ map count ys → xs ≡ ys
+  numbers key other xs ys same p q = same_lists count (λ (o : Option Data). unwrap_or (option_and_then as_u64 (option_and_then as_number o)) 0) (λ n. refl) xs ys
+      (sym p ∙ ap (λ (k : List ℕ). map (get k) g.nodes) same ∙ ap (map (get other)) nodes ∙ q)
 
   abbrev Joins : List Label → List (List Data) → ℕ → ℕ → Type 0
   Joins names entries u v = (u ≢ v) × (Names names (slice_index_or entries u []) v ⊎ Names names (slice_index_or entries v []) u)
@@ -110,9 +108,9 @@ module _ (root : Data) (a b : Job) (columns : a.setting.columns ≡ b.setting.co
 
   pub one_graph : AreOfOneGraph a b
   one_graph =
-      let people = numbers (λ c. c.population) a.counts.population b.counts.population g.population h.population in
-      let firsts = numbers (λ c. c.first) a.counts.first b.counts.first g.first h.first in
-      let seconds = numbers (λ c. c.second) a.counts.second b.counts.second g.second h.second in
+      let people = numbers _ _ a.counts.population b.counts.population columns.population g.population h.population in
+      let firsts = numbers _ _ a.counts.first b.counts.first columns.first g.first h.first in
+      let seconds = numbers _ _ a.counts.second b.counts.second columns.second g.second h.second in
       record {
         units = units;
         edges = edges;

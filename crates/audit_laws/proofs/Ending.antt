@@ -11,6 +11,7 @@ use Rattle.audit_model.specs.JobOf.{job_from, job_of}
 use Rattle.audit_model.specs.Parsed.{Parsed}
 use Rattle.audit_model.specs.Run.{has_id, lacking_ids, part_ids, run_ids, total}
 use Rattle.audit_statement.specs.Accepted.{from_bytes, from_job, from_parsed, from_regions, input_by, judged, most_bytes}
+use Rattle.audit_statement.specs.Origin.{origin_if, origin_of, with_origin}
 use Rattle.audit_statement.specs.Regions.{regions_by}
 use Rattle.audit_statement.specs.Causes.{HasBudget}
 use Rattle.audit_statement.specs.Endings.{StartsFrom, is_walking, lacking, leaves_work, to_walk}
@@ -29,14 +30,15 @@ use Rattle.audit_laws.specs.Promised.{PromisedCallsEndPlainly}
 use Rattle.audit_statement.specs.Words.{setting_of}
 
 -- what is read and accepted, and is not too long, is judged so
-judged_from : (setting : Setting) (bytes : List ℕ) (p : Parsed) (job : Job) → setting.region ≡ [] → length bytes ≤ most_bytes
-    → reading bytes setting.columns ≡ Ok p → job_of p setting [] ≡ Ok job → judged setting bytes ≡ Ok job
+judged_from : (setting : Setting) (bytes : List ℕ) (p : Parsed) → setting.region ≡ [] → setting.source ≡ false → length bytes ≤ most_bytes
+    → reading bytes setting.columns ≡ Ok p → job_of p setting [] ≡ Ok (job_from p setting []) → judged setting bytes ≡ Ok (job_from p setting [])
 unfolding judged
-judged_from setting bytes p job none few is made =
+judged_from setting bytes p none untold few is made =
     ap (from_bytes setting bytes) (le-ltb most_bytes (length bytes) few)
     ∙ ap (from_parsed setting bytes) is
-    ∙ ap (λ (region : List ℕ). from_regions setting p (regions_by region bytes)) none
-    ∙ ap from_job made
+    ∙ ap (λ (region : List ℕ). from_regions setting (origin_of setting bytes) p (regions_by region bytes)) none
+    ∙ ap (from_job (origin_of setting bytes)) made
+    ∙ ap (λ (b : Bool). Ok (with_origin (origin_if b bytes) (job_from p setting []))) untold
 
 -- a budget for all ids leaves nothing of one part
 nothing_left : (job : Job) (outcomes : List Outcome) → (job.setting.parts ≡ 1) × (job.setting.part ≡ 0) → total job ≤ job.setting.budget
@@ -72,10 +74,11 @@ plain_ends words before after n m status k rest bytes run silent told fit none =
     let setting = fit.job.setting in
     let words_run : setting_of (codes "run" ∷ rest) ≡ Ok setting = subst (λ (ws : List (List ℕ)). setting_of ws ≡ Ok setting) run fit.words_are in
     let said_so = run_words rest setting words_run in
-    let spoken = silent_is_plain rest silent in
+    let spoken = silent_is_plain rest said_so.0 silent in
     let plain = subst IsPlain said_so.1 spoken in
     let whole = subst (λ (s : Setting). (s.parts ≡ 1) × (s.part ≡ 0)) said_so.1 (one_part rest said_so.0 spoken.no_saves) in
-    let taken = given_jobs_are_taken bytes fit.root fit.job fit.is_text fit.is_json fit.given fit.start fit.allowed plain.any_cut in
+    let taken = given_jobs_are_taken bytes fit.root fit.job fit.is_text fit.is_json fit.given fit.start fit.allowed
+    (record { no_group = plain.no_group; none_due = plain.none_due; any_cut = plain.any_cut }) in
     let made = job_from taken.parsed setting [] in
     k.complete (record {
       job = made;
@@ -84,7 +87,7 @@ plain_ends words before after n m status k rest bytes run silent told fit none =
         words_are = fit.words_are;
         input = ap (input_by setting.command setting) told ∙ input_is setting.command setting bytes plain.run;
       };
-      accepted = judged_from setting bytes taken.parsed made plain.no_regions fit.few_bytes taken.read_so taken.accepted;
+      accepted = judged_from setting bytes taken.parsed plain.no_regions plain.untold fit.few_bytes taken.read_so taken.accepted;
       budget = has_budget made before plain whole
           (accepted_words_cover words setting fit.words_are (ap is_walking plain.run) plain.no_saves);
       reads = none.reads;

@@ -1,14 +1,16 @@
--- Where the bytes of a run without regions are accepted, no test of theirs has refused them.
-use Rattle.std.proofs.Common.{◌≡◌, ℕ, Bool, true, false, List, [], length, Option, Some, None, Result, Ok, Err, refl, subst}
+-- Where the bytes of a run without regions, which does not tell its origin, are accepted, no test of theirs has refused them.
+use Rattle.std.proofs.Common.{◌≡◌, ℕ, Bool, true, false, List, [], length, Option, Some, None, Result, Ok, Err, refl, sym, ap, ◌∙◌, subst}
 use Rattle.std.specs.Prelude.{nat_lt}
 use Rattle.audit_model.specs.declared.fault.GraphFault.{GraphFault}
 use Rattle.audit_model.specs.declared.fault.PlanFault.{PlanFault}
+use Rattle.audit_model.specs.declared.origin.Origin.{Origin}
 use Rattle.audit_model.specs.declared.setting.Setting.{Setting}
 use Rattle.audit_model.specs.Job.{Job}
 use Rattle.audit_model.specs.JobOf.{job_from, job_of, job_or, plan_fault}
 use Rattle.audit_model.specs.Parsed.{Parsed}
 use Rattle.audit_statement.specs.Reading.{reading}
 use Rattle.audit_statement.specs.Accepted.{from_job, from_regions, from_parsed, from_bytes, judged, most_bytes}
+use Rattle.audit_statement.specs.Origin.{origin_if, origin_of, with_origin}
 use Rattle.audit_statement.specs.Regions.{regions_by}
 
 -- the job of such a text
@@ -22,10 +24,11 @@ made_is : (made job : Job) (fault : Option PlanFault) → job_or made fault ≡ 
 made_is made job None e = cc
 made_is made job (Some f) e = cc
 
--- a job that is judged is one that was made
-pub from_job_is : (r : Result Job PlanFault) (job : Job) → from_job r ≡ Ok job → r ≡ Ok job
-from_job_is (Ok made) job e = cc
-from_job_is (Err f) job e = cc
+-- a job that is judged is one that was made, with this origin
+pub from_job_is : (origin : Option Origin) (r : Result Job PlanFault) (job : Job) → from_job origin r ≡ Ok job
+    → (made : Job) × (r ≡ Ok made) × (with_origin origin made ≡ job)
+from_job_is origin (Ok made) job e = (made, refl, cc)
+from_job_is origin (Err f) job e = cc
 
 -- the job of what is parsed, with no regions, is the one that is made of it
 job_is : (p : Parsed) (setting : Setting) (job : Job) → job_of p setting [] ≡ Ok job → job_from p setting [] ≡ job
@@ -33,21 +36,27 @@ unfolding job_of
 job_is p setting job e = made_is (job_from p setting []) job (plan_fault (job_from p setting [])) e
 
 -- a job that is judged of what is read is the job of these bytes
-from_parsed_is : (setting : Setting) (bytes : List ℕ) (r : Result Parsed GraphFault) (job : Job) → setting.region ≡ [] → reading bytes setting.columns ≡ r
+from_parsed_is : (setting : Setting) (bytes : List ℕ) (r : Result Parsed GraphFault) (job : Job) → setting.region ≡ [] → setting.source ≡ false → reading bytes setting.columns ≡ r
     → from_parsed setting bytes r ≡ Ok job → IsJudged setting bytes job
-from_parsed_is setting bytes (Ok p) job none is e =
-    let plain : from_regions setting p (Ok []) ≡ Ok job =
-    subst (λ (region : List ℕ). from_regions setting p (regions_by region bytes) ≡ Ok job) none e in
-    record { parsed = p; read_so = is; made = job_is p setting job (from_job_is (job_of p setting []) job plain) }
-from_parsed_is setting bytes (Err f) job none is e = cc
+from_parsed_is setting bytes (Ok p) job none untold is e =
+    let plain : from_regions setting (origin_of setting bytes) p (Ok []) ≡ Ok job =
+    subst (λ (region : List ℕ). from_regions setting (origin_of setting bytes) p (regions_by region bytes) ≡ Ok job) none e in
+    let kept = from_job_is (origin_of setting bytes) (job_of p setting []) job plain in
+    let no_origin : origin_of setting bytes ≡ None = ap (λ (b : Bool). origin_if b bytes) untold in
+    record {
+      parsed = p;
+      read_so = is;
+      made = ap (with_origin None) (job_is p setting kept.0 kept.1) ∙ ap (λ (o : Option Origin). with_origin o kept.0) (sym no_origin) ∙ kept.2;
+    }
+from_parsed_is setting bytes (Err f) job none untold is e = cc
 
 -- a job that is judged of bytes is the job of these bytes
-from_bytes_is : (setting : Setting) (bytes : List ℕ) (many : Bool) (job : Job) → setting.region ≡ [] → from_bytes setting bytes many ≡ Ok job
+from_bytes_is : (setting : Setting) (bytes : List ℕ) (many : Bool) (job : Job) → setting.region ≡ [] → setting.source ≡ false → from_bytes setting bytes many ≡ Ok job
     → IsJudged setting bytes job
-from_bytes_is setting bytes true job none e = cc
-from_bytes_is setting bytes false job none e = from_parsed_is setting bytes (reading bytes setting.columns) job none refl e
+from_bytes_is setting bytes true job none untold e = cc
+from_bytes_is setting bytes false job none untold e = from_parsed_is setting bytes (reading bytes setting.columns) job none untold refl e
 
 -- a job that is judged of a setting and bytes is the job of these bytes
-pub judged_is : (setting : Setting) (bytes : List ℕ) (job : Job) → setting.region ≡ [] → judged setting bytes ≡ Ok job → IsJudged setting bytes job
+pub judged_is : (setting : Setting) (bytes : List ℕ) (job : Job) → setting.region ≡ [] → setting.source ≡ false → judged setting bytes ≡ Ok job → IsJudged setting bytes job
 unfolding judged
-judged_is setting bytes job none e = from_bytes_is setting bytes (nat_lt most_bytes (length bytes)) job none e
+judged_is setting bytes job none untold e = from_bytes_is setting bytes (nat_lt most_bytes (length bytes)) job none untold e

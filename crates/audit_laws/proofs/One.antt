@@ -15,7 +15,7 @@ use Rattle.audit_model.specs.declared.setting.Tail.TheVariants.{Low, High}
 use Rattle.audit_model.specs.Below.{count_below, map_below}
 use Rattle.audit_model.specs.Graph.{count_edges}
 use Rattle.audit_model.specs.Job.{Job}
-use Rattle.audit_model.specs.Plan.{district_sum, in_district}
+use Rattle.audit_model.specs.District.{district_sum, in_district}
 use Rattle.audit_model.specs.Score.{denominator, sums_of, value}
 use Rattle.audit_model.specs.Rounded.{quotient_up}
 use Rattle.audit_model.specs.Test.{bound, p_value}
@@ -25,7 +25,7 @@ use Rattle.audit_model.proofs.Bools.{same_bool}
 use Rattle.audit_laws.proofs.Determining.{given_jobs_are_of_one_graph, same_lists}
 use Rattle.audit_laws.proofs.Sound.{count_edges_same}
 use Rattle.audit_laws.proofs.Taking.{connected_same}
-use Rattle.audit_laws.specs.Determined.{AreOfOneGraph}
+use Rattle.audit_laws.specs.Determined.{AreOfOneGraph, ReadAlike}
 use Rattle.audit_statement.specs.Valid.{IsValid}
 use Rattle.audit_laws.specs.One.{IsSuch, ReportsAreOne}
 use Rattle.audit_statement.specs.Plain.{each_below, plain_report, plan_after, after_step}
@@ -61,16 +61,13 @@ same_key : {E : Type 0} (r : Result (List ℕ) E) (a b : List ℕ) → r ≡ Ok 
 same_key r a b p q = cc
 
 module _ (words : List (List ℕ)) (a b : Setting) (s : AreSaid words a) (t : AreSaid words b) where
-  same_columns : a.columns ≡ b.columns
-  same_columns =
-      ap (λ (c : List ℕ). record { population = c; first = a.columns.first; second = a.columns.second; district = a.columns.district })
-      (s.population ∙ sym t.population)
-      ∙ ap (λ (c : List ℕ). record { population = b.columns.population; first = c; second = a.columns.second; district = a.columns.district })
-      (s.first ∙ sym t.first)
-      ∙ ap (λ (c : List ℕ). record { population = b.columns.population; first = b.columns.first; second = c; district = a.columns.district })
-      (s.second ∙ sym t.second)
-      ∙ ap (λ (c : List ℕ). record { population = b.columns.population; first = b.columns.first; second = b.columns.second; district = c })
-      (s.district ∙ sym t.district)
+  same_columns : ReadAlike a.columns b.columns
+  same_columns = record {
+    population = s.population ∙ sym t.population;
+    first = s.first ∙ sym t.first;
+    second = s.second ∙ sym t.second;
+    district = s.district ∙ sym t.district;
+  }
 
   same_asks : a.asks ≡ b.asks
   same_asks = same_lists ask_text (λ (text : List ℕ). unwrap_or (ask_of text) (record { score = Seats; tail = Low })) ask_back a.asks b.asks

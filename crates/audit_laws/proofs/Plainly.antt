@@ -29,7 +29,7 @@ use Rattle.audit_laws.specs.Promised.{PromisedCallsAuditPlainly}
 use Rattle.audit_statement.specs.Given.{IsGiven}
 use Rattle.audit_statement.specs.Said.{AreSaid}
 use Rattle.audit_laws.proofs.Saying.{IsPlain, run_words, silent_is_plain, words_say}
-use Rattle.audit_laws.proofs.Read.{read_jobs_are_given}
+use Rattle.audit_laws.proofs.Read.{no_group_read, read_jobs_are_given}
 use Rattle.audit_statement.specs.Valid.{IsValid}
 use Rattle.audit_statement.specs.Plain.{Decides, plain_report}
 use Rattle.audit_laws.proofs.Judged.{IsJudged, judged_is}
@@ -100,7 +100,7 @@ module _ (words : List (List ℕ)) (before after : World) (done : IsDone words b
   }
 
   judged_so : IsJudged setting bytes job
-  judged_so = judged_is setting bytes job plain.no_regions accepted
+  judged_so = judged_is setting bytes job plain.no_regions plain.untold accepted
 
   no_rules : HasNoRules job
   no_rules =
@@ -108,6 +108,7 @@ module _ (words : List (List ℕ)) (before after : World) (done : IsDone words b
       record {
         enough = omega (arith, most, done.prepared.sound.within.input.edges);
         none = ap (λ (j : Job). j.regions) (sym judged_so.made);
+        none_due = ap (λ (s : Setting). s.group_districts) set ∙ plain.none_due;
       }
 
   asks : AsksPlainly job
@@ -116,6 +117,9 @@ module _ (words : List (List ℕ)) (before after : World) (done : IsDone words b
     no_serial = ap (λ (s : Setting). s.serial) set ∙ plain.no_serial;
     no_shift = ap (λ (s : Setting). s.shift) set ∙ plain.no_shift;
     any_cut = ap (λ (s : Setting). s.max_cut) set ∙ plain.any_cut;
+    no_group = ap (λ (j : Job). j.group.members) (sym judged_so.made)
+        ∙ no_group_read bytes setting.columns judged_so.parsed plain.no_group judged_so.read_so;
+    no_origin = ap (λ (j : Job). j.origin) (sym judged_so.made);
     few_asks = (run_asks job.setting.command job.setting (ap (λ (s : Setting). s.command) set ∙ plain.run) done.prepared.sound.within.setting.command).few_asks;
   }
 
@@ -138,7 +142,7 @@ plain_calls words before after n m status k rest bytes old run silent told kept 
     let words_are : setting_of words ≡ Ok setting = done.prepared.accepted.words_are in
     let words_run : setting_of (codes "run" ∷ rest) ≡ Ok setting = subst (λ (ws : List (List ℕ)). setting_of ws ≡ Ok setting) run words_are in
     let said_so = run_words rest setting words_run in
-    let plain = subst IsPlain said_so.1 (silent_is_plain rest silent) in
+    let plain = subst IsPlain said_so.1 (silent_is_plain rest said_so.0 silent) in
     let j = job words before after done setting bytes words_are plain told in
     let free = no_rules words before after done setting bytes words_are plain told in
     let decided = decides words before after done setting bytes words_are plain told in

@@ -1,14 +1,17 @@
 -- Where bytes are read, no test of theirs has refused them, and they give the job.
-use Rattle.std.proofs.Common.{◌≡◌, ℕ, Bool, true, false, List, [], Option, Some, None, Ok, refl, subst, cond}
+use Rattle.std.proofs.Common.{◌≡◌, ℕ, Bool, true, false, not, List, [], length, Option, Some, None, Ok, refl, sym, ap, ◌∙◌, subst, cond}
+use Rattle.std.specs.Prelude.{◌==◌}
 use Rattle.std.specs.Str.{is_utf8}
 use Rattle.serde_json.specs.Data.{Data}
 use Rattle.serde_json.specs.Read.{read}
+use Rattle.audit_model.specs.declared.fault.Column.TheVariants as column
 use Rattle.audit_model.specs.declared.fault.GraphFault.{GraphFault}
 use Rattle.audit_model.specs.declared.fault.Part.{Part}
 use Rattle.audit_model.specs.declared.setting.Columns.{Columns}
+use Rattle.audit_model.specs.Below.{map_below}
 use Rattle.audit_model.specs.JobOf.{job_from}
 use Rattle.audit_model.specs.Parsed.{Parsed}
-use Rattle.audit_statement.specs.Reading.{parsed, document, refusal, bad_part, accepted_or, of_root, of_json, reading}
+use Rattle.audit_statement.specs.Reading.{count_at, node_count, parsed, document, refusal, bad_part, accepted_or, of_root, of_json, reading}
 use Rattle.audit_statement.specs.Given.{IsGiven}
 use Rattle.audit_laws.specs.Taken.{ReadJobsAreGiven}
 use Rattle.audit_laws.proofs.Reading.{given_is}
@@ -51,6 +54,14 @@ of_json_is bytes columns (Some root) p is e =
 pub read_is : (bytes : List ℕ) (columns : Columns) (p : Parsed) → reading bytes columns ≡ Ok p → IsReadFrom bytes columns p
 unfolding reading
 read_is bytes columns p e = of_json_is bytes columns (cond (is_utf8 bytes) (read bytes) None) p refl e
+
+-- where no group is named, none is read
+pub no_group_read : (bytes : List ℕ) (columns : Columns) (p : Parsed) → columns.group ≡ [] → reading bytes columns ≡ Ok p → p.group.members ≡ []
+no_group_read bytes columns p none e =
+    let is = read_is bytes columns p e in
+    let d = document is.root in
+    ap (λ (q : Parsed). q.group.members) (sym is.same)
+    ∙ ap (λ (key : List ℕ). cond (not (length key == 0)) (map_below (node_count d) (count_at d columns column.Group)) []) none
 
 -- whatever is read is given by the JSON of the bytes
 pub read_jobs_are_given : ReadJobsAreGiven

@@ -5,7 +5,7 @@ use Rattle.std.specs.Fmt.{signed_decimal}
 use Rattle.std.specs.List.{slice_index_or, enumerate_from}
 use Rattle.hex.specs.Hex.{encode_lower}
 use Rattle.std.proofs.Math.Path.{fun_ext}
-use Rattle.std.proofs.lemmas.Bool.{both_ways, cond-true, cond-false, lt-ltb, le-ltb, le-leb, lt-leb, ne_eqb}
+use Rattle.std.proofs.lemmas.Bool.{cond-true, cond-false, lt-ltb, le-ltb, le-leb, lt-leb, ne_eqb}
 use Rattle.std.proofs.lemmas.Grind.{flat_map-append}
 use Rattle.std.proofs.lemmas.List.Elements.{filter-append}
 use Rattle.std.proofs.lemmas.List.Sums.{sum_by-append, sum_by-cons}
@@ -15,6 +15,7 @@ use Rattle.audit_model.specs.Below.{count_below, map_below}
 use Rattle.audit_model.specs.Graph.{count_edges}
 use Rattle.audit_model.specs.Job.{Job}
 use Rattle.audit_model.specs.Limits.{most_edges}
+use Rattle.audit_model.specs.Meets.{majorities}
 use Rattle.audit_model.specs.Plan.{IsLegal, is_legal}
 use Rattle.audit_model.specs.Proposal.{proposal, counted_draws}
 use Rattle.audit_model.specs.Serially.{serial_by}
@@ -26,14 +27,15 @@ use Rattle.audit_model.proofs.Below.{count_below_same}
 use Rattle.audit_model.proofs.Bools.{same_bool}
 use Rattle.audit_model.proofs.Legal.{legal_passes, passes_legal}
 use Rattle.audit_model.proofs.Meeting.{default_meets}
-use Rattle.audit_statement.specs.Report.{ask_words, billionths, ends_line, ends_lines, graph_line, line, population_line, report, rule_lines, serial_lines, setting_line, shift_line, split_line, stop_line, test_lines, thread_report, title_line, walk_line, walk_lines}
+use Rattle.audit_statement.specs.Report.{ask_words, billionths, ends_line, ends_lines, graph_line, group_line, line, origin_lines, population_line, report, rule_lines, serial_lines, setting_line, shift_line, split_line, splits_line, stop_line, test_lines, thread_report, title_line, walk_line, walk_lines}
 use Rattle.audit_statement.specs.Valid.{IsValid}
 use Rattle.audit_statement.specs.Plain.{Decides, after_step, plan_after, each_below, is_extreme, end, start_rank, outlier_line, parallel_line, plain_report}
 
--- a job with no rules beside legality: no fewer edges may be cut than there are, and there are no regions
+-- a job with no rules beside legality: no fewer edges may be cut than there are, there are no regions, and no majority of a group is due
 pub record HasNoRules (job : Job) : Type 0 where
   pub enough : count_edges job.graph (λ u v. true) ≤ job.setting.max_cut
   pub none : job.regions ≡ []
+  pub none_due : job.setting.group_districts ≡ 0
 
 -- ---- valid plans are the legal ones
 
@@ -48,7 +50,7 @@ valid_is_legal job plan free h = record {
   in_range = h.in_range;
   connected = h.connected;
   balanced = h.balanced;
-  meeting = default_meets job plan free.enough free.none;
+  meeting = default_meets job plan free.enough free.none free.none_due;
 }
 
 -- ---- the same plans are visited
@@ -204,6 +206,8 @@ pub record AsksPlainly (job : Job) : Type 0 where
   pub no_serial : job.setting.serial ≡ false
   pub no_shift : job.setting.shift ≡ false
   pub any_cut : job.setting.max_cut ≡ most_edges
+  pub no_group : job.group.members ≡ []
+  pub no_origin : job.origin ≡ None
   pub few_asks : length job.setting.asks ≤ 4
 
 -- the line of an outlier trajectory by its numbers
@@ -234,9 +238,10 @@ abbrev end_is_extreme : Visits → Job → Draws → Ask → ℕ → Bool
 end_is_extreme v job draws ask n = in_tail ask.tail (plan_value job (end_by v job draws n) ask.score) (plan_value job job.start ask.score)
 
 -- the report on the job's outcomes, by the parts that may be left out
-abbrev report_by : Job → Draws → Bool → List ℕ → ℕ → List ℕ → List (List ℕ) → Bool → List ℕ
-report_by job draws shift rules stop walks stops serial =
+abbrev report_by : Job → Draws → Bool → List ℕ → List ℕ → ℕ → List ℕ → List (List ℕ) → Bool → List ℕ
+report_by job draws shift origin rules stop walks stops serial =
     title_line shift
+    ++ origin
     ++ line (codes "key" ∷ encode_lower job.setting.key ∷ [])
     ++ graph_line job
     ++ population_line job
@@ -326,11 +331,25 @@ module _ (job : Job) (free : HasNoRules job) (plain : AsksPlainly job) (valid : 
 
   rule_lines_are : rule_lines job ≡ []
   rule_lines_are =
-      ap (λ (most : ℕ). cond (nat_lt most most_edges) (line (codes "max-cut" ∷ decimal most ∷ [])) [] ++ split_line job.setting.max_split job.regions) plain.any_cut
-      ∙ ap (split_line job.setting.max_split) free.none
+      ap (λ (most : ℕ). cond (nat_lt most most_edges) (line (codes "max-cut" ∷ decimal most ∷ [])) []
+      ++ region_line job.regions ++ all_line job.regions ++ majority_line job.group.members) plain.any_cut
+      ∙ ap (λ (regions : List ℕ). region_line regions ++ all_line regions ++ majority_line job.group.members) free.none
+      ∙ ap majority_line plain.no_group
+    where
+      region_line : List ℕ → List ℕ
+      region_line regions = split_line job.setting.max_split regions
+
+      all_line : List ℕ → List ℕ
+      all_line regions = splits_line job.setting.max_splits job.setting.max_split_regions regions
+
+      majority_line : List ℕ → List ℕ
+      majority_line members = group_line job.setting.group_districts (majorities job.group job.start) members
+
+  origin_lines_are : origin_lines job job.origin ≡ []
+  origin_lines_are = ap (origin_lines job) plain.no_origin
 
   emptied : (walks : List ℕ) (stops : List (List ℕ))
-      → report_by job draws false [] 0 walks stops false ≡ plain_by job walks (ends_lines job.setting.ends job (sequence job draws))
+      → report_by job draws false [] [] 0 walks stops false ≡ plain_by job walks (ends_lines job.setting.ends job (sequence job draws))
   emptied walks stops =
       let head = line (codes "district-audit 1" ∷ []) ++ line (codes "key" ∷ encode_lower job.setting.key ∷ []) ++ graph_line job ++ population_line job in
       let ends = ends_lines job.setting.ends job (sequence job draws) in
@@ -344,10 +363,11 @@ module _ (job : Job) (free : HasNoRules job) (plain : AsksPlainly job) (valid : 
   unfolding thread_report report plain_report
   plain_report_is =
       let outcomes = sequence job draws in
-      ap (λ (b : Bool). report_by job draws b (rule_lines job) job.setting.stop (walk_lines job outcomes) (stops_of job outcomes) job.setting.serial) plain.no_shift
-      ∙ ap (λ (rules : List ℕ). report_by job draws false rules job.setting.stop (walk_lines job outcomes) (stops_of job outcomes) job.setting.serial) rule_lines_are
-      ∙ ap (λ (n : ℕ). report_by job draws false [] n (walk_lines job outcomes) (stops_of job outcomes) job.setting.serial) plain.no_stop
-      ∙ ap (λ (b : Bool). report_by job draws false [] 0 (walk_lines job outcomes) (stops_of job outcomes) b) plain.no_serial
-      ∙ ap (λ (walks : List ℕ). report_by job draws false [] 0 walks (stops_of job outcomes) false) walk_lines_are
+      ap (λ (b : Bool). report_by job draws b (origin_lines job job.origin) (rule_lines job) job.setting.stop (walk_lines job outcomes) (stops_of job outcomes) job.setting.serial) plain.no_shift
+      ∙ ap (λ (origin : List ℕ). report_by job draws false origin (rule_lines job) job.setting.stop (walk_lines job outcomes) (stops_of job outcomes) job.setting.serial) origin_lines_are
+      ∙ ap (λ (rules : List ℕ). report_by job draws false [] rules job.setting.stop (walk_lines job outcomes) (stops_of job outcomes) job.setting.serial) rule_lines_are
+      ∙ ap (λ (n : ℕ). report_by job draws false [] [] n (walk_lines job outcomes) (stops_of job outcomes) job.setting.serial) plain.no_stop
+      ∙ ap (λ (b : Bool). report_by job draws false [] [] 0 (walk_lines job outcomes) (stops_of job outcomes) b) plain.no_serial
+      ∙ ap (λ (walks : List ℕ). report_by job draws false [] [] 0 walks (stops_of job outcomes) false) walk_lines_are
       ∙ emptied (each_below job.setting.walks (λ n. flat_map (outlier_line job valid draws n) job.setting.asks)) (stops_of job outcomes)
       ∙ ap (plain_by job (each_below job.setting.walks (λ n. flat_map (outlier_line job valid draws n) job.setting.asks))) (ends_lines_are job.setting.ends)

@@ -1,10 +1,7 @@
 -- How a job is run changes nothing of what it finds; chains of its runs.
 use Rattle.std.proofs.Common.{◌≡◌, ℕ, zero, suc, ◌+◌, ◌-◌, ◌*◌, ◌==◌, ◌⊎◌, inl, inr, ◌&&◌, ◌||◌, not, Bool, true, false, List, [], ◌∷◌, ◌++◌, length, map, drop, take, replicate, get_or, Option, Some, None, refl, sym, ap, ◌∙◌, subst}
-use Rattle.std.specs.Prelude.{bytes_eq, codes, int_le, nat_le, nat_lt, pos, slice_range, flat_map}
-use Rattle.std.specs.Int.{to_be_bytes, w32}
+use Rattle.std.specs.Prelude.{bytes_eq, codes, int_le, nat_le, nat_lt, pos, slice_range}
 use Rattle.std.specs.List.{list_all}
-use Rattle.sha2.specs.Sha256.{sha256}
-use Rattle.audit_model.specs.Graph.{count_edges}
 use Rattle.std.specs.Ordering.{int_eq}
 use Rattle.std.specs.Io.KnownBytes.{Appends}
 use Rattle.std.proofs.Math.Path.{fun_ext}
@@ -13,6 +10,7 @@ use Rattle.audit_model.specs.Pair.{Pair, Stored}
 use Rattle.audit_model.specs.Tries.{Try}
 use Rattle.audit_model.specs.declared.outcome.Outcome.{Outcome}
 use Rattle.audit_model.specs.declared.outcome.Serial.{Serial}
+use Rattle.audit_model.specs.declared.origin.Origin.{Origin}
 use Rattle.audit_model.specs.declared.setting.Ask.{Ask}
 use Rattle.audit_model.specs.declared.fault.CkptFault.{CkptFault}
 use Rattle.audit_model.specs.Below.{all_below, count_below, map_below}
@@ -24,13 +22,13 @@ use Rattle.audit_model.specs.Serially.{place_and_ranks, serial_by, serial_of, se
 use Rattle.audit_model.specs.Step.{next}
 use Rattle.audit_model.specs.Stopping.{stops_by, stops_of}
 use Rattle.audit_model.specs.Trajectory.{Draws, bare, bin_of, four_values, in_tail, no_bins, outcome, outcome_by, outcome_with, plan_seats, plan_value, sequence, value_at, visit, whole}
-use Rattle.audit_statement.specs.Checkpoint.{checkpoint_fault, digest_name, edge_bytes, has_rules, job_digest, rule_bytes, score_code, stated_count, tail_code, unit_bytes}
+use Rattle.audit_statement.specs.Checkpoint.{checkpoint_fault, job_digest, stated_count}
 use Rattle.audit_statement.specs.Slots.{IsHonestSlot, Slot, absent, broken, checkpoint_limit, other, ours, outcome_in, slot_of, slot_of_bytes, slot_of_checkpoint, slot_of_digest, slot_of_ours, IsNotOurs}
 use Rattle.audit_statement.specs.Histories.{AreCarriedOut, stopped_in}
 use Rattle.ckpt_store.specs.Laws.{SavesKeepTheNewest, SavesLeaveHonestSlots}
 use Rattle.audit_statement.specs.Draw.{draw}
 use Rattle.hex.specs.Hex.{encode_lower}
-use Rattle.audit_statement.specs.Report.{ends_lines, graph_line, line, population_line, report, rule_lines, serial_lines, setting_line, shift_line, stop_line, test_lines, thread_report, title_line, walk_lines}
+use Rattle.audit_statement.specs.Report.{ends_lines, graph_line, line, origin_lines, population_line, report, rule_lines, serial_lines, setting_line, shift_line, stop_line, test_lines, thread_report, title_line, walk_lines}
 use Rattle.audit_statement.specs.Chain.{AreHonestOf, ResumesHonestly, TriesOver}
 use Rattle.audit_model.specs.Told.{IfBothTold, IfTold}
 use Rattle.audit_statement.specs.Endings.{WritesReport, place_of}
@@ -140,23 +138,9 @@ module _ (job : Job) (manner : Manner) where
   unfolding sequence
   sequence_same same draws = ap (λ (f : ℕ → Outcome). map_below (job.setting.walks + job.setting.ends) f) (fun_ext (λ id. outcome_same same draws id))
 
-  rules_same : (b : Bool) → rule_bytes b again ≡ rule_bytes b job
-  rules_same true = refl
-  rules_same false = refl
-
   digest_same : job_digest again ≡ job_digest job
   unfolding job_digest
-  digest_same =
-      ap (λ (rules : List ℕ). sha256 (digest_name (has_rules job)
-      ++ to_be_bytes w32 job.graph.units ++ to_be_bytes w32 (count_edges job.graph (λ u v. true)) ++ to_be_bytes w32 job.districts
-      ++ edge_bytes job.graph
-      ++ flat_map (unit_bytes job) (map_below job.graph.units (λ u. u))
-      ++ to_be_bytes w32 job.setting.slack ++ job.setting.key
-      ++ to_be_bytes w32 job.setting.walks ++ to_be_bytes w32 job.setting.steps
-      ++ to_be_bytes w32 job.setting.ends ++ to_be_bytes w32 job.setting.hub_steps
-      ++ to_be_bytes w32 (length job.setting.asks)
-      ++ flat_map (λ ask. to_be_bytes w32 (score_code ask.score) ++ to_be_bytes w32 (tail_code ask.tail)) job.setting.asks
-      ++ rules)) (rules_same (has_rules job))
+  digest_same = refl
 
   ends_same : (ends : ℕ) (outcomes : List Outcome) → ends_lines ends again outcomes ≡ ends_lines ends job outcomes
   ends_same zero outcomes = refl
@@ -170,17 +154,24 @@ module _ (job : Job) (manner : Manner) where
   serial_same None = refl
   serial_same (Some found) = refl
 
-  report_same : manner.shift ≡ job.setting.shift → (outcomes : List Outcome) (stops : List (List ℕ)) (serial : Option (ℕ × List ℕ))
+  origin_same : (origin : Option Origin) → origin_lines again origin ≡ origin_lines job origin
+  origin_same None = refl
+  origin_same (Some origin) = refl
+
+  report_same : manner.shift ≡ job.setting.shift → manner.origin ≡ job.origin → (outcomes : List Outcome) (stops : List (List ℕ)) (serial : Option (ℕ × List ℕ))
       → report again outcomes stops serial ≡ report job outcomes stops serial
   unfolding report
-  report_same same outcomes stops serial =
-      ap (λ (tests : List ℕ). with_lines manner.shift tests (serial_lines again serial)) (tests_same job.setting.stop outcomes stops)
-      ∙ ap (λ (rest : List ℕ). with_lines manner.shift (test_lines job.setting.stop job outcomes stops) rest) (serial_same serial)
-      ∙ ap (λ (b : Bool). with_lines b (test_lines job.setting.stop job outcomes stops) (serial_lines job serial)) same
+  report_same same from outcomes stops serial =
+      ap (λ (tests : List ℕ). with_lines manner.shift (origin_lines again manner.origin) tests (serial_lines again serial)) (tests_same job.setting.stop outcomes stops)
+      ∙ ap (λ (rest : List ℕ). with_lines manner.shift (origin_lines again manner.origin) (test_lines job.setting.stop job outcomes stops) rest) (serial_same serial)
+      ∙ ap (λ (b : Bool). with_lines b (origin_lines again manner.origin) (test_lines job.setting.stop job outcomes stops) (serial_lines job serial)) same
+      ∙ ap (λ (head : List ℕ). with_lines job.setting.shift head (test_lines job.setting.stop job outcomes stops) (serial_lines job serial))
+      (origin_same manner.origin ∙ ap (origin_lines job) from)
     where
-      with_lines : Bool → List ℕ → List ℕ → List ℕ
-      with_lines binned tests rest =
+      with_lines : Bool → List ℕ → List ℕ → List ℕ → List ℕ
+      with_lines binned head tests rest =
           title_line binned
+          ++ head
           ++ line (codes "key" ∷ encode_lower job.setting.key ∷ [])
           ++ graph_line job
           ++ population_line job
@@ -215,12 +206,12 @@ module _ (job : Job) (manner : Manner) where
   stops_same outcomes = stops_by_same job.setting.stop outcomes
 
   -- the whole report: with the lines of the serial test exactly where this run asks for it
-  thread_report_is : manner.shift ≡ job.setting.shift → (draws : Draws)
+  thread_report_is : manner.shift ≡ job.setting.shift → manner.origin ≡ job.origin → (draws : Draws)
       → thread_report again draws ≡ report job (sequence job draws) (stops_of job (sequence job draws)) (serial_by manner.serial job draws)
   unfolding thread_report
-  thread_report_is same draws =
+  thread_report_is same from draws =
       ap (λ (stops : List (List ℕ)). report again (sequence again draws) stops (serial_by manner.serial again draws)) (stops_same (sequence again draws))
-      ∙ report_same same (sequence again draws) (stops_of job (sequence again draws)) (serial_by manner.serial again draws)
+      ∙ report_same same from (sequence again draws) (stops_of job (sequence again draws)) (serial_by manner.serial again draws)
       ∙ ap (λ (os : List Outcome). report job os (stops_of job os) (serial_by manner.serial again draws)) (sequence_same same draws)
       ∙ ap (λ (found : Option (ℕ × List ℕ)). report job (sequence job draws) (stops_of job (sequence job draws)) found) (told_same manner.serial draws)
 
@@ -295,9 +286,9 @@ reruns_are_alike job manner = record {
   same_report = report_same job manner;
 }
 
--- how the job itself is run, but that it asks for bins and for the serial test or does not
-abbrev own : Job → Bool → Bool → Manner
-own job shift serial = record {
+-- how the job itself is run, but that it asks for bins and for the serial test or does not, and tells this origin
+abbrev own : Job → Bool → Bool → Option Origin → Manner
+own job shift serial origin = record {
   command = job.setting.command;
   workers = job.setting.workers;
   budget = job.setting.budget;
@@ -307,13 +298,15 @@ own job shift serial = record {
   serial = serial;
   parts = job.setting.parts;
   part = job.setting.part;
+  source = job.setting.source;
+  origin = origin;
 }
 
 -- how a job is run changes nothing of the report
-thread_report_same : (job : Job) (manner : Manner) → manner.shift ≡ job.setting.shift → (draws : Draws)
-    → thread_report (rerun job manner) draws ≡ thread_report (asking job manner.shift manner.serial) draws
-thread_report_same job manner same draws =
-    thread_report_is job manner same draws ∙ sym (thread_report_is job (own job manner.shift manner.serial) same draws)
+thread_report_same : (job : Job) (manner : Manner) → manner.shift ≡ job.setting.shift → manner.origin ≡ job.origin → (draws : Draws)
+    → thread_report (rerun job manner) draws ≡ thread_report (asking job manner.shift manner.serial manner.origin) draws
+thread_report_same job manner same from draws =
+    thread_report_is job manner same from draws ∙ sym (thread_report_is job (own job manner.shift manner.serial manner.origin) same from draws)
 
 -- ---- a stop
 
@@ -326,7 +319,7 @@ stops_keep_the_newest law job before after p status told now t n q out =
 
 -- the job is a rerun of its rerun
 back_again : (job : Job) (l : Link) → FindTheSame (job_in job l) job
-back_again job l = reruns_are_alike (job_in job l) (own job job.setting.shift job.setting.serial)
+back_again job l = reruns_are_alike (job_in job l) (own job job.setting.shift job.setting.serial job.origin)
 
 -- all that was tried, as it ended
 stopped_after : (tries : List Try) → stopped_in (length tries) tries ≡ tries
@@ -380,7 +373,7 @@ module _ (law : SavesLeaveHonestSlots) (job : Job) (p : Pair) (l : Link) (honest
   asked_alike : IsLink job p l → WritesOneThreads (job_in job l) l.before l.after → WroteOneThreads job l
   asked_alike link wrote =
       subst (λ (text : List ℕ). Appends l.before.out.bytes l.after.out.bytes text)
-      (thread_report_same (asking job l.manner.shift l.manner.serial) l.manner refl (draw job.setting.key))
+      (thread_report_same (asking job l.manner.shift l.manner.serial l.manner.origin) l.manner refl refl (draw job.setting.key))
       wrote
 
   link_wrote : IsLink job p l → HasWritten job (ran l)

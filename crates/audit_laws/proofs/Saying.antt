@@ -1,5 +1,5 @@
 -- Accepted words of a run say its setting.
-use Rattle.std.proofs.Common.{◌≡◌, ℕ, Bool, true, false, ◌&&◌, List, [], ◌∷◌, map, Option, Some, None, Result, Ok, Err, ◌<◌, refl, sym, ap, ◌∙◌, subst, cond, inl, inr, arith}
+use Rattle.std.proofs.Common.{◌≡◌, ℕ, Bool, true, false, ◌&&◌, not, List, [], ◌∷◌, length, map, Option, Some, None, Result, Ok, Err, ◌<◌, refl, sym, ap, ◌∙◌, subst, cond, inl, inr, arith}
 use Rattle.std.specs.Prelude.{◌^◌, ◌==◌, nat_lt, bytes_eq, codes, decimal, find, is_some, nat_le, option_and_then, option_map, unwrap_or}
 use Rattle.std.specs.Fmt.{digits}
 use Rattle.std.specs.Option.{option_or}
@@ -8,14 +8,14 @@ use Rattle.std.proofs.lemmas.Bool.{and_parts, eqb-true, leb-true, ltb-true, or_c
 use Rattle.std.proofs.lemmas.Slice.Eq.{bytes_eq-Decides}
 use Rattle.hex.specs.Hex.{decode_sized}
 use Rattle.audit_model.specs.declared.fault.Name.{Name}
-use Rattle.audit_model.specs.declared.fault.Name.TheVariants.{Pop, First, Second, District, Slack, Key, Walks, Steps, Ends, HubSteps, Ask, Save, Resume, MaxCut, Shift, Stop, Serial, Region, Parts, Part}
+use Rattle.audit_model.specs.declared.fault.Name.TheVariants.{Pop, First, Second, District, Slack, Key, Walks, Steps, Ends, HubSteps, Ask, Save, Resume, MaxCut, Shift, Stop, Serial, Region, Parts, Part, Group, GroupDistricts, Source}
 use Rattle.audit_model.specs.declared.fault.WordFault.{WordFault}
 use Rattle.audit_model.specs.declared.setting.Ask.{Ask as AskOf}
 use Rattle.audit_model.specs.declared.setting.Command.TheVariants.{Run}
 use Rattle.audit_model.specs.declared.setting.Setting.{Setting}
 use Rattle.audit_model.specs.Limits.{most_edges}
 use Rattle.audit_model.specs.Names.{name_text}
-use Rattle.audit_statement.specs.Words.{NameAndValue, all_asks, as_run, ask_of, ask_text, asks_of, default_of, digits_value, fault_of, is_number, number_named, number_of, pairs, parts_between, saves_parts, setting_of, setting_or, text_of, with_ask}
+use Rattle.audit_statement.specs.Words.{NameAndValue, all_asks, as_run, ask_of, ask_text, asks_of, default_of, digits_value, fault_of, has_majority_group, is_empty, is_number, number_named, number_of, pairs, parts_between, saves_parts, setting_of, setting_or, text_of, with_ask}
 use Rattle.audit_laws.proofs.Words.{good}
 use Rattle.audit_statement.specs.Said.{ArePlain, AreSaid, IsSilent, IsSpelled, said}
 
@@ -116,6 +116,9 @@ pub record IsPlain (setting : Setting) : Type 0 where
   pub no_shift : setting.shift ≡ false
   pub no_regions : setting.region ≡ []
   pub any_cut : setting.max_cut ≡ most_edges
+  pub no_group : setting.columns.group ≡ []
+  pub none_due : setting.group_districts ≡ 0
+  pub untold : setting.source ≡ false
 
 -- ---- all of it
 
@@ -167,10 +170,21 @@ one_part rest faultless none =
 silent_text : (rest : List (List ℕ)) (name : Name) → IsSilent rest (name_text name) → text_of Run (pairs rest) name ≡ unwrap_or (default_of name) []
 silent_text rest name silent = value_or (name_text name) (default_of name) rest ∙ silent (unwrap_or (default_of name) [])
 
--- words without the special ones give a plain setting
-pub silent_is_plain : (rest : List (List ℕ)) → ArePlain rest → IsPlain (as_run Run (pairs rest))
+-- where no group is named, no majority of one is due
+none_due : (rest : List (List ℕ)) → fault_of Run (pairs rest) ≡ None → text_of Run (pairs rest) Group ≡ [] → number_named Run (pairs rest) GroupDistricts ≡ 0
+none_due rest faultless none =
+    let words = pairs rest in
+    let due = number_named Run words GroupDistricts in
+    let named = (and_parts (is_number 0 200 (text_of Run words GroupDistricts)) (has_majority_group Run words) (good Run words 27 GroupDistricts faultless refl)).1 in
+    elim (or_cases (due == 0) (not (is_empty Run words Group)) named) [
+      | inl e ↦ eqb-true due 0 e
+      | inr e ↦ let there : false ≡ true = sym (ap (λ (t : List ℕ). not (length t == 0)) none) ∙ e in cc
+    ]
+
+-- accepted words without the special ones give a plain setting
+pub silent_is_plain : (rest : List (List ℕ)) → fault_of Run (pairs rest) ≡ None → ArePlain rest → IsPlain (as_run Run (pairs rest))
 unfolding digits
-silent_is_plain rest h = record {
+silent_is_plain rest faultless h = record {
   run = refl;
   no_saves = ap (λ (t : List ℕ). unwrap_or (number_of t) 0) (silent_text rest Save (h 0 [] (omega arith)));
   fresh = ap (λ (t : List ℕ). bytes_eq t (codes "yes")) (silent_text rest Resume (h 1 [] (omega arith)));
@@ -179,4 +193,7 @@ silent_is_plain rest h = record {
   no_shift = ap (λ (t : List ℕ). bytes_eq t (codes "yes")) (silent_text rest Shift (h 4 [] (omega arith)));
   no_regions = silent_text rest Region (h 5 [] (omega arith));
   any_cut = ap (λ (t : List ℕ). unwrap_or (number_of t) 0) (silent_text rest MaxCut (h 6 [] (omega arith)));
+  no_group = silent_text rest Group (h 7 [] (omega arith));
+  none_due = none_due rest faultless (silent_text rest Group (h 7 [] (omega arith)));
+  untold = ap (λ (t : List ℕ). bytes_eq t (codes "yes")) (silent_text rest Source (h 8 [] (omega arith)));
 }

@@ -6,9 +6,9 @@ use Rattle.audit_model.specs.declared.outcome.Counts.{Counts}
 use Rattle.audit_model.specs.Graph.{Graph, IsIn, adjacent}
 use Rattle.audit_model.specs.Job.{Job}
 use Rattle.audit_model.specs.JobOf.{job_from, job_of, job_or, plan_fault}
-use Rattle.audit_model.specs.Limits.{most_edges}
 use Rattle.audit_model.specs.Path.{IsConnected, IsPath}
-use Rattle.audit_model.specs.Plan.{IsLegal, in_district}
+use Rattle.audit_model.specs.District.{in_district}
+use Rattle.audit_model.specs.Plan.{IsLegal}
 use Rattle.audit_statement.specs.Reading.{Document, district_at, document, graph, label_count, node_count, parsed}
 use Rattle.audit_model.proofs.Accepted.{legal_is_accepted}
 use Rattle.audit_model.proofs.Below.{get_or-map_below, length-map_below}
@@ -19,7 +19,7 @@ use Rattle.audit_laws.proofs.Reading.{given_is}
 use Rattle.audit_laws.proofs.Sound.{edges_same, read_so, shape, sound}
 use Rattle.audit_laws.specs.Determined.{AreOfOneGraph}
 use Rattle.audit_statement.specs.Given.{IsGiven}
-use Rattle.audit_laws.specs.Taken.{GivenJobsAreTaken}
+use Rattle.audit_laws.specs.Taken.{GivenJobsAreTaken, LimitsNothing}
 use Rattle.audit_statement.specs.PlainlyEnded.{IsAllowed}
 use Rattle.audit_statement.specs.Valid.{IsValid}
 
@@ -52,7 +52,7 @@ module _ (a b : Graph) (inside : ℕ → Bool) (units : a.units ≡ b.units)
         (path.0, path_same path.0 x y path.1);
   }
 
-module _ (root : Data) (job : Job) (g : IsGiven root job) (fit : IsAllowed root job) (valid : IsValid job job.start) where
+module _ (root : Data) (job : Job) (g : IsGiven root job) (fit : IsAllowed root job) (valid : IsValid job job.start) (free : LimitsNothing job.setting) where
   abbrev d : Document
   d = document root
 
@@ -77,8 +77,8 @@ module _ (root : Data) (job : Job) (g : IsGiven root job) (fit : IsAllowed root 
       }
 
   pub same : AreOfOneGraph made job
-  same = one_graph root made job refl
-      (given_is job.setting root (shape root job g fit valid) (sound root job g fit valid)) g numbered (valid_is_numbered job valid)
+  same = one_graph root made job (record { population = refl; first = refl; second = refl; district = refl })
+      (given_is job.setting root (shape root job g fit valid free.no_group) (sound root job g fit valid free.no_group)) g numbered (valid_is_numbered job valid)
 
   -- the job with the graph that is read
   abbrev with : Counts → List ℕ → ℕ → Job
@@ -89,6 +89,8 @@ module _ (root : Data) (job : Job) (g : IsGiven root job) (fit : IsAllowed root 
     districts = districts;
     setting = job.setting;
     regions = [];
+    group = made.group;
+    origin = None;
   }
 
   made_is : made ≡ with job.counts job.start job.districts
@@ -97,8 +99,8 @@ module _ (root : Data) (job : Job) (g : IsGiven root job) (fit : IsAllowed root 
       ∙ ap (λ (start : List ℕ). with job.counts start made.districts) same.start
       ∙ ap (with job.counts job.start) same.districts
 
-  legal : job.setting.max_cut ≡ most_edges → IsLegal (with job.counts job.start job.districts) job.start
-  legal free =
+  legal : IsLegal (with job.counts job.start job.districts) job.start
+  legal =
       let units : job.graph.units ≡ node_count d = sym same.units in
       record {
         complete = valid.complete ∙ units;
@@ -107,19 +109,19 @@ module _ (root : Data) (job : Job) (g : IsGiven root job) (fit : IsAllowed root 
             (λ u v p q. sym (same.edges u v (omega (arith, p, units)) (omega (arith, q, units)))) (valid.connected k l);
         balanced = valid.balanced;
         meeting = default_meets (with job.counts job.start job.districts) job.start
-            (omega (arith, free, edges_same root job g fit valid, fit.edges)) refl;
+            (omega (arith, free.any_cut, edges_same root job g fit valid free.no_group, fit.edges)) refl free.none_due;
       }
 
-  pub accepted : job.setting.max_cut ≡ most_edges → job_of (parsed d job.setting.columns) job.setting [] ≡ Ok made
+  pub accepted : job_of (parsed d job.setting.columns) job.setting [] ≡ Ok made
   unfolding job_of
-  accepted free = ap (job_or made) (subst (λ (j : Job). plan_fault j ≡ None) (sym made_is)
-      (legal_is_accepted (with job.counts job.start job.districts) fit.votes (legal free)))
+  accepted = ap (job_or made) (subst (λ (j : Job). plan_fault j ≡ None) (sym made_is)
+      (legal_is_accepted (with job.counts job.start job.districts) fit.votes legal))
 
 -- bytes that give a job with a valid start plan, within the limits, are taken
 pub given_jobs_are_taken : GivenJobsAreTaken
 given_jobs_are_taken bytes root job text json g valid fit free = record {
   parsed = parsed (document root) job.setting.columns;
-  read_so = read_so root job g fit valid bytes text json;
+  read_so = read_so root job g fit valid free.no_group bytes text json;
   accepted = accepted root job g fit valid free;
-  same = same root job g fit valid;
+  same = same root job g fit valid free;
 }

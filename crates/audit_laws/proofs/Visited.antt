@@ -1,8 +1,6 @@
 -- The start plan of an accepted job is legal, and so is each plan that is visited.
-use Rattle.std.proofs.Common.{◌≡◌, ℕ, zero, suc, ◌<◌, ◌≤◌, ◌&&◌, Bool, true, false, List, length, Option, Some, None, Result, Ok, Err, Ordering, Less, Equal, Greater, refl, sym, ap, ◌∙◌, subst, inl, inr, cond, arith}
+use Rattle.std.proofs.Common.{◌≡◌, ℕ, zero, suc, ◌<◌, ◌≤◌, ◌&&◌, Bool, true, false, List, length, Option, Some, None, Result, Ok, Err, refl, sym, ap, ◌∙◌, subst, inl, inr, cond, arith}
 use Rattle.std.specs.Prelude.{nat_lt, slice_index}
-use Rattle.std.specs.Ordering.{is_eq, is_lt, int_cmp, nat_cmp}
-use Rattle.std.specs.Cmp.Lexicographic.{slice_cmp}
 use Rattle.std.specs.Str.{is_utf8}
 use Rattle.std.proofs.lemmas.Bool.{and_parts, cases_Bool, both_ways, not_from_false}
 use Rattle.serde_json.specs.Data.{Data}
@@ -11,9 +9,9 @@ use Rattle.audit_model.specs.declared.fault.GraphFault.{GraphFault}
 use Rattle.audit_model.specs.declared.fault.Part.{Part}
 use Rattle.audit_model.specs.declared.fault.PlanFault.{PlanFault}
 use Rattle.audit_model.specs.declared.fault.RegionFault.{RegionFault}
+use Rattle.audit_model.specs.declared.origin.Origin.{Origin}
 use Rattle.audit_model.specs.declared.setting.Columns.{Columns}
 use Rattle.audit_model.specs.declared.setting.Label.{Label}
-use Rattle.audit_model.specs.declared.setting.Label.TheVariants.{Whole, Word}
 use Rattle.audit_model.specs.declared.setting.Setting.{Setting}
 use Rattle.audit_model.specs.Below.{any_below, map_below}
 use Rattle.audit_model.specs.Job.{Job}
@@ -31,7 +29,8 @@ use Rattle.audit_laws.proofs.Judged.{from_job_is}
 use Rattle.audit_laws.proofs.Reading.{not_before_itself}
 use Rattle.audit_statement.specs.Draw.{draw}
 use Rattle.audit_statement.specs.Reading.{Document, node_count, label_at, label_count, is_new_label, district_at, parsed, document, refusal, bad_part, accepted_or, of_root, of_json, reading}
-use Rattle.audit_statement.specs.Accepted.{IsAccepted, from_job, from_regions, from_parsed, from_bytes, judged, most_bytes}
+use Rattle.audit_statement.specs.Accepted.{IsAccepted, from_regions, from_parsed, from_bytes, judged, most_bytes}
+use Rattle.audit_statement.specs.Origin.{origin_of, with_origin}
 use Rattle.audit_statement.specs.Regions.{regions_by}
 use Rattle.audit_statement.specs.Visits.{VisitsLegal}
 
@@ -120,15 +119,28 @@ job_is_legal p setting regions job r e =
     subst (λ (j : Job). IsLegal j j.start) made.1
     (subst (λ (q : Parsed). IsLegal (job_from q setting regions) q.start) r.same (read_start_is_legal r.of setting.columns setting regions none))
 
+-- whatever a job's origin, the same plans are legal
+legal_from : (job : Job) (origin : Option Origin) (plan : List ℕ) → IsLegal job plan → IsLegal (with_origin origin job) plan
+legal_from job origin plan h = record {
+  complete = h.complete;
+  in_range = h.in_range;
+  connected = h.connected;
+  balanced = h.balanced;
+  meeting = h.meeting;
+}
+
 -- the start plan of a job that is judged with its regions is legal
-from_regions_is : (setting : Setting) (p : Parsed) (r : Result (List ℕ) RegionFault) (job : Job) → IsReadOf p setting.columns → from_regions setting p r ≡ Ok job → IsLegal job job.start
-from_regions_is setting p (Ok regions) job read e = job_is_legal p setting regions job read (from_job_is (job_of p setting regions) job e)
-from_regions_is setting p (Err f) job read e = cc
+from_regions_is : (setting : Setting) (origin : Option Origin) (p : Parsed) (r : Result (List ℕ) RegionFault) (job : Job) → IsReadOf p setting.columns
+    → from_regions setting origin p r ≡ Ok job → IsLegal job job.start
+from_regions_is setting origin p (Ok regions) job read e =
+    let kept = from_job_is origin (job_of p setting regions) job e in
+    subst (λ (j : Job). IsLegal j j.start) kept.2 (legal_from kept.0 origin kept.0.start (job_is_legal p setting regions kept.0 read kept.1))
+from_regions_is setting origin p (Err f) job read e = cc
 
 -- the start plan of a job that is judged of what is read is legal
 from_parsed_is : (setting : Setting) (bytes : List ℕ) (r : Result Parsed GraphFault) (job : Job) → reading bytes setting.columns ≡ r → from_parsed setting bytes r ≡ Ok job
     → IsLegal job job.start
-from_parsed_is setting bytes (Ok p) job is e = from_regions_is setting p (regions_by setting.region bytes) job (read_is bytes setting.columns p is) e
+from_parsed_is setting bytes (Ok p) job is e = from_regions_is setting (origin_of setting bytes) p (regions_by setting.region bytes) job (read_is bytes setting.columns p is) e
 from_parsed_is setting bytes (Err f) job is e = cc
 
 -- the start plan of a job that is judged of bytes is legal

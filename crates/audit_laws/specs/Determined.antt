@@ -1,10 +1,18 @@
 -- What JSON gives is one thing.
 use Rattle.std.specs.Prelude.{◌≡◌, ℕ, ◌<◌}
 use Rattle.serde_json.specs.Data.{Data}
+use Rattle.audit_model.specs.declared.setting.Columns.{Columns}
 use Rattle.audit_model.specs.Graph.{adjacent}
 use Rattle.audit_model.specs.Job.{Job}
 use Rattle.audit_statement.specs.Given.{IsGiven}
 use Rattle.audit_statement.specs.Valid.{IsValid}
+
+-- population, votes and districts are read by the same columns
+pub record ReadAlike (a b : Columns) : Type 0 where
+  pub population : a.population ≡ b.population
+  pub first : a.first ≡ b.first
+  pub second : a.second ≡ b.second
+  pub district : a.district ≡ b.district
 
 -- they have the same units, edges, counts, districts and start plan
 pub record AreOfOneGraph (a b : Job) : Type 0 where
@@ -14,7 +22,7 @@ pub record AreOfOneGraph (a b : Job) : Type 0 where
   pub districts : a.districts ≡ b.districts
   pub start : a.start ≡ b.start
 
--- two jobs with valid start plans that one JSON gives, by the same columns
+-- two jobs with valid start plans that one JSON gives, by the same columns of population, votes and districts
 abbrev pub GivenJobsAreOfOneGraph : Type 0
-GivenJobsAreOfOneGraph = (root : Data) (a b : Job) → a.setting.columns ≡ b.setting.columns → IsGiven root a → IsGiven root b
+GivenJobsAreOfOneGraph = (root : Data) (a b : Job) → ReadAlike a.setting.columns b.setting.columns → IsGiven root a → IsGiven root b
     → IsValid a a.start → IsValid b b.start → AreOfOneGraph a b

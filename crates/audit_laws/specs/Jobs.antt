@@ -1,8 +1,11 @@
 -- Small jobs, for examples that compute.
-use Rattle.std.specs.Prelude.{ℕ, List, [], ◌∷◌, slice_index, replicate, false, pos}
+use Rattle.std.specs.Prelude.{ℕ, List, [], ◌∷◌, slice_index, replicate, true, false, pos, Some, None}
 use Rattle.audit_model.specs.declared.outcome.Counts.{Counts}
 use Rattle.audit_model.specs.declared.outcome.Outcome.{Outcome}
+use Rattle.audit_model.specs.declared.rules.Group.{Group}
+use Rattle.audit_model.specs.declared.rules.Rules.{Rules}
 use Rattle.audit_model.specs.declared.setting.Ask.{Ask}
+use Rattle.audit_model.specs.declared.setting.Columns.{Columns}
 use Rattle.audit_model.specs.declared.setting.Command.TheVariants.{Run}
 use Rattle.audit_model.specs.declared.setting.Setting.{Setting}
 use Rattle.audit_model.specs.Graph.{Graph}
@@ -13,7 +16,7 @@ use Rattle.audit_model.specs.Trajectory.{no_bins}
 abbrev pub run_of : ℕ → ℕ → ℕ → ℕ → ℕ → List Ask → Setting
 run_of slack walks steps ends hub_steps asks = record {
   command = Run;
-  columns = record { population = []; first = []; second = []; district = [] };
+  columns = record { population = []; first = []; second = []; district = []; group = []; whole = [] };
   slack = slack;
   key = replicate 32 0;
   walks = walks;
@@ -34,7 +37,31 @@ run_of slack walks steps ends hub_steps asks = record {
   max_split = 200;
   parts = 1;
   part = 0;
+  max_splits = 995000;
+  max_split_regions = 5000;
+  group_districts = 0;
+  source = false;
 }
+
+-- no group
+abbrev pub no_group : Group
+no_group = record { members = []; whole = [] }
+
+-- rules that limit nothing
+abbrev pub no_rules : Rules
+no_rules = record {
+  max_cut = 400000;
+  regions = [];
+  max_split = 200;
+  max_splits = 995000;
+  max_split_regions = 5000;
+  group = no_group;
+  group_districts = 0;
+}
+
+-- a group in four units: in the second two it has three of four people, in the first two one of two
+abbrev pub group_of_four : Group
+group_of_four = record { members = 1 ∷ 0 ∷ 2 ∷ 1 ∷ []; whole = 1 ∷ 1 ∷ 2 ∷ 2 ∷ [] }
 
 -- four units in a row
 abbrev pub path_of_four : Graph
@@ -61,7 +88,18 @@ job_of_four graph setting = record {
   districts = 2;
   setting = setting;
   regions = [];
+  group = no_group;
+  origin = None;
 }
+
+-- the job of four units in a row with two regions, both in both districts, and a group with one majority, under limits of splits in all, of split
+-- regions and of majorities
+abbrev pub limited_job : ℕ → ℕ → ℕ → Job
+limited_job max_splits max_split_regions group_districts = record (job_of_four path_of_four (record (run_of 5000 1 8 0 1000 []) {
+  max_splits = max_splits;
+  max_split_regions = max_split_regions;
+  group_districts = group_districts;
+})) { regions = 0 ∷ 1 ∷ 1 ∷ 0 ∷ []; group = group_of_four }
 
 -- the first draws of the stream 0 under the key of zeros
 abbrev pub first_draws : List ℕ
@@ -81,6 +119,8 @@ job_of_three setting = record {
   districts = 2;
   setting = setting;
   regions = [];
+  group = no_group;
+  origin = None;
 }
 
 -- the job of four units in a row, in three districts
@@ -92,6 +132,8 @@ job_of_three_districts setting = record {
   districts = 3;
   setting = setting;
   regions = [];
+  group = no_group;
+  origin = None;
 }
 
 -- the job of two units in a row
@@ -103,6 +145,14 @@ job_of_two setting = record {
   districts = 2;
   setting = setting;
   regions = [];
+  group = no_group;
+  origin = None;
+}
+
+-- this job read by these columns, with this column of regions, that tells some origin
+abbrev pub told_job : Columns → List ℕ → Job
+told_job columns region = record (job_of_two (record (run_of 5000 1 8 0 1000 []) { columns = columns; region = region; source = true })) {
+  origin = Some (record { sha256 = replicate 32 171; bytes = 7 });
 }
 
 -- six units round a ring, and a unit beside the first

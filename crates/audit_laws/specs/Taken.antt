@@ -22,10 +22,16 @@ pub record AreTaken (bytes : List ℕ) (job : Job) : Type 0 where
   pub accepted : job_of parsed job.setting [] ≡ Ok (job_from parsed job.setting [])
   pub same : AreOfOneGraph (job_from parsed job.setting []) job
 
--- bytes that give a job with a valid start plan, within the limits, are taken, where no regions are read and no fewer edges may be cut than there may be
+-- no group is named, no majority of one is due, and no fewer edges may be cut than there may be
+pub record LimitsNothing (setting : Setting) : Type 0 where
+  pub no_group : setting.columns.group ≡ []
+  pub none_due : setting.group_districts ≡ 0
+  pub any_cut : setting.max_cut ≡ most_edges
+
+-- bytes that give a job with a valid start plan, within the limits, are taken, where no regions are read and the setting limits nothing else
 abbrev pub GivenJobsAreTaken : Type 0
 GivenJobsAreTaken = (bytes : List ℕ) (root : Data) (job : Job) → IsTrue (is_utf8 bytes) → read bytes ≡ Some root → IsGiven root job → IsValid job job.start
-    → IsAllowed root job → job.setting.max_cut ≡ most_edges → AreTaken bytes job
+    → IsAllowed root job → LimitsNothing job.setting → AreTaken bytes job
 
 -- the JSON of the bytes gives the job of what is read of them
 pub record IsGivenBy (bytes : List ℕ) (job : Job) : Type 0 where

@@ -1,19 +1,23 @@
 -- Small graphs as texts.
-use Rattle.std.specs.Prelude.{ℕ, List, [], ◌∷◌, codes, pos}
+use Rattle.std.specs.Prelude.{ℕ, List, [], ◌∷◌, ◌++◌, codes, pos}
 use Rattle.audit_model.specs.declared.setting.Columns.{Columns}
 use Rattle.audit_model.specs.declared.setting.Label.{Label}
 use Rattle.audit_model.specs.declared.setting.Label.TheVariants.{Whole}
-use Rattle.audit_laws.specs.Jobs.{counts_of_votes}
+use Rattle.audit_laws.specs.Jobs.{counts_of_votes, no_group}
 use Rattle.audit_model.specs.Graph.{Graph}
 use Rattle.audit_model.specs.Parsed.{Parsed}
 
 -- the columns of these texts
 abbrev pub columns : Columns
-columns = record { population = codes "pop"; first = codes "a"; second = codes "b"; district = codes "d" }
+columns = record { population = codes "pop"; first = codes "a"; second = codes "b"; district = codes "d"; group = []; whole = [] }
 
 -- four units in a row, with numbers as ids and labels
 abbrev pub path_text : List ℕ
 path_text = codes "{\"directed\":false,\"multigraph\":false,\"graph\":[],\"nodes\":[{\"pop\":1,\"a\":3,\"b\":1,\"d\":1,\"id\":0},{\"pop\":1,\"a\":1,\"b\":2,\"d\":1,\"id\":1},{\"pop\":1,\"a\":1,\"b\":2,\"d\":2,\"id\":2},{\"pop\":1,\"a\":2,\"b\":1,\"d\":2,\"id\":3}],\"adjacency\":[[{\"id\":1}],[{\"id\":0},{\"id\":2}],[{\"id\":1},{\"id\":3}],[{\"id\":2}]]}"
+
+-- the same, and a table with one plan
+abbrev pub path_and_plans : List ℕ
+path_and_plans = path_text ++ 10 ∷ codes "id,p" ++ 10 ∷ codes "0,A" ++ 10 ∷ codes "1,A" ++ 10 ∷ codes "2,A" ++ 10 ∷ codes "3,B"
 
 -- the same, with an edge in one list alone, written twice, and an edge from a unit to itself
 abbrev pub other_path_text : List ℕ
@@ -28,6 +32,7 @@ abbrev pub parsed_four : Graph → List Label → Parsed
 parsed_four graph labels = record {
   graph = graph;
   counts = counts_of_votes (3 ∷ 1 ∷ 1 ∷ 2 ∷ []) (1 ∷ 2 ∷ 2 ∷ 1 ∷ []) 4;
+  group = no_group;
   start = 0 ∷ 0 ∷ 1 ∷ 1 ∷ [];
   labels = labels;
 }

@@ -2,6 +2,8 @@
 
 pub mod formats;
 pub mod further;
+pub mod limits;
 pub mod model;
+pub mod origins;
 pub mod rules;
 pub mod tables;

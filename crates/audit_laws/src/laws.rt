@@ -22,7 +22,8 @@ pub fn ended_calls_keep_their_promise()
 
 /// How a job is run, by which command, how many workers, with what budget, what is saved and resumed and which of how many parts is walked, changes
 /// nothing of its digest, of what its trajectories find, and of its report: so the report of one of several plans is the one that `run` gives for this
-/// plan alone. Whether it asks for bins changes nothing of its digest, of what its trajectories find with all their bins, and of which slots are honest.
+/// plan alone. Whether it asks for bins changes nothing of its digest, of what its trajectories find with all their bins, and of which slots are honest;
+/// nor does its origin, told or not, of which the report alone has lines.
 pub fn reruns_are_alike()
     ensures { RerunsAreAlike }
 {}
@@ -43,8 +44,8 @@ pub fn stops_lose_nothing()
 }
 
 /// From honest slots, and so from absent ones, each run of any chain of halted, stopped and resumed runs of a job that ends with status 0 has
-/// written the report of one thread for the job that asks for bins as this run did, whatever the runs before it asked for and whichever version of
-/// the format the slots had at first.
+/// written the report of one thread for the job that asks for bins and tells its origin as this run did, whatever the runs before it asked for and
+/// whichever version of the format the slots had at first.
 pub fn chains_write_one_report()
     ensures { ChainsWriteOneReport }
 {

@@ -1,6 +1,6 @@
 -- The population bounds as two numbers, and which start plans are accepted.
-use Rattle.std.proofs.Common.{◌≡◌, ℕ, ◌+◌, ◌-◌, ◌*◌, ◌/◌, ◌<◌, ◌≤◌, false, [], ◌∷◌, length, Some, None, ap, ◌∙◌, arith}
-use Rattle.std.specs.Prelude.{◌↔◌, slice_index, option_map}
+use Rattle.std.proofs.Common.{◌≡◌, ℕ, ◌+◌, ◌-◌, ◌*◌, ◌/◌, ◌<◌, ◌≤◌, false, List, [], ◌∷◌, length, Option, Some, None, ap, ◌∙◌, arith}
+use Rattle.std.specs.Prelude.{◌↔◌, nat_lt, slice_index, option_map}
 use Rattle.std.specs.Option.{option_or}
 use Rattle.std.proofs.Math.Nat.{mul_comm}
 use Rattle.std.proofs.lemmas.Bool.{cond-false, leb-true, le-leb, le-ltb, ltb-false, not-false, not_from_true}
@@ -8,11 +8,13 @@ use Rattle.std.proofs.lemmas.Nat.{mul-le, div-add-mod', le-div}
 use Rattle.audit_model.specs.Below.{above_all}
 use Rattle.audit_model.specs.First.{first_some, first_below}
 use Rattle.audit_model.specs.Job.{Job, total_population}
-use Rattle.audit_model.specs.JobOf.{lacks_votes, is_unbalanced, is_parted, cuts_too_many, is_oversplit, votes_fault, bounds_fault, path_fault, cut_fault, split_fault, out_of_bounds, disconnected, oversplit, plan_fault}
-use Rattle.audit_model.specs.declared.fault.PlanFault.TheVariants.{NoVotes, TooManyCut}
-use Rattle.audit_model.specs.Meets.{split_of}
+use Rattle.audit_model.specs.JobOf.{lacks_votes, is_unbalanced, is_parted, cuts_too_many, is_oversplit, votes_fault, bounds_fault, path_fault, cut_fault, split_fault, splits_fault, split_regions_fault, group_fault, out_of_bounds, disconnected, oversplit, plan_fault}
+use Rattle.audit_model.specs.declared.fault.PlanFault.{PlanFault}
+use Rattle.audit_model.specs.declared.fault.PlanFault.TheVariants.{NoVotes, TooManyCut, TooManySplits, TooManySplitRegions, TooFewMajorities}
+use Rattle.audit_model.specs.Meets.{majorities, split_of, split_regions, splits_in_all}
 use Rattle.audit_model.specs.Path.{is_connected}
-use Rattle.audit_model.specs.Plan.{in_district, district_sum, cut_edges, IsBalanced, IsLegal, is_balanced, least_population, greatest_population}
+use Rattle.audit_model.specs.District.{in_district, district_sum}
+use Rattle.audit_model.specs.Plan.{cut_edges, IsBalanced, IsLegal, is_balanced, least_population, greatest_population}
 use Rattle.audit_model.specs.Rounded.{quotient_up}
 use Rattle.audit_model.proofs.Connected.{connected_passes, passes_connected}
 use Rattle.audit_model.proofs.Least.{quotient_up_is_least}
@@ -55,16 +57,31 @@ balanced_between job population above =
 
 -- ---- which start plans are accepted
 
--- where a job has no fault, none of its five tests finds one
+-- the last reasons to refuse a start plan, from that on: the group, the split regions, the splits in all, the splits of each region
+after_splits : Job → List (Option PlanFault)
+after_splits job = split_regions_fault job ∷ group_fault job ∷ []
+
+after_regions : Job → List (Option PlanFault)
+after_regions job = splits_fault job ∷ after_splits job
+
+after_cut : Job → List (Option PlanFault)
+after_cut job = split_fault job ∷ after_regions job
+
+-- where a job has no fault, none of its tests finds one
 no_fault_parts : (job : Job) → plan_fault job ≡ None
     → (votes_fault job ≡ None) × (bounds_fault job ≡ None) × (path_fault job ≡ None) × (cut_fault job ≡ None) × (split_fault job ≡ None)
+    × (splits_fault job ≡ None) × (split_regions_fault job ≡ None) × (group_fault job ≡ None)
+unfolding after_cut after_regions after_splits
 no_fault_parts job h =
-    let first = option_or_none (votes_fault job) (first_some (bounds_fault job ∷ path_fault job ∷ cut_fault job ∷ split_fault job ∷ [])) h in
-    let second = option_or_none (bounds_fault job) (first_some (path_fault job ∷ cut_fault job ∷ split_fault job ∷ [])) first.1 in
-    let third = option_or_none (path_fault job) (first_some (cut_fault job ∷ split_fault job ∷ [])) second.1 in
-    let fourth = option_or_none (cut_fault job) (first_some (split_fault job ∷ [])) third.1 in
-    let fifth = option_or_none (split_fault job) (first_some []) fourth.1 in
-    (first.0, second.0, third.0, fourth.0, fifth.0)
+    let first = option_or_none (votes_fault job) (first_some (bounds_fault job ∷ path_fault job ∷ cut_fault job ∷ after_cut job)) h in
+    let second = option_or_none (bounds_fault job) (first_some (path_fault job ∷ cut_fault job ∷ after_cut job)) first.1 in
+    let third = option_or_none (path_fault job) (first_some (cut_fault job ∷ after_cut job)) second.1 in
+    let fourth = option_or_none (cut_fault job) (first_some (after_cut job)) third.1 in
+    let fifth = option_or_none (split_fault job) (first_some (after_regions job)) fourth.1 in
+    let sixth = option_or_none (splits_fault job) (first_some (after_splits job)) fifth.1 in
+    let seventh = option_or_none (split_regions_fault job) (first_some (group_fault job ∷ [])) sixth.1 in
+    let eighth = option_or_none (group_fault job) (first_some []) seventh.1 in
+    (first.0, second.0, third.0, fourth.0, fifth.0, sixth.0, seventh.0, eighth.0)
 
 -- with no fault there are votes where they are asked for, and the start plan is legal
 pub accepted_is_legal : (job : Job) → length job.start ≡ job.graph.units
@@ -89,24 +106,46 @@ accepted_is_legal job complete in_range h =
               ltb-false job.setting.max_split (split_of job.regions job.start region)
               (first_below_none (above_all job.regions) (is_oversplit job) region
               (option_map_none (oversplit job) (first_below (above_all job.regions) (is_oversplit job)) parts.4) l));
+          few_in_all = ltb-false job.setting.max_splits (splits_in_all job.regions job.start)
+              (cond_some_none (nat_lt job.setting.max_splits (splits_in_all job.regions job.start))
+              (TooManySplits (splits_in_all job.regions job.start) job.setting.max_splits) parts.5);
+          few_regions = ltb-false job.setting.max_split_regions (split_regions job.regions job.start)
+              (cond_some_none (nat_lt job.setting.max_split_regions (split_regions job.regions job.start))
+              (TooManySplitRegions (split_regions job.regions job.start) job.setting.max_split_regions) parts.6);
+          enough = ltb-false (majorities job.group job.start) job.setting.group_districts
+              (cond_some_none (nat_lt (majorities job.group job.start) job.setting.group_districts)
+              (TooFewMajorities (majorities job.group job.start) job.setting.group_districts) parts.7);
         };
       },
     )
 
 -- and the other way round
 pub legal_is_accepted : (job : Job) → lacks_votes job ≡ false → IsLegal job job.start → plan_fault job ≡ None
+unfolding after_cut after_regions after_splits
 legal_is_accepted job votes legal =
-    ap (λ o. option_or o (first_some (bounds_fault job ∷ path_fault job ∷ cut_fault job ∷ split_fault job ∷ [])))
+    ap (λ o. option_or o (first_some (bounds_fault job ∷ path_fault job ∷ cut_fault job ∷ after_cut job)))
     (cond-false (lacks_votes job) (Some NoVotes) None votes)
-    ∙ ap (λ o. option_or (option_map (out_of_bounds job) o) (first_some (path_fault job ∷ cut_fault job ∷ split_fault job ∷ [])))
+    ∙ ap (λ o. option_or (option_map (out_of_bounds job) o) (first_some (path_fault job ∷ cut_fault job ∷ after_cut job)))
     (none_first_below job.districts (is_unbalanced job) (λ d l. not_from_true (is_balanced job (district_sum job.counts.population job.start d))
     (balanced_passes job (district_sum job.counts.population job.start d) (legal.balanced d l))))
-    ∙ ap (λ o. option_or (option_map (disconnected job) o) (first_some (cut_fault job ∷ split_fault job ∷ [])))
+    ∙ ap (λ o. option_or (option_map (disconnected job) o) (first_some (cut_fault job ∷ after_cut job)))
     (none_first_below job.districts (is_parted job) (λ d l. not_from_true (is_connected job.graph (in_district job.start d))
     (connected_passes job.graph (in_district job.start d) (legal.connected d l))))
-    ∙ ap (λ o. option_or o (first_some (split_fault job ∷ [])))
+    ∙ ap (λ o. option_or o (first_some (after_cut job)))
     (cond-false (cuts_too_many job) (Some (TooManyCut (cut_edges job.graph job.start) job.setting.max_cut)) None
     (le-ltb job.setting.max_cut (cut_edges job.graph job.start) legal.meeting.few_cuts))
-    ∙ ap (λ o. option_or (option_map (oversplit job) o) (first_some []))
+    ∙ ap (λ o. option_or (option_map (oversplit job) o) (first_some (after_regions job)))
     (none_first_below (above_all job.regions) (is_oversplit job) (λ region l.
     le-ltb job.setting.max_split (split_of job.regions job.start region) (legal.meeting.few_splits region)))
+    ∙ ap (λ o. option_or o (first_some (after_splits job)))
+    (cond-false (nat_lt job.setting.max_splits (splits_in_all job.regions job.start))
+    (Some (TooManySplits (splits_in_all job.regions job.start) job.setting.max_splits)) None
+    (le-ltb job.setting.max_splits (splits_in_all job.regions job.start) legal.meeting.few_in_all))
+    ∙ ap (λ o. option_or o (first_some (group_fault job ∷ [])))
+    (cond-false (nat_lt job.setting.max_split_regions (split_regions job.regions job.start))
+    (Some (TooManySplitRegions (split_regions job.regions job.start) job.setting.max_split_regions)) None
+    (le-ltb job.setting.max_split_regions (split_regions job.regions job.start) legal.meeting.few_regions))
+    ∙ ap (λ o. option_or o (first_some []))
+    (cond-false (nat_lt (majorities job.group job.start) job.setting.group_districts)
+    (Some (TooFewMajorities (majorities job.group job.start) job.setting.group_districts)) None
+    (le-ltb (majorities job.group job.start) job.setting.group_districts legal.meeting.enough))

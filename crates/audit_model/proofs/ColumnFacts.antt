@@ -1,7 +1,7 @@
 -- Sums of a column over the units of a district.
 use Rattle.std.proofs.Common.{ℕ, cond, List, get_or, ◌≤◌, Bool, true, false, arith, zero, suc, ◌*◌, ◌<◌, length, ◌≡◌, ◌^◌}
 use Rattle.audit_model.specs.Below.{sum_below, map_below}
-use Rattle.audit_model.specs.Plan.{in_district, district_sum}
+use Rattle.audit_model.specs.District.{in_district, district_sum}
 use Rattle.audit_model.specs.Limits.{IsColumn}
 use Rattle.audit_model.proofs.Below.{length-map_below, get_or-map_below}
 use Rattle.std.specs.List.{All}

@@ -1,7 +1,7 @@
 -- The least number that passes a test, found by trying each.
 use Rattle.std.proofs.Common.{◌≡◌, ℕ, zero, suc, ◌+◌, ◌<◌, Bool, true, false, cond, Option, Some, None, refl, sym, ap, ◌∙◌, subst, inl, inr, arith, add-one, ◌⊎◌, ◌||◌, not, is_none}
 use Rattle.std.specs.Option.{option_or}
-use Rattle.std.proofs.lemmas.Bool.{cases_eq, cond-true, or_from}
+use Rattle.std.proofs.lemmas.Bool.{cases_eq, or_from}
 use Rattle.std.proofs.lemmas.Option.{cond_some}
 use Rattle.audit_model.specs.First.{first_below, first_some_below}
 use Rattle.audit_model.proofs.Options.{none_or, option_or_none, cond_some_none, cond_none, or_of_none}

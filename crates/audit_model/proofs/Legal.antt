@@ -6,7 +6,8 @@ use Rattle.audit_model.specs.Below.{all_below}
 use Rattle.audit_model.specs.Job.{Job, total_population, rules}
 use Rattle.audit_model.specs.Meets.{meets_rules}
 use Rattle.audit_model.specs.Path.{is_connected}
-use Rattle.audit_model.specs.Plan.{in_district, district_sum, cut_edges, IsBalanced, IsLegal, is_balanced, is_legal}
+use Rattle.audit_model.specs.District.{in_district, district_sum}
+use Rattle.audit_model.specs.Plan.{cut_edges, IsBalanced, IsLegal, is_balanced, is_legal}
 use Rattle.audit_model.proofs.Below.{all_below_at, all_below_from}
 use Rattle.audit_model.proofs.Connected.{connected_passes, passes_connected}
 use Rattle.audit_model.proofs.Meeting.{meets_passes, passes_meets}

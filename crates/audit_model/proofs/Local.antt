@@ -5,7 +5,7 @@ use Rattle.std.proofs.lemmas.Bool.{and_parts, and_from, cases_eq, eq-eqb, ne_eqb
 use Rattle.audit_model.specs.Graph.{Graph, adjacent, IsIn, IsGraph}
 use Rattle.audit_model.specs.Local.{is_mate, stays_behind, IsLocal, MayLeave, IsSimple}
 use Rattle.audit_model.specs.Path.{IsPath, HasPath, IsConnected}
-use Rattle.audit_model.specs.Plan.{in_district}
+use Rattle.audit_model.specs.District.{in_district}
 use Rattle.audit_model.proofs.Paths.{path_before, joined_from}
 
 -- a path within a set is one within a greater set

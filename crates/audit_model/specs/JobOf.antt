@@ -3,7 +3,7 @@
 use Rattle.std.specs.Prelude.{ℕ, ◌==◌, ◌&&◌, Bool, true, false, IsFalse, not, cond, nat_lt, List, [], ◌∷◌, length, Option, Some, None, option_map, unwrap_or, Result, Ok, Err}
 use Rattle.std.specs.List.{list_any}
 use Rattle.audit_model.specs.declared.fault.PlanFault.{PlanFault}
-use Rattle.audit_model.specs.declared.fault.PlanFault.TheVariants.{NoVotes, OutOfBounds, Disconnected, TooManyCut, TooManySplit}
+use Rattle.audit_model.specs.declared.fault.PlanFault.TheVariants.{NoVotes, OutOfBounds, Disconnected, TooManyCut, TooManySplit, TooManySplits, TooManySplitRegions, TooFewMajorities}
 use Rattle.audit_model.specs.declared.setting.Label.{Label}
 use Rattle.audit_model.specs.declared.setting.Score.{Score}
 use Rattle.audit_model.specs.declared.setting.Score.TheVariants.{Seats, MeanMedian, Gap, CutEdges}
@@ -13,10 +13,11 @@ use Rattle.audit_model.specs.First.{first_some, first_below}
 use Rattle.audit_model.specs.Graph.{has}
 use Rattle.audit_model.specs.Job.{Job, total_votes}
 use Rattle.audit_model.specs.Limits.{IsWithinLimits}
-use Rattle.audit_model.specs.Meets.{split_of}
+use Rattle.audit_model.specs.Meets.{split_of, splits_in_all, split_regions, majorities}
 use Rattle.audit_model.specs.Parsed.{Parsed}
 use Rattle.audit_model.specs.Path.{is_connected, reached}
-use Rattle.audit_model.specs.Plan.{IsLegal, in_district, district_sum, cut_edges, is_balanced, least_population, greatest_population}
+use Rattle.audit_model.specs.District.{in_district, district_sum}
+use Rattle.audit_model.specs.Plan.{IsLegal, cut_edges, is_balanced, least_population, greatest_population}
 
 abbrev pub is_gap : Score → Bool
 is_gap Seats = false
@@ -78,15 +79,31 @@ oversplit job region = TooManySplit region (split_of job.regions job.start regio
 abbrev pub split_fault : Job → Option PlanFault
 split_fault job = option_map (oversplit job) (first_below (above_all job.regions) (is_oversplit job))
 
+abbrev pub splits_fault : Job → Option PlanFault
+splits_fault job =
+    cond (nat_lt job.setting.max_splits (splits_in_all job.regions job.start)) (Some (TooManySplits (splits_in_all job.regions job.start) job.setting.max_splits)) None
+
+abbrev pub split_regions_fault : Job → Option PlanFault
+split_regions_fault job =
+    cond (nat_lt job.setting.max_split_regions (split_regions job.regions job.start))
+    (Some (TooManySplitRegions (split_regions job.regions job.start) job.setting.max_split_regions)) None
+
+abbrev pub group_fault : Job → Option PlanFault
+group_fault job =
+    cond (nat_lt (majorities job.group job.start) job.setting.group_districts)
+    (Some (TooFewMajorities (majorities job.group job.start) job.setting.group_districts)) None
+
 -- the first reason to refuse the start plan
 abbrev pub plan_fault : Job → Option PlanFault
-plan_fault job = first_some (votes_fault job ∷ bounds_fault job ∷ path_fault job ∷ cut_fault job ∷ split_fault job ∷ [])
+plan_fault job = first_some (
+    votes_fault job ∷ bounds_fault job ∷ path_fault job ∷ cut_fault job ∷ split_fault job
+    ∷ splits_fault job ∷ split_regions_fault job ∷ group_fault job ∷ [])
 
 abbrev pub job_or : Job → Option PlanFault → Result Job PlanFault
 job_or job None = Ok job
 job_or job (Some f) = Err f
 
--- the record of what was read, a setting and regions, which is a job where its start plan is not refused
+-- the record of what was read, a setting and regions, which is a job where its start plan is not refused; of its origin nothing is told
 abbrev pub job_from : Parsed → Setting → List ℕ → Job
 job_from parsed setting regions = record {
   graph = parsed.graph;
@@ -95,6 +112,8 @@ job_from parsed setting regions = record {
   districts = length parsed.labels;
   setting = setting;
   regions = regions;
+  group = parsed.group;
+  origin = None;
 }
 
 -- the job, or the first reason to refuse its start plan

@@ -1,5 +1,6 @@
 pub mod Apart
 pub mod Below
+pub mod District
 pub mod Faults
 pub mod First
 pub mod Graph

@@ -2,6 +2,7 @@
 use Rattle.std.specs.Prelude.{◌≡◌, ◌≢◌, ◌⊎◌, ℕ, ◌+◌, ◌^◌, ◌<◌, ◌≤◌, true, List, [], length, slice_index}
 use Rattle.std.specs.List.{All, AllPairs}
 use Rattle.audit_model.specs.declared.outcome.Counts.{Counts}
+use Rattle.audit_model.specs.declared.rules.Group.{Group}
 use Rattle.audit_model.specs.declared.setting.Command.{Command}
 use Rattle.audit_model.specs.declared.setting.Command.TheVariants.{Check, Run, Make, Plans}
 use Rattle.audit_model.specs.declared.setting.Setting.{Setting}
@@ -20,6 +21,10 @@ most_districts = 200
 
 abbrev pub most_regions : ℕ
 most_regions = 5000
+
+-- the most splits of regions in all: each region in each district
+abbrev pub most_splits : ℕ
+most_splits = 995000
 
 -- the most that a unit has of people, or of a party's votes
 abbrev pub most_people : ℕ
@@ -101,6 +106,9 @@ pub record IsSetting (s : Setting) : Type 0 where
   pub max_cut : s.max_cut ≤ most_edges
   pub some_splits : 1 ≤ s.max_split
   pub few_splits : s.max_split ≤ most_districts
+  pub few_in_all : s.max_splits ≤ most_splits
+  pub few_split_regions : s.max_split_regions ≤ most_regions
+  pub few_group_districts : s.group_districts ≤ most_districts
   pub part : HasPart s
   pub command : IsSettingOf s.command s
 
@@ -109,8 +117,13 @@ pub record AreRegions (units : ℕ) (regions : List ℕ) : Type 0 where
   pub width : (regions ≡ []) ⊎ (length regions ≡ units)
   pub few : All (λ r. r < most_regions) regions
 
+-- no group, or two numbers for each unit
+abbrev pub IsGroup : ℕ → Group → Type 0
+IsGroup units group = ((group.members ≡ []) × (group.whole ≡ [])) ⊎ (IsColumn units group.members × IsColumn units group.whole)
+
 -- all that a job holds is within its limits
 pub record IsWithinLimits (job : Job) : Type 0 where
   pub input : AreWithin job.graph job.counts job.start job.districts
   pub setting : IsSetting job.setting
   pub regions : AreRegions job.graph.units job.regions
+  pub group : IsGroup job.graph.units job.group

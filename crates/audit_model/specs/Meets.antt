@@ -1,8 +1,11 @@
--- The rules that a plan is to meet beside population and connectedness: how many edges it may cut, and among how many districts it may
--- split a region, as a county. In GerryChain such a rule is a constraint that its user adds, a call on a partition; here it is two numbers.
-use Rattle.std.specs.Prelude.{ℕ, ◌≤◌, ◌==◌, ◌&&◌, Bool, nat_le, List, length, slice_index}
+-- The rules that a plan is to meet beside population and connectedness: how many edges it may cut; among how many districts it may split a
+-- region, as a county; how often it may split regions in all, and how many of them; and in how many districts a group is to have a majority.
+-- In GerryChain such a rule is a constraint that its user adds, a call on a partition; here each is a number.
+use Rattle.std.specs.Prelude.{ℕ, ◌-◌, ◌*◌, ◌≤◌, ◌==◌, ◌&&◌, Bool, nat_le, nat_lt, List, length, slice_index}
+use Rattle.audit_model.specs.declared.rules.Group.{Group}
 use Rattle.audit_model.specs.declared.rules.Rules.{Rules}
-use Rattle.audit_model.specs.Below.{above_all, all_below, any_below, count_below}
+use Rattle.audit_model.specs.Below.{above_all, all_below, any_below, count_below, sum_below}
+use Rattle.audit_model.specs.District.{district_sum}
 use Rattle.audit_model.specs.Graph.{has}
 
 -- how many regions there are
@@ -17,10 +20,29 @@ lies_in regions plan region district = any_below (length regions) (λ u. (slice_
 abbrev pub split_of : List ℕ → List ℕ → ℕ → ℕ
 split_of regions plan region = count_below (above_all plan) (lies_in regions plan region)
 
+-- how often regions are split in all: each by one less than the number of its districts
+abbrev pub splits_in_all : List ℕ → List ℕ → ℕ
+splits_in_all regions plan = sum_below (above_all regions) (λ region. split_of regions plan region - 1)
+
+-- how many regions lie in more than one district
+abbrev pub split_regions : List ℕ → List ℕ → ℕ
+split_regions regions plan = count_below (above_all regions) (λ region. nat_lt 1 (split_of regions plan region))
+
+-- the group has more than half of the district
+abbrev pub has_majority : Group → List ℕ → ℕ → Bool
+has_majority group plan district = nat_lt (district_sum group.whole plan district) (2 * district_sum group.members plan district)
+
+-- in how many districts the group has a majority
+abbrev pub majorities : Group → List ℕ → ℕ
+majorities group plan = count_below (above_all plan) (has_majority group plan)
+
 -- a plan that cuts so many edges meets the rules
 pub record Meets (rules : Rules) (cut : ℕ) (plan : List ℕ) : Type 0 where
   pub few_cuts : cut ≤ rules.max_cut
   pub few_splits : (region : ℕ) → split_of rules.regions plan region ≤ rules.max_split
+  pub few_in_all : splits_in_all rules.regions plan ≤ rules.max_splits
+  pub few_regions : split_regions rules.regions plan ≤ rules.max_split_regions
+  pub enough : rules.group_districts ≤ majorities rules.group plan
 
 -- ---- the same as a test that computes
 
@@ -29,4 +51,8 @@ abbrev pub are_whole : List ℕ → ℕ → List ℕ → Bool
 are_whole regions max_split plan = all_below (above_all regions) (λ region. nat_le (split_of regions plan region) max_split)
 
 abbrev pub meets_rules : Rules → ℕ → List ℕ → Bool
-meets_rules rules cut plan = nat_le cut rules.max_cut && are_whole rules.regions rules.max_split plan
+meets_rules rules cut plan =
+    nat_le cut rules.max_cut && are_whole rules.regions rules.max_split plan
+    && nat_le (splits_in_all rules.regions plan) rules.max_splits
+    && nat_le (split_regions rules.regions plan) rules.max_split_regions
+    && nat_le rules.group_districts (majorities rules.group plan)

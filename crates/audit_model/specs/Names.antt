@@ -1,7 +1,7 @@
 -- How the names that the words may set are spelled.
 use Rattle.std.specs.Prelude.{ℕ, List, codes}
 use Rattle.audit_model.specs.declared.fault.Name.{Name}
-use Rattle.audit_model.specs.declared.fault.Name.TheVariants.{Pop, First, Second, District, Size, Slack, Key, Walks, Steps, Ends, HubSteps, Ask, Workers, Budget, Save, Resume, MaxCut, Shift, Stop, Serial, Region, MaxSplit, Parts, Part}
+use Rattle.audit_model.specs.declared.fault.Name.TheVariants.{Pop, First, Second, District, Size, Slack, Key, Walks, Steps, Ends, HubSteps, Ask, Workers, Budget, Save, Resume, MaxCut, Shift, Stop, Serial, Region, MaxSplit, Parts, Part, MaxSplits, MaxSplitRegions, Group, GroupOf, GroupDistricts, Source}
 
 -- the spelling of a name
 abbrev pub name_text : Name → List ℕ
@@ -29,3 +29,9 @@ name_text Region = codes "--region"
 name_text MaxSplit = codes "--max-split"
 name_text Parts = codes "--parts"
 name_text Part = codes "--part"
+name_text MaxSplits = codes "--max-splits"
+name_text MaxSplitRegions = codes "--max-split-regions"
+name_text Group = codes "--group"
+name_text GroupOf = codes "--group-of"
+name_text GroupDistricts = codes "--group-districts"
+name_text Source = codes "--source"

@@ -6,13 +6,15 @@ ghost use Rattle.audit_model.specs.Graph.{Graph, IsIn, count_edges, has};
 ghost use Rattle.audit_model.specs.Job.{Job, rules, total_population};
 ghost use Rattle.audit_model.specs.JobOf.{lacks_votes, plan_fault};
 ghost use Rattle.audit_model.specs.Least.{IsLeast};
+ghost use Rattle.audit_model.specs.Limits.{IsWithinLimits, most_districts, most_edges, most_regions, most_splits};
 ghost use Rattle.audit_model.specs.Local.{IsLocal, IsSimple, MayLeave};
 ghost use Rattle.audit_model.specs.Machine.{Machine, IsRun, started_part, state_after};
 ghost use Rattle.audit_model.specs.declared.outcome.Event.{Event};
 ghost use Rattle.audit_model.specs.declared.rules.Rules.{Rules};
 ghost use Rattle.audit_model.specs.Meets.{Meets, meets_rules};
 ghost use Rattle.audit_model.specs.Path.{HasPath, IsConnected, is_connected, reached};
-ghost use Rattle.audit_model.specs.Plan.{in_district, cut_edges, IsBalanced, IsLegal, is_legal, least_population, greatest_population};
+ghost use Rattle.audit_model.specs.District.{in_district};
+ghost use Rattle.audit_model.specs.Plan.{cut_edges, IsBalanced, IsLegal, is_legal, least_population, greatest_population};
 ghost use Rattle.audit_model.specs.declared.outcome.Outcome.{Outcome};
 ghost use Rattle.audit_model.specs.Run.{total, has_id, is_in_part, lacking_ids, part_ids, run_ids, full, fits, taken_up, IsHonest, IsRight};
 ghost use Rattle.audit_model.specs.Step.{next, ways, mirrored};
@@ -95,10 +97,17 @@ pub fn bare_outcomes_fit()
     ensures { (job : Job) (o : Outcome) → IsTrue (fits job o) → IsTrue (fits job (bare o)) }
 {}
 
-/// With no regions, and no fewer cut edges allowed than there are edges, each plan meets the rules.
+/// With no regions, no fewer cut edges allowed than there are edges, and no majority of a group asked for, each plan meets the rules.
 pub fn default_rules_limit_nothing()
     ensures { (job : Job) (plan : List ℕ) → count_edges job.graph (λ u v. true) ≤ job.setting.max_cut → job.regions ≡ [] →
-        Meets (rules job) (cut_edges job.graph plan) plan }
+        job.setting.group_districts ≡ 0 → Meets (rules job) (cut_edges job.graph plan) plan }
+{}
+
+/// With each limit at its default, and no majority of a group asked for, each plan of a job's districts meets the rules.
+pub fn unlimited_rules_limit_nothing()
+    ensures { (job : Job) (plan : List ℕ) → IsWithinLimits job → ((u : ℕ) → u < length plan → slice_index plan u < job.districts) →
+        job.setting.max_cut ≡ most_edges → job.setting.max_split ≡ most_districts → job.setting.max_splits ≡ most_splits →
+        job.setting.max_split_regions ≡ most_regions → job.setting.group_districts ≡ 0 → Meets (rules job) (cut_edges job.graph plan) plan }
 {}
 
 /// A population is within the bounds exactly from the least to the greatest: one is the least that is large enough, and the other the

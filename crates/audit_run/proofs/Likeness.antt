@@ -1,7 +1,6 @@
 -- Plans of one graph and one setting are alike in all that their judges are made of.
-use Rattle.std.proofs.Common.{◌≡◌, ◌∙◌, ℕ, ◌<◌, List, [], length, sym, subst, ap}
+use Rattle.std.proofs.Common.{◌≡◌, ◌∙◌, ℕ, ◌<◌, List, length, sym, subst}
 use Rattle.std.specs.List.{All, slice_index_or}
-use Rattle.audit_model.specs.declared.rules.Rules.{Rules}
 use Rattle.audit_model.specs.JobOf.{IsJob}
 use Rattle.plan_csv.specs.declared.named.Named.{Named}
 use Rattle.plan_csv.specs.Named.{IsOneOf}
@@ -21,12 +20,5 @@ of_first P named first is some all = subst P (sym is) (all 0 first some)
 pub all_like : (named : List Named) (first : Named) → first ≡ slice_index_or named 0 first → MayRunTogether named → All (IsLike first) named
 all_like named first is alike = λ k d inside.
     let here = alike.shared.each k d inside in
-    let there = of_first (IsOneOf alike.setting alike.shared.regions) named first is alike.shared.some alike.shared.each in
+    let there = of_first (IsOneOf alike.setting alike.shared.regions alike.shared.group) named first is alike.shared.some alike.shared.each in
     record { sound = here.sound; set = here.set ∙ sym there.set; regioned = here.regioned ∙ sym there.regioned }
-
--- rules without regions are the same where both limits are
-pub same_rules : (a b c d : ℕ) (regions : List ℕ) → a ≡ b → c ≡ d → regions ≡ [] → (let one : Rules = record { max_cut = a; regions = []; max_split = c } in one) ≡ record { max_cut = b; regions = regions; max_split = d }
-same_rules a b c d regions e f g =
-    ap (λ m. (let r : Rules = record { max_cut = m; regions = []; max_split = c } in r)) e
-    ∙ ap (λ m. (let r : Rules = record { max_cut = b; regions = []; max_split = m } in r)) f
-    ∙ ap (λ xs. (let r : Rules = record { max_cut = b; regions = xs; max_split = d } in r)) (sym g)

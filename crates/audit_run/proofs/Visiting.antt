@@ -9,6 +9,7 @@ use Rattle.audit_statement.specs.Draw.{draw}
 use Rattle.audit_model.proofs.Mirror.{visit_stays_legal}
 use Rattle.plan_csv.specs.declared.named.Named.{Named}
 use Rattle.plan_csv.specs.Named.{IsOneOf, jobs_of, pair_of}
+use Rattle.audit_model.specs.declared.rules.Group.{Group}
 use Rattle.audit_model.specs.declared.setting.Setting.{Setting}
 use Rattle.audit_statement.specs.Several.{VisitLegally, VisitsLegally}
 
@@ -21,7 +22,7 @@ visits_legally job start = record {
 }
 
 -- so it is for each of several plans
-pub visit_legally : (setting : Setting) (regions : List ℕ) (named : List Named) → All (IsOneOf setting regions) named → VisitLegally (jobs_of named)
-visit_legally setting regions named each =
+pub visit_legally : (setting : Setting) (regions : List ℕ) (group : Group) (named : List Named) → All (IsOneOf setting regions group) named → VisitLegally (jobs_of named)
+visit_legally setting regions group named each =
     All-map (λ (plan : List ℕ × Job). VisitsLegally plan.1) pair_of named
     (λ k d inside. visits_legally _ (each k d inside).sound.legal)

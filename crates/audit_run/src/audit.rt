@@ -13,7 +13,6 @@ use audit_io::keeper::Keeper;
 use audit_io::sink::Sink;
 use audit_io::source::Source;
 use claim_counter::runtime::Runtime;
-use std::alloc::Global;
 use std::sync::Wait;
 use std::thread::Threads;
 
@@ -27,8 +26,15 @@ fn names_plans(words: &[String]) -> bool
     word.as_str() == "plans"
 }
 
-// Does what the words ask for: on several plans, or on one.
-pub(crate) fn audit_by<
+/// Does what the words ask for, and answers the status and the keeper.
+///
+/// The graph is read to its end, or to one byte more than 67,108,864; with several plans a table stands behind its first line feed. The text of a check,
+/// the report of a run, or one for each of several plans goes to `out`, and the reason of each status but 0 to `note`: 1 for refused words, 2 for a
+/// refused graph, table or plan, 3 for want of memory, 4 for a failed read, 5 for a failed write, 6 for a failed load of a checkpoint, 7 where
+/// trajectories are left to another run, 8 for slots from which a run cannot go on, 9 for a failed save.
+///
+/// `rt` lends the threads, the memory and the gate, which is told of each trajectory before it is walked.
+pub fn audit<
     R: Threads + Wait + Sync,
     S: Source,
     K: Sink,
@@ -52,39 +58,4 @@ pub(crate) fn audit_by<
         return (status, keeper);
     }
     audit_single(rt, words, graph, out, note, keeper)
-}
-
-/// Does what the words ask for, and answers the status and the keeper.
-///
-/// The graph is read to its end, or to one byte more than 67,108,864; with several plans a table stands behind its first line feed. The text of a check,
-/// the report of a run, or one for each of several plans goes to `out`, and the reason of each status but 0 to `note`: 1 for refused words, 2 for a
-/// refused graph, table or plan, 3 for want of memory, 4 for a failed read, 5 for a failed write, 6 for a failed load of a checkpoint, 7 where
-/// trajectories are left to another run, 8 for slots from which a run cannot go on, 9 for a failed save.
-pub fn audit<
-    R: Threads + Wait + Sync,
-    S: Source,
-    K: Sink,
-    N: Sink,
-    C: Keeper + Send,
-    G: Gate + Sync,
->(
-    rt: &R,
-    alloc: Global,
-    words: &[String],
-    graph: &mut S,
-    out: &mut K,
-    note: &mut N,
-    keeper: C,
-    gate: &G,
-) -> (u8, C)
-    ensures { let before = world (S.state graph.old) (K.state out.old) (C.state keeper) in
-        let after = world (S.state graph.new) (K.state out.new) (C.state result.1) in
-        KeepsEachPromise (spoken words.now) before after (N.state note.old) (N.state note.new) result.0 }
-{
-    let rt = Runtime {
-        threads: rt,
-        alloc,
-        gate,
-    };
-    audit_by(&rt, words, graph, out, note, keeper)
 }

@@ -6,7 +6,7 @@ ghost use Rattle.audit_words.specs.Spoken.{spoken};
 ghost use Rattle.audit_statement.specs.Audited.{AuditsPlainly};
 ghost use Rattle.audit_statement.specs.PlainlyEnded.{EndsPlainly};
 
-use crate::audit::audit_by;
+use crate::audit::audit;
 use audit_io::gate::Gate;
 use audit_io::keeper::Keeper;
 use audit_io::sink::Sink;
@@ -43,5 +43,5 @@ pub fn audit_plainly<
 {
     promised_calls_audit_plainly();
     promised_calls_end_plainly();
-    audit_by(rt, words, graph, out, note, keeper)
+    audit(rt, words, graph, out, note, keeper)
 }

@@ -1,12 +1,12 @@
 //! The rest of a call on several plans: all memory is taken, then one plan after the other is walked and told.
 
-ghost use Rattle.std.specs.Prelude.{◌≡◌, ◌<◌, ◌≢◌, ℕ, [], List, length, All, slice_index_or};
+ghost use Rattle.std.specs.Prelude.{◌≡◌, ◌<◌, ℕ, [], List, length, All, slice_index_or};
 ghost use Rattle.plan_csv.specs.declared.named.Named.{Named as NamedOf};
 ghost use Rattle.plan_csv.specs.Named.{jobs_of};
 ghost use Rattle.audit_run.specs.Alike.{MayRunTogether};
 ghost use Rattle.audit_saving.specs.Plans.{ReportsPlans};
 
-use crate::benches::{cut_benches, split_benches};
+use crate::benches::{cut_benches, ruled_benches};
 use audit_io::gate::Gate;
 use audit_io::sink::Sink;
 use audit_model::outcome::SumsView;
@@ -25,7 +25,7 @@ fn first_of(plans: &[Named]) -> &Job
     &plans[0].job
 }
 
-// Reports on plans of a graph without regions.
+// Reports on plans of a graph without regions, where no majority is asked for.
 fn report_cut<R: Threads + Sync, K: Sink, G: Gate + Sync>(
     rt: &Runtime<'_, R, G>,
     plans: Vec<Named>,
@@ -33,6 +33,7 @@ fn report_cut<R: Threads + Sync, K: Sink, G: Gate + Sync>(
 ) -> Ended
     requires plans { MayRunTogether plans.items }
     requires no_regions { All (λ n. n.job.regions ≡ []) plans.items }
+    requires no_group { All (λ n. n.job.setting.group_districts ≡ 0) plans.items }
     ensures { (key : List ℕ) → All (λ n. n.job.setting.key ≡ key) plans.items → ReportsPlans key (jobs_of plans.items) (K.state out.old) (K.state out.new) result }
 {
     let first = first_of(plans.as_slice());
@@ -42,24 +43,22 @@ fn report_cut<R: Threads + Sync, K: Sink, G: Gate + Sync>(
     match cut_benches(
         rt.alloc,
         move |sums: &SumsView| sums.cut <= max_cut,
-        max_cut,
-        rules.max_split,
+        rules,
         workers + 1,
-        plans.len(),
+        plans.as_slice(),
     ) {
         Ok(benches) => report_plans(rt, plans, benches, out),
         Err(_) => Ended::NoMemory,
     }
 }
 
-// Reports on plans of a graph with regions.
-fn report_split<R: Threads + Sync, K: Sink, G: Gate + Sync>(
+// Reports on plans by all rules.
+fn report_ruled<R: Threads + Sync, K: Sink, G: Gate + Sync>(
     rt: &Runtime<'_, R, G>,
     plans: Vec<Named>,
     out: &mut K,
 ) -> Ended
-    requires plans { MayRunTogether plans.items }
-    requires some_regions { All (λ n. n.job.regions ≢ []) plans.items }
+    requires { MayRunTogether plans.items }
     ensures { (key : List ℕ) → All (λ n. n.job.setting.key ≡ key) plans.items → ReportsPlans key (jobs_of plans.items) (K.state out.old) (K.state out.new) result }
 {
     let first = first_of(plans.as_slice());
@@ -67,7 +66,7 @@ fn report_split<R: Threads + Sync, K: Sink, G: Gate + Sync>(
     let cut_limit = rules.max_cut;
     let split_limit = rules.max_split;
     let workers = first.setting().workers;
-    match split_benches(
+    match ruled_benches(
         rt.alloc,
         move |sums: &SumsView| sums.cut <= cut_limit,
         move |width: u32| width <= split_limit,
@@ -89,9 +88,10 @@ pub fn report_all<R: Threads + Sync, K: Sink, G: Gate + Sync>(
     requires { MayRunTogether plans.items }
     ensures { (key : List ℕ) → All (λ n. n.job.setting.key ≡ key) plans.items → ReportsPlans key (jobs_of plans.items) (K.state out.old) (K.state out.new) result }
 {
-    if first_of(plans.as_slice()).rules().regions.len() == 0 {
+    let rules = first_of(plans.as_slice()).rules();
+    if rules.regions.len() == 0 && rules.group_districts == 0 {
         report_cut(rt, plans, out)
     } else {
-        report_split(rt, plans, out)
+        report_ruled(rt, plans, out)
     }
 }

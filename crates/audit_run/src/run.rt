@@ -1,6 +1,6 @@
 //! The rest of a run of one plan: with what it starts, its judges, and whether it saves.
 
-ghost use Rattle.std.specs.Prelude.{◌≡◌, ◌≢◌, [], false};
+ghost use Rattle.std.specs.Prelude.{◌≡◌, [], false};
 ghost use Rattle.audit_model.specs.State.{Kept};
 ghost use Rattle.audit_statement.specs.Endings.{IsOpening, saves};
 ghost use Rattle.audit_laws.specs.Calls.{Finishes};
@@ -78,7 +78,7 @@ fn finish_judged<
     }
 }
 
-// Does the rest of a run that starts so, of a job without regions.
+// Does the rest of a run that starts so, of a job without regions and without a majority to be kept.
 fn finish_cut<R: Threads + Wait + Sync, K: Sink, C: Keeper + Send, G: Gate + Sync>(
     rt: &Runtime<'_, R, G>,
     job: &Job,
@@ -88,17 +88,17 @@ fn finish_cut<R: Threads + Wait + Sync, K: Sink, C: Keeper + Send, G: Gate + Syn
 ) -> (Ended, C)
     requires opened { IsOpened job.now (C.state keeper).slots opening }
     requires no_regions { job.now.regions ≡ [] }
+    requires no_group { job.now.setting.group_districts ≡ 0 }
     ensures { Finishes job.now (K.state out.old) (K.state out.new)
         (C.state keeper) (C.state result.1) result.0 }
 {
-    let max_cut = job.rules().max_cut;
-    let max_split = job.rules().max_split;
+    let rules = job.rules();
+    let max_cut = rules.max_cut;
     let workers = job.setting().workers;
     match guards(
         rt.alloc,
         move |sums: &SumsView| sums.cut <= max_cut,
-        max_cut,
-        max_split,
+        rules,
         workers + 1,
     ) {
         Ok(judges) => finish_judged(rt, job, opening, judges, out, keeper),
@@ -106,27 +106,27 @@ fn finish_cut<R: Threads + Wait + Sync, K: Sink, C: Keeper + Send, G: Gate + Syn
     }
 }
 
-// Does the rest of a run that starts so, of a job with regions.
-fn finish_split<R: Threads + Wait + Sync, K: Sink, C: Keeper + Send, G: Gate + Sync>(
+// Does the rest of a run that starts so, by all rules of the job.
+fn finish_ruled<R: Threads + Wait + Sync, K: Sink, C: Keeper + Send, G: Gate + Sync>(
     rt: &Runtime<'_, R, G>,
     job: &Job,
     opening: Opening,
     out: &mut K,
     keeper: C,
 ) -> (Ended, C)
-    requires opened { IsOpened job.now (C.state keeper).slots opening }
-    requires some_regions { job.now.regions ≢ [] }
+    requires { IsOpened job.now (C.state keeper).slots opening }
     ensures { Finishes job.now (K.state out.old) (K.state out.new)
         (C.state keeper) (C.state result.1) result.0 }
 {
-    let cut_limit = job.rules().max_cut;
-    let split_limit = job.rules().max_split;
+    let rules = job.rules();
+    let cut_limit = rules.max_cut;
+    let split_limit = rules.max_split;
     let workers = job.setting().workers;
     match region_guards(
         rt.alloc,
         move |sums: &SumsView| sums.cut <= cut_limit,
         move |width: u32| width <= split_limit,
-        job.rules(),
+        rules,
         job.districts(),
         workers + 1,
     ) {
@@ -151,9 +151,9 @@ pub fn finish_run<R: Threads + Wait + Sync, K: Sink, C: Keeper + Send, G: Gate +
         Ok(opening) => opening,
         Err(why) => return (why, keeper),
     };
-    if job.rules().regions.len() == 0 {
+    if job.rules().regions.len() == 0 && job.rules().group_districts == 0 {
         finish_cut(rt, job, opening, out, keeper)
     } else {
-        finish_split(rt, job, opening, out, keeper)
+        finish_ruled(rt, job, opening, out, keeper)
     }
 }

@@ -4,7 +4,7 @@ ghost use Rattle.audit_statement.specs.Sure.{EachEndsSurely, sure_world};
 ghost use Rattle.audit_statement.specs.Whole.{KeepsEachPromise};
 ghost use Rattle.audit_words.specs.Spoken.{spoken};
 
-use crate::audit::audit_by;
+use crate::audit::audit;
 use audit_io::gate::Gate;
 use audit_io::sink::Sink;
 use audit_io::sure::{SureSink, SureSource};
@@ -29,5 +29,5 @@ pub fn audit_surely<R: Threads + Wait + Sync, N: Sink, G: Gate + Sync>(
     ensures kept { KeepsEachPromise (spoken words.now) (sure_world graph.old keeper) (sure_world graph.new result.1)
         (N.state note.old) (N.state note.new) result.0 }
 {
-    audit_by(rt, words, graph, out, note, keeper)
+    audit(rt, words, graph, out, note, keeper)
 }

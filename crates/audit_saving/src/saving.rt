@@ -1,12 +1,15 @@
 //! A run that saves: it takes its memory, walks over a desk that saves now and then and at the end, and writes the report.
 
-ghost use Rattle.std.specs.Prelude.{◌≡◌, IfOk, true};
+ghost use Rattle.std.specs.Prelude.{◌≡◌, ◌+◌, ◌*◌, ◌≤◌, length, IfOk, true};
+ghost use Rattle.audit_model.specs.Run.{total};
 ghost use Rattle.audit_statement.specs.Endings.{IsOpening, saves};
 ghost use Rattle.audit_laws.specs.Calls.{Finishes};
 ghost use Rattle.audit_input.specs.Opening.{IsTargetFor};
 ghost use Rattle.audit_walks.specs.Means.{IsBench};
-ghost use Rattle.audit_walks.specs.Ready.{IsStartOf};
+ghost use Rattle.audit_walks.specs.Ready.{IsReadyFor, IsStartOf};
+ghost use Rattle.audit_walks.specs.Serially.{IsTester};
 ghost use Rattle.audit_saving.specs.Saving.{IsSavedMeansFor};
+ghost use Rattle.tally_desk.specs.Crews.{IsDeskCrew};
 
 use audit_input::opening::Target;
 use audit_io::gate::Gate;
@@ -45,6 +48,38 @@ pub struct SavedMeans<J: Judge> {
     pub tester: Option<Walker<J>>,
 }
 
+// What the run holds before it walks, and room for a checkpoint of all outcomes.
+fn make_rooms(alloc: Global, job: &Job, outcomes: &[Outcome]) -> Result<(Ready, Bytes), Memory>
+    requires { IsStartOf job.now outcomes.now }
+    ensures ready { IfOk result (λ r. IsReadyFor job.now r.0) }
+    ensures outcomes { IfOk result (λ r. r.0.book.outcomes ≡ outcomes.now) }
+    ensures room { IfOk result (λ r. 84 + 80 * total job.now ≤ length r.1.items + r.1.spare) }
+{
+    let room = Bytes::with_room(alloc, 84 + 80 * job.total() as usize)?;
+    match make_ready(alloc, job, outcomes) {
+        Ok(ready) => Ok((ready, room)),
+        Err(_) => Err(Memory),
+    }
+}
+
+// A worker for each judge but the last, and what makes the serial test with this one.
+fn hire<J: Judge>(
+    alloc: Global,
+    job: &Job,
+    mut judges: Vec<J>,
+) -> Result<(DeskCrew<J>, Option<Walker<J>>), Memory>
+    requires { IsBench J.judging job.now judges }
+    ensures crew { IfOk result (λ w. IsDeskCrew job.now job.now.setting.workers w.0) }
+    ensures tester { IfOk result (λ w. IsTester job.now w.1) }
+{
+    let Some(judge) = judges.pop() else {
+        unreachable!()
+    };
+    let crew = tally_desk::crew::recruit(alloc, job, judges)?;
+    let tester = make_tester(alloc, job, judge)?;
+    Ok((crew, tester))
+}
+
 /// All that a run takes that starts with these outcomes and saves here, with a judge for each worker and one for the serial test. The only error is want of
 /// memory.
 pub fn make_saved_means<J: Judge>(
@@ -52,7 +87,7 @@ pub fn make_saved_means<J: Judge>(
     job: &Job,
     outcomes: &[Outcome],
     target: Target,
-    mut judges: Vec<J>,
+    judges: Vec<J>,
 ) -> Result<SavedMeans<J>, Memory>
     requires start { IsStartOf job.now outcomes.now }
     requires judges { IsBench J.judging job.now judges }
@@ -60,13 +95,8 @@ pub fn make_saved_means<J: Judge>(
     ensures outcomes { IfOk result (λ m. m.ready.book.outcomes ≡ outcomes.now) }
     ensures target { IfOk result (λ m. m.target ≡ target) }
 {
-    let Some(judge) = judges.pop() else {
-        unreachable!()
-    };
-    let tester = make_tester(alloc, job, judge)?;
-    let ready = make_ready(alloc, job, outcomes)?;
-    let crew = tally_desk::crew::recruit(alloc, job, judges)?;
-    let room = Bytes::with_room(alloc, 84 + 80 * job.total() as usize)?;
+    let (ready, room) = make_rooms(alloc, job, outcomes)?;
+    let (crew, tester) = hire(alloc, job, judges)?;
     Ok(SavedMeans {
         ready,
         target,

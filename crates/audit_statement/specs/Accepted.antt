@@ -4,6 +4,7 @@ use Rattle.audit_model.specs.declared.fault.GraphFault.{GraphFault}
 use Rattle.audit_model.specs.declared.fault.PlanFault.{PlanFault}
 use Rattle.audit_model.specs.declared.fault.RegionFault.{RegionFault}
 use Rattle.audit_model.specs.declared.fault.WordFault.{WordFault}
+use Rattle.audit_model.specs.declared.origin.Origin.{Origin}
 use Rattle.audit_model.specs.declared.setting.Columns.{Columns}
 use Rattle.audit_model.specs.declared.setting.Command.{Command}
 use Rattle.audit_model.specs.declared.setting.Command.TheVariants.{Check, Run, Make, Plans}
@@ -12,6 +13,7 @@ use Rattle.audit_model.specs.Job.{Job}
 use Rattle.audit_model.specs.JobOf.{job_of}
 use Rattle.audit_model.specs.Parsed.{Parsed}
 use Rattle.audit_statement.specs.Grid.{grid}
+use Rattle.audit_statement.specs.Origin.{origin_of, with_origin}
 use Rattle.audit_statement.specs.Note.{Ending, too_many_bytes, bad_graph, bad_regions, bad_plan}
 use Rattle.audit_statement.specs.Reading.{reading}
 use Rattle.audit_statement.specs.Regions.{regions_by}
@@ -34,18 +36,18 @@ abbrev pub input_of : Setting → Option (List ℕ) → Option (List ℕ)
 input_of setting left = input_by setting.command setting left
 
 -- each step of the reading, and the reason where it refuses
-abbrev pub from_job : Result Job PlanFault → Result Job Ending
-from_job (Ok job) = Ok job
-from_job (Err f) = Err (bad_plan f)
+abbrev pub from_job : Option Origin → Result Job PlanFault → Result Job Ending
+from_job origin (Ok job) = Ok (with_origin origin job)
+from_job origin (Err f) = Err (bad_plan f)
 
 -- over these regions
-abbrev pub from_regions : Setting → Parsed → Result (List ℕ) RegionFault → Result Job Ending
-from_regions setting parsed (Ok regions) = from_job (job_of parsed setting regions)
-from_regions setting parsed (Err f) = Err (bad_regions setting.region f)
+abbrev pub from_regions : Setting → Option Origin → Parsed → Result (List ℕ) RegionFault → Result Job Ending
+from_regions setting origin parsed (Ok regions) = from_job origin (job_of parsed setting regions)
+from_regions setting origin parsed (Err f) = Err (bad_regions setting.region f)
 
 -- over what was read of the graph
 abbrev pub from_parsed : Setting → List ℕ → Result Parsed GraphFault → Result Job Ending
-from_parsed setting bytes (Ok parsed) = from_regions setting parsed (regions_by setting.region bytes)
+from_parsed setting bytes (Ok parsed) = from_regions setting (origin_of setting bytes) parsed (regions_by setting.region bytes)
 from_parsed setting bytes (Err f) = Err (bad_graph f)
 
 -- of bytes that are too many, or are not
@@ -74,7 +76,7 @@ pub record IsRefused (words : List (List ℕ)) (left : Option (List ℕ)) (endin
 
 -- empty texts in place of columns
 abbrev pub no_columns : Columns
-no_columns = record { population = []; first = []; second = []; district = [] }
+no_columns = record { population = []; first = []; second = []; district = []; group = []; whole = [] }
 
 -- the columns that the words name, and empty texts where they are refused
 abbrev pub columns_in : Result Setting WordFault → Columns

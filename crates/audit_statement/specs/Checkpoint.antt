@@ -7,6 +7,8 @@ use Rattle.sha2.specs.Sha256.{sha256}
 use Rattle.audit_model.specs.declared.fault.CkptFault.{CkptFault}
 use Rattle.audit_model.specs.declared.fault.CkptFault.TheVariants.{TooShort, BadMagic, BadVersion, BadGeneration, BadCount, BadOrder, BadDigest}
 use Rattle.audit_model.specs.declared.outcome.Outcome.{Outcome}
+use Rattle.audit_model.specs.declared.rules.Group.{Group}
+use Rattle.audit_model.specs.declared.rules.Rules.{Rules}
 use Rattle.audit_model.specs.declared.setting.Score.{Score}
 use Rattle.audit_model.specs.declared.setting.Score.TheVariants.{Seats, MeanMedian, Gap, CutEdges}
 use Rattle.audit_model.specs.declared.setting.Tail.{Tail}
@@ -14,9 +16,9 @@ use Rattle.audit_model.specs.declared.setting.Tail.TheVariants.{Low, High}
 use Rattle.audit_model.specs.Below.{filter_below, map_below}
 use Rattle.audit_model.specs.First.{first_some, first_below}
 use Rattle.audit_model.specs.Graph.{Graph, adjacent, count_edges}
-use Rattle.audit_model.specs.Job.{Job}
+use Rattle.audit_model.specs.Job.{Job, rules}
 use Rattle.audit_model.specs.Trajectory.{no_bins}
-use Rattle.audit_model.specs.Limits.{most_trajectories, most_edges}
+use Rattle.audit_model.specs.Limits.{most_trajectories, most_edges, most_regions, most_splits}
 
 -- ---- writing
 
@@ -163,29 +165,56 @@ unit_bytes job u =
     to_be_bytes w64 (slice_index job.counts.population u) ++ to_be_bytes w64 (slice_index job.counts.first u)
     ++ to_be_bytes w64 (slice_index job.counts.second u) ++ to_be_bytes w32 (slice_index job.start u)
 
--- the job limits the cut edges, or has regions
-abbrev pub has_rules : Job → Bool
-has_rules job = nat_lt job.setting.max_cut most_edges || not (length job.regions == 0)
+-- the rules limit how often regions are split in all, or how many of them
+abbrev pub limits_splits : Rules → Bool
+limits_splits rules = (nat_lt rules.max_splits most_splits || nat_lt rules.max_split_regions most_regions) && not (length rules.regions == 0)
 
--- the first bytes of what is digested, by whether the job has rules
-abbrev pub digest_name : Bool → List ℕ
-digest_name true = codes "district-job 2"
-digest_name false = codes "district-job 1"
+-- the rules have a group
+abbrev pub has_group : Rules → Bool
+has_group rules = not (length rules.group.members == 0)
+
+-- there is one of these rules, which the third version of what is digested holds
+abbrev pub has_further_rules : Rules → Bool
+has_further_rules rules = limits_splits rules || has_group rules
+
+-- the rules limit the cut edges, or have regions, or a group
+abbrev pub has_rules : Rules → Bool
+has_rules rules = nat_lt rules.max_cut most_edges || not (length rules.regions == 0) || has_group rules
+
+-- the first bytes of what is digested, by whether the job has rules, and further ones
+abbrev pub digest_name : Bool → Bool → List ℕ
+digest_name has_some true = codes "district-job 3"
+digest_name true false = codes "district-job 2"
+digest_name false false = codes "district-job 1"
 
 -- the limit of the regions, and each unit's region, where there are regions
 abbrev pub region_bytes : ℕ → List ℕ → List ℕ
 region_bytes max_split [] = []
 region_bytes max_split (r ∷ rest) = to_be_bytes w32 max_split ++ flat_map (to_be_bytes w32) (r ∷ rest)
 
--- the rules, where the job has some
-abbrev pub rule_bytes : Bool → Job → List ℕ
-rule_bytes true job = to_be_bytes w32 job.setting.max_cut ++ region_bytes job.setting.max_split job.regions
-rule_bytes false job = []
+-- the limits of splits in all and of split regions, where one is set
+abbrev pub split_bytes : Rules → List ℕ
+split_bytes rules = cond (limits_splits rules) (to_be_bytes w32 rules.max_splits ++ to_be_bytes w32 rules.max_split_regions) []
+
+-- how many of the group, and of its whole, are in a unit
+abbrev pub member_bytes : Group → ℕ → List ℕ
+member_bytes group u = to_be_bytes w64 (slice_index group.members u) ++ to_be_bytes w64 (slice_index group.whole u)
+
+-- in how many districts the group is to have a majority, and how many of it and of its whole are in each unit, where there is a group
+abbrev pub group_bytes : ℕ → Rules → List ℕ
+group_bytes units rules =
+    cond (has_group rules) (to_be_bytes w32 rules.group_districts ++ flat_map (member_bytes rules.group) (map_below units (λ u. u))) []
+
+-- the rules, where there are some
+abbrev pub rule_bytes : Bool → ℕ → Rules → List ℕ
+rule_bytes true units rules =
+    to_be_bytes w32 rules.max_cut ++ region_bytes rules.max_split rules.regions ++ split_bytes rules ++ group_bytes units rules
+rule_bytes false units rules = []
 
 -- all that a job's outcomes depend on, but whether they have bins
 abbrev pub job_bytes : Job → List ℕ
 job_bytes job =
-    digest_name (has_rules job)
+    digest_name (has_rules (rules job)) (has_further_rules (rules job))
     ++ to_be_bytes w32 job.graph.units ++ to_be_bytes w32 (count_edges job.graph (λ u v. true)) ++ to_be_bytes w32 job.districts
     ++ edge_bytes job.graph
     ++ flat_map (unit_bytes job) (map_below job.graph.units (λ u. u))
@@ -194,7 +223,7 @@ job_bytes job =
     ++ to_be_bytes w32 job.setting.ends ++ to_be_bytes w32 job.setting.hub_steps
     ++ to_be_bytes w32 (length job.setting.asks)
     ++ flat_map (λ ask. to_be_bytes w32 (score_code ask.score) ++ to_be_bytes w32 (tail_code ask.tail)) job.setting.asks
-    ++ rule_bytes (has_rules job) job
+    ++ rule_bytes (has_rules (rules job)) job.graph.units (rules job)
 
 -- the digest of a job
 unfoldable pub job_digest : Job → List ℕ

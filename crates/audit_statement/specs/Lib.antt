@@ -15,6 +15,7 @@ pub mod Jobs
 pub mod Left
 pub mod Names
 pub mod Note
+pub mod Origin
 pub mod Plain
 pub mod PlainlyEnded
 pub mod Promise

@@ -66,6 +66,8 @@ column_name columns column.Population = columns.population
 column_name columns column.First = columns.first
 column_name columns column.Second = columns.second
 column_name columns column.District = columns.district
+column_name columns column.Group = columns.group
+column_name columns column.Whole = columns.whole
 
 -- of a graph that is refused
 abbrev pub graph_note : Columns → GraphFault → List (List ℕ)
@@ -112,6 +114,9 @@ plan_note (plan.OutOfBounds d population low high) = codes "district " ∷ decim
 plan_note (plan.Disconnected d one far) = codes "district " ∷ decimal d ∷ codes " has no path from unit " ∷ decimal one ∷ codes " to unit " ∷ decimal far ∷ []
 plan_note (plan.TooManyCut cut most) = decimal cut ∷ codes " cut edges, more than " ∷ decimal most ∷ []
 plan_note (plan.TooManySplit q districts most) = codes "region " ∷ decimal q ∷ codes " lies in " ∷ decimal districts ∷ codes " districts, more than " ∷ decimal most ∷ []
+plan_note (plan.TooManySplits splits most) = decimal splits ∷ codes " splits of regions, more than " ∷ decimal most ∷ []
+plan_note (plan.TooManySplitRegions regions most) = decimal regions ∷ codes " regions lie in more than one district, more than " ∷ decimal most ∷ []
+plan_note (plan.TooFewMajorities districts least) = codes "the group has a majority in " ∷ decimal districts ∷ codes " districts, fewer than " ∷ decimal least ∷ []
 plan_note plan.Memory = codes "memory" ∷ []
 
 -- why a slot is no checkpoint, in a word or two

@@ -129,6 +129,12 @@ module _ (read_of : Document) where
     key_of column.First = columns.first
     key_of column.Second = columns.second
     key_of column.District = columns.district
+    key_of column.Group = columns.group
+    key_of column.Whole = columns.whole
+
+    -- a group is named
+    abbrev pub names_group : Bool
+    names_group = not (length columns.group == 0)
 
     -- a node's value in a column
     abbrev pub cell : ℕ → Column → Option Data
@@ -178,6 +184,8 @@ module _ (read_of : Document) where
         ∷ refused_if (is_none (cell i column.First)) column.First
         ∷ refused_if (is_none (cell i column.Second)) column.Second
         ∷ refused_if (is_none (cell i column.District)) column.District
+        ∷ refused_if (names_group && is_none (cell i column.Group)) column.Group
+        ∷ refused_if (names_group && is_none (cell i column.Whole)) column.Whole
         ∷ []))
 
     -- the first column of a node that has no such number
@@ -186,6 +194,8 @@ module _ (read_of : Document) where
         refused_if (is_none (option_and_then count_of (cell i column.Population))) column.Population
         ∷ refused_if (is_none (option_and_then count_of (cell i column.First))) column.First
         ∷ refused_if (is_none (option_and_then count_of (cell i column.Second))) column.Second
+        ∷ refused_if (names_group && is_none (option_and_then count_of (cell i column.Group))) column.Group
+        ∷ refused_if (names_group && is_none (option_and_then count_of (cell i column.Whole))) column.Whole
         ∷ []))
 
     -- the first refusal, in their order
@@ -213,6 +223,10 @@ module _ (read_of : Document) where
         population = map_below node_count (count_at column.Population);
         first = map_below node_count (count_at column.First);
         second = map_below node_count (count_at column.Second);
+      };
+      group = record {
+        members = cond names_group (map_below node_count (count_at column.Group)) [];
+        whole = cond names_group (map_below node_count (count_at column.Whole)) [];
       };
       start = map_below node_count district_at;
       labels = map_below label_count (λ d. unwrap_or (option_map label_at (first_below node_count (λ i. district_at i == d))) (Word []));

@@ -22,7 +22,7 @@ document_of bytes = document (unwrap_or (cond (is_utf8 bytes) (read bytes) None)
 
 -- the column in the place of the districts' one: regions are read and numbered as districts are
 abbrev pub as_districts : List ℕ → Columns
-as_districts column = record { population = []; first = []; second = []; district = column }
+as_districts column = record { population = []; first = []; second = []; district = column; group = []; whole = [] }
 
 module _ (read_of : Document) (column : List ℕ) where
   -- the first refusal, in their order, each at its least node

@@ -1,13 +1,16 @@
 -- The report, the check text, and their lines, as lists of bytes.
 -- This project's formats. A text is one list of lines; the code appends to room that was made before.
-use Rattle.std.specs.Prelude.{ℕ, zero, suc, ◌+◌, ◌-◌, ◌/◌, ◌%◌, ◌^◌, Bool, true, false, cond, nat_lt, List, [], ◌∷◌, ◌++◌, length, map, replicate, slice_index, codes, decimal, flat_map, filter, zip, Option, Some, None, ℤ, unsigned_abs}
+use Rattle.std.specs.Prelude.{ℕ, zero, suc, ◌+◌, ◌-◌, ◌/◌, ◌%◌, ◌^◌, Bool, true, false, ◌||◌, cond, nat_lt, List, [], ◌∷◌, ◌++◌, length, map, replicate, slice_index, codes, decimal, flat_map, filter, zip, Option, Some, None, ℤ, unsigned_abs}
 use Rattle.std.specs.Fmt.{signed_decimal}
 use Rattle.hex.specs.Hex.{encode_lower}
+use Rattle.json.specs.Print.{quoted}
+use Rattle.audit_model.specs.declared.origin.Origin.{Origin}
 use Rattle.audit_model.specs.declared.outcome.Outcome.{Outcome}
 use Rattle.audit_model.specs.declared.setting.Ask.{Ask}
+use Rattle.audit_model.specs.declared.setting.Columns.{Columns}
 use Rattle.audit_model.specs.Graph.{count_edges}
 use Rattle.audit_model.specs.Job.{Job, total_population, total_votes}
-use Rattle.audit_model.specs.Meets.{region_count}
+use Rattle.audit_model.specs.Meets.{region_count, majorities}
 use Rattle.audit_model.specs.Plan.{least_population, greatest_population}
 use Rattle.audit_model.specs.Score.{denominator}
 use Rattle.audit_model.specs.Serially.{serial_told}
@@ -15,7 +18,7 @@ use Rattle.audit_model.specs.Stopping.{placed_asks, stops_of}
 use Rattle.audit_model.specs.Test.{bound, p_value}
 use Rattle.audit_model.specs.Trajectory.{Draws, plan_value, rank, sequence, tally, value_at}
 use Rattle.audit_statement.specs.Names.{score_name, tail_name}
-use Rattle.audit_model.specs.Limits.{most_edges}
+use Rattle.audit_model.specs.Limits.{most_edges, most_regions, most_splits}
 
 -- the words with a space between each two, and a line feed at the end
 abbrev pub line : List (List ℕ) → List ℕ
@@ -56,9 +59,25 @@ abbrev pub split_line : ℕ → List ℕ → List ℕ
 split_line max_split [] = []
 split_line max_split (r ∷ rest) = line (codes "max-split" ∷ decimal max_split ∷ codes "regions" ∷ decimal (region_count (r ∷ rest)) ∷ [])
 
+-- how often regions may be split in all, and how many of them, where there are any and one of these is limited
+abbrev pub splits_line : ℕ → ℕ → List ℕ → List ℕ
+splits_line max_splits max_split_regions [] = []
+splits_line max_splits max_split_regions (r ∷ rest) =
+    cond (nat_lt max_splits most_splits || nat_lt max_split_regions most_regions)
+    (line (codes "max-splits" ∷ decimal max_splits ∷ codes "max-split-regions" ∷ decimal max_split_regions ∷ [])) []
+
+-- in how many districts a group is to have a majority, and in how many the start plan gives it one, where there is a group
+abbrev pub group_line : ℕ → ℕ → List ℕ → List ℕ
+group_line least there [] = []
+group_line least there (n ∷ rest) = line (codes "group-districts" ∷ decimal least ∷ codes "of" ∷ decimal there ∷ [])
+
 -- the rules, where there are some
 abbrev pub rule_lines : Job → List ℕ
-rule_lines job = cut_line job ++ split_line job.setting.max_split job.regions
+rule_lines job =
+    cut_line job
+    ++ split_line job.setting.max_split job.regions
+    ++ splits_line job.setting.max_splits job.setting.max_split_regions job.regions
+    ++ group_line job.setting.group_districts (majorities job.group job.start) job.group.members
 
 -- how many trajectories of how many steps there are
 abbrev pub setting_line : Job → List ℕ
@@ -139,12 +158,36 @@ abbrev pub serial_lines : Job → Option (ℕ × List ℕ) → List ℕ
 serial_lines job None = []
 serial_lines job (Some found) = flat_map (serial_line job found.0 found.1) (placed_asks job)
 
+-- the column of the regions, where one is named
+abbrev pub region_words : List ℕ → List (List ℕ)
+region_words [] = []
+region_words (c ∷ column) = codes "region" ∷ quoted (c ∷ column) ∷ []
+
+-- the columns of a group, where one is named
+abbrev pub group_words : List ℕ → List ℕ → List (List ℕ)
+group_words [] whole = []
+group_words (c ∷ column) whole = codes "group" ∷ quoted (c ∷ column) ∷ codes "of" ∷ quoted whole ∷ []
+
+-- the names of the columns as JSON texts: population, votes, districts, and then what else is named
+abbrev pub columns_line : Columns → List ℕ → List ℕ
+columns_line columns region = line (
+    (codes "columns" ∷ quoted columns.population ∷ quoted columns.first ∷ quoted columns.second ∷ quoted columns.district ∷ [])
+    ++ region_words region ++ group_words columns.group columns.whole)
+
+-- the digest of what was read, and the columns that were read of it, where the job tells its origin
+abbrev pub origin_lines : Job → Option Origin → List ℕ
+origin_lines job None = []
+origin_lines job (Some origin) =
+    line (codes "source" ∷ codes "sha256" ∷ encode_lower origin.sha256 ∷ codes "bytes" ∷ decimal origin.bytes ∷ [])
+    ++ columns_line job.setting.columns job.setting.region
+
 -- ---- whole texts
 
 -- the report on these outcomes, on where the tests of the asks stopped, and on what the serial test found
 unfoldable pub report : Job → List Outcome → List (List ℕ) → Option (ℕ × List ℕ) → List ℕ
 report job outcomes stops serial =
     title_line job.setting.shift
+    ++ origin_lines job job.origin
     ++ line (codes "key" ∷ encode_lower job.setting.key ∷ [])
     ++ graph_line job
     ++ population_line job
@@ -169,6 +212,7 @@ thread_report job draws = full_report job draws (sequence job draws)
 unfoldable pub check_text : Job → List ℕ
 check_text job =
     line (codes "plan-check 1" ∷ [])
+    ++ origin_lines job job.origin
     ++ graph_line job
     ++ population_line job
     ++ rule_lines job

@@ -4,6 +4,7 @@ use Rattle.std.specs.Io.KnownBytes.{Appends}
 use Rattle.audit_model.specs.Faults.{Rose}
 use Rattle.audit_model.specs.Pair.{Pair}
 use Rattle.audit_model.specs.Tries.{Try}
+use Rattle.audit_model.specs.declared.origin.Origin.{Origin}
 use Rattle.audit_model.specs.declared.outcome.Outcome.{Outcome}
 use Rattle.audit_model.specs.declared.setting.Command.{Command}
 use Rattle.audit_model.specs.Job.{Job}
@@ -24,13 +25,13 @@ use Rattle.audit_statement.specs.Promise.{KeepsItsPromise}
 use Rattle.audit_model.specs.State.{Stream}
 use Rattle.audit_statement.specs.World.{World}
 
--- the same job, where it asks for bins or does not, and for the serial test or does not
-abbrev pub asking : Job → Bool → Bool → Job
-asking job shift serial = record job { setting = record job.setting { shift = shift; serial = serial } }
+-- the same job, where it asks for bins or does not, for the serial test or does not, and tells its origin or does not
+abbrev pub asking : Job → Bool → Bool → Option Origin → Job
+asking job shift serial origin = record job { setting = record job.setting { shift = shift; serial = serial }; origin = origin }
 
 -- How a job is run: by which command, as `run` of one plan in place of `plans` of several; by how many workers; how many trajectories it walks at most;
--- after how many it saves, and whether it resumes; whether it asks for bins and for the serial test; and into how many parts the trajectories are
--- divided, of which it walks which.
+-- after how many it saves, and whether it resumes; whether it asks for bins and for the serial test; into how many parts the trajectories are
+-- divided, of which it walks which; and whether it asks for its origin, and which that is.
 pub record Manner : Type 0 where
   pub command : Command
   pub workers : ℕ
@@ -41,6 +42,8 @@ pub record Manner : Type 0 where
   pub serial : Bool
   pub parts : ℕ
   pub part : ℕ
+  pub source : Bool
+  pub origin : Option Origin
 
 -- the same job in another run
 abbrev pub rerun : Job → Manner → Job
@@ -55,12 +58,14 @@ rerun job manner = record job {
     serial = manner.serial;
     parts = manner.parts;
     part = manner.part;
+    source = manner.source;
   };
+  origin = manner.origin;
 }
 
 -- Both have the same digest, each trajectory finds the same, with all its bins, in both, so does the serial test, whether it is asked for or not,
 -- what is honest for one is honest for the other, and tests that stop early stop at the same places. Where both ask for bins, or neither, they have
--- the same outcomes and the same report on what is found.
+-- the same outcomes, and, where both tell the same origin or none, the same report on what is found.
 pub record FindTheSame (job other : Job) : Type 0 where
   pub same_digest : job_digest other ≡ job_digest job
   pub same_whole : (draws : Draws) (id : ℕ) → whole other draws id ≡ whole job draws id
@@ -70,7 +75,7 @@ pub record FindTheSame (job other : Job) : Type 0 where
   pub same_outcome : other.setting.shift ≡ job.setting.shift → (draws : Draws) (id : ℕ) → outcome other draws id ≡ outcome job draws id
   pub same_sequence : other.setting.shift ≡ job.setting.shift → (draws : Draws) → sequence other draws ≡ sequence job draws
   pub same_stops : (outcomes : List Outcome) → stops_of other outcomes ≡ stops_of job outcomes
-  pub same_report : other.setting.shift ≡ job.setting.shift → (outcomes : List Outcome) (stops : List (List ℕ)) (serial : Option (ℕ × List ℕ))
+  pub same_report : other.setting.shift ≡ job.setting.shift → other.origin ≡ job.origin → (outcomes : List Outcome) (stops : List (List ℕ)) (serial : Option (ℕ × List ℕ))
       → report other outcomes stops serial ≡ report job outcomes stops serial
 
 -- how a job is run changes nothing of what it finds, and whether it asks for bins nothing of what it holds for its own
@@ -149,11 +154,11 @@ abbrev pub IsChain : Job → Pair → List Event → Type 0
 IsChain job p [] = ⊤
 IsChain job p (e ∷ events) = IsEvent job p e × IsChain job (slots_after e) events
 
--- the run wrote the report that one thread gives by walking each trajectory once, for the job that asks for bins and for the serial test exactly
--- where this run did: by what command, with what workers, budget, parts, saves and openings it came to it, and what other runs of the chain asked for,
+-- the run wrote the report that one thread gives by walking each trajectory once, for the job that asks for bins, for the serial test and for its origin
+-- exactly where this run did: by what command, with what workers, budget, parts, saves and openings it came to it, and what other runs of the chain asked for,
 -- changes nothing
 abbrev pub WroteOneThreads : Job → Link → Type 0
-WroteOneThreads job l = Appends l.before.out.bytes l.after.out.bytes (thread_report (asking job l.manner.shift l.manner.serial) (draw job.setting.key))
+WroteOneThreads job l = Appends l.before.out.bytes l.after.out.bytes (thread_report (asking job l.manner.shift l.manner.serial l.manner.origin) (draw job.setting.key))
 
 -- it did where it ended with status 0, and also with status 9, after a save that failed, where it left nothing
 pub record WroteWhereDue (job : Job) (l : Link) : Type 0 where

@@ -16,11 +16,13 @@ said (word ∷ value ∷ rest) name other = cond (bytes_eq word name) value (sai
 abbrev pub IsSilent : List (List ℕ) → List ℕ → Type 0
 IsSilent words name = (other : List ℕ) → said words name other ≡ other
 
--- they save nothing and resume nothing, stop no test early, ask for no serial test and no bins, name no regions, and do not limit cut edges;
+-- they save nothing and resume nothing, stop no test early, ask for no serial test and no bins, name no regions and no group, do not limit cut
+-- edges, and do not ask for the digest of what is read;
 -- a run that saves nothing walks all of its trajectories, so that nothing need be said of parts
 abbrev pub ArePlain : List (List ℕ) → Type 0
 ArePlain words = All (IsSilent words) (
-    codes "--save" ∷ codes "--resume" ∷ codes "--stop" ∷ codes "--serial" ∷ codes "--shift" ∷ codes "--region" ∷ codes "--max-cut" ∷ [])
+    codes "--save" ∷ codes "--resume" ∷ codes "--stop" ∷ codes "--serial" ∷ codes "--shift" ∷ codes "--region" ∷ codes "--max-cut"
+    ∷ codes "--group" ∷ codes "--source" ∷ [])
 
 -- the text is the digits of the number; of a number of more than 64 digits `decimal` has the last 64 alone
 abbrev pub IsSpelled : List ℕ → ℕ → Type 0

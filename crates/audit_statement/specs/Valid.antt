@@ -3,7 +3,8 @@
 use Rattle.std.specs.Prelude.{◌≡◌, ℕ, ◌<◌, List, length, slice_index}
 use Rattle.audit_model.specs.Job.{Job}
 use Rattle.audit_model.specs.Path.{IsConnected}
-use Rattle.audit_model.specs.Plan.{IsBalanced, district_sum, in_district}
+use Rattle.audit_model.specs.District.{district_sum, in_district}
+use Rattle.audit_model.specs.Plan.{IsBalanced}
 
 -- each unit has a district, and each district has a unit, is connected, and is within the population bounds
 pub record IsValid (job : Job) (plan : List ℕ) : Type 0 where

@@ -6,10 +6,11 @@ use Rattle.std.specs.List.{list_any, slice_index_or}
 use Rattle.std.specs.Option.{option_or}
 use Rattle.hex.specs.Hex.{decode_sized}
 use Rattle.audit_model.specs.declared.fault.Name.{Name}
-use Rattle.audit_model.specs.declared.fault.Name.TheVariants.{Pop, First, Second, District, Size, Slack, Key, Walks, Steps, Ends, HubSteps, Ask, Workers, Budget, Save, Resume, MaxCut, Shift, Stop, Serial, Region, MaxSplit, Parts, Part}
+use Rattle.audit_model.specs.declared.fault.Name.TheVariants.{Pop, First, Second, District, Size, Slack, Key, Walks, Steps, Ends, HubSteps, Ask, Workers, Budget, Save, Resume, MaxCut, Shift, Stop, Serial, Region, MaxSplit, Parts, Part, MaxSplits, MaxSplitRegions, Group, GroupOf, GroupDistricts, Source}
 use Rattle.audit_model.specs.declared.fault.WordFault.{WordFault}
 use Rattle.audit_model.specs.declared.fault.WordFault.TheVariants.{NoCommand, UnknownCommand, UnknownName, Twice, NoValue, MissingName, BadValue}
 use Rattle.audit_model.specs.declared.setting.Ask.{Ask as AskOf}
+use Rattle.audit_model.specs.declared.setting.Columns.{Columns}
 use Rattle.audit_model.specs.declared.setting.Command.{Command}
 use Rattle.audit_model.specs.declared.setting.Command.TheVariants.{Check, Run, Make, Plans}
 use Rattle.audit_model.specs.declared.setting.Score.TheVariants.{Seats, MeanMedian, Gap, CutEdges}
@@ -21,18 +22,22 @@ use Rattle.audit_model.specs.Graph.{has}
 use Rattle.audit_model.specs.Names.{name_text}
 use Rattle.audit_model.specs.Power.{is_power_of_two}
 use Rattle.audit_statement.specs.Names.{score_name, tail_name}
-use Rattle.audit_model.specs.Limits.{most_trajectories, most_districts, most_steps, most_workers, most_edges}
+use Rattle.audit_model.specs.Limits.{most_trajectories, most_districts, most_regions, most_splits, most_steps, most_workers, most_edges}
 
 -- ---- the table of names
 
 -- the names that a command takes, in the order of the table
 abbrev pub names_of : Command → List Name
-names_of Check = Pop ∷ First ∷ Second ∷ District ∷ Slack ∷ MaxCut ∷ Region ∷ MaxSplit ∷ []
+names_of Check =
+    Pop ∷ First ∷ Second ∷ District ∷ Slack ∷ MaxCut ∷ Region ∷ MaxSplit
+    ∷ MaxSplits ∷ MaxSplitRegions ∷ Group ∷ GroupOf ∷ GroupDistricts ∷ Source ∷ []
 names_of Run =
-    Pop ∷ First ∷ Second ∷ District ∷ Slack ∷ Key ∷ Walks ∷ Steps ∷ Ends ∷ HubSteps ∷ Ask ∷ Workers ∷ Budget ∷ Save ∷ Resume ∷ MaxCut ∷ Shift ∷ Stop ∷ Serial ∷ Region ∷ MaxSplit ∷ Parts ∷ Part ∷ []
+    Pop ∷ First ∷ Second ∷ District ∷ Slack ∷ Key ∷ Walks ∷ Steps ∷ Ends ∷ HubSteps ∷ Ask ∷ Workers ∷ Budget ∷ Save ∷ Resume ∷ MaxCut ∷ Shift ∷ Stop ∷ Serial ∷ Region ∷ MaxSplit ∷ Parts ∷ Part
+    ∷ MaxSplits ∷ MaxSplitRegions ∷ Group ∷ GroupOf ∷ GroupDistricts ∷ Source ∷ []
 names_of Make = Size ∷ Slack ∷ Key ∷ Walks ∷ Steps ∷ Ends ∷ HubSteps ∷ Ask ∷ Workers ∷ Budget ∷ Save ∷ Resume ∷ MaxCut ∷ Shift ∷ Stop ∷ Serial ∷ Parts ∷ Part ∷ []
 names_of Plans =
-    Pop ∷ First ∷ Second ∷ District ∷ Slack ∷ Key ∷ Walks ∷ Steps ∷ Ends ∷ HubSteps ∷ Ask ∷ Workers ∷ MaxCut ∷ Shift ∷ Stop ∷ Serial ∷ Region ∷ MaxSplit ∷ []
+    Pop ∷ First ∷ Second ∷ District ∷ Slack ∷ Key ∷ Walks ∷ Steps ∷ Ends ∷ HubSteps ∷ Ask ∷ Workers ∷ MaxCut ∷ Shift ∷ Stop ∷ Serial ∷ Region ∷ MaxSplit
+    ∷ MaxSplits ∷ MaxSplitRegions ∷ Group ∷ GroupOf ∷ GroupDistricts ∷ Source ∷ []
 
 -- the value of a name that is not given, where it may be left out
 abbrev pub default_of : Name → Option (List ℕ)
@@ -60,6 +65,12 @@ default_of Region = Some []
 default_of MaxSplit = Some (codes "200")
 default_of Parts = Some (codes "1")
 default_of Part = Some (codes "0")
+default_of MaxSplits = Some (codes "995000")
+default_of MaxSplitRegions = Some (codes "5000")
+default_of Group = Some []
+default_of GroupOf = Some []
+default_of GroupDistricts = Some (codes "0")
+default_of Source = Some (codes "no")
 
 -- ---- values
 
@@ -147,6 +158,12 @@ is_one_line Run text = true
 is_one_line Make text = true
 is_one_line Plans text = not (has text 10)
 
+-- the column of those among whom a group may be a majority: that which is named, or the population's; and none where there is no group
+abbrev pub whole_column : List ℕ → List ℕ → List ℕ → List ℕ
+whole_column [] named population = []
+whole_column (c ∷ group) [] population = population
+whole_column (c ∷ group) (d ∷ named) population = d ∷ named
+
 module _ (command : Command) (words : List NameAndValue) where
   -- the pair at a place
   abbrev pub word_pair : ℕ → NameAndValue
@@ -209,9 +226,29 @@ module _ (command : Command) (words : List NameAndValue) where
   abbrev pub divides_draws : Bool
   divides_draws = not (is_yes Serial) || is_power_of_two (number_named Steps + 1)
 
+  -- the value of a name is empty, as that of a column that is not named
+  abbrev pub is_empty : Name → Bool
+  is_empty name = length (text_of name) == 0
+
   -- only regions are split
   abbrev pub has_split : Bool
-  has_split = (number_named MaxSplit == most_districts) || not (length (text_of Region) == 0)
+  has_split = (number_named MaxSplit == most_districts) || not (is_empty Region)
+
+  -- so it is with splits in all
+  abbrev pub has_splits : Bool
+  has_splits = (number_named MaxSplits == most_splits) || not (is_empty Region)
+
+  -- and with how many regions are split
+  abbrev pub has_split_regions : Bool
+  has_split_regions = (number_named MaxSplitRegions == most_regions) || not (is_empty Region)
+
+  -- only a group has a part of a whole
+  abbrev pub has_group_of : Bool
+  has_group_of = is_empty GroupOf || not (is_empty Group)
+
+  -- and only a group has majorities
+  abbrev pub has_majority_group : Bool
+  has_majority_group = (number_named GroupDistricts == 0) || not (is_empty Group)
 
   -- what is walked of one of several parts is saved
   abbrev pub saves_parts : Bool
@@ -243,6 +280,12 @@ module _ (command : Command) (words : List NameAndValue) where
   is_good MaxSplit = is_number 1 most_districts (text_of MaxSplit) && has_split
   is_good Parts = is_number 1 most_trajectories (text_of Parts) && saves_parts
   is_good Part = is_number 0 most_trajectories (text_of Part) && nat_lt (number_named Part) (number_named Parts)
+  is_good MaxSplits = is_number 0 most_splits (text_of MaxSplits) && has_splits
+  is_good MaxSplitRegions = is_number 0 most_regions (text_of MaxSplitRegions) && has_split_regions
+  is_good Group = true
+  is_good GroupOf = has_group_of
+  is_good GroupDistricts = is_number 0 most_districts (text_of GroupDistricts) && has_majority_group
+  is_good Source = is_yes_or_no Source
 
   -- the first fault, in the order of the refusals
   abbrev pub fault_of : Option WordFault
@@ -252,11 +295,22 @@ module _ (command : Command) (words : List NameAndValue) where
       ∷ option_map BadValue (find (λ name. not (is_good name)) (names_of command))
       ∷ [])
 
+  -- the columns that are named
+  abbrev pub columns_named : Columns
+  columns_named = record {
+    population = text_of Pop;
+    first = text_of First;
+    second = text_of Second;
+    district = text_of District;
+    group = text_of Group;
+    whole = whole_column (text_of Group) (text_of GroupOf) (text_of Pop);
+  }
+
   -- what the values say
   abbrev pub as_run : Setting
   as_run = record {
     command = command;
-    columns = record { population = text_of Pop; first = text_of First; second = text_of Second; district = text_of District };
+    columns = columns_named;
     slack = number_named Slack;
     key = unwrap_or (result_ok (decode_sized (text_of Key) 32)) [];
     walks = number_named Walks;
@@ -277,13 +331,17 @@ module _ (command : Command) (words : List NameAndValue) where
     max_split = number_named MaxSplit;
     parts = number_named Parts;
     part = number_named Part;
+    max_splits = number_named MaxSplits;
+    max_split_regions = number_named MaxSplitRegions;
+    group_districts = number_named GroupDistricts;
+    source = is_yes Source;
   }
 
 -- with what a command fixes
 abbrev pub setting_for : Command → List NameAndValue → Setting
 setting_for Check words = record {
   command = Check;
-  columns = (as_run Check words).columns;
+  columns = columns_named Check words;
   slack = number_named Check words Slack;
   key = replicate 32 0;
   walks = 0;
@@ -304,13 +362,28 @@ setting_for Check words = record {
   max_split = number_named Check words MaxSplit;
   parts = 1;
   part = 0;
+  max_splits = number_named Check words MaxSplits;
+  max_split_regions = number_named Check words MaxSplitRegions;
+  group_districts = number_named Check words GroupDistricts;
+  source = is_yes Check words Source;
 }
 setting_for Run words = as_run Run words
 setting_for Make words = record (as_run Make words) {
-  columns = record { population = codes "pop"; first = codes "a"; second = codes "b"; district = codes "district" };
+  columns = record {
+    population = codes "pop";
+    first = codes "a";
+    second = codes "b";
+    district = codes "district";
+    group = [];
+    whole = [];
+  };
   size = number_named Make words Size;
   region = [];
   max_split = most_districts;
+  max_splits = most_splits;
+  max_split_regions = most_regions;
+  group_districts = 0;
+  source = false;
 }
 setting_for Plans words = as_run Plans words
 

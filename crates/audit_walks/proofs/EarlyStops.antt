@@ -23,7 +23,7 @@ use Rattle.audit_model.proofs.Resumed.{full_is_sequence}
 use Rattle.audit_model.proofs.Below.{length-map_below, get_or-map_below}
 use Rattle.report.specs.Outcomes.{AreOutcomesOf, AreStopsBy, AreStopsOf, IsStopOf, reported_by}
 use Rattle.sequential_test.specs.Rounds.{AreParts, StopsInTime, ends_after, found_below}
-use Rattle.audit_statement.specs.Report.{graph_line, line, population_line, report, rule_lines, serial_lines, setting_line, shift_line, stop_line, test_lines, title_line, walk_line, walk_lines}
+use Rattle.audit_statement.specs.Report.{graph_line, line, origin_lines, population_line, report, rule_lines, serial_lines, setting_line, shift_line, stop_line, test_lines, title_line, walk_line, walk_lines}
 use Rattle.audit_laws.specs.Runs.{AreAll, IsRunJob}
 use Rattle.audit_laws.proofs.Starting.{every_id, none_right, none_fit}
 use Rattle.audit_laws.proofs.Running.{are_all, fit_list, leaves_none, one_part, run_setting}
@@ -121,6 +121,7 @@ module _ (job : Job) (draws : Draws) where
       with_lines : List ℕ → List ℕ → List ℕ → List ℕ
       with_lines walks shift tests =
           title_line job.setting.shift
+          ++ origin_lines job job.origin
           ++ line (codes "key" ∷ encode_lower job.setting.key ∷ [])
           ++ graph_line job
           ++ population_line job

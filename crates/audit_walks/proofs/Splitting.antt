@@ -1,22 +1,38 @@
--- Judges of regions take the plans of a job with regions.
-use Rattle.std.proofs.Common.{◌≡◌, ◌≢◌, ◌∙◌, ℕ, ◌≤◌, List, [], length, ap, refl, sym, inl, inr}
-use Rattle.std.proofs.lemmas.Bool.{eq-eqb, le-leb}
-use Rattle.audit_model.specs.Job.{Job}
-use Rattle.audit_model.specs.Limits.{AreRegions}
+-- Judges of all rules take the plans of a job.
+use Rattle.std.proofs.Common.{◌≡◌, ◌∙◌, ℕ, ◌≤◌, Bool, true, ◌||◌, List, [], length, ap, refl, sym, inl, inr, arith}
+use Rattle.std.specs.Prelude.{◌==◌, ◌⊎◌}
+use Rattle.std.proofs.lemmas.Bool.{and_from, eq-eqb, le-leb, or_right}
+use Rattle.audit_model.specs.declared.rules.Group.{Group}
+use Rattle.audit_model.specs.declared.rules.Rules.{Rules}
+use Rattle.audit_model.specs.Job.{Job, rules}
+use Rattle.audit_model.specs.Limits.{IsGroup, IsWithinLimits}
 use Rattle.flip_kernel.specs.Judged.{TakesPlansOf}
-use Rattle.region_guard.specs.Standing.{is_fitting}
+use Rattle.region_guard.specs.Standing.{is_fitting, is_for}
 
--- where there are regions, each unit has one
-pub one_for_each : (units : ℕ) (regions : List ℕ) → AreRegions units regions → regions ≢ [] → length regions ≡ units
-one_for_each units regions are some = elim are.width [
-  | inl none ↦ absurd (some none)
-  | inr same ↦ same
-]
+-- a list that is empty, or has an entry for each unit, is for the units
+for_units : (units : ℕ) (entries : List ℕ) → ((entries ≡ []) ⊎ (length entries ≡ units)) → is_for units entries ≡ true
+for_units units entries (inl none) = rw none refl
+for_units units entries (inr long) = or_right (length entries == 0) (length entries == units) (eq-eqb (length entries) units long)
+
+-- a group is empty, or has an entry for each unit
+group_for : (units : ℕ) (group : Group) → IsGroup units group → (group.members ≡ []) ⊎ (length group.members ≡ units)
+group_for units group (inl none) = inl none.0
+group_for units group (inr columns) = inr columns.0.width
+
+-- a group of some units is one of as many as it has entries, and these are no more
+pub own_group : (units : ℕ) (group : Group) → IsGroup units group → IsGroup (length group.members) group × (length group.members ≤ units)
+own_group units group (inl none) = (inl none, rw none.0 (omega arith))
+own_group units group (inr columns) = (
+  inr (record { width = refl; small = columns.0.small }, record { width = columns.1.width ∙ sym columns.0.width; small = columns.1.small }),
+  omega (arith, columns.0.width),
+)
 
 -- so plans of the job fit
-pub takes_plans : (job : Job) (regions : List ℕ) (districts : ℕ) → AreRegions job.graph.units job.regions → job.regions ≢ [] → regions ≡ job.regions → districts ≡ job.districts
-    → TakesPlansOf job (is_fitting regions districts)
-takes_plans job regions districts are some same count above few =
-    let long : job.graph.units ≡ length regions = sym (ap length same ∙ one_for_each job.graph.units job.regions are some) in
+pub takes_plans : (job : Job) (by : Rules) (districts : ℕ) → IsWithinLimits job → by ≡ rules job → districts ≡ job.districts
+    → TakesPlansOf job (is_fitting by districts)
+takes_plans job by districts within same count above few =
+    let regioned : is_for job.graph.units by.regions ≡ true = rw same (for_units job.graph.units job.regions within.regions.width) in
+    let grouped : is_for job.graph.units by.group.members ≡ true =
+    rw same (for_units job.graph.units job.group.members (group_for job.graph.units job.group within.group)) in
     let below : above ≤ districts = rw count few in
-    rw (eq-eqb job.graph.units (length regions) long, le-leb above districts below) refl
+    rw (regioned, grouped, le-leb above districts below) refl

@@ -7,14 +7,14 @@ use Rattle.std.specs.Result.{result_ok}
 use Rattle.hex.specs.Hex.{decode_sized}
 use Rattle.hex.proofs.HexLemmas.{decode_sized-ok, decode_sized-twice, decode_of-ok}
 use Rattle.audit_model.specs.Limits.{HasPart, IsSetting, IsSettingOf, IsRunSetting}
-use Rattle.audit_model.specs.declared.fault.Name.TheVariants.{Slack, Key, Walks, Steps, Ends, HubSteps, Ask, Workers, MaxCut, MaxSplit, Parts, Part, Save}
+use Rattle.audit_model.specs.declared.fault.Name.TheVariants.{Slack, Key, Walks, Steps, Ends, HubSteps, Ask, Workers, MaxCut, Parts, Part, Save}
 use Rattle.audit_model.specs.declared.setting.Ask.{Ask as AskOf}
 use Rattle.audit_model.specs.declared.setting.Command.{Command}
 use Rattle.audit_model.specs.declared.setting.Command.TheVariants.{Check, Run, Make, Plans}
-use Rattle.audit_statement.specs.Words.{NameAndValue, are_asks, as_run, asks_of, has_walks, is_good, is_number, number_named, parts_between, saves_parts, setting_for, text_of}
+use Rattle.audit_statement.specs.Words.{NameAndValue, are_asks, as_run, asks_of, has_walks, is_number, number_named, parts_between, saves_parts, setting_for, text_of}
 use Rattle.audit_words.specs.Judged.{AreGood, AreReadable}
 use Rattle.audit_words.proofs.Asking.{length-asks_of, AllPairs-asks_of}
-use Rattle.audit_words.proofs.Goodness.{asks_of-some, number-bounds, split-bounds}
+use Rattle.audit_words.proofs.Goodness.{AreBounded, AreBounded-good, asks_of-some, number-bounds}
 use Rattle.audit_words.proofs.Parting.{parts_between-some}
 
 -- a result that tests as a success is one
@@ -108,13 +108,16 @@ HasPart-good command words good =
     }
 
 -- good words give a command a setting within all limits
-IsSetting-run : (command : Command) (words : List NameAndValue) → AreGood words → is_good Check words MaxSplit ≡ true → IsSettingOf command (as_run command words) → IsSetting (as_run command words)
-IsSetting-run command words good split is = record {
+IsSetting-run : (command : Command) (words : List NameAndValue) → AreGood words → AreBounded words → IsSettingOf command (as_run command words) → IsSetting (as_run command words)
+IsSetting-run command words good limits is = record {
   slack = (number-bounds 0 10000 (text_of Check words Slack) good.slack).1;
   key = length-key (text_of Check words Key) good.key;
   max_cut = (number-bounds 0 400000 (text_of Check words MaxCut) good.max_cut).1;
-  some_splits = (split-bounds words split).0;
-  few_splits = (split-bounds words split).1;
+  some_splits = limits.max_split.0;
+  few_splits = limits.max_split.1;
+  few_in_all = limits.max_splits;
+  few_split_regions = limits.max_split_regions;
+  few_group_districts = limits.group_districts;
   part = HasPart-good command words good;
   command = is;
 }
@@ -125,8 +128,11 @@ IsSetting-good Check words good = record {
   slack = (number-bounds 0 10000 (text_of Check words Slack) good.0).1;
   key = refl;
   max_cut = (number-bounds 0 400000 (text_of Check words MaxCut) good.1).1;
-  some_splits = (split-bounds words good.2).0;
-  few_splits = (split-bounds words good.2).1;
+  some_splits = (AreBounded-good words good.2).max_split.0;
+  few_splits = (AreBounded-good words good.2).max_split.1;
+  few_in_all = (AreBounded-good words good.2).max_splits;
+  few_split_regions = (AreBounded-good words good.2).max_split_regions;
+  few_group_districts = (AreBounded-good words good.2).group_districts;
   part = record { some = omega arith; few = omega arith; one_of = omega arith; saves = λ several. absurd (omega (arith, several)) };
   command = record {
     no_walks = refl;
@@ -138,14 +144,17 @@ IsSetting-good Check words good = record {
     no_saves = refl;
   };
 }
-IsSetting-good Run words good = IsSetting-run Run words good.0 good.1 (IsRunSetting-good Run words good.0)
+IsSetting-good Run words good = IsSetting-run Run words good.0 (AreBounded-good words good.1) (IsRunSetting-good Run words good.0)
 IsSetting-good Make words good = record {
   slack = (number-bounds 0 10000 (text_of Check words Slack) good.0.slack).1;
   key = length-key (text_of Check words Key) good.0.key;
   max_cut = (number-bounds 0 400000 (text_of Check words MaxCut) good.0.max_cut).1;
   some_splits = omega arith;
   few_splits = omega arith;
+  few_in_all = omega arith;
+  few_split_regions = omega arith;
+  few_group_districts = omega arith;
   part = HasPart-made words (HasPart-good Make words good.0);
   command = IsRunSetting-made words (IsRunSetting-good Make words good.0);
 }
-IsSetting-good Plans words good = IsSetting-run Plans words good.0 good.1 (IsRunSetting-good Plans words good.0)
+IsSetting-good Plans words good = IsSetting-run Plans words good.0 (AreBounded-good words good.1) (IsRunSetting-good Plans words good.0)

@@ -1,6 +1,6 @@
 -- Searches from the front that pass over what they do not want.
-use Rattle.std.proofs.Common.{◌≡◌, ℕ, zero, suc, ◌<◌, ◌≤◌, Bool, true, false, not, List, [], ◌∷◌, length, get_or, drop, refl, arith, Option, Some, None}
-use Rattle.std.specs.Prelude.{find}
+use Rattle.std.proofs.Common.{◌≡◌, ℕ, zero, suc, ◌<◌, ◌≤◌, Bool, true, false, not, List, [], ◌∷◌, length, get_or, drop, refl, sym, arith, Option, Some, None}
+use Rattle.std.specs.Prelude.{find, is_none, is_some, option_map}
 use Rattle.audit_model.specs.First.{first_some_below}
 
 -- the search goes on behind what does not pass, and ends at what does
@@ -36,3 +36,8 @@ find-failing p (x ∷ xs) (suc k) d inside below fails = let here : p x ≡ true
 pub find-no_failing : {X : Type 0} (p : X → Bool) (xs : List X) (d : X) → ((j : ℕ) → j < length xs → p (get_or xs j d) ≡ true) → find (λ x. not (p x)) xs ≡ None
 find-no_failing p [] d all = refl
 find-no_failing p (x ∷ xs) d all = let here : p x ≡ true = all 0 (omega arith) in rw here (find-no_failing p xs d (λ j less. all (suc j) (omega arith)))
+
+-- a value that is there is not missing, whatever is made of it
+pub is_none-mapped : {A B : Type 0} (f : A → B) (o : Option A) → is_some o ≡ true → is_none (option_map f o) ≡ false
+is_none-mapped f (Some x) h = refl
+is_none-mapped f None h = sym h

@@ -4,14 +4,14 @@ use Rattle.std.proofs.lemmas.Bool.{and_parts, false≢true, leb-true}
 use Rattle.std.specs.Prelude.{◌&&◌, nat_le, is_some, unwrap_or}
 use Rattle.std.specs.List.{filter_map}
 use Rattle.audit_model.specs.declared.fault.Name.{Name}
-use Rattle.audit_model.specs.declared.fault.Name.TheVariants.{Pop, Size, Slack, Key, Walks, Steps, Ends, HubSteps, Ask, Workers, Budget, Save, Resume, MaxCut, Shift, Stop, Serial, Region, MaxSplit, Parts, Part}
+use Rattle.audit_model.specs.declared.fault.Name.TheVariants.{Pop, Size, Slack, Key, Walks, Steps, Ends, HubSteps, Ask, Workers, Budget, Save, Resume, MaxCut, Shift, Stop, Serial, Region, MaxSplit, Parts, Part, MaxSplits, MaxSplitRegions, Group, GroupOf, GroupDistricts, Source}
 use Rattle.audit_model.specs.declared.fault.WordFault.TheVariants.{BadValue}
 use Rattle.audit_model.specs.declared.setting.Ask.{Ask as AskOf}
 use Rattle.audit_model.specs.declared.setting.Command.TheVariants.{Check, Run, Make, Plans}
 use Rattle.audit_model.specs.declared.setting.Command.{Command}
 use Rattle.audit_model.proofs.Options.{some_from}
-use Rattle.audit_statement.specs.Words.{NameAndValue, all_different, are_asks, ask_of, asks_of, command_of, has_split, is_good, is_number, names_of, number_named, number_of, parts_between, text_of}
-use Rattle.audit_words.specs.Judged.{AreGood, AreReadable, fault_of_pairs, fault_of_values}
+use Rattle.audit_statement.specs.Words.{NameAndValue, all_different, are_asks, ask_of, asks_of, command_of, has_majority_group, has_split, has_split_regions, has_splits, is_good, is_number, names_of, number_named, number_of, parts_between, text_of}
+use Rattle.audit_words.specs.Judged.{AreGood, AreGoodLimits, AreReadable, fault_of_pairs, fault_of_values}
 use Rattle.audit_words.proofs.Unnamed.{good_budget, good_part, good_parts, good_resume, good_save}
 use Rattle.audit_words.proofs.Asking.{filter_map-ask_of}
 
@@ -24,10 +24,27 @@ bounded (Some n) low high h = let both = and_parts (nat_le low n) (nat_le n high
 pub number-bounds : (low high : ℕ) (text : List ℕ) → is_number low high text ≡ true → (low ≤ unwrap_or (number_of text) 0) × (unwrap_or (number_of text) 0 ≤ high)
 number-bounds low high text h = bounded (number_of text) low high h
 
--- the districts of a region are from 1 to 200
-pub split-bounds : (words : List NameAndValue) → is_good Check words MaxSplit ≡ true → (1 ≤ number_named Check words MaxSplit) × (number_named Check words MaxSplit ≤ 200)
-split-bounds words good =
-    number-bounds 1 200 (text_of Check words MaxSplit) (and_parts (is_number 1 200 (text_of Check words MaxSplit)) (has_split Check words) good).0
+-- a limit that is judged by its number first lies within the bounds
+limit-bounds : (low high : ℕ) (words : List NameAndValue) (name : Name) (named : Bool) → (is_number low high (text_of Check words name) && named) ≡ true
+    → (low ≤ number_named Check words name) × (number_named Check words name ≤ high)
+limit-bounds low high words name named good =
+    number-bounds low high (text_of Check words name) (and_parts (is_number low high (text_of Check words name)) named good).0
+
+-- the limits on regions and on a group as numbers within their bounds
+pub record AreBounded (words : List NameAndValue) : Type 0 where
+  pub max_split : (1 ≤ number_named Check words MaxSplit) × (number_named Check words MaxSplit ≤ 200)
+  pub max_splits : number_named Check words MaxSplits ≤ 995000
+  pub max_split_regions : number_named Check words MaxSplitRegions ≤ 5000
+  pub group_districts : number_named Check words GroupDistricts ≤ 200
+
+-- good limits are such numbers
+pub AreBounded-good : (words : List NameAndValue) → AreGoodLimits words → AreBounded words
+AreBounded-good words good = record {
+  max_split = limit-bounds 1 200 words MaxSplit (has_split Check words) good.max_split;
+  max_splits = (limit-bounds 0 995000 words MaxSplits (has_splits Check words) good.max_splits).1;
+  max_split_regions = (limit-bounds 0 5000 words MaxSplitRegions (has_split_regions Check words) good.max_split_regions).1;
+  group_districts = (limit-bounds 0 200 words GroupDistricts (has_majority_group Check words) good.group_districts).1;
+}
 
 -- the asks of a text that is asks
 pub asks_of-some : (text : List ℕ) → are_asks text ≡ true
@@ -90,15 +107,34 @@ AreGood-values words more h parts part =
       part = part;
     }
 
+-- what a run on a graph that is read takes behind those
+abbrev names_behind : List Name
+names_behind = Region ∷ MaxSplit ∷ Parts ∷ Part ∷ MaxSplits ∷ MaxSplitRegions ∷ Group ∷ GroupOf ∷ GroupDistricts ∷ Source ∷ []
+
 -- where no value of a command that a word spells is bad, those of its setting are good
 pub AreReadable-good : (word : List ℕ) (command : Command) (words : List NameAndValue) → Some command ≡ command_of word → fault_of_pairs command words ≡ None → fault_of_values command words ≡ None
     → AreReadable command words
 AreReadable-good word Check words spells faultless h =
-    let good = find-all (is_good Check words) (names_of Check) h in
-    (good 4 (omega arith), good 5 (omega arith), good 7 (omega arith))
+    let good = find-all (is_good Check words) (names_of Check) h in (
+      good 4 (omega arith),
+      good 5 (omega arith),
+      record {
+        max_split = good 7 (omega arith);
+        max_splits = good 8 (omega arith);
+        max_split_regions = good 9 (omega arith);
+        group_districts = good 12 (omega arith);
+      },
+    )
 AreReadable-good word Run words spells faultless h =
-    let good = find-all (is_good Check words) (names_before (Region ∷ MaxSplit ∷ Parts ∷ Part ∷ [])) h in
-    (AreGood-values words (Region ∷ MaxSplit ∷ Parts ∷ Part ∷ []) h (good 17 (omega arith)) (good 18 (omega arith)), good 16 (omega arith))
+    let good = find-all (is_good Check words) (names_before names_behind) h in (
+      AreGood-values words names_behind h (good 17 (omega arith)) (good 18 (omega arith)),
+      record {
+        max_split = good 16 (omega arith);
+        max_splits = good 19 (omega arith);
+        max_split_regions = good 20 (omega arith);
+        group_districts = good 23 (omega arith);
+      },
+    )
 AreReadable-good word Make words spells faultless h =
     let size = find-last (is_good Make words) Size (drop 1 (names_of Make)) h in
     let good = find-all (is_good Check words) (names_before (Parts ∷ Part ∷ [])) size.1 in
@@ -124,5 +160,10 @@ AreReadable-good word Plans words spells faultless h =
         parts = good_parts words faultless;
         part = good_part words faultless;
       },
-      good 17 (omega arith),
+      record {
+        max_split = good 17 (omega arith);
+        max_splits = good 18 (omega arith);
+        max_split_regions = good 19 (omega arith);
+        group_districts = good 22 (omega arith);
+      },
     )

@@ -1,6 +1,6 @@
 -- Names that the command on several plans does not take have their defaults.
-use Rattle.std.proofs.Common.{◌≡◌, ◌∙◌, ℕ, zero, suc, ◌+◌, ◌<◌, arith, Bool, true, false, not, cond, List, [], ◌∷◌, length, find, ap, refl, subst, sym, Option, Some, None, inl, inr}
-use Rattle.std.proofs.lemmas.Bool.{and_parts, cases_eq}
+use Rattle.std.proofs.Common.{◌≡◌, ◌∙◌, ℕ, suc, ◌+◌, ◌<◌, arith, Bool, true, false, not, cond, List, [], ◌∷◌, length, find, ap, refl, subst, sym, Option, Some, None}
+use Rattle.std.proofs.lemmas.Bool.{and_parts}
 use Rattle.std.proofs.lemmas.Slice.Eq.{bytes_eq-Decides}
 use Rattle.std.specs.Prelude.{◌&&◌, ◌||◌, ◌==◌, nat_le, nat_lt, unwrap_or, bytes_eq, codes, option_and_then}
 use Rattle.std.specs.Fmt.{digits}
@@ -9,7 +9,6 @@ use Rattle.std.specs.Option.{option_or}
 use Rattle.audit_model.specs.declared.fault.Name.{Name}
 use Rattle.audit_model.specs.declared.fault.Name.TheVariants.{Budget, Ends, Save, Resume, Walks, Parts, Part}
 use Rattle.audit_model.specs.declared.setting.Command.TheVariants.{Check, Plans}
-use Rattle.audit_model.specs.First.{first_some_below}
 use Rattle.audit_model.specs.Names.{name_text}
 use Rattle.audit_model.proofs.First.{first_some_below_none}
 use Rattle.audit_statement.specs.Words.{NameAndValue, default_of, has_walks, is_good, is_number, known_fault, name_of, number_named, number_of, word_pair, pair_fault, text_of}

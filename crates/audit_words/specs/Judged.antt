@@ -2,7 +2,7 @@
 use Rattle.std.specs.Prelude.{◌≡◌, true, not, is_none, find, List, length, Option, option_map}
 use Rattle.audit_model.specs.First.{first_some_below}
 use Rattle.audit_model.specs.declared.fault.Name.{Name}
-use Rattle.audit_model.specs.declared.fault.Name.TheVariants.{Size, Slack, Key, Walks, Steps, Ends, HubSteps, Ask, Workers, Budget, Save, Resume, MaxCut, Shift, Stop, Serial, MaxSplit, Parts, Part}
+use Rattle.audit_model.specs.declared.fault.Name.TheVariants.{Size, Slack, Key, Walks, Steps, Ends, HubSteps, Ask, Workers, Budget, Save, Resume, MaxCut, Shift, Stop, Serial, MaxSplit, Parts, Part, MaxSplits, MaxSplitRegions, GroupDistricts}
 use Rattle.audit_model.specs.declared.fault.WordFault.{WordFault}
 use Rattle.audit_model.specs.declared.fault.WordFault.TheVariants.{MissingName, BadValue}
 use Rattle.audit_model.specs.declared.setting.Command.{Command}
@@ -51,9 +51,16 @@ pub record AreGood (words : List NameAndValue) : Type 0 where
   pub parts : is_good Check words Parts ≡ true
   pub part : is_good Check words Part ≡ true
 
+-- each limit on regions and on a group is good
+pub record AreGoodLimits (words : List NameAndValue) : Type 0 where
+  pub max_split : is_good Check words MaxSplit ≡ true
+  pub max_splits : is_good Check words MaxSplits ≡ true
+  pub max_split_regions : is_good Check words MaxSplitRegions ≡ true
+  pub group_districts : is_good Check words GroupDistricts ≡ true
+
 -- the values from which the setting of a command is made are good
 abbrev pub AreReadable : Command → List NameAndValue → Type 0
-AreReadable Check words = (is_good Check words Slack ≡ true) × (is_good Check words MaxCut ≡ true) × (is_good Check words MaxSplit ≡ true)
-AreReadable Run words = AreGood words × (is_good Check words MaxSplit ≡ true)
+AreReadable Check words = (is_good Check words Slack ≡ true) × (is_good Check words MaxCut ≡ true) × AreGoodLimits words
+AreReadable Run words = AreGood words × AreGoodLimits words
 AreReadable Make words = AreGood words × (is_good Make words Size ≡ true)
-AreReadable Plans words = AreGood words × (is_good Check words MaxSplit ≡ true)
+AreReadable Plans words = AreGood words × AreGoodLimits words

@@ -1,7 +1,7 @@
 //! What the words give for each name, and whether it may be.
 
-ghost use Rattle.std.specs.Prelude.{◌≡◌, ◌+◌, ◌^◌, ◌<◌, ◌==◌, ◌&&◌, ◌||◌, not, nat_le, length};
-ghost use Rattle.audit_model.specs.Limits.{most_trajectories, most_districts};
+ghost use Rattle.std.specs.Prelude.{◌≡◌, ◌+◌, ◌^◌, ◌<◌, ◌==◌, ◌&&◌, ◌||◌, not, nat_le};
+ghost use Rattle.audit_model.specs.Limits.{most_trajectories};
 ghost use Rattle.audit_model.specs.Power.{is_power_of_two};
 ghost use Rattle.audit_model.specs.declared.fault.Name.TheVariants as name;
 ghost use Rattle.audit_model.specs.declared.setting.Command.TheVariants as command;
@@ -59,11 +59,18 @@ fn has_power_of_two_plans(steps: u32) -> bool
     (u64::from(steps) + 1).is_power_of_two()
 }
 
-/// Whether there are regions, where they may be split less than the default says.
-fn has_split(words: &[String], max_split: u32) -> bool
-    ensures { result ≡ ((max_split == most_districts) || not (length (definition.text_of command.Check (pairs_in words.now) name.Region) == 0)) }
+/// Whether the limit that a name sets is the one by default, or the column is named that it is about.
+fn is_set_for(words: &[String], name: Name, default: u32, column: Name) -> bool
+    ensures { definition.number_named command.Check (pairs_in words.now) name < 2 ^ 32 → result ≡ ((definition.number_named command.Check (pairs_in words.now) name == default) || not (definition.is_empty command.Check (pairs_in words.now) column)) }
 {
-    max_split == 200 || !text_of(words, Name::Region).is_empty()
+    number_at(words, name) == default || !text_of(words, column).is_empty()
+}
+
+/// Whether a group is named, where the column is named of which it is a part.
+fn has_group_of(words: &[String]) -> bool
+    ensures { result ≡ definition.has_group_of command.Check (pairs_in words.now) }
+{
+    text_of(words, Name::GroupOf).is_empty() || !text_of(words, Name::Group).is_empty()
 }
 
 /// Whether what is walked of one of several parts is saved.
@@ -80,7 +87,7 @@ pub fn is_good(command: Command, words: &[String], name: Name) -> bool
 {
     let text = text_of(words, name);
     match name {
-        Name::Pop | Name::First | Name::Second | Name::Region => true,
+        Name::Pop | Name::First | Name::Second | Name::Region | Name::Group => true,
         Name::District => is_one_line(command, text),
         Name::Size => is_number(1, 30, text),
         Name::Slack => is_number(0, 10_000, text),
@@ -104,7 +111,7 @@ pub fn is_good(command: Command, words: &[String], name: Name) -> bool
                 )
         }
         Name::Save => is_number(0, 100_000, text),
-        Name::Resume | Name::Shift => is_answer(text),
+        Name::Resume | Name::Shift | Name::Source => is_answer(text),
         Name::MaxCut => is_number(0, 400_000, text),
         Name::Stop => {
             is_number(0, 100_000, text)
@@ -116,9 +123,7 @@ pub fn is_good(command: Command, words: &[String], name: Name) -> bool
                 )
         }
         Name::Serial => is_answer(text) && divides_draws(words, number_at(words, Name::Steps)),
-        Name::MaxSplit => {
-            is_number(1, 200, text) && has_split(words, number_at(words, Name::MaxSplit))
-        }
+        Name::MaxSplit => { is_number(1, 200, text) && is_set_for(words, name, 200, Name::Region) }
         Name::Parts => {
             is_number(1, 100_000, text)
                 && saves_parts(number_at(words, Name::Parts), number_at(words, Name::Save))
@@ -126,6 +131,16 @@ pub fn is_good(command: Command, words: &[String], name: Name) -> bool
         Name::Part => {
             is_number(0, 100_000, text)
                 && number_at(words, Name::Part) < number_at(words, Name::Parts)
+        }
+        Name::MaxSplits => {
+            is_number(0, 995_000, text) && is_set_for(words, name, 995_000, Name::Region)
+        }
+        Name::MaxSplitRegions => {
+            is_number(0, 5_000, text) && is_set_for(words, name, 5_000, Name::Region)
+        }
+        Name::GroupOf => has_group_of(words),
+        Name::GroupDistricts => {
+            is_number(0, 200, text) && is_set_for(words, name, 0, Name::Group)
         }
     }
 }

@@ -6,7 +6,7 @@ ghost use Rattle.audit_statement.specs.Words as definition;
 use audit_model::fault::Name;
 use audit_model::setting::Command;
 
-const OF_CHECK: [Name; 8] = [
+const OF_CHECK: [Name; 14] = [
     Name::Pop,
     Name::First,
     Name::Second,
@@ -15,9 +15,15 @@ const OF_CHECK: [Name; 8] = [
     Name::MaxCut,
     Name::Region,
     Name::MaxSplit,
+    Name::MaxSplits,
+    Name::MaxSplitRegions,
+    Name::Group,
+    Name::GroupOf,
+    Name::GroupDistricts,
+    Name::Source,
 ];
 
-const OF_RUN: [Name; 23] = [
+const OF_RUN: [Name; 29] = [
     Name::Pop,
     Name::First,
     Name::Second,
@@ -41,6 +47,12 @@ const OF_RUN: [Name; 23] = [
     Name::MaxSplit,
     Name::Parts,
     Name::Part,
+    Name::MaxSplits,
+    Name::MaxSplitRegions,
+    Name::Group,
+    Name::GroupOf,
+    Name::GroupDistricts,
+    Name::Source,
 ];
 
 const OF_MAKE: [Name; 18] = [
@@ -64,7 +76,7 @@ const OF_MAKE: [Name; 18] = [
     Name::Part,
 ];
 
-const OF_PLANS: [Name; 18] = [
+const OF_PLANS: [Name; 24] = [
     Name::Pop,
     Name::First,
     Name::Second,
@@ -83,6 +95,12 @@ const OF_PLANS: [Name; 18] = [
     Name::Serial,
     Name::Region,
     Name::MaxSplit,
+    Name::MaxSplits,
+    Name::MaxSplitRegions,
+    Name::Group,
+    Name::GroupOf,
+    Name::GroupDistricts,
+    Name::Source,
 ];
 
 /// The value of a name that is not given, where the name may be left out.
@@ -94,11 +112,13 @@ pub fn default_of(name: Name) -> Option<&'static str>
         Name::Walks | Name::Workers | Name::Parts => Some("1"),
         Name::Steps | Name::HubSteps => Some("1000"),
         Name::Budget => Some("100000"),
-        Name::Ends | Name::Save | Name::Stop | Name::Part => Some("0"),
-        Name::Resume | Name::Shift | Name::Serial => Some("no"),
+        Name::Ends | Name::Save | Name::Stop | Name::Part | Name::GroupDistricts => Some("0"),
+        Name::Resume | Name::Shift | Name::Serial | Name::Source => Some("no"),
         Name::MaxCut => Some("400000"),
-        Name::Region => Some(""),
+        Name::Region | Name::Group | Name::GroupOf => Some(""),
         Name::MaxSplit => Some("200"),
+        Name::MaxSplits => Some("995000"),
+        Name::MaxSplitRegions => Some("5000"),
         Name::Pop | Name::First | Name::Second | Name::District => None,
         Name::Size | Name::Key | Name::Ask => None,
     }

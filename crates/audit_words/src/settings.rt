@@ -1,10 +1,9 @@
 //! The setting that good values give.
 
-ghost use Rattle.std.specs.Prelude.{◌≡◌, true, IfOk, codes};
+ghost use Rattle.std.specs.Prelude.{◌≡◌, [], true, IfOk, codes};
 ghost use Rattle.audit_model.specs.declared.fault.Name.TheVariants as name;
 ghost use Rattle.audit_model.specs.declared.setting.Command.TheVariants as command;
-ghost use Rattle.audit_model.specs.declared.setting.Command.TheVariants.{Check};
-ghost use Rattle.audit_words.specs.Judged.{AreGood, AreReadable};
+ghost use Rattle.audit_words.specs.Judged.{AreGood, AreGoodLimits, AreReadable};
 ghost use Rattle.audit_words.specs.Spoken.{pairs_in};
 ghost use Rattle.audit_statement.specs.Words as definition;
 
@@ -28,37 +27,81 @@ pub fn copied(alloc: Global, word: &str) -> Result<Text, Memory>
     Ok(text)
 }
 
+/// The name of the column of those among whom a group may be a majority: that which is named, or the population's; and the empty text where
+/// there is no group.
+fn whole_column(words: &[String]) -> &str
+    ensures { result.now ≡ definition.whole_column (definition.text_of command.Check (pairs_in words.now) name.Group) (definition.text_of command.Check (pairs_in words.now) name.GroupOf) (definition.text_of command.Check (pairs_in words.now) name.Pop) }
+{
+    if text_of(words, Name::Group).is_empty() {
+        ""
+    } else if text_of(words, Name::GroupOf).is_empty() {
+        text_of(words, Name::Pop)
+    } else {
+        text_of(words, Name::GroupOf)
+    }
+}
+
 /// The columns that the words name.
 fn columns_of(alloc: Global, words: &[String]) -> Result<Columns, Memory>
-    ensures { IfOk result (λ columns. columns ≡ (definition.as_run command.Check (pairs_in words.now)).columns) }
+    ensures { IfOk result (λ columns. columns ≡ definition.columns_named command.Check (pairs_in words.now)) }
 {
     Ok(Columns {
         population: copied(alloc, text_of(words, Name::Pop))?,
         first: copied(alloc, text_of(words, Name::First))?,
         second: copied(alloc, text_of(words, Name::Second))?,
         district: copied(alloc, text_of(words, Name::District))?,
+        group: copied(alloc, text_of(words, Name::Group))?,
+        whole: copied(alloc, whole_column(words))?,
     })
 }
 
 /// The columns of a grid that is made.
 fn columns_of_grid(alloc: Global) -> Result<Columns, Memory>
-    ensures { IfOk result (λ columns. columns ≡ record { population = codes "pop"; first = codes "a"; second = codes "b"; district = codes "district" }) }
+    ensures { IfOk result (λ columns. columns ≡ record { population = codes "pop"; first = codes "a"; second = codes "b"; district = codes "district"; group = []; whole = [] }) }
 {
     Ok(Columns {
         population: copied(alloc, "pop")?,
         first: copied(alloc, "a")?,
         second: copied(alloc, "b")?,
         district: copied(alloc, "district")?,
+        group: Text::new(alloc),
+        whole: Text::new(alloc),
     })
+}
+
+/// The limits on the splits of regions, and on the districts in which a group has a majority.
+#[derive(Clone, Copy)]
+struct Limits {
+    max_split: u32,
+    max_splits: u32,
+    max_split_regions: u32,
+    group_districts: u32,
+}
+
+/// The limits that the words set.
+fn limits_of(words: &[String]) -> Limits
+    requires { AreGoodLimits (pairs_in words.now) }
+    ensures max_split { result.max_split ≡ definition.number_named command.Check (pairs_in words.now) name.MaxSplit }
+    ensures max_splits { result.max_splits ≡ definition.number_named command.Check (pairs_in words.now) name.MaxSplits }
+    ensures max_split_regions { result.max_split_regions ≡ definition.number_named command.Check (pairs_in words.now) name.MaxSplitRegions }
+    ensures group_districts { result.group_districts ≡ definition.number_named command.Check (pairs_in words.now) name.GroupDistricts }
+{
+    Limits {
+        max_split: number_at(words, Name::MaxSplit),
+        max_splits: number_at(words, Name::MaxSplits),
+        max_split_regions: number_at(words, Name::MaxSplitRegions),
+        group_districts: number_at(words, Name::GroupDistricts),
+    }
 }
 
 /// The setting of a check.
 fn check_setting(alloc: Global, words: &[String]) -> Result<Setting, Memory>
     requires slack { definition.is_good command.Check (pairs_in words.now) name.Slack ≡ true }
     requires max_cut { definition.is_good command.Check (pairs_in words.now) name.MaxCut ≡ true }
-    requires max_split { definition.is_good command.Check (pairs_in words.now) name.MaxSplit ≡ true }
+    requires limits { AreGoodLimits (pairs_in words.now) }
     ensures { IfOk result (λ setting. setting ≡ definition.setting_for command.Check (pairs_in words.now)) }
 {
+    let limits = limits_of(words);
     Ok(Setting {
         command: Command::Check,
         columns: columns_of(alloc, words)?,
@@ -79,19 +122,25 @@ fn check_setting(alloc: Global, words: &[String]) -> Result<Setting, Memory>
         stop: 0,
         serial: false,
         region: copied(alloc, text_of(words, Name::Region))?,
-        max_split: number_at(words, Name::MaxSplit),
+        max_split: limits.max_split,
         parts: 1,
         part: 0,
+        max_splits: limits.max_splits,
+        max_split_regions: limits.max_split_regions,
+        group_districts: limits.group_districts,
+        source: text_of(words, Name::Source) == "yes",
     })
 }
 
-/// The graph of a run: its columns, its regions and the limit of their splits where it is read, and its size where it is made.
+/// The graph of a run: its columns, its regions, their limits and whether its bytes are to be told where it is read, and its size where it
+/// is made.
 #[derive(Drop)]
 struct Ground {
     columns: Columns,
     size: u32,
     region: Text,
-    max_split: u32,
+    limits: Limits,
+    source: bool,
 }
 
 /// The setting of a run, on a graph that is read or made.
@@ -102,7 +151,7 @@ fn run_setting(
     ground: Ground,
 ) -> Result<Setting, Memory>
     requires { AreGood (pairs_in words.now) }
-    ensures { IfOk result (λ setting. setting ≡ record (definition.as_run command (pairs_in words.now)) { columns = ground.columns; size = ground.size; region = ground.region; max_split = ground.max_split }) }
+    ensures { IfOk result (λ setting. setting ≡ record (definition.as_run command (pairs_in words.now)) { columns = ground.columns; size = ground.size; region = ground.region; max_split = ground.limits.max_split; max_splits = ground.limits.max_splits; max_split_regions = ground.limits.max_split_regions; group_districts = ground.limits.group_districts; source = ground.source }) }
 {
     Ok(Setting {
         command,
@@ -124,28 +173,33 @@ fn run_setting(
         stop: number_at(words, Name::Stop),
         serial: text_of(words, Name::Serial) == "yes",
         region: ground.region,
-        max_split: ground.max_split,
+        max_split: ground.limits.max_split,
         parts: number_at(words, Name::Parts),
         part: number_at(words, Name::Part),
+        max_splits: ground.limits.max_splits,
+        max_split_regions: ground.limits.max_split_regions,
+        group_districts: ground.limits.group_districts,
+        source: ground.source,
     })
 }
 
 /// The setting of a run on a graph that is read.
 fn read_setting(alloc: Global, command: Command, words: &[String]) -> Result<Setting, Memory>
     requires run { AreGood (pairs_in words.now) }
-    requires max_split { definition.is_good Check (pairs_in words.now) name.MaxSplit ≡ true }
+    requires limits { AreGoodLimits (pairs_in words.now) }
     ensures { IfOk result (λ setting. setting ≡ definition.as_run command (pairs_in words.now)) }
 {
     let ground = Ground {
         columns: columns_of(alloc, words)?,
         size: 0,
         region: copied(alloc, text_of(words, Name::Region))?,
-        max_split: number_at(words, Name::MaxSplit),
+        limits: limits_of(words),
+        source: text_of(words, Name::Source) == "yes",
     };
     run_setting(alloc, command, words, ground)
 }
 
-/// The setting of a run on a grid that is made, which has no regions.
+/// The setting of a run on a grid that is made, which has no regions, no group and no source.
 fn made_setting(alloc: Global, words: &[String]) -> Result<Setting, Memory>
     requires run { AreGood (pairs_in words.now) }
     requires size { definition.is_good command.Make (pairs_in words.now) name.Size ≡ true }
@@ -155,7 +209,13 @@ fn made_setting(alloc: Global, words: &[String]) -> Result<Setting, Memory>
         columns: columns_of_grid(alloc)?,
         size: number_at(words, Name::Size),
         region: Text::new(alloc),
-        max_split: 200,
+        limits: Limits {
+            max_split: 200,
+            max_splits: 995_000,
+            max_split_regions: 5_000,
+            group_districts: 0,
+        },
+        source: false,
     };
     run_setting(alloc, Command::Make, words, ground)
 }

@@ -8,8 +8,8 @@ use Rattle.sha2.specs.declared.Sha256.{Sha256}
 use Rattle.audit_model.specs.Below.{map_below}
 use Rattle.audit_model.specs.Job.{Job, rules}
 use Rattle.audit_model.specs.Graph.{count_edges}
-use Rattle.audit_statement.specs.Checkpoint.{job_bytes, edge_bytes, has_rules, rule_bytes, unit_bytes}
-use Rattle.ckpt_format.specs.Hashed.{Hashes, ask_bytes, counts_bytes, limit_bytes, setting_bytes}
+use Rattle.audit_statement.specs.Checkpoint.{digest_name, job_bytes, edge_bytes, has_further_rules, has_rules, rule_bytes, unit_bytes}
+use Rattle.ckpt_format.specs.Hashed.{Hashes, ask_bytes, counts_bytes, setting_bytes}
 
 -- nothing taken in
 pub hashes_none : (a : Sha256) → Hashes a a []
@@ -42,24 +42,21 @@ hashes_next f n a b c first second =
     flat_map_more f [] (map_below n (λ u. u)) n ∙ ap (flat_map f) (sym numbers) in
     hashes_same a c _ _ next (hashes_then a b c (flat_map f (map_below n (λ u. u))) (f n) first second)
 
--- the parts of a job's digest, with those of the setting together or each alone
-grouped : (c e u s k w t n h q a r : List ℕ) → c ++ e ++ u ++ (s ++ k ++ w ++ t ++ n ++ h ++ q ++ a) ++ r ≡ c ++ e ++ u ++ s ++ k ++ w ++ t ++ n ++ h ++ q ++ a ++ r
-grouped c e u s k w t n h q a r = simp append_assoc
-
--- the limits of a job's rules
-limits_of : (limited : Bool) (job : Job) → limit_bytes limited (rules job) ≡ rule_bytes limited job
-limits_of true job = refl
-limits_of false job = refl
+-- the parts of a job's digest, with those of the counts and of the setting together or each alone
+grouped : (f x y z e u s k w t n h q a r : List ℕ)
+    → f ++ (x ++ y ++ z) ++ e ++ u ++ (s ++ k ++ w ++ t ++ n ++ h ++ q ++ a) ++ r ≡ f ++ x ++ y ++ z ++ e ++ u ++ s ++ k ++ w ++ t ++ n ++ h ++ q ++ a ++ r
+grouped f x y z e u s k w t n h q a r = simp append_assoc
 
 -- a hasher that took in all parts
-pub digest_of_parts : (job : Job) (start counts edges units asked end : Sha256) → Holds256 start []
-    → Hashes start counts (counts_bytes (has_rules job) job.graph.units (count_edges job.graph (λ u v. true)) job.districts)
+pub digest_of_parts : (job : Job) (start named counts edges units asked end : Sha256) → Holds256 start []
+    → Hashes start named (digest_name (has_rules (rules job)) (has_further_rules (rules job)))
+    → Hashes named counts (counts_bytes job.graph.units (count_edges job.graph (λ u v. true)) job.districts)
     → Hashes counts edges (edge_bytes job.graph) → Hashes edges units (flat_map (unit_bytes job) (map_below job.graph.units (λ u. u)))
-    → Hashes units asked (setting_bytes job.setting) → Hashes asked end (limit_bytes (has_rules job) (rules job)) → Holds256 end (job_bytes job)
-digest_of_parts job start counts edges units asked end empty a b c d e =
-    let limits = hashes_same _ _ _ _ (limits_of (has_rules job) job) e in
-    let whole = hashes_then _ _ _ _ _ (hashes_then _ _ _ _ _ (hashes_then _ _ _ _ _ (hashes_then _ _ _ _ _ a b) c) d) limits in
+    → Hashes units asked (setting_bytes job.setting) → Hashes asked end (rule_bytes (has_rules (rules job)) job.graph.units (rules job)) → Holds256 end (job_bytes job)
+digest_of_parts job start named counts edges units asked end empty name a b c d e =
+    let whole = hashes_then _ _ _ _ _ (hashes_then _ _ _ _ _ (hashes_then _ _ _ _ _ (hashes_then _ _ _ _ _ (hashes_then _ _ _ _ _ name a) b) c) d) e in
     let s = job.setting in
     let n = to_be_bytes w32 in
-    subst (Holds256 end) (grouped (counts_bytes (has_rules job) job.graph.units (count_edges job.graph (λ u v. true)) job.districts) (edge_bytes job.graph)
-    (flat_map (unit_bytes job) (map_below job.graph.units (λ u. u))) (n s.slack) s.key (n s.walks) (n s.steps) (n s.ends) (n s.hub_steps) (n (length s.asks)) (flat_map ask_bytes s.asks) (rule_bytes (has_rules job) job)) (whole.taken [] empty)
+    subst (Holds256 end)
+    (grouped (digest_name (has_rules (rules job)) (has_further_rules (rules job))) (n job.graph.units) (n (count_edges job.graph (λ u v. true))) (n job.districts) (edge_bytes job.graph)
+    (flat_map (unit_bytes job) (map_below job.graph.units (λ u. u))) (n s.slack) s.key (n s.walks) (n s.steps) (n s.ends) (n s.hub_steps) (n (length s.asks)) (flat_map ask_bytes s.asks) (rule_bytes (has_rules (rules job)) job.graph.units (rules job))) (whole.taken [] empty)

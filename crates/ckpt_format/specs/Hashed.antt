@@ -1,15 +1,13 @@
 -- What a hasher has taken in, part by part.
-use Rattle.std.specs.Prelude.{ℕ, ◌==◌, ◌&&◌, ◌||◌, Bool, true, false, not, nat_lt, List, [], ◌++◌, flat_map, length}
+use Rattle.std.specs.Prelude.{ℕ, ◌&&◌, List, ◌++◌, flat_map, length, nat_lt}
 use Rattle.std.specs.Int.{w32, to_be_bytes}
 use Rattle.sha2.specs.Hashers.{Holds256}
 use Rattle.sha2.specs.declared.Sha256.{Sha256}
-use Rattle.audit_model.specs.declared.rules.Rules.{Rules}
 use Rattle.audit_model.specs.declared.setting.Ask.{Ask}
 use Rattle.audit_model.specs.declared.setting.Setting.{Setting}
 use Rattle.audit_model.specs.Below.{filter_below}
 use Rattle.audit_model.specs.Graph.{Graph, adjacent}
-use Rattle.audit_statement.specs.Checkpoint.{digest_name, region_bytes, score_code, tail_code}
-use Rattle.audit_model.specs.Limits.{most_edges}
+use Rattle.audit_statement.specs.Checkpoint.{score_code, tail_code}
 
 -- the hasher took in these bytes
 pub record Hashes (old new : Sha256) (bytes : List ℕ) : Type 0 where
@@ -23,21 +21,12 @@ pair_bytes u v = to_be_bytes w32 u ++ to_be_bytes w32 v
 abbrev pub edges_from : Graph → ℕ → List ℕ
 edges_from g u = flat_map (pair_bytes u) (filter_below g.units (λ v. nat_lt u v && adjacent g u v))
 
--- what stands before the edges
-abbrev pub counts_bytes : Bool → ℕ → ℕ → ℕ → List ℕ
-counts_bytes limited units edges districts = digest_name limited ++ to_be_bytes w32 units ++ to_be_bytes w32 edges ++ to_be_bytes w32 districts
+-- what stands between the name of the format and the edges
+abbrev pub counts_bytes : ℕ → ℕ → ℕ → List ℕ
+counts_bytes units edges districts = to_be_bytes w32 units ++ to_be_bytes w32 edges ++ to_be_bytes w32 districts
 
 abbrev pub ask_bytes : Ask → List ℕ
 ask_bytes ask = to_be_bytes w32 (score_code ask.score) ++ to_be_bytes w32 (tail_code ask.tail)
-
--- the rules limit the cut edges, or have regions
-abbrev pub has_limits : Rules → Bool
-has_limits rules = nat_lt rules.max_cut most_edges || not (length rules.regions == 0)
-
--- what stands behind the setting
-abbrev pub limit_bytes : Bool → Rules → List ℕ
-limit_bytes true rules = to_be_bytes w32 rules.max_cut ++ region_bytes rules.max_split rules.regions
-limit_bytes false rules = []
 
 -- what stands behind the units
 abbrev pub setting_bytes : Setting → List ℕ

@@ -5,11 +5,12 @@ ghost use Rattle.std.specs.Int.{w32, w64, to_be_bytes};
 ghost use Rattle.audit_model.specs.Below.{map_below};
 ghost use Rattle.audit_model.specs.Graph.{IsGraph, count_edges};
 ghost use Rattle.audit_model.specs.JobOf.{IsJob};
+ghost use Rattle.audit_model.specs.Limits.{IsGroup};
 ghost use Rattle.audit_statement.specs.Checkpoint as definition;
-ghost use Rattle.audit_statement.specs.Checkpoint.{digest_name, edge_bytes, region_bytes, unit_bytes, score_code, tail_code};
-ghost use Rattle.ckpt_format.specs.Hashed.{Hashes, ask_bytes, counts_bytes, edges_from, has_limits, limit_bytes, setting_bytes};
+ghost use Rattle.audit_statement.specs.Checkpoint.{digest_name, edge_bytes, group_bytes, has_further_rules, has_group, has_rules, limits_splits, member_bytes, region_bytes, rule_bytes, split_bytes, unit_bytes, score_code, tail_code};
+ghost use Rattle.ckpt_format.specs.Hashed.{Hashes, ask_bytes, counts_bytes, edges_from, setting_bytes};
 
-use audit_model::rules::Rules;
+use audit_model::rules::{Group, Rules};
 use audit_model::setting::{Ask, Score, Setting, Tail};
 use dual_graph::graph::Graph;
 use plan_core::job::Job;
@@ -20,42 +21,66 @@ pub fn job_digest(job: &Job) -> [u8; 32]
     ensures { result ≡ definition.job_digest job.now }
 {
     let mut hasher = Sha256::new();
-    let limited = has_limits(job.rules());
-    hash_counts(&mut hasher, limited, job);
+    let rules = job.rules();
+    let limited = has_rules(rules);
+    hash_name(&mut hasher, limited, has_further_rules(rules));
+    hash_counts(&mut hasher, job);
     hash_edges(&mut hasher, job.graph());
     hash_units(&mut hasher, job);
     hash_setting(&mut hasher, job.setting());
-    hash_limits(&mut hasher, limited, job.rules());
+    hash_rules(&mut hasher, limited, job.units(), rules);
     hasher.finalize()
 }
 
-/// Whether the rules limit the cut edges, or have regions.
-fn has_limits(rules: &Rules) -> bool
-    ensures { result ≡ has_limits rules.now }
+/// Whether the rules limit the cut edges, or have regions, or a group.
+fn has_rules(rules: &Rules) -> bool
+    ensures { result ≡ has_rules rules.now }
 {
-    rules.max_cut < 400_000 || rules.regions.len() != 0
+    rules.max_cut < 400_000 || rules.regions.len() != 0 || has_group(rules)
 }
 
-/// Takes in the name of the format, and how many units, edges and districts there are.
-fn hash_counts(hasher: &mut Sha256, limited: bool, job: &Job)
-    ensures bytes { Hashes hasher.old hasher.new (counts_bytes limited job.now.graph.units (count_edges job.now.graph (λ u v. true)) job.now.districts) }
-    ensures sound { IsJob job.now }
+/// Whether the rules are further ones: whether they limit splits in all or split regions, or have a group.
+fn has_further_rules(rules: &Rules) -> bool
+    ensures { result ≡ has_further_rules rules.now }
 {
-    hash_name(hasher, limited);
-    hash_u32(hasher, job.units());
-    hash_u32(hasher, job.graph().edges());
-    hash_u32(hasher, job.districts());
+    limits_splits(rules) || has_group(rules)
 }
 
-/// Takes in the name of the format: the second where there are limits.
-fn hash_name(hasher: &mut Sha256, limited: bool)
-    ensures { Hashes hasher.old hasher.new (digest_name limited) }
+/// Whether there are regions, and how often they are split in all, or how many of them, is limited.
+fn limits_splits(rules: &Rules) -> bool
+    ensures { result ≡ limits_splits rules.now }
 {
-    if limited {
+    (rules.max_splits < 995_000 || rules.max_split_regions < 5_000) && rules.regions.len() != 0
+}
+
+/// Whether there is a group.
+fn has_group(rules: &Rules) -> bool
+    ensures { result ≡ has_group rules.now }
+{
+    rules.group.members.len() != 0
+}
+
+/// Takes in the name of the format: the second where there are limits, and the third where there are further ones.
+fn hash_name(hasher: &mut Sha256, limited: bool, further: bool)
+    ensures { Hashes hasher.old hasher.new (digest_name limited further) }
+{
+    if further {
+        hasher.update("district-job 3");
+    } else if limited {
         hasher.update("district-job 2");
     } else {
         hasher.update("district-job 1");
     }
+}
+
+/// Takes in how many units, edges and districts there are.
+fn hash_counts(hasher: &mut Sha256, job: &Job)
+    ensures bytes { Hashes hasher.old hasher.new (counts_bytes job.now.graph.units (count_edges job.now.graph (λ u v. true)) job.now.districts) }
+    ensures sound { IsJob job.now }
+{
+    hash_u32(hasher, job.units());
+    hash_u32(hasher, job.graph().edges());
+    hash_u32(hasher, job.districts());
 }
 
 /// Takes in each edge, its smaller end first.
@@ -120,12 +145,15 @@ fn hash_setting(hasher: &mut Sha256, setting: &Setting)
 }
 
 /// Takes in the limits of the rules, where there are any.
-fn hash_limits(hasher: &mut Sha256, limited: bool, rules: &Rules)
-    ensures { Hashes hasher.old hasher.new (limit_bytes limited rules.now) }
+fn hash_rules(hasher: &mut Sha256, limited: bool, units: u32, rules: &Rules)
+    requires group { IsGroup units rules.now.group }
+    ensures { Hashes hasher.old hasher.new (rule_bytes limited units rules.now) }
 {
     if limited {
         hash_u32(hasher, rules.max_cut);
         hash_regions(hasher, rules.max_split, rules.regions.as_slice());
+        hash_splits(hasher, rules);
+        hash_group(hasher, units, rules);
     }
 }
 
@@ -136,6 +164,39 @@ fn hash_regions(hasher: &mut Sha256, max_split: u32, regions: &[u32])
     if !regions.is_empty() {
         hash_u32(hasher, max_split);
         hash_numbers(hasher, regions);
+    }
+}
+
+/// Takes in the limits of splits in all and of split regions, where one is set.
+fn hash_splits(hasher: &mut Sha256, rules: &Rules)
+    ensures { Hashes hasher.old hasher.new (split_bytes rules.now) }
+{
+    if limits_splits(rules) {
+        hash_u32(hasher, rules.max_splits);
+        hash_u32(hasher, rules.max_split_regions);
+    }
+}
+
+/// Takes in in how many districts the group is to have a majority, and its numbers, where there is a group.
+fn hash_group(hasher: &mut Sha256, units: u32, rules: &Rules)
+    requires { IsGroup units rules.now.group }
+    ensures { Hashes hasher.old hasher.new (group_bytes units rules.now) }
+{
+    if has_group(rules) {
+        hash_u32(hasher, rules.group_districts);
+        hash_members(hasher, units, &rules.group);
+    }
+}
+
+/// Takes in how many of the group, and of its whole, are in each unit.
+fn hash_members(hasher: &mut Sha256, units: u32, group: &Group)
+    requires members { length group.now.members ≡ units }
+    requires whole { length group.now.whole ≡ units }
+    ensures { Hashes hasher.old hasher.new (flat_map (member_bytes group.now) (map_below units (λ u. u))) }
+{
+    for unit in 0..units {
+        hash_u64(hasher, group.members.as_slice()[unit as usize]);
+        hash_u64(hasher, group.whole.as_slice()[unit as usize]);
     }
 }
 

@@ -1,4 +1,4 @@
-//! The bytes of a checkpoint, read and written, and the digest of a job.
+//! The bytes of a checkpoint, read and written, and the digests of a job and of what it comes from.
 #![tactic(auto)]
 
 pub mod decode;
@@ -6,9 +6,11 @@ pub mod digest;
 pub mod encode;
 mod fault;
 pub mod laws;
+pub mod origin;
 mod places;
 
 pub use decode::Checkpoint;
 pub use digest::job_digest;
 pub use encode::encode_old;
 pub use laws::{checkpoints_are_read, faultless_bytes_are_checkpoints, rising_pairs_rise};
+pub use origin::origin_of;

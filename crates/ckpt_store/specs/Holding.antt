@@ -4,7 +4,6 @@ use Rattle.std.specs.Prelude.{◌≡◌, ◌⊎◌, ℕ, ◌<◌, ◌≤◌, Lis
 use Rattle.audit_model.specs.declared.fault.CkptFault.TheVariants.{TooLong}
 use Rattle.audit_statement.specs.Checkpoint.{IsCheckpoint, checkpoint_fault}
 use Rattle.audit_statement.specs.Slots.{checkpoint_limit, newest_of}
-use Rattle.ckpt_format.specs.declared.decode.Checkpoint.{Checkpoint}
 use Rattle.audit_model.specs.declared.fault.CkptFault.{CkptFault}
 use Rattle.ckpt_store.specs.declared.held.Held.{Held}
 use Rattle.ckpt_store.specs.declared.held.Held.TheVariants as held

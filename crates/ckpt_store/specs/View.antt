@@ -1,7 +1,6 @@
 -- What the slots that were looked at are, in the words of the definitions, and what is taken from them.
 use Rattle.std.specs.Prelude.{ℕ, zero, suc, Bool, true, false, ◌&&◌, cond, List, [], Option, Some, None, Result, Ok, Err}
 use Rattle.audit_model.specs.declared.outcome.Outcome.{Outcome}
-use Rattle.audit_model.specs.declared.setting.Setting.{Setting}
 use Rattle.ckpt_format.specs.declared.decode.Checkpoint.{Checkpoint}
 use Rattle.ckpt_store.specs.declared.slots.Slot.{Slot}
 use Rattle.ckpt_store.specs.declared.slots.Slot.TheVariants as slot
@@ -26,10 +25,6 @@ place_seen slots = definition.save_place (slot_view slots.zero) (slot_view slots
 -- the outcomes of the newest slot, where they may be taken, and none where both slots are absent
 abbrev pub held_seen : Slots → Option (List Outcome)
 held_seen slots = definition.opening_of (slot_view slots.zero) (slot_view slots.one) (newest_seen slots)
-
--- the outcomes with which a run that resumes starts, where it may start
-abbrev pub opening_seen : Setting → Slots → Option (List Outcome)
-opening_seen setting slots = definition.opening true setting (slot_view slots.zero) (slot_view slots.one)
 
 abbrev pub outcomes_held : Option Checkpoint → List Outcome
 outcomes_held None = []

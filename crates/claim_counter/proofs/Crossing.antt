@@ -29,7 +29,7 @@ share_field_send : IsSend (RoomyList.the_field Outcome.the_row).row
 share_field_send = search (share_send, crosses, sendable) depth 20
 
 -- a walker that walks what the gate was told of may, where its judge may
-gated_send : (J : RattleType) (g : Ghosts J.Denot) → IsSend J → IsSend (GatedWalker.the_field J g).row
+pub gated_send : (J : RattleType) (g : Ghosts J.Denot) → IsSend J → IsSend (GatedWalker.the_field J g).row
 gated_send J g judge = let a = walker_send J g judge in search (crosses, sendable) depth 20
 
 -- so a worker may, where its judge may

@@ -14,8 +14,8 @@ use Rattle.claim_counter.specs.Records.{AreDifferentBelow}
 use Rattle.claim_counter.specs.Passes.{own, size_of}
 use Rattle.claim_counter.specs.declared.worker.Worker.{Worker}
 use Rattle.claim_counter.specs.Workers.{IsWorkerDone}
-use Rattle.claim_counter.specs.Walks.{found_at, Lacks, LacksIds, IsTodo, IsWithin}
-use Rattle.claim_counter.proofs.Sharing.{found_is, share_within, share_apart, share_absent, lacks_others}
+use Rattle.claim_counter.specs.Walks.{found_at, LacksIds, IsTodo, IsWithin}
+use Rattle.claim_counter.proofs.Sharing.{Lacks, found_is, share_within, share_apart, share_absent, lacks_others}
 
 -- anything holds of each of none
 pub none_yet : {A : Type 0} (P : A → Type 0) (xs : List A) → length xs ≡ 0 → All P xs

@@ -1,6 +1,6 @@
 -- Shares of different places, and what a book lacks.
 use Rattle.std.proofs.Common.{◌≡◌, ◌∙◌, refl, sym, ap, subst, ℕ, zero, suc, ◌+◌, ◌<◌, ◌≤◌, ◌⊎◌, inl, inr, Bool, true, false, cond, ◌||◌, List, [], ◌∷◌, ◌++◌, length, map, get_or, All, AllPairs, arith}
-use Rattle.std.specs.Prelude.{◌≢◌, ◌==◌, nat_lt, IsFalse, IsPermutation}
+use Rattle.std.specs.Prelude.{◌≢◌, ◌==◌, nat_lt, slice_index, IsFalse, IsPermutation}
 use Rattle.std.specs.List.{range_with_len}
 use Rattle.std.proofs.lemmas.Bool.{cases_order, ne_eqb}
 use Rattle.std.proofs.lemmas.List.{map-append, get_or-map, length-map}
@@ -16,7 +16,11 @@ use Rattle.audit_model.proofs.Times.{one_same, times-cons, times-append}
 use Rattle.audit_statement.specs.Draw.{draw}
 use Rattle.outcome_book.specs.Booked.{AreApart}
 use Rattle.claim_counter.specs.Records.{AreDifferentBelow}
-use Rattle.claim_counter.specs.Walks.{found, found_at, Lacks, IsTodo, IsWithin}
+use Rattle.claim_counter.specs.Walks.{found, found_at, IsTodo, IsWithin}
+
+-- no outcome is kept of the ids at the other places
+abbrev pub Lacks : List Outcome → List ℕ → List ℕ → Type 0
+Lacks kept todo places = (k : ℕ) → k < length todo → times k places ≡ 0 → IsFalse (has_id kept (slice_index todo k))
 
 -- ---- lists in which no number stands twice
 

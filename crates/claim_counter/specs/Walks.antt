@@ -1,11 +1,10 @@
 -- What is to be walked, and what is found.
-use Rattle.std.specs.Prelude.{◌≡◌, ◌≢◌, ℕ, ◌<◌, ◌≤◌, IsFalse, List, length, slice_index}
+use Rattle.std.specs.Prelude.{◌≡◌, ◌≢◌, ℕ, ◌<◌, ◌≤◌, IsFalse, List, slice_index}
 use Rattle.std.specs.List.{All, AllPairs}
 use Rattle.audit_model.specs.declared.outcome.Outcome.{Outcome}
 use Rattle.audit_model.specs.Job.{Job}
 use Rattle.audit_model.specs.Run.{total, has_id}
 use Rattle.audit_model.specs.Trajectory.{hub, outcome}
-use Rattle.audit_model.specs.Times.{times}
 use Rattle.outcome_book.specs.Booked.{Booked}
 use Rattle.audit_statement.specs.Draw.{draw}
 
@@ -35,7 +34,3 @@ pub record IsTodo (job : Job) (kept : List Outcome) (todo : List ℕ) : Type 0 w
 pub record LacksIds (job : Job) (b : Booked) (todo : List ℕ) : Type 0 where
   pub ids : IsTodo job b.outcomes todo
   pub whole : b.total ≡ total job
-
--- no outcome is kept of the ids at the other places
-abbrev pub Lacks : List Outcome → List ℕ → List ℕ → Type 0
-Lacks kept todo places = (k : ℕ) → k < length todo → times k places ≡ 0 → IsFalse (has_id kept (slice_index todo k))

@@ -5,7 +5,7 @@ use Rattle.std.proofs.lemmas.Bool.{and_parts, and_from, or_cases, or_left, or_ri
 use Rattle.audit_model.specs.Graph.{Graph, has, adjacent, IsIn}
 use Rattle.audit_model.specs.Local.{IsSimple, is_mate, stays_behind, MayLeave}
 use Rattle.audit_model.specs.Path.{IsPath, HasPath, IsConnected}
-use Rattle.audit_model.specs.Plan.{in_district}
+use Rattle.audit_model.specs.District.{in_district}
 use Rattle.audit_model.proofs.Paths.{path_one, path_before, joined_from, first_in}
 use Rattle.audit_model.proofs.ListFacts.{first_has, other, has_2, has_3, has_4}
 use Rattle.audit_model.proofs.Bools.{in_1, in_2, in_3, in_4}

@@ -2,7 +2,7 @@
 use Rattle.std.proofs.Common.{◌≡◌, ℕ, ◌<◌, ◌≤◌, List, get_or, refl, sym, subst, inl, inr, arith}
 use Rattle.audit_model.specs.Graph.{Graph, IsIn, IsGraph}
 use Rattle.audit_model.specs.Path.{HasPath, IsConnected}
-use Rattle.audit_model.specs.Plan.{in_district}
+use Rattle.audit_model.specs.District.{in_district}
 use Rattle.std.specs.Prelude.{slice_index}
 use Rattle.audit_model.specs.Local.{is_mate, stays_behind, MayLeave}
 use Rattle.audit_model.proofs.Paths.{path_one, path_end}

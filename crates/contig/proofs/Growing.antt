@@ -4,7 +4,7 @@ use Rattle.std.specs.Prelude.{◌==◌, ◌⊎◌, slice_index}
 use Rattle.std.proofs.lemmas.Bool.{cases_eq, cases_lt, ne_eqb, and_parts, and_from, both_ways, not_from_false}
 use Rattle.audit_model.specs.Graph.{Graph, adjacent, IsIn, IsGraph}
 use Rattle.audit_model.specs.Path.{HasPath, IsConnected}
-use Rattle.audit_model.specs.Plan.{in_district}
+use Rattle.audit_model.specs.District.{in_district}
 use Rattle.audit_model.specs.Local.{is_mate, stays_behind}
 use Rattle.audit_model.proofs.ListFacts.{has_at, at_has}
 use Rattle.audit_model.proofs.Paths.{path_one, path_stays, path_end}

@@ -5,7 +5,7 @@ use Rattle.std.proofs.lemmas.Bool.{and_parts, and_from, cases_eq, eq-eqb, both_w
 use Rattle.audit_model.specs.Graph.{Graph, adjacent, IsIn, IsGraph}
 use Rattle.audit_model.specs.Local.{is_mate, stays_behind, MayLeave}
 use Rattle.audit_model.specs.Path.{IsPath, HasPath, IsConnected}
-use Rattle.audit_model.specs.Plan.{in_district}
+use Rattle.audit_model.specs.District.{in_district}
 use Rattle.audit_model.proofs.Paths.{path_one, path_before, path_joined, first_in}
 use Rattle.audit_model.proofs.Local.{left_behind}
 use Rattle.contig.proofs.Growing.{mate_stays}

@@ -9,7 +9,7 @@ use Rattle.audit_model.specs.Below.{map_below}
 use Rattle.audit_model.specs.Graph.{Graph, IsGraph, adjacent, IsIn}
 use Rattle.audit_model.specs.Local.{is_mate}
 use Rattle.audit_model.specs.Path.{IsPath, HasPath}
-use Rattle.audit_model.specs.Plan.{in_district}
+use Rattle.audit_model.specs.District.{in_district}
 use Rattle.audit_model.proofs.Below.{get_or-map_below}
 use Rattle.audit_model.proofs.ListFacts.{has_at, at_has}
 use Rattle.audit_model.proofs.Rows.{row_rises}

@@ -6,7 +6,7 @@ use Rattle.std.proofs.lemmas.Bool.{and_parts, and_from, and_left, and_right, or_
 use Rattle.audit_model.specs.Below.{count_below}
 use Rattle.audit_model.specs.Graph.{Graph, adjacent, count_edges, IsIn}
 use Rattle.audit_model.specs.Local.{IsSimple, is_mate, stays_behind, MayLeave}
-use Rattle.audit_model.specs.Plan.{in_district}
+use Rattle.audit_model.specs.District.{in_district}
 use Rattle.audit_model.specs.Path.{HasPath, IsConnected}
 use Rattle.audit_model.proofs.Below.{count_below_more}
 use Rattle.audit_model.proofs.Every.{each_from_all}

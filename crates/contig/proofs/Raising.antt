@@ -5,7 +5,7 @@ use Rattle.std.specs.List.{list_all}
 use Rattle.std.proofs.lemmas.Bool.{and_left, and_right, and_from, cases_eq, cases_lt, eq-eqb, ne_eqb, lt-ltb, ltb-true, not_from_true, not_from_false, false_from_ne_true}
 use Rattle.audit_model.specs.Below.{count_below, sum_below}
 use Rattle.audit_model.specs.Graph.{Graph, IsGraph, adjacent}
-use Rattle.audit_model.specs.Plan.{in_district}
+use Rattle.audit_model.specs.District.{in_district}
 use Rattle.audit_model.proofs.Below.{count_below_none}
 use Rattle.audit_model.proofs.Bools.{and_true}
 use Rattle.contig.specs.Faces.{AreFaces, count_inner_edges, count_inner_faces, count_mates}

@@ -7,7 +7,7 @@ use Rattle.audit_model.specs.Below.{filter_below}
 use Rattle.audit_model.specs.Graph.{Graph, has, adjacent, IsIn}
 use Rattle.audit_model.specs.Local.{IsSimple, is_mate, MayLeave}
 use Rattle.audit_model.specs.Path.{IsPath, HasPath, IsConnected, reached}
-use Rattle.audit_model.specs.Plan.{in_district}
+use Rattle.audit_model.specs.District.{in_district}
 use Rattle.audit_model.proofs.Connected.{has-filter_below, filter_below-has, path_more, reached_has_path, path_is_reached}
 use Rattle.audit_model.proofs.Below.{get_or-map_below}
 use Rattle.audit_model.proofs.Paths.{first_in}

@@ -1,7 +1,7 @@
 -- What is counted in each district: its inner edges, and its units and inner faces together.
 use Rattle.std.specs.Prelude.{◌≡◌, ℕ, ◌+◌, ◌<◌, ◌≤◌, ◌&&◌, Bool, nat_lt, List, length, slice_index}
 use Rattle.audit_model.specs.Graph.{Graph}
-use Rattle.audit_model.specs.Plan.{in_district}
+use Rattle.audit_model.specs.District.{in_district}
 use Rattle.contig.specs.Faces.{count_units, count_inner_edges, count_inner_faces}
 
 -- for each district its inner edges, and its units and inner faces together

@@ -6,7 +6,7 @@ use Rattle.audit_model.specs.Below.{count_below, filter_below, map_below}
 use Rattle.audit_model.specs.Graph.{Graph, has, adjacent, count_edges}
 use Rattle.audit_model.specs.Local.{is_mate}
 use Rattle.audit_model.specs.Path.{IsConnected}
-use Rattle.audit_model.specs.Plan.{in_district}
+use Rattle.audit_model.specs.District.{in_district}
 
 -- whether x and y are a and b, in either order
 abbrev pub is_pair : ℕ → ℕ → ℕ → ℕ → Bool

@@ -4,7 +4,7 @@ use Rattle.std.specs.List.{slice_index_or}
 use Rattle.audit_model.specs.Graph.{Graph, IsIn}
 use Rattle.audit_model.specs.Local.{is_mate}
 use Rattle.audit_model.specs.Path.{HasPath}
-use Rattle.audit_model.specs.Plan.{in_district}
+use Rattle.audit_model.specs.District.{in_district}
 use Rattle.contig.specs.Faces.{link_graph}
 use Rattle.contig.specs.declared.corner.Corner.{Corner}
 use Rattle.contig.specs.Corners.{is_filled, units_of}

@@ -4,7 +4,7 @@ ghost use Rattle.std.specs.Prelude.{◌≡◌, ◌≢◌, ◌&&◌, ◌==◌, �
 ghost use Rattle.audit_model.specs.Graph.{Graph, adjacent, IsIn};
 ghost use Rattle.audit_model.specs.Local.{IsSimple, is_mate, MayLeave};
 ghost use Rattle.audit_model.specs.Path.{HasPath, IsConnected};
-ghost use Rattle.audit_model.specs.Plan.{in_district};
+ghost use Rattle.audit_model.specs.District.{in_district};
 ghost use Rattle.contig.specs.Faces.{AreFaces, AreLinked, IsClassing, count_units, count_inner_edges, count_inner_faces, without_unit, count_mates, count_inner_faces_at};
 
 /// Where a connected set has no hole, two neighbours of a unit that are of different classes are apart without it.

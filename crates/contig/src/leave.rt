@@ -4,7 +4,7 @@ ghost use Rattle.std.specs.Prelude.{◌≡◌, ◌+◌, ◌<◌, ◌≤◌, ◌^
 ghost use Rattle.std.specs.List.{slice_index_or};
 ghost use Rattle.audit_model.specs.Local.{IsLocal, MayLeave};
 ghost use Rattle.audit_model.specs.Path.{IsConnected};
-ghost use Rattle.audit_model.specs.Plan.{in_district};
+ghost use Rattle.audit_model.specs.District.{in_district};
 ghost use Rattle.contig.specs.Counts.{AreCounts, HasNoHole};
 ghost use Rattle.contig.specs.Faces.{AreLinked};
 

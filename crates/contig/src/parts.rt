@@ -5,7 +5,7 @@ ghost use Rattle.std.specs.List.{slice_index_or};
 ghost use Rattle.audit_model.specs.Graph.{Graph as GraphValue, IsIn, IsGraph};
 ghost use Rattle.audit_model.specs.Local.{is_mate, stays_behind, IsLocal, MayLeave};
 ghost use Rattle.audit_model.specs.Path.{IsConnected};
-ghost use Rattle.audit_model.specs.Plan.{in_district};
+ghost use Rattle.audit_model.specs.District.{in_district};
 ghost use Rattle.contig.specs.Parts.{IsJoined, HoldsFoundParts, AllOne, NotOne, IsSpread, IsSeeded};
 ghost use Rattle.audit_model.specs.Replaced.{Replaced};
 

@@ -5,7 +5,7 @@ ghost use Rattle.std.specs.List.{slice_index_or};
 ghost use Rattle.contig.specs.Corners.{IsOnRow, units_of, corners_at};
 ghost use Rattle.audit_model.specs.Local.{MayLeave};
 ghost use Rattle.audit_model.specs.Path.{IsConnected};
-ghost use Rattle.audit_model.specs.Plan.{in_district};
+ghost use Rattle.audit_model.specs.District.{in_district};
 ghost use Rattle.contig.specs.Counts.{filled_of};
 ghost use Rattle.contig.specs.Faces.{AreFaces, AreLinked, count_inner_edges};
 

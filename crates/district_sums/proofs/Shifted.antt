@@ -5,7 +5,8 @@ use Rattle.std.proofs.lemmas.Bool.{cases_eq, eq-eqb, ne_eqb, and_left, cond-true
 use Rattle.std.proofs.lemmas.List.{ext_get_or, get_or-set_same, get_or-set_other}
 use Rattle.audit_model.specs.Below.{count_below, sum_below, map_below}
 use Rattle.audit_model.specs.Graph.{Graph, IsGraph, adjacent}
-use Rattle.audit_model.specs.Plan.{in_district, district_sum, cut_edges}
+use Rattle.audit_model.specs.District.{in_district, district_sum}
+use Rattle.audit_model.specs.Plan.{cut_edges}
 use Rattle.audit_model.proofs.Below.{count_below_same, length-map_below, get_or-map_below}
 use Rattle.audit_model.proofs.ColumnFacts.{part_small}
 use Rattle.district_sums.specs.Following.{apart_of}

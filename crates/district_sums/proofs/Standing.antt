@@ -4,7 +4,8 @@ use Rattle.audit_model.specs.declared.outcome.Counts.{Counts}
 use Rattle.audit_model.specs.declared.outcome.SumsView.{SumsView}
 use Rattle.audit_model.specs.Below.{map_below}
 use Rattle.audit_model.specs.Graph.{Graph}
-use Rattle.audit_model.specs.Plan.{district_sum, cut_edges}
+use Rattle.audit_model.specs.District.{district_sum}
+use Rattle.audit_model.specs.Plan.{cut_edges}
 use Rattle.audit_model.specs.Score.{sums_of}
 use Rattle.district_sums.specs.Following.{Following, AreAdded, StandsFor, districts_in, apart_of}
 use Rattle.district_sums.proofs.Shifted.{places}

@@ -2,7 +2,7 @@
 use Rattle.std.proofs.Common.{◌≡◌, ℕ, ◌<◌, List, length, get_or, sym, ap, ◌∙◌}
 use Rattle.std.proofs.lemmas.List.{ext_get_or}
 use Rattle.audit_model.specs.Below.{map_below}
-use Rattle.audit_model.specs.Plan.{district_sum}
+use Rattle.audit_model.specs.District.{district_sum}
 use Rattle.audit_model.proofs.Below.{length-map_below, get_or-map_below}
 use Rattle.audit_model.proofs.ColumnFacts.{part_of}
 

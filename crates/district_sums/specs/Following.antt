@@ -5,7 +5,7 @@ use Rattle.audit_model.specs.declared.outcome.SumsView.{SumsView}
 use Rattle.audit_model.specs.Below.{count_below, map_below}
 use Rattle.audit_model.specs.Graph.{Graph, adjacent}
 use Rattle.audit_model.specs.Limits.{IsColumn}
-use Rattle.audit_model.specs.Plan.{district_sum}
+use Rattle.audit_model.specs.District.{district_sum}
 use Rattle.audit_model.specs.Score.{sums_of}
 
 -- the sums of the districts, and for each unit how many of its neighbours are in other districts

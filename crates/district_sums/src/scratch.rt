@@ -3,7 +3,8 @@
 ghost use Rattle.std.specs.Prelude.{◌≡◌, ℕ, ◌^◌, ◌<◌, ◌≤◌, ◌==◌, ◌&&◌, not, true, length, slice_index, All};
 ghost use Rattle.audit_model.specs.Below.{count_below, map_below};
 ghost use Rattle.audit_model.specs.Graph.{adjacent};
-ghost use Rattle.audit_model.specs.Plan.{cut_edges, district_sum};
+ghost use Rattle.audit_model.specs.District.{district_sum};
+ghost use Rattle.audit_model.specs.Plan.{cut_edges};
 ghost use Rattle.audit_model.specs.Score.{sums_of};
 ghost use Rattle.district_sums.specs.Following.{AreInputs, apart_of};
 ghost use Rattle.audit_model.specs.Limits.{IsColumn, most_units};

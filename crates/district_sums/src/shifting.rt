@@ -4,7 +4,7 @@ ghost use Rattle.std.specs.Prelude.{◌≡◌, ◌≢◌, ℕ, ◌+◌, ◌^◌,
 ghost use Rattle.audit_model.specs.Below.{count_below, map_below};
 ghost use Rattle.audit_model.specs.Graph.{adjacent};
 ghost use Rattle.audit_model.specs.Limits.{IsColumn, most_units, most_people};
-ghost use Rattle.audit_model.specs.Plan.{district_sum};
+ghost use Rattle.audit_model.specs.District.{district_sum};
 ghost use Rattle.district_sums.specs.Following.{AreAdded, AreInputs, MovesWithin, apart_of};
 
 use audit_model::lists::{NumList, UnitList};

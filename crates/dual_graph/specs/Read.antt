@@ -4,4 +4,4 @@ use Rattle.dual_graph.specs.declared.parsed.Parsed.{Parsed}
 
 -- the same parts
 abbrev pub parsed_of : Parsed → ParsedOf
-parsed_of p = record { graph = p.graph; counts = p.counts; start = p.start; labels = p.labels }
+parsed_of p = record { graph = p.graph; counts = p.counts; group = p.group; start = p.start; labels = p.labels }

@@ -1,5 +1,5 @@
 -- What is found of a document against what its definition says.
-use Rattle.std.proofs.Common.{◌≡◌, ℕ, zero, suc, ◌^◌, ◌<◌, ◌≤◌, Bool, true, false, not, cond, ◌&&◌, ◌||◌, List, [], length, get_or, Option, Some, None, Err, refl, sym, ap, ◌∙◌, subst, arith}
+use Rattle.std.proofs.Common.{◌≡◌, ℕ, zero, suc, ◌^◌, ◌<◌, ◌≤◌, Bool, true, false, not, cond, ◌&&◌, ◌||◌, List, [], length, get_or, Option, Some, None, Err, refl, sym, ap, ◌∙◌, subst, inl, inr, arith}
 use Rattle.std.specs.Prelude.{◌==◌, nat_lt, nat_le, codes}
 use Rattle.std.specs.Str.{is_utf8}
 use Rattle.std.specs.Option.{option_or, option_map, option_and_then, unwrap_or, is_none}
@@ -10,6 +10,7 @@ use Rattle.serde_json.specs.Read.{read}
 use Rattle.audit_model.specs.declared.fault.GraphFault.{GraphFault}
 use Rattle.audit_model.specs.declared.fault.GraphFault.TheVariants as fault
 use Rattle.audit_model.specs.declared.outcome.Counts.{Counts}
+use Rattle.audit_model.specs.declared.rules.Group.{Group}
 use Rattle.audit_model.specs.declared.setting.Columns.{Columns}
 use Rattle.audit_model.specs.declared.setting.Label.{Label}
 use Rattle.audit_model.specs.declared.setting.Label.TheVariants.{Word}
@@ -17,12 +18,12 @@ use Rattle.audit_model.specs.Below.{any_below, count_below, filter_below, map_be
 use Rattle.audit_model.specs.First.{first_below, first_some_below}
 use Rattle.audit_model.specs.Graph.{Graph, IsGraph, count_edges}
 use Rattle.audit_model.specs.Label.{same_label, label_before}
-use Rattle.audit_model.specs.Limits.{IsColumn, AreWithin}
+use Rattle.audit_model.specs.Limits.{IsColumn, AreWithin, IsGroup}
 use Rattle.audit_model.specs.Parsed.{Parsed}
 use Rattle.audit_statement.specs.Reading.{Document, graph, joined, id_of, same_id, refused_if, label_count, label_at, is_new_label, district_at, refusal, parsed, reading, of_root, of_json, bad_part}
 use Rattle.audit_model.proofs.Below.{count_below_same, filter_below_same, length-map_below, get_or-map_below, map_below_same}
 use Rattle.audit_model.proofs.First.{first_below_same, first_some_below_same, any_below_same, first_passes, none_or_any}
-use Rattle.dual_json.specs.Columns.{count_from, count_in, missing, bad, numbers_in}
+use Rattle.dual_json.specs.Columns.{count_from, count_in, names_group, missing, bad, numbers_in, AreOfGroup}
 use Rattle.dual_json.specs.Districts.{AreDistricts, district_count_fault, is_new, different_count}
 use Rattle.dual_json.specs.Edges.{entries_at, first_in, first_entry_in, is_unknown, is_unnamed, joined_in, graph_in, edges_fault, names_node}
 use Rattle.dual_json.specs.Places.{object_at, nth, first_unnamed, AreLabels, place_of_label, repeated_label}
@@ -188,21 +189,27 @@ module _ (d : Document) (columns : Columns) (labels found : List Label) (start :
 -- ---- what is read
 
 -- the graph and the rows of the nodes make what is parsed of the document
-pub parsed_is : (d : Document) (columns : Columns) (g : Graph) (counts : Counts) (start : List ℕ) (found : List Label) → graph d ≡ g → AreRows columns d.nodes counts start found
-    → parsed d columns ≡ record { graph = g; counts = counts; start = start; labels = found }
-parsed_is d columns g counts start found is rows =
-    ap (λ (x : Graph). made x (parsed d columns).counts (parsed d columns).start (parsed d columns).labels) is
-    ∙ ap (λ x. made g (counted x (parsed d columns).counts.first (parsed d columns).counts.second) (parsed d columns).start (parsed d columns).labels) (sym rows.population)
-    ∙ ap (λ x. made g (counted counts.population x (parsed d columns).counts.second) (parsed d columns).start (parsed d columns).labels) (sym rows.first)
-    ∙ ap (λ x. made g (counted counts.population counts.first x) (parsed d columns).start (parsed d columns).labels) (sym rows.second)
-    ∙ ap (λ x. made g counts x (parsed d columns).labels) (start_same d columns rows.labels found start rows.labelled rows.districts)
-    ∙ ap (λ x. made g counts start x) (labels_same d columns rows.labels found start rows.labelled rows.districts)
+pub parsed_is : (d : Document) (columns : Columns) (g : Graph) (counts : Counts) (group : Group) (start : List ℕ) (found : List Label) → graph d ≡ g
+    → AreRows columns d.nodes counts group start found → parsed d columns ≡ record { graph = g; counts = counts; group = group; start = start; labels = found }
+parsed_is d columns g counts group start found is rows =
+    let old = parsed d columns in
+    ap (λ (x : Graph). made x old.counts old.group old.start old.labels) is
+    ∙ ap (λ x. made g (counted x old.counts.first old.counts.second) old.group old.start old.labels) (sym rows.population)
+    ∙ ap (λ x. made g (counted counts.population x old.counts.second) old.group old.start old.labels) (sym rows.first)
+    ∙ ap (λ x. made g (counted counts.population counts.first x) old.group old.start old.labels) (sym rows.second)
+    ∙ ap (λ x. made g counts (grouped x old.group.whole) old.start old.labels) (sym rows.grouped.members)
+    ∙ ap (λ x. made g counts (grouped group.members x) old.start old.labels) (sym rows.grouped.whole)
+    ∙ ap (λ x. made g counts group x old.labels) (start_same d columns rows.labels found start rows.labelled rows.districts)
+    ∙ ap (λ x. made g counts group start x) (labels_same d columns rows.labels found start rows.labelled rows.districts)
   where
     counted : List ℕ → List ℕ → List ℕ → Counts
     counted a b c = record { population = a; first = b; second = c }
 
-    made : Graph → Counts → List ℕ → List Label → Parsed
-    made g counts start labels = record { graph = g; counts = counts; start = start; labels = labels }
+    grouped : List ℕ → List ℕ → Group
+    grouped a b = record { members = a; whole = b }
+
+    made : Graph → Counts → Group → List ℕ → List Label → Parsed
+    made g counts group start labels = record { graph = g; counts = counts; group = group; start = start; labels = labels }
 
 -- a number that is taken as a count is at most 10 ^ 9
 small_count : (o : Option ℕ) → unwrap_or (option_and_then (λ n. cond (nat_le n (10 ^ 9)) (Some n) None) o) 0 ≤ 10 ^ 9
@@ -230,9 +237,9 @@ column_is key nodes units numbers is long =
     }
 
 -- what is read of nodes that are few enough lies within the limits
-pub within_is : (nodes : List Data) (columns : Columns) (g : Graph) (counts : Counts) (start : List ℕ) (found : List Label) → IsGraph g → g.units ≡ length nodes → length nodes ≤ 100000
-    → count_edges g (λ u v. true) ≤ 400000 → AreRows columns nodes counts start found → AreWithin g counts start (length found)
-within_is nodes columns g counts start found simple units few edges rows = record {
+pub within_is : (nodes : List Data) (columns : Columns) (g : Graph) (counts : Counts) (group : Group) (start : List ℕ) (found : List Label) → IsGraph g → g.units ≡ length nodes → length nodes ≤ 100000
+    → count_edges g (λ u v. true) ≤ 400000 → AreRows columns nodes counts group start found → AreWithin g counts start (length found)
+within_is nodes columns g counts group start found simple units few edges rows = record {
   simple = simple;
   units = omega (arith, units, few);
   edges = edges;
@@ -244,6 +251,14 @@ within_is nodes columns g counts start found simple units few edges rows = recor
   complete = rows.districts.count ∙ rows.labelled.count ∙ sym units;
   in_range = λ u l. rows.districts.inside u (omega (arith, l, units, rows.labelled.count));
 }
+
+-- the group that is read of the nodes is two columns, or none
+pub group_is : (nodes : List Data) (columns : Columns) (units : ℕ) (group : Group) → AreOfGroup columns nodes group → units ≡ length nodes → IsGroup units group
+group_is nodes columns units group are long = by (names_group columns) are.members are.whole
+  where
+    by : (b : Bool) → group.members ≡ cond b (numbers_in columns.group nodes) [] → group.whole ≡ cond b (numbers_in columns.whole nodes) [] → IsGroup units group
+    by true members whole = inr (column_is columns.group nodes units group.members members long, column_is columns.whole nodes units group.whole whole long)
+    by false members whole = inl (members, whole)
 
 -- a count of districts that is not refused is from 2 to 200
 pub count_within : (n : ℕ) → district_count_fault n ≡ None → (2 ≤ n) × (n ≤ 200)

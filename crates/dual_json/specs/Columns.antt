@@ -1,11 +1,12 @@
 -- The columns of a node.
-use Rattle.std.specs.Prelude.{ℕ, cond, nat_le, List, [], ◌∷◌, length, Option, Some, None, is_none, unwrap_or, option_map, option_and_then}
+use Rattle.std.specs.Prelude.{◌≡◌, ℕ, ◌==◌, ◌&&◌, Bool, not, cond, nat_le, List, [], ◌∷◌, length, Option, Some, None, is_none, unwrap_or, option_map, option_and_then}
 use Rattle.serde_json.specs.Data.{Data}
 use Rattle.serde_json.specs.Find.{get, as_number, as_u64}
 use Rattle.audit_model.specs.declared.fault.Column.{Column}
 use Rattle.audit_model.specs.declared.fault.Column.TheVariants as column
 use Rattle.audit_model.specs.declared.fault.GraphFault.{GraphFault}
 use Rattle.audit_model.specs.declared.fault.GraphFault.TheVariants as fault
+use Rattle.audit_model.specs.declared.rules.Group.{Group}
 use Rattle.audit_model.specs.declared.setting.Columns.{Columns}
 use Rattle.audit_model.specs.Below.{map_below}
 use Rattle.audit_model.specs.First.{first_some, first_some_below}
@@ -21,6 +22,23 @@ count_from d = option_and_then (λ n. cond (nat_le n most_people) (Some n) None)
 abbrev pub count_in : List ℕ → Data → Option ℕ
 count_in key d = option_and_then count_from (get key d)
 
+-- a group is named
+abbrev pub names_group : Columns → Bool
+names_group columns = not (length columns.group == 0)
+
+-- the first of the group's columns that a node has not, and the first in which it has no number from 0 to 10 ^ 9
+abbrev pub missing_in_group : Columns → Data → Option Column
+missing_in_group columns d = first_some (
+    refused_if (names_group columns && is_none (get columns.group d)) column.Group
+    ∷ refused_if (names_group columns && is_none (get columns.whole d)) column.Whole
+    ∷ [])
+
+abbrev pub bad_in_group : Columns → Data → Option Column
+bad_in_group columns d = first_some (
+    refused_if (names_group columns && is_none (count_in columns.group d)) column.Group
+    ∷ refused_if (names_group columns && is_none (count_in columns.whole d)) column.Whole
+    ∷ [])
+
 -- the first column that a node has not
 abbrev pub missing_in : Columns → Data → Option Column
 missing_in columns d = first_some (
@@ -28,6 +46,8 @@ missing_in columns d = first_some (
     ∷ refused_if (is_none (get columns.first d)) column.First
     ∷ refused_if (is_none (get columns.second d)) column.Second
     ∷ refused_if (is_none (get columns.district d)) column.District
+    ∷ refused_if (names_group columns && is_none (get columns.group d)) column.Group
+    ∷ refused_if (names_group columns && is_none (get columns.whole d)) column.Whole
     ∷ [])
 
 -- the first column of numbers in which a node has no number from 0 to 10 ^ 9
@@ -36,6 +56,8 @@ bad_in columns d = first_some (
     refused_if (is_none (count_in columns.population d)) column.Population
     ∷ refused_if (is_none (count_in columns.first d)) column.First
     ∷ refused_if (is_none (count_in columns.second d)) column.Second
+    ∷ refused_if (names_group columns && is_none (count_in columns.group d)) column.Group
+    ∷ refused_if (names_group columns && is_none (count_in columns.whole d)) column.Whole
     ∷ [])
 
 -- the first node that lacks a column, and the first that has a bad number
@@ -48,3 +70,8 @@ bad columns nodes = first_some_below (length nodes) (λ i. option_map (fault.Bad
 -- the numbers at a key
 abbrev pub numbers_in : List ℕ → List Data → List ℕ
 numbers_in key nodes = map_below (length nodes) (λ i. unwrap_or (count_in key (object_at nodes i)) 0)
+
+-- the group's numbers at both keys, and none where no group is named
+pub record AreOfGroup (columns : Columns) (nodes : List Data) (group : Group) : Type 0 where
+  pub members : group.members ≡ cond (names_group columns) (numbers_in columns.group nodes) []
+  pub whole : group.whole ≡ cond (names_group columns) (numbers_in columns.whole nodes) []

@@ -3,7 +3,7 @@
 ghost use Rattle.std.specs.Prelude.{◌≡◌, ◌≤◌, None, Some, length, IfOk, IfErr, MatchResult};
 ghost use Rattle.audit_model.specs.declared.fault.GraphFault.TheVariants.{Memory};
 ghost use Rattle.dual_json.specs.Values.{value_data};
-ghost use Rattle.dual_json.specs.Columns.{count_in, missing_in, bad_in, missing, bad, numbers_in};
+ghost use Rattle.dual_json.specs.Columns.{count_in, missing_in_group, bad_in_group, missing_in, bad_in, missing, bad, numbers_in, AreOfGroup};
 ghost use Rattle.dual_json.specs.Shape.{views};
 ghost use Rattle.audit_model.specs.Limits.{most_units};
 
@@ -11,6 +11,7 @@ use crate::value::Value;
 use audit_model::fault::{Column, GraphFault};
 use audit_model::lists::NumList;
 use audit_model::outcome::Counts;
+use audit_model::rules::Group;
 use audit_model::setting::Columns;
 use audit_model::text::Text;
 use std::alloc::Global;
@@ -65,6 +66,37 @@ pub fn counts_of(
     })
 }
 
+/// The two columns of the group, which are empty where none is named.
+pub fn group_of(alloc: Global, nodes: &[Value<'_>], columns: &Columns) -> Result<Group, GraphFault>
+    ensures { MatchResult result (AreOfGroup columns.now (views nodes.now)) (λ f. f ≡ Memory) }
+{
+    if columns.group.as_str().is_empty() {
+        return Ok(Group {
+            members: NumList::new(alloc),
+            whole: NumList::new(alloc),
+        });
+    }
+    Ok(Group {
+        members: numbers_of(alloc, nodes, &columns.group)?,
+        whole: numbers_of(alloc, nodes, &columns.whole)?,
+    })
+}
+
+/// The first of the group's columns that a node has not, where a group is named.
+fn missing_of_group(node: &Value<'_>, columns: &Columns) -> Option<Column>
+    ensures { result ≡ missing_in_group columns.now (value_data node.now) }
+{
+    if columns.group.as_str().is_empty() {
+        None
+    } else if node.get(columns.group.as_str()).is_none() {
+        Some(Column::Group)
+    } else if node.get(columns.whole.as_str()).is_none() {
+        Some(Column::Whole)
+    } else {
+        None
+    }
+}
+
 /// The first column that a node has not.
 fn missing_column(node: &Value<'_>, columns: &Columns) -> Option<Column>
     ensures { result ≡ missing_in columns.now (value_data node.now) }
@@ -78,7 +110,7 @@ fn missing_column(node: &Value<'_>, columns: &Columns) -> Option<Column>
     } else if node.get(columns.district.as_str()).is_none() {
         Some(Column::District)
     } else {
-        None
+        missing_of_group(node, columns)
     }
 }
 
@@ -101,6 +133,21 @@ fn count_at(node: &Value<'_>, key: &Text) -> Option<u64>
     }
 }
 
+/// The first of the group's columns in which a node has no such number, where a group is named.
+fn bad_of_group(node: &Value<'_>, columns: &Columns) -> Option<Column>
+    ensures { result ≡ bad_in_group columns.now (value_data node.now) }
+{
+    if columns.group.as_str().is_empty() {
+        None
+    } else if count_at(node, &columns.group).is_none() {
+        Some(Column::Group)
+    } else if count_at(node, &columns.whole).is_none() {
+        Some(Column::Whole)
+    } else {
+        None
+    }
+}
+
 /// The first column of numbers in which a node has no such number.
 fn bad_number(node: &Value<'_>, columns: &Columns) -> Option<Column>
     ensures { result ≡ bad_in columns.now (value_data node.now) }
@@ -112,7 +159,7 @@ fn bad_number(node: &Value<'_>, columns: &Columns) -> Option<Column>
     } else if count_at(node, &columns.second).is_none() {
         Some(Column::Second)
     } else {
-        None
+        bad_of_group(node, columns)
     }
 }
 

@@ -6,7 +6,7 @@ ghost use Rattle.serde_json.specs.Read.{read};
 ghost use Rattle.dual_json.specs.Values.{value_data};
 ghost use Rattle.audit_model.specs.declared.fault.GraphFault.TheVariants as fault;
 ghost use Rattle.audit_model.specs.Graph.{IsGraph, count_edges};
-ghost use Rattle.audit_model.specs.Limits.{AreWithin, most_units, most_edges};
+ghost use Rattle.audit_model.specs.Limits.{AreWithin, IsGroup, most_units, most_edges};
 ghost use Rattle.dual_graph.specs.Read.{parsed_of};
 ghost use Rattle.audit_statement.specs.Reading.{graph, parsed, reading, refusal};
 ghost use Rattle.dual_json.specs.Districts.{district_count_fault, different_count};
@@ -14,7 +14,7 @@ ghost use Rattle.dual_json.specs.Places.{labels_from, repeated_label, AreLabels}
 ghost use Rattle.dual_json.specs.Shape.{views, document_of_parts};
 ghost use Rattle.dual_json.specs.Stages.{ids_fault, graph_fault, labels_fault, AreRows};
 
-use crate::columns::{check_columns, check_numbers, counts_of};
+use crate::columns::{check_columns, check_numbers, counts_of, group_of};
 use crate::districts::{check_count, different, labels_of, start_of};
 use crate::edges::{check_entries, graph_of};
 use crate::index::Index;
@@ -25,6 +25,7 @@ use crate::value::Value;
 use audit_model::fault::GraphFault;
 use audit_model::lists::{LabelList, UnitList};
 use audit_model::outcome::Counts;
+use audit_model::rules::Group;
 use audit_model::setting::Columns;
 use dual_graph::graph::Graph;
 use dual_graph::parsed::Parsed;
@@ -55,17 +56,19 @@ pub(crate) fn value_of<'t>(
 #[derive(Drop)]
 struct Rows {
     counts: Counts,
+    group: Group,
     start: UnitList,
     labels: LabelList,
 }
 
-/// The graph of a text, its counts, its start plan and its labels, or the first reason to refuse it.
+/// The graph of a text, its counts, the group where one is named, its start plan and its labels, or the first reason to refuse it.
 ///
 /// The text is networkx's adjacency data. The refusals are tested in the order of the variants of [`GraphFault`], each over the whole text, and the least place is given.
 pub fn read_graph(alloc: Global, bytes: &[u8], cols: &Columns) -> Result<Parsed, GraphFault>
     ensures read { MatchResult result (λ p. reading bytes.now cols.now ≡ Ok (parsed_of p))
         (λ f. (f ≡ fault.Memory) ⊎ (reading bytes.now cols.now ≡ Err f)) }
     ensures within { IfOk result (λ p. AreWithin p.graph p.counts p.start (length p.labels)) }
+    ensures group { IfOk result (λ p. IsGroup p.graph.units p.group) }
 {
     let mut scratch = Scratch::new(alloc);
     read_beside(alloc, bytes, cols, &mut scratch)
@@ -81,6 +84,7 @@ fn read_beside<'t>(
     ensures read { MatchResult result (λ p. reading bytes.now cols.now ≡ Ok (parsed_of p))
         (λ f. (f ≡ fault.Memory) ⊎ (reading bytes.now cols.now ≡ Err f)) }
     ensures within { IfOk result (λ p. AreWithin p.graph p.counts p.start (length p.labels)) }
+    ensures group { IfOk result (λ p. IsGroup p.graph.units p.group) }
 {
     let root = value_of(alloc, bytes, scratch)?;
     match parts_of(&root) {
@@ -144,16 +148,18 @@ fn rows_of<'v>(
     requires few { length names.now ≤ most_units }
     requires labels { AreLabels columns.now.district (views nodes.now) (labels_from names.now) }
     ensures { MatchResult result
-        (λ rows. (district_count_fault (different_count (labels_from names.now)) ≡ None) × AreRows columns.now (views nodes.now) rows.counts rows.start rows.labels)
+        (λ rows. (district_count_fault (different_count (labels_from names.now)) ≡ None) × AreRows columns.now (views nodes.now) rows.counts rows.group rows.start rows.labels)
         (λ f. (f ≡ fault.Memory) ⊎ (district_count_fault (different_count (labels_from names.now)) ≡ Some f)) }
 {
     let found = different(alloc, names)?;
     let start = start_of(alloc, names, &found)?;
     check_count(found.len())?;
     let counts = counts_of(alloc, nodes, columns)?;
+    let group = group_of(alloc, nodes, columns)?;
     let labels = labels_of(alloc, &found)?;
     Ok(Rows {
         counts,
+        group,
         start,
         labels,
     })
@@ -165,6 +171,7 @@ fn read_parts(alloc: Global, parts: &Parts<'_, '_>, columns: &Columns) -> Result
         (λ p. (refusal (document_of_parts parts.now) columns.now ≡ None) × (parsed (document_of_parts parts.now) columns.now ≡ parsed_of p))
         (λ f. (f ≡ fault.Memory) ⊎ (refusal (document_of_parts parts.now) columns.now ≡ Some f)) }
     ensures within { IfOk result (λ p. AreWithin p.graph p.counts p.start (length p.labels)) }
+    ensures group { IfOk result (λ p. IsGroup p.graph.units p.group) }
 {
     let graph = graph_in(alloc, parts)?;
     let names = names_in(alloc, parts.nodes, columns)?;
@@ -172,6 +179,7 @@ fn read_parts(alloc: Global, parts: &Parts<'_, '_>, columns: &Columns) -> Result
     Ok(Parsed {
         graph,
         counts: rows.counts,
+        group: rows.group,
         start: rows.start,
         labels: rows.labels,
     })

@@ -17,11 +17,13 @@ pub struct Guard<F> {
 }
 
 impl<F: Fn(&SumsView) -> bool + Drop> Guard<F> {
-    /// A judge by a closure that answers whether the cut edges are no more than the rules allow. There are no regions.
+    /// A judge by a closure that answers whether the cut edges are no more than the rules allow. There are no regions, and no majority is
+    /// asked for.
     pub fn new(test: F, rules: Rules) -> Guard<F>
         requires callable { F.IsAlwaysCallable test }
         requires answers { (sums : Sums) (answer : Bool) → sums.cut < 2 ^ 32 → FnReturnsAt F.Fn test sums answer → answer ≡ nat_le sums.cut rules.max_cut }
         requires no_regions { rules.regions ≡ [] }
+        requires no_group { rules.group_districts ≡ 0 }
         ensures rules { result.rules ≡ rules }
         ensures test { result.test ≡ test }
     {
@@ -46,7 +48,8 @@ impl<F: Fn(&SumsView) -> bool + Drop> Judge for Guard<F> {
       takes = λ units districts. true;
       keeps = F.IsAlwaysCallable g.test
           × ((sums : Sums) (answer : Bool) → sums.cut < 2 ^ 32 → FnReturnsAt F.Fn g.test sums answer → answer ≡ nat_le sums.cut g.rules.max_cut)
-          × (g.rules.regions ≡ []);
+          × (g.rules.regions ≡ [])
+          × (g.rules.group_districts ≡ 0);
       stands = λ plan. ⊤;
     } };
 

@@ -5,7 +5,7 @@ use Rattle.std.proofs.lemmas.Bool.{cases_Bool, cases_eq, eq-eqb, eqb-true, eqb-f
 use Rattle.std.proofs.lemmas.List.{get_or-set_same, get_or-set_other}
 use Rattle.std.proofs.lemmas.List.Folds.{list_any_at}
 use Rattle.audit_model.specs.Graph.{Graph, IsGraph, has, adjacent}
-use Rattle.audit_model.specs.Plan.{in_district}
+use Rattle.audit_model.specs.District.{in_district}
 use Rattle.audit_model.proofs.ListFacts.{has_at}
 use Rattle.audit_model.proofs.Every.{some_from_any}
 use Rattle.flip_kernel.specs.Openings.{is_open}

@@ -5,7 +5,7 @@ use Rattle.std.proofs.lemmas.List.{set-set, set-get_or}
 use Rattle.audit_model.specs.declared.outcome.SumsView.{SumsView}
 use Rattle.audit_model.specs.Job.{Job}
 use Rattle.audit_model.specs.JobOf.{IsJob}
-use Rattle.audit_model.specs.Plan.{district_sum}
+use Rattle.audit_model.specs.District.{district_sum}
 use Rattle.audit_model.proofs.Below.{get_or-map_below}
 use Rattle.district_sums.specs.Following.{Following, districts_in}
 use Rattle.contig.specs.Counts.{Counted}

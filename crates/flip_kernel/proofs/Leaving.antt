@@ -5,7 +5,8 @@ use Rattle.audit_model.specs.Graph.{Graph}
 use Rattle.audit_model.specs.Job.{Job}
 use Rattle.audit_model.specs.Local.{MayLeave}
 use Rattle.audit_model.specs.Path.{IsConnected}
-use Rattle.audit_model.specs.Plan.{IsLegal, in_district}
+use Rattle.audit_model.specs.District.{in_district}
+use Rattle.audit_model.specs.Plan.{IsLegal}
 
 -- the unit's district is connected, also as an equal graph and an equal plan have it
 pub connected_of : (g h : Graph) (p q : List ℕ) (u : ℕ) → g ≡ h → p ≡ q → IsConnected h (in_district q (get_or q u 0)) → IsConnected g (in_district p (get_or p u 0))

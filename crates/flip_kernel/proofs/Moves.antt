@@ -10,7 +10,8 @@ use Rattle.audit_model.specs.JobOf.{IsJob}
 use Rattle.audit_model.specs.Local.{stays_behind, MayLeave}
 use Rattle.audit_model.specs.Meets.{Meets}
 use Rattle.audit_model.specs.Path.{IsPath, HasPath, IsConnected}
-use Rattle.audit_model.specs.Plan.{in_district, district_sum, cut_edges, IsBalanced, IsLegal, least_population, greatest_population}
+use Rattle.audit_model.specs.District.{in_district, district_sum}
+use Rattle.audit_model.specs.Plan.{cut_edges, IsBalanced, IsLegal, least_population, greatest_population}
 use Rattle.audit_model.proofs.Accepted.{balanced_between}
 use Rattle.audit_model.proofs.Bools.{and_true}
 use Rattle.audit_model.proofs.Paths.{path_one, path_before, path_after, path_joined, path_within, first_in}

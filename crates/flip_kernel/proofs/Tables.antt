@@ -8,7 +8,7 @@ use Rattle.std.proofs.lemmas.List.{get_or-set_same, get_or-set_other}
 use Rattle.std.proofs.lemmas.List.Folds.{list_any_more}
 use Rattle.std.proofs.lemmas.Nat.{mul-add-lt, same_from_place}
 use Rattle.audit_model.specs.Graph.{Graph, IsGraph, has, adjacent}
-use Rattle.audit_model.specs.Plan.{in_district}
+use Rattle.audit_model.specs.District.{in_district}
 use Rattle.audit_model.proofs.Bools.{and_true}
 use Rattle.audit_model.proofs.ListFacts.{has_at}
 use Rattle.flip_kernel.specs.Openings.{is_open, flag_of, TellsOpen, HasOpened}

@@ -2,7 +2,7 @@
 use Rattle.std.specs.Prelude.{◌≡◌, ℕ, ◌+◌, ◌*◌, ◌<◌, ◌≤◌, ◌&&◌, Bool, false, not, List, [], length}
 use Rattle.std.specs.List.{list_any, slice_index_or}
 use Rattle.audit_model.specs.Graph.{Graph}
-use Rattle.audit_model.specs.Plan.{in_district}
+use Rattle.audit_model.specs.District.{in_district}
 
 -- the unit is in another district, and one of its neighbours is in this one
 abbrev pub is_open : Graph → List ℕ → ℕ → ℕ → Bool

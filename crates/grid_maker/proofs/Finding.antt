@@ -1,5 +1,5 @@
 -- Numbers that pass, and places of mapped lists.
-use Rattle.std.proofs.Common.{◌≡◌, ℕ, zero, suc, ◌<◌, Bool, true, List, [], ◌∷◌, map, length, get_or, Option, None, refl, arith}
+use Rattle.std.proofs.Common.{◌≡◌, ℕ, zero, suc, ◌<◌, Bool, true, List, [], ◌∷◌, map, length, get_or, refl, arith}
 use Rattle.audit_model.specs.Below.{filter_below}
 use Rattle.audit_model.proofs.Connected.{has-filter_below}
 use Rattle.audit_model.proofs.ListFacts.{at_has}

@@ -1,9 +1,9 @@
 //! What is read of the grid, with no text between.
 
-ghost use Rattle.std.specs.Prelude.{◌≡◌, ◌-◌, ◌*◌, ◌/◌, ◌≤◌, Ok, pos, length, IfOk, OnOk};
+ghost use Rattle.std.specs.Prelude.{◌≡◌, ◌-◌, ◌*◌, ◌/◌, ◌≤◌, [], Ok, pos, length, IfOk, OnOk};
 ghost use Rattle.audit_model.specs.declared.setting.Label.TheVariants.{Whole};
 ghost use Rattle.audit_model.specs.Below.{map_below};
-ghost use Rattle.audit_model.specs.Limits.{AreWithin};
+ghost use Rattle.audit_model.specs.Limits.{AreWithin, IsGroup};
 ghost use Rattle.audit_statement.specs.Grid.{grid, grid_side, first_votes_of};
 ghost use Rattle.dual_graph.specs.Read.{parsed_of};
 ghost use Rattle.audit_statement.specs.Reading.{reading};
@@ -16,6 +16,7 @@ use crate::square::Square;
 use audit_model::lists::{LabelList, NumList, UnitList};
 use audit_model::memory::Memory;
 use audit_model::outcome::Counts;
+use audit_model::rules::Group;
 use audit_model::setting::Label;
 use chacha_draws::Draws;
 use dual_graph::graph::Graph;
@@ -27,6 +28,7 @@ pub fn read_made(alloc: Global, size: u32, key: [u8; 32]) -> Result<Parsed, Memo
     requires { (1 ≤ size) × (size ≤ 30) }
     ensures read { IfOk result (λ p. reading (grid size key) grid_columns ≡ Ok (parsed_of p)) }
     ensures within { IfOk result (λ p. AreWithin p.graph p.counts p.start (length p.labels)) }
+    ensures group { IfOk result (λ p. IsGroup p.graph.units p.group) }
 {
     let square = Square { size };
     let side = 10 * size;
@@ -38,6 +40,7 @@ pub fn read_made(alloc: Global, size: u32, key: [u8; 32]) -> Result<Parsed, Memo
     Ok(Parsed {
         graph,
         counts,
+        group: no_group(alloc),
         start,
         labels,
     })
@@ -88,6 +91,16 @@ fn counts_of(alloc: Global, square: Square, key: [u8; 32]) -> Result<Counts, Mem
         first,
         second,
     })
+}
+
+/// No group, for the grid has none.
+fn no_group(alloc: Global) -> Group
+    ensures { result ≡ record { members = []; whole = [] } }
+{
+    Group {
+        members: NumList::new(alloc),
+        whole: NumList::new(alloc),
+    }
 }
 
 /// The district of each unit.

@@ -9,7 +9,8 @@ use Rattle.audit_model.specs.Below.{sum_below}
 use Rattle.audit_model.specs.First.{first_below}
 use Rattle.audit_model.specs.Job.{Job}
 use Rattle.audit_model.specs.JobOf.{is_unbalanced, out_of_bounds, bounds_fault}
-use Rattle.audit_model.specs.Plan.{in_district, district_sum, is_balanced, least_population, greatest_population}
+use Rattle.audit_model.specs.District.{in_district, district_sum}
+use Rattle.audit_model.specs.Plan.{is_balanced, least_population, greatest_population}
 use Rattle.audit_model.proofs.Accepted.{balanced_between}
 use Rattle.audit_model.proofs.Legal.{balanced_passes, passes_balanced}
 use Rattle.audit_model.proofs.Bools.{same_bool}

@@ -1,21 +1,22 @@
 -- What the refusals of a plan say of it.
 use Rattle.std.proofs.Common.{◌≡◌, ℕ, ◌<◌, [], ◌∷◌, Bool, true, false, not, ◌&&◌, List, length, get_or, Option, Some, None, refl, sym, ap, ◌∙◌, subst, inl, inr}
-use Rattle.std.specs.Prelude.{◌↔◌, is_none, is_some, option_map, unwrap_or, ◌⊎◌, Result, Ok, Err, MatchResult}
+use Rattle.std.specs.Prelude.{◌↔◌, nat_lt, is_none, is_some, option_map, unwrap_or, ◌⊎◌, Result, Ok, Err, MatchResult}
 use Rattle.std.proofs.lemmas.Bool.{and_parts, and_from, cases_Bool, cond-true, cond-false, le-ltb, ltb-false, not-false, not_from_true, not_from_false, and_left}
 use Rattle.audit_model.specs.declared.fault.PlanFault.{PlanFault}
-use Rattle.audit_model.specs.declared.fault.PlanFault.TheVariants.{Disconnected, TooManyCut, Memory}
+use Rattle.audit_model.specs.declared.fault.PlanFault.TheVariants.{Disconnected, TooManyCut, TooManySplits, TooManySplitRegions, TooFewMajorities, Memory}
 use Rattle.audit_model.specs.declared.setting.Label.{Label}
 use Rattle.audit_model.specs.declared.setting.Setting.{Setting}
 use Rattle.audit_model.specs.Below.{above_all}
 use Rattle.audit_model.specs.First.{first_some, first_below}
 use Rattle.audit_model.specs.Graph.{Graph}
 use Rattle.audit_model.specs.Job.{Job}
-use Rattle.audit_model.specs.JobOf.{IsJob, job_from, job_of, job_or, job_with, restarted, is_unbalanced, is_parted, cuts_too_many, is_oversplit, out_of_bounds, disconnected, oversplit, bounds_fault, path_fault, cut_fault, split_fault, plan_fault}
+use Rattle.audit_model.specs.JobOf.{IsJob, job_from, job_of, job_or, job_with, restarted, is_unbalanced, is_parted, cuts_too_many, is_oversplit, out_of_bounds, disconnected, oversplit, bounds_fault, path_fault, cut_fault, split_fault, splits_fault, split_regions_fault, group_fault, plan_fault}
 use Rattle.audit_model.specs.Limits.{IsWithinLimits}
-use Rattle.audit_model.specs.Meets.{split_of}
+use Rattle.audit_model.specs.Meets.{majorities, split_of, split_regions, splits_in_all}
 use Rattle.audit_model.specs.Parsed.{Parsed}
 use Rattle.audit_model.specs.Path.{is_connected}
-use Rattle.audit_model.specs.Plan.{IsLegal, is_legal, in_district, district_sum, cut_edges, is_balanced}
+use Rattle.audit_model.specs.District.{in_district, district_sum}
+use Rattle.audit_model.specs.Plan.{IsLegal, is_legal, cut_edges, is_balanced}
 use Rattle.audit_model.proofs.Accepted.{accepted_is_legal}
 use Rattle.audit_model.proofs.Connected.{connected_passes, passes_connected}
 use Rattle.audit_model.proofs.Legal.{balanced_passes, passes_balanced, legal_passes, passes_legal}
@@ -72,19 +73,40 @@ and_second : (a b : Bool) → a ≡ true → (a && b) ≡ b
 and_second true b h = refl
 and_second false b h = cc
 
--- no refusal but for votes and populations is none of each kind
-shape_parts : (job : Job) → shape_fault job ≡ None → (path_fault job ≡ None) × (cut_fault job ≡ None) × (split_fault job ≡ None)
-shape_parts job h =
-    let first = option_or_none (path_fault job) (first_some (cut_fault job ∷ split_fault job ∷ [])) h in
-    let second = option_or_none (cut_fault job) (first_some (split_fault job ∷ [])) first.1 in
-    (first.0, second.0, (option_or_none (split_fault job) (first_some []) second.1).0)
+-- the refusals for how regions are split, and those from there on
+after_splits : Job → List (Option PlanFault)
+after_splits job = split_regions_fault job ∷ group_fault job ∷ []
 
--- where none of the three refusals comes, none of the shape comes
-parts_shape : (job : Job) → path_fault job ≡ None → cut_fault job ≡ None → split_fault job ≡ None → shape_fault job ≡ None
-parts_shape job paths cut splits =
-    none_or (path_fault job) (first_some (cut_fault job ∷ split_fault job ∷ [])) paths
-    ∙ none_or (cut_fault job) (first_some (split_fault job ∷ [])) cut
-    ∙ none_or (split_fault job) (first_some []) splits
+after_regions : Job → List (Option PlanFault)
+after_regions job = splits_fault job ∷ after_splits job
+
+after_cut : Job → List (Option PlanFault)
+after_cut job = split_fault job ∷ after_regions job
+
+-- no refusal but for votes and populations is none of each kind
+shape_parts : (job : Job) → shape_fault job ≡ None
+    → (path_fault job ≡ None) × (cut_fault job ≡ None) × (split_fault job ≡ None)
+    × (splits_fault job ≡ None) × (split_regions_fault job ≡ None) × (group_fault job ≡ None)
+unfolding after_cut after_regions after_splits
+shape_parts job h =
+    let first = option_or_none (path_fault job) (first_some (cut_fault job ∷ after_cut job)) h in
+    let second = option_or_none (cut_fault job) (first_some (after_cut job)) first.1 in
+    let third = option_or_none (split_fault job) (first_some (after_regions job)) second.1 in
+    let fourth = option_or_none (splits_fault job) (first_some (after_splits job)) third.1 in
+    let fifth = option_or_none (split_regions_fault job) (first_some (group_fault job ∷ [])) fourth.1 in
+    (first.0, second.0, third.0, fourth.0, fifth.0, (option_or_none (group_fault job) (first_some []) fifth.1).0)
+
+-- where none of the refusals comes, none of the shape comes
+parts_shape : (job : Job) → path_fault job ≡ None → cut_fault job ≡ None → split_fault job ≡ None
+    → splits_fault job ≡ None → split_regions_fault job ≡ None → group_fault job ≡ None → shape_fault job ≡ None
+unfolding after_cut after_regions after_splits
+parts_shape job paths cut split splits regions group =
+    none_or (path_fault job) (first_some (cut_fault job ∷ after_cut job)) paths
+    ∙ none_or (cut_fault job) (first_some (after_cut job)) cut
+    ∙ none_or (split_fault job) (first_some (after_regions job)) split
+    ∙ none_or (splits_fault job) (first_some (after_splits job)) splits
+    ∙ none_or (split_regions_fault job) (first_some (group_fault job ∷ [])) regions
+    ∙ none_or (group_fault job) (first_some []) group
 
 module _ (job : Job) (plan : List ℕ) (complete : length plan ≡ job.graph.units) (in_range : (u : ℕ) → u < job.graph.units → get_or plan u 0 < job.districts) where
   accepted : bounds_fault (with_start job plan) ≡ None → shape_fault (with_start job plan) ≡ None → IsLegal job plan
@@ -108,6 +130,15 @@ module _ (job : Job) (plan : List ℕ) (complete : length plan ≡ job.graph.uni
               ltb-false job.setting.max_split (split_of job.regions plan region)
               (first_below_none (above_all job.regions) (is_oversplit (with_start job plan)) region
               (option_map_none (oversplit (with_start job plan)) (first_below (above_all job.regions) (is_oversplit (with_start job plan))) parts.2) l));
+          few_in_all = ltb-false job.setting.max_splits (splits_in_all job.regions plan)
+              (cond_some_none (nat_lt job.setting.max_splits (splits_in_all job.regions plan))
+              (TooManySplits (splits_in_all job.regions plan) job.setting.max_splits) parts.3);
+          few_regions = ltb-false job.setting.max_split_regions (split_regions job.regions plan)
+              (cond_some_none (nat_lt job.setting.max_split_regions (split_regions job.regions plan))
+              (TooManySplitRegions (split_regions job.regions plan) job.setting.max_split_regions) parts.4);
+          enough = ltb-false (majorities job.group plan) job.setting.group_districts
+              (cond_some_none (nat_lt (majorities job.group plan) job.setting.group_districts)
+              (TooFewMajorities (majorities job.group plan) job.setting.group_districts) parts.5);
         };
       }
 
@@ -124,7 +155,16 @@ module _ (job : Job) (plan : List ℕ) (complete : length plan ≡ job.graph.uni
         (le-ltb job.setting.max_cut (cut_edges job.graph plan) legal.meeting.few_cuts))
         (ap (option_map (oversplit (with_start job plan)))
         (none_first_below (above_all job.regions) (is_oversplit (with_start job plan)) (λ region l.
-        le-ltb job.setting.max_split (split_of job.regions plan region) (legal.meeting.few_splits region)))),
+        le-ltb job.setting.max_split (split_of job.regions plan region) (legal.meeting.few_splits region))))
+        (cond-false (nat_lt job.setting.max_splits (splits_in_all job.regions plan))
+        (Some (TooManySplits (splits_in_all job.regions plan) job.setting.max_splits)) None
+        (le-ltb job.setting.max_splits (splits_in_all job.regions plan) legal.meeting.few_in_all))
+        (cond-false (nat_lt job.setting.max_split_regions (split_regions job.regions plan))
+        (Some (TooManySplitRegions (split_regions job.regions plan) job.setting.max_split_regions)) None
+        (le-ltb job.setting.max_split_regions (split_regions job.regions plan) legal.meeting.few_regions))
+        (cond-false (nat_lt (majorities job.group plan) job.setting.group_districts)
+        (Some (TooFewMajorities (majorities job.group plan) job.setting.group_districts)) None
+        (le-ltb (majorities job.group plan) job.setting.group_districts legal.meeting.enough)),
   )
 
   judged : (r : Bool) → r ≡ (is_none (bounds_fault (with_start job plan)) && is_none (shape_fault (with_start job plan))) → (r ≡ true) ↔ IsLegal job plan

@@ -1,5 +1,7 @@
 pub mod Bounded
 pub mod Judged
+pub mod Majorities
+pub mod Moved
 pub mod Splitting
 pub mod Voted
 pub mod Started

@@ -11,7 +11,7 @@ use Rattle.audit_model.proofs.Meeting.{below_above_all}
 -- ---- one more than the greatest number
 
 -- where all numbers are below a bound, one more than the greatest is at most the bound
-above_all_most : (xs : List ℕ) (n : ℕ) → ((u : ℕ) → u < length xs → slice_index xs u < n) → above_all xs ≤ n
+pub above_all_most : (xs : List ℕ) (n : ℕ) → ((u : ℕ) → u < length xs → slice_index xs u < n) → above_all xs ≤ n
 above_all_most [] n each = omega arith
 above_all_most (x ∷ xs) n each =
     omega (arith, each 0 (omega arith), above_all_most xs n (λ u l. each (suc u) (omega (arith, l))))

@@ -2,7 +2,7 @@
 use Rattle.std.proofs.Common.{sym, ◌∙◌, arith}
 use Rattle.audit_model.specs.Job.{Job}
 use Rattle.audit_model.specs.JobOf.{IsJob}
-use Rattle.audit_model.specs.Plan.{district_sum}
+use Rattle.audit_model.specs.District.{district_sum}
 use Rattle.audit_model.specs.Score.{sums_of}
 use Rattle.audit_model.proofs.Below.{length-map_below}
 use Rattle.audit_model.proofs.ColumnFacts.{column_small}

@@ -1,10 +1,11 @@
 -- What a job holds, whatever plan it starts from.
-use Rattle.std.specs.Prelude.{◌≡◌, ℕ, ◌<◌, ◌∷◌, [], List, length, slice_index, Option}
+use Rattle.std.specs.Prelude.{◌≡◌, ℕ, ◌<◌, ◌∷◌, [], List, length, slice_index, cond, nat_lt, Option, Some, None}
 use Rattle.audit_model.specs.declared.fault.PlanFault.{PlanFault}
+use Rattle.audit_model.specs.declared.fault.PlanFault.TheVariants.{TooManySplits, TooManySplitRegions}
 use Rattle.audit_model.specs.declared.rules.Rules.{Rules}
 use Rattle.audit_model.specs.First.{first_some}
 use Rattle.audit_model.specs.Job.{Job, total_population, total_votes, rules}
-use Rattle.audit_model.specs.JobOf.{path_fault, cut_fault, split_fault}
+use Rattle.audit_model.specs.JobOf.{path_fault, cut_fault, split_fault, splits_fault, split_regions_fault, group_fault}
 use Rattle.audit_model.specs.Limits.{IsWithinLimits}
 
 -- the plan gives each of the units one of the districts
@@ -16,9 +17,22 @@ pub record GivesDistricts (units districts : ℕ) (plan : List ℕ) : Type 0 whe
 abbrev pub with_start : Job → List ℕ → Job
 with_start job plan = record job { start = plan }
 
+-- the refusal of a plan that splits regions so often in all, and of one that splits so many
+abbrev pub many_splits : ℕ → ℕ → Option PlanFault
+many_splits most splits = cond (nat_lt most splits) (Some (TooManySplits splits most)) None
+
+abbrev pub many_regions : ℕ → ℕ → Option PlanFault
+many_regions most regions = cond (nat_lt most regions) (Some (TooManySplitRegions regions most)) None
+
+-- the first refusal of the start plan for how it splits regions
+abbrev pub regions_fault : Job → Option PlanFault
+regions_fault job = first_some (split_fault job ∷ splits_fault job ∷ split_regions_fault job ∷ [])
+
 -- the first refusal of the start plan but for votes and populations
 abbrev pub shape_fault : Job → Option PlanFault
-shape_fault job = first_some (path_fault job ∷ cut_fault job ∷ split_fault job ∷ [])
+shape_fault job = first_some (
+    path_fault job ∷ cut_fault job ∷ split_fault job
+    ∷ splits_fault job ∷ split_regions_fault job ∷ group_fault job ∷ [])
 
 -- all is within the limits, and the rules and the two totals are the job's
 pub record IsInput (job : Job) (kept : Rules) (people votes : ℕ) : Type 0 where

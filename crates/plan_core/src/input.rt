@@ -3,18 +3,21 @@
 ghost use Rattle.std.specs.Prelude.{◌≡◌, ◌<◌, ◌≤◌, ℕ, length, slice_index, IfOk};
 ghost use Rattle.std.specs.List.{list_any};
 ghost use Rattle.audit_model.specs.Job.{total_population, total_votes, rules};
-ghost use Rattle.audit_model.specs.JobOf.{is_gap, lacks_votes, bounds_fault, path_fault, cut_fault, split_fault, plan_fault, job_from};
+ghost use Rattle.audit_model.specs.JobOf.{is_gap, lacks_votes, bounds_fault, path_fault, cut_fault, group_fault, plan_fault, job_from};
 ghost use Rattle.audit_model.specs.Limits.{IsWithinLimits, most_districts};
+ghost use Rattle.audit_model.specs.Meets.{majorities};
 ghost use Rattle.audit_model.specs.Plan.{least_population, greatest_population};
 ghost use Rattle.dual_graph.specs.Read.{parsed_of};
 
 use crate::bounds::{first_outside, limits_of};
+use crate::group::count_majorities;
 use crate::search::parting;
-use crate::splits::first_split;
+use crate::splits::count_splits;
 use crate::sums::{district_sums, sum_of};
 use audit_model::fault::PlanFault;
 use audit_model::lists::UnitList;
 use audit_model::memory::Memory;
+use audit_model::origin::Origin;
 use audit_model::outcome::Counts;
 use audit_model::rules::Rules;
 use audit_model::setting::{Ask, Score, Setting};
@@ -25,7 +28,8 @@ use dual_graph::parsed::Parsed;
 use std::alloc::Global;
 use std::marker::Model;
 
-/// A graph with its counts, a plan to start from that need not be legal, a setting and the rules for plans.
+/// A graph with its counts, a plan to start from that need not be legal, a setting and the rules for plans,
+/// and where it comes from, where that is told.
 #[derive(Drop)]
 pub struct Input {
     graph: Graph,
@@ -34,6 +38,7 @@ pub struct Input {
     districts: u32,
     setting: Setting,
     rules: Rules,
+    origin: Option<Origin>,
     population: u64,
     votes: u64,
 }
@@ -45,10 +50,10 @@ impl Model for Input {
 
     ghost use Rattle.plan_core.specs.Input.{IsInput};
 
-    ghost view = { λ i. record { graph = i.graph; counts = i.counts; start = i.start; districts = i.districts; setting = i.setting; regions = i.rules.regions } };
+    ghost view = { λ i. record { graph = i.graph; counts = i.counts; start = i.start; districts = i.districts; setting = i.setting; regions = i.rules.regions; group = i.rules.group; origin = i.origin } };
 
     ghost invariant = { λ i. IsInput
-        (record { graph = i.graph; counts = i.counts; start = i.start; districts = i.districts; setting = i.setting; regions = i.rules.regions })
+        (record { graph = i.graph; counts = i.counts; start = i.start; districts = i.districts; setting = i.setting; regions = i.rules.regions; group = i.rules.group; origin = i.origin })
         i.rules i.population i.votes };
 }
 
@@ -70,9 +75,9 @@ fn asks_gap(asks: &[Ask]) -> bool
 }
 
 impl Input {
-    ghost use Rattle.plan_core.specs.Input.{GivesDistricts, with_start, shape_fault};
+    ghost use Rattle.plan_core.specs.Input.{GivesDistricts, with_start, many_splits, many_regions, regions_fault, shape_fault};
 
-    /// What was read of a graph, with a setting and the regions of the units.
+    /// What was read of a graph, with a setting and the regions of the units. Where it comes from is not told.
     pub fn new(parsed: Parsed, setting: Setting, regions: UnitList) -> Input
         requires { IsWithinLimits (job_from (parsed_of parsed) setting regions) }
         ensures { result ≡ job_from (parsed_of parsed) setting regions }
@@ -81,6 +86,10 @@ impl Input {
             max_cut: setting.max_cut,
             regions,
             max_split: setting.max_split,
+            max_splits: setting.max_splits,
+            max_split_regions: setting.max_split_regions,
+            group: parsed.group,
+            group_districts: setting.group_districts,
         };
         let population = sum_of(parsed.counts.population.as_slice());
         let votes = sum_of(parsed.counts.first.as_slice())
@@ -92,6 +101,7 @@ impl Input {
             districts: parsed.labels.len() as u32,
             setting,
             rules,
+            origin: None,
             population,
             votes,
         }
@@ -110,14 +120,28 @@ impl Input {
             start,
             districts,
             setting: self.setting.copy()?,
-            rules: Rules {
-                max_cut: self.rules.max_cut,
-                regions: self.rules.regions.copy()?,
-                max_split: self.rules.max_split,
-            },
+            rules: self.rules.copy()?,
+            origin: self.origin,
             population: self.population,
             votes: self.votes,
         })
+    }
+
+    /// The same from another origin.
+    pub fn with_origin(self, origin: Option<Origin>) -> Input
+        ensures { result ≡ record self { origin = origin } }
+    {
+        Input {
+            graph: self.graph,
+            counts: self.counts,
+            start: self.start,
+            districts: self.districts,
+            setting: self.setting,
+            rules: self.rules,
+            origin,
+            population: self.population,
+            votes: self.votes,
+        }
     }
 
     /// The graph.
@@ -160,6 +184,13 @@ impl Input {
         ensures { result.now ≡ rules self.now }
     {
         &self.rules
+    }
+
+    /// Where it comes from, where that is told.
+    pub fn origin(&self) -> Option<Origin>
+        ensures { result ≡ self.now.origin }
+    {
+        self.origin
     }
 
     /// The population of all units.
@@ -234,12 +265,67 @@ impl Input {
         None
     }
 
-    /// The refusal of a plan that splits a region among too many districts.
-    fn split_fault(&self, plan: &[u32]) -> Option<PlanFault>
-        requires { GivesDistricts self.now.graph.units self.now.districts plan.now }
-        ensures { result ≡ split_fault (with_start self.now plan.now) }
+    /// The refusal of a plan that splits regions too often in all.
+    fn splits_fault(&self, splits: u32) -> Option<PlanFault>
+        ensures { result ≡ many_splits self.now.setting.max_splits splits }
     {
-        first_split(self.rules.regions.as_slice(), plan, self.rules.max_split)
+        if self.rules.max_splits < splits {
+            return Some(PlanFault::TooManySplits {
+                splits,
+                most: self.rules.max_splits,
+            });
+        }
+        None
+    }
+
+    /// The refusal of a plan that splits too many regions.
+    fn split_regions_fault(&self, regions: u32) -> Option<PlanFault>
+        ensures { result ≡ many_regions self.now.setting.max_split_regions regions }
+    {
+        if self.rules.max_split_regions < regions {
+            return Some(PlanFault::TooManySplitRegions {
+                regions,
+                most: self.rules.max_split_regions,
+            });
+        }
+        None
+    }
+
+    /// The first refusal of a plan for how it splits regions.
+    fn regions_fault(&self, plan: &[u32]) -> Option<PlanFault>
+        requires { GivesDistricts self.now.graph.units self.now.districts plan.now }
+        ensures { result ≡ regions_fault (with_start self.now plan.now) }
+    {
+        match count_splits(self.rules.regions.as_slice(), plan, self.rules.max_split) {
+            Err(fault) => Some(fault),
+            Ok(counted) => match self.splits_fault(counted.splits) {
+                Some(fault) => Some(fault),
+                None => self.split_regions_fault(counted.regions),
+            },
+        }
+    }
+
+    /// In how many districts of a plan the group has a majority.
+    pub fn majorities(&self, plan: &[u32]) -> u32
+        requires { GivesDistricts self.now.graph.units self.now.districts plan.now }
+        ensures { result ≡ majorities self.now.group plan.now }
+    {
+        count_majorities(&self.rules.group, plan)
+    }
+
+    /// The refusal of a plan in which the group has a majority in too few districts.
+    fn group_fault(&self, plan: &[u32]) -> Option<PlanFault>
+        requires { GivesDistricts self.now.graph.units self.now.districts plan.now }
+        ensures { result ≡ group_fault (with_start self.now plan.now) }
+    {
+        let districts = self.majorities(plan);
+        if districts < self.rules.group_districts {
+            return Some(PlanFault::TooFewMajorities {
+                districts,
+                least: self.rules.group_districts,
+            });
+        }
+        None
     }
 
     /// The first refusal of a plan but for votes and populations.
@@ -255,7 +341,10 @@ impl Input {
         if let Some(fault) = self.cut_fault(plan) {
             return Some(fault);
         }
-        self.split_fault(plan)
+        if let Some(fault) = self.regions_fault(plan) {
+            return Some(fault);
+        }
+        self.group_fault(plan)
     }
 
     /// The first reason to refuse the plan to start from.

@@ -6,6 +6,7 @@ ghost use Rattle.audit_model.specs.declared.fault.PlanFault.TheVariants as plan;
 ghost use Rattle.audit_model.specs.Job.{total_population, total_votes, rules};
 ghost use Rattle.audit_model.specs.JobOf.{IsJob, job_from, job_of, job_with, plan_fault};
 ghost use Rattle.audit_model.specs.Limits.{IsWithinLimits, most_districts};
+ghost use Rattle.audit_model.specs.Meets.{majorities};
 ghost use Rattle.audit_model.specs.Plan.{IsLegal, is_legal, least_population, greatest_population};
 ghost use Rattle.audit_model.specs.Trajectory.{plan_value};
 ghost use Rattle.dual_graph.specs.Read.{parsed_of};
@@ -15,6 +16,7 @@ use crate::input::Input;
 use crate::values::start_values;
 use audit_model::fault::PlanFault;
 use audit_model::lists::{LabelList, UnitList};
+use audit_model::origin::Origin;
 use audit_model::outcome::Counts;
 use audit_model::rules::Rules;
 use audit_model::setting::Setting;
@@ -63,7 +65,7 @@ fn values_of(alloc: Global, input: &Input) -> Result<[i64; 4], PlanFault>
 }
 
 impl Job {
-    /// The job of what was read of a graph and a setting. It has no regions.
+    /// The job of what was read of a graph and a setting. It has no regions, and its origin is not told.
     ///
     /// # Errors
     ///
@@ -72,6 +74,8 @@ impl Job {
     /// - `Disconnected`: the least district that is not connected, with its least unit and the least one
     ///   to which no path within the district leads from there.
     /// - `TooManyCut`: how many edges the plan cuts, which are more than the setting allows.
+    /// - `TooFewMajorities`: in how many districts the group has a majority, which are fewer than the setting
+    ///   asks for.
     /// - `Memory`: there was no memory for the search, or for the sums of the plan.
     pub fn new(alloc: Global, parsed: Parsed, setting: Setting) -> Result<Job, PlanFault>
         requires within { IsWithinLimits (job_from (parsed_of parsed) setting []) }
@@ -90,6 +94,9 @@ impl Job {
     ///
     /// - `TooManySplit`: the least region that lies in more districts of the plan than the setting allows,
     ///   and in how many it lies.
+    /// - `TooManySplits`: how often the plan splits regions in all, which is more often than the setting allows.
+    /// - `TooManySplitRegions`: how many regions lie in more than one district, which are more than the setting
+    ///   allows.
     pub fn with_regions(
         alloc: Global,
         parsed: Parsed,
@@ -104,8 +111,8 @@ impl Job {
         Job::of_input(alloc, Input::new(parsed, setting, regions))
     }
 
-    /// The job of the same graph, counts, setting and regions with another plan to start from, in which each
-    /// unit has the place of its label among these.
+    /// The job of the same graph, counts, setting, regions, group and origin with another plan to start from,
+    /// in which each unit has the place of its label among these.
     ///
     /// # Errors
     ///
@@ -127,6 +134,18 @@ impl Job {
         match self.input.restarted(start, labels.len() as u32) {
             Ok(input) => Job::of_input(alloc, input),
             Err(_) => Err(PlanFault::Memory),
+        }
+    }
+
+    /// The same job from another origin.
+    pub fn with_origin(self, origin: Option<Origin>) -> Job
+        ensures job { result ≡ record self { origin = origin } }
+        ensures sound { IsJob result }
+    {
+        let values = self.values;
+        Job {
+            input: self.input.with_origin(origin),
+            values,
         }
     }
 
@@ -206,6 +225,20 @@ impl Job {
         ensures { result.now ≡ rules self.now }
     {
         self.input.rules()
+    }
+
+    /// Where the job comes from, where that is told.
+    pub fn origin(&self) -> Option<Origin>
+        ensures { result ≡ self.now.origin }
+    {
+        self.input.origin()
+    }
+
+    /// In how many districts of the start plan the group has a majority.
+    pub fn majorities(&self) -> u32
+        ensures { result ≡ majorities self.now.group self.now.start }
+    {
+        self.input.majorities(self.input.start().as_slice())
     }
 
     /// How many units there are.

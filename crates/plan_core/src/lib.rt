@@ -2,6 +2,7 @@
 #![tactic(auto)]
 
 mod bounds;
+mod group;
 mod input;
 pub mod job;
 mod search;

@@ -1,7 +1,7 @@
 //! Two units that show that a district is not connected.
 
 ghost use Rattle.std.specs.Prelude.{◌≡◌, length};
-ghost use Rattle.audit_model.specs.Plan.{in_district};
+ghost use Rattle.audit_model.specs.District.{in_district};
 ghost use Rattle.dual_graph.specs.Parting.{parting_of};
 
 use dual_graph::graph::Graph;
@@ -17,7 +17,7 @@ struct District<'a> {
 
 impl Inside for District<'_> {
     ghost use Rattle.std.specs.Prelude.{length};
-    ghost use Rattle.audit_model.specs.Plan.{in_district};
+    ghost use Rattle.audit_model.specs.District.{in_district};
 
     ghost units = { λ d. length d.plan.now };
 

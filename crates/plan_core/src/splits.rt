@@ -1,13 +1,20 @@
 //! Among how many districts a plan splits the regions.
 
-ghost use Rattle.std.specs.Prelude.{◌≡◌, ◌<◌, ◌≤◌, ℕ, false, length, slice_index, All};
+ghost use Rattle.std.specs.Prelude.{◌≡◌, ◌<◌, ◌≤◌, ℕ, None, Some, false, length, slice_index, All, MatchResult};
 ghost use Rattle.std.specs.List.{slice_index_or};
 ghost use Rattle.audit_model.specs.Below.{above_all, count_below};
-ghost use Rattle.audit_model.specs.Meets.{split_of};
+ghost use Rattle.audit_model.specs.Meets.{split_of, split_regions, splits_in_all};
 ghost use Rattle.plan_core.specs.Splits.{first_split};
 ghost use Rattle.audit_model.specs.Limits.{most_regions, most_districts};
 
 use audit_model::fault::PlanFault;
+
+/// How often a plan splits regions in all, and how many it splits.
+#[derive(Clone, Copy, Drop)]
+pub struct Splits {
+    pub splits: u32,
+    pub regions: u32,
+}
 
 /// One more than the greatest number, and 0 where there is none.
 fn above_all(numbers: &[u32]) -> u32
@@ -40,7 +47,8 @@ fn count_marked(seen: &[bool; 200]) -> u32
 fn split_of(regions: &[u32], plan: &[u32], region: u32) -> u32
     requires lengths { length regions.now ≤ length plan.now }
     requires districts { (u : ℕ) → u < length plan.now → slice_index plan.now u < most_districts }
-    ensures { result ≡ split_of regions.now plan.now region }
+    ensures split { result ≡ split_of regions.now plan.now region }
+    ensures few { result ≤ most_districts }
 {
     let mut seen = [false; 200];
     for unit in 0..regions.len() {
@@ -50,22 +58,33 @@ fn split_of(regions: &[u32], plan: &[u32], region: u32) -> u32
     count_marked(&seen)
 }
 
-/// The refusal of the least region that is split among too many districts.
-pub fn first_split(regions: &[u32], plan: &[u32], most: u32) -> Option<PlanFault>
+/// How often a plan splits regions, or the refusal of the least region that is split among too many districts.
+pub fn count_splits(regions: &[u32], plan: &[u32], most: u32) -> Result<Splits, PlanFault>
     requires lengths { length regions.now ≤ length plan.now }
     requires few { All (λ r. r < most_regions) regions.now }
     requires districts { (u : ℕ) → u < length plan.now → slice_index plan.now u < most_districts }
-    ensures { result ≡ first_split regions.now plan.now most }
+    ensures { MatchResult result (λ counted. (first_split regions.now plan.now most ≡ None)
+        × (counted.splits ≡ splits_in_all regions.now plan.now) × (counted.regions ≡ split_regions regions.now plan.now))
+        (λ fault. first_split regions.now plan.now most ≡ Some fault) }
 {
+    let mut splits = 0;
+    let mut split = 0;
     for region in 0..above_all(regions) {
         let districts = split_of(regions, plan, region);
         if most < districts {
-            return Some(PlanFault::TooManySplit {
+            return Err(PlanFault::TooManySplit {
                 region,
                 districts,
                 most,
             });
         }
+        if 1 < districts {
+            splits += districts - 1;
+            split += 1;
+        }
     }
-    None
+    Ok(Splits {
+        splits,
+        regions: split,
+    })
 }

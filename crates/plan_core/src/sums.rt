@@ -1,7 +1,7 @@
 //! Sums of a column.
 
-ghost use Rattle.std.specs.Prelude.{◌≡◌, ◌^◌, ◌<◌, ◌≤◌, ℕ, length, slice_index, All, sum};
-ghost use Rattle.audit_model.specs.Plan.{district_sum};
+ghost use Rattle.std.specs.Prelude.{◌≡◌, ◌^◌, ◌*◌, ◌<◌, ◌≤◌, ℕ, length, slice_index, All, sum};
+ghost use Rattle.audit_model.specs.District.{district_sum};
 ghost use Rattle.audit_model.specs.Limits.{IsColumn, most_units, most_people, most_districts};
 
 /// The sum of a column over all units.
@@ -22,7 +22,8 @@ pub fn district_sums(column: &[u64], plan: &[u32]) -> [u64; 200]
     requires column { IsColumn (length plan.now) column.now }
     requires few { length plan.now ≤ most_units }
     requires districts { (u : ℕ) → u < length plan.now → slice_index plan.now u < most_districts }
-    ensures { (d : ℕ) → d < most_districts → slice_index result d ≡ district_sum column.now plan.now d }
+    ensures sums { (d : ℕ) → d < most_districts → slice_index result d ≡ district_sum column.now plan.now d }
+    ensures small { (d : ℕ) → d < most_districts → slice_index result d ≤ most_people * most_units }
 {
     let mut sums = [0; 200];
     for unit in 0..plan.len() {

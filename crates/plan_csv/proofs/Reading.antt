@@ -10,6 +10,7 @@ use Rattle.audit_model.specs.declared.fault.RegionFault.{RegionFault}
 use Rattle.audit_model.specs.declared.fault.RegionFault.TheVariants as region
 use Rattle.audit_model.specs.declared.fault.TableFault.{TableFault}
 use Rattle.audit_model.specs.declared.fault.TableFault.TheVariants as table
+use Rattle.audit_model.specs.declared.origin.Origin.{Origin}
 use Rattle.audit_model.specs.declared.plans.Assigned.{Assigned}
 use Rattle.audit_model.specs.declared.setting.Label.{Label}
 use Rattle.audit_model.specs.declared.setting.Setting.{Setting}
@@ -17,6 +18,7 @@ use Rattle.audit_model.specs.Job.{Job}
 use Rattle.audit_model.specs.JobOf.{IsJob, job_from, job_of, job_or, plan_fault}
 use Rattle.audit_model.specs.Parsed.{Parsed}
 use Rattle.audit_model.specs.Several.{named_jobs}
+use Rattle.audit_model.proofs.Jobs.{setting_of_job}
 use Rattle.audit_statement.specs.Reading.{reading}
 use Rattle.audit_statement.specs.Regions.{id_reading}
 use Rattle.audit_statement.specs.Table.{graph_part, table_part, table_reading}
@@ -26,31 +28,32 @@ use Rattle.plan_csv.specs.Refusals.{graph_end, region_end, table_end, plan_end}
 use Rattle.plan_csv.specs.Named.{IsOneOf}
 use Rattle.plan_csv.specs.Shared.{AreShared}
 use Rattle.audit_statement.specs.Jobs.{Jobs, from_graph, from_others, from_own, jobs_over_regions, from_table, jobs_reading}
+use Rattle.audit_statement.specs.Origin.{origin_of, with_origin}
 use Rattle.plan_csv.specs.declared.named.Named.{Named}
 use Rattle.plan_csv.specs.JobStages.{IsNamedFault, IsOwn, IsOwnFault}
 
 -- ---- each refusal
 
 -- a refusal of the graph is the first of all
-pub graph_refused : (setting : Setting) (g t : List ℕ) (r : Result Parsed GraphFault) (f : GraphFault) → (f ≡ graph.Memory) ⊎ (r ≡ Err f)
-    → (graph_end f ≡ fault.Memory) ⊎ (from_graph setting g t r ≡ Err (graph_end f))
-graph_refused setting g t r graph.Memory e = inl refl
-graph_refused setting g t r f (inl e) = cc e
-graph_refused setting g t r f (inr e) = inr (ap (from_graph setting g t) e)
+pub graph_refused : (setting : Setting) (origin : Option Origin) (g t : List ℕ) (r : Result Parsed GraphFault) (f : GraphFault) → (f ≡ graph.Memory) ⊎ (r ≡ Err f)
+    → (graph_end f ≡ fault.Memory) ⊎ (from_graph setting origin g t r ≡ Err (graph_end f))
+graph_refused setting origin g t r graph.Memory e = inl refl
+graph_refused setting origin g t r f (inl e) = cc e
+graph_refused setting origin g t r f (inr e) = inr (ap (from_graph setting origin g t) e)
 
 -- a refusal of the regions is the first where the graph is read
-pub regions_refused : (setting : Setting) (g t : List ℕ) (p : Parsed) (r : Result (List ℕ) RegionFault) (f : RegionFault) → (f ≡ region.Memory) ⊎ (r ≡ Err f)
-    → (region_end f ≡ fault.Memory) ⊎ (jobs_over_regions setting g t p r ≡ Err (region_end f))
-regions_refused setting g t p r region.Memory e = inl refl
-regions_refused setting g t p r f (inl e) = cc e
-regions_refused setting g t p r f (inr e) = inr (ap (jobs_over_regions setting g t p) e)
+pub regions_refused : (setting : Setting) (origin : Option Origin) (g t : List ℕ) (p : Parsed) (r : Result (List ℕ) RegionFault) (f : RegionFault)
+    → (f ≡ region.Memory) ⊎ (r ≡ Err f) → (region_end f ≡ fault.Memory) ⊎ (jobs_over_regions setting origin g t p r ≡ Err (region_end f))
+regions_refused setting origin g t p r region.Memory e = inl refl
+regions_refused setting origin g t p r f (inl e) = cc e
+regions_refused setting origin g t p r f (inr e) = inr (ap (jobs_over_regions setting origin g t p) e)
 
 -- a refusal of the table is the first where the graph and its regions are read
-pub table_refused : (setting : Setting) (p : Parsed) (regions : List ℕ) (r : Result (List Assigned) TableFault) (f : TableFault) → (f ≡ table.Memory) ⊎ (r ≡ Err f)
-    → (table_end f ≡ fault.Memory) ⊎ (from_table setting p regions r ≡ Err (table_end f))
-table_refused setting p regions r table.Memory e = inl refl
-table_refused setting p regions r f (inl e) = cc e
-table_refused setting p regions r f (inr e) = inr (ap (from_table setting p regions) e)
+pub table_refused : (setting : Setting) (origin : Option Origin) (p : Parsed) (regions : List ℕ) (r : Result (List Assigned) TableFault) (f : TableFault)
+    → (f ≡ table.Memory) ⊎ (r ≡ Err f) → (table_end f ≡ fault.Memory) ⊎ (from_table setting origin p regions r ≡ Err (table_end f))
+table_refused setting origin p regions r table.Memory e = inl refl
+table_refused setting origin p regions r f (inl e) = cc e
+table_refused setting origin p regions r f (inr e) = inr (ap (from_table setting origin p regions) e)
 
 -- a refusal of the graph's own plan is one of the plan
 pub own_refused : (r : Result Job PlanFault) (f : PlanFault) → (f ≡ plan.Memory) ⊎ (r ≡ Err f) → (plan_end f ≡ fault.Memory) ⊎ IsOwnFault r (plan_end f)
@@ -73,46 +76,53 @@ module _ (p : Parsed) (setting : Setting) (regions : List ℕ) (job : Job) where
       by None h = cc h
       by (Some f) h = cc h
 
--- the job of a graph has the units of the graph
-pub own_units : (p : Parsed) (setting : Setting) (regions : List ℕ) (job : Job) → job_of p setting regions ≡ Ok job → job.graph.units ≡ p.graph.units
-own_units p setting regions job e = ap (λ (j : Job). j.graph.units) (sym (own_keeps p setting regions job e))
+-- the job of a graph with an origin has the units of the graph, and its setting
+module _ (p : Parsed) (setting : Setting) (origin : Option Origin) (regions : List ℕ) (n : Named) (is : IsOwn setting origin p regions n) where
+  pub own_units : n.job.graph.units ≡ p.graph.units
+  own_units = ap (λ (j : Job). j.graph.units) (is.told ∙ sym (ap (with_origin origin) (own_keeps p setting regions is.job is.made)))
+
+  pub own_setting : n.job.setting ≡ setting
+  own_setting = ap (λ (j : Job). j.setting) is.told ∙ setting_of_job p setting regions is.job is.made
 
 -- ---- after the table
 
-module _ (p : Parsed) (setting : Setting) (regions t g : List ℕ) (ids : List Label) (plans : List Assigned) (are : ids ≡ id_reading g) (read : table_reading t ids ≡ Ok plans) where
-  tables : from_table setting p regions (table_reading t (id_reading g)) ≡ from_own setting.columns.district plans (job_of p setting regions)
-  tables = sym (ap (λ (is : List Label). from_table setting p regions (table_reading t is)) are) ∙ ap (from_table setting p regions) read
+module _ (p : Parsed) (setting : Setting) (origin : Option Origin) (regions t g : List ℕ) (ids : List Label) (plans : List Assigned) (are : ids ≡ id_reading g) (read : table_reading t ids ≡ Ok plans) where
+  tables : from_table setting origin p regions (table_reading t (id_reading g)) ≡ from_own setting.columns.district origin plans (job_of p setting regions)
+  tables = sym (ap (λ (is : List Label). from_table setting origin p regions (table_reading t is)) are) ∙ ap (from_table setting origin p regions) read
 
   pub own_fails : (f : PlansFault) → (f ≡ fault.Memory) ⊎ IsOwnFault (job_of p setting regions) f
-      → (f ≡ fault.Memory) ⊎ (from_table setting p regions (table_reading t (id_reading g)) ≡ Err f)
+      → (f ≡ fault.Memory) ⊎ (from_table setting origin p regions (table_reading t (id_reading g)) ≡ Err f)
   own_fails f (inl e) = inl e
-  own_fails f (inr by) = inr (tables ∙ ap (from_own setting.columns.district plans) by.1 ∙ ap Err (sym by.2))
+  own_fails f (inr by) = inr (tables ∙ ap (from_own setting.columns.district origin plans) by.1 ∙ ap Err (sym by.2))
 
-  pub own_joins : (n : Named) → IsOwn setting p regions n → from_table setting p regions (table_reading t (id_reading g)) ≡ from_others n.name n.job (named_jobs n.job plans)
+  pub own_joins : (n : Named) → IsOwn setting origin p regions n → from_table setting origin p regions (table_reading t (id_reading g)) ≡ from_others n.name n.job (named_jobs n.job plans)
   own_joins n is =
-      tables ∙ ap (from_own setting.columns.district plans) is.made
+      tables ∙ ap (from_own setting.columns.district origin plans) is.made
+      ∙ ap (λ (job : Job). from_others setting.columns.district job (named_jobs job plans)) (sym is.told)
       ∙ ap (λ (name : List ℕ). from_others name n.job (named_jobs n.job plans)) (sym is.named)
 
--- the jobs of the bytes are read of the graph before the line feed and of the table behind it
-pub jobs_are : (setting : Setting) (bytes g t : List ℕ) (r : Result Parsed GraphFault) → g ≡ graph_part bytes → t ≡ table_part bytes → reading g setting.columns ≡ r
-    → jobs_reading setting bytes ≡ from_graph setting g t r
+-- the jobs of the bytes are read of the graph before the line feed and of the table behind it, and come from all of them
+pub jobs_are : (setting : Setting) (bytes : List ℕ) (origin : Option Origin) (g t : List ℕ) (r : Result Parsed GraphFault) → origin ≡ origin_of setting bytes
+    → g ≡ graph_part bytes → t ≡ table_part bytes → reading g setting.columns ≡ r → jobs_reading setting bytes ≡ from_graph setting origin g t r
 unfolding jobs_reading
-jobs_are setting bytes g t r graph_is table_is is =
-    sym (ap (λ (x : List ℕ). from_graph setting x (table_part bytes) (reading x setting.columns)) graph_is)
-    ∙ sym (ap (λ (x : List ℕ). from_graph setting g x (reading g setting.columns)) table_is)
-    ∙ ap (from_graph setting g t) is
+jobs_are setting bytes origin g t r origin_is graph_is table_is is =
+    sym (ap (λ (o : Option Origin). from_graph setting o (graph_part bytes) (table_part bytes) (reading (graph_part bytes) setting.columns)) origin_is)
+    ∙ sym (ap (λ (x : List ℕ). from_graph setting origin x (table_part bytes) (reading x setting.columns)) graph_is)
+    ∙ sym (ap (λ (x : List ℕ). from_graph setting origin g x (reading g setting.columns)) table_is)
+    ∙ ap (from_graph setting origin g t) is
 
 -- what holds of the first and of each further one
 pub all_first : {A : Type 0} (P : A → Type 0) → (x : A) (xs : List A) → P x → All P xs → All P (x ∷ xs)
 all_first P x xs here rest zero d l = here
 all_first P x xs here rest (suc k) d l = rest k d (omega (arith, l))
 
--- jobs that are all of one setting and one list of regions share these
-pub shared_with : (n : Named) (ns : List Named) → IsJob n.job → All (IsOneOf n.job.setting n.job.regions) ns → AreShared n.job.setting (n ∷ ns)
+-- jobs that are all of one setting, one list of regions and one group share these
+pub shared_with : (n : Named) (ns : List Named) → IsJob n.job → All (IsOneOf n.job.setting n.job.regions n.job.group) ns → AreShared n.job.setting (n ∷ ns)
 shared_with n ns sound each = record {
   some = omega arith;
   regions = n.job.regions;
-  each = all_first (IsOneOf n.job.setting n.job.regions) n ns (record { sound = sound; set = refl; regioned = refl }) each;
+  group = n.job.group;
+  each = all_first (IsOneOf n.job.setting n.job.regions n.job.group) n ns (record { sound = sound; set = refl; regioned = refl; grouped = refl }) each;
 }
 
 -- the graph is refused
@@ -120,5 +130,6 @@ module _ (setting : Setting) (bytes g t : List ℕ) (g_is : g ≡ graph_part byt
   pub graph_fails : (f : GraphFault) → (f ≡ graph.Memory) ⊎ (reading g setting.columns ≡ Err f) → (e : PlansFault) → e ≡ graph_end f
       → (e ≡ fault.Memory) ⊎ (jobs_reading setting bytes ≡ Err e)
   graph_fails f fails e is = subst (λ (x : PlansFault). (x ≡ fault.Memory) ⊎ (jobs_reading setting bytes ≡ Err x)) (sym is)
-      (subst (λ (X : Result Jobs PlansFault). (graph_end f ≡ fault.Memory) ⊎ (X ≡ Err (graph_end f))) (sym (jobs_are setting bytes g t (reading g setting.columns) g_is t_is refl))
-      (graph_refused setting g t (reading g setting.columns) f fails))
+      (subst (λ (X : Result Jobs PlansFault). (graph_end f ≡ fault.Memory) ⊎ (X ≡ Err (graph_end f)))
+      (sym (jobs_are setting bytes (origin_of setting bytes) g t (reading g setting.columns) refl g_is t_is refl))
+      (graph_refused setting (origin_of setting bytes) g t (reading g setting.columns) f fails))

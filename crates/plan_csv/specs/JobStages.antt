@@ -1,6 +1,7 @@
 -- The jobs one after another.
-use Rattle.std.specs.Prelude.{◌≡◌, ℕ, List, Result, Ok, Err}
+use Rattle.std.specs.Prelude.{◌≡◌, ℕ, List, Option, Result, Ok, Err}
 use Rattle.audit_model.specs.declared.fault.PlanFault.{PlanFault}
+use Rattle.audit_model.specs.declared.origin.Origin.{Origin}
 use Rattle.audit_model.specs.declared.plans.Assigned.{Assigned}
 use Rattle.audit_model.specs.declared.setting.Setting.{Setting}
 use Rattle.audit_model.specs.Job.{Job}
@@ -10,6 +11,7 @@ use Rattle.audit_model.specs.declared.fault.PlansFault.{PlansFault}
 use Rattle.audit_model.specs.declared.fault.PlansFault.TheVariants as fault
 use Rattle.plan_csv.specs.declared.named.Named.{Named}
 use Rattle.audit_statement.specs.Jobs.{Jobs}
+use Rattle.audit_statement.specs.Origin.{with_origin}
 
 -- the job of the plan, by another job
 pub record IsNamedBy (job : Job) (plan : Assigned) (n : Named) : Type 0 where
@@ -25,10 +27,12 @@ RefusesPlan job plan f = (p : PlanFault) × (job_with job plan.start plan.labels
 abbrev pub IsNamedFault : Result Jobs (List ℕ × PlanFault) → PlansFault → Type 0
 IsNamedFault r f = (name : List ℕ) × (p : PlanFault) × (r ≡ Err (name, p)) × (f ≡ fault.Other name p)
 
--- the job of the graph's own plan
-pub record IsOwn (setting : Setting) (parsed : Parsed) (regions : List ℕ) (n : Named) : Type 0 where
+-- the job of the graph's own plan, with this origin
+pub record IsOwn (setting : Setting) (origin : Option Origin) (parsed : Parsed) (regions : List ℕ) (n : Named) : Type 0 where
   pub named : n.name ≡ setting.columns.district
-  pub made : job_of parsed setting regions ≡ Ok n.job
+  pub job : Job
+  pub made : job_of parsed setting regions ≡ Ok job
+  pub told : n.job ≡ with_origin origin job
   pub sound : IsJob n.job
 
 -- the refusal is that of the graph's own plan

@@ -1,12 +1,14 @@
 -- What the jobs of several plans share.
 use Rattle.std.specs.Prelude.{ℕ, ◌<◌, List, length}
 use Rattle.std.specs.List.{All}
+use Rattle.audit_model.specs.declared.rules.Group.{Group}
 use Rattle.audit_model.specs.declared.setting.Setting.{Setting}
 use Rattle.plan_csv.specs.declared.named.Named.{Named}
 use Rattle.plan_csv.specs.Named.{IsOneOf}
 
--- there is one, and all are jobs with this setting and with the same regions
+-- there is one, and all are jobs with this setting and with the same regions and group
 pub record AreShared (setting : Setting) (named : List Named) : Type 0 where
   pub some : 0 < length named
   pub regions : List ℕ
-  pub each : All (IsOneOf setting regions) named
+  pub group : Group
+  pub each : All (IsOneOf setting regions group) named

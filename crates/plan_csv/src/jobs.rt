@@ -4,7 +4,7 @@ ghost use Rattle.std.specs.Prelude.{◌≡◌, ◌⊎◌, ◌∷◌, [], Ok, Err
 ghost use Rattle.audit_model.specs.declared.fault.RegionFault.TheVariants as region;
 ghost use Rattle.audit_model.specs.declared.setting.Columns.{Columns as ColumnsValue};
 ghost use Rattle.audit_model.specs.JobOf.{IsJob, job_of};
-ghost use Rattle.audit_model.specs.Limits.{AreRegions, AreWithin, IsSetting};
+ghost use Rattle.audit_model.specs.Limits.{AreRegions, AreWithin, IsGroup, IsSetting};
 ghost use Rattle.audit_model.specs.Parsed.{Parsed as ParsedOf};
 ghost use Rattle.dual_graph.specs.Read.{parsed_of};
 ghost use Rattle.dual_json.specs.Numbered.{IsGraphText};
@@ -20,14 +20,16 @@ ghost use Rattle.audit_model.specs.Several.{named_jobs};
 
 use crate::fault::{of_graph, of_own, of_regions, of_table};
 use crate::named::{Named, named_all};
-use crate::parts::parts_of;
+use crate::parts::{Parts, parts_of};
 use crate::read_plans;
 use audit_model::fault::{PlansFault, RegionFault};
 use audit_model::lists::UnitList;
 use audit_model::memory::Memory;
+use audit_model::origin::Origin;
 use audit_model::plans::Assigned;
 use audit_model::setting::Setting;
 use audit_model::text::Text;
+use ckpt_format::origin::origin_of;
 use dual_graph::parsed::Parsed;
 use dual_json::{read_graph, read_ids, read_regions};
 use plan_core::job::Job;
@@ -74,17 +76,19 @@ fn join(alloc: Global, own: Named, plans: &[Assigned]) -> Result<Vec<Named>, Pla
     }
 }
 
-/// The job of the graph's own plan, under the name of its district column.
+/// The job of the graph's own plan, under the name of its district column, with this origin.
 fn own_of(
     alloc: Global,
     setting: &Setting,
+    origin: Option<Origin>,
     parsed: Parsed,
     regions: UnitList,
 ) -> Result<Named, PlansFault>
     requires within { AreWithin parsed.graph parsed.counts parsed.start (length parsed.labels) }
+    requires group { IsGroup parsed.graph.units parsed.group }
     requires setting { IsSetting setting.now }
     requires regions { AreRegions parsed.graph.units regions }
-    ensures { MatchResult result (IsOwn setting.now (parsed_of parsed) regions)
+    ensures { MatchResult result (IsOwn setting.now origin (parsed_of parsed) regions)
         (λ f. (f ≡ fault.Memory) ⊎ IsOwnFault (job_of (parsed_of parsed) setting.now regions) f) }
 {
     let Ok(name) = setting.columns.district.copy() else {
@@ -95,62 +99,67 @@ fn own_of(
     };
     match Job::with_regions(alloc, parsed, setting, regions) {
         Err(fault) => Err(of_own(fault)),
-        Ok(job) => Ok(Named { name, job }),
+        Ok(job) => Ok(Named {
+            name,
+            job: job.with_origin(origin),
+        }),
     }
 }
 
-/// The jobs of a graph that was read, with these regions, and of a table.
+/// The jobs of a graph that was read, with these regions, and of a table, all with this origin.
 fn jobs_from(
     alloc: Global,
     setting: &Setting,
-    graph: &[u8],
-    table: &[u8],
+    parts: &Parts<'_>,
+    origin: Option<Origin>,
     parsed: Parsed,
     regions: UnitList,
 ) -> Result<Vec<Named>, PlansFault>
-    requires read { reading graph.now setting.now.columns ≡ Ok (parsed_of parsed) }
+    requires read { reading parts.now.graph.now setting.now.columns ≡ Ok (parsed_of parsed) }
     requires within { AreWithin parsed.graph parsed.counts parsed.start (length parsed.labels) }
+    requires group { IsGroup parsed.graph.units parsed.group }
     requires setting { IsSetting setting.now }
     requires regions { AreRegions parsed.graph.units regions }
-    ensures read { MatchResult result (λ named. jobs_over_regions setting.now graph.now table.now (parsed_of parsed) (Ok regions) ≡ Ok (jobs_of named.items))
-        (λ f. (f ≡ fault.Memory) ⊎ (jobs_over_regions setting.now graph.now table.now (parsed_of parsed) (Ok regions) ≡ Err f)) }
+    ensures read { MatchResult result (λ named. jobs_over_regions setting.now origin parts.now.graph.now parts.now.table.now (parsed_of parsed) (Ok regions) ≡ Ok (jobs_of named.items))
+        (λ f. (f ≡ fault.Memory) ⊎ (jobs_over_regions setting.now origin parts.now.graph.now parts.now.table.now (parsed_of parsed) (Ok regions) ≡ Err f)) }
     ensures shared { IfOk result (λ named. AreShared setting.now named.items) }
 {
-    let Ok(ids) = read_ids(alloc, graph) else {
+    let Ok(ids) = read_ids(alloc, parts.graph) else {
         return Err(PlansFault::Memory);
     };
-    match read_plans(alloc, table, &ids) {
+    match read_plans(alloc, parts.table, &ids) {
         Err(fault) => Err(of_table(fault)),
-        Ok(plans) => match own_of(alloc, setting, parsed, regions) {
+        Ok(plans) => match own_of(alloc, setting, origin, parsed, regions) {
             Err(fault) => Err(fault),
             Ok(own) => join(alloc, own, plans.as_slice()),
         },
     }
 }
 
-/// The jobs of a graph that was read, and of a table.
+/// The jobs of a graph that was read, and of a table, all with this origin.
 fn jobs_read(
     alloc: Global,
     setting: &Setting,
-    graph: &[u8],
-    table: &[u8],
+    parts: &Parts<'_>,
+    origin: Option<Origin>,
     parsed: Parsed,
 ) -> Result<Vec<Named>, PlansFault>
-    requires read { reading graph.now setting.now.columns ≡ Ok (parsed_of parsed) }
+    requires read { reading parts.now.graph.now setting.now.columns ≡ Ok (parsed_of parsed) }
     requires within { AreWithin parsed.graph parsed.counts parsed.start (length parsed.labels) }
+    requires group { IsGroup parsed.graph.units parsed.group }
     requires setting { IsSetting setting.now }
-    ensures read { MatchResult result (λ named. from_graph setting.now graph.now table.now (Ok (parsed_of parsed)) ≡ Ok (jobs_of named.items))
-        (λ f. (f ≡ fault.Memory) ⊎ (from_graph setting.now graph.now table.now (Ok (parsed_of parsed)) ≡ Err f)) }
+    ensures read { MatchResult result (λ named. from_graph setting.now origin parts.now.graph.now parts.now.table.now (Ok (parsed_of parsed)) ≡ Ok (jobs_of named.items))
+        (λ f. (f ≡ fault.Memory) ⊎ (from_graph setting.now origin parts.now.graph.now parts.now.table.now (Ok (parsed_of parsed)) ≡ Err f)) }
     ensures shared { IfOk result (λ named. AreShared setting.now named.items) }
 {
-    match regions_of(alloc, graph, &setting.region) {
+    match regions_of(alloc, parts.graph, &setting.region) {
         Err(fault) => Err(of_regions(fault)),
-        Ok(regions) => jobs_from(alloc, setting, graph, table, parsed, regions),
+        Ok(regions) => jobs_from(alloc, setting, parts, origin, parsed, regions),
     }
 }
 
 /// The jobs of several plans of one graph: of the graph's own plan under the name of its district column, and then of each plan of the table
-/// that stands behind the first line feed.
+/// that stands behind the first line feed. The origin of each, where the setting asks for it, is that of all bytes.
 ///
 /// # Errors
 ///
@@ -162,9 +171,9 @@ pub fn read_jobs(alloc: Global, setting: &Setting, bytes: &[u8]) -> Result<Vec<N
         (λ f. (f ≡ fault.Memory) ⊎ (jobs_reading setting.now bytes.now ≡ Err f)) }
     ensures shared { IfOk result (λ named. AreShared setting.now named.items) }
 {
-    let (graph, table) = parts_of(bytes);
-    match read_graph(alloc, graph, &setting.columns) {
+    let parts = parts_of(bytes);
+    match read_graph(alloc, parts.graph, &setting.columns) {
         Err(fault) => Err(of_graph(fault)),
-        Ok(parsed) => jobs_read(alloc, setting, graph, table, parsed),
+        Ok(parsed) => jobs_read(alloc, setting, &parts, origin_of(setting, bytes), parsed),
     }
 }

@@ -23,7 +23,7 @@ pub struct Named {
 ghost use Rattle.plan_csv.specs.Named.{jobs_of, IsOneOf};
 ghost use Rattle.plan_csv.specs.JobStages.{IsNamedBy, IsNamedFault, RefusesPlan};
 
-/// The job of a plan of a table, by the graph, the setting and the regions of another job.
+/// The job of a plan of a table, by the graph, the setting, the regions, the group and the origin of another job.
 fn named_of(alloc: Global, job: &Job, plan: &Assigned) -> Result<Named, PlansFault>
     requires fit { IsPlanOf job.now.graph.units plan.now }
     ensures { MatchResult result (IsNamedBy job.now plan.now) (λ f. (f ≡ fault.Memory) ⊎ RefusesPlan job.now plan.now f) }
@@ -54,7 +54,7 @@ fn add_all(
     requires fit { All (IsPlanOf job.now.graph.units) plans.now }
     ensures read { MatchResult result (λ _. named_jobs job.now plans.now ≡ Ok (jobs_of named.new.items))
         (λ f. (f ≡ fault.Memory) ⊎ IsNamedFault (named_jobs job.now plans.now) f) }
-    ensures each { IfOk result (λ _. All (IsOneOf job.now.setting job.now.regions) named.new.items) }
+    ensures each { IfOk result (λ _. All (IsOneOf job.now.setting job.now.regions job.now.group) named.new.items) }
 {
     for plan in plans {
         match named_of(alloc, job, plan) {
@@ -69,12 +69,12 @@ fn add_all(
     Ok(())
 }
 
-/// The jobs of the plans of a table, by the graph, the setting and the regions of another job.
+/// The jobs of the plans of a table, by the graph, the setting, the regions, the group and the origin of another job.
 pub fn named_all(alloc: Global, job: &Job, plans: &[Assigned]) -> Result<Vec<Named>, PlansFault>
     requires fit { All (IsPlanOf job.now.graph.units) plans.now }
     ensures read { MatchResult result (λ named. named_jobs job.now plans.now ≡ Ok (jobs_of named.items))
         (λ f. (f ≡ fault.Memory) ⊎ IsNamedFault (named_jobs job.now plans.now) f) }
-    ensures each { IfOk result (λ named. All (IsOneOf job.now.setting job.now.regions) named.items) }
+    ensures each { IfOk result (λ named. All (IsOneOf job.now.setting job.now.regions job.now.group) named.items) }
 {
     let mut named = Vec::new(alloc);
     match add_all(&mut named, alloc, job, plans) {

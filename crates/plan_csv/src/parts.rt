@@ -3,6 +3,13 @@
 ghost use Rattle.std.specs.Prelude.{◌≡◌, ◌==◌, position};
 ghost use Rattle.audit_statement.specs.Table as table;
 
+/// The two parts of the input.
+#[derive(Clone, Copy)]
+pub struct Parts<'b> {
+    pub graph: &'b [u8],
+    pub table: &'b [u8],
+}
+
 /// Where the first line feed is.
 fn line_feed(bytes: &[u8]) -> Option<usize>
     ensures { result ≡ position (λ c. c == 10) bytes.now }
@@ -11,12 +18,18 @@ fn line_feed(bytes: &[u8]) -> Option<usize>
 }
 
 /// The bytes before the first line feed, which are the graph, and those after it, which are the table. Where there is none, all are the graph.
-pub fn parts_of(bytes: &[u8]) -> (&[u8], &[u8])
-    ensures graph { result.0.now ≡ table.graph_part bytes.now }
-    ensures table { result.1.now ≡ table.table_part bytes.now }
+pub fn parts_of(bytes: &[u8]) -> Parts<'_>
+    ensures graph { result.graph.now ≡ table.graph_part bytes.now }
+    ensures table { result.table.now ≡ table.table_part bytes.now }
 {
     match line_feed(bytes) {
-        Some(place) => (&bytes[..place], &bytes[place + 1..]),
-        None => (bytes, &[]),
+        Some(place) => Parts {
+            graph: &bytes[..place],
+            table: &bytes[place + 1..],
+        },
+        None => Parts {
+            graph: bytes,
+            table: &[],
+        },
     }
 }

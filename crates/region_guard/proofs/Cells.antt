@@ -1,9 +1,9 @@
 -- Counts below a bound that differ at one number, and the places of a table.
-use Rattle.std.proofs.Common.{◌≡◌, ℕ, zero, suc, ◌+◌, ◌*◌, ◌<◌, ◌≤◌, Bool, true, false, cond, not, ◌&&◌, ◌||◌, ◌==◌, List, length, get_or, refl, sym, ap, ◌∙◌, inl, inr, arith}
+use Rattle.std.proofs.Common.{◌≡◌, ℕ, zero, suc, ◌+◌, ◌*◌, ◌<◌, ◌≤◌, Bool, true, false, cond, not, ◌&&◌, ◌||◌, ◌==◌, List, length, get_or, refl, sym, ap, ◌∙◌, inl, inr, arith, add-one}
 use Rattle.std.specs.Prelude.{nat_lt}
-use Rattle.std.proofs.Math.Nat.{mul-le-mul_right}
+use Rattle.std.proofs.Math.Nat.{mul-le-mul_right, mul-suc}
 use Rattle.std.proofs.lemmas.Bool.{cases_eq, cases_lt, cases_Bool, cond-true, cond-false, eq-eqb, ne_eqb, lt-ltb, ltb-true, or_right, and_right, not_from_true, not_from_false, false_from_ne_true}
-use Rattle.audit_model.specs.Below.{above_all, all_below, any_below, count_below}
+use Rattle.audit_model.specs.Below.{above_all, all_below, any_below, count_below, sum_below}
 use Rattle.audit_model.specs.Meets.{lies_in, split_of}
 use Rattle.audit_model.proofs.Below.{count_below_same, count_below_without, any_below_none, count_below_zero}
 use Rattle.audit_model.proofs.Meeting.{below_above_all}
@@ -13,6 +13,10 @@ use Rattle.region_guard.specs.Standing.{units_among}
 
 abbrev pub one_if : Bool → ℕ
 one_if b = cond {A = ℕ} b 1 0
+
+pub one_small : (b : Bool) → one_if b ≤ 1
+one_small true = omega arith
+one_small false = omega arith
 
 -- a count over one number more
 pub count_more : (n : ℕ) (f : ℕ → Bool) → count_below (suc n) f ≡ count_below n f + one_if (f n)
@@ -99,6 +103,59 @@ all_is_none (suc n) f = elim (cases_Bool (f n)) [
     and_true : (a b : Bool) → b ≡ true → a ≡ (a && b)
     and_true true b h = sym h
     and_true false b h = refl
+
+-- ---- sums
+
+-- sums of functions that agree below the bound are the same
+pub sum_same : (n : ℕ) (f g : ℕ → ℕ) → ((k : ℕ) → k < n → f k ≡ g k) → sum_below n f ≡ sum_below n g
+sum_same zero f g same = refl
+sum_same (suc n) f g same =
+    let before = sum_same n f g (λ k l. same k (omega (arith, l))) in let last = same n (omega arith) in omega (arith, before, last)
+
+-- sums of functions that differ at one number alone differ by what they give for it
+pub sum_but_one : (n u : ℕ) (f g : ℕ → ℕ) → u < n → ((v : ℕ) → v < n → (v ≡ u → ⊥) → f v ≡ g v)
+    → sum_below n f + g u ≡ sum_below n g + f u
+sum_but_one zero u f g l same = absurd (omega arith)
+sum_but_one (suc n) u f g l same = elim (cases_eq u n) [
+  | inl e ↦
+      let before = sum_same n f g (λ v under. same v (omega (arith, under)) (λ at. omega (arith, at, under, e))) in
+      let of_f = ap f e in
+      let of_g = ap g e in
+      omega (arith, before, of_f, of_g)
+  | inr off ↦
+      let before = sum_but_one n u f g (omega arith) (λ v under. same v (omega (arith, under))) in
+      let last = same n (omega arith) (λ at. off (sym at)) in
+      omega (arith, before, last)
+]
+
+-- a sum of small terms is small
+pub sum_small : (n most : ℕ) (f : ℕ → ℕ) → ((k : ℕ) → k < n → f k ≤ most) → sum_below n f ≤ most * n
+sum_small zero most f small = omega arith
+sum_small (suc n) most f small =
+    let before = sum_small n most f (λ k l. small k (omega (arith, l))) in
+    let last = small n (omega arith) in
+    omega (arith, before, last, mul-suc most n)
+
+-- a sum of zeros
+pub sum_none : (n : ℕ) (f : ℕ → ℕ) → ((k : ℕ) → k < n → f k ≡ 0) → sum_below n f ≡ 0
+sum_none zero f none = refl
+sum_none (suc n) f none =
+    let before = sum_none n f (λ k l. none k (omega (arith, l))) in let last = none n (omega arith) in omega (arith, before, last)
+
+-- numbers past which each term is 0 add nothing
+pub sum_longer : (n m : ℕ) (f : ℕ → ℕ) → m ≤ n → ((k : ℕ) → m ≤ k → f k ≡ 0) → sum_below m f ≡ sum_below n f
+sum_longer zero m f l none = let e : m ≡ zero = omega (arith, l) in ap (λ (k : ℕ). sum_below k f) e
+sum_longer (suc n) m f l none = elim (cases_eq m (suc n)) [
+  | inl e ↦ ap (λ (k : ℕ). sum_below k f) e
+  | inr off ↦
+      let before = sum_longer n m f (omega arith) none in
+      let last = none n (omega arith) in
+      omega (arith, before, last)
+]
+
+-- a sum over one number more
+pub sum_more : (n : ℕ) (f : ℕ → ℕ) → sum_below (n + 1) f ≡ sum_below n f + f n
+sum_more n f = ap (λ (k : ℕ). sum_below k f) (add-one n)
 
 -- ---- places in the table
 

@@ -1,2 +1,4 @@
 pub mod Cells
 pub mod Moves
+pub mod Steps
+pub mod Tallying

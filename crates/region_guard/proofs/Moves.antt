@@ -3,16 +3,25 @@ use Rattle.std.proofs.Common.{◌≡◌, ℕ, zero, suc, ◌+◌, ◌*◌, ◌-�
 use Rattle.std.specs.Prelude.{nat_lt, nat_le}
 use Rattle.std.proofs.Math.Nat.{mul-le-mul_right}
 use Rattle.std.proofs.Math.ListN.{set, length-set}
-use Rattle.std.proofs.lemmas.Bool.{cases_eq, cond-true, cond-false, eq-eqb, ne_eqb, eqb-true, leb-true, lt-ltb, and_from, and_left, and_right, and_parts, not_from_false, false_from_ne_true}
-use Rattle.std.proofs.lemmas.List.{get_or-set_same, get_or-set_other, set-get_or, take-append-le, take_all}
-use Rattle.audit_model.specs.Below.{above_all, count_below}
+use Rattle.std.proofs.lemmas.Bool.{cases_eq, cond-true, cond-false, eq-eqb, ne_eqb, eqb-true, le-leb, lt-ltb, and_from, and_left, and_right, and_parts, not_from_false, false_from_ne_true}
+use Rattle.std.proofs.lemmas.List.{get_or-set_same, get_or-set_other, set-get_or, take-append-le, take_all, nil_from_length}
+use Rattle.audit_model.specs.Below.{above_all, all_below, count_below}
 use Rattle.audit_model.specs.declared.rules.Rules.{Rules}
-use Rattle.audit_model.specs.Meets.{are_whole, meets_rules, split_of}
-use Rattle.audit_model.proofs.Below.{count_below_same, count_below_le}
+use Rattle.audit_model.specs.Meets.{are_whole, split_of, split_regions, splits_in_all}
+use Rattle.audit_model.proofs.Below.{count_below_same, count_below_le, count_below_zero}
 use Rattle.audit_model.proofs.Meeting.{below_above_all}
 use Rattle.audit_model.proofs.Numbers.{place_below}
-use Rattle.region_guard.specs.Standing.{IsStanding, IsStep, IsTable, broken_in, cell, is_fitting, units_among}
-use Rattle.region_guard.proofs.Cells.{one_if, all_is_none, count_more, count_but_one, count_but_two, some_counted, split_is_counted, row_of_cell, place_of_cell}
+use Rattle.region_guard.specs.declared.splits.Splits.{Splits}
+use Rattle.region_guard.specs.declared.splits.Totals.{Totals}
+use Rattle.region_guard.specs.Standing.{AreSplits, IsStep, IsTable, broken_in, cell, permits_splits, totals_from, totals_of, units_among}
+use Rattle.region_guard.proofs.Cells.{sum_but_one, sum_same, sum_small, one_if, all_is_none, count_more, count_but_one, count_but_two, some_counted, split_is_counted, row_of_cell, place_of_cell}
+
+-- totals of the same numbers are the same
+pub totals_same : (t s : Totals) → t.broken ≡ s.broken → t.in_all ≡ s.in_all → t.split ≡ s.split → t ≡ s
+totals_same t s broken in_all split =
+    ap (λ (b : ℕ). (let r : Totals = record { broken = b; in_all = t.in_all; split = t.split } in r)) broken
+    ∙ ap (λ (a : ℕ). (let r : Totals = record { broken = s.broken; in_all = a; split = t.split } in r)) in_all
+    ∙ ap (λ (n : ℕ). (let r : Totals = record { broken = s.broken; in_all = s.in_all; split = n } in r)) split
 
 module _ (regions after : List ℕ) (most districts u from : ℕ) (step : IsStep regions districts after u from) where
   abbrev pub before : List ℕ
@@ -95,6 +104,15 @@ module _ (regions after : List ℕ) (most districts u from : ℕ) (step : IsStep
   broken_moved = count_but_one (above_all regions) region (λ r. not (nat_le (split_of regions after r) most)) (λ r. not (nat_le (split_of regions before r) most))
       region_below (λ r l off. ap (λ x. not (nat_le x most)) (split_other r off))
 
+  in_all_moved : splits_in_all regions after + (split_of regions before region - 1) ≡ splits_in_all regions before + (split_of regions after region - 1)
+  in_all_moved = sum_but_one (above_all regions) region (λ r. split_of regions after r - 1) (λ r. split_of regions before r - 1)
+      region_below (λ r l off. ap (λ (x : ℕ). x - 1) (split_other r off))
+
+  split_moved : split_regions regions after + one_if (nat_lt 1 (split_of regions before region))
+      ≡ split_regions regions before + one_if (nat_lt 1 (split_of regions after region))
+  split_moved = count_but_one (above_all regions) region (λ r. nat_lt 1 (split_of regions after r)) (λ r. nat_lt 1 (split_of regions before r))
+      region_below (λ r l off. ap (nat_lt 1) (split_other r off))
+
   module _ (apart : to ≡ from → ⊥) where
     pub taken : units_before region from ≡ units_after region from + 1
     taken = omega (
@@ -144,8 +162,17 @@ module _ (regions after : List ℕ) (most districts u from : ℕ) (step : IsStep
         let some = some_counted districts from (λ d. nat_lt 0 (units_before region d)) from_below (lt-ltb 0 (units_before region from) (omega (arith, taken))) in
         omega (arith, some, split_before region)
 
-    pub few_split : split_of regions before region ≤ districts
-    few_split = omega (arith, split_before region, count_below_le districts (λ d. nat_lt 0 (units_before region d)))
+    some_split_after : 1 ≤ split_of regions after region
+    some_split_after =
+        let some = some_counted districts to (λ d. nat_lt 0 (units_after region d)) to_below (lt-ltb 0 (units_after region to) (omega (arith, put))) in
+        omega (arith, some, split_after region)
+
+    pub few_split_after : split_of regions after region ≤ districts
+    few_split_after = omega (arith, split_after region, count_below_le districts (λ d. nat_lt 0 (units_after region d)))
+
+    -- the splits in all change as the region's districts do
+    pub in_all_here : splits_in_all regions after + split_of regions before region ≡ splits_in_all regions before + split_of regions after region
+    in_all_here = omega (arith, in_all_moved, some_split, some_split_after)
 
     pub few_put : units_before region to + 1 ≤ length regions
     few_put = omega (arith, put, count_below_le (length regions) (λ v. (get_or regions v 0 == region) && (get_or after v 0 == to)))
@@ -159,6 +186,16 @@ module _ (regions after : List ℕ) (most districts u from : ℕ) (step : IsStep
   pub kept_splits : (r : ℕ) → (r ≡ region → ⊥) → split_of regions after r ≡ split_of regions before r
   kept_splits r off = split_other r off
 
+  few_split : (r : ℕ) → split_of regions before r ≤ districts
+  few_split r = omega (arith, split_before r, count_below_le districts (λ d. nat_lt 0 (units_before r d)))
+
+  in_all_few : districts ≤ 200 → above_all regions ≤ 5000 → splits_in_all regions before ≤ 995000
+  in_all_few few rows =
+      let each = sum_small (above_all regions) 199 (λ r. split_of regions before r - 1) (λ r l. omega (arith, few_split r, few)) in omega (arith, each, rows)
+
+  split_few : split_regions regions before ≤ above_all regions
+  split_few = count_below_le (above_all regions) (λ r. nat_lt 1 (split_of regions before r))
+
   pub broken_few : broken_in regions most before ≤ above_all regions
   broken_few = count_below_le (above_all regions) (λ r. not (nat_le (split_of regions before r) most))
 
@@ -166,8 +203,21 @@ module _ (regions after : List ℕ) (most districts u from : ℕ) (step : IsStep
   broken_some h = some_counted (above_all regions) region (λ r. not (nat_le (split_of regions before r) most)) region_below
       (not_from_false (nat_le (split_of regions before region) most) h)
 
-  module _ (cells widths : List ℕ) (broken r : ℕ) (table : IsTable regions districts cells widths)
-      (stood : IsStanding regions most districts cells widths broken before) (e : r ≡ region) where
+  -- where the unit stays, so do the totals
+  pub stayed : (splits : Splits) → AreSplits regions most districts splits before → to ≡ from → splits.totals ≡ totals_of regions most after
+  stayed splits stood e = stood.totals ∙ ap (totals_of regions most) (same_plan e)
+
+  module _ (splits : Splits) (r : ℕ) (table : IsTable regions districts splits) (stood : AreSplits regions most districts splits before)
+      (e : r ≡ region) where
+    abbrev pub cells : List ℕ
+    cells = splits.cells
+
+    abbrev pub widths : List ℕ
+    widths = splits.widths
+
+    abbrev pub totals : Totals
+    totals = splits.totals
+
     pub row_below : r < length widths
     row_below = omega (arith, e, region_below, table.rows)
 
@@ -181,28 +231,66 @@ module _ (regions after : List ℕ) (most districts u from : ℕ) (step : IsStep
     at_to = stood.units r to inside to_below ∙ ap (λ k. units_before k to) e
 
     width_at : get_or widths r 0 ≡ split_of regions before region
-    width_at = stood.splits r inside ∙ ap (split_of regions before) e
+    width_at = stood.widths r inside ∙ ap (split_of regions before) e
 
     pub some_width : (to ≡ from → ⊥) → 1 ≤ get_or widths r 0
     some_width apart = omega (arith, width_at, some_split apart)
 
     pub few_width : (to ≡ from → ⊥) → get_or widths r 0 ≤ 200
-    few_width apart = omega (arith, width_at, few_split apart, table.few)
+    few_width apart = omega (arith, width_at, few_split region, table.few)
 
     pub split_found : (to ≡ from → ⊥) → (wide : ℕ)
         → wide + one_if (cell districts cells r from == 1) ≡ get_or widths r 0 + one_if (cell districts cells r to == 0)
         → wide ≡ split_of regions after region
     split_found apart wide h = omega (arith, h, split_here apart, width_at, ap (λ x. one_if (x == 1)) at_from, ap (λ x. one_if (x == 0)) at_to)
 
-    pub some_broken : nat_le (get_or widths r 0) most ≡ false → 1 ≤ broken
-    some_broken h = omega (arith, stood.broken_regions, broken_some (ap (λ x. nat_le x most) (sym width_at) ∙ h))
+    broken_is : totals.broken ≡ broken_in regions most before
+    broken_is = ap (λ (t : Totals). t.broken) stood.totals
 
-    pub few_broken : broken ≤ 5000
-    few_broken = omega (arith, stood.broken_regions, broken_few, table.few_rows)
+    in_all_is : totals.in_all ≡ splits_in_all regions before
+    in_all_is = ap (λ (t : Totals). t.in_all) stood.totals
+
+    split_is : totals.split ≡ split_regions regions before
+    split_is = ap (λ (t : Totals). t.split) stood.totals
+
+    pub some_broken : nat_le (get_or widths r 0) most ≡ false → 1 ≤ totals.broken
+    some_broken h = omega (arith, broken_is, broken_some (ap (λ x. nat_le x most) (sym width_at) ∙ h))
+
+    pub few_broken : totals.broken ≤ 5000
+    few_broken = omega (arith, broken_is, broken_few, table.few_rows)
+
+    pub few_in_all : totals.in_all ≤ 995000
+    few_in_all = omega (arith, in_all_is, in_all_few table.few table.few_rows)
+
+    pub few_split_regions : totals.split ≤ 5000
+    few_split_regions = omega (arith, split_is, split_few, table.few_rows)
 
     pub broken_found : (wide b : ℕ) → wide ≡ split_of regions after region
-        → b + one_if (not (nat_le (get_or widths r 0) most)) ≡ broken + one_if (not (nat_le wide most)) → b ≡ broken_in regions most after
-    broken_found wide b is h = omega (arith, h, broken_moved, stood.broken_regions, ap (λ x. one_if (not (nat_le x most))) width_at, ap (λ x. one_if (not (nat_le x most))) is)
+        → b + one_if (not (nat_le (get_or widths r 0) most)) ≡ totals.broken + one_if (not (nat_le wide most)) → b ≡ broken_in regions most after
+    broken_found wide b is h = omega (arith, h, broken_moved, broken_is, ap (λ x. one_if (not (nat_le x most))) width_at, ap (λ x. one_if (not (nat_le x most))) is)
+
+    module _ (apart : to ≡ from → ⊥) (wide : ℕ) (is : wide ≡ split_of regions after region) where
+      pub few_wide : wide ≤ 200
+      few_wide = omega (arith, is, few_split_after apart, table.few)
+
+      pub some_in_all : get_or widths r 0 ≤ totals.in_all + wide
+      some_in_all = omega (arith, in_all_here apart, in_all_is, is, width_at)
+
+      pub some_split_regions : one_if (nat_lt 1 (get_or widths r 0)) ≤ totals.split + one_if (nat_lt 1 wide)
+      some_split_regions = omega (arith, split_moved, split_is, ap (λ x. one_if (nat_lt 1 x)) width_at, ap (λ x. one_if (nat_lt 1 x)) is)
+
+      -- the totals after the move
+      pub totals_found : (b : ℕ) → b ≡ broken_in regions most after → (t : Totals)
+          → t ≡ record {
+            broken = b;
+            in_all = totals.in_all + wide - get_or widths r 0;
+            split = totals.split + one_if (nat_lt 1 wide) - one_if (nat_lt 1 (get_or widths r 0));
+          } → t ≡ totals_of regions most after
+      totals_found b is_broken t h =
+          let in_all : t.in_all ≡ splits_in_all regions after = ap (λ (t : Totals). t.in_all) h ∙ omega (arith, in_all_here apart, in_all_is, is, width_at) in
+          let split : t.split ≡ split_regions regions after = ap (λ (t : Totals). t.split) h
+          ∙ omega (arith, split_moved, split_is, ap (λ x. one_if (nat_lt 1 x)) width_at, ap (λ x. one_if (nat_lt 1 x)) is) in
+          totals_same t (totals_of regions most after) (ap (λ (t : Totals). t.broken) h ∙ is_broken) in_all split
 
     -- ---- the counts after the move
 
@@ -268,17 +356,17 @@ module _ (regions after : List ℕ) (most districts u from : ℕ) (step : IsStep
             | inr other ↦ kept_units apart q d other
           ]
 
-      pub stands_after : (wide b : ℕ) → wide ≡ split_of regions after region → b ≡ broken_in regions most after
-          → IsStanding regions most districts moved (set widths r wide) b after
-      stands_after wide b is_wide is_broken = record {
+      pub stands_after : (wide : ℕ) (t : Totals) → wide ≡ split_of regions after region → t ≡ totals_of regions most after
+          → AreSplits regions most districts (record { cells = moved; widths = set widths r wide; totals = t }) after
+      stands_after wide t is_wide is_totals = record {
         units = units_moved;
-        splits = λ q lq. elim (cases_eq q r) [
+        widths = λ q lq. elim (cases_eq q r) [
           | inl at ↦
               ap (λ k. get_or (set widths r wide) k 0) at ∙ get_or-set_same widths r wide 0 row_below ∙ is_wide ∙ ap (split_of regions after) (sym (at ∙ e))
           | inr off ↦
-              get_or-set_other widths r q wide 0 off ∙ stood.splits q lq ∙ sym (kept_splits q (λ h. off (h ∙ sym e)))
+              get_or-set_other widths r q wide 0 off ∙ stood.widths q lq ∙ sym (kept_splits q (λ h. off (h ∙ sym e)))
         ];
-        broken_regions = is_broken;
+        totals = is_totals;
       }
 
 -- ---- counting from the front
@@ -316,53 +404,43 @@ counted_on regions plan cells districts unit rows places lr lp before q d lq ld 
           omega (arith, next, none, kept, before q d lq ld)
     ]
 
--- a plan that fits has one entry for each unit, all below the number of districts
-pub fitting_parts : (regions : List ℕ) (districts units above : ℕ) → is_fitting regions districts units above ≡ true → (units ≡ length regions) × (above ≤ districts)
-fitting_parts regions districts units above h =
-    let parts = and_parts (units == length regions) (nat_le above districts) h in
-    (eqb-true units (length regions) parts.0, leb-true above districts parts.1)
-
--- plans that fit before and after a move are a step
-pub step_of : (regions : List ℕ) (districts : ℕ) (after : List ℕ) (u from : ℕ) → is_fitting regions districts (length after) (above_all after) ≡ true → u < length after
-    → is_fitting regions districts (length (set after u from)) (above_all (set after u from)) ≡ true → IsStep regions districts after u from
-step_of regions districts after u from taken inside taken_before = record {
-  long = (fitting_parts regions districts (length after) (above_all after) taken).0;
-  unit_below = inside;
-  after_below = (fitting_parts regions districts (length after) (above_all after) taken).1;
-  before_below = (fitting_parts regions districts (length (set after u from)) (above_all (set after u from)) taken_before).1;
-}
-
 -- the place of a region and a district fits the machine
-pub small_place : (regions : List ℕ) (districts : ℕ) (cells widths : List ℕ) (r d : ℕ) → IsTable regions districts cells widths → r < length widths → d < districts
+pub small_place : (regions : List ℕ) (districts : ℕ) (splits : Splits) (r d : ℕ) → IsTable regions districts splits → r < length splits.widths → d < districts
     → r * districts + d < 1000000
-small_place regions districts cells widths r d table lr ld =
-    let inside = place_below r d (length widths) districts lr ld in
-    let few : length widths * districts ≤ 5000 * districts = mul-le-mul_right districts (omega (arith, table.rows, table.few_rows)) in
+small_place regions districts splits r d table lr ld =
+    let inside = place_below r d (length splits.widths) districts lr ld in
+    let few : length splits.widths * districts ≤ 5000 * districts = mul-le-mul_right districts (omega (arith, table.rows, table.few_rows)) in
     omega (arith, inside, few, table.few)
 
--- no region is split too often, where the edges are few enough
-pub permitted : (rules : Rules) (cut b : ℕ) (after : List ℕ) → nat_le cut rules.max_cut ≡ true → b ≡ broken_in rules.regions rules.max_split after
-    → (b == 0) ≡ meets_rules rules cut after
-permitted rules cut b after few h =
-    ap (λ x. x == 0) h ∙ all_is_none (above_all rules.regions) (λ q. nat_le (split_of rules.regions after q) rules.max_split)
-    ∙ sym (ap (λ t. t && are_whole rules.regions rules.max_split after) few)
+-- the totals tell whether regions are split no more than they may be
+pub within : (rules : Rules) (after : List ℕ) (t : Totals) → t ≡ totals_of rules.regions rules.max_split after
+    → ((t.broken == 0) && nat_le t.in_all rules.max_splits && nat_le t.split rules.max_split_regions) ≡ permits_splits rules after
+within rules after t h =
+    ap (λ (t : Totals). (t.broken == 0) && nat_le t.in_all rules.max_splits && nat_le t.split rules.max_split_regions) h
+    ∙ ap (λ b. b && nat_le (splits_in_all rules.regions after) rules.max_splits && nat_le (split_regions rules.regions after) rules.max_split_regions)
+    (all_is_none (above_all rules.regions) (λ q. nat_le (split_of rules.regions after q) rules.max_split))
 
 -- the counts of a plan, made anew
-pub stands_anew : (regions : List ℕ) (most districts : ℕ) (cells widths : List ℕ) (broken : ℕ) (plan : List ℕ)
-    → length plan ≡ length regions → above_all plan ≤ districts → length widths ≡ above_all regions
-    → ((q d : ℕ) → q < length widths → d < districts → cell districts cells q d ≡ units_among (length regions) regions plan q d)
-    → ((q : ℕ) → q < length widths → get_or widths q 0 ≡ count_below districts (λ d. nat_lt 0 (cell districts cells q d)))
-    → broken ≡ count_below (length widths) (λ q. not (nat_le (get_or widths q 0) most))
-    → IsStanding regions most districts cells widths broken plan
-stands_anew regions most districts cells widths broken plan long below rows units splits h =
-    let split : (q : ℕ) → q < length widths → get_or widths q 0 ≡ split_of regions plan q = λ q l.
-    splits q l ∙ count_below_same districts (λ d. nat_lt 0 (cell districts cells q d)) (λ d. nat_lt 0 (units_among (length regions) regions plan q d))
-    (λ d ld. ap (nat_lt 0) (units q d l ld)) ∙ sym (split_is_counted regions plan districts q long below) in
+pub stands_anew : (regions : List ℕ) (most districts : ℕ) (splits : Splits) (plan : List ℕ)
+    → (0 < above_all regions → length plan ≡ length regions) → above_all plan ≤ districts → length splits.widths ≡ above_all regions
+    → ((q d : ℕ) → q < length splits.widths → d < districts → cell districts splits.cells q d ≡ units_among (length regions) regions plan q d)
+    → ((q : ℕ) → q < length splits.widths → get_or splits.widths q 0 ≡ count_below districts (λ d. nat_lt 0 (cell districts splits.cells q d)))
+    → splits.totals ≡ totals_from (length splits.widths) most (λ q. get_or splits.widths q 0)
+    → AreSplits regions most districts splits plan
+stands_anew regions most districts splits plan long below rows units widths h =
+    let split : (q : ℕ) → q < length splits.widths → get_or splits.widths q 0 ≡ split_of regions plan q = λ q l.
+    widths q l ∙ count_below_same districts (λ d. nat_lt 0 (cell districts splits.cells q d)) (λ d. nat_lt 0 (units_among (length regions) regions plan q d))
+    (λ d ld. ap (nat_lt 0) (units q d l ld)) ∙ sym (split_is_counted regions plan districts q (long (omega (arith, l, rows))) below) in
     record {
       units = λ q d lq ld. units q d (omega (arith, lq, rows)) ld;
-      splits = λ q lq. split q (omega (arith, lq, rows));
-      broken_regions = h ∙ count_below_same (length widths) (λ q. not (nat_le (get_or widths q 0) most)) (λ q. not (nat_le (split_of regions plan q) most))
-          (λ q l. ap (λ x. not (nat_le x most)) (split q l)) ∙ ap (λ n. count_below n (λ q. not (nat_le (split_of regions plan q) most))) rows;
+      widths = λ q lq. split q (omega (arith, lq, rows));
+      totals = h ∙ totals_same (totals_from (length splits.widths) most (λ q. get_or splits.widths q 0)) (totals_from (length splits.widths) most (split_of regions plan))
+          (count_below_same (length splits.widths) (λ q. not (nat_le (get_or splits.widths q 0) most)) (λ q. not (nat_le (split_of regions plan q) most))
+          (λ q l. ap (λ x. not (nat_le x most)) (split q l)))
+          (sum_same (length splits.widths) (λ q. get_or splits.widths q 0 - 1) (λ q. split_of regions plan q - 1) (λ q l. ap (λ (x : ℕ). x - 1) (split q l)))
+          (count_below_same (length splits.widths) (λ q. nat_lt 1 (get_or splits.widths q 0)) (λ q. nat_lt 1 (split_of regions plan q))
+          (λ q l. ap (nat_lt 1) (split q l)))
+          ∙ ap (λ (n : ℕ). totals_from n most (split_of regions plan)) rows;
     }
 
 -- a list that was written over whole is what was written
@@ -370,10 +448,48 @@ pub over_is : (old new : List ℕ) → length new ≡ length old → take (lengt
 over_is old new long =
     take-append-le (length old) new (drop (length new) old) (omega (arith, long)) ∙ take_all (length old) new (omega (arith, long))
 
--- counts that were written as those of a plan stand for it
-pub stands_as : (regions : List ℕ) (most districts : ℕ) (cells written widths written_widths : List ℕ) (broken : ℕ) (plan : List ℕ)
-    → written ≡ cells → written_widths ≡ widths → IsStanding regions most districts cells widths broken plan
-    → IsStanding regions most districts written written_widths broken plan
-stands_as regions most districts cells written widths written_widths broken plan e f h =
-    subst (λ xs. IsStanding regions most districts xs written_widths broken plan) (sym e)
-    (subst (λ ys. IsStanding regions most districts cells ys broken plan) (sym f) h)
+-- counts that were written as those of a plan are its counts
+pub stands_as : (regions : List ℕ) (most districts : ℕ) (cells written widths written_widths : List ℕ) (t : Totals) (plan : List ℕ)
+    → written ≡ cells → written_widths ≡ widths → AreSplits regions most districts (record { cells = cells; widths = widths; totals = t }) plan
+    → AreSplits regions most districts (record { cells = written; widths = written_widths; totals = t }) plan
+stands_as regions most districts cells written widths written_widths t plan e f h =
+    subst (λ (xs : List ℕ). AreSplits regions most districts (record { cells = xs; widths = written_widths; totals = t }) plan) (sym e)
+    (subst (λ (ys : List ℕ). AreSplits regions most districts (record { cells = cells; widths = ys; totals = t }) plan) (sym f) h)
+
+-- ---- no regions
+
+-- of no numbers none is above 0
+pub none_above : (xs : List ℕ) → length xs ≡ 0 → above_all xs ≡ 0
+none_above xs none = ap above_all (nil_from_length xs none)
+
+-- the totals of no regions
+no_totals : (regions : List ℕ) (most : ℕ) (plan : List ℕ) → above_all regions ≡ 0 → totals_of regions most plan ≡ record { broken = 0; in_all = 0; split = 0 }
+no_totals regions most plan none =
+    ap (λ (n : ℕ). totals_from n most (split_of regions plan)) none
+    ∙ totals_same (totals_from 0 most (split_of regions plan)) (record { broken = 0; in_all = 0; split = 0 })
+    (count_below_zero (λ q. not (nat_le (split_of regions plan q) most))) refl (count_below_zero (λ q. nat_lt 1 (split_of regions plan q)))
+
+-- no regions are not split
+pub none_permitted : (rules : Rules) (plan : List ℕ) → length rules.regions ≡ 0 → true ≡ permits_splits rules plan
+none_permitted rules plan none =
+    let zero_above = none_above rules.regions none in
+    let totals = no_totals rules.regions rules.max_split plan zero_above in
+    let in_all : splits_in_all rules.regions plan ≡ 0 = ap (λ (t : Totals). t.in_all) totals in
+    let split : split_regions rules.regions plan ≡ 0 = ap (λ (t : Totals). t.split) totals in
+    sym (and_from (are_whole rules.regions rules.max_split plan && nat_le (splits_in_all rules.regions plan) rules.max_splits)
+    (nat_le (split_regions rules.regions plan) rules.max_split_regions)
+    (and_from (are_whole rules.regions rules.max_split plan) (nat_le (splits_in_all rules.regions plan) rules.max_splits)
+    (ap (λ (n : ℕ). all_below n (λ q. nat_le (split_of rules.regions plan q) rules.max_split)) zero_above)
+    (le-leb (splits_in_all rules.regions plan) rules.max_splits (omega (arith, in_all))))
+    (le-leb (split_regions rules.regions plan) rules.max_split_regions (omega (arith, split))))
+
+-- counts of no regions are those of each plan
+pub none_stand : (regions : List ℕ) (most districts : ℕ) (splits : Splits) (plan other : List ℕ) → length regions ≡ 0
+    → AreSplits regions most districts splits plan → AreSplits regions most districts splits other
+none_stand regions most districts splits plan other none stood =
+    let zero_above = none_above regions none in
+    record {
+      units = λ q d lq ld. absurd (omega (arith, lq, zero_above));
+      widths = λ q lq. absurd (omega (arith, lq, zero_above));
+      totals = stood.totals ∙ no_totals regions most plan zero_above ∙ sym (no_totals regions most other zero_above);
+    }

@@ -1,18 +1,19 @@
--- Judges of regions by one test of the cut edges and one of the number of districts of a region.
+-- Judges by one test of the cut edges and one of the number of districts of a region.
 use Rattle.std.specs.Prelude.{◌≡◌, ℕ, List}
 use Rattle.std.specs.List.{All}
 use Rattle.audit_model.specs.declared.rules.Rules.{Rules}
 use Rattle.region_guard.specs.declared.guard.RegionGuard.{RegionGuard}
-use Rattle.region_guard.specs.Standing.{IsTable}
+use Rattle.region_guard.specs.Standing.{IsGroupTable, IsTable}
 
--- it has these tests and these rules, and a table for so many districts
+-- it has these tests and these rules, and tables for so many districts
 pub record IsRegionGuard {F T : Type 0} (cut : F) (test : T) (by : Rules) (districts : ℕ) (g : RegionGuard F T) : Type 0 where
   pub cut_is : g.cut.test ≡ cut
   pub same_cut : g.cut.rules.max_cut ≡ by.max_cut
   pub test_is : g.test ≡ test
   pub rules_are : g.rules ≡ by
   pub districts_are : g.districts ≡ districts
-  pub table : IsTable by.regions districts g.cells g.widths
+  pub table : IsTable by.regions districts g.splits
+  pub group_table : IsGroupTable by.group districts g.tally
 
 abbrev pub AreRegionGuards : {F T : Type 0} → F → T → Rules → ℕ → List (RegionGuard F T) → Type 0
 AreRegionGuards cut test by districts judges = All (IsRegionGuard cut test by districts) judges

@@ -1,8 +1,39 @@
--- The counts by which regions are judged, and when they are a plan's.
-use Rattle.std.specs.Prelude.{◌≡◌, ℕ, ◌+◌, ◌*◌, ◌<◌, ◌≤◌, ◌==◌, ◌&&◌, Bool, not, nat_le, List, length, slice_index, slice_set}
-use Rattle.audit_model.specs.Below.{above_all, count_below}
-use Rattle.audit_model.specs.Meets.{split_of}
-use Rattle.audit_model.specs.Limits.{most_regions, most_districts}
+-- The counts by which plans are judged, and when they are a plan's.
+use Rattle.std.specs.Prelude.{◌≡◌, ℕ, ◌+◌, ◌-◌, ◌*◌, ◌<◌, ◌≤◌, ◌==◌, ◌&&◌, ◌||◌, Bool, true, not, nat_le, nat_lt, List, length, slice_index, slice_set}
+use Rattle.audit_model.specs.declared.rules.Group.{Group}
+use Rattle.audit_model.specs.declared.rules.Rules.{Rules}
+use Rattle.audit_model.specs.Below.{above_all, count_below, sum_below}
+use Rattle.audit_model.specs.District.{district_sum}
+use Rattle.audit_model.specs.Limits.{IsGroup, most_regions, most_districts, most_units}
+use Rattle.audit_model.specs.Meets.{are_whole, majorities, split_of, split_regions, splits_in_all}
+use Rattle.region_guard.specs.declared.majority.GroupTally.{GroupTally}
+use Rattle.region_guard.specs.declared.splits.Splits.{Splits}
+use Rattle.region_guard.specs.declared.splits.Totals.{Totals}
+
+-- a list has an entry for each of so many units, or none
+abbrev pub is_for : ℕ → List ℕ → Bool
+is_for units entries = (length entries == 0) || (length entries == units)
+
+-- whether plans of so many units, with districts below a number, are of so many districts at most, and the regions and the group are for as
+-- many units
+abbrev pub is_fitting : Rules → ℕ → ℕ → ℕ → Bool
+is_fitting rules districts units above = is_for units rules.regions && is_for units rules.group.members && nat_le above districts
+
+-- the plan after a move fits, and so does the plan from which the unit came, where each unit has an entry of the list
+pub record IsStep (entries : List ℕ) (districts : ℕ) (after : List ℕ) (unit from : ℕ) : Type 0 where
+  pub long : length after ≡ length entries
+  pub unit_below : unit < length after
+  pub after_below : above_all after ≤ districts
+  pub before_below : above_all (slice_set after unit from) ≤ districts
+
+-- the same where each unit has an entry, or there are none
+pub record IsFitStep (entries : List ℕ) (districts : ℕ) (after : List ℕ) (unit from : ℕ) : Type 0 where
+  pub long : is_for (length after) entries ≡ true
+  pub unit_below : unit < length after
+  pub after_below : above_all after ≤ districts
+  pub before_below : above_all (slice_set after unit from) ≤ districts
+
+-- ---- regions
 
 -- how many of the first units of the region are in the district
 abbrev pub units_among : ℕ → List ℕ → List ℕ → ℕ → ℕ → ℕ
@@ -12,32 +43,67 @@ units_among n regions plan region district = count_below n (λ u. (slice_index r
 abbrev pub cell : ℕ → List ℕ → ℕ → ℕ → ℕ
 cell districts cells region district = slice_index cells (region * districts + district)
 
--- whether plans of so many units, with districts below a number, have one entry for each unit, all of a district
-abbrev pub is_fitting : List ℕ → ℕ → ℕ → ℕ → Bool
-is_fitting regions districts units above = (units == length regions) && nat_le above districts
-
 -- how many regions are split among more districts than they may
 abbrev pub broken_in : List ℕ → ℕ → List ℕ → ℕ
 broken_in regions most plan = count_below (above_all regions) (λ region. not (nat_le (split_of regions plan region) most))
 
+-- the totals of a plan: the regions split too often, the splits in all, and the regions split
+abbrev pub totals_of : List ℕ → ℕ → List ℕ → Totals
+totals_of regions most plan = record {
+  broken = broken_in regions most plan;
+  in_all = splits_in_all regions plan;
+  split = split_regions regions plan;
+}
+
+-- the same by the number of districts of each region
+abbrev pub totals_from : ℕ → ℕ → (ℕ → ℕ) → Totals
+totals_from rows most width = record {
+  broken = count_below rows (λ region. not (nat_le (width region) most));
+  in_all = sum_below rows (λ region. width region - 1);
+  split = count_below rows (λ region. nat_lt 1 (width region));
+}
+
+-- the rules on regions alone
+abbrev pub permits_splits : Rules → List ℕ → Bool
+permits_splits rules plan =
+    are_whole rules.regions rules.max_split plan
+    && nat_le (splits_in_all rules.regions plan) rules.max_splits
+    && nat_le (split_regions rules.regions plan) rules.max_split_regions
+
 -- a table with a row for each region and a place for each district, at most 5,000 rows of at most 200 places
-pub record IsTable (regions : List ℕ) (districts : ℕ) (cells widths : List ℕ) : Type 0 where
-  pub rows : length widths ≡ above_all regions
-  pub places : length cells ≡ length widths * districts
+pub record IsTable (regions : List ℕ) (districts : ℕ) (splits : Splits) : Type 0 where
+  pub rows : length splits.widths ≡ above_all regions
+  pub places : length splits.cells ≡ length splits.widths * districts
   pub few_rows : above_all regions ≤ most_regions
   pub some : 1 ≤ districts
   pub few : districts ≤ most_districts
 
--- the counts are the plan's: the units of each region in each district, the districts of each region, and the regions split too often
-pub record IsStanding (regions : List ℕ) (most districts : ℕ) (cells widths : List ℕ) (broken : ℕ) (plan : List ℕ) : Type 0 where
+-- the counts are the plan's: the units of each region in each district, the districts of each region, and the totals
+pub record AreSplits (regions : List ℕ) (most districts : ℕ) (splits : Splits) (plan : List ℕ) : Type 0 where
   pub units : (region district : ℕ) → region < above_all regions → district < districts
-      → cell districts cells region district ≡ units_among (length regions) regions plan region district
-  pub splits : (region : ℕ) → region < above_all regions → slice_index widths region ≡ split_of regions plan region
-  pub broken_regions : broken ≡ broken_in regions most plan
+      → cell districts splits.cells region district ≡ units_among (length regions) regions plan region district
+  pub widths : (region : ℕ) → region < above_all regions → slice_index splits.widths region ≡ split_of regions plan region
+  pub totals : splits.totals ≡ totals_of regions most plan
 
--- the plan after a move fits, and so does the plan from which the unit came
-pub record IsStep (regions : List ℕ) (districts : ℕ) (after : List ℕ) (unit from : ℕ) : Type 0 where
-  pub long : length after ≡ length regions
-  pub unit_below : unit < length after
-  pub after_below : above_all after ≤ districts
-  pub before_below : above_all (slice_set after unit from) ≤ districts
+-- ---- the group
+
+-- the numbers of at most 100,000 units, or of none, and a place for the sums of each district
+pub record IsGroupTable (group : Group) (districts : ℕ) (tally : GroupTally) : Type 0 where
+  pub columns : IsGroup (length group.members) group
+  pub few_units : length group.members ≤ most_units
+  pub members : length tally.members ≡ districts
+  pub whole : length tally.whole ≡ districts
+  pub few : districts ≤ most_districts
+
+-- the sums are the plan's, and so is the number of districts in which the group has a majority
+pub record IsTallied (group : Group) (districts : ℕ) (tally : GroupTally) (plan : List ℕ) : Type 0 where
+  pub members : (district : ℕ) → district < districts → slice_index tally.members district ≡ district_sum group.members plan district
+  pub whole : (district : ℕ) → district < districts → slice_index tally.whole district ≡ district_sum group.whole plan district
+  pub majorities : tally.majorities ≡ majorities group plan
+
+-- ---- all rules
+
+-- all counts are the plan's
+pub record IsStanding (rules : Rules) (districts : ℕ) (splits : Splits) (tally : GroupTally) (plan : List ℕ) : Type 0 where
+  pub regions : AreSplits rules.regions rules.max_split districts splits plan
+  pub group : IsTallied rules.group districts tally plan

@@ -1,16 +1,16 @@
 //! Judges for several workers.
 
-ghost use Rattle.std.specs.Prelude.{◌≡◌, ◌<◌, ◌≤◌, ◌^◌, ◌≢◌, ℕ, [], nat_le, All, Bool, IfOk, vec_len};
+ghost use Rattle.std.specs.Prelude.{◌≡◌, ◌<◌, ◌≤◌, ◌^◌, ℕ, [], nat_le, All, Bool, IfOk, length, vec_len};
 ghost use Rattle.std.specs.Fn.{FnReturnsAt};
 ghost use Rattle.audit_model.specs.declared.outcome.SumsView.{SumsView as Sums};
 ghost use Rattle.region_guard.specs.Guards.{AreRegionGuards, IsRegionGuard};
-ghost use Rattle.audit_model.specs.Limits.{most_regions, most_districts};
+ghost use Rattle.audit_model.specs.Limits.{IsGroup, most_regions, most_districts, most_units};
 
 use crate::guard::RegionGuard;
-use audit_model::lists::UnitList;
+use audit_model::lists::{NumList, UnitList};
 use audit_model::memory::Memory;
 use audit_model::outcome::SumsView;
-use audit_model::rules::Rules;
+use audit_model::rules::{Group, Rules};
 use flip_guard::guard::Guard;
 use std::alloc::Global;
 
@@ -28,8 +28,9 @@ pub fn region_guards<F: Fn(&SumsView) -> bool + Copy + Drop, T: Fn(u32) -> bool 
     requires cut_answers { (sums : Sums) (answer : Bool) → sums.cut < 2 ^ 32 → FnReturnsAt F.Fn cut sums answer → answer ≡ nat_le sums.cut rules.now.max_cut }
     requires callable { T.IsAlwaysCallable test }
     requires answers { (width : ℕ) (answer : Bool) → width < 2 ^ 32 → T.post test width answer → answer ≡ nat_le width rules.now.max_split }
-    requires some_regions { rules.now.regions ≢ [] }
     requires few_regions { All (λ r. r < most_regions) rules.now.regions }
+    requires group { IsGroup (length rules.now.group.members) rules.now.group }
+    requires few_units { length rules.now.group.members ≤ most_units }
     requires districts { (1 ≤ districts) × (districts ≤ most_districts) }
     ensures each { IfOk result (λ j. AreRegionGuards cut test rules.now districts j.items) }
     ensures count { IfOk result (λ j. vec_len j ≡ count) }
@@ -39,6 +40,26 @@ pub fn region_guards<F: Fn(&SumsView) -> bool + Copy + Drop, T: Fn(u32) -> bool 
         judges.push(region_guard_of(alloc, cut, test, rules, districts)?)?;
     }
     Ok(judges)
+}
+
+// The rule on cut edges alone.
+fn cut_rules(alloc: Global, rules: &Rules) -> Rules
+    ensures max_cut { result.max_cut ≡ rules.now.max_cut }
+    ensures no_regions { result.regions ≡ [] }
+    ensures no_group { result.group_districts ≡ 0 }
+{
+    Rules {
+        max_cut: rules.max_cut,
+        regions: UnitList::new(alloc),
+        max_split: rules.max_split,
+        max_splits: rules.max_splits,
+        max_split_regions: rules.max_split_regions,
+        group: Group {
+            members: NumList::new(alloc),
+            whole: NumList::new(alloc),
+        },
+        group_districts: 0,
+    }
 }
 
 // One judge, with rules of its own. The only error is want of memory.
@@ -53,20 +74,12 @@ fn region_guard_of<F: Fn(&SumsView) -> bool + Copy + Drop, T: Fn(u32) -> bool + 
     requires cut_answers { (sums : Sums) (answer : Bool) → sums.cut < 2 ^ 32 → FnReturnsAt F.Fn cut sums answer → answer ≡ nat_le sums.cut rules.now.max_cut }
     requires callable { T.IsAlwaysCallable test }
     requires answers { (width : ℕ) (answer : Bool) → width < 2 ^ 32 → T.post test width answer → answer ≡ nat_le width rules.now.max_split }
-    requires some_regions { rules.now.regions ≢ [] }
     requires few_regions { All (λ r. r < most_regions) rules.now.regions }
+    requires group { IsGroup (length rules.now.group.members) rules.now.group }
+    requires few_units { length rules.now.group.members ≤ most_units }
     requires districts { (1 ≤ districts) × (districts ≤ most_districts) }
     ensures { IfOk result (λ g. IsRegionGuard cut test rules.now districts g) }
 {
-    let cuts = Rules {
-        max_cut: rules.max_cut,
-        regions: UnitList::new(alloc),
-        max_split: rules.max_split,
-    };
-    let own = Rules {
-        max_cut: rules.max_cut,
-        regions: rules.regions.copy()?,
-        max_split: rules.max_split,
-    };
-    RegionGuard::new(alloc, Guard::new(cut, cuts), test, own, districts)
+    let cuts = cut_rules(alloc, rules);
+    RegionGuard::new(alloc, Guard::new(cut, cuts), test, rules.copy()?, districts)
 }

@@ -1,5 +1,6 @@
 mod NoteLines
 pub mod Appended
+pub mod Escapes
 pub mod Limits
 pub mod Longest
 pub mod Pieces

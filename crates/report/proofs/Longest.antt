@@ -1,8 +1,9 @@
 -- How many bytes a report has at most.
 use Rattle.std.proofs.Common.{◌≡◌, ℕ, zero, suc, ◌+◌, ◌-◌, ◌*◌, ◌^◌, ◌<◌, ◌≤◌, true, List, [], ◌∷◌, ◌++◌, length, flat_map, filter, refl, ap, sym, ◌∙◌, subst, arith, length-append, codes, decimal, get_or, take, zero-add, ℤ, pos, negsuc, unsigned_abs}
-use Rattle.std.specs.Prelude.{nat_lt, nat_le, slice_index, sum_by, zip, Bool, false, Option, Some, None}
+use Rattle.std.specs.Prelude.{◌||◌, nat_lt, nat_le, slice_index, sum_by, zip, Bool, false, Option, Some, None}
 use Rattle.std.specs.Fmt.{signed_decimal}
 use Rattle.std.specs.List.{All}
+use Rattle.std.specs.Option.{IfSome, SomeIff}
 use Rattle.std.proofs.Math.Facts.{leb_yes}
 use Rattle.std.proofs.Math.Nat.{div-le_self}
 use Rattle.std.proofs.lemmas.Bool.{cond_both, le-leb, lt-ltb}
@@ -14,8 +15,11 @@ use Rattle.std.proofs.lemmas.Nat.{mul-le}
 use Rattle.std.proofs.lemmas.Slice.Zip.{get_or-zip, length-zip}
 use Rattle.hex.specs.Hex.{encode_lower, lower_digits}
 use Rattle.hex.proofs.HexLemmas.{length-encode_with}
+use Rattle.json.specs.Print.{quoted}
+use Rattle.audit_model.specs.declared.origin.Origin.{Origin}
 use Rattle.audit_model.specs.declared.outcome.Outcome.{Outcome}
 use Rattle.audit_model.specs.declared.setting.Ask.{Ask}
+use Rattle.audit_model.specs.declared.setting.Columns.{Columns}
 use Rattle.audit_model.specs.declared.setting.Score.{Score}
 use Rattle.audit_model.specs.declared.setting.Score.TheVariants.{Seats, MeanMedian, Gap, CutEdges}
 use Rattle.audit_model.specs.declared.setting.Tail.{Tail}
@@ -23,7 +27,7 @@ use Rattle.audit_model.specs.declared.setting.Tail.TheVariants.{Low, High}
 use Rattle.audit_model.specs.Graph.{count_edges}
 use Rattle.audit_model.specs.Job.{Job, total_population, total_votes}
 use Rattle.audit_model.specs.JobOf.{IsJob}
-use Rattle.audit_model.specs.Meets.{region_count}
+use Rattle.audit_model.specs.Meets.{majorities, region_count}
 use Rattle.audit_model.specs.Plan.{least_population, greatest_population}
 use Rattle.audit_model.specs.Run.{steps_of}
 use Rattle.audit_model.specs.Score.{denominator}
@@ -32,12 +36,13 @@ use Rattle.audit_model.specs.Trajectory.{in_tail, plan_value, rank, value_at}
 use Rattle.audit_model.proofs.Least.{bound_is_least, quotient_up_is_least}
 use Rattle.audit_statement.specs.Names.{score_name, tail_name}
 use Rattle.audit_model.specs.Stopping.{placed_asks}
-use Rattle.audit_statement.specs.Report.{line, fraction, billionths, graph_line, population_line, cut_line, split_line, rule_lines, setting_line, walk_line, walk_lines, ends_line, ends_lines, stop_line, title_line, shift_line, stopped_line, test_lines, serial_line, serial_lines, report}
+use Rattle.audit_statement.specs.Report.{line, fraction, billionths, graph_line, population_line, columns_line, cut_line, group_line, group_words, origin_lines, region_words, split_line, splits_line, rule_lines, setting_line, walk_line, walk_lines, ends_line, ends_lines, stop_line, title_line, shift_line, stopped_line, test_lines, serial_line, serial_lines, report}
 use Rattle.report.specs.Outcomes.{AreOutcomesOf, AreStops, AreStopsBy, AreStopsOf, HasCounts, IsCount, IsRank, IsSerialBy, IsSerialOf, IsStopOf}
-use Rattle.report.specs.Parts.{head, key_line, lines_of}
+use Rattle.report.specs.Parts.{head, key_line, lines_of, names_length, source_line}
+use Rattle.report.proofs.Escapes.{length-quoted}
 use Rattle.report.proofs.Limits.{small, votes}
 use Rattle.report.proofs.Sorted.{fit_at, id_at, walks_first, walks_within, ends_last, ends_sound}
-use Rattle.report.proofs.Widths.{length-decimal_any, length-fraction, length-billionths, length-line, length-flat_map-le}
+use Rattle.report.proofs.Widths.{length-decimal_any, length-fraction, length-billionths, length-line, length-flat_map-le, width, width-append}
 
 -- ---- the words of an ask
 
@@ -334,11 +339,39 @@ length-split_line most (r ∷ rest) =
     let whole = length-line (codes "max-split") (decimal most ∷ codes "regions" ∷ decimal count ∷ []) in
     omega (arith, whole, length-decimal_any most, length-decimal_any count)
 
--- the lines of the rules are at most 221 bytes long
-length-rule_lines : (job : Job) → length (rule_lines job) ≤ 221
+-- the line of splits in all is at most 159 bytes long
+length-splits_line : (splits most : ℕ) (regions : List ℕ) → length (splits_line splits most regions) ≤ 159
+length-splits_line splits most [] = omega arith
+length-splits_line splits most (r ∷ rest) =
+    let text = line (codes "max-splits" ∷ decimal splits ∷ codes "max-split-regions" ∷ decimal most ∷ []) in
+    let whole = length-line (codes "max-splits") (decimal splits ∷ codes "max-split-regions" ∷ decimal most ∷ []) in
+    cond_both {A = List ℕ} (nat_lt splits 995000 || nat_lt most 5000) text [] (λ t. length t ≤ 159)
+    (λ _. omega (arith, whole, length-decimal_any splits, length-decimal_any most)) (λ _. omega arith)
+
+-- the line of the group is at most 149 bytes long
+length-group_line : (least there : ℕ) (members : List ℕ) → length (group_line least there members) ≤ 149
+length-group_line least there [] = omega arith
+length-group_line least there (n ∷ rest) =
+    let whole = length-line (codes "group-districts") (decimal least ∷ codes "of" ∷ decimal there ∷ []) in
+    omega (arith, whole, length-decimal_any least, length-decimal_any there)
+
+-- the lines of the rules are at most 529 bytes long
+length-rule_lines : (job : Job) → length (rule_lines job) ≤ 529
 length-rule_lines job =
-    let both = length-append (cut_line job) (split_line job.setting.max_split job.regions) in
-    omega (arith, both, length-cut_line job, length-split_line job.setting.max_split job.regions)
+    let there = majorities job.group job.start in
+    let splits = splits_line job.setting.max_splits job.setting.max_split_regions job.regions in
+    let group = group_line job.setting.group_districts there job.group.members in
+    four-le (cut_line job) (split_line job.setting.max_split job.regions) splits group 529
+    (omega (
+      arith,
+      length-cut_line job,
+      length-split_line job.setting.max_split job.regions,
+      length-splits_line job.setting.max_splits job.setting.max_split_regions job.regions,
+      length-group_line job.setting.group_districts there job.group.members,
+    ))
+  where
+    four-le : (a b c d : List ℕ) (n : ℕ) → length a + length b + length c + length d ≤ n → length (a ++ b ++ c ++ d) ≤ n
+    four-le a b c d n h = simp length-append h
 
 -- the line of early stopping is at most 70 bytes long
 length-stop_line : (n : ℕ) → length (stop_line n) ≤ 70
@@ -366,40 +399,92 @@ length-shift_line true os =
       length-decimal_any (bin 8),
     )
 
--- seven texts that are short together are short as one
-joined-le : (a b c d e f g : List ℕ) (n : ℕ) → length a + length b + length c + length d + length e + length f + length g ≤ n → length (a ++ b ++ c ++ d ++ e ++ f ++ g) ≤ n
-joined-le a b c d e f g n h = simp length-append h
+-- ---- the lines of an origin
 
--- the lines before those of the asks are at most 1200 bytes long
-length-head : (job : Job) → IsJob job → length (head job) ≤ 1200
+-- the line of the bytes that were read has at most 86 bytes, and two for each byte of the digest
+pub length-source_line : (origin : Origin) → length (source_line origin) ≤ 86 + 2 * length origin.sha256
+length-source_line origin =
+    let whole = length-line (codes "source") (codes "sha256" ∷ encode_lower origin.sha256 ∷ codes "bytes" ∷ decimal origin.bytes ∷ []) in
+    let digits = length-encode_with lower_digits origin.sha256 in
+    omega (arith, whole, digits, length-decimal_any origin.bytes)
+
+-- the words of the regions' column are at most 10 bytes wide, and 6 for each byte of its name
+region_words-le : (region : List ℕ) → width (region_words region) ≤ 10 + length region * 6
+region_words-le [] = omega arith
+region_words-le (c ∷ column) = let name = length-quoted (c ∷ column) in omega (arith, name)
+
+-- the words of a group's columns are at most 15 bytes wide, and 6 for each byte of their names
+group_words-le : (group whole : List ℕ) → width (group_words group whole) ≤ 15 + (length group + length whole) * 6
+group_words-le [] whole = omega arith
+group_words-le (c ∷ column) whole =
+    let name = length-quoted (c ∷ column) in
+    let other = length-quoted whole in
+    omega (arith, name, other)
+
+-- the line of the columns has at most 45 bytes, and 6 for each byte of their names
+pub length-columns_line : (columns : Columns) (region : List ℕ) → length (columns_line columns region) ≤ 45 + names_length columns region * 6
+length-columns_line columns region =
+    let more = region_words region ++ group_words columns.group columns.whole in
+    let whole = length-line (codes "columns") (quoted columns.population ∷ quoted columns.first ∷ quoted columns.second ∷ quoted columns.district ∷ more) in
+    let rest = width-append (region_words region) (group_words columns.group columns.whole) in
+    omega (
+      arith,
+      whole,
+      rest,
+      region_words-le region,
+      group_words-le columns.group columns.whole,
+      length-quoted columns.population,
+      length-quoted columns.first,
+      length-quoted columns.second,
+      length-quoted columns.district,
+    )
+
+-- eight texts that are short together are short as one
+joined-le : (a b c d e f g h : List ℕ) (n : ℕ) → length a + length b + length c + length d + length e + length f + length g + length h ≤ n → length (a ++ b ++ c ++ d ++ e ++ f ++ g ++ h) ≤ n
+joined-le a b c d e f g h n few = simp length-append few
+
+-- the lines before those of the asks are at most 1508 bytes long, beside those of an origin
+length-head : (job : Job) → IsJob job → length (head job) ≤ 1508 + length (origin_lines job job.origin)
 length-head job h =
-    joined-le (title_line job.setting.shift) (key_line job) (graph_line job) (population_line job) (rule_lines job) (setting_line job) (stop_line job.setting.stop) 1200
+    joined-le (title_line job.setting.shift) (origin_lines job job.origin) (key_line job) (graph_line job) (population_line job) (rule_lines job) (setting_line job) (stop_line job.setting.stop)
+    (1508 + length (origin_lines job job.origin))
     (omega (arith, length-title_line job.setting.shift, length-key_line job h, length-graph_line job, length-population_line job, length-rule_lines job, length-setting_line job, length-stop_line job.setting.stop))
 
 -- ---- all of it
 
--- the six parts of a report that are short are short as one
-parts-le : (a b c d e f : List ℕ) (l m n k : ℕ) → length a ≤ 1200 → length b ≤ l → length c ≤ 591 → length d ≤ m → length e ≤ n → length f ≤ 4 → 1795 + l + m + n ≤ k
-    → length (a ++ b ++ c ++ d ++ e ++ f) ≤ k
-parts-le a b c d e f l m n k la lb lc ld le lf most = simp length-append (omega arith)
+-- a text that is no longer than a sum has room where the sum is told
+pub told : (text : List ℕ) (sum : ℕ) (fits : Type 0) (answer : Option ℕ) → length text ≤ sum → SomeIff answer fits sum → IfSome answer (λ room. length text ≤ room)
+told text sum fits None short is = tt
+told text sum fits (Some room) short is = omega (arith, short, is.1)
 
--- a report is at most 2048 bytes long, and 200 for each ask of each trajectory and of two tests
+-- so it is with two texts, and the sum of what they take
+pub both_told : (first second : List ℕ) (one two : ℕ) (fits : Type 0) (answer : Option ℕ) → length first ≤ one → length second ≤ two → SomeIff answer fits (two + one)
+    → IfSome answer (λ room. length (first ++ second) ≤ room)
+both_told first second one two fits answer short brief is = told (first ++ second) (two + one) fits answer (omega (arith, short, brief, length-append first second)) is
+
+-- the six parts of a report that are short are short as one
+parts-le : (a b c d e f : List ℕ) (h l m n k : ℕ) → length a ≤ 1508 + h → length b ≤ l → length c ≤ 591 → length d ≤ m → length e ≤ n → length f ≤ 4 → 2103 + h + l + m + n ≤ k
+    → length (a ++ b ++ c ++ d ++ e ++ f) ≤ k
+parts-le a b c d e f h l m n k la lb lc ld le lf most = simp length-append (omega arith)
+
+-- a report has at most 2560 bytes, 200 for each ask of each trajectory and of two tests, and the lines of its origin
 pub report-le : (job : Job) (os : List Outcome) (stops : List (List ℕ)) (serial : Option (ℕ × List ℕ)) → IsJob job → AreOutcomesOf job os → AreStopsOf job stops → IsSerialOf job serial
-    → length (report job os stops serial) ≤ 2048 + (job.setting.walks + 2) * length job.setting.asks * 200
+    → length (report job os stops serial) ≤ 2560 + (job.setting.walks + 2) * length job.setting.asks * 200 + length (origin_lines job job.origin)
 unfolding report
 report-le job os stops serial h all_of stopped found =
     let asks = length job.setting.asks in
     let walks = job.setting.walks in
+    let origin = length (origin_lines job job.origin) in
     parts-le (head job) (walk_lines job os) (shift_line job.setting.shift os) (test_lines job.setting.stop job os stops) (serial_lines job serial) (line (codes "end" ∷ []))
-    (walks * (asks * 200)) (asks * 200) (asks * 200) (2048 + (walks + 2) * asks * 200)
+    origin (walks * (asks * 200)) (asks * 200) (asks * 200) (2560 + (walks + 2) * asks * 200 + origin)
     (length-head job h) (walk_lines-le job os h all_of) (length-shift_line job.setting.shift os) (test_lines-le job.setting.stop job os stops h refl all_of stopped)
-    (serial_lines-le job.setting.serial job serial h found) (omega arith) (products walks asks)
+    (serial_lines-le job.setting.serial job serial h found) (omega arith) (products walks asks origin)
   where
-    products : (w a : ℕ) → 1795 + w * (a * 200) + a * 200 + a * 200 ≤ 2048 + (w + 2) * a * 200
-    products w a = grind arith
+    products : (w a h : ℕ) → 2103 + h + w * (a * 200) + a * 200 + a * 200 ≤ 2560 + (w + 2) * a * 200 + h
+    products w a h = grind arith
 
--- what is enough for any report is below 90 million bytes
-pub enough-le : (walks asks : ℕ) → walks ≤ 100000 → asks ≤ 4 → 2048 + (walks + 2) * asks * 200 ≤ 90000000
+-- what is enough for any report beside the lines of its origin is below 90 million bytes
+pub enough-le : (walks asks : ℕ) → walks ≤ 100000 → asks ≤ 4 → 2560 + (walks + 2) * asks * 200 ≤ 90000000
 enough-le walks asks few four =
     let product = mul-le (walks + 2) asks 100002 4 (omega arith) four in
     omega (arith, product)

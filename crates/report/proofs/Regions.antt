@@ -1,13 +1,14 @@
--- How many regions there are, counted by marks.
-use Rattle.std.proofs.Common.{◌≡◌, ℕ, suc, ◌+◌, ◌<◌, ◌≤◌, Bool, true, false, ◌||◌, List, [], ◌∷◌, ◌++◌, length, All, refl, sym, ap, ◌∙◌, subst, inl, inr, arith, set, get_or-set_same, get_or-set_other}
-use Rattle.std.specs.Prelude.{◌==◌}
+-- How many regions there are, counted by marks, and the line of their splits in all.
+use Rattle.std.proofs.Common.{◌≡◌, ℕ, suc, ◌<◌, ◌≤◌, Bool, true, false, ◌||◌, List, [], ◌∷◌, ◌++◌, length, All, refl, sym, ap, ◌∙◌, subst, inl, inr, arith, set, get_or-set_same, get_or-set_other}
+use Rattle.std.specs.Prelude.{◌==◌, codes, decimal, nat_lt}
 use Rattle.std.specs.List.{slice_index_or}
-use Rattle.std.proofs.lemmas.Bool.{cases_Bool, cases_eq, eq-eqb, ne_eqb, eqb-true}
+use Rattle.std.proofs.lemmas.Bool.{cases_Bool, cond-true, cases_eq, eq-eqb, ne_eqb, eqb-true}
 use Rattle.audit_model.specs.Below.{above_all, count_below}
 use Rattle.audit_model.specs.Graph.{has}
 use Rattle.audit_model.specs.Meets.{region_count}
 use Rattle.audit_model.proofs.Below.{count_below_into}
 use Rattle.audit_model.proofs.Bools.{or_false}
+use Rattle.audit_statement.specs.Report.{line, splits_line}
 
 -- ---- the marks
 
@@ -64,3 +65,12 @@ regions_counted regions few =
     let fewer : count_below (above_all regions) test ≤ count_below 5000 test =
     count_below_into (above_all regions) 5000 test test (λ k. k) (λ k l h. (omega (arith, l, above_most regions 5000 few), h)) (λ j k lj lk hj hk e. e) in
     omega (arith, more, fewer)
+
+-- ---- the line of splits in all
+
+-- it is told where there are regions and splits are limited
+pub splits_are_told : (splits most : ℕ) (regions : List ℕ) → (length regions == 0) ≡ false → (nat_lt splits 995000 || nat_lt most 5000) ≡ true
+    → line (codes "max-splits" ∷ decimal splits ∷ codes "max-split-regions" ∷ decimal most ∷ []) ≡ splits_line splits most regions
+splits_are_told splits most [] some limited = cc
+splits_are_told splits most (r ∷ rest) some limited =
+    sym (cond-true (nat_lt splits 995000 || nat_lt most 5000) (line (codes "max-splits" ∷ decimal splits ∷ codes "max-split-regions" ∷ decimal most ∷ [])) [] limited)

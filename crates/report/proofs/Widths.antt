@@ -1,5 +1,5 @@
 -- How many bytes a word, a line and a list of lines have at most.
-use Rattle.std.proofs.Common.{◌≡◌, ℕ, zero, suc, ◌+◌, ◌-◌, ◌*◌, ◌/◌, ◌%◌, ◌^◌, ◌<◌, ◌≤◌, Bool, false, List, [], ◌∷◌, length, flat_map, refl, ap, arith, length-append, replicate, decimal, ℤ, pos, negsuc}
+use Rattle.std.proofs.Common.{◌≡◌, ℕ, zero, suc, ◌+◌, ◌-◌, ◌*◌, ◌/◌, ◌%◌, ◌^◌, ◌<◌, ◌≤◌, Bool, false, List, [], ◌∷◌, ◌++◌, length, flat_map, refl, ap, arith, length-append, replicate, decimal, ℤ, pos, negsuc}
 use Rattle.std.proofs.lemmas.Bool.{cond_both}
 use Rattle.std.proofs.lemmas.Fmt.{length-decimal-le}
 use Rattle.std.proofs.lemmas.List.{length-replicate}
@@ -59,6 +59,11 @@ length-billionths n small =
 abbrev pub width : List (List ℕ) → ℕ
 width [] = 0
 width (word ∷ words) = length word + 1 + width words
+
+-- words are as wide as the first of them and the rest
+pub width-append : (words more : List (List ℕ)) → width (words ++ more) ≡ width words + width more
+width-append [] more = omega arith
+width-append (word ∷ words) more = let rest = width-append words more in omega (arith, rest)
 
 -- the words behind the first have as many bytes as they are wide, and one for the line's end
 length-tail_of : (words : List (List ℕ)) → length (tail_of words) ≡ 1 + width words

@@ -1,11 +1,11 @@
 -- A text that is appended piece by piece.
-use Rattle.std.proofs.Common.{◌≡◌, ◌∙◌, ℕ, zero, suc, ◌+◌, ◌≤◌, ◌<◌, map, drop, get_or, drop-cons, add-one, subst, append-nil, List, [], ◌∷◌, ◌++◌, length, refl, ap, sym, arith, append_assoc, Result, Ok, Err}
+use Rattle.std.proofs.Common.{◌≡◌, ◌∙◌, ℕ, ◌+◌, ◌≤◌, subst, append-nil, List, [], ◌∷◌, ◌++◌, length, refl, ap, sym, arith, append_assoc, Result, Ok, Err}
 use Rattle.std.proofs.lemmas.Bool.{false≢true}
 use Rattle.std.proofs.lemmas.List.{length-append}
+use Rattle.std.proofs.lemmas.Grind.{flat_map-append}
 use Rattle.audit_model.specs.Room.{RoomyBytes}
 use Rattle.audit_model.specs.declared.memory.Memory.{Memory}
-use Rattle.report.specs.Lines.{AppendsText, tail_of, word_text}
-use Rattle.report.specs.declared.lines.Word.{Word}
+use Rattle.report.specs.Lines.{AppendsText, spaced, tail_of}
 use Rattle.audit_statement.specs.Report.{line}
 
 -- a line is its first word and what stands after it
@@ -61,17 +61,22 @@ written-last old now new whole piece (Ok u) w more =
     }
 written-last old now new whole piece (Err e) w more = written-err old now new whole piece [] e (subst (λ t. IsWritten old now whole t) (sym (append-nil piece)) w) more
 
--- one word more of the tail of a line
-pub tail-step : (words : List Word) (i : ℕ) (d : Word) → i < length words
-    → tail_of (map word_text (drop i words)) ≡ 32 ∷ (word_text (get_or words i d) ++ tail_of (map word_text (drop (i + 1) words)))
-tail-step words i d h = rw (add-one, drop-cons words i d) refl
+-- what stands in a line after its first word, and the line's end
+pub tail-spaced : (words : List (List ℕ)) → tail_of words ≡ spaced words ++ 10 ∷ []
+tail-spaced [] = refl
+tail-spaced (word ∷ words) = ap (λ t. 32 ∷ (word ++ t)) (tail-spaced words) ∙ ap (λ t. 32 ∷ t) (sym (append_assoc word (spaced words) (10 ∷ [])))
 
--- behind the last word stands the line's end
-pub tail-end : (words : List Word) (i : ℕ) → length words ≤ i → tail_of (map word_text (drop i words)) ≡ 10 ∷ []
-tail-end [] zero h = refl
-tail-end [] (suc i) h = refl
-tail-end (word ∷ words) zero h = absurd (omega arith)
-tail-end (word ∷ words) (suc i) h = tail-end words i (omega arith)
+-- a line of its first word, of some more, and of two lists of words
+pub line-parts : (word : List ℕ) (words more last : List (List ℕ)) → (((word ++ spaced words) ++ spaced more) ++ spaced last) ++ 10 ∷ [] ≡ line (word ∷ ((words ++ more) ++ last))
+line-parts word words more last =
+    sym (line-cons word ((words ++ more) ++ last)
+    ∙ ap (λ t. word ++ t) (tail-spaced ((words ++ more) ++ last))
+    ∙ ap (λ t. word ++ (t ++ 10 ∷ [])) (flat_map-append (λ (w : List ℕ). 32 ∷ w) (words ++ more) last)
+    ∙ ap (λ t. word ++ ((t ++ spaced last) ++ 10 ∷ [])) (flat_map-append (λ (w : List ℕ). 32 ∷ w) words more)
+    ∙ joined word (spaced words) (spaced more) (spaced last))
+  where
+    joined : (a b c d : List ℕ) → a ++ (((b ++ c) ++ d) ++ 10 ∷ []) ≡ (((a ++ b) ++ c) ++ d) ++ 10 ∷ []
+    joined a b c d = simp append_assoc
 
 -- one text after another
 pub appends-two : (old mid new : RoomyBytes) (a b : List ℕ) (r : Result (Unit {0}) Memory) → AppendsText old mid a (Ok tt) → AppendsText mid new b r → AppendsText old new (a ++ b) r
@@ -81,12 +86,12 @@ appends-two old mid new a b r first second = written-last old mid new (a ++ b) b
 pub appends-err : (old new : RoomyBytes) (a b : List ℕ) (e : Memory) → AppendsText old new a (Err e) → AppendsText old new (a ++ b) (Err e)
 appends-err old new a b e first = written-err old old new (a ++ b) a b e (written-none old (a ++ b) (a ++ b) refl) first
 
--- five texts in turn, appended at once
-pub appended-five : (start one two three four last out new a b c d e : List ℕ) → start ≡ [] → one ≡ start ++ a → two ≡ one ++ b → three ≡ two ++ c → four ≡ three ++ d → last ≡ four ++ e → new ≡ out ++ last
-    → new ≡ out ++ ((((a ++ b) ++ c) ++ d) ++ e)
-appended-five start one two three four last out new a b c d e hs h1 h2 h3 h4 h5 h =
-    let whole : last ≡ ((((start ++ a) ++ b) ++ c) ++ d) ++ e = cc in
-    let all : ((((start ++ a) ++ b) ++ c) ++ d) ++ e ≡ (((a ++ b) ++ c) ++ d) ++ e = rw hs refl in
+-- six texts in turn, appended at once
+pub appended-six : (start one two three four five last out new a b c d e f : List ℕ) → start ≡ [] → one ≡ start ++ a → two ≡ one ++ b → three ≡ two ++ c → four ≡ three ++ d
+    → five ≡ four ++ e → last ≡ five ++ f → new ≡ out ++ last → new ≡ out ++ (((((a ++ b) ++ c) ++ d) ++ e) ++ f)
+appended-six start one two three four five last out new a b c d e f hs h1 h2 h3 h4 h5 h6 h =
+    let whole : last ≡ (((((start ++ a) ++ b) ++ c) ++ d) ++ e) ++ f = cc in
+    let all : (((((start ++ a) ++ b) ++ c) ++ d) ++ e) ++ f ≡ ((((a ++ b) ++ c) ++ d) ++ e) ++ f = rw hs refl in
     h ∙ ap (λ t. out ++ t) (whole ∙ all)
 
 -- the same text, given otherwise

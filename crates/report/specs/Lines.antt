@@ -1,11 +1,12 @@
 -- The words of a line, and what appending a text to a list with room does.
-use Rattle.std.specs.Prelude.{◌≡◌, ◌≤◌, ℕ, ◌+◌, List, [], ◌∷◌, ◌++◌, length, decimal, Result, OnOk, IsOk}
+use Rattle.std.specs.Prelude.{◌≡◌, ◌≤◌, ℕ, ◌+◌, List, [], ◌∷◌, ◌++◌, length, flat_map, decimal, Result, OnOk, IsOk}
 use Rattle.std.specs.Fmt.{signed_decimal}
 use Rattle.hex.specs.Hex.{encode_lower}
+use Rattle.json.specs.Print.{quoted}
 use Rattle.audit_model.specs.Room.{RoomyBytes}
 use Rattle.audit_model.specs.declared.memory.Memory.{Memory}
 use Rattle.report.specs.declared.lines.Word.{Word}
-use Rattle.report.specs.declared.lines.Word.TheVariants.{Text, Number, Signed, Fraction, Billionths, Key}
+use Rattle.report.specs.declared.lines.Word.TheVariants.{Text, Number, Signed, Fraction, Billionths, Key, Quoted}
 use Rattle.audit_statement.specs.Report.{fraction, billionths}
 
 -- how a word is written
@@ -16,6 +17,11 @@ word_text (Signed z) = signed_decimal z
 word_text (Fraction top bottom) = fraction top bottom
 word_text (Billionths n) = billionths n
 word_text (Key key) = encode_lower key.now
+word_text (Quoted text) = quoted text.now
+
+-- words with a space before each
+abbrev pub spaced : List (List ℕ) → List ℕ
+spaced = flat_map (λ word. 32 ∷ word)
 
 -- what stands in a line after its first word
 abbrev pub tail_of : List (List ℕ) → List ℕ

@@ -1,12 +1,24 @@
 -- Parts of the report.
-use Rattle.std.specs.Prelude.{ℕ, List, [], ◌∷◌, ◌++◌, ◌+◌, codes, decimal, flat_map, Option}
+use Rattle.std.specs.Prelude.{ℕ, List, [], ◌∷◌, ◌++◌, ◌+◌, length, codes, decimal, flat_map, Option}
 use Rattle.hex.specs.Hex.{encode_lower}
+use Rattle.audit_model.specs.declared.origin.Origin.{Origin}
 use Rattle.audit_model.specs.declared.outcome.Outcome.{Outcome}
 use Rattle.audit_model.specs.declared.setting.Ask.{Ask}
+use Rattle.audit_model.specs.declared.setting.Columns.{Columns}
 use Rattle.audit_model.specs.Job.{Job}
 use Rattle.audit_model.specs.Test.{p_value}
 use Rattle.audit_model.specs.Stopping.{placed_asks}
-use Rattle.audit_statement.specs.Report.{line, ask_words, billionths, graph_line, population_line, rule_lines, serial_lines, setting_line, shift_line, stop_line, test_lines, title_line, walk_line, walk_lines}
+use Rattle.audit_statement.specs.Report.{line, ask_words, billionths, graph_line, origin_lines, population_line, rule_lines, serial_lines, setting_line, shift_line, stop_line, test_lines, title_line, walk_line, walk_lines}
+
+-- the line with the digest of the bytes that were read, and how many they were
+abbrev pub source_line : Origin → List ℕ
+source_line origin = line (codes "source" ∷ codes "sha256" ∷ encode_lower origin.sha256 ∷ codes "bytes" ∷ decimal origin.bytes ∷ [])
+
+-- how many bytes the names of the columns have together
+abbrev pub names_length : Columns → List ℕ → ℕ
+names_length columns region =
+    length columns.population + length columns.first + length columns.second + length columns.district + length columns.group + length columns.whole
+    + length region
 
 -- the line with the key
 abbrev pub key_line : Job → List ℕ
@@ -16,6 +28,7 @@ key_line job = line (codes "key" ∷ encode_lower job.setting.key ∷ [])
 abbrev pub head : Job → List ℕ
 head job =
     title_line job.setting.shift
+    ++ origin_lines job job.origin
     ++ key_line job
     ++ graph_line job
     ++ population_line job

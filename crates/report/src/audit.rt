@@ -8,6 +8,7 @@ ghost use Rattle.audit_statement.specs.Report as definition;
 
 use crate::check::{push_graph_line, push_population_line};
 use crate::lines::{Word, push_line};
+use crate::origin::push_origin_lines;
 use crate::rules::push_rule_lines;
 use crate::serial::push_serial_lines;
 use crate::shift::push_shift_line;
@@ -65,6 +66,7 @@ fn push_head(job: &Job, out: &mut Bytes) -> Result<(), Memory>
     ensures { AppendsText out.old out.new (head job.now) result }
 {
     push_title_line(job, out)?;
+    push_origin_lines(job, out)?;
     push_key_line(job, out)?;
     push_graph_line(job, out)?;
     push_population_line(job, out)?;

@@ -5,6 +5,7 @@ ghost use Rattle.report.specs.Lines.{AppendsText};
 ghost use Rattle.audit_statement.specs.Report as definition;
 
 use crate::lines::{Word, push_line};
+use crate::origin::push_origin_lines;
 use crate::rules::push_rule_lines;
 use audit_model::buffers::Bytes;
 use audit_model::memory::Memory;
@@ -18,6 +19,7 @@ pub fn check_text(alloc: Global, job: &Job, out: &mut Bytes) -> Result<(), Memor
 {
     let mut text = Bytes::new(alloc);
     push_line(&mut text, &[Word::Text("plan-check 1")])?;
+    push_origin_lines(job, &mut text)?;
     push_graph_line(job, &mut text)?;
     push_population_line(job, &mut text)?;
     push_rule_lines(job, &mut text)?;

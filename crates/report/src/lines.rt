@@ -1,10 +1,11 @@
 //! Lines of words.
 
 ghost use Rattle.std.specs.Prelude.{◌≡◌, ◌∷◌, map};
-ghost use Rattle.report.specs.Lines.{AppendsText, tail_of, word_text};
+ghost use Rattle.report.specs.Lines.{AppendsText, spaced, tail_of, word_text};
 ghost use Rattle.audit_statement.specs.Report.{line};
 
 use crate::numbers::{push_billionths, push_fraction, push_key, push_number, push_signed};
+use crate::quoted::push_quoted;
 use audit_model::buffers::Bytes;
 use audit_model::memory::Memory;
 
@@ -18,8 +19,10 @@ pub enum Word<'a> {
     Fraction(i64, u64),
     /// A number of billionths.
     Billionths(u64),
-    /// A key, as hexadecimal digits.
+    /// A key or a digest, as hexadecimal digits.
     Key(&'a [u8; 32]),
+    /// A text, as JSON writes it.
+    Quoted(&'a str),
 }
 
 /// Appends a word.
@@ -33,6 +36,7 @@ pub fn push_word(out: &mut Bytes, word: &Word) -> Result<(), Memory>
         Word::Fraction(top, bottom) => push_fraction(out, *top, *bottom),
         Word::Billionths(number) => push_billionths(out, *number),
         Word::Key(key) => push_key(out, key),
+        Word::Quoted(text) => push_quoted(out, text),
     }
 }
 
@@ -51,10 +55,18 @@ pub fn push_line(out: &mut Bytes, words: &[Word]) -> Result<(), Memory>
 fn push_tail(out: &mut Bytes, words: &[Word]) -> Result<(), Memory>
     ensures { AppendsText out.old out.new (tail_of (map word_text words.now)) result }
 {
+    push_words(out, words)?;
+    out.push(b'\n')
+}
+
+/// Appends the words with a space before each.
+pub fn push_words(out: &mut Bytes, words: &[Word]) -> Result<(), Memory>
+    ensures { AppendsText out.old out.new (spaced (map word_text words.now)) result }
+{
     for word in words {
         push_next(out, word)?;
     }
-    out.push(b'\n')
+    Ok(())
 }
 
 /// Appends a space and the word.

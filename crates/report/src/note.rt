@@ -329,6 +329,22 @@ fn plan_line(fault: &PlanFault) -> Line<'static>
             Text(" districts, more than "),
             Number(u64::from(*most)),
         ]),
+        PlanFault::TooManySplits { splits, most } => line_of(&[
+            Number(u64::from(*splits)),
+            Text(" splits of regions, more than "),
+            Number(u64::from(*most)),
+        ]),
+        PlanFault::TooManySplitRegions { regions, most } => line_of(&[
+            Number(u64::from(*regions)),
+            Text(" regions lie in more than one district, more than "),
+            Number(u64::from(*most)),
+        ]),
+        PlanFault::TooFewMajorities { districts, least } => line_of(&[
+            Text("the group has a majority in "),
+            Number(u64::from(*districts)),
+            Text(" districts, fewer than "),
+            Number(u64::from(*least)),
+        ]),
         PlanFault::Memory => text_line("memory"),
     }
 }
@@ -442,6 +458,8 @@ fn column_name(columns: &Columns, column: Column) -> &str
         Column::First => columns.first.as_str(),
         Column::Second => columns.second.as_str(),
         Column::District => columns.district.as_str(),
+        Column::Group => columns.group.as_str(),
+        Column::Whole => columns.whole.as_str(),
     }
 }
 

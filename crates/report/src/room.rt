@@ -1,21 +1,33 @@
 //! The room that a report takes.
 
-ghost use Rattle.std.specs.Prelude.{◌≡◌, ◌≤◌, ℕ, List, length, Option, OnOk, OnErr};
+ghost use Rattle.std.specs.Prelude.{◌≡◌, ◌+◌, ◌*◌, ◌^◌, ◌≤◌, ℕ, List, length, Option, None, Some, IfSome, OnOk, OnErr};
 ghost use Rattle.audit_model.specs.declared.outcome.Outcome.{Outcome};
 ghost use Rattle.report.specs.Outcomes.{AreOutcomesOf, AreStopsOf, IsSerialOf};
+ghost use Rattle.report.specs.Parts.{names_length, source_line};
 ghost use Rattle.audit_statement.specs.Report as definition;
 
 use crate::values::asks_of;
 use audit_model::buffers::Bytes;
 use audit_model::memory::Memory;
+use audit_model::origin::Origin;
+use audit_model::setting::Setting;
 use plan_core::job::Job;
 use std::alloc::Global;
 
-/// More bytes than the lines of a report have that are of no ask.
-const FRAME_ROOM: usize = 2048;
+/// More bytes than the lines of a report have that are of no ask and of no origin.
+const FRAME_ROOM: usize = 2560;
 
 /// More bytes than a line of an ask has.
 const LINE_ROOM: usize = 200;
+
+/// More bytes than the line of the bytes that were read has beside the digest.
+const SOURCE_ROOM: usize = 100;
+
+/// More bytes than the line of the columns has beside their names.
+const COLUMNS_ROOM: usize = 50;
+
+/// The most bytes that stand for a byte of a name.
+const ESCAPE_ROOM: usize = 6;
 
 /// Makes room for the job's report, whatever is found. The bytes of `out` stay as they are.
 ///
@@ -29,26 +41,94 @@ pub fn reserve(alloc: Global, job: &Job, out: &mut Bytes) -> Result<(), Memory>
         length (definition.report job.now outcomes stops serial) ≤ out.new.spare) }
     ensures err { OnErr result (out.new ≡ out.old) }
 {
-    let room = report_room(job);
+    let room = report_room(job).ok_or(Memory)?;
     if room <= out.spare() {
         return Ok(());
     }
     let bytes = out.as_slice();
-    let mut roomy = Bytes::with_room(alloc, bytes.len() + room)?;
+    let count = bytes.len().checked_add(room).ok_or(Memory)?;
+    let mut roomy = Bytes::with_room(alloc, count)?;
     roomy.append(bytes)?;
     *out = roomy;
     Ok(())
 }
 
-/// At least as many bytes as any report on the job has.
-fn report_room(job: &Job) -> usize
+/// At least as many bytes as any report on the job has. It is none only where the names of the columns are longer than any memory.
+fn report_room(job: &Job) -> Option<usize>
+    ensures enough { IfSome result (λ room. (outcomes : List Outcome) (stops : List (List ℕ)) (serial : Option (ℕ × List ℕ)) →
+        AreOutcomesOf job.now outcomes → AreStopsOf job.now stops → IsSerialOf job.now serial →
+        length (definition.report job.now outcomes stops serial) ≤ room) }
+    ensures none { result ≡ None → 2 ^ 61 ≤ names_length job.now.setting.columns job.now.setting.region }
+{
+    lines_room(job).checked_add(origin_room(job)?)
+}
+
+/// At least as many bytes as any report on the job has beside the lines of its origin.
+fn lines_room(job: &Job) -> usize
     ensures enough { (outcomes : List Outcome) (stops : List (List ℕ)) (serial : Option (ℕ × List ℕ)) →
         AreOutcomesOf job.now outcomes → AreStopsOf job.now stops → IsSerialOf job.now serial →
-        length (definition.report job.now outcomes stops serial) ≤ result }
+        length (definition.report job.now outcomes stops serial) ≤ result + length (definition.origin_lines job.now job.now.origin) }
     ensures few { result ≤ 90000000 }
 {
     // Called for what its contract says: the job is within its limits, and its start plan is legal.
     let _units = job.units();
     let lines_of_ask = job.setting().walks as usize + 2;
     FRAME_ROOM + lines_of_ask * asks_of(job).len() * LINE_ROOM
+}
+
+/// At least as many bytes as the lines of the job's origin have.
+fn origin_room(job: &Job) -> Option<usize>
+    ensures enough { IfSome result (λ room. length (definition.origin_lines job.now job.now.origin) ≤ room) }
+    ensures untold { job.now.origin ≡ None → result ≡ Some 0 }
+    ensures few { IfSome result (λ room. room ≤ names_length job.now.setting.columns job.now.setting.region * 6 + 300) }
+    ensures none { result ≡ None → 2 ^ 61 ≤ names_length job.now.setting.columns job.now.setting.region }
+{
+    match job.origin() {
+        None => Some(0),
+        Some(origin) => columns_room(job.setting())?.checked_add(source_room(&origin)),
+    }
+}
+
+/// At least as many bytes as the line of the bytes that were read has.
+fn source_room(origin: &Origin) -> usize
+    ensures enough { length (source_line origin.now) ≤ result }
+    ensures few { result ≤ 200 }
+{
+    SOURCE_ROOM + 2 * digest_len(&origin.sha256)
+}
+
+/// How many bytes a digest has.
+fn digest_len(digest: &[u8; 32]) -> usize
+    ensures value { result ≡ length digest.now }
+    ensures few { result ≡ 32 }
+{
+    digest.len()
+}
+
+/// At least as many bytes as the line of the columns has.
+fn columns_room(setting: &Setting) -> Option<usize>
+    ensures enough { IfSome result (λ room. length (definition.columns_line setting.now.columns setting.now.region) ≤ room) }
+    ensures few { IfSome result (λ room. room ≤ names_length setting.now.columns setting.now.region * 6 + 100) }
+    ensures none { result ≡ None → 2 ^ 61 ≤ names_length setting.now.columns setting.now.region }
+{
+    names_len(setting)?
+        .checked_mul(ESCAPE_ROOM)?
+        .checked_add(COLUMNS_ROOM)
+}
+
+/// How many bytes the names of the columns have together.
+fn names_len(setting: &Setting) -> Option<usize>
+    ensures value { IfSome result (λ count. count ≡ names_length setting.now.columns setting.now.region) }
+    ensures none { result ≡ None → 2 ^ 61 ≤ names_length setting.now.columns setting.now.region }
+{
+    let columns = &setting.columns;
+    columns
+        .population
+        .len()
+        .checked_add(columns.first.len())?
+        .checked_add(columns.second.len())?
+        .checked_add(columns.district.len())?
+        .checked_add(columns.group.len())?
+        .checked_add(columns.whole.len())?
+        .checked_add(setting.region.len())
 }

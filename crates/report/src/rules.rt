@@ -1,17 +1,18 @@
 //! The lines of the rules that plans are to meet.
 
-ghost use Rattle.std.specs.Prelude.{◌≡◌, ◌<◌, ℕ, false, length, All};
+ghost use Rattle.std.specs.Prelude.{◌≡◌, ◌<◌, ℕ, ◌||◌, false, nat_lt, length, All};
 ghost use Rattle.std.specs.List.{slice_index_or};
 ghost use Rattle.audit_model.specs.Below.{count_below};
 ghost use Rattle.audit_model.specs.Graph.{has};
-ghost use Rattle.audit_model.specs.Meets.{region_count};
+ghost use Rattle.audit_model.specs.Meets.{majorities, region_count};
 ghost use Rattle.report.specs.Lines.{AppendsText};
 ghost use Rattle.audit_statement.specs.Report as definition;
-ghost use Rattle.audit_model.specs.Limits.{most_regions};
+ghost use Rattle.audit_model.specs.Limits.{most_regions, most_splits};
 
 use crate::lines::{Word, push_line};
 use audit_model::buffers::Bytes;
 use audit_model::memory::Memory;
+use audit_model::setting::Setting;
 use plan_core::job::Job;
 
 /// More than any region's number.
@@ -22,7 +23,9 @@ pub fn push_rule_lines(job: &Job, out: &mut Bytes) -> Result<(), Memory>
     ensures { AppendsText out.old out.new (definition.rule_lines job.now) result }
 {
     push_cut_line(job, out)?;
-    push_split_line(job, out)
+    push_split_line(job, out)?;
+    push_splits_line(job, out)?;
+    push_group_line(job, out)
 }
 
 /// Appends the line with the most cut edges, where they are limited.
@@ -51,6 +54,50 @@ fn push_split_line(job: &Job, out: &mut Bytes) -> Result<(), Memory>
             Word::Number(u64::from(job.setting().max_split)),
             Word::Text("regions"),
             Word::Number(u64::from(count_regions(regions))),
+        ],
+    )
+}
+
+/// Appends the line with the limits on splits in all and on split regions, where there are regions and one of these is limited.
+fn push_splits_line(job: &Job, out: &mut Bytes) -> Result<(), Memory>
+    ensures { AppendsText out.old out.new (definition.splits_line job.now.setting.max_splits job.now.setting.max_split_regions job.now.regions) result }
+{
+    let setting = job.setting();
+    if regions_of(job).is_empty() || !limits_splits(setting) {
+        return Ok(());
+    }
+    push_line(
+        out,
+        &[
+            Word::Text("max-splits"),
+            Word::Number(u64::from(setting.max_splits)),
+            Word::Text("max-split-regions"),
+            Word::Number(u64::from(setting.max_split_regions)),
+        ],
+    )
+}
+
+/// Splits in all are limited, or how many regions are split.
+fn limits_splits(setting: &Setting) -> bool
+    ensures { result ≡ (nat_lt setting.now.max_splits most_splits || nat_lt setting.now.max_split_regions most_regions) }
+{
+    setting.max_splits < 995_000 || setting.max_split_regions < 5_000
+}
+
+/// Appends the line with the least number of districts in which a group is to have a majority, and the start plan's, where there is a group.
+fn push_group_line(job: &Job, out: &mut Bytes) -> Result<(), Memory>
+    ensures { AppendsText out.old out.new (definition.group_line job.now.setting.group_districts (majorities job.now.group job.now.start) job.now.group.members) result }
+{
+    if job.rules().group.members.as_slice().is_empty() {
+        return Ok(());
+    }
+    push_line(
+        out,
+        &[
+            Word::Text("group-districts"),
+            Word::Number(u64::from(job.setting().group_districts)),
+            Word::Text("of"),
+            Word::Number(u64::from(job.majorities())),
         ],
     )
 }

@@ -5,7 +5,7 @@ use Rattle.std.proofs.Crossing.{crosses}
 use Rattle.atomic_table.proofs.badge.Badge.TheSendSync.{the_send as badge_send}
 use Rattle.tally_desk.specs.contracts.pass.DeskPass as DeskPass
 use Rattle.flip_guard.specs.declared.judge.Judge.{Ghosts}
-use Rattle.walker.proofs.Crossing.{walker_send}
+use Rattle.claim_counter.proofs.Crossing.{gated_send}
 use Rattle.tally_desk.specs.contracts.worker.DeskWorker as DeskWorker
 
 -- a pass may cross threads
@@ -14,4 +14,4 @@ pass_send = search (badge_send, crosses, sendable) depth 20
 
 -- so may a worker, where its judge may
 pub worker_send : (J : RattleType) (g : Ghosts J.Denot) → IsSend J → IsSend (DeskWorker.the_row J g)
-worker_send J g judge = search (walker_send, pass_send, sendable) depth 20
+worker_send J g judge = search (gated_send, pass_send, sendable) depth 20

@@ -7,7 +7,7 @@ use Rattle.tally_desk.specs.Entries.{is_due, missed}
 use Rattle.tally_desk.specs.Homes.{Made, made_after, made_with, tries, try_made}
 use Rattle.tally_desk.specs.Parts.{Parts}
 use Rattle.audit_statement.specs.InOrder.{failed_of}
-use Rattle.tally_desk.specs.Saves.{rest_tries, run_tries}
+use Rattle.tally_desk.proofs.Tried.{rest_tries, run_tries}
 
 module _ (parts : Parts) where
   abbrev one_failed : Bool → ℕ

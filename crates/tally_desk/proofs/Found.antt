@@ -19,12 +19,13 @@ pub found_right : (job : Job) (id : ℕ) → found job id ≡ outcome job (draw 
 unfolding found
 found_right job id = ap (outcome job (draw job.setting.key)) (sym (fitting.found_id job (draw job.setting.key) job.setting.shift id))
 
--- the outcome of a walk is what is found, and has the id
-pub walked_id : (job : Job) (id : ℕ) (o : Outcome) → o ≡ outcome job (draw job.setting.key) id → o.id ≡ id
-walked_id job id o is = ap (λ (x : Outcome). x.id) is ∙ outcome_id job (draw job.setting.key) id
+-- the outcome of a walk is what is found of the id that was told, and has that id
+pub walked_id : (job : Job) (id told : ℕ) (o : Outcome) → told ≡ id → o ≡ outcome job (draw job.setting.key) told → o.id ≡ id
+walked_id job id told o told_is is = ap (λ (x : Outcome). x.id) is ∙ outcome_id job (draw job.setting.key) told ∙ told_is
 
 -- and is what is found of its own id
-pub walked_found : (job key : Job) (id : ℕ) (o : Outcome) → job ≡ key → o ≡ outcome job (draw job.setting.key) id → o ≡ found key o.id
+pub walked_found : (job key : Job) (id told : ℕ) (o : Outcome) → job ≡ key → told ≡ id → o ≡ outcome job (draw job.setting.key) told → o ≡ found key o.id
 unfolding found
-walked_found job key id o same is =
-    is ∙ ap (λ (j : Job). outcome j (draw j.setting.key) id) same ∙ ap (outcome key (draw key.setting.key)) (sym (walked_id job id o is))
+walked_found job key id told o same told_is is =
+    is ∙ ap (λ (j : Job). outcome j (draw j.setting.key) told) same
+    ∙ ap (outcome key (draw key.setting.key)) (sym (ap (λ (x : Outcome). x.id) is ∙ outcome_id job (draw job.setting.key) told))

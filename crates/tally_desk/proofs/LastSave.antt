@@ -31,10 +31,10 @@ use Rattle.tally_desk.proofs.Slotting.{other_is}
 use Rattle.tally_desk.proofs.Trying.{tried_then}
 use Rattle.tally_desk.proofs.Turning.{counts_more}
 use Rattle.tally_desk.specs.Ran.{BothSaved, HasRun, KeepsSome}
-use Rattle.tally_desk.specs.Saves.{IsClosedWith, MakesLastSave, rest_tries, run_tries}
+use Rattle.tally_desk.specs.Saves.{IsClosedWith, MakesLastSave}
 use Rattle.tally_desk.proofs.Failing.{failed_run}
 use Rattle.tally_desk.proofs.Ordering.{are_saves}
-use Rattle.tally_desk.proofs.Tried.{are_run_tries}
+use Rattle.tally_desk.proofs.Tried.{are_run_tries, rest_tries, run_tries}
 
 -- ---- counts of faults
 

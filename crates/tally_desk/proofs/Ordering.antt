@@ -24,9 +24,8 @@ use Rattle.claim_counter.specs.Walks.{found}
 use Rattle.tally_desk.specs.Parts.{IsPlan, Parts}
 use Rattle.tally_desk.proofs.Marking.{next_turn}
 use Rattle.tally_desk.proofs.Regular.{due_later, due_next, first_ticket, next_group, next_less, other_tickets}
-use Rattle.tally_desk.specs.Saves.{rest_tries, run_tries}
 use Rattle.tally_desk.proofs.Holding.{moved_all}
-use Rattle.tally_desk.proofs.Tried.{fewer, later as later_ones, sound_rest}
+use Rattle.tally_desk.proofs.Tried.{fewer, later as later_ones, rest_tries, run_tries, sound_rest}
 
 module _ (parts : Parts) (plan : IsPlan parts) where
   abbrev v : ℕ

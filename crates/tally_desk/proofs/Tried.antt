@@ -6,7 +6,7 @@ use Rattle.std.proofs.lemmas.Bool.{true≢false}
 use Rattle.std.proofs.lemmas.List.{append-nil, map-append}
 use Rattle.std.proofs.lemmas.List.Sums.{sum_by-append}
 use Rattle.std.proofs.lemmas.List.Elements.{All-append, All-cons, All-head, All-nil, All-tail}
-use Rattle.audit_model.specs.Tries.{Try}
+use Rattle.audit_model.specs.Tries.{Try, try_of}
 use Rattle.audit_model.specs.Run.{fits, total, by_id}
 use Rattle.audit_model.specs.Times.{times}
 use Rattle.audit_statement.specs.Checkpoint.{IsCheckpoint, checkpoint, job_digest}
@@ -20,7 +20,16 @@ use Rattle.tally_desk.specs.Parts.{IsPlan, Parts}
 use Rattle.tally_desk.proofs.Booking.{booked_fit, by_id_fit}
 use Rattle.tally_desk.proofs.Marking.{next_turn}
 use Rattle.tally_desk.specs.Ran.{AreRunTries, IsRunTry}
-use Rattle.tally_desk.specs.Saves.{rest_tries, run_tries}
+
+-- all saves that a run over a desk tried: those of its desk, and where none was made with the last post, one of all posts, which succeeded or not
+abbrev pub rest_tries : Bool → Bool → Parts → List Entry → List Try
+rest_tries true succeeded parts posted = []
+rest_tries false succeeded parts posted =
+    let place = moved (saves_made posted) parts.place in
+    try_of place.slot (checkpoint 2 (job_digest parts.job) place.generation (by_id (total parts.job) (booked parts posted))) succeeded ∷ []
+
+abbrev pub run_tries : Bool → Bool → Parts → List Entry → List Try
+run_tries last_saved succeeded parts posted = tries parts posted ++ rest_tries last_saved succeeded parts posted
 
 module _ (parts : Parts) (plan : IsPlan parts) where
   abbrev InTurnFrom : ℕ → List Try → Type 0

@@ -1,21 +1,16 @@
 -- The last save of a run that saves while it walks.
-use Rattle.std.specs.Prelude.{◌≡◌, ℕ, Bool, true, false, List, [], ◌∷◌, ◌++◌, Result, OnOk, is_ok}
+use Rattle.std.specs.Prelude.{◌≡◌, ℕ, true, false, List, Result, OnOk, is_ok}
 use Rattle.audit_io.specs.declared.source.Failed.{Failed}
 use Rattle.audit_model.specs.Faults.{HasCause}
 use Rattle.audit_model.specs.State.{Kept as KeeperState}
 use Rattle.audit_model.specs.Told.{IfTold}
 use Rattle.audit_model.specs.Pair.{HoldsBytes, KeepsOther}
-use Rattle.audit_model.specs.Tries.{Try, tried_too, try_of}
+use Rattle.audit_model.specs.Tries.{tried_too}
 use Rattle.audit_model.specs.declared.outcome.Outcome.{Outcome}
-use Rattle.audit_model.specs.Run.{total, by_id}
 use Rattle.audit_statement.specs.Checkpoint.{IsCheckpoint, checkpoint, job_digest}
 use Rattle.audit_model.specs.declared.place.Place.{Place}
 use Rattle.ckpt_store.specs.Laws.{IsNewestForFitJobs}
-use Rattle.tally_desk.specs.declared.entry.Entry.{Entry}
 use Rattle.tally_desk.specs.declared.handing.Kept.{Kept}
-use Rattle.tally_desk.specs.Entries.{saves_made}
-use Rattle.tally_desk.specs.Homes.{booked, tries}
-use Rattle.audit_statement.specs.InOrder.{moved}
 use Rattle.tally_desk.specs.Parts.{Parts}
 use Rattle.tally_desk.specs.Passes.{IsClosed}
 use Rattle.tally_desk.specs.Views.{PassView}
@@ -42,13 +37,3 @@ pub record MakesLastSave {C : Type 0} (state : C → KeeperState) (before now : 
   pub failed : now.failed_saves ≡ before.failed_saves
   pub saved : before.last_saved ≡ true → (now.keeper ≡ before.keeper) × (is_ok result ≡ true)
   pub unsaved : before.last_saved ≡ false → SavesThese state before.keeper now.keeper before.place digest outcomes result
-
--- all saves that a run over a desk tried: those of its desk, and where none was made with the last post, one of all posts, which succeeded or not
-abbrev pub rest_tries : Bool → Bool → Parts → List Entry → List Try
-rest_tries true succeeded parts posted = []
-rest_tries false succeeded parts posted =
-    let place = moved (saves_made posted) parts.place in
-    try_of place.slot (checkpoint 2 (job_digest parts.job) place.generation (by_id (total parts.job) (booked parts posted))) succeeded ∷ []
-
-abbrev pub run_tries : Bool → Bool → Parts → List Entry → List Try
-run_tries last_saved succeeded parts posted = tries parts posted ++ rest_tries last_saved succeeded parts posted

@@ -13,15 +13,15 @@ use crate::worker::DeskWorker;
 use audit_io::keeper::Keeper;
 use audit_model::lists::UnitList;
 use audit_model::memory::Memory;
+use claim_counter::gated::GatedWalker;
 use flip_guard::judge::Judge;
 use plan_core::job::Job;
 use std::alloc::Global;
-use walker::walker::Walker;
 
 /// All that walking takes beside the desk: walkers, room for as many workers, and room for the hub.
 #[derive(Drop)]
 pub struct Crew<J: Judge> {
-    pub(crate) walkers: Vec<Walker<J>>,
+    pub(crate) walkers: Vec<GatedWalker<J>>,
     pub(crate) workers: Vec<DeskWorker<J>>,
     pub(crate) hub: UnitList,
 }
@@ -45,7 +45,7 @@ pub fn recruit<J: Judge>(alloc: Global, job: &Job, judges: Vec<J>) -> Result<Cre
 pub(crate) fn seat<C: Keeper, J: Judge>(
     desk: &Desk<C>,
     mut pass: DeskPass,
-    mut walkers: Vec<Walker<J>>,
+    mut walkers: Vec<GatedWalker<J>>,
     mut workers: Vec<DeskWorker<J>>,
 ) -> Vec<DeskWorker<J>>
     requires pass { IsFirstPass desk.now.table.shared.table_id (parts_of C.state desk.now.table.shared.key) pass }
@@ -67,14 +67,18 @@ pub(crate) fn seat<C: Keeper, J: Judge>(
 }
 
 // A walker for each judge.
-fn hire<J: Judge>(alloc: Global, job: &Job, mut judges: Vec<J>) -> Result<Vec<Walker<J>>, Memory>
+fn hire<J: Judge>(
+    alloc: Global,
+    job: &Job,
+    mut judges: Vec<J>,
+) -> Result<Vec<GatedWalker<J>>, Memory>
     requires judges { AreJudges job.now J.judging judges.items }
     ensures walkers { IfOk result (λ w. AreWalkers job.now w.items) }
     ensures count { IfOk result (λ w. vec_len w ≡ vec_len judges) }
 {
     let mut walkers = Vec::with_capacity(alloc, judges.len())?;
     while let Some(judge) = judges.pop() {
-        walkers.push_reserved(Walker::new(alloc, job, judge)?);
+        walkers.push_reserved(GatedWalker::new(alloc, job, judge)?);
     }
     Ok(walkers)
 }

@@ -2,7 +2,7 @@
 ghost use Rattle.std.specs.Prelude.{◌≡◌};
 
 use crate::counter::counter_laws;
-use crate::handing::{DeskPlan, Kept, Refused, furnish, hand_over, open};
+use crate::handing::{Kept, Outset, Refused, furnish, hand_over, open};
 use crate::home::Home;
 use crate::pass::{DeskPass, take_out};
 use crate::rule::{Draw, Look, OnePass, OneTally, Posting, See, Serve, Take};
@@ -11,7 +11,6 @@ use atomic_table::{Seat, Table};
 use audit_io::keeper::Keeper;
 use audit_model::lists::UnitList;
 use audit_model::outcome::Outcome;
-use outcome_book::book::Book;
 use plan_core::job::Job;
 use std::alloc::Global;
 use std::marker::Brand;
@@ -43,7 +42,7 @@ impl<C: Keeper> Desk<C> {
     ghost use Rattle.tally_desk.specs.Passes.{Belongs, Claims, HasPostedAll, IsClosed, Posts, view_of};
     ghost use Rattle.tally_desk.specs.Views.{waiting};
 
-    /// A desk for the ids of `todo`, which the book lacks, with at most `seats` passes, and the first of these.
+    /// A desk for the ids to do, which the book lacks, with at most `seats` passes, and the first of these.
     ///
     /// # Errors
     ///
@@ -51,39 +50,42 @@ impl<C: Keeper> Desk<C> {
     pub fn new(
         alloc: Global,
         job: &Job,
-        plan: DeskPlan,
-        todo: UnitList,
+        outset: Outset<C>,
         seats: u32,
-        book: Book,
-        keeper: C,
     ) -> Result<(Desk<C>, DeskPass), Refused<C>>
-        requires found { MayFound job.now (C.state keeper).slots plan todo book }
+        requires found { MayFound job.now (C.state outset.keeper).slots outset.plan outset.todo outset.book }
         requires seats { (1 ≤ seats) × (seats ≤ 33) }
         ensures parts { IfOk result (λ d. parts_of C.state d.0.table.shared.key ≡ record {
           job = job.now;
-          opening = book.outcomes;
-          todo = todo;
-          save_every = plan.save_every;
+          opening = outset.book.outcomes;
+          todo = outset.todo;
+          save_every = outset.plan.save_every;
           seats = seats;
-          place = plan.place;
-          keeper = C.state keeper;
+          place = outset.plan.place;
+          keeper = C.state outset.keeper;
         }) }
         ensures pass { IfOk result (λ d. let parts = parts_of C.state d.0.table.shared.key in
             Belongs d.0.table.shared.table_id parts d.1 × (view_of d.1 ≡ first_view parts)) }
-        ensures refused { IfErr result (λ r. (r.book ≡ book) × (r.keeper ≡ keeper)) }
+        ensures refused { IfErr result (λ r. (r.book ≡ outset.book) × (r.keeper ≡ outset.keeper)) }
     {
         // Called for what their contracts say: the job is within its limits, and the book holds no more than it has room for.
         let _units = job.units();
-        let _len = book.len();
+        let _len = outset.book.len();
         let founding = Founding {
             job: Snapshot::of(job),
-            book: Snapshot::of(&book),
-            todo: Snapshot::of(&todo),
-            save_every: plan.save_every,
+            book: Snapshot::of(&outset.book),
+            todo: Snapshot::of(&outset.todo),
+            save_every: outset.plan.save_every,
             seats,
-            place: plan.place,
-            keeper: Snapshot::of(&keeper),
+            place: outset.plan.place,
+            keeper: Snapshot::of(&outset.keeper),
         };
+        let Outset {
+            plan,
+            todo,
+            book,
+            keeper,
+        } = outset;
         let home = match furnish(alloc, job, plan, todo.len(), book, keeper) {
             Ok(home) => home,
             Err(refused) => return Err(refused),

@@ -7,16 +7,16 @@ ghost use Rattle.claim_counter.specs.Walks.{ServesEnds};
 use crate::desk::Desk;
 use audit_io::keeper::Keeper;
 use audit_model::lists::UnitList;
+use claim_counter::gated::GatedWalker;
 use flip_guard::judge::Judge;
 use plan_core::job::Job;
-use walker::walker::Walker;
 
 /// Writes the hub, where it is needed. It is asked for beside a desk, so that it is walked only once all memory of the desk is taken.
 pub fn walk_hub<C: Keeper, J: Judge>(
     _desk: &Desk<C>,
     job: &Job,
     needed: bool,
-    walker: &mut Walker<J>,
+    walker: &mut GatedWalker<J>,
     hub: &mut UnitList,
 )
     requires walks { IsWalker job.now walker.old }

@@ -122,16 +122,10 @@ fn walk_over<R: Threads + Wait + Sync, C: Keeper + Send, J: Judge + Send, G: Gat
         k.book k.keeper k.place k.failed_saves k.last_saved) }
     ensures refused { IfErr result (λ r. (r.book ≡ outset.book) × (r.keeper ≡ outset.keeper)) }
 {
-    let Outset {
-        plan,
-        todo,
-        book,
-        keeper,
-    } = outset;
     let mut crew = crew;
-    let needed = has_above(todo.as_slice(), job.setting().walks);
+    let needed = has_above(outset.todo.as_slice(), job.setting().walks);
     let seats = crew.walkers.len() as u32;
-    match Desk::new(rt.alloc, job, plan, todo, seats, book, keeper) {
+    match Desk::new(rt.alloc, job, outset, seats) {
         Ok((desk, pass)) => {
             walk_hub(&desk, job, needed, &mut crew.walkers[0], &mut crew.hub);
             Ok(work(rt, job, desk, pass, crew))

@@ -5,15 +5,15 @@ use crate::laws::posts_stay_whole;
 use crate::pass::DeskPass;
 use audit_io::gate::Gate;
 use audit_io::keeper::Keeper;
+use claim_counter::gated::{GatedWalker, Told};
 use flip_guard::judge::Judge;
 use plan_core::job::Job;
 use std::sync::Wait;
-use walker::walker::Walker;
 
 /// A walker and a pass.
 #[derive(Drop)]
 pub struct DeskWorker<J: Judge> {
-    pub walker: Walker<J>,
+    pub walker: GatedWalker<J>,
     pub pass: DeskPass,
 }
 
@@ -39,8 +39,8 @@ impl<J: Judge> DeskWorker<J> {
         let walker = &mut self.walker;
         let pass = &mut self.pass;
         while let Some(id) = desk.claim(pass) {
-            gate.before(id);
-            desk.post(rt, pass, walker.walk(job, hub, id));
+            let told = Told::tell(gate, id);
+            desk.post(rt, pass, walker.walk(job, hub, told));
         }
     }
 }

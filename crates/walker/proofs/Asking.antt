@@ -5,7 +5,8 @@ use Rattle.audit_model.specs.declared.setting.Ask.{Ask}
 use Rattle.audit_model.specs.Below.{count_below}
 use Rattle.audit_model.specs.Job.{Job}
 use Rattle.audit_model.specs.JobOf.{IsJob}
-use Rattle.audit_model.specs.Plan.{IsLegal, district_sum}
+use Rattle.audit_model.specs.District.{district_sum}
+use Rattle.audit_model.specs.Plan.{IsLegal}
 use Rattle.audit_model.specs.Trajectory.{visit, four_values}
 use Rattle.audit_model.proofs.Below.{count_below_le, length-map_below}
 use Rattle.audit_model.proofs.ColumnFacts.{column_small}

@@ -3,7 +3,7 @@
 ghost use Rattle.std.specs.Prelude.{◌≡◌, ◌-◌, ◌^◌, [], ◌∷◌, Some, None, map, true, false, pos, negsuc};
 ghost use Rattle.audit_model.specs.declared.setting.Score.TheVariants.{Seats, MeanMedian, Gap, CutEdges};
 ghost use Rattle.audit_model.specs.declared.setting.Tail.TheVariants.{Low, High};
-ghost use Rattle.audit_laws.specs.Jobs.{run_of, path_of_four, cycle_of_four, path_of_three, job_of_four, job_of_three, job_of_three_districts, ring_of_six, grid_of_nine, triangle, first_draws, first_draws_alone, found_once};
+ghost use Rattle.audit_laws.specs.Jobs.{run_of, no_group, path_of_four, cycle_of_four, path_of_three, job_of_four, job_of_three, job_of_three_districts, ring_of_six, grid_of_nine, triangle, first_draws, first_draws_alone, found_once};
 ghost use Rattle.audit_model.specs.declared.outcome.Event.TheVariants as event;
 ghost use Rattle.audit_model.specs.declared.outcome.Did.TheVariants as did;
 ghost use Rattle.audit_model.specs.declared.fault.PlanFault.TheVariants.{OutOfBounds, Disconnected};
@@ -94,6 +94,8 @@ pub fn refused_plans()
       districts = 3;
       setting = run_of 1000 1 8 0 1000 [];
       regions = [];
+      group = no_group;
+      origin = None;
     }) ≡ Some (OutOfBounds 2 4 3 3) }
     ensures parted { plan_fault (record {
       graph = path_of_three;
@@ -102,6 +104,8 @@ pub fn refused_plans()
       districts = 2;
       setting = run_of 5000 1 8 0 1000 [];
       regions = [];
+      group = no_group;
+      origin = None;
     }) ≡ Some (Disconnected 0 0 2) }
 {}
 

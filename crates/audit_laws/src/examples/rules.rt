@@ -10,7 +10,7 @@ ghost use Rattle.audit_model.specs.Plan.{cut_edges};
 ghost use Rattle.audit_model.specs.Trajectory.{no_bins, outcome};
 ghost use Rattle.audit_statement.specs.Checkpoint.{job_bytes};
 ghost use Rattle.audit_statement.specs.Report.{check_text};
-ghost use Rattle.audit_laws.specs.Jobs.{run_of, path_of_four, square_with_diagonal, job_of_four, first_draws_alone};
+ghost use Rattle.audit_laws.specs.Jobs.{run_of, no_rules, path_of_four, square_with_diagonal, job_of_four, first_draws_alone};
 
 /// How many edges a plan cuts, and among how many districts it splits regions.
 pub fn small_splits()
@@ -20,9 +20,9 @@ pub fn small_splits()
     ensures whole { split_of (0 ∷ 0 ∷ 1 ∷ 1 ∷ []) (0 ∷ 0 ∷ 1 ∷ 1 ∷ []) 0 ≡ 1 }
     ensures split { split_of (0 ∷ 1 ∷ 1 ∷ 0 ∷ []) (0 ∷ 0 ∷ 1 ∷ 1 ∷ []) 0 ≡ 2 }
     ensures unused { split_of (0 ∷ 1 ∷ 1 ∷ 0 ∷ []) (0 ∷ 0 ∷ 1 ∷ 1 ∷ []) 5 ≡ 0 }
-    ensures meets { meets_rules (record { max_cut = 3; regions = 0 ∷ 1 ∷ 1 ∷ 0 ∷ []; max_split = 2 }) 3 (0 ∷ 0 ∷ 1 ∷ 1 ∷ []) ≡ true }
-    ensures cuts_too_many { meets_rules (record { max_cut = 2; regions = []; max_split = 200 }) 3 (0 ∷ 0 ∷ 1 ∷ 1 ∷ []) ≡ false }
-    ensures splits_too_often { meets_rules (record { max_cut = 3; regions = 0 ∷ 1 ∷ 1 ∷ 0 ∷ []; max_split = 1 }) 3 (0 ∷ 0 ∷ 1 ∷ 1 ∷ []) ≡ false }
+    ensures meets { meets_rules (record no_rules { max_cut = 3; regions = 0 ∷ 1 ∷ 1 ∷ 0 ∷ []; max_split = 2 }) 3 (0 ∷ 0 ∷ 1 ∷ 1 ∷ []) ≡ true }
+    ensures cuts_too_many { meets_rules (record no_rules { max_cut = 2 }) 3 (0 ∷ 0 ∷ 1 ∷ 1 ∷ []) ≡ false }
+    ensures splits_too_often { meets_rules (record no_rules { max_cut = 3; regions = 0 ∷ 1 ∷ 1 ∷ 0 ∷ []; max_split = 1 }) 3 (0 ∷ 0 ∷ 1 ∷ 1 ∷ []) ≡ false }
 {}
 
 /// Start plans that cut too many edges, or split a region among too many districts.

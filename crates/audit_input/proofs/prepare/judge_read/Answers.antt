@@ -9,12 +9,12 @@ pub with_regions-requires : goal.with_regions-requires
 with_regions-requires c =
     record {
       within = within_limits (parsed_of c.args.parsed) c.args.setting c.in-Ok.regions c.requires.within c.requires.setting
-          (c.in-Ok.ensures.within c.args.setting.columns (parsed_of c.args.parsed) c.requires.read);
+          (c.in-Ok.ensures.within c.args.setting.columns (parsed_of c.args.parsed) c.requires.read) c.requires.group;
     }
 
 pub returns-in-Ok-with_regions : goal.returns-in-Ok-with_regions
 returns-in-Ok-with_regions c =
-    is_judged c.args.setting c.args.bytes.now _ c.in-Ok.regions _ c.requires.few c.requires.read c.in-Ok.ensures.read c.in-Ok-with_regions.ensures.job c.in-Ok-with_regions.ensures.sound
+    is_judged c.args.setting c.args.bytes.now _ c.in-Ok.regions _ _ c.requires.few c.requires.read c.in-Ok.ensures.read c.in-Ok-with_regions.ensures.job c.with_source.ensures.job c.with_source.ensures.sound
 
 pub returns-in-Err-with_regions : goal.returns-in-Err-with_regions
 returns-in-Err-with_regions c =

@@ -1,13 +1,36 @@
-use Rattle.std.proofs.Common.{[], All, arith, sym, subst}
-use Rattle.std.proofs.lemmas.List.Elements.{All-push}
-use Rattle.audit_run.specs.Benches.{IsCutBench}
+use Rattle.std.proofs.Common.{◌∙◌, ◌++◌, ◌∷◌, [], List, nat_le, take, sym, ap, subst, arith}
+use Rattle.std.proofs.lemmas.List.{take_more}
+use Rattle.audit_model.specs.declared.rules.Rules.{Rules}
+use Rattle.plan_csv.specs.declared.named.Named.{Named}
+use Rattle.audit_saving.specs.Paired.{ArePaired}
+use Rattle.audit_run.specs.Benches.{IsCutBy, IsCutBench}
+use Rattle.audit_run.proofs.Pairing.{paired_push}
 use Rattle.audit_run.proofs.benches.cut_benches.Goals as goal
 
-pub loop-preserved : goal.loop-preserved
-loop-preserved g c = record {
-  each =
-      let by = IsCutBench c.args.test (record { max_cut = c.args.max_cut; regions = []; max_split = c.args.max_split }) c.args.count in
-      subst (All by) (sym c.in_ok-push.ensures.items)
-      (All-push by c.loop.benches.items _ c.loop.invariant.each (record { each = c.in_ok-judges.ensures.each; count_is = c.in_ok-judges.ensures.count }));
-  made = omega (arith, c.loop.invariant.made, c.in_ok-push.ensures.len);
-}
+pub guards-requires-clause-answers : goal.guards-requires-clause-answers
+guards-requires-clause-answers g c = λ sums answer few ret.
+    let here = (subst (IsCutBy c.args.rules.now) (sym c.plan-item.is) (c.requires.plans c.loop-plan.plan-index c.plan-item.result (omega arith))) in
+    c.requires.answers sums answer few ret ∙ ap (λ m. nat_le sums.cut m) (sym (ap (λ (r : Rules). r.max_cut) c.rules.ensures ∙ here.cut_is))
+
+pub guards-requires-clause-no_regions : goal.guards-requires-clause-no_regions
+guards-requires-clause-no_regions g c =
+    let here = (subst (IsCutBy c.args.rules.now) (sym c.plan-item.is) (c.requires.plans c.loop-plan.plan-index c.plan-item.result (omega arith))) in
+    ap (λ (r : Rules). r.regions) c.rules.ensures ∙ here.no_regions
+
+pub guards-requires-clause-no_group : goal.guards-requires-clause-no_group
+guards-requires-clause-no_group g c =
+    let here = (subst (IsCutBy c.args.rules.now) (sym c.plan-item.is) (c.requires.plans c.loop-plan.plan-index c.plan-item.result (omega arith))) in
+    ap (λ (r : Rules). r.group_districts) c.rules.ensures ∙ here.no_group
+
+pub loop-plan-preserved : goal.loop-plan-preserved
+loop-plan-preserved g c =
+    let bench = IsCutBench c.args.test c.args.count in
+    let taken = take_more c.args.plans.now c.loop-plan.plan-index c.plan-item.result (omega arith) in
+    let same = ap (λ (n : Named). take c.loop-plan.plan-index c.args.plans.now ++ n ∷ []) (sym c.plan-item.is) in
+    subst (λ (plans : List Named). ArePaired bench plans c.push.new.self.items) (sym (taken ∙ same))
+    (subst (λ benches. ArePaired bench (take c.loop-plan.plan-index c.args.plans.now ++ c.plan-item.result ∷ []) benches) (sym c.in_ok-push.ensures.items)
+    (paired_push bench (take c.loop-plan.plan-index c.args.plans.now) c.loop-plan.benches.items c.plan-item.result _ c.loop-plan.invariant
+    (record {
+      each = rw (← c.rules.ensures) c.in_ok-judges.ensures.each;
+      count_is = c.in_ok-judges.ensures.count;
+    })))

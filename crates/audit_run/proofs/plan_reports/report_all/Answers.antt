@@ -1,6 +1,7 @@
 use Rattle.std.proofs.Common.{◌∙◌, arith, ap, sym, length}
 use Rattle.std.proofs.lemmas.List.{nil_from_length}
 use Rattle.audit_model.specs.declared.rules.Rules.{Rules}
+use Rattle.audit_model.specs.declared.setting.Setting.{Setting}
 use Rattle.audit_model.specs.Job.{Job}
 use Rattle.audit_run.proofs.Likeness.{all_like}
 use Rattle.audit_run.proofs.plan_reports.report_all.Goals as goal
@@ -10,10 +11,11 @@ first_of-requires g c = omega (arith, ap length c.as_slice.ensures.value, c.requ
 
 pub report_cut-requires-clause-no_regions : goal.report_cut-requires-clause-no_regions
 report_cut-requires-clause-no_regions g c κs within = λ k d inside.
-    let regions = ap (λ (r : Rules). r.regions) c.rules.ensures ∙ ap (λ (j : Job). j.regions) c.first_of.ensures.2 in
+    let regions = ap (λ (r : Rules). r.regions) c.rules-rules.ensures ∙ ap (λ (j : Job). j.regions) c.first_of.ensures.2 in
     ((all_like c.args.plans.items c.first_of.ensures.0 (rw c.as_slice.ensures.value at c.first_of.ensures.1) c.requires) k d inside).regioned ∙ nil_from_length c.first_of.ensures.0.job.regions (sym (ap length regions) ∙ sym c.len.ensures ∙ c.if-len-eq0.true)
 
-pub report_split-requires-clause-some_regions : goal.report_split-requires-clause-some_regions
-report_split-requires-clause-some_regions g c κs within = λ k d inside none.
-    let regions = ap (λ (r : Rules). r.regions) c.rules.ensures ∙ ap (λ (j : Job). j.regions) c.first_of.ensures.2 in
-    c.if-len-eq0.false (c.len.ensures ∙ ap length (regions ∙ sym ((all_like c.args.plans.items c.first_of.ensures.0 (rw c.as_slice.ensures.value at c.first_of.ensures.1) c.requires) k d inside).regioned ∙ none))
+pub report_cut-requires-clause-no_group : goal.report_cut-requires-clause-no_group
+report_cut-requires-clause-no_group g c κs within = λ k d inside.
+    let least = ap (λ (r : Rules). r.group_districts) c.rules-rules.ensures ∙ ap (λ (j : Job). j.setting.group_districts) c.first_of.ensures.2 in
+    let like = (all_like c.args.plans.items c.first_of.ensures.0 (rw c.as_slice.ensures.value at c.first_of.ensures.1) c.requires) k d inside in
+    ap (λ (s : Setting). s.group_districts) like.set ∙ sym least ∙ c.if-rules-eq0.true

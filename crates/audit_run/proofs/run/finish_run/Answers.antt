@@ -8,12 +8,8 @@ pub finish_cut-requires-clause-opened : goal.finish_cut-requires-clause-opened
 finish_cut-requires-clause-opened g c κs within =
     subst (λ (k : Kept). IsOpened c.args.job.now k.slots c.in-Ok.opening) (sym c.in-Ok.ensures.same) c.in-Ok.ensures.opened
 
-pub finish_split-requires-clause-opened : goal.finish_split-requires-clause-opened
-finish_split-requires-clause-opened g c κs within =
-    subst (λ (k : Kept). IsOpened c.args.job.now k.slots c.in-Ok.opening) (sym c.in-Ok.ensures.same) c.in-Ok.ensures.opened
-
-pub returns-then-len-eq0 : goal.returns-then-len-eq0
-returns-then-len-eq0 g c = goes_on c.args.job.now _ _ _ _ _ _ c.in-Ok.ensures.same c.finish_cut.ensures
+pub returns-then-rules-eq0 : goal.returns-then-rules-eq0
+returns-then-rules-eq0 g c = goes_on c.args.job.now _ _ _ _ _ _ c.in-Ok.ensures.same c.finish_cut.ensures
 
 pub returns-else-len-eq0 : goal.returns-else-len-eq0
-returns-else-len-eq0 g c = goes_on c.args.job.now _ _ _ _ _ _ c.in-Ok.ensures.same c.finish_split.ensures
+returns-else-len-eq0 g c = goes_on c.args.job.now _ _ _ _ _ _ c.in-Ok.ensures.same c.finish_ruled.ensures

@@ -1,4 +1,4 @@
-use Rattle.std.proofs.Common.{◌∙◌, ◌≤◌, ℕ, ap, arith, subst, sym}
+use Rattle.std.proofs.Common.{◌≤◌, ℕ, ap, arith, subst, sym}
 use Rattle.audit_model.specs.declared.setting.Setting.{Setting}
 use Rattle.tally_desk.specs.Crews.{IsDeskCrew}
 use Rattle.report.specs.declared.ended.Ended.{Ended}

@@ -1,21 +1,9 @@
-use Rattle.std.proofs.Common.{◌≡◌, ◌+◌, ◌*◌, ◌≤◌, ℕ, length, subst, vec_len, arith}
-use Rattle.audit_model.proofs.ListFacts.{popped_last, popped_rest}
-use Rattle.tally_desk.specs.Crews.{IsDeskCrew}
-use Rattle.flip_kernel.specs.Judged.{IsJudgeFor}
 use Rattle.audit_saving.proofs.saving.make_saved_means.Goals as goal
 
-pub make_tester-requires : goal.make_tester-requires
-make_tester-requires g c = popped_last (λ judge. IsJudgeFor c.args.job.now (g.J.Judge.judging judge)) _ _ c.in-Some.judge c.requires.judges.judges_are c.in-Some.ensures.items
-
-pub recruit-requires : goal.recruit-requires
-recruit-requires g c = record { judges = popped_rest (λ judge. IsJudgeFor c.args.job.now (g.J.Judge.judging judge)) _ _ c.in-Some.judge c.requires.judges.judges_are c.in-Some.ensures.items }
-
 pub returns-clause-means : goal.returns-clause-means
-returns-clause-means g c =
-    let left : vec_len c.pop.new.self ≡ c.args.job.now.setting.workers = omega (arith, c.in-Some.ensures.len, c.requires.judges.count_is) in
-    record {
-      ready = c.in_ok-ready.ensures.ready;
-      crew = subst (λ (n : ℕ). IsDeskCrew c.args.job.now n c.in_ok-crew.crew) left c.in_ok-crew.ensures;
-      room = omega (arith, c.total.ensures, c.in_ok-room.ensures.spare);
-      tester = c.in_ok-tester.ensures;
-    }
+returns-clause-means g c = record {
+  ready = c.in_ok-ready.ensures.ready;
+  crew = c.in_ok-crew.ensures.crew;
+  room = c.in_ok-ready.ensures.room;
+  tester = c.in_ok-crew.ensures.tester;
+}

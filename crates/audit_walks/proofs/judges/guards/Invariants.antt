@@ -1,9 +1,9 @@
-use Rattle.std.proofs.Common.{◌≡◌, [], vec_len}
+use Rattle.std.proofs.Common.{◌≡◌, vec_len}
 use Rattle.audit_walks.specs.Guards.{AreGuards}
 use Rattle.audit_walks.proofs.judges.guards.Given as goal
 
 abbrev pub invariant-loop : goal.invariant-loop
 invariant-loop g l = record {
-  each : AreGuards l.test (record { max_cut = l.max_cut; regions = []; max_split = l.max_split }) l.judges.items;
+  each : AreGuards l.test l.rules l.judges.items;
   count : vec_len l.judges ≡ l.counter;
 }

@@ -1,10 +1,9 @@
-use Rattle.std.proofs.Common.{◌≡◌, ◌∙◌, ℕ, List, ap, arith, refl, subst, sym, true}
-use Rattle.std.specs.Prelude.{◌+◌, ◌&&◌, ◌||◌, not, nat_lt}
+use Rattle.std.proofs.Common.{◌≡◌, ◌∙◌, ap, arith, refl, subst, sym, true}
+use Rattle.std.specs.Prelude.{◌&&◌, nat_lt}
 use Rattle.std.proofs.lemmas.Bool.{and_parts}
-use Rattle.audit_model.specs.Power.{is_power_of_two}
 use Rattle.audit_model.specs.declared.fault.Name.TheVariants as name
 use Rattle.audit_model.specs.declared.setting.Command.TheVariants as command
-use Rattle.audit_statement.specs.Words.{has_walks, is_good, is_number, is_yes, is_yes_or_no, divides_draws, number_named, saves_parts, stops_alone, text_of}
+use Rattle.audit_statement.specs.Words.{has_walks, is_good, is_number, is_yes_or_no, divides_draws, number_named, saves_parts, stops_alone, text_of}
 use Rattle.audit_words.specs.Judged.{RestsOnGood}
 use Rattle.audit_words.specs.Spoken.{pairs_in}
 use Rattle.audit_words.proofs.Goodness.{number-bounds}

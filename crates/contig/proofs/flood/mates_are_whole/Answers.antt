@@ -2,7 +2,7 @@ use Rattle.std.proofs.Common.{◌≡◌, ℕ, true, ◌&&◌, List, get_or, subs
 use Rattle.std.specs.Prelude.{◌↔◌}
 use Rattle.audit_model.specs.Graph.{has}
 use Rattle.audit_model.specs.Path.{IsConnected}
-use Rattle.audit_model.specs.Plan.{in_district}
+use Rattle.audit_model.specs.District.{in_district}
 use Rattle.contig.proofs.flood.mates_are_whole.Goals as goal
 
 pub returns-clause-whole : goal.returns-clause-whole

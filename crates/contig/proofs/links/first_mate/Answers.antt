@@ -2,7 +2,7 @@ use Rattle.std.proofs.Common.{◌≡◌, ℕ, true, get_or, List, ap, sym, subst
 use Rattle.std.proofs.lemmas.Bool.{and_parts, eqb-true}
 use Rattle.std.specs.Prelude.{slice_index}
 use Rattle.audit_model.specs.Graph.{has, adjacent}
-use Rattle.audit_model.specs.Plan.{in_district}
+use Rattle.audit_model.specs.District.{in_district}
 use Rattle.audit_model.proofs.ListFacts.{has_at}
 use Rattle.contig.proofs.links.first_mate.Goals as goal
 

@@ -4,7 +4,7 @@ use Rattle.std.proofs.lemmas.Bool.{and_parts, and_from, eqb-true, eq-eqb, ne_eqb
 use Rattle.std.proofs.lemmas.List.{take_more}
 use Rattle.audit_model.specs.Graph.{Graph, has, adjacent, IsIn}
 use Rattle.audit_model.specs.Local.{stays_behind}
-use Rattle.audit_model.specs.Plan.{in_district}
+use Rattle.audit_model.specs.District.{in_district}
 use Rattle.audit_model.proofs.ListFacts.{at_has}
 use Rattle.dual_graph.specs.Marked.{Marked}
 use Rattle.contig.specs.Parts.{IsSpread}

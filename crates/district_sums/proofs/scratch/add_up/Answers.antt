@@ -1,7 +1,7 @@
 use Rattle.std.proofs.Common.{◌≡◌, ℕ, ◌^◌, ◌<◌, ◌≤◌, length, get_or, subst, ◌∙◌, arith}
 use Rattle.std.proofs.lemmas.List.Elements.{All-get_or}
 use Rattle.audit_model.specs.Below.{map_below}
-use Rattle.audit_model.specs.Plan.{district_sum}
+use Rattle.audit_model.specs.District.{district_sum}
 use Rattle.audit_model.proofs.ColumnFacts.{part_small}
 use Rattle.district_sums.proofs.Summing.{all_added}
 use Rattle.district_sums.proofs.scratch.add_up.Goals as goal

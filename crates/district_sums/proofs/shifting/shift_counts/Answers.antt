@@ -1,6 +1,6 @@
 use Rattle.std.proofs.Common.{◌≡◌, ℕ, List, length, arith}
 use Rattle.std.proofs.Math.ListN.{set}
-use Rattle.audit_model.specs.Plan.{district_sum}
+use Rattle.audit_model.specs.District.{district_sum}
 use Rattle.district_sums.specs.Following.{MovesWithin}
 use Rattle.district_sums.proofs.Shifted.{places, of_its_length, of_same_length}
 use Rattle.district_sums.proofs.shifting.shift_counts.Goals as goal

@@ -33,6 +33,7 @@ returns c =
         population = c.in_ok-counts.ensures.population;
         first = c.in_ok-counts.ensures.first;
         second = c.in_ok-counts.ensures.second;
+        grouped = c.in_ok-group.ensures;
         labels = labels_from c.args.names.now;
         labelled = c.requires.labels;
         districts = subst (λ (ls : List Label). AreDistricts (labels_from c.args.names.now) ls c.in_ok-start.start) (sym found) c.in_ok-start.ensures;

@@ -1,6 +1,6 @@
 use Rattle.std.proofs.Common.{◌≡◌, false, take}
 use Rattle.std.specs.List.{list_any}
-use Rattle.audit_model.specs.Plan.{in_district}
+use Rattle.audit_model.specs.District.{in_district}
 use Rattle.flip_kernel.proofs.openings.is_open.Given as goal
 
 abbrev pub invariant-loop-other : goal.invariant-loop-other

@@ -1,6 +1,6 @@
 use Rattle.std.proofs.Common.{◌≡◌, ℕ, ◌*◌, ◌<◌, ◌≤◌, cond, length, get_or}
 use Rattle.audit_model.specs.Below.{sum_below}
-use Rattle.audit_model.specs.Plan.{in_district}
+use Rattle.audit_model.specs.District.{in_district}
 use Rattle.plan_core.proofs.sums.district_sums.Given as goal
 
 abbrev pub invariant-loop-unit : goal.invariant-loop-unit

@@ -1,4 +1,3 @@
-use Rattle.std.proofs.Common.{rules}
 use Rattle.dual_graph.specs.Read.{parsed_of}
 use Rattle.plan_csv.proofs.jobs.jobs_read.Goals as goal
 

@@ -1,7 +1,5 @@
-use Rattle.std.proofs.Common.{rules, ◌≡◌, ◌∷◌, length, refl, sym, subst, ap, arith, ◌<◌, List}
-use Rattle.std.specs.List.{All}
+use Rattle.std.proofs.Common.{sym, subst, List}
 use Rattle.plan_csv.specs.declared.named.Named.{Named}
-use Rattle.plan_csv.specs.Named.{IsOneOf}
 use Rattle.plan_csv.specs.Shared.{AreShared}
 use Rattle.plan_csv.proofs.Reading.{shared_with}
 use Rattle.plan_csv.proofs.jobs.join.Goals as goal

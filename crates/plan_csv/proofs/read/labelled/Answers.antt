@@ -1,4 +1,4 @@
-use Rattle.std.proofs.Common.{◌≡◌, ◌<◌, ◌-◌, List, [], length, map, Some, refl, sym, ap, subst, ◌∙◌, inl, inr, arith}
+use Rattle.std.proofs.Common.{◌<◌, ◌-◌, List, length, map, Some, refl, sym, ap, subst, ◌∙◌, inl, inr, arith}
 use Rattle.std.specs.List.{All}
 use Rattle.csv.specs.Records.{fields_of}
 use Rattle.audit_model.specs.declared.plans.Assigned.{Assigned}

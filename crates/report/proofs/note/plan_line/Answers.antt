@@ -16,5 +16,14 @@ returns-in-TooManyCut c = c.line_of-in-TooManyCut.ensures ∙ rw (c.in-TooManyCu
 pub returns-in-TooManySplit : goal.returns-in-TooManySplit
 returns-in-TooManySplit c = c.line_of-in-TooManySplit.ensures ∙ rw (c.in-TooManySplit.is, c.from-in-TooManySplit.ensures, c.from-in-TooManySplit-2.ensures, c.from-in-TooManySplit-3.ensures)
 
+pub returns-in-TooManySplits : goal.returns-in-TooManySplits
+returns-in-TooManySplits c = c.line_of-in-TooManySplits.ensures ∙ rw (c.in-TooManySplits.is, c.from-in-TooManySplits.ensures, c.from-in-TooManySplits-2.ensures)
+
+pub returns-in-TooManySplitRegions : goal.returns-in-TooManySplitRegions
+returns-in-TooManySplitRegions c = c.line_of-in-TooManySplitRegions.ensures ∙ rw (c.in-TooManySplitRegions.is, c.from-in-TooManySplitRegions.ensures, c.from-in-TooManySplitRegions-2.ensures)
+
+pub returns-in-TooFewMajorities : goal.returns-in-TooFewMajorities
+returns-in-TooFewMajorities c = c.line_of-in-TooFewMajorities.ensures ∙ rw (c.in-TooFewMajorities.is, c.from-in-TooFewMajorities.ensures, c.from-in-TooFewMajorities-2.ensures)
+
 pub returns-in-Memory : goal.returns-in-Memory
 returns-in-Memory c = c.text_line-in-Memory.ensures ∙ rw c.in-Memory.is

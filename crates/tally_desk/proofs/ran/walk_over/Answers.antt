@@ -1,4 +1,4 @@
-use Rattle.std.proofs.Common.{◌<◌, ◌∙◌, ℕ, All, List, ap, arith, slice_set, subst, sym}
+use Rattle.std.proofs.Common.{◌<◌, ℕ, All, List, ap, arith, slice_set, subst, sym}
 use Rattle.std.specs.Prelude.{IsFalse}
 use Rattle.std.proofs.lemmas.List.Elements.{All-set}
 use Rattle.audit_model.specs.Job.{Job}

@@ -1,6 +1,6 @@
 use Rattle.std.proofs.Common.{ℕ, ◌<◌, List, length, get_or, set, refl, sym, subst, arith}
 use Rattle.audit_model.specs.Graph.{Graph}
-use Rattle.audit_model.specs.Plan.{in_district}
+use Rattle.audit_model.specs.District.{in_district}
 use Rattle.std.proofs.lemmas.Bool.{eq-eqb}
 use Rattle.contig.specs.Faces.{AreFaces}
 use Rattle.contig.specs.Counts.{AreCountsOf, is_before}

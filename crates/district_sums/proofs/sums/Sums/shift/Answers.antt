@@ -1,6 +1,7 @@
 use Rattle.std.proofs.Common.{◌≡◌, ℕ, ◌+◌, ◌-◌, ◌<◌, List, length, get_or, ap, ◌∙◌, arith}
 use Rattle.std.proofs.Math.ListN.{set}
-use Rattle.audit_model.specs.Plan.{district_sum, cut_edges}
+use Rattle.audit_model.specs.District.{district_sum}
+use Rattle.audit_model.specs.Plan.{cut_edges}
 use Rattle.audit_model.proofs.Meeting.{cut_edges_few}
 use Rattle.audit_model.proofs.Below.{get_or-map_below}
 use Rattle.district_sums.specs.Following.{Following, apart_of}

@@ -1,6 +1,6 @@
 use Rattle.std.proofs.Common.{length, ap, ◌∙◌}
 use Rattle.std.proofs.Math.ListN.{set}
-use Rattle.audit_model.specs.Plan.{district_sum}
+use Rattle.audit_model.specs.District.{district_sum}
 use Rattle.district_sums.specs.Following.{Following}
 use Rattle.district_sums.proofs.Shifted.{places}
 use Rattle.district_sums.proofs.sums.Sums.shift_view.Goals as goal

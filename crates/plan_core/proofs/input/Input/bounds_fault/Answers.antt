@@ -1,6 +1,6 @@
 use Rattle.std.proofs.Common.{◌≡◌, ℕ, List, ap, ◌∙◌, arith}
 use Rattle.audit_model.specs.Job.{Job}
-use Rattle.audit_model.specs.Plan.{district_sum}
+use Rattle.audit_model.specs.District.{district_sum}
 use Rattle.plan_core.specs.Input.{with_start}
 use Rattle.plan_core.specs.Outside.{first_outside}
 use Rattle.plan_core.proofs.Bounded.{outside_is_fault}
@@ -18,4 +18,4 @@ returns c =
     ∙ ap (λ (n : ℕ). first_outside sums n c.limits-low.result.0 c.limits-low.result.1) same
     ∙ ap (λ (pair : ℕ × ℕ). first_outside sums job.districts pair.0 pair.1) c.limits-low.ensures
     ∙ outside_is_fault (with_start job plan) sums (omega (arith, same, input.two))
-    (λ d l. c.district_sums-populations.ensures d (omega (arith, l, same, input.few)) ∙ ap (λ (xs : List ℕ). district_sum xs plan d) column)
+    (λ d l. c.district_sums-populations.ensures.sums d (omega (arith, l, same, input.few)) ∙ ap (λ (xs : List ℕ). district_sum xs plan d) column)

@@ -1,6 +1,6 @@
 use Rattle.std.proofs.Common.{◌≡◌, ◌<◌, sym, subst, ◌∙◌}
 use Rattle.audit_model.specs.Job.{Job}
-use Rattle.audit_model.specs.Plan.{in_district}
+use Rattle.audit_model.specs.District.{in_district}
 use Rattle.plan_core.specs.Input.{with_start}
 use Rattle.dual_graph.specs.Parting.{parting_of}
 use Rattle.plan_core.proofs.Judged.{parted_is_fault}

@@ -6,26 +6,26 @@ use Rattle.tally_desk.proofs.Found.{walked_found, walked_id}
 use Rattle.tally_desk.proofs.worker.DeskWorker.run.Goals as goal
 
 pub post-requires-clause-right : goal.post-requires-clause-right
-post-requires-clause-right g c = walked_found c.args.job.now c.args.desk.now.table.shared.key.job.value c.in-Some.id c.walk.result c.requires.shared.same c.walk.ensures.outcome
+post-requires-clause-right g c = walked_found c.args.job.now c.args.desk.now.table.shared.key.job.value c.in-Some.id c.tell-told.result c.walk.result c.requires.shared.same c.tell-told.ensures c.walk.ensures.outcome
 
 pub post-requires-clause-claimed : goal.post-requires-clause-claimed
 post-requires-clause-claimed g c =
     let parts = parts_of g.C.Keeper.state c.args.desk.now.table.shared.key in
     let may = c.posts_stay_whole.ensures.may parts c.in-Some.id _ _ c.loop-id.invariant.whole c.in-Some.ensures.claimed in
-    (subst (λ (id : ℕ). MayPost parts id (view_of c.claim.new.pass)) (sym (walked_id c.args.job.now c.in-Some.id c.walk.result c.walk.ensures.outcome)) may).claimed
+    (subst (λ (id : ℕ). MayPost parts id (view_of c.claim.new.pass)) (sym (walked_id c.args.job.now c.in-Some.id c.tell-told.result c.walk.result c.tell-told.ensures c.walk.ensures.outcome)) may).claimed
 
 pub post-requires-clause-unposted : goal.post-requires-clause-unposted
 post-requires-clause-unposted g c =
     let parts = parts_of g.C.Keeper.state c.args.desk.now.table.shared.key in
     let may = c.posts_stay_whole.ensures.may parts c.in-Some.id _ _ c.loop-id.invariant.whole c.in-Some.ensures.claimed in
-    (subst (λ (id : ℕ). MayPost parts id (view_of c.claim.new.pass)) (sym (walked_id c.args.job.now c.in-Some.id c.walk.result c.walk.ensures.outcome)) may).unposted
+    (subst (λ (id : ℕ). MayPost parts id (view_of c.claim.new.pass)) (sym (walked_id c.args.job.now c.in-Some.id c.tell-told.result c.walk.result c.tell-told.ensures c.walk.ensures.outcome)) may).unposted
 
 pub loop-id-preserved : goal.loop-id-preserved
 loop-id-preserved g c =
     let parts = parts_of g.C.Keeper.state c.args.desk.now.table.shared.key in
     let was = c.loop-id.invariant in
     let claimed = c.in-Some.ensures.claimed in
-    let posted = subst (λ (id : ℕ). Posts id (view_of c.claim.new.pass) (view_of c.post.new.pass)) (walked_id c.args.job.now c.in-Some.id c.walk.result c.walk.ensures.outcome) c.post.ensures.posted in
+    let posted = subst (λ (id : ℕ). Posts id (view_of c.claim.new.pass) (view_of c.post.new.pass)) (walked_id c.args.job.now c.in-Some.id c.tell-told.result c.walk.result c.tell-told.ensures c.walk.ensures.outcome) c.post.ensures.posted in
     record {
       walks = c.walk.ensures.made ∙ c.requires.shared.same;
       belongs = c.post.ensures.pass;

@@ -1,0 +1,68 @@
+use Rattle.std.proofs.Common.{◌∙◌, ◌+◌, arith, ap, refl, rules, sym, length}
+use Rattle.std.proofs.lemmas.Grind.{common_steps}
+use Rattle.audit_model.specs.declared.rules.Rules.{Rules}
+use Rattle.audit_model.specs.declared.setting.Setting.{Setting}
+use Rattle.audit_model.specs.Job.{Job}
+use Rattle.plan_csv.specs.declared.named.Named.{Named}
+use Rattle.audit_laws.proofs.Running.{run_setting}
+use Rattle.audit_saving.specs.Plans.{RunsAlone}
+use Rattle.audit_walks.proofs.Splitting.{takes_plans}
+use Rattle.audit_run.proofs.Likeness.{IsLike, all_like, of_first}
+use Rattle.audit_run.proofs.Pairing.{paired_with}
+use Rattle.audit_run.proofs.plan_reports.report_ruled.Goals as goal
+
+pub first_of-first-requires : goal.first_of-first-requires
+first_of-first-requires g c = omega (arith, ap length c.as_slice.ensures.value, c.requires.shared.some)
+
+pub overflow_add-workers : goal.overflow_add-workers
+overflow_add-workers g c =
+    let of = run_setting c.first_of-first.ensures.0.job (of_first (λ (n : Named). RunsAlone n.job) c.args.plans.items c.first_of-first.ensures.0 (rw c.as_slice.ensures.value at c.first_of-first.ensures.1) c.requires.shared.some c.requires.alone).run in
+    let workers = ap (λ (s : Setting). s.workers) (c.setting.ensures ∙ ap (λ (j : Job). j.setting) c.first_of-first.ensures.2) in
+    omega (arith, workers, of.few_workers)
+
+pub ruled_benches-requires-clause-plans : goal.ruled_benches-requires-clause-plans
+ruled_benches-requires-clause-plans g c =
+    let cut = ap (λ (r : Rules). r.max_cut) c.rules-rules.ensures ∙ ap (λ (j : Job). j.setting.max_cut) c.first_of-first.ensures.2 in
+    let split = ap (λ (r : Rules). r.max_split) c.rules-rules.ensures ∙ ap (λ (j : Job). j.setting.max_split) c.first_of-first.ensures.2 in
+    let workers = ap (λ (s : Setting). s.workers) c.setting.ensures ∙ ap (λ (j : Job). j.setting.workers) c.first_of-first.ensures.2 in
+    rw c.as_slice-2.ensures.value (λ k d inside.
+    let like = (all_like c.args.plans.items c.first_of-first.ensures.0 (rw c.as_slice.ensures.value at c.first_of-first.ensures.1) c.requires) k d inside in
+    record {
+      sound = like.sound;
+      cut_is = ap (λ (s : Setting). s.max_cut) like.set ∙ sym cut;
+      split_is = ap (λ (s : Setting). s.max_split) like.set ∙ sym split;
+    })
+
+pub report_plans-requires-clause-judges : goal.report_plans-requires-clause-judges
+report_plans-requires-clause-judges g c κs within =
+    let cut = ap (λ (r : Rules). r.max_cut) c.rules-rules.ensures ∙ ap (λ (j : Job). j.setting.max_cut) c.first_of-first.ensures.2 in
+    let split = ap (λ (r : Rules). r.max_split) c.rules-rules.ensures ∙ ap (λ (j : Job). j.setting.max_split) c.first_of-first.ensures.2 in
+    let workers = ap (λ (s : Setting). s.workers) c.setting.ensures ∙ ap (λ (j : Job). j.setting.workers) c.first_of-first.ensures.2 in
+    paired_with (IsLike c.first_of-first.ensures.0) _ _ (λ n judges each bench.
+    let same = each.set in
+    record {
+      judges_are = λ i e within_judges.
+          let is = bench.each i e within_judges in
+          let limit_cut = ap (λ (s : Setting). s.max_cut) same ∙ sym cut in
+          let limit_split = ap (λ (s : Setting). s.max_split) same ∙ sym split in
+          record {
+            kept = (
+              rw is.cut_is (first_of (search rules, grind (arith, common_steps))),
+              rw (is.cut_is, is.same_cut, limit_cut) (first_of (search rules, grind (arith, common_steps))),
+              is.same_cut ∙ sym (ap (λ (r : Rules). r.max_cut) is.rules_are),
+              rw is.test_is (first_of (search rules, grind (arith, common_steps))),
+              rw (is.test_is, is.rules_are, limit_split) (first_of (search rules, grind (arith, common_steps))),
+              rw (is.rules_are, is.districts_are) is.table,
+              rw (is.rules_are, is.districts_are) is.group_table,
+            );
+            ruled = is.rules_are;
+            taken = takes_plans n.job _ _ each.sound.within is.rules_are is.districts_are;
+          };
+      count_is = bench.count_is ∙ ap (λ n. n + 1) (workers ∙ sym (ap (λ (s : Setting). s.workers) same));
+    }) c.args.plans.items c.in-Ok.benches.items (all_like c.args.plans.items c.first_of-first.ensures.0 (rw c.as_slice.ensures.value at c.first_of-first.ensures.1) c.requires) (rw c.as_slice-2.ensures.value at c.in-Ok.ensures)
+
+pub returns-in-Err : goal.returns-in-Err
+returns-in-Err g c = λ key all. refl
+
+pub report_plans-requires-clause-plans : goal.report_plans-requires-clause-plans
+report_plans-requires-clause-plans g c κs within = c.requires.alone

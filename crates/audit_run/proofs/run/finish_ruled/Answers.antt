@@ -1,0 +1,41 @@
+use Rattle.std.proofs.Common.{◌∙◌, ap, arith, rules, sym}
+use Rattle.std.proofs.lemmas.Grind.{common_steps}
+use Rattle.audit_model.specs.declared.rules.Rules.{Rules}
+use Rattle.audit_model.specs.declared.setting.Setting.{Setting}
+use Rattle.audit_walks.proofs.Splitting.{own_group, takes_plans}
+use Rattle.audit_laws.proofs.Running.{run_setting}
+use Rattle.audit_run.proofs.run.finish_ruled.Goals as goal
+
+pub overflow_add-workers : goal.overflow_add-workers
+overflow_add-workers g c =
+    let workers = ap (λ (s : Setting). s.workers) c.setting.ensures in
+    let few = (run_setting c.args.job.now c.requires.run).few_workers in
+    omega (arith, workers, few)
+
+pub region_guards-requires-clause-group : goal.region_guards-requires-clause-group
+region_guards-requires-clause-group g c = rw c.rules-rules.ensures (own_group _ _ c.requires.run.sound.within.group).0
+
+pub region_guards-requires-clause-few_units : goal.region_guards-requires-clause-few_units
+region_guards-requires-clause-few_units g c =
+    rw c.rules-rules.ensures (omega (arith, (own_group _ _ c.requires.run.sound.within.group).1, c.requires.run.sound.within.input.units))
+
+pub finish_judged-requires-clause-judges : goal.finish_judged-requires-clause-judges
+finish_judged-requires-clause-judges g c κs within = record {
+  judges_are = λ k d inside.
+      let is = c.in-Ok.ensures.each k d inside in
+      let ruled = is.rules_are ∙ c.rules-rules.ensures in
+      record {
+        kept = (
+          rw is.cut_is (first_of (search rules, grind (arith, common_steps))),
+          rw (is.cut_is, is.same_cut) (first_of (search rules, grind (arith, common_steps))),
+          is.same_cut ∙ sym (ap (λ (r : Rules). r.max_cut) is.rules_are),
+          rw is.test_is (first_of (search rules, grind (arith, common_steps))),
+          rw (is.test_is, is.rules_are) (first_of (search rules, grind (arith, common_steps))),
+          rw (is.rules_are, is.districts_are) is.table,
+          rw (is.rules_are, is.districts_are) is.group_table,
+        );
+        ruled = ruled;
+        taken = takes_plans c.args.job.now _ _ c.requires.run.sound.within ruled (is.districts_are ∙ c.districts.ensures);
+      };
+  count_is = omega (arith, c.in-Ok.ensures.count, ap (λ (s : Setting). s.workers) c.setting.ensures);
+}

@@ -1,0 +1,56 @@
+-- Plans that fit before and after a move.
+use Rattle.std.proofs.Common.{◌≡◌, ℕ, ◌<◌, ◌≤◌, true, ◌&&◌, ◌==◌, List, length, set, ◌⊎◌, inl, inr, arith}
+use Rattle.std.specs.Prelude.{nat_le}
+use Rattle.std.proofs.lemmas.Bool.{and_parts, eqb-true, leb-true, or_cases}
+use Rattle.audit_model.specs.declared.rules.Rules.{Rules}
+use Rattle.audit_model.specs.Below.{above_all}
+use Rattle.region_guard.specs.Standing.{IsFitStep, IsStep, is_fitting, is_for}
+
+-- a list that is for so many units has none or as many
+pub for_cases : (units : ℕ) (entries : List ℕ) → is_for units entries ≡ true → (length entries ≡ 0) ⊎ (length entries ≡ units)
+for_cases units entries h = elim (or_cases (length entries == 0) (length entries == units) h) [
+  | inl none ↦ inl (eqb-true (length entries) 0 none)
+  | inr all ↦ inr (eqb-true (length entries) units all)
+]
+
+-- what it is that a plan fits
+pub record IsFit (rules : Rules) (districts units above : ℕ) : Type 0 where
+  pub regions : is_for units rules.regions ≡ true
+  pub group : is_for units rules.group.members ≡ true
+  pub below : above ≤ districts
+
+pub fit_parts : (rules : Rules) (districts units above : ℕ) → is_fitting rules districts units above ≡ true → IsFit rules districts units above
+fit_parts rules districts units above h =
+    let last = and_parts (is_for units rules.regions && is_for units rules.group.members) (nat_le above districts) h in
+    let parts = and_parts (is_for units rules.regions) (is_for units rules.group.members) last.0 in
+    record { regions = parts.0; group = parts.1; below = leb-true above districts last.1 }
+
+module _ (rules : Rules) (districts : ℕ) (after : List ℕ) (u from : ℕ) (taken : is_fitting rules districts (length after) (above_all after) ≡ true)
+    (inside : u < length after) (taken_before : is_fitting rules districts (length (set after u from)) (above_all (set after u from)) ≡ true) where
+  here : IsFit rules districts (length after) (above_all after)
+  here = fit_parts rules districts (length after) (above_all after) taken
+
+  was : IsFit rules districts (length (set after u from)) (above_all (set after u from))
+  was = fit_parts rules districts (length (set after u from)) (above_all (set after u from)) taken_before
+
+  -- plans that fit before and after a move are a step of the regions
+  pub region_step : IsFitStep rules.regions districts after u from
+  region_step = record { long = here.regions; unit_below = inside; after_below = here.below; before_below = was.below }
+
+  -- and of the group
+  pub group_step : IsFitStep rules.group.members districts after u from
+  group_step = record { long = here.group; unit_below = inside; after_below = here.below; before_below = was.below }
+
+-- where there are entries, each unit has one
+pub sure_step : (entries : List ℕ) (districts : ℕ) (after : List ℕ) (u from : ℕ) → IsFitStep entries districts after u from → (length entries ≡ 0 → ⊥)
+    → IsStep entries districts after u from
+sure_step entries districts after u from step some = record {
+  long = elim (for_cases (length after) entries step.long) [ inl none ↦ absurd (some none) | inr all ↦ omega (arith, all) ];
+  unit_below = step.unit_below;
+  after_below = step.after_below;
+  before_below = step.before_below;
+}
+
+-- there are no more entries than units
+pub no_more : (units : ℕ) (entries : List ℕ) → is_for units entries ≡ true → length entries ≤ units
+no_more units entries h = elim (for_cases units entries h) [ inl none ↦ omega (arith, none) | inr all ↦ omega (arith, all) ]

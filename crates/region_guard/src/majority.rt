@@ -1,0 +1,187 @@
+//! In how many districts a group has a majority.
+
+ghost use Rattle.std.specs.Prelude.{◌≡◌, ◌≢◌, ℕ, ◌+◌, ◌-◌, ◌*◌, ◌^◌, ◌<◌, ◌≤◌, cond, nat_lt, IfOk, length, replicate, slice_index, slice_set};
+ghost use Rattle.audit_model.specs.Below.{above_all, count_below};
+ghost use Rattle.audit_model.specs.Limits.{most_districts};
+ghost use Rattle.audit_model.specs.Meets.{majorities};
+ghost use Rattle.region_guard.specs.Standing.{IsFitStep, IsGroupTable, IsStep, IsTallied};
+
+use crate::counting::{refill, shift};
+use audit_model::lists::NumList;
+use audit_model::memory::Memory;
+use audit_model::rules::Group;
+use std::alloc::Global;
+
+/// The sums of a plan's districts: how many people of a group are in each, and how many of those among whom it may be a majority; and in
+/// how many districts it is one.
+#[derive(Drop)]
+pub struct GroupTally {
+    members: NumList,
+    whole: NumList,
+    majorities: u32,
+}
+
+impl GroupTally {
+    /// Sums of no one.
+    pub(crate) fn zeros(alloc: Global, districts: usize) -> Result<GroupTally, Memory>
+        ensures { IfOk result (λ t. t ≡ record { members = replicate districts 0; whole = replicate districts 0; majorities = 0 }) }
+    {
+        Ok(GroupTally {
+            members: NumList::zeros(alloc, districts)?,
+            whole: NumList::zeros(alloc, districts)?,
+            majorities: 0,
+        })
+    }
+
+    /// 1 where the group has a majority in a district, and else 0.
+    #[inline]
+    fn majority_in(&self, district: u32) -> u32
+        requires members { district < length self.now.members }
+        requires whole { district < length self.now.whole }
+        requires few { 2 * slice_index self.now.members district < 2 ^ 64 }
+        ensures { result ≡ cond (nat_lt (slice_index self.now.whole district) (2 * slice_index self.now.members district)) 1 0 }
+    {
+        let place = district as usize;
+        majority_of(self.members.as_slice()[place], self.whole.as_slice()[place])
+    }
+
+    /// The same where a unit has left the district.
+    #[inline]
+    fn majority_without(&self, group: &Group, unit: u32, district: u32) -> u32
+        requires members { district < length self.now.members }
+        requires whole { district < length self.now.whole }
+        requires unit_members { unit < length group.now.members }
+        requires unit_whole { unit < length group.now.whole }
+        requires some_members { slice_index group.now.members unit ≤ slice_index self.now.members district }
+        requires some_whole { slice_index group.now.whole unit ≤ slice_index self.now.whole district }
+        requires few { 2 * slice_index self.now.members district < 2 ^ 64 }
+        ensures { result ≡ cond (nat_lt (slice_index self.now.whole district - slice_index group.now.whole unit)
+            (2 * (slice_index self.now.members district - slice_index group.now.members unit))) 1 0 }
+    {
+        let place = district as usize;
+        let members = group.members.as_slice()[unit as usize];
+        let whole = group.whole.as_slice()[unit as usize];
+        majority_of(
+            self.members.as_slice()[place] - members,
+            self.whole.as_slice()[place] - whole,
+        )
+    }
+
+    /// The same where a unit has come into the district.
+    #[inline]
+    fn majority_beside(&self, group: &Group, unit: u32, district: u32) -> u32
+        requires members { district < length self.now.members }
+        requires whole { district < length self.now.whole }
+        requires unit_members { unit < length group.now.members }
+        requires unit_whole { unit < length group.now.whole }
+        requires few { 2 * (slice_index self.now.members district + slice_index group.now.members unit) < 2 ^ 64 }
+        requires few_whole { slice_index self.now.whole district + slice_index group.now.whole unit < 2 ^ 64 }
+        ensures { result ≡ cond (nat_lt (slice_index self.now.whole district + slice_index group.now.whole unit)
+            (2 * (slice_index self.now.members district + slice_index group.now.members unit))) 1 0 }
+    {
+        let place = district as usize;
+        let members = group.members.as_slice()[unit as usize];
+        let whole = group.whole.as_slice()[unit as usize];
+        majority_of(
+            self.members.as_slice()[place] + members,
+            self.whole.as_slice()[place] + whole,
+        )
+    }
+
+    /// In how many districts the group has a majority after a move, where there is a group.
+    fn majorities_after(&self, group: &Group, after: &[u32], unit: u32, from: u32) -> u32
+        requires table { IsGroupTable group.now (length self.now.members) self.now }
+        requires step { IsStep group.now.members (length self.now.members) after.now unit from }
+        requires stood { IsTallied group.now (length self.now.members) self.now (slice_set after.now unit from) }
+        ensures { result ≡ majorities group.now after.now }
+    {
+        let to = after[unit as usize];
+        if to == from {
+            return self.majorities;
+        }
+        let left = self.majority_without(group, unit, from);
+        let entered = self.majority_beside(group, unit, to);
+        self.majorities + left + entered - self.majority_in(from) - self.majority_in(to)
+    }
+
+    /// In how many districts the group has a majority after a move.
+    #[inline]
+    pub(crate) fn majorities_with(&self, group: &Group, after: &[u32], unit: u32, from: u32) -> u32
+        requires table { IsGroupTable group.now (length self.now.members) self.now }
+        requires step { IsFitStep group.now.members (length self.now.members) after.now unit from }
+        requires stood { IsTallied group.now (length self.now.members) self.now (slice_set after.now unit from) }
+        ensures { result ≡ majorities group.now after.now }
+    {
+        if group.members.len() == 0 {
+            return self.majorities;
+        }
+        self.majorities_after(group, after, unit, from)
+    }
+
+    /// Stands for the plan after a move to another district, where there is a group.
+    fn follow(&mut self, group: &Group, after: &[u32], unit: u32, from: u32)
+        requires table { IsGroupTable group.now (length self.old.members) self.old }
+        requires step { IsStep group.now.members (length self.old.members) after.now unit from }
+        requires stood { IsTallied group.now (length self.old.members) self.old (slice_set after.now unit from) }
+        requires apart { slice_index after.now unit ≢ from }
+        ensures table { IsGroupTable group.now (length self.old.members) self.new }
+        ensures stands { IsTallied group.now (length self.old.members) self.new after.now }
+    {
+        let majorities = self.majorities_after(group, after, unit, from);
+        let to = after[unit as usize];
+        shift(&group.members, unit, from, to, &mut self.members);
+        shift(&group.whole, unit, from, to, &mut self.whole);
+        self.majorities = majorities;
+    }
+
+    /// Stands for the plan after a move to another district.
+    pub(crate) fn moved(&mut self, group: &Group, after: &[u32], unit: u32, from: u32)
+        requires table { IsGroupTable group.now (length self.old.members) self.old }
+        requires step { IsFitStep group.now.members (length self.old.members) after.now unit from }
+        requires stood { IsTallied group.now (length self.old.members) self.old (slice_set after.now unit from) }
+        requires apart { slice_index after.now unit ≢ from }
+        ensures table { IsGroupTable group.now (length self.old.members) self.new }
+        ensures stands { IsTallied group.now (length self.old.members) self.new after.now }
+    {
+        if group.members.len() > 0 {
+            self.follow(group, after, unit, from);
+        }
+    }
+
+    /// In how many districts the group has a majority, by the sums.
+    fn count_majorities(&self) -> u32
+        requires few { length self.now.members ≤ most_districts }
+        requires places { length self.now.whole ≡ length self.now.members }
+        requires small { (d : ℕ) → d < length self.now.members → 2 * slice_index self.now.members d < 2 ^ 64 }
+        ensures { result ≡ count_below (length self.now.members)
+            (λ d. nat_lt (slice_index self.now.whole d) (2 * slice_index self.now.members d)) }
+    {
+        let mut majorities = 0;
+        for district in 0..self.members.len() {
+            majorities += self.majority_in(district as u32);
+        }
+        majorities
+    }
+
+    /// Stands for a plan.
+    pub(crate) fn reset(&mut self, group: &Group, plan: &[u32])
+        requires table { IsGroupTable group.now (length self.old.members) self.old }
+        requires entries { length group.now.members ≤ length plan.now }
+        requires below { above_all plan.now ≤ length self.old.members }
+        ensures table { IsGroupTable group.now (length self.old.members) self.new }
+        ensures stands { IsTallied group.now (length self.old.members) self.new plan.now }
+    {
+        refill(&group.members, plan, &mut self.members);
+        refill(&group.whole, plan, &mut self.whole);
+        self.majorities = self.count_majorities();
+    }
+}
+
+/// 1 where so many members are more than half of the whole, and else 0.
+#[inline]
+fn majority_of(members: u64, whole: u64) -> u32
+    requires few { 2 * members < 2 ^ 64 }
+    ensures { result ≡ cond (nat_lt whole (2 * members)) 1 0 }
+{
+    if 2 * members > whole { 1 } else { 0 }
+}

@@ -1,0 +1,97 @@
+//! The lines that tell where a job comes from.
+
+ghost use Rattle.std.specs.Prelude.{◌≡◌, ◌++◌};
+ghost use Rattle.report.specs.Lines.{AppendsText, spaced};
+ghost use Rattle.report.specs.Parts.{source_line};
+ghost use Rattle.audit_statement.specs.Report as definition;
+
+use crate::lines::{Word, push_line, push_word, push_words};
+use audit_model::buffers::Bytes;
+use audit_model::memory::Memory;
+use audit_model::origin::Origin;
+use audit_model::setting::{Columns, Setting};
+use audit_model::text::Text;
+use plan_core::job::Job;
+
+/// Appends the line of the bytes that were read and the line of the columns, where the job tells its origin.
+pub fn push_origin_lines(job: &Job, out: &mut Bytes) -> Result<(), Memory>
+    ensures { AppendsText out.old out.new (definition.origin_lines job.now job.now.origin) result }
+{
+    match job.origin() {
+        None => Ok(()),
+        Some(origin) => push_origin(job.setting(), &origin, out),
+    }
+}
+
+/// Appends both lines.
+fn push_origin(setting: &Setting, origin: &Origin, out: &mut Bytes) -> Result<(), Memory>
+    ensures { AppendsText out.old out.new (source_line origin.now ++ definition.columns_line setting.now.columns setting.now.region) result }
+{
+    push_source_line(origin, out)?;
+    push_columns_line(&setting.columns, &setting.region, out)
+}
+
+/// Appends the line with the digest of the bytes that were read, and how many they were.
+fn push_source_line(origin: &Origin, out: &mut Bytes) -> Result<(), Memory>
+    ensures { AppendsText out.old out.new (source_line origin.now) result }
+{
+    push_line(
+        out,
+        &[
+            Word::Text("source"),
+            Word::Text("sha256"),
+            Word::Key(&origin.sha256),
+            Word::Text("bytes"),
+            Word::Number(origin.bytes),
+        ],
+    )
+}
+
+/// Appends the line with the names of the columns.
+fn push_columns_line(columns: &Columns, region: &Text, out: &mut Bytes) -> Result<(), Memory>
+    ensures { AppendsText out.old out.new (definition.columns_line columns.now region.now) result }
+{
+    push_word(out, &Word::Text("columns"))?;
+    push_words(
+        out,
+        &[
+            Word::Quoted(columns.population.as_str()),
+            Word::Quoted(columns.first.as_str()),
+            Word::Quoted(columns.second.as_str()),
+            Word::Quoted(columns.district.as_str()),
+        ],
+    )?;
+    push_region_words(region, out)?;
+    push_group_words(columns, out)?;
+    out.push(b'\n')
+}
+
+/// Appends the column of the regions, where one is named.
+fn push_region_words(region: &Text, out: &mut Bytes) -> Result<(), Memory>
+    ensures { AppendsText out.old out.new (spaced (definition.region_words region.now)) result }
+{
+    let name = region.as_str();
+    if name.is_empty() {
+        return Ok(());
+    }
+    push_words(out, &[Word::Text("region"), Word::Quoted(name)])
+}
+
+/// Appends the columns of a group, where one is named.
+fn push_group_words(columns: &Columns, out: &mut Bytes) -> Result<(), Memory>
+    ensures { AppendsText out.old out.new (spaced (definition.group_words columns.now.group columns.now.whole)) result }
+{
+    let name = columns.group.as_str();
+    if name.is_empty() {
+        return Ok(());
+    }
+    push_words(
+        out,
+        &[
+            Word::Text("group"),
+            Word::Quoted(name),
+            Word::Text("of"),
+            Word::Quoted(columns.whole.as_str()),
+        ],
+    )
+}
