@@ -13,10 +13,10 @@ import sys
 import networkx
 
 from compare import rank, read
-from compare_walks import MOST_SPLIT, NO_LIMIT, Job, draws, outcomes
+from compare_walks import MOST_REGIONS, MOST_SPLIT, MOST_SPLITS, NO_LIMIT, Job, draws, limits_splits, origin_of, outcomes
 
 NUMBERS = {"--size": 0, "--slack": 500, "--walks": 1, "--steps": 1000, "--ends": 0, "--hub-steps": 1000, "--max-cut": NO_LIMIT,
-           "--max-split": MOST_SPLIT}
+           "--max-split": MOST_SPLIT, "--max-splits": MOST_SPLITS, "--max-split-regions": MOST_REGIONS, "--group-districts": 0}
 SCORES = ("seats", "mean-median", "gap", "cut-edges")
 TAILS = ("low", "high")
 MOST_OUTCOMES = 100000
@@ -28,8 +28,8 @@ class Setting:
 
     def __init__(self, words):
         self.command, self.given = words[0], dict(zip(words[1::2], words[2::2]))
-        self.size, self.slack, self.walks, self.steps, self.ends, self.hub_steps, self.max_cut, self.max_split = (
-            int(self.given.get(name, default)) for name, default in NUMBERS.items())
+        numbers = {name.lstrip("-").replace("-", "_"): int(self.given.get(name, default)) for name, default in NUMBERS.items()}
+        self.__dict__.update(numbers)
         self.key = bytes.fromhex(self.given.get("--key", ""))
         self.asks = [tuple(ask.split(":")) for ask in self.given.get("--ask", "").split(",") if ask]
         self.total = self.walks + self.ends
@@ -51,6 +51,9 @@ def job_of_graph(setting, document):
     if setting.given.get("--region"):
         counties = [unit[setting.given["--region"]] for unit in units]
         job.regions = [sorted(set(counties), key=rank).index(county) for county in counties]
+    if setting.given.get("--group"):
+        columns = setting.given["--group"], setting.given.get("--group-of") or setting.given["--pop"]
+        job.group = tuple([unit[column] for unit in units] for column in columns)
     return job
 
 
@@ -70,7 +73,12 @@ def job_of_grid(setting):
 
 def job_of(setting, text):
     job = job_of_grid(setting) if setting.command == "make" else job_of_graph(setting, json.loads(text))
-    job.max_cut, job.max_split = setting.max_cut, setting.max_split
+    job.max_cut, job.max_split, job.max_splits, job.max_split_regions = setting.max_cut, setting.max_split, setting.max_splits, setting.max_split_regions
+    job.group_districts = setting.group_districts
+    if setting.given.get("--source") == "yes":
+        columns = [setting.given[name] for name in ("--pop", "--first", "--second", "--district")]
+        whole = setting.given.get("--group-of") or setting.given["--pop"]
+        job.origin = origin_of(text, columns, setting.given.get("--region"), setting.given.get("--group"), whole)
     job.shift = setting.given.get("--shift") == "yes"
     job.serial = setting.given.get("--serial") == "yes"
     job.stop = int(setting.given.get("--stop", 0))
@@ -80,8 +88,9 @@ def job_of(setting, text):
 def digest(job, setting):
     """The SHA-256 of all that the outcomes depend on."""
     edges = sorted(tuple(sorted(edge)) for edge in job.graph.edges)
-    has_rules = job.max_cut < NO_LIMIT or job.regions
-    parts = [b"district-job 2" if has_rules else b"district-job 1", struct.pack(">3I", job.units, len(edges), job.districts)]
+    has_rules = job.max_cut < NO_LIMIT or job.regions or job.group
+    version = 3 if job.group or limits_splits(job) else 2 if has_rules else 1
+    parts = [f"district-job {version}".encode(), struct.pack(">3I", job.units, len(edges), job.districts)]
     parts += [struct.pack(">2I", *edge) for edge in edges]
     parts += [struct.pack(">3QI", *unit) for unit in zip(job.people, job.first, job.second, job.plan)]
     parts += [struct.pack(">I", setting.slack), setting.key]
@@ -90,6 +99,9 @@ def digest(job, setting):
     parts += [struct.pack(">2I", SCORES.index(score), TAILS.index(tail)) for score, tail in setting.asks]
     parts += [struct.pack(">I", job.max_cut)] if has_rules else []
     parts += [struct.pack(f">{1 + job.units}I", job.max_split, *job.regions)] if job.regions else []
+    parts += [struct.pack(">2I", job.max_splits, job.max_split_regions)] if limits_splits(job) else []
+    parts += [struct.pack(">I", job.group_districts)] if job.group else []
+    parts += [struct.pack(">2Q", *unit) for unit in zip(*job.group)]
     return hashlib.sha256(b"".join(parts)).digest()
 
 

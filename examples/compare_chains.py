@@ -1,13 +1,14 @@
 """Halts, kills and resumes the auditor on drawn graphs, and compares the last report, byte for byte, with that of one run in one piece.
 
 Usage: python3 compare_chains.py PROGRAM [GRAPHS [SEED [WORKERS [SAVE]]]]
-PROGRAM is the built program. Graphs, plans, keys and limits are drawn as in compare_walks.py (20, if not said). WORKERS and SAVE fix the number of
-workers and of walks after which a run saves, which are drawn elsewhere. Each audit is made once as a chain
-of runs over real files in a folder of its own, and once in one piece: each run of the chain has a drawn budget, a drawn part of a
-drawn number of parts, a drawn number of workers and a drawn number of walks after which it saves, half are asked for the serial test and half for the tally of seats, some are killed (as by kill -9)
-after a drawn time, and after some a drawn byte of a drawn file is changed, or all files are written again in the first version of the format,
-without bins. A run that finds no intact file is begun afresh. The run in one piece is asked for the serial test and the tally where the last run
-of the chain was. The newest file never has fewer outcomes that a resumed run may go on from after it than before it.
+PROGRAM is the built program. Graphs, plans, keys and limits are drawn as in compare_walks.py (20, if not said). WORKERS and SAVE fix the number
+of workers and of walks after which a run saves, which are drawn elsewhere. Each audit is made once as a chain of runs over real files in a folder
+of its own, and once in one piece: each run of the chain has a drawn budget, a drawn part of a drawn number of parts, a drawn number of workers
+and a drawn number of walks after which it saves, half are asked for the serial test, half for the tally of seats and half for the origin, some
+are killed (as by kill -9) after a drawn time, and after some a drawn byte of a drawn file is changed, or all files are written again in the first
+version of the format, without bins. A run that finds no intact file is begun afresh. The run in one piece is asked for the serial test, the tally
+and the origin where the last run of the chain was. The newest file never has fewer outcomes that a resumed run may go on from after it than
+before it.
 Ends with status 0 where all reports are the same, and prints how many runs there were.
 """
 import pathlib
@@ -74,11 +75,11 @@ def run(program, words, text, folder, limit):
 
 
 def chain(chance, program, words, walks, text, folder, counts, fixed):
-    """The output of the run of a chain that ends with status 0, and the words that asked this run for the serial test and the tally."""
+    """The output of the run of a chain that ends with status 0, and the words that asked this run for the serial test, the tally and the origin."""
     resume = "no"
     while True:
-        shift, serial = chance.choice(("no", "yes")), chance.choice(("no", "yes"))
-        asked = ["--shift", shift, "--serial", serial]
+        shift, serial, source = (chance.choice(("no", "yes")) for _ in range(3))
+        asked = ["--shift", shift, "--serial", serial, "--source", source]
         workers, save = fixed[0] or str(chance.randint(1, 4)), fixed[1] or str(chance.randint(1, 3))
         parts = chance.choice((1, 1, 2, 3, 7))
         more = [*asked, "--save", save, "--resume", resume, "--budget", str(chance.randint(0, 30)), "--workers", workers,

@@ -3,7 +3,7 @@
 Usage: python3 compare_maps.py PROGRAM MAPS [RUNS [SEED [PROCESSES]]]
 PROGRAM is the built program, and MAPS the folder that `real_maps.sh fetch MAPS` makes. Each run takes in turn one of the 24 plans of the
 twelve maps, prepared once, and draws the key, the tolerance, the sizes of the tests, the asks, the workers, and some of a limit on cut
-edges, regions, the tally of seats, early stops and the serial test; some runs are checks, and some calls of `plans` with the map's other plan
+edges, regions with limits of each kind, a group, the origin, the tally of seats, early stops and the serial test; some runs are checks, and some calls of `plans` with the map's other plan
 as a table. The numbers of steps are such that the model takes about a second. Status, text and note must be the model's. Prints each run
 that differs, and at the end how many ended how on which map. Ends with 1 where a run differed.
 """
@@ -39,10 +39,43 @@ def prepared(maps, folder):
 
 
 def cut_by(graph, column):
-    """How many units there are, and how many edges the plan cuts."""
+    """How many edges the plan cuts."""
     district = {node["id"]: node[column] for node in graph["nodes"]}
     pairs = {frozenset((node["id"], other["id"])) for node, those in zip(graph["nodes"], graph["adjacency"]) for other in those}
-    return len(district), sum(len({district[one] for one in pair}) == 2 for pair in pairs if len(pair) == 2)
+    return sum(len({district[one] for one in pair}) == 2 for pair in pairs if len(pair) == 2)
+
+
+def split_by(graph, column, region):
+    """How often the plan splits regions in all, and how many of them."""
+    parts = collections.Counter(one for one, _ in {(node[region], node[column]) for node in graph["nodes"]})
+    return sum(parts.values()) - len(parts), sum(count > 1 for count in parts.values())
+
+
+def majorities_of(graph, column, group, whole):
+    """In how many districts the plan gives the group more than half of the whole."""
+    margin = collections.Counter()
+    for node in graph["nodes"]:
+        margin[node[column]] += 2 * node[group] - node[whole]
+    return sum(one > 0 for one in margin.values())
+
+
+def near(chance, number):
+    """A limit near the number that is there."""
+    return str(max(0, number + chance.choice((-1, 0, 0, 0, 1, 3))))
+
+
+def rule_words(chance, graph, columns, region, column):
+    """Words of drawn rules."""
+    words = ["--max-cut", str(max(0, cut_by(graph, column) + chance.choice((-1, 0, 5, 40))))] if chance.random() < 0.2 else []
+    if region and chance.random() < 0.5:
+        words += ["--region", region[0]] + (["--max-split", str(max(1, region[1] + chance.choice((-1, 0, 0, 1))))] if chance.random() < 0.6 else [])
+        for name, number in zip(("--max-splits", "--max-split-regions"), split_by(graph, column, region[0])):
+            words += [name, near(chance, number)] if chance.random() < 0.5 else []
+    if chance.random() < 0.4:
+        group, whole = chance.sample(columns[1:6:2], 2)
+        words += ["--group", group, *(["--group-of", whole] if whole != columns[1] or chance.random() < 0.5 else [])]
+        words += ["--group-districts", str(max(0, majorities_of(graph, column, group, whole) + chance.choice((1, 0, 0, 0, -1))))] if chance.random() < 0.9 else []
+    return words + (["--source", "yes"] if chance.random() < 0.2 else [])
 
 
 def table_of(chance, graph, column):
@@ -56,13 +89,9 @@ def table_of(chance, graph, column):
     return text.getvalue().encode("utf-8")
 
 
-def words_of(chance, tolerance, columns, region, units, cut):
+def words_of(chance, tolerance, columns, rules, units):
     """Words of a check, a run or `plans`, and whether they are of `plans`."""
-    words = [*columns, "--slack", str(chance.choice((tolerance, tolerance, 2 * tolerance)) if chance.random() < 0.9 else tolerance // 2)]
-    if chance.random() < 0.2:
-        words += ["--max-cut", str(max(0, cut + chance.choice((-1, 0, 5, 40))))]
-    if region and chance.random() < 0.4:
-        words += ["--region", region[0]] + (["--max-split", str(max(1, region[1] + chance.choice((-1, 0, 0, 1))))] if chance.random() < 0.8 else [])
+    words = [*columns, "--slack", str(chance.choice((tolerance, tolerance, 2 * tolerance)) if chance.random() < 0.9 else tolerance // 2), *rules]
     if chance.random() < 0.1:
         return ["check", *words], False
     whole = max(60, 600000 // units)
@@ -86,7 +115,8 @@ def one_run(task):
     chance = random.Random(f"{seed} {place}")
     data = path.read_bytes()
     graph = json.loads(data)
-    words, several = words_of(chance, tolerance, columns, region, *cut_by(graph, column))
+    rules = rule_words(chance, graph, columns, region, column)
+    words, several = words_of(chance, tolerance, columns, rules, len(graph["nodes"]))
     if several:
         data = json.dumps(graph).encode() + b"\n" + table_of(chance, graph, column)
     wanted = model.audit(words, data, [None, None])

@@ -31,7 +31,8 @@ def graph_of(chance):
             if other < units and other != at:
                 near[at].add(other)
                 near[other].add(at)
-    nodes = [{"id": one, "pop": chance.randint(1, 3), "a": chance.randrange(9), "b": chance.randrange(9), "d": 0, "r": chance.randrange(3)} for one in ids]
+    nodes = [{"id": one, "pop": chance.randint(1, 3), "a": chance.randrange(9), "b": chance.randrange(9), "d": 0, "r": chance.randrange(3),
+              "g": chance.randrange(4), "w": chance.randrange(6)} for one in ids]
     for node, district in zip(nodes, plan_of(chance, units)):
         node["d"] = district
     return ids, {"nodes": nodes, "adjacency": [[{"id": ids[other]} for other in sorted(near[at])] for at in range(units)]}
@@ -96,8 +97,11 @@ def words_of(chance):
     words = ["plans", "--pop", "pop", "--first", "a", "--second", "b", "--district", "d", "--slack", chance.choice(("10000", "5000")), "--walks", str(chance.randint(0, 2)),
              "--steps", chance.choice(("7", "15", "20")), "--ends", str(chance.randrange(4)), "--hub-steps", "5", "--ask", chance.choice(ASKS),
              "--workers", str(chance.choice((1, 2, 5))), "--key", "%064x" % chance.getrandbits(256)]
-    for more in (["--region", "r"], ["--region", "r", "--max-split", "2"], ["--max-cut", "4"], ["--shift", "yes"], ["--stop", "1"], ["--serial", "yes"]):
+    for more in (["--region", "r"], ["--region", "r", "--max-split", "2"], ["--max-cut", "4"], ["--shift", "yes"], ["--stop", "1"], ["--serial", "yes"],
+                 ["--group", "g"], ["--group", "g", "--group-of", "w", "--group-districts", "1"], ["--source", "yes"]):
         words += more if chance.random() < 0.15 and more[0] not in words else []
+    for more in (["--max-splits", "2"], ["--max-split-regions", "2"]):
+        words += more if chance.random() < 0.4 and "--region" in words else []
     return words
 
 

@@ -3,11 +3,13 @@
 Usage: python3 compare_walks.py PROGRAM [GRAPHS [SEED]]
 PROGRAM is the built program. Each graph (20, if not said) is a drawn grid with diagonals and holes, with drawn districts, populations
 and votes, as networkx writes it; half of them have a drawn limit on cut edges, half drawn regions that may be split among few districts,
-half the serial test, half the tally of seats, and a third parallel tests that stop early. The plain program here walks every end, and keeps
+of which half may be split few times in all and half of which few may be split, half a drawn group that is to keep a majority in some districts,
+half the serial test, half the tally of seats, half the origin, and a third parallel tests that stop early. The plain program here walks every end, and keeps
 nothing along a walk: for each proposal it builds the changed plan, asks networkx whether each of its districts is connected, adds up
-populations, counts the cut edges and the districts of each region, and computes each score from all units and edges again.
+populations, counts the cut edges, the districts of each region and the majorities, and computes each score from all units and edges again.
 Ends with status 0 where all reports are the same, and prints how many were.
 """
+import hashlib
 import json
 import math
 import random
@@ -20,6 +22,8 @@ import networkx
 BILLION = 10 ** 9
 NO_LIMIT = 400_000
 MOST_SPLIT = 200
+MOST_SPLITS = 995_000
+MOST_REGIONS = 5000
 NO_BINS = [0] * 9
 
 
@@ -58,17 +62,42 @@ class Job:
         self.units = len(plan)
         self.total = sum(people)
         self.max_cut = max_cut
-        self.regions, self.max_split = [], MOST_SPLIT
+        self.regions, self.max_split, self.max_splits, self.max_split_regions = [], MOST_SPLIT, MOST_SPLITS, MOST_REGIONS
+        self.group, self.group_districts = (), 0
         self.shift = False
         self.serial = False
         self.stop = 0
+        self.origin = []
 
     def cut_edges(self, plan):
         return sum(plan[u] != plan[v] for u, v in self.graph.edges)
 
+    def parts(self, plan):
+        """For each region, among how many districts it is split."""
+        return [len({plan[u] for u in range(self.units) if self.regions[u] == region}) for region in set(self.regions)]
+
     def widest(self, plan):
         """The most districts among which a region is split."""
-        return max((len({plan[u] for u in range(self.units) if self.regions[u] == region}) for region in set(self.regions)), default=0)
+        return max(self.parts(plan), default=0)
+
+    def splits(self, plan):
+        """How many districts regions have beyond the first of each."""
+        return sum(self.parts(plan)) - len(set(self.regions))
+
+    def split_regions(self, plan):
+        """How many regions are not whole."""
+        return len([count for count in self.parts(plan) if count != 1])
+
+    def majorities(self, plan):
+        """In how many districts more than half of the whole are of the group: each unit adds twice its part less its whole."""
+        margins = [0] * self.districts
+        for unit, (part, whole) in enumerate(zip(*self.group)):
+            margins[plan[unit]] += 2 * part - whole
+        return len([margin for margin in margins if margin > 0])
+
+    def obeys_rules(self, plan):
+        return (self.cut_edges(plan) <= self.max_cut and self.widest(plan) <= self.max_split and self.splits(plan) <= self.max_splits
+                and self.split_regions(plan) <= self.max_split_regions and self.majorities(plan) >= self.group_districts)
 
     def is_legal(self, plan):
         for d in range(self.districts):
@@ -78,7 +107,7 @@ class Job:
             amount = 10000 * self.districts * sum(self.people[u] for u in members)
             if not (10000 - self.slack) * self.total <= amount <= (10000 + self.slack) * self.total:
                 return False
-        return self.cut_edges(plan) <= self.max_cut and self.widest(plan) <= self.max_split
+        return self.obeys_rules(plan)
 
     def after(self, plan, draw):
         pairs = self.units * self.districts
@@ -157,11 +186,13 @@ def report_of(job, walks, steps, ends, hub_steps, asks, found):
     """The report that these outcomes make."""
     low = -(-(10000 - job.slack) * job.total // (10000 * job.districts))
     high = (10000 + job.slack) * job.total // (10000 * job.districts)
-    lines = [f"district-audit {2 if job.shift else 1}", "key " + job.key.hex(),
+    lines = [f"district-audit {2 if job.shift else 1}", *job.origin, "key " + job.key.hex(),
              f"units {job.units} edges {job.graph.number_of_edges()} districts {job.districts}",
              f"population {job.total} slack {job.slack} low {low} high {high}",
              *([f"max-cut {job.max_cut}"] if job.max_cut < NO_LIMIT else []),
              *([f"max-split {job.max_split} regions {len(set(job.regions))}"] if job.regions else []),
+             *([f"max-splits {job.max_splits} max-split-regions {job.max_split_regions}"] if limits_splits(job) else []),
+             *([f"group-districts {job.group_districts} of {job.majorities(job.plan)}"] if job.group else []),
              f"walks {walks} steps {steps} ends {ends} hub-steps {hub_steps}",
              *([f"stop {job.stop}"] if job.stop else [])]
     start = [job.value(job.plan, score) for score, _ in asks]
@@ -180,6 +211,18 @@ def report_of(job, walks, steps, ends, hub_steps, asks, found):
         lines.append(f"ends {words[place]} rank {rank} of {ends + 1} p {billionths(-(-rank * BILLION // (ends + 1)))}")
     lines += serial_lines(job, steps, asks, words) if job.serial else []
     return "\n".join(lines + ["end", ""])
+
+
+def origin_of(text, columns, region=None, group=None, whole=None):
+    """The two lines that tell from what a report comes."""
+    data = text.encode()
+    names = [*columns, *(["region", region] if region else []), *(["group", group, "of", whole] if group else [])]
+    said = [name if at in range(4, len(names), 2) else json.dumps(name, ensure_ascii=False) for at, name in enumerate(names)]
+    return [f"source sha256 {hashlib.sha256(data).hexdigest()} bytes {len(data)}", " ".join(["columns", *said])]
+
+
+def limits_splits(job):
+    return bool(job.regions) and (job.max_splits, job.max_split_regions) != (MOST_SPLITS, MOST_REGIONS)
 
 
 def stopped(inside, enough):
@@ -252,6 +295,23 @@ def drawn_regions(chance, graph, plan):
     return [names[chance.choice(regions) if chance.random() < 0.1 else region] for region in regions]
 
 
+def draw_rules(chance, job):
+    """Gives a job drawn rules that its start plan obeys, most of them closely."""
+    if chance.random() < 0.5:
+        job.max_cut = job.cut_edges(job.plan) + chance.randint(0, 3)
+    if chance.random() < 0.5:
+        job.regions = drawn_regions(chance, job.graph, job.plan)
+        job.max_split = min(MOST_SPLIT, job.widest(job.plan) + chance.choice((0, 0, 0, 1, MOST_SPLIT)))
+        if chance.random() < 0.5:
+            job.max_splits = job.splits(job.plan) + chance.choice((0, 0, 1, 2))
+        if chance.random() < 0.5:
+            job.max_split_regions = job.split_regions(job.plan) + chance.choice((0, 0, 1, 2))
+    if chance.random() < 0.5:
+        whole = [chance.randint(0, 9) for _ in job.plan] if chance.random() < 0.5 else job.people
+        job.group = ([chance.randint(0, 9) // 2 + 4 * (district % 2) for district in job.plan], whole)
+        job.group_districts = max(0, job.majorities(job.plan) - chance.choice((0, 0, 0, 1)))
+
+
 def drawn_job(chance):
     graph = drawn_graph(chance)
     districts = chance.randint(2, 4)
@@ -262,11 +322,7 @@ def drawn_job(chance):
     for slack in range(1000, 10001, 1000):
         job = Job(graph, plan, people, first, second, districts, slack, key)
         if job.is_legal(plan):
-            if chance.random() < 0.5:
-                job.max_cut = job.cut_edges(plan) + chance.randint(0, 3)
-            if chance.random() < 0.5:
-                job.regions = drawn_regions(chance, graph, plan)
-                job.max_split = min(MOST_SPLIT, job.widest(plan) + chance.choice((0, 0, 0, 1, MOST_SPLIT)))
+            draw_rules(chance, job)
             return job
     return drawn_job(chance)
 
@@ -277,13 +333,19 @@ def document(job):
         graph.nodes[unit].update(POP=job.people[unit], A=job.first[unit], B=job.second[unit], CD=job.plan[unit])
         if job.regions:
             graph.nodes[unit].update(COUNTY=job.regions[unit])
+        if job.group:
+            graph.nodes[unit].update(GROUP=job.group[0][unit], WHOLE=job.group[1][unit])
     return json.dumps(networkx.adjacency_data(graph))
 
 
 def rule_words(job):
     """The words that ask for the job's limits."""
     words = ["--max-cut", str(job.max_cut)] if job.max_cut < NO_LIMIT else []
-    return words + (["--region", "COUNTY", "--max-split", str(job.max_split)] if job.regions else [])
+    words += ["--region", "COUNTY", "--max-split", str(job.max_split)] if job.regions else []
+    words += ["--max-splits", str(job.max_splits)] if job.max_splits < MOST_SPLITS else []
+    words += ["--max-split-regions", str(job.max_split_regions)] if job.max_split_regions < MOST_REGIONS else []
+    words += ["--group", "GROUP", "--group-districts", str(job.group_districts)] if job.group else []
+    return words + (["--group-of", "WHOLE"] if job.group and job.group[1] is not job.people else [])
 
 
 def found(program, job, numbers, asks, workers):
@@ -292,6 +354,8 @@ def found(program, job, numbers, asks, workers):
     for name, number in zip(("--walks", "--steps", "--ends", "--hub-steps"), numbers):
         words += [name, str(number)]
     words += rule_words(job)
+    if job.origin:
+        words += ["--source", "yes"]
     if job.shift:
         words += ["--shift", "yes"]
     if job.serial:
@@ -308,6 +372,9 @@ def main(program, graphs="20", seed="1"):
     for number in range(int(graphs)):
         job = drawn_job(chance)
         job.shift, job.serial = chance.random() < 0.5, chance.random() < 0.5
+        if chance.random() < 0.5:
+            named = ("COUNTY" if job.regions else None, "GROUP" if job.group else None, "POP" if job.group and job.group[1] is job.people else "WHOLE")
+            job.origin = origin_of(document(job), ("POP", "A", "B", "CD"), *named)
         steps = 2 ** chance.randint(1, 7) - 1 if job.serial else chance.randint(20, 120)
         numbers = (chance.randint(1, 3), steps, chance.randint(0, 3), chance.randint(10, 60))
         if chance.random() < 1 / 3:

@@ -28,12 +28,13 @@ LIMITS = ("0", "1", "2", "30", "31", "32", "33", "199", "200", "201", "9999", "1
 TOKENS = [*LIMITS[:-5], "-9223372036854775808", "-9223372036854775809", "1e400", "1e-400", "0e999", "NaN", "Infinity", "-Infinity", "true", "false",
           "null", '""', '"1"', '"\\u0031"', '"\\ud800"', '"\\udc00"', '"\\ud83d\\ude00"', '"\\x"', "[]", "{}", "[1]", '{"id":0}', "[" * 126 + "]" * 126,
           "[" * 130 + "]" * 130, '{"a":' * 40 + "1" + "}" * 40, "9" * 400, "0.1", ".1", "1.", "\ufeff", "\u00e9"]
-NAMES = ("pop", "a", "b", "d", "r", "s", "id", "nodes", "adjacency", "directed", "multigraph", "graph")
+NAMES = ("pop", "a", "b", "d", "r", "s", "g", "w", "id", "nodes", "adjacency", "directed", "multigraph", "graph")
 MOST_WORK = 3000
 
 
 def node(at, pop, a, b, d, name=None):
-    return {"pop": pop, "a": a, "b": b, "d": d, "r": f"{d}{at // 2 % 2}", "s": at % 3, "id": at if name is None else name}
+    return {"pop": pop, "a": a, "b": b, "d": d, "r": f"{d}{at // 2 % 2}", "s": at % 3, "g": (3 * at + a) % 4, "w": (at + b) % 6,
+            "id": at if name is None else name}
 
 
 def graph(nodes, edges, spaced):
@@ -66,7 +67,8 @@ def good_graphs():
 
 def good_words(chance):
     if chance.random() < 0.25:
-        return ["check", *BASE, "--slack", chance.choice(["5000", "1000", "10000", "0"]), *chance.choice([[], ["--max-cut", "2"]]), *regions(chance)]
+        return ["check", *BASE, "--slack", chance.choice(["5000", "1000", "10000", "0"]), *chance.choice([[], ["--max-cut", "2"]]), *regions(chance),
+                *group(chance), *source(chance)]
     asks = chance.sample(sorted(model.ALL_ASKS), chance.randint(1, 4))
     words = ["run", *BASE, "--slack", chance.choice(["5000", "5000", "10000"]), "--key", chance.choice(KEYS), "--ask", ",".join(asks),
              "--walks", str(chance.randint(1, 6)), "--steps", chance.choice(["8", "1", "20", "7", "15", "31", "11"])]
@@ -76,7 +78,7 @@ def good_words(chance):
             words += ["--stop", chance.choice(["0", "1", "2", "3", "4"])]
     if chance.random() < 0.15:
         words += ["--max-cut", chance.choice(["2", "3", "8"])]
-    words += regions(chance)
+    words += [*regions(chance), *group(chance), *source(chance)]
     if chance.random() < 0.1:
         words += ["--workers", chance.choice(["1", "2", "3"])]
     if chance.random() < 0.25:
@@ -87,7 +89,20 @@ def good_words(chance):
 def regions(chance):
     if chance.random() < 0.7:
         return []
-    return ["--region", chance.choice(("r", "s", "d", "")), *chance.choice([[], ["--max-split", chance.choice(("1", "1", "2", "200"))]])]
+    column = chance.choice(("r", "r", "s", "s", "d", ""))
+    limits = (("--max-split", ("1", "1", "2", "200")), ("--max-splits", ("0", "1", "2", "3", "995000")), ("--max-split-regions", ("0", "1", "2", "5000")))
+    return ["--region", column, *(word for name, numbers in limits if chance.random() < 0.5 for word in (name, chance.choice(numbers)))]
+
+
+def group(chance):
+    if chance.random() < 0.7:
+        return []
+    words = ["--group", chance.choice(("g", "g", "g", "a", "pop", ""))] + (["--group-of", chance.choice(("w", "w", "b", ""))] if chance.random() < 0.6 else [])
+    return words + (["--group-districts", chance.choice(("0", "1", "1", "2", "200"))] if chance.random() < 0.8 else [])
+
+
+def source(chance):
+    return ["--source", chance.choice(("yes", "yes", "no"))] if chance.random() < 0.3 else []
 
 
 def tally(chance):

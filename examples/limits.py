@@ -1,6 +1,6 @@
 """Takes inputs that are as great as they may be, and others that are one greater: the first are accepted, the others refused by their note. And
-makes a run of three million steps on 100,000 units in 5000 regions, of which about every second moves one: with a look at all units at each move it
-would not end in time.
+makes a run of three million steps on 100,000 units in 5000 regions, with rules on regions and a group, of which about every second moves one: with a
+look at all units, or all regions, at each move it would not end in time.
 
 Usage: python3 limits.py PROGRAM
        python3 limits.py walk
@@ -77,7 +77,7 @@ def refused(note):
 
 def walked():
     head = (f"district-audit 1\nkey {KEY}\nunits {UNITS} edges {2 * UNITS - 3} districts 2\npopulation {UNITS} slack 10000 low 0 high {UNITS}\n"
-            f"max-split 2 regions 5000\nwalks 1 steps {STEPS} ends 0 hub-steps 1000\n")
+            f"max-split 2 regions 5000\nmax-splits 5000 max-split-regions 5000\ngroup-districts 2 of 2\nwalks 1 steps {STEPS} ends 0 hub-steps 1000\n")
     line = f"walk 0 moved {MOVES} cut-edges low start {UNITS - 1}/1 count {STEPS + 1} of {STEPS + 1} bound 1.414213563\n"
     return 0, head + line + "end\n", ""
 
@@ -101,8 +101,17 @@ def cases():
     for count in (5000, 5001):
         own = checked(5000, 4999, 2, 1250, 3750, "max-split 200 regions 5000\n") if count == 5000 else refused("5001 regions, more than 5000")
         yield f"{count} regions", [*CHECK, "--region", "id"], path(count, lambda at, half=count // 2: min(at // half, 1)), own
+    for most, note in ((199, ""), (198, "plan: 199 splits of regions, more than 198\n")):
+        own = (2, "", note) if note else checked(200, 199, 200, 1, 1, f"max-split 200 regions 1\nmax-splits {most} max-split-regions 5000\n")
+        yield "a region in 200 districts", [*CHECK, "--region", "pop", "--max-splits", str(most)], path(200, lambda at: at), own
+    for most, note in ((200, ""), (199, "plan: 200 regions lie in more than one district, more than 199\n")):
+        own = (2, "", note) if note else checked(400, 399, 2, 100, 300, f"max-split 200 regions 200\nmax-splits 995000 max-split-regions {most}\n")
+        yield "200 split regions", [*CHECK, "--region", "r", "--max-split-regions", str(most)], \
+            graph([node(at, at // 200, at % 200) for at in range(400)], [[{"id": at + 1}] if at < 399 else [] for at in range(400)]), own
+    yield "200 majorities", [*CHECK, "--group", "a", "--group-of", "b", "--group-districts", "200"], path(200, lambda at: at), \
+        checked(200, 199, 200, 1, 1, "group-districts 200 of 200\n")
     yield "three million steps", ["run", *COLUMNS, "10000", "--key", KEY, "--steps", str(STEPS), "--ask", "cut-edges:low", "--region", "r",
-                              "--max-split", "2"], two_hubs(), walked()
+                              "--max-split", "2", "--max-splits", "5000", "--group", "a", "--group-of", "b", "--group-districts", "2"], two_hubs(), walked()
 
 
 def ended(program, words, given):

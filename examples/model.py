@@ -12,34 +12,47 @@ import json
 import math
 import re
 import struct
-from collections import namedtuple
+from collections import Counter, namedtuple
 
 BILLION = 10 ** 9
 MOST_INPUT = 67108864
 MOST_SLOT = 84 + 80 * 100000
 MOST_CUT = 400000
+MOST_REGIONS = 5000
+MOST_SPLITS = 995000
 SCORES = ("seats", "mean-median", "gap", "cut-edges")
 TAILS = ("low", "high")
 BASE = ("--pop", "--first", "--second", "--district")
 TABLE = (*BASE, "--size", "--slack", "--key", "--walks", "--steps", "--ends", "--hub-steps", "--ask", "--workers", "--budget",
-         "--save", "--resume", "--max-cut", "--shift", "--stop", "--serial", "--region", "--max-split", "--parts", "--part")
-RULES_OF_REGIONS = ("--region", "--max-split")
+         "--save", "--resume", "--max-cut", "--shift", "--stop", "--serial", "--region", "--max-split", "--parts", "--part",
+         "--max-splits", "--max-split-regions", "--group", "--group-of", "--group-districts", "--source")
+OPTIONAL_COLUMNS = ("--region", "--group", "--group-of")
+OF_A_FILE = ("--region", "--max-split", "--max-splits", "--max-split-regions", "--group", "--group-of", "--group-districts", "--source")
 COMMANDS = {
-    "check": (*BASE, "--slack", "--max-cut", *RULES_OF_REGIONS),
+    "check": (*BASE, "--slack", "--max-cut", *OF_A_FILE),
     "run": tuple(name for name in TABLE if name != "--size"),
-    "make": tuple(name for name in TABLE if name not in BASE and name not in RULES_OF_REGIONS),
+    "make": tuple(name for name in TABLE if name not in BASE and name not in OF_A_FILE),
     "plans": tuple(name for name in TABLE if name not in ("--size", "--budget", "--save", "--resume", "--parts", "--part")),
 }
 DEFAULTS = {"--slack": "500", "--walks": "1", "--steps": "1000", "--ends": "0", "--hub-steps": "1000", "--workers": "1",
             "--budget": "100000", "--save": "0", "--resume": "no", "--max-cut": "400000", "--shift": "no", "--stop": "0",
-            "--serial": "no", "--region": "", "--max-split": "200", "--parts": "1", "--part": "0"}
+            "--serial": "no", "--region": "", "--max-split": "200", "--parts": "1", "--part": "0", "--max-splits": "995000",
+            "--max-split-regions": "5000", "--group": "", "--group-of": "", "--group-districts": "0", "--source": "no"}
 RANGES = {"--size": (1, 30), "--slack": (0, 10000), "--walks": (0, 100000), "--steps": (1, BILLION), "--ends": (0, 100000),
           "--hub-steps": (1, BILLION), "--workers": (1, 32), "--budget": (0, 100000), "--save": (0, 100000), "--max-cut": (0, MOST_CUT),
-          "--stop": (0, 100000), "--max-split": (1, 200), "--parts": (1, 100000), "--part": (0, 99999)}
+          "--stop": (0, 100000), "--max-split": (1, 200), "--parts": (1, 100000), "--part": (0, 99999), "--max-splits": (0, MOST_SPLITS),
+          "--max-split-regions": (0, MOST_REGIONS), "--group-districts": (0, 200)}
+# Which column has to be named where the value of a name is not the default.
+WITH_COLUMN = {"--max-split": "--region", "--max-splits": "--region", "--max-split-regions": "--region", "--group-of": "--group",
+               "--group-districts": "--group"}
 NO_BINS = (0,) * 9
 ALL_ASKS = {f"{score}:{tail}": (score, tail) for score in SCORES for tail in TAILS}
 
 End = namedtuple("End", "status out note slots")
+# What is read of a graph. The regions are empty where no column is named, and so is the group, which else is two lists: the group's, and the whole's.
+Read = namedtuple("Read", "edges people first second plan districts regions group")
+# The digest and the number of the bytes that were read.
+Origin = namedtuple("Origin", "sha256 bytes")
 
 
 class Refused(Exception):
@@ -105,11 +118,13 @@ class Setting:
         if name == "--serial" and text == "yes":
             plans = self.of("--steps") + 1
             return plans & plans - 1 == 0
-        if name in ("--resume", "--shift", "--serial"):
+        if name in ("--resume", "--shift", "--serial", "--source"):
             return text in ("yes", "no")
         if name == "--district" and self.command == "plans":
             return "\n" not in text
-        if name in BASE or name == "--region":
+        if name in WITH_COLUMN and text != DEFAULTS[name] and not self.value[WITH_COLUMN[name]]:
+            return False
+        if name in BASE or name in OPTIONAL_COLUMNS:
             return True
         low, high = RANGES[name]
         if number(text) is None or not low <= number(text) <= high:
@@ -119,8 +134,6 @@ class Setting:
             return 1 <= total <= 100000
         if name == "--budget":
             return self.value["--save"] != "0" or total <= self.of("--budget")
-        if name == "--max-split":
-            return text == "200" or self.value["--region"] != ""
         if name == "--stop" and self.of("--stop"):
             return self.of("--ends") >= 1 and self.of("--save") == 0 and self.value["--resume"] != "yes"
         if name == "--parts":
@@ -132,8 +145,11 @@ class Setting:
     def numbers(self):
         value = self.value
         self.slack, self.max_cut = self.of("--slack"), self.of("--max-cut")
-        self.region, self.max_split = (value["--region"], self.of("--max-split")) if self.command != "make" else ("", 200)
         self.columns = tuple(value[name] for name in BASE) if self.command != "make" else ("pop", "a", "b", "district")
+        self.region, self.source = value["--region"], value["--source"] == "yes"
+        self.group = (value["--group"], value["--group-of"] or self.columns[0]) if value["--group"] else ()
+        self.max_split, self.max_splits, self.max_split_regions, self.group_districts = (
+            self.of(name) for name in ("--max-split", "--max-splits", "--max-split-regions", "--group-districts"))
         if self.command == "check":
             self.asks, self.total, self.save, self.stop, self.resume, self.shift, self.serial = [], 0, 0, 0, False, False, False
             return
@@ -261,19 +277,20 @@ def edges_of(places, adjacency):
     return edges
 
 
-def columns_of(nodes, columns):
+def columns_of(nodes, columns, group):
+    """The lists of the three number columns, of the labels and of the two columns of a group, where one is named, or the first refusal."""
     for at, node in enumerate(nodes):
-        for column in columns:
+        for column in (*columns, *group):
             if column not in node:
                 refuse(f"node {at} has no column {column}")
     for at, node in enumerate(nodes):
-        for column in columns[:3]:
+        for column in (*columns[:3], *group):
             if type(node[column]) is not int or not 0 <= node[column] <= BILLION:
                 refuse(f"node {at} has no whole number from 0 to 1000000000 in column {column}")
     for at, node in enumerate(nodes):
         if not is_id(node[columns[3]]):
             refuse(f"node {at} has no usable label")
-    return tuple([node[column] for node in nodes] for column in columns)
+    return tuple([node[column] for node in nodes] for column in (*columns, *group))
 
 
 def numbered(labels):
@@ -294,13 +311,13 @@ def regions_of(nodes, column):
         if not is_id(node[column]):
             refuse(f"node {at} has no usable label in column {column}")
     count, regions = numbered([node[column] for node in nodes])
-    if count > 5000:
+    if count > MOST_REGIONS:
         refuse(f"{count} regions, more than 5000")
     return regions
 
 
-def reading(data, columns, region):
-    """The edges, the three columns, the plan and the regions of a graph, or the first refusal."""
+def reading(data, columns, region, group):
+    """The edges, the three columns, the plan, the regions and the group of a graph, or the first refusal."""
     if len(data) > MOST_INPUT:
         refuse(f"more than {MOST_INPUT} bytes")
     try:
@@ -309,11 +326,11 @@ def reading(data, columns, region):
         refuse("not JSON")
     nodes, adjacency = shape(root)
     edges = edges_of(places_of(nodes), adjacency)
-    people, first, second, labels = columns_of(nodes, columns)
+    people, first, second, labels, *both = columns_of(nodes, columns, group)
     districts, plan = numbered(labels)
     if not 2 <= districts <= 200:
         refuse(f"{districts} districts, not 2 to 200")
-    return edges, people, first, second, plan, districts, regions_of(nodes, region)
+    return Read(edges, people, first, second, plan, districts, regions_of(nodes, region), both)
 
 
 # ---- tables
@@ -403,15 +420,15 @@ def draws(key, stream, count):
 class Job:
     """A graph, its plan and a setting, where the plan is not refused."""
 
-    def __init__(self, setting, edges, people, first, second, plan, districts, regions):
-        self.setting, self.edges, self.people, self.first, self.second = setting, edges, people, first, second
-        self.plan, self.districts, self.units, self.population = plan, districts, len(plan), sum(people)
-        self.regions, self.counties = regions, sorted(set(regions))
-        self.neighbours = [[] for _ in plan]
-        for u, v in edges:
+    def __init__(self, setting, read, origin=None):
+        self.setting, self.origin = setting, origin
+        self.edges, self.people, self.first, self.second, self.plan, self.districts, self.regions, self.group = read
+        self.units, self.population = len(self.plan), sum(self.people)
+        self.neighbours = [[] for _ in self.plan]
+        for u, v in self.edges:
             self.neighbours[u].append(v)
             self.neighbours[v].append(u)
-        shares = 10000 * districts
+        shares = 10000 * self.districts
         self.low = -(-(10000 - setting.slack) * self.population // shares)
         self.high = (10000 + setting.slack) * self.population // shares
         self.judge()
@@ -430,10 +447,15 @@ class Job:
                 raise Refused(2, f"plan: district {district} has no path from unit {min(members)} to unit {min(lost)}")
         if self.cut(self.plan) > self.setting.max_cut:
             raise Refused(2, f"plan: {self.cut(self.plan)} cut edges, more than {self.setting.max_cut}")
-        for region in self.counties:
-            districts = self.districts_of(self.plan, region)
+        for region, districts in enumerate(self.districts_of_regions(self.plan)):
             if districts > self.setting.max_split:
                 raise Refused(2, f"plan: region {region} lies in {districts} districts, more than {self.setting.max_split}")
+        if self.splits(self.plan) > self.setting.max_splits:
+            raise Refused(2, f"plan: {self.splits(self.plan)} splits of regions, more than {self.setting.max_splits}")
+        if self.split_regions(self.plan) > self.setting.max_split_regions:
+            raise Refused(2, f"plan: {self.split_regions(self.plan)} regions lie in more than one district, more than {self.setting.max_split_regions}")
+        if self.majorities(self.plan) < self.setting.group_districts:
+            raise Refused(2, f"plan: the group has a majority in {self.majorities(self.plan)} districts, fewer than {self.setting.group_districts}")
 
     def sums(self, plan, column):
         sums = [0] * self.districts
@@ -454,9 +476,31 @@ class Job:
     def cut(self, plan):
         return sum(plan[u] != plan[v] for u, v in self.edges)
 
-    def districts_of(self, plan, region):
-        """How many districts a plan gives to units of a region."""
-        return len({district for district, one in zip(plan, self.regions) if one == region})
+    def districts_of_regions(self, plan):
+        """For each region, how many districts a plan gives to its units."""
+        pairs = Counter(region for region, _ in set(zip(self.regions, plan)))
+        return [pairs[region] for region in sorted(pairs)]
+
+    def splits(self, plan):
+        """How often regions are split in all: each by one less than the number of its districts."""
+        return sum(districts - 1 for districts in self.districts_of_regions(plan))
+
+    def split_regions(self, plan):
+        """How many regions lie in more than one district."""
+        return sum(districts > 1 for districts in self.districts_of_regions(plan))
+
+    def majorities(self, plan):
+        """In how many districts the group has more than half of the whole; none where there is no group."""
+        if not self.group:
+            return 0
+        members, whole = (self.sums(plan, column) for column in self.group)
+        return sum(2 * part > all_of_it for part, all_of_it in zip(members, whole))
+
+    def meets_rules(self, plan):
+        setting = self.setting
+        return (self.cut(plan) <= setting.max_cut and all(districts <= setting.max_split for districts in self.districts_of_regions(plan))
+                and self.splits(plan) <= setting.max_splits and self.split_regions(plan) <= setting.max_split_regions
+                and self.majorities(plan) >= setting.group_districts)
 
     def is_legal(self, plan):
         if any(not self.low <= people <= self.high for people in self.sums(plan, self.people)):
@@ -465,7 +509,7 @@ class Job:
             members = {u for u, d in enumerate(plan) if d == district}
             if not members or self.reached(members) != members:
                 return False
-        return self.cut(plan) <= self.setting.max_cut and all(self.districts_of(plan, region) <= self.setting.max_split for region in self.counties)
+        return self.meets_rules(plan)
 
     def walk(self, plan, stream, steps):
         """The plans visited, and the moves."""
@@ -496,10 +540,16 @@ class Job:
         return {"seats": 1, "cut-edges": 1, "mean-median": 2 * self.districts * BILLION,
                 "gap": 2 * (sum(self.first) + sum(self.second))}[score]
 
+    def limits_splits(self):
+        """Whether there are regions, of which the splits or the split ones are limited."""
+        return bool(self.regions) and (self.setting.max_splits < MOST_SPLITS or self.setting.max_split_regions < MOST_REGIONS)
+
     def digest(self):
         setting = self.setting
-        limited = setting.max_cut < MOST_CUT or self.regions
-        parts = [b"district-job 2" if limited else b"district-job 1", struct.pack(">3I", self.units, len(self.edges), self.districts)]
+        further = self.limits_splits() or self.group
+        limited = setting.max_cut < MOST_CUT or self.regions or self.group
+        parts = [b"district-job 3" if further else b"district-job 2" if limited else b"district-job 1"]
+        parts += [struct.pack(">3I", self.units, len(self.edges), self.districts)]
         parts += [struct.pack(">2I", *edge) for edge in self.edges]
         parts += [struct.pack(">3QI", *unit) for unit in zip(self.people, self.first, self.second, self.plan)]
         parts += [struct.pack(">I", setting.slack), setting.key,
@@ -507,6 +557,9 @@ class Job:
         parts += [struct.pack(">2I", SCORES.index(score), TAILS.index(tail)) for score, tail in setting.asks]
         parts += [struct.pack(">I", setting.max_cut)] if limited else []
         parts += [struct.pack(f">{len(self.regions) + 1}I", setting.max_split, *self.regions)] if self.regions else []
+        parts += [struct.pack(">2I", setting.max_splits, setting.max_split_regions)] if self.limits_splits() else []
+        parts += [struct.pack(">I", setting.group_districts)] if self.group else []
+        parts += [struct.pack(">2Q", *both) for both in zip(*self.group)]
         return hashlib.sha256(b"".join(parts)).digest()
 
 
@@ -586,11 +639,29 @@ def head(job):
     lines = [f"units {job.units} edges {len(job.edges)} districts {job.districts}",
              f"population {job.population} slack {setting.slack} low {job.low} high {job.high}"]
     lines += [f"max-cut {setting.max_cut}"] if setting.max_cut < MOST_CUT else []
-    return lines + ([f"max-split {setting.max_split} regions {len(job.counties)}"] if job.regions else [])
+    lines += [f"max-split {setting.max_split} regions {len(set(job.regions))}"] if job.regions else []
+    lines += [f"max-splits {setting.max_splits} max-split-regions {setting.max_split_regions}"] if job.limits_splits() else []
+    return lines + ([f"group-districts {setting.group_districts} of {job.majorities(job.plan)}"] if job.group else [])
+
+
+def quoted(text):
+    """A text as JSON writes it, with the shortest escapes, and only where JSON wants one."""
+    return json.dumps(text, ensure_ascii=False)
+
+
+def origin_lines(job):
+    """What was read, and which columns of it, where the words ask for it."""
+    if job.origin is None:
+        return []
+    setting = job.setting
+    words = ["columns", *(quoted(column) for column in setting.columns)]
+    words += ["region", quoted(setting.region)] if setting.region else []
+    words += ["group", quoted(setting.group[0]), "of", quoted(setting.group[1])] if setting.group else []
+    return [f"source sha256 {job.origin.sha256.hex()} bytes {job.origin.bytes}", " ".join(words)]
 
 
 def check_text(job):
-    return "\n".join(["plan-check 1", *head(job), "end", ""])
+    return "\n".join(["plan-check 1", *origin_lines(job), *head(job), "end", ""])
 
 
 def p_value(top, of):
@@ -605,7 +676,7 @@ def part(rank, of):
 def report(job, found):
     """The report on these outcomes, given by rising id as moves, values and bins."""
     setting = job.setting
-    lines = [f"district-audit {2 if setting.shift else 1}", "key " + setting.key.hex(), *head(job),
+    lines = [f"district-audit {2 if setting.shift else 1}", *origin_lines(job), "key " + setting.key.hex(), *head(job),
              f"walks {setting.walks} steps {setting.steps} ends {setting.ends} hub-steps {setting.hub_steps}",
              *([f"stop {setting.stop}"] if setting.stop else [])]
     start = [job.value(job.plan, score) for score, _ in setting.asks]
@@ -734,8 +805,13 @@ def run(job, slots):
     return End(0, report(job, [found[one] for one in sorted(found)]), "", slots)
 
 
+def origin_of(setting, data):
+    """The origin of a job of these bytes, where the words ask for it."""
+    return Origin(hashlib.sha256(data).digest(), len(data)) if setting.source else None
+
+
 def job_of(setting, graph):
-    return Job(setting, *reading(graph, setting.columns, setting.region))
+    return Job(setting, reading(graph, setting.columns, setting.region, setting.group), origin_of(setting, graph))
 
 
 def jobs_of(setting, data):
@@ -743,13 +819,13 @@ def jobs_of(setting, data):
     graph, _, table = data.partition(b"\n")
     if len(data) > MOST_INPUT:
         refuse(f"more than {MOST_INPUT} bytes")
-    *rest, plan, districts, regions = reading(graph, setting.columns, setting.region)
+    read, origin = reading(graph, setting.columns, setting.region, setting.group), origin_of(setting, data)
     ids = [str(node["id"]).encode("utf-8") for node in parsed(graph)["nodes"]]
     plans = plans_of(table, ids)
-    jobs = [(setting.columns[3], Job(setting, *rest, plan, districts, regions))]
+    jobs = [(setting.columns[3], Job(setting, read, origin))]
     for name, districts, plan in plans:
         try:
-            jobs.append((name, Job(setting, *rest, plan, districts, regions)))
+            jobs.append((name, Job(setting, read._replace(plan=plan, districts=districts), origin)))
         except Refused as refusal:
             raise Refused(2, refusal.note.replace("plan:", f"plan {name}:", 1)) from refusal
     return jobs

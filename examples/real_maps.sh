@@ -1,8 +1,9 @@
 #!/bin/bash
 # Real maps: prepared, checked, walked and audited by the real program, and each text, note and status compared with the plain model's.
 #
-# Usage: examples/real_maps.sh                  the two maps that lie in this folder, as in the test command; and the twelve of real_maps.py
-#                                               where Debian's packages with their polygons are installed, which counts as skipped where not
+# Usage: examples/real_maps.sh                  the two maps that lie in this folder, and beside them the drawn one with counties and a group, as in
+#                                               the test command; and the twelve of real_maps.py where Debian's packages with their polygons are
+#                                               installed, which counts as skipped where not
 #        examples/real_maps.sh fetch [FOLDER]   downloads the packages (10 MB, nothing of them is installed), makes the twelve maps in the
 #                                               folder, or in one that is removed afterwards, and prints a row for each of their plans
 # The program is that of rt ci and rt run, or the one that the variable DISTRICT_AUDIT names. The last line counts what was as it has to be.
@@ -82,6 +83,21 @@ kept_maps() {
     local ny8='--pop POP8 --first OWNING --second OTHERS --numbers nearest --missing zero --region COUNTY'
     printf '%s\t%s\t1000\tPLAN%s\t%s\t%s\t%s\n' nc 2 2 - 0 "$nc" nc 11 11 - 0 "$nc" ny8 2 2 COUNTY 2 "$ny8" ny8 8 8 COUNTY 4 "$ny8" >"$room/two/plans"
     drawn "$room/two" 12
+}
+
+# The map that counties.py draws: each limit at what the plan has, and one below it.
+drawn_map() {
+    python3 counties.py --small | cmp -s - groups.json
+    judge $? "counties.py does not write groups.json"
+    local words=(--pop pop --first a --second b --district d --slack 1000) group=(--group bvap --group-of vap)
+    same groups.json 0 check "${words[@]}" --region county --max-splits 2 --max-split-regions 2 "${group[@]}" --group-districts 2 --source yes
+    same groups.json 2 check "${words[@]}" --region county --max-splits 1 --max-split-regions 1 "${group[@]}" --group-districts 3 --source yes
+    same groups.json 2 check "${words[@]}" --region county --max-splits 2 --max-split-regions 1 "${group[@]}" --group-districts 3
+    same groups.json 2 check "${words[@]}" --region county --max-splits 2 --max-split-regions 2 "${group[@]}" --group-districts 3
+    same groups.json 2 check "${words[@]}" --group bvap --group-districts 1
+    same groups.json 0 run "${words[@]}" --region county --max-splits 3 --max-split-regions 3 "${group[@]}" --group-districts 2 --source yes \
+        --key "$(printf groups | sha256sum | cut -c 1-64)" --walks 1 --steps 2047 --ends 9 --hub-steps 500 --ask mean-median:high,cut-edges:low
+    printed groups.json
 }
 
 # Drawn words on the maps of the folder $1, in $2 runs, end as by the plain model.
@@ -171,10 +187,12 @@ case ${1:-} in
         fi
         fetch
         kept_maps
+        drawn_map
         twelve_maps "$room/packages" "${2:-}"
         ;;
     '')
         kept_maps
+        drawn_map
         if ls "${places[@]}" >/dev/null 2>&1 && modules; then
             twelve_maps /
         else

@@ -1,15 +1,18 @@
 """Refuses the program one allocation after the other, and sees that nothing is lost.
 
 Usage: python3 refused_memory.py PROGRAM [DRAWN|each [SEED]]
+       python3 refused_memory.py PROGRAM jobs COUNT [SEED]
 Builds a small library with gcc that stands before the C library's allocations and refuses the one with a given number, or that one and all
 after it, and runs the program under it for each number from 1 until a run ends in which none was refused: over an outlier trajectory, the
-parallel test, the serial test with the tally of seats, a run of three workers, a run with regions, one that stops early, one of several plans,
-a made grid, each run of a chain that is halted and resumed, and one that goes on from the first version of the format with the tally. The
+parallel test, the serial test with the tally of seats, a run of three workers, a run with regions, one with each rule and the origin, one that
+stops early, one of several plans, a made grid, each run of a chain that is halted and resumed, and one that goes on from the first version of the format with the tally. The
 status must be 3 or the run's own; after 3 the output must be empty and both files as before; else output, note and files must be those of the
 run with all its memory.
 With a number only so many allocations of each run are refused, alone and with all after them by turns, drawn each from an equal part of those
 that the run makes. With `each` every one is refused once: a call that does not return where there is no memory for it is found so, which no
 contract says of a function that may wait for another thread.
+With `jobs` every allocation is refused, alone and with all after it, in so many jobs that are drawn as fuzz.py draws them before it breaks some: words
+of every kind, a graph, and slots as earlier runs left them.
 Prints how many runs there were, and each that is not so; ends with 1 where there is one.
 """
 import json
@@ -20,6 +23,9 @@ import shutil
 import subprocess
 import sys
 import tempfile
+
+import fuzz
+import model
 
 HERE = pathlib.Path(__file__).resolve().parent
 LIBRARY = r"""
@@ -133,10 +139,12 @@ def runs():
         "three workers": [([*CHAIN, "--workers", "3"], cycle)],
         "regions": [(["run", *BASE, "--slack", "5000", *KEY, "--walks", "3", "--steps", "7", "--ask", "gap:low", "--region", "county", "--max-split",
                       "2", "--serial", "yes", "--workers", "2"], counties)],
+        "each rule": [(["run", *BASE, "--slack", "5000", *KEY, "--walks", "2", "--steps", "7", "--ask", "gap:low", "--region", "county", "--max-splits", "2",
+                        "--max-split-regions", "2", "--group", "a", "--group-of", "b", "--group-districts", "1", "--source", "yes"], counties)],
         "early stops": [(["run", *BASE, "--slack", "5000", *KEY, "--steps", "8", "--ends", "5", "--hub-steps", "8", "--stop", "2", "--ask",
                           "gap:low,cut-edges:high", "--workers", "2"], cycle)],
         "several plans": [(["plans", *BASE, "--slack", "5000", *KEY, "--steps", "7", "--ends", "2", "--hub-steps", "4", "--ask", "gap:low",
-                            "--serial", "yes", "--workers", "2"], several(cycle))],
+                            "--serial", "yes", "--workers", "2", "--group", "a", "--source", "yes"], several(cycle))],
         "make": [(["make", "--size", "1", "--slack", "3000", *KEY, "--steps", "50", "--ask", "mean-median:low,cut-edges:high"], b"")],
         "chain": [([*CHAIN, *SAVED], cycle), ([*CHAIN, *SAVED, "--resume", "yes"], cycle), ([*CHAIN, *SAVED, "--resume", "yes"], cycle)],
         OLD: [([*CHAIN, *SAVED, "--resume", "yes", "--shift", "yes"], cycle), ([*CHAIN, "--save", "3", "--resume", "yes", "--shift", "yes"], cycle),
@@ -232,26 +240,59 @@ class Tries:
                 number += 1
 
 
-def main(program, drawn="0", seed="1"):
-    most = sys.maxsize if drawn == "each" else int(drawn)
+class Tally:
+    """What all jobs add up to."""
+
+    def __init__(self):
+        self.count, self.threes, self.found = 0, 0, []
+
+    def add(self, tries):
+        print(f"{tries.name}: status {tries.own[0]}, {tries.count} runs with refused memory, {tries.threes} of them with status 3", flush=True)
+        self.count, self.threes, self.found = self.count + tries.count, self.threes + tries.threes, self.found + tries.found
+
+
+def refuse_runs(room, most, draw, tally):
+    for name, chain in runs().items():
+        held = {"audit-0.ckpt": (HERE / "version_1.ckpt").read_bytes()} if name == OLD else {}
+        for place, (words, graph) in enumerate(chain):
+            tries = Tries(room, f"{name} {place + 1}", words, graph, held)
+            if most:
+                for number, is_all in drawn_of(tries.made, most, draw):
+                    tries.refuse(number, is_all)
+            else:
+                tries.refuse_each()
+            tally.add(tries)
+            held = tries.own[3]
+
+
+def drawn_job(draw, graphs):
+    """Words, a graph, and slots as up to two earlier runs left them."""
+    graph, words, slots = draw.choice(graphs), fuzz.good_words(draw), [None, None]
+    if words[0] == "run":
+        for number in range(draw.randint(0, 2)):
+            before = [*words, "--save", "2", "--budget", str(draw.randint(0, 6)), *(["--resume", "yes"] if number else []), *fuzz.tally(draw)]
+            slots = model.audit(before, graph, slots).slots
+        words = [*words, *fuzz.saving(draw)]
+    return words, graph, {f"audit-{at}.ckpt": data for at, data in enumerate(slots) if data is not None}
+
+
+def main(program, drawn="0", *more):
     if shutil.which("gcc") is None:
         print("no memory refused: gcc is not installed")
         return 0
-    program, draw = os.path.abspath(program), random.Random(int(seed))
-    count, threes, found = 0, 0, []
+    jobs, more = (int(more[0]), more[1:]) if drawn == "jobs" else (0, more)
+    draw, tally = random.Random(int(more[0]) if more else 1), Tally()
     with tempfile.TemporaryDirectory() as name:
-        room = Room(program, pathlib.Path(name))
-        for name, chain in runs().items():
-            held = {"audit-0.ckpt": (HERE / "version_1.ckpt").read_bytes()} if name == OLD else {}
-            for place, (words, graph) in enumerate(chain):
-                tries = Tries(room, f"{name} {place + 1}", words, graph, held)
-                if most:
-                    for number, is_all in drawn_of(tries.made, most, draw):
-                        tries.refuse(number, is_all)
-                else:
-                    tries.refuse_each()
-                print(f"{tries.name}: status {tries.own[0]}, {tries.count} runs with refused memory, {tries.threes} of them with status 3", flush=True)
-                count, threes, held, found = count + tries.count, threes + tries.threes, tries.own[3], found + tries.found
+        room = Room(os.path.abspath(program), pathlib.Path(name))
+        if drawn == "jobs":
+            graphs = fuzz.good_graphs()
+            for number in range(jobs):
+                tries = Tries(room, f"job {number + 1}", *drawn_job(draw, graphs))
+                tries.refuse_each()
+                tally.add(tries)
+        else:
+            refuse_runs(room, sys.maxsize if drawn == "each" else int(drawn), draw, tally)
+    count, threes, found = tally.count, tally.threes, tally.found
     for one in found:
         print("WRONG:", one)
     print(f"{count} runs with refused memory, {threes} with status 3 and all others with their own; {len(found)} wrong")

@@ -1,10 +1,12 @@
 """Runs the program on a system that fails it at a given call, and at its limits; each must end as the plain model in model.py says.
 
-Usage: python3 system_faults.py PROGRAM
+Usage: python3 system_faults.py PROGRAM [JOBS]
 The parts, each of which says in one line where it lacks what it needs: faults that strace injects into calls on the checkpoints, standard
 input and output; reads and writes of a few bytes, half of them interrupted, by a library that gcc builds; files at the limits of size, depth,
-units, edges, districts and regions; checkpoints of both versions of the format at the limits of size and count; values of words at the ends of their
-ranges; a folder that cannot be written and threads that are refused, as another user.
+units, edges, districts, regions, splits and groups; checkpoints of both versions of the format at the limits of size and count; values of words at
+the ends of their ranges; a folder that cannot be written and threads that are refused, as another user.
+The faults of calls, short reads and writes, the limit on files and the other user are tried over so many jobs (1, if not said), which differ in key
+and questions; all else over the first alone.
 Prints one line for each part and each run that is not so; ends with 1 where there is one.
 """
 import json
@@ -24,6 +26,7 @@ HERE = pathlib.Path(__file__).resolve().parent
 CYCLE = (HERE / "cycle.json").read_bytes()
 BASE = "--pop pop --first a --second b --district d".split()
 CHAIN = ["run", *BASE, "--slack", "5000", "--key", "0" * 64, "--walks", "12", "--steps", "8", "--ask", "gap:low"]
+ASKS = ("gap:low", "cut-edges:low,gap:high", "seats:high,mean-median:low", "mean-median:high,gap:low,cut-edges:high,seats:low")
 CHECK = ["check", *BASE, "--slack", "5000"]
 NAMES = ("audit-0.ckpt", "audit-1.ckpt")
 NOBODY = 65534
@@ -60,6 +63,7 @@ class Room:
 
     def __init__(self, program, folder):
         self.program, self.folder, self.slots, self.wrong, self.count = program, folder, folder / "slots", [], 0
+        self.chain = CHAIN
 
     def hold(self, slots):
         if self.slots.exists():
@@ -139,9 +143,9 @@ def front(count):
 def injected(room):
     if shutil.which("strace") is None:
         return "strace is not installed: no faults injected"
-    first = model.audit([*CHAIN, "--save", "2", "--budget", "5"], CYCLE, [None, None]).slots
-    report = model.audit(CHAIN, CYCLE, [None, None]).out
-    fresh, resumed = [*CHAIN, "--save", "2"], [*CHAIN, "--save", "2", "--resume", "yes"]
+    first = model.audit([*room.chain, "--save", "2", "--budget", "5"], CYCLE, [None, None]).slots
+    report = model.audit(room.chain, CYCLE, [None, None]).out
+    fresh, resumed = [*room.chain, "--save", "2"], [*room.chain, "--save", "2", "--resume", "yes"]
 
     def run(name, words, slots, call, path, what, end, files):
         room.hold(slots)
@@ -211,7 +215,7 @@ def short(room):
     subprocess.run(["gcc", "-shared", "-fPIC", "-O1", "-o", library, source, "-ldl"], check=True)
     given, slots = {"LD_PRELOAD": str(library)}, [None, None]
     for more in ([], ["--resume", "yes"], ["--resume", "yes"]):
-        words = [*CHAIN, "--save", "2", "--budget", "5", *more]
+        words = [*room.chain, "--save", "2", "--budget", "5", *more]
         room.as_model("seven bytes a call", words, CYCLE, slots, given=given)
         slots = model.audit(words, CYCLE, slots).slots
     room.as_model("seven bytes a call", CHECK, CYCLE, given=given)
@@ -226,7 +230,7 @@ def file_size(room):
         signal.signal(signal.SIGXFSZ, signal.SIG_IGN)
         resource.setrlimit(resource.RLIMIT_FSIZE, (600, 600))
 
-    words = [*CHAIN, "--save", "2", "--budget", "11"]
+    words = [*room.chain, "--save", "2", "--budget", "11"]
     room.hold([None, None])
     end = room.run(words, CYCLE, prepared=limited)
     # saves of 2, 4 and 6 outcomes fit; those of 8, 10 and 11 do not
@@ -275,12 +279,18 @@ def limits(room):
         room.as_model(f"{count} regions", [*CHECK, "--region", "id"], path_of(count, lambda at: at * 2 // count))
     for most in (1, 199, 200):
         room.as_model("a region in 200 districts", [*CHECK, "--region", "pop", "--max-split", str(most)], path_of(200, lambda at: at))
+    for name, numbers in (("--max-splits", (198, 199)), ("--max-split-regions", (0, 1))):
+        for most in numbers:
+            room.as_model("a region in 200 districts", [*CHECK, "--region", "pop", name, str(most)], path_of(200, lambda at: at))
+    for count in (199, 200, 201):
+        room.as_model(f"{count} majorities", [*CHECK, "--group", "a", "--group-districts", str(count)], path_of(200, lambda at: at))
     for low, high in ((0, 1), (10 ** 9, 10 ** 9 + 1), (10 ** 9 - 1, 10 ** 9), (-1, 0)):
         for number in (low, high):
             nodes = [node(0, 0, number, number, 0), node(1, 1, number, 0, number)]
             for score in ("gap:low", "mean-median:high", "seats:low"):
                 room.as_model(f"numbers of {number}", [*CHAIN[:-1], score], text(nodes, [[{"id": 1}], []]))
             room.as_model(f"numbers of {number}", CHECK, text(nodes, [[{"id": 1}], []]))
+            room.as_model(f"a group of {number}", [*CHECK, "--group", "a", "--group-of", "b", "--group-districts", "1"], text(nodes, [[{"id": 1}], []]))
     for label in (2 ** 64 - 1, 2 ** 64, -2 ** 63, -2 ** 63 - 1, -0.0, "", "\u0000", "\U0001f5f3"):
         room.as_model(f"the label and id {label!r}", CHECK, text([node(label, 0), node(7, label)], [[{"id": 7}], []]))
     return "files at the limits"
@@ -331,7 +341,15 @@ def ranges(room):
     for number in (0, 1, 2, 199, 200, 201, 2 ** 32 + 1):
         for region in ("d", "b", ""):
             room.as_model(f"--max-split {number}", with_values(CHECK, {"--max-split": str(number), "--region": region}), CYCLE)
-    for name in ("--resume", "--shift", "--serial"):
+    for name, column in (("--max-splits", "--region"), ("--max-split-regions", "--region"), ("--group-districts", "--group")):
+        low, high = model.RANGES[name]
+        for number in (low, low + 1, high - 1, high, high + 1, 2 ** 32 + 1):
+            for value in ("d", "a", ""):
+                room.as_model(f"{name} {number}", with_values(CHECK, {name: str(number), column: value}), CYCLE)
+    for group in ("a", ""):
+        for whole in ("b", "d", ""):
+            room.as_model(f"--group {group} --group-of {whole}", with_values(CHECK, {"--group": group, "--group-of": whole}), CYCLE)
+    for name in ("--resume", "--shift", "--serial", "--source"):
         for value in ("yes", "no", "Yes", "maybe", "", "yes ", "1"):
             room.as_model(f"{name} {value}", with_values(CHAIN, {"--steps": "7", name: value}), b"")
             room.as_model(f"{name} {value}", with_values(CHECK, {name: value}), CYCLE)
@@ -359,22 +377,22 @@ def other_user(room):
             os.setuid(NOBODY)
         return prepare
 
-    report = model.audit(CHAIN, CYCLE, [None, None]).out
-    first = model.audit([*CHAIN, "--save", "2", "--budget", "5"], CYCLE, [None, None]).slots
+    report = model.audit(room.chain, CYCLE, [None, None]).out
+    first = model.audit([*room.chain, "--save", "2", "--budget", "5"], CYCLE, [None, None]).slots
     for slots, more in (((None, None), []), (first, ["--resume", "yes"])):
         room.hold(slots)
         for name in NAMES:
             if (room.slots / name).exists():
                 (room.slots / name).chmod(0o444)
-        end = room.run([*CHAIN, "--save", "2", *more], CYCLE, prepared=nobody())
+        end = room.run([*room.chain, "--save", "2", *more], CYCLE, prepared=nobody())
         room.judge("a folder that cannot be written", end, 9, report, "checkpoint save fault\n", list(slots))
     room.hold(first)
     (room.slots / NAMES[1]).chmod(stat.S_IWUSR)
-    room.judge("a file that cannot be read", room.run([*CHAIN, "--save", "2", "--resume", "yes"], CYCLE, prepared=nobody()),
+    room.judge("a file that cannot be read", room.run([*room.chain, "--save", "2", "--resume", "yes"], CYCLE, prepared=nobody()),
                6, "", "checkpoint load fault\n", first)
     for more in ([], ["--save", "3"], ["--save", "1", "--budget", "7"]):
         for workers in ("2", "32"):
-            words = [*CHAIN, *more]
+            words = [*room.chain, *more]
             room.hold([None, None])
             room.slots.chmod(0o777)
             wanted = model.audit(words, CYCLE, [None, None])
@@ -384,15 +402,23 @@ def other_user(room):
     return "a folder and a file of another user, and threads that are refused"
 
 
-def main(program):
+def chain_of(number):
+    """The words of a job: those of CHAIN with another key and other questions."""
+    return with_values(CHAIN, {"--key": f"{number:x}".rjust(64, "0"), "--ask": ASKS[number % len(ASKS)]})
+
+
+def main(program, jobs="1"):
+    parts = [(part, number) for number in range(int(jobs)) for part in (injected, short, file_size, other_user)]
     with tempfile.TemporaryDirectory() as name:
         room = Room(os.path.abspath(program), pathlib.Path(name))
-        for part in (injected, short, file_size, limits, checkpoints, ranges, other_user):
+        for part, number in [(limits, 0), (checkpoints, 0), (ranges, 0), *parts]:
+            room.chain = chain_of(number)
             count, wrong = room.count, len(room.wrong)
             said = part(room)
             print(f"{said}: {room.count - count} runs, {len(room.wrong) - wrong} not as they have to be", flush=True)
     for one in room.wrong:
         print("WRONG:", one)
+    print(f"{room.count} runs, {len(room.wrong)} not as they have to be")
     return 1 if room.wrong else 0
 
 

@@ -103,6 +103,34 @@ try_counties() {
     judge $? "audit_slots takes a run with another limit for the same"
 }
 
+# Rules on counties and a group: what prepare.py tells of them is what the auditor says, and rules that are drawn together do what the model says.
+try_rules() {
+    local named=(--pop pop --first a --second b --district d --region county --group bvap --group-of vap) rule
+    for rule in --max-splits --max-split-regions; do
+        python3 prepare.py groups.json "${named[@]}" $rule 1 --out "$room/groups.json" 2>"$room/told"
+        [ $? -eq 1 ] && "$auditor" check "${named[@]}" $rule 1 <"$room/groups.json" 2>"$room/note" >"$room/none"
+        [ $? -eq 2 ] && [ "$(sed -n 's/^prepare: the auditor would refuse it: /plan: /p' "$room/told")" = "$(cat "$room/note")" ]
+        judge $? "prepare.py and the auditor do not refuse $rule 1 alike: $(tail -n 1 "$room/told" "$room/note" | tr '\n' '|')"
+    done
+    python3 prepare.py groups.json "${named[@]}" --group-districts 3 --out "$room/groups.json" 2>"$room/told"
+    [ $? -eq 1 ] && grep -qx 'prepare: bvap has a majority of vap in 2 of 4 districts: 1 (60.81 %), 2 (50.01 %)' "$room/told" &&
+        "$auditor" check "${named[@]}" --group-districts 3 <"$room/groups.json" 2>&1 | grep -qx 'plan: the group has a majority in 2 districts, fewer than 3'
+    judge $? "prepare.py and the auditor do not refuse three majorities alike"
+    local words=(run "${named[@]}" --slack 1000 --key $key --walks 6 --steps 100 --ask cut-edges:low)
+    local rules=(--max-splits 3 --max-split-regions 3 --group-districts 1)
+    mkdir "$room/rules_run"
+    (cd "$room/rules_run" && "$auditor" "${words[@]}" "${rules[@]}" --save 2 --budget 4 <"$here/groups.json" >"$room/none" 2>&1)
+    (cd "$room/rules_run" && "$slots" "${words[@]}" "${rules[@]}" --source yes <"$here/groups.json" 2>&1) | grep -qx 'done: 4 of 6'
+    judge $? "audit_slots does not know a run with each rule"
+    for rule in '4 --max-split-regions 3 --group-districts 1' '3 --max-split-regions 4 --group-districts 1' '3 --max-split-regions 3 --group-districts 2'; do
+        read -ra rules <<<"--max-splits $rule"
+        (cd "$room/rules_run" && "$slots" "${words[@]}" "${rules[@]}" <"$here/groups.json" 2>&1) | grep -qx "done: the newest is another job's"
+        judge $? "audit_slots takes a run with --max-splits $rule for the same"
+    done
+    python3 compare_rules.py "$auditor" 60 1 >"$room/told" 2>&1
+    judge $? "compare_rules.py: $(head -c 400 "$room/told")"
+}
+
 try_picture() {
     "$auditor" run "${columns[@]}" --slack 1000 --key $key --walks 2 --steps 2000 --ends 19 --hub-steps 500 \
         --ask seats:low,cut-edges:low <"$room/graph.json" >"$room/report"
@@ -378,6 +406,7 @@ try_networkx() {
 
 try_prepare
 try_counties
+try_rules
 try_picture
 try_audit
 try_needs

@@ -70,7 +70,8 @@ def ready_of(graph: object, named: typing.Mapping[str, typing.Any], rules: typin
         columns = {"population": named["pop"], "first": named["first"], "second": named["second"]}
     except KeyError as name:
         raise TypeError("the column %s is missing" % name) from None
-    ready = prepare(graph, **columns, district=named.get("district"), region=named.get("region") or None, **rules)
+    group = {name: named[name] for name in ("group", "group_of") if named.get(name)}
+    ready = prepare(graph, **columns, district=named.get("district"), region=named.get("region") or None, **group, **rules)
     changed = [str(change) for change in ready.changes if change.is_of_values] + ready.warnings
     if changed:
         warnings.warn(GraphChanged("\n".join(changed)), stacklevel=4)

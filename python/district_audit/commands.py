@@ -20,18 +20,21 @@ PREPARE = """Turns a file that GerryChain or networkx wrote into one that the au
 FILE is JSON in networkx's adjacency layout (which GerryChain's Graph.to_json writes) or in its node-link layout; a name that ends with
 .graphml or .gml is read by networkx, where that is installed. Nothing else is needed but Python itself.
 
---numbers says what becomes of a number in a column of people or votes that is not whole:
+--numbers says what becomes of a number in a column of people, of votes or of a group that is not whole:
     error    it is refused (the default); a whole number that is written as a float, as 12.0, is none of these
     nearest  the nearest whole number, halves to the even one
     floor    the greatest whole number that is not above it
 --missing says what becomes of a value that is absent, null, NaN or an empty text:
     error    it is refused (the default)
-    zero     0, in a column of people or votes; a missing district or region is refused
+    zero     0, in a column of people, of votes or of a group; a missing district or region is refused
     drop     its unit is left out, and the unit's edges with it
 A column that no unit has is refused, whatever is said.
 --slack is that of the audit, in hundredths of a percent of the ideal population, 500 if it is not given.
---region keeps a column of regions, as counties, and tells among how many districts the most split one lies; --max-split is that of the audit,
-200 if it is not given. --fill-region makes one region of all units that have none, --own-region makes each of them a region of its own.
+--region keeps a column of regions, as counties, and tells among how many districts the most split one lies, how many are split and how often in
+all; --max-split, --max-splits and --max-split-regions are those of the audit, and limit nothing if they are not given. --fill-region makes one
+region of all units that have none, --own-region makes each of them a region of its own.
+--group keeps the column of a group, and tells in which districts it has a majority of --group-of, a column that is kept too, or of the people if
+that is not given; --group-districts is that of the audit, 0 if it is not given.
 --join makes two units neighbours, as an island and what it belongs to; it may be said again.
 --keep keeps a further column, as it is; all others are left out. --all prints every id where else the first ten are.
 
@@ -70,6 +73,11 @@ def prepare_words() -> argparse.ArgumentParser:
     parser.add_argument("--slack", type=int, default=500)
     parser.add_argument("--region")
     parser.add_argument("--max-split", type=int, default=200)
+    parser.add_argument("--max-splits", type=int, default=995_000)
+    parser.add_argument("--max-split-regions", type=int, default=5000)
+    parser.add_argument("--group")
+    parser.add_argument("--group-of")
+    parser.add_argument("--group-districts", type=int, default=0)
     ways = parser.add_mutually_exclusive_group()
     ways.add_argument("--fill-region", metavar="LABEL")
     ways.add_argument("--own-region", action="store_true")
@@ -99,7 +107,8 @@ def prepare(words: typing.Sequence[str] | None = None) -> int:
         ready = prepared_of(
             args.file, population=args.pop, first=args.first, second=args.second, district=args.district, region=args.region,
             numbers=args.numbers, missing=args.missing, join=args.join, keep=args.keep, fill_region=args.fill_region,
-            own_region=args.own_region, slack=args.slack, max_split=args.max_split, show_all=args.all)
+            own_region=args.own_region, slack=args.slack, max_split=args.max_split, max_splits=args.max_splits, max_split_regions=args.max_split_regions,
+            group=args.group, group_of=args.group_of, group_districts=args.group_districts, show_all=args.all)
         told(ready, args.all)
         if args.out:
             with open(args.out, "wb") as file:
@@ -127,10 +136,11 @@ def picture(words: typing.Sequence[str] | None = None) -> int:
     args = parser.parse_args(words)
     try:
         if args.report == "-":
-            text = sys.stdin.read()
+            data = sys.stdin.buffer.read()
         else:
-            with open(args.report, encoding="ascii", newline="") as file:
-                text = file.read()
+            with open(args.report, "rb") as file:
+                data = file.read()
+        text = data.decode("utf-8", "surrogateescape")
         Report.parse(text).plot(args.name)
     except MissingExtra as why:
         print("picture: not drawn: %s" % why, file=sys.stderr)

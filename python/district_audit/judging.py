@@ -51,6 +51,8 @@ class Judged:
         self.judge_sizes()
         if choices.region:
             self.judge_regions(choices.region)
+        if choices.group:
+            self.judge_group(choices.group, choices.whole)
 
     def named(self, district: Label) -> str:
         return "district %s" % as_json(district)
@@ -124,3 +126,31 @@ class Judged:
             told = ", ".join(map(str, numbers[:SHOWN])) + (" and %d more" % (len(numbers) - SHOWN) if len(numbers) > SHOWN else "")
             self.refusals.append("regions that lie in more than %d districts: %d: %s (the auditor's numbers: %s)" % (
                 choices.max_split, len(over), self.shown(over), told))
+        self.judge_splits({label: len(districts) for label, districts in split.items() if len(districts) > 1})
+
+    def judge_splits(self, split: dict[Label, int]) -> None:
+        """How often regions are split in all, and how many are, by the number of districts of each that is."""
+        splits = sum(split.values()) - len(split)
+        self.notes.append("%d regions lie in more than one district, with %d splits in all%s" % (len(split), splits, ": " + self.shown(in_order(split)) if split else ""))
+        if splits > self.choices.max_splits:
+            self.refusals.append("%d splits of regions, more than %d" % (splits, self.choices.max_splits))
+        if len(split) > self.choices.max_split_regions:
+            self.refusals.append("%d regions lie in more than one district, more than %d" % (len(split), self.choices.max_split_regions))
+
+    def judge_group(self, group: str, whole: str) -> None:
+        """In which districts a group has a majority."""
+        sums = {label: [sum(self.rows[unit][column] for unit in self.members[label]) for column in (group, whole)] for label in self.districts}
+        most = [label for label, (part, of) in sums.items() if 2 * part > of]
+        self.notes.append("%s has a majority of %s in %d of %d districts%s" % (
+            group, whole, len(most), len(sums), ": " + ", ".join("%s (%s)" % (as_json(label), percent(*sums[label])) for label in most) if most else ""))
+        over = [unit for unit, row in self.rows.items() if row[group] > row[whole]]
+        if over:
+            self.notes.append("units with more in %s than in %s: %d: %s" % (group, whole, len(over), self.shown(over)))
+        if len(most) < self.choices.group_districts:
+            self.refusals.append("%s has a majority in %d districts, fewer than %d" % (group, len(most), self.choices.group_districts))
+
+
+def percent(part: int, whole: int) -> str:
+    """A part in percent, rounded down at two places."""
+    return "%d.%02d %%" % divmod(10_000 * part // whole, 100) if whole else "of nobody"
+

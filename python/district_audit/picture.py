@@ -75,15 +75,16 @@ def so_many(count: int, what: str) -> str:
 
 
 def about(report: Report) -> str:
-    """The head of the picture: the map, its rules, what was walked, and the key."""
-    rules, setting = report.rules, report.setting
-    limits = "" if rules.max_cut is None else "; at most %d cut edges" % rules.max_cut
-    limits += "" if rules.regions is None else "; %d regions, each in at most %d districts" % (rules.regions, rules.max_split or 0)
+    """The head of the picture: the map, its rules, what was walked, the key, and what was read."""
+    rules, setting, source = report.rules, report.setting, report.source
+    limits = "".join("; " + said for said in rules.told())
+    limits += "".join("\n" + said for said in ["; ".join(rules.told_further())] if said)
     ends = "%s of %s" % (so_many(setting.ends, "end"), so_many(setting.hub_steps, "step")) if setting.ends else "no ends"
     ends += ", a test stops after %d in its tail" % setting.stop if setting.stop else ""
     walks = "%s of %s" % (so_many(setting.walks, "walk"), so_many(setting.steps, "step")) if setting.walks else "no walks"
-    return "%d units, %d districts, %d people; %d to %d people a district (slack %g %%)%s\n%s; %s\nkey %s" % (
-        report.units, report.districts, report.population, rules.low, rules.high, rules.slack / 100, limits, walks, ends, report.key)
+    read = "" if source is None else "\nsource sha256 %s, %d bytes" % (source.sha256, source.bytes)
+    return "%d units, %d districts, %d people; %d to %d people a district (slack %g %%)%s\n%s; %s\nkey %s%s" % (
+        report.units, report.districts, report.population, rules.low, rules.high, rules.slack / 100, limits, walks, ends, report.key, read)
 
 
 # ---- drawing
@@ -165,7 +166,8 @@ def draw(report: Report) -> Figure:
     shift = report.shift
     if shift is not None and sum(shift.counts):
         panels.append((2, 0.5, lambda axes: draw_shift(axes, typing.cast(Shift, shift))))
-    top = 0.95
+    # Three lines of words fit; each further one takes a little more.
+    top = 0.95 + 0.14 * (about(report).count("\n") - 2)
     whole = top + sum(height + below for height, below, _ in panels)
     figure = Figure(figsize=(11, whole))
     FigureCanvasAgg(figure)

@@ -37,6 +37,16 @@ class More(typing.TypedDict, total=False):
     """That of the audit, in hundredths of a percent of the ideal population, 500 where it is left out: for telling what would be refused."""
     max_split: int
     """That of the audit, 200 where it is left out: for telling what would be refused."""
+    max_splits: int
+    """The same, 995000 where it is left out."""
+    max_split_regions: int
+    """The same, 5000 where it is left out."""
+    group: str
+    """The column of a group of people, in heads."""
+    group_of: str
+    """The column of those of whom the group may be the majority; that of people where it is left out."""
+    group_districts: int
+    """In how many districts the audit asks for a majority, 0 where it is left out: for telling what would be refused."""
     show_all: bool
     """Whether notes and refusals have every id, where else they have the first ten."""
 
@@ -59,11 +69,22 @@ class Choices:
     own_region: bool = False
     slack: int = 500
     max_split: int = 200
+    max_splits: int = 995_000
+    max_split_regions: int = 5000
+    group: str | None = None
+    group_of: str | None = None
+    group_districts: int = 0
     show_all: bool = False
 
     @property
-    def counted(self) -> tuple[str, str, str]:
-        return self.population, self.first, self.second
+    def whole(self) -> str:
+        """The column of those of whom the group may be the majority."""
+        return self.group_of or self.population
+
+    @property
+    def counted(self) -> list[str]:
+        """The columns of numbers, each once."""
+        return list(dict.fromkeys((self.population, self.first, self.second, *((self.group, self.whole) if self.group else ()))))
 
     @property
     def labelled(self) -> list[str]:
@@ -128,7 +149,7 @@ class Prepared:
     regions: list[Label]
     """The same of the regions; empty where no column of regions was named."""
     columns: dict[str, str]
-    """The columns that were written, by the program's words: pop, first, second, district, and region where there is one."""
+    """The columns that were written, by the program's words: pop, first, second, district, and region, group and group_of where they were named."""
 
     def __iter__(self) -> typing.Iterator[object]:
         return iter((self.data, self.changes))
@@ -141,10 +162,10 @@ def prepare(graph: object, *, population: str, first: str, second: str, district
     `graph` is an object of networkx or GerryChain (anything with `nodes(data=True)` and `adjacency()`), the path of a file (JSON in
     networkx's adjacency or node-link layout; GraphML and GML where networkx is installed), or the bytes of such a JSON file.
     `population`, `first` and `second` name the columns of people and of both parties' votes, in heads, `district` that of districts, and
-    `region` one of regions. `numbers` says what becomes of a number that is not whole: "error" refuses it, "nearest" takes the nearest,
+    `region` one of regions. `group` and `group_of` in `More` name those of a group, in heads, too. `numbers` says what becomes of a number that is not whole: "error" refuses it, "nearest" takes the nearest,
     halves to the even one, "floor" the greatest that is not above it. `missing` says what becomes of a value that is absent, None, NaN or
-    empty: "error" refuses it, "zero" makes it 0 in a column of people or votes, "drop" leaves its unit out. `More` has what else may be
-    said: `assignment`, `join`, `keep`, `fill_region`, `own_region`, `slack`, `max_split`, `show_all`.
+    empty: "error" refuses it, "zero" makes it 0 in a column of people, votes or a group, "drop" leaves its unit out. `More` has what else
+    may be said: `assignment`, `join`, `keep`, `fill_region`, `own_region`, `slack`, the rules of the audit, `show_all`.
 
     PrepareRefused, a ValueError, where something is refused; its `faults` has a line for each value. MissingExtra, an ImportError, where a
     file can be read only by networkx, and that is not installed.
@@ -154,7 +175,10 @@ def prepare(graph: object, *, population: str, first: str, second: str, district
             raise PrepareRefused("%s is one of %s, and not %r" % (name, ", ".join(good), value))
     if (district is None) == (more.get("assignment") is None):
         raise PrepareRefused("either a column of districts or an assignment has to be given")
-    choices = Choices(population, first, second, district or free_name({population, first, second, region}), region, numbers, missing, **more)
+    if more.get("group_of") and not more.get("group"):
+        raise PrepareRefused("group_of is given, and no group is")
+    taken = {population, first, second, region, more.get("group"), more.get("group_of")}
+    choices = Choices(population, first, second, district or free_name(taken), region, numbers, missing, **more)
     return prepared(raw_of(graph), choices)
 
 
@@ -228,7 +252,7 @@ class Rows:
         self.choices, self.labels_of, self.changes = choices, labels_of, changes
         self.rows: dict[Label, dict[str, typing.Any]] = {}
         self.faults: list[str] = []
-        # What stood there before it was made whole, for each column of people or votes in which something was.
+        # What stood there before it was made whole, for each column of numbers in which something was.
         self.before: dict[str, dict[Label, Fraction]] = {column: {} for column in choices.counted}
 
     def take(self, name: Label, node: dict[str, typing.Any]) -> None:
@@ -247,7 +271,7 @@ class Rows:
         return False
 
     def count(self, name: Label, node: dict[str, typing.Any], column: str, row: dict[str, typing.Any]) -> bool:
-        """Writes a number of people or votes. Whether the unit stays."""
+        """Writes a number of people, of votes or of a group. Whether the unit stays."""
         value = node.get(column)
         if is_missing(value):
             if self.choices.missing == "drop":
@@ -405,7 +429,8 @@ def prepared(raw: Raw, choices: Choices) -> Prepared:
     data = data_of(rows, neighbours)
     judged = judging.Judged(rows, neighbours, choices)
     refusals = judged.refusals + (["more than %d bytes" % MOST_BYTES] if len(data) > MOST_BYTES else [])
-    columns = dict(zip(("pop", "first", "second", "district", "region"), (*choices.counted, *choices.labelled)))
+    columns = dict(zip(("pop", "first", "second", "district", "region"), (choices.population, choices.first, choices.second, *choices.labelled)))
+    columns.update({name: column for name, column in (("group", choices.group), ("group_of", choices.group_of)) if column})
     return Prepared(data, list(changes.by_kind.values()), judged.notes, suspicions(choices, rows, taken.before), refusals, list(rows),
                     judged.districts, judged.regions, columns)
 

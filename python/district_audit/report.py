@@ -7,7 +7,9 @@ again, byte for byte. Counts are `int`, scores `Start` (which is never shortened
 from __future__ import annotations
 
 import dataclasses
+import hashlib
 import html
+import json
 import math
 import re
 import typing
@@ -22,6 +24,7 @@ if typing.TYPE_CHECKING:
 
 BILLION = 10 ** 9
 MOST_UNITS, MOST_EDGES, MOST_DISTRICTS, MOST_REGIONS, MOST_TRAJECTORIES, MOST_CUT, MOST_SLACK = 100_000, 400_000, 200, 5000, 100_000, 400_000, 10_000
+MOST_SPLITS, MOST_BYTES = 995_000, 67_108_864
 SCORES = ("seats", "mean-median", "gap", "cut-edges")
 TAILS = ("low", "high")
 # What the nine numbers of a line `shift` stand for.
@@ -51,6 +54,63 @@ class Rules:
     """Among how many districts a region may be split; None: there are no regions."""
     regions: int | None = None
     """How many regions there are; None: no column of regions was named."""
+    max_splits: int | None = None
+    """How often regions may be split in all, each by one less than the number of its districts; None: this and the next are not limited."""
+    max_split_regions: int | None = None
+    """How many regions may lie in more than one district."""
+    group_districts: int | None = None
+    """In how many districts at least the group has to have a majority; None: no group was named."""
+    majorities: int | None = None
+    """In how many the start plan gives it one."""
+
+    def told(self) -> list[str]:
+        """The limits on cut edges and on the districts of a region, in words."""
+        said = [] if self.max_cut is None else ["at most %d cut edges" % self.max_cut]
+        return said + ([] if self.regions is None else ["%d regions, each in at most %d districts" % (self.regions, self.max_split or 0)])
+
+    def told_further(self) -> list[str]:
+        """Those on splits in all, on split regions and on a group's majorities."""
+        is_few = self.max_splits is not None and self.max_splits < MOST_SPLITS
+        said = ["at most %d splits of regions in all" % self.max_splits] if is_few else []
+        is_few = self.max_split_regions is not None and self.max_split_regions < MOST_REGIONS
+        said += ["at most %d regions in more than one district" % self.max_split_regions] if is_few else []
+        return said + ([] if self.group_districts is None else ["the group has a majority in %d districts, and has to have one in %d" % (
+            self.majorities or 0, self.group_districts)])
+
+
+@dataclasses.dataclass(frozen=True)
+class Source:
+    """What was read, and which of its columns; told where `source` asks for it."""
+
+    sha256: str
+    """The 64 hexadecimal digits of the SHA-256 of all bytes that were read; for several plans the table is among them."""
+    bytes: int
+    """How many bytes these are."""
+    population: str
+    first: str
+    second: str
+    district: str
+    region: str | None = None
+    """The column of regions; None: none was named."""
+    group: str | None = None
+    """The column of the group; None: none was named."""
+    group_of: str | None = None
+    """The column of those of whom the group may be the majority: the column of populations, where no other was named."""
+
+    def lines(self) -> list[str]:
+        words = ["columns", *map(quoted, (self.population, self.first, self.second, self.district))]
+        words += [] if self.region is None else ["region", quoted(self.region)]
+        words += [] if self.group is None else ["group", quoted(self.group), "of", quoted(self.group_of or "")]
+        return ["source sha256 %s bytes %d" % (self.sha256, self.bytes), " ".join(words)]
+
+    def is_of(self, data: bytes) -> bool:
+        """Whether these are the bytes that were read."""
+        return len(data) == self.bytes and hashlib.sha256(data).hexdigest() == self.sha256
+
+
+def quoted(text: str) -> str:
+    """A text as the program writes it: as JSON, with the shortest escapes."""
+    return json.dumps(text, ensure_ascii=False)
 
 
 @dataclasses.dataclass(frozen=True)
@@ -249,10 +309,76 @@ class Head(typing.NamedTuple):
         lines = ["units %d edges %d districts %d" % self[:3],
                  "population %d slack %d low %d high %d" % (self.population, rules.slack, rules.low, rules.high)]
         lines += [] if rules.max_cut is None else ["max-cut %d" % rules.max_cut]
-        return lines + ([] if rules.regions is None else ["max-split %d regions %d" % (rules.max_split or 0, rules.regions)])
+        lines += [] if rules.regions is None else ["max-split %d regions %d" % (rules.max_split or 0, rules.regions)]
+        lines += [] if rules.max_splits is None else ["max-splits %d max-split-regions %d" % (rules.max_splits, rules.max_split_regions or 0)]
+        return lines + ([] if rules.group_districts is None else ["group-districts %d of %d" % (rules.group_districts, rules.majorities or 0)])
 
 
-def head_of(lines: Reader) -> Head:
+def source_of(lines: Reader) -> Source | None:
+    """What was read, where that is told."""
+    if not lines.begins("source"):
+        return None
+    sha256, count = lines.take("source sha256 ([0-9a-f]{64}) bytes N".replace("N", NUMBER), "source sha256 H bytes n")
+    lines.ask_that(1 <= int(count) <= MOST_BYTES, "there are no so many bytes")
+    said, = lines.take("columns (.*)", 'columns "P" "A" "B" "D"')
+    names, words = columns_in(lines, said)
+    lines.ask_that(words in ([], ["region"], ["group", "of"], ["region", "group", "of"]), "such columns are not told")
+    found = dict(zip(words, names[4:]))
+    lines.ask_that("" not in (found.get("region"), found.get("group")) and (found.get("of") != "" or names[0] == ""), "a column without a name is not told")
+    return Source(sha256, int(count), *names[:4], region=found.get("region"), group=found.get("group"), group_of=found.get("of"))
+
+
+def columns_in(lines: Reader, said: str) -> tuple[list[str], list[str]]:
+    """The names in a line of columns, and the words that stand before each but the first four."""
+    names: list[str] = []
+    words: list[str] = []
+    at = 0
+    while at <= len(said):
+        if len(names) >= 4 and not said.startswith('"', at):
+            words.append(said[at:].split(" ")[0])
+            at += len(words[-1]) + 1
+        try:
+            name, end = json.JSONDecoder().raw_decode(said, at)
+        except ValueError:
+            name, end = None, at
+        lines.ask_that(isinstance(name, str) and quoted(name) == said[at:end] and said[end:end + 1] in ("", " "), "it has no names as JSON texts")
+        names.append(name)
+        at = end + 1
+    lines.ask_that(len(names) == 4 + len(words), "it has not the names of four columns, and of others with what they are")
+    return names, words
+
+
+def has_rule(lines: Reader, word: str, is_named: bool | None) -> bool:
+    """Whether the line of a rule that needs a column stands next. Where the columns are told, it stands exactly where its column is named."""
+    is_there = lines.begins(word)
+    if is_named is not None and is_there != is_named:
+        refuse(lines.number, "no column is named for this rule" if is_there else "a line that begins with `%s` has to stand here" % word)
+    return is_there
+
+
+def rules_of(lines: Reader, units: int, districts: int, source: Source | None) -> dict[str, int]:
+    """The rules that are set, by the names of their fields."""
+    found: dict[str, int] = {}
+    if lines.begins("max-cut"):
+        found["max_cut"], = lines.numbers("max-cut N", "max-cut c")
+        lines.ask_that(found["max_cut"] < MOST_CUT, "such a limit is not written")
+    if has_rule(lines, "max-split", None if source is None else source.region is not None):
+        most, regions = lines.numbers("max-split N regions N", "max-split s regions q")
+        lines.ask_that(1 <= most <= MOST_DISTRICTS and 1 <= regions <= min(MOST_REGIONS, units), "the limit or the number of regions is out of range")
+        found.update(max_split=most, regions=regions)
+        if lines.begins("max-splits"):
+            splits, split_regions = lines.numbers("max-splits N max-split-regions N", "max-splits s max-split-regions k")
+            lines.ask_that(splits <= MOST_SPLITS and split_regions <= MOST_REGIONS and (splits, split_regions) != (MOST_SPLITS, MOST_REGIONS),
+                           "such limits are not written")
+            found.update(max_splits=splits, max_split_regions=split_regions)
+    if has_rule(lines, "group-districts", None if source is None else source.group is not None):
+        least, majorities = lines.numbers("group-districts N of N", "group-districts m of t")
+        lines.ask_that(least <= majorities <= districts, "the start plan does not give the group so many districts, or there are no so many")
+        found.update(group_districts=least, majorities=majorities)
+    return found
+
+
+def head_of(lines: Reader, source: Source | None) -> Head:
     units, edges, districts = lines.numbers("units N edges N districts N", "units n edges e districts D")
     lines.ask_that(2 <= districts <= MOST_DISTRICTS and districts <= units <= MOST_UNITS, "there are no so many units or districts")
     lines.ask_that(units - districts <= edges <= min(MOST_EDGES, units * (units - 1) // 2), "contiguous districts have another number of edges")
@@ -261,14 +387,7 @@ def head_of(lines: Reader) -> Head:
     shares = 10_000 * districts
     lines.ask_that(low == -(-(10_000 - slack) * population // shares) and high == (10_000 + slack) * population // shares and low <= high,
                    "the bounds are not those of the population and the slack")
-    max_cut = max_split = regions = None
-    if lines.begins("max-cut"):
-        max_cut, = lines.numbers("max-cut N", "max-cut c")
-        lines.ask_that(max_cut < MOST_CUT, "such a limit is not written")
-    if lines.begins("max-split"):
-        max_split, regions = lines.numbers("max-split N regions N", "max-split s regions q")
-        lines.ask_that(1 <= max_split <= MOST_DISTRICTS and 1 <= regions <= min(MOST_REGIONS, units), "the limit or the number of regions is out of range")
-    return Head(units, edges, districts, population, Rules(slack, low, high, max_cut, max_split, regions))
+    return Head(units, edges, districts, population, Rules(slack, low, high, **rules_of(lines, units, districts, source)))
 
 
 def setting_of(lines: Reader) -> Setting:
@@ -435,19 +554,22 @@ class PlanCheck:
     districts: int
     population: int
     rules: Rules
+    source: Source | None = None
+    """What was read; None where that is not told."""
 
     @classmethod
     def parse(cls, text: str) -> PlanCheck:
         """The check text as a value; ReportRefused where the program cannot have written it."""
         lines = Reader(lines_of(text))
         lines.take("plan-check 1", "plan-check 1")
-        head = head_of(lines)
+        source = source_of(lines)
+        head = head_of(lines, source)
         finish(lines)
-        return cls(*head)
+        return cls(*head, source)
 
     def __str__(self) -> str:
         head = Head(self.units, self.edges, self.districts, self.population, self.rules)
-        return "\n".join(["plan-check 1", *head.lines(), "end", ""])
+        return "\n".join(["plan-check 1", *([] if self.source is None else self.source.lines()), *head.lines(), "end", ""])
 
 
 def finish(lines: Reader) -> None:
@@ -483,6 +605,8 @@ class Report:
     """The parallel tests, one for each question; empty where there are no ends."""
     serial: tuple[Serial, ...]
     """The serial tests, one for each question; empty where it was not asked for."""
+    source: Source | None = None
+    """What was read; None where that is not told."""
 
     @classmethod
     def parse(cls, text: str) -> Report:
@@ -508,8 +632,9 @@ class Report:
     def read(cls, lines: Reader) -> Report:
         """The next report of some lines."""
         version, = lines.take("district-audit ([12])", "district-audit 1")
+        source = source_of(lines)
         key, = lines.take("key ([0-9a-f]{64})", "key K")
-        head, setting = head_of(lines), setting_of(lines)
+        head, setting = head_of(lines, source), setting_of(lines)
         tests = Tests(lines, head, setting)
         walks = tests.walks()
         shift = tests.shift(walks) if version == "2" else None
@@ -517,12 +642,12 @@ class Report:
         ends = tests.ends() if setting.ends and not setting.stop else ()
         serial = tests.serial() if lines.begins("serial") else ()
         lines.take("end", "end")
-        return cls(key, *head, setting, walks, shift, stops, ends, serial)
+        return cls(key, *head, setting, walks, shift, stops, ends, serial, source)
 
     def __str__(self) -> str:
         setting = self.setting
         head = Head(self.units, self.edges, self.districts, self.population, self.rules)
-        lines = ["district-audit %d" % (1 if self.shift is None else 2), "key " + self.key, *head.lines(),
+        lines = ["district-audit %d" % (1 if self.shift is None else 2), *([] if self.source is None else self.source.lines()), "key " + self.key, *head.lines(),
                  "walks %d steps %d ends %d hub-steps %d" % (setting.walks, setting.steps, setting.ends, setting.hub_steps)]
         lines += ["stop %d" % setting.stop] if setting.stop else []
         lines += map(str, self.walks)
@@ -571,9 +696,9 @@ class Report:
 
     def _repr_html_(self) -> str:
         rules = self.rules
-        limits = "" if rules.max_cut is None else "; at most %d cut edges" % rules.max_cut
-        limits += "" if rules.regions is None else "; %d regions, each in at most %s districts" % (rules.regions, rules.max_split)
-        about = "%d units, %d edges, %d districts, %d people; %d to %d people a district%s; key %s" % (
-            self.units, self.edges, self.districts, self.population, rules.low, rules.high, limits, self.key)
+        about = "%d units, %d edges, %d districts, %d people; %s; key %s" % (
+            self.units, self.edges, self.districts, self.population,
+            "; ".join(["%d to %d people a district" % (rules.low, rules.high), *rules.told(), *rules.told_further()]), self.key)
+        about += "" if self.source is None else "; source sha256 %s, %d bytes" % (self.source.sha256, self.source.bytes)
         shift = "" if self.shift is None else table([self.shift.counts], ["seats " + word for word in SEATS])
         return "<p>%s</p>%s%s" % (html.escape(about), table(self.rows(), COLUMNS), shift)

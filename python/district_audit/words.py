@@ -27,6 +27,18 @@ class CheckWords(typing.TypedDict, total=False):
     """Among how many districts a region may be split: 1 to 200."""
     max_cut: int
     """How many edges between two districts a plan may have: 0 to 400000."""
+    max_splits: int
+    """How often regions may be split in all, each by one less than the number of its districts: 0 to 995000, which limits nothing."""
+    max_split_regions: int
+    """How many regions may lie in more than one district: 0 to 5000, which limits nothing."""
+    group: str
+    """The column of a group of people, whose majorities are counted."""
+    group_of: str
+    """The column of those of whom the group may be the majority, as all of voting age; that of populations, where it is left out."""
+    group_districts: int
+    """In how many districts at least the group has to have a majority: 0 to 200."""
+    source: bool
+    """Whether the text tells the SHA-256 of what was read, and the columns."""
 
 
 class PlansWords(CheckWords, total=False):
@@ -70,7 +82,7 @@ class RunWords(PlansWords, total=False):
 
 
 class MakeWords(RunWords, total=False):
-    """The words of `make`, which has no graph, and so neither columns nor regions."""
+    """The words of `make`, which has no graph, and so neither columns nor regions, nor a group or a source."""
 
     size: int
     """The size of the grid: 1 to 30."""

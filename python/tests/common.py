@@ -118,6 +118,12 @@ def readme_report():
     return next(block for block in re.findall("^```\\w*\n(.*?)^```$", text, re.DOTALL | re.MULTILINE) if block.startswith("district-audit") and "ends seats" in block)
 
 
+def groups_report():
+    """The report on groups.json that examples/README.md prints, with each rule set and the source told; the plain model prints it."""
+    text = (EXAMPLES / "README.md").read_text(encoding="utf-8").split("\n## groups.json\n")[1]
+    return next(block for block in re.findall("^```\\w*\n(.*?)^```$", text, re.DOTALL | re.MULTILINE) if block.startswith("district-audit"))
+
+
 @contextlib.contextmanager
 def environment(**values):
     """Variables of the environment, for a while; None takes one away."""

@@ -32,6 +32,8 @@ class Calls(common.ProgramCase):
         self.assertEqual(words_of("run", {"population": "P", "hub_steps": 3, "shift": True, "resume": False, "key": b"\x0a" * 32,
                                           "ask": ["gap:low", "seats:high"], "stop": None}),
                          ["run", "--hub-steps", "3", "--shift", "yes", "--resume", "no", "--key", "0a" * 32, "--ask", "gap:low,seats:high", "--pop", "P"])
+        self.assertEqual(words_of("check", {"max_splits": 0, "max_split_regions": 9, "group": "BVAP", "group_of": "VAP", "group_districts": 4, "source": True}),
+                         ["check", "--max-splits", "0", "--max-split-regions", "9", "--group", "BVAP", "--group-of", "VAP", "--group-districts", "4", "--source", "yes"])
         self.assertEqual(district_audit.key_of("abc"), "ba7816bf8f01cfea414140de5dae2223b00361a396177a9cb410ff61f20015ad")
 
     def test_check_of_each_kind_of_graph(self):
@@ -84,6 +86,29 @@ class Calls(common.ProgramCase):
         self.assertEqual(district_audit.plans(common.EXAMPLES / "grid.json", frame, **words), of_file)
         with self.assertRaises(ValueError):
             district_audit.plans(common.EXAMPLES / "grid.json", {"blocks": blocks, "columns": {0: 1}}, **words)
+
+    def test_rules_on_counties_and_a_group(self):
+        """The report of examples/README.md from the file, and the same numbers from what was prepared."""
+        words = dict(max_splits=3, max_split_regions=3, group_districts=2, slack=1000, walks=1, steps=2047, ends=9, hub_steps=500,
+                     ask="mean-median:high,cut-edges:low", key=district_audit.key_of("groups"), source=True, program=self.program)
+        columns = dict(pop="pop", first="a", second="b", district="d", region="county", group="bvap", group_of="vap")
+        path = common.EXAMPLES / "groups.json"
+        report = district_audit.run(path, **columns, **words)
+        self.assertEqual(str(report), common.groups_report())
+        self.assertTrue(report.source.is_of(path.read_bytes()))
+        ready = district_audit.prepare(path, **common.COLUMNS, region="county", group="bvap", group_of="vap")
+        for graph, named in ((ready, {}), (common.StandInGraph(common.example("groups.json")), columns)):
+            other = district_audit.run(graph, **named, **words)
+            self.assertEqual((other.walks, other.ends, other.rules), (report.walks, report.ends, report.rules))
+            self.assertTrue(other.source.is_of(ready.data))
+        plan = district_audit.check(ready, program=self.program, slack=1000, max_splits=2, max_split_regions=2, group_districts=2, source=True)
+        self.assertEqual((plan.rules.max_splits, plan.rules.max_split_regions, plan.rules.majorities), (2, 2, 2))
+        self.assertEqual(plan.source, other.source)
+        own = {node["id"]: node["d"] for node in common.example("groups.json")["nodes"]}
+        found = district_audit.plans(ready, {"own": own}, **words)
+        self.assertEqual([(name, one.walks, one.rules) for name, one in found], [(name, report.walks, report.rules) for name in ("d", "own")])
+        self.assertEqual(found[0][1].source, found[1][1].source)
+        self.assertFalse(found[0][1].source.is_of(ready.data))
 
     def test_changed_values_are_warned_of(self):
         root = common.example("cycle.json")
@@ -166,6 +191,19 @@ class Exceptions(common.ProgramCase):
             self.assertEqual(error.labels, 'region %d is "%s"' % (number, county))
             plan = district_audit.check(common.StandInGraph(common.example("ny8.json")), program=self.program, max_split=most, **words)
         self.assertEqual((plan.units, plan.districts, plan.rules.regions, plan.population), (len(nodes), 8, len(split), sum(int(node["POP8"]) for node in nodes)))
+
+    def test_1_and_2_further_rules(self):
+        words = dict(common.WORDS, graph=common.EXAMPLES / "groups.json", slack=1000)
+        for said, why in ((dict(max_splits=2), "--max-splits"), (dict(max_split_regions=2), "--max-split-regions"), (dict(group_of="vap"), "--group-of"),
+                          (dict(group_districts=1), "--group-districts"), (dict(region="county", max_splits=995001), "--max-splits"),
+                          (dict(source="maybe"), "--source")):
+            self.refused(district_audit.WordsRefused, "words: bad value for " + why, **words, **said)
+        for said, why in ((dict(region="county", max_splits=1), "2 splits of regions, more than 1"),
+                          (dict(region="county", max_split_regions=1), "2 regions lie in more than one district, more than 1"),
+                          (dict(group="bvap", group_of="vap", group_districts=3), "the group has a majority in 2 districts, fewer than 3")):
+            error = self.refused(district_audit.GraphRefused, "plan: " + why, **words, **said)
+            self.assertEqual(error.labels, "")
+        self.refused(district_audit.GraphRefused, "graph: node 0 has no column bvapp", **words, group="bvapp")
 
     def test_2_a_plan_of_a_table(self):
         crossed = {node["id"]: name for node, name in zip(common.example("cycle.json")["nodes"], "QRQR")}

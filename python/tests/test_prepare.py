@@ -138,6 +138,69 @@ class Changes(unittest.TestCase):
         split = prepared(square(county=["k", "l", "k", "l"]), region="county", max_split=1)
         self.assertEqual(split.refusals, ["regions that lie in more than 1 districts: 2: \"k\", \"l\" (the auditor's numbers: 0, 1)"])
 
+    def test_splits_of_regions(self):
+        """The counties k, l and m lie in one, two and three districts: two are split, and three times in all."""
+        nodes = [{"id": place, "pop": 1, "a": 1, "b": 1, "d": district, "county": county} for place, (county, district) in enumerate(
+            (("k", 0), ("k", 0), ("l", 0), ("l", 1), ("m", 1), ("m", 2), ("m", 3)))]
+        root = {"nodes": nodes, "adjacency": [[{"id": place + 1}] if place < 6 else [] for place in range(7)]}
+        ready = prepared(root, slack=10000, region="county")
+        self.assertEqual(ready.notes, ["7 units, 6 edges, 4 districts, 7 people", '3 regions in county; "m" lies in the most districts, 3',
+                                       '2 regions lie in more than one district, with 3 splits in all: "l", "m"'])
+        self.assertEqual(ready.refusals, [])
+        self.assertEqual(prepared(root, slack=10000, region="county", max_splits=3, max_split_regions=2).refusals, [])
+        self.assertEqual(prepared(root, slack=10000, region="county", max_splits=2, max_split_regions=1).refusals,
+                         ["3 splits of regions, more than 2", "2 regions lie in more than one district, more than 1"])
+        whole = prepared(square(county=["k", "k", "l", "l"]), region="county", max_splits=0, max_split_regions=0)
+        self.assertEqual((whole.refusals, whole.notes[-1]), ([], "0 regions lie in more than one district, with 0 splits in all"))
+
+    def test_a_group(self):
+        """District x has 3 of 5, which is a majority, and y has 2 of 4, which is none; of all people the group has a majority nowhere."""
+        root = square(pop=[5, 5, 5, 5], g=[2, 1.0, 2, 0], w=[2, 3, 1, 3])
+        ready = prepared(root, group="g", group_of="w")
+        self.assertEqual([(node["g"], node["w"]) for node in json.loads(ready.data)["nodes"]], [(2, 2), (1, 3), (2, 1), (0, 3)])
+        self.assertEqual(ready.columns, {"pop": "pop", "first": "a", "second": "b", "district": "d", "group": "g", "group_of": "w"})
+        self.assertEqual(ready.notes, ["4 units, 4 edges, 2 districts, 20 people", 'g has a majority of w in 1 of 2 districts: "x" (60.00 %)',
+                                       'units with more in g than in w: 1: "u"'])
+        self.assertEqual([str(change) for change in ready.changes], ['column g: whole floats written as whole numbers: 1 unit: "t"'])
+        self.assertEqual(ready.refusals, [])
+        self.assertEqual(prepared(root, group="g", group_of="w", group_districts=1).refusals, [])
+        self.assertEqual(prepared(root, group="g", group_of="w", group_districts=2).refusals, ["g has a majority in 1 districts, fewer than 2"])
+        ready = prepared(root, group="g", group_districts=1)
+        self.assertEqual((ready.notes[-1], ready.refusals), ("g has a majority of pop in 0 of 2 districts", ["g has a majority in 0 districts, fewer than 1"]))
+        self.assertNotIn(b'"w"', ready.data)
+        self.assertEqual(ready.columns["group"], "g")
+        self.assertNotIn("group_of", ready.columns)
+        self.assertEqual(prepared(square(g=[1, 0, 0, 0], w=[0, 0, 0, 0]), group="g", group_of="w").notes[1],
+                         'g has a majority of w in 1 of 2 districts: "x" (of nobody)')
+
+    def test_a_column_that_is_named_twice_is_told_of_once(self):
+        ready = prepared(square(a=[1.0, 2, 3, 4]), group="a", group_of="a")
+        self.assertEqual([str(change) for change in ready.changes], ['column a: whole floats written as whole numbers: 1 unit: "s"'])
+        self.assertEqual((ready.columns["first"], ready.columns["group"], ready.columns["group_of"]), ("a", "a", "a"))
+
+    def test_columns_of_a_group_are_judged_as_the_others(self):
+        self.refused("no unit has a column bvap", square(), group="bvap")
+        self.refused("no unit has a column vap", square(g=[1, 1, 1, 1]), group="g", group_of="vap")
+        self.refused("group_of is given, and no group is", square(), group_of="a")
+        self.refused("unit \"t\" has no g (choose --missing zero or drop)", square(g=[1, None, 1, 1]), group="g")
+        self.refused("unit \"t\": w, which is 1000000001, is not from 0 to 1000000000", square(g=[1] * 4, w=[1, 10 ** 9 + 1, 1, 1]), group="g", group_of="w")
+        self.refused("unit \"s\": g, which is 0.5, is not whole", square(g=[0.5, 1, 1, 1]), group="g")
+        self.assertIn("column g: missing values made 0: 1 unit: \"t\"", [str(change) for change in prepared(square(g=[1, None, 1, 1]), group="g", missing="zero").changes])
+        self.assertEqual(prepared(square(g=[1, None, 1, 1]), group="g", missing="drop").units, ["s", "u", "v"])
+        self.assertIn("column g looks like shares and not like counts", prepared(square(g=[0.5, 0.25, 0.5, 0.9]), group="g", numbers="nearest").warnings[0])
+
+    def test_the_map_with_counties_and_a_group(self):
+        """What districts the group has is counted here from the file."""
+        nodes = common.example("groups.json")["nodes"]
+        sums = {label: [sum(node[column] for node in nodes if node["d"] == label) for column in ("bvap", "vap")] for label in (1, 2, 3, 4)}
+        most = [label for label, (part, whole) in sums.items() if part > whole - part]
+        ready = prepare(common.EXAMPLES / "groups.json", **common.COLUMNS, region="county", group="bvap", group_of="vap", group_districts=2, max_splits=2,
+                        max_split_regions=2)
+        self.assertEqual((ready.refusals, ready.changes), ([], []))
+        self.assertEqual([note.split(" (")[0] for note in ready.notes if note.startswith("bvap")], ["bvap has a majority of vap in 2 of 4 districts: 1"])
+        self.assertEqual(most, [1, 2])
+        self.assertEqual({*json.loads(ready.data)["nodes"][0]}, {"id", "pop", "a", "b", "d", "county", "bvap", "vap"})
+
     def test_edges(self):
         root = square()
         root["adjacency"][0].append({"id": "s"})

@@ -6,7 +6,7 @@ from decimal import Decimal
 from fractions import Fraction
 
 import common
-from district_audit import PlanCheck, Report, ReportRefused, Start
+from district_audit import PlanCheck, Report, ReportRefused, Rules, Source, Start
 from district_audit.picture import percent
 from district_audit.report import bound_of
 
@@ -38,7 +38,7 @@ class RoundTrip(unittest.TestCase):
 
     def test_each_kind_of_line_is_among_them(self):
         words = {line.split(" ")[0] for _, _, text in texts() for line in text.split("\n")}
-        self.assertLessEqual({"walk", "ends", "stop", "serial", "shift", "max-cut", "max-split"}, words)
+        self.assertLessEqual({"walk", "ends", "stop", "serial", "shift", "max-cut", "max-split", "max-splits", "group-districts", "source", "columns"}, words)
 
     def test_reports_of_several_plans(self):
         some = [(name, text) for _, name, text in texts() if name][:3]
@@ -48,10 +48,38 @@ class RoundTrip(unittest.TestCase):
         self.assertEqual("".join("plan %s\n%s" % one for one in read), whole)
 
     def test_cut_off_anywhere_is_refused_and_never_another_report(self):
-        text = next(text for _, _, text in texts() if "\nserial " in text and "\nends " in text)
-        for length in range(len(text)):
-            with self.assertRaises(ReportRefused, msg=str(length)):
-                Report.parse(text[:length])
+        for text in (next(text for _, _, text in texts() if "\nserial " in text and "\nends " in text), common.groups_report()):
+            for length in range(len(text)):
+                with self.assertRaises(ReportRefused, msg=str(length)):
+                    Report.parse(text[:length])
+
+    def test_each_rule_and_the_source(self):
+        text = common.groups_report()
+        self.assertEqual(str(Report.parse(text)), text)
+        named = [("d", text), ("other", text.replace("group-districts 2 of 2", "group-districts 2 of 3"))]
+        whole = "".join("plan %s\n%s" % one for one in named)
+        self.assertEqual([(name, str(report)) for name, report in Report.parse_plans(whole)], named)
+        head = text.split("\n")[1:3] + text.split("\n")[4:9]
+        check = "\n".join(["plan-check 1", *head, "end", ""])
+        self.assertEqual(str(PlanCheck.parse(check)), check)
+        bare = "\n".join(["plan-check 1", *head[2:], "end", ""])
+        self.assertEqual((str(PlanCheck.parse(bare)), PlanCheck.parse(bare).source), (bare, None))
+
+    def test_rules_one_by_one(self):
+        """Either limit of splits, with the other at its end; a group with the limit 0; the names of columns as JSON writes them."""
+        head = ["units 4 edges 4 districts 2", "population 4 slack 5000 low 1 high 3"]
+        source = "source sha256 %s bytes 704" % (64 * "0")
+        for rules in (["max-cut 0"], ["max-split 1 regions 4"], ["max-split 200 regions 1", "max-splits 0 max-split-regions 5000"],
+                      ["max-split 200 regions 1", "max-splits 995000 max-split-regions 0"], ["group-districts 0 of 0"], ["group-districts 0 of 2"],
+                      ["max-cut 1", "max-split 2 regions 2", "max-splits 1 max-split-regions 1", "group-districts 1 of 1"]):
+            text = "\n".join(["plan-check 1", *head, *rules, "end", ""])
+            self.assertEqual(str(PlanCheck.parse(text)), text)
+        for names, rules in (('"" "" "" ""', []), ('"p q" "\\"" "\\\\" "\\u0001\\n\\u001f\x7f"', []), ('"é" "\u2028" "\udcff" "/"', []),
+                             ('"pop" "a" "b" "d" region " "', ["max-split 1 regions 1"]), ('"" "a" "b" "d" group "g" of ""', ["group-districts 0 of 1"]),
+                             ('"pop" "a" "b" "d" region "\\" of" group "g" of "w"', ["max-split 1 regions 1", "group-districts 0 of 1"])):
+            text = "\n".join(["plan-check 1", source, "columns " + names, *head, *rules, "end", ""])
+            self.assertEqual(str(PlanCheck.parse(text)), text)
+        self.assertEqual(PlanCheck.parse(text).source, Source(64 * "0", 704, "pop", "a", "b", "d", '" of', "g", "w"))
 
 
 class Values(unittest.TestCase):
@@ -71,6 +99,23 @@ class Values(unittest.TestCase):
         self.assertEqual(report.asks, ("seats:low", "gap:high", "cut-edges:low"))
         self.assertIsNone(report.shift)
         self.assertEqual(report.serial, ())
+
+    def test_rules_and_source(self):
+        report = Report.parse(common.groups_report())
+        self.assertEqual(report.rules, Rules(1000, 27142, 33172, None, 200, 6, 3, 3, 2, 2))
+        self.assertEqual((report.source.population, report.source.district, report.source.region, report.source.group, report.source.group_of),
+                         ("pop", "d", "county", "bvap", "vap"))
+        data = (common.EXAMPLES / "groups.json").read_bytes()
+        self.assertTrue(report.source.is_of(data))
+        self.assertFalse(report.source.is_of(data + b"\n"))
+        self.assertFalse(report.source.is_of(data[:-1] + b" "))
+        self.assertIsNone(self.report.source)
+        said = ["6 regions, each in at most 200 districts", "at most 3 splits of regions in all", "at most 3 regions in more than one district",
+                "the group has a majority in 2 districts, and has to have one in 2"]
+        self.assertEqual(report.rules.told() + report.rules.told_further(), said)
+        for words in (*said, "source sha256 6f9889bef0fe3f996cd3977c2b9b56981a3ba05c92f1c46f76faadf2ab9747d5, 18851 bytes"):
+            self.assertIn(words, report._repr_html_())
+        self.assertEqual(Rules(500, 1, 3, None, 200, 6, 995000, 0).told_further(), ["at most 0 regions in more than one district"])
 
     def test_table_for_notebooks(self):
         page = self.report._repr_html_()
@@ -115,6 +160,24 @@ class Pictures(common.FolderCase):
         text = next(text for _, _, text in texts() if re.search("\nstop [0-9]", text) and "\nwalks 1 " in text and text.startswith("district-audit"))
         self.assertIn("1 walk of %s steps; " % re.search("\nwalks 1 steps ([0-9]+)", text)[1], self.drawn(text)[1])
         self.assertIn("a test stops after %s in its tail" % re.search("\nstop ([0-9]+)", text)[1], self.drawn(text)[1])
+
+    def test_further_rules_and_the_source_have_lines_of_their_own(self):
+        figure, svg = self.drawn(common.groups_report())
+        lines = figure.texts[0].get_text().split("\n")
+        self.assertEqual(lines[1], "at most 3 splits of regions in all; at most 3 regions in more than one district; "
+                                   "the group has a majority in 2 districts, and has to have one in 2")
+        self.assertEqual(lines[-1], "source sha256 6f9889bef0fe3f996cd3977c2b9b56981a3ba05c92f1c46f76faadf2ab9747d5, 18851 bytes")
+        for line in lines:
+            self.assertIn(line, svg)
+
+    def test_the_words_stand_above_the_panels(self):
+        """However many lines they are: no text of the head reaches into the title of the first panel."""
+        for text in (common.readme_report(), common.groups_report()):
+            figure, _ = self.drawn(text)
+            drawn_by = figure.canvas.get_renderer()
+            head, first = figure.texts[0].get_window_extent(drawn_by), figure.axes[0].title
+            self.assertGreater(head.y0, figure.axes[0].get_window_extent(drawn_by).y1 + 10)
+            self.assertGreater(head.y0, figure.axes[0]._left_title.get_window_extent(drawn_by).y1, first)
 
     def test_seats_of_millions_of_plans_have_no_power_of_ten_and_no_empty_bar(self):
         text = common.readme_report().replace("district-audit 1", "district-audit 2").replace(
@@ -216,6 +279,52 @@ class Refusals(unittest.TestCase):
             with self.subTest(old=old, new=new):
                 self.assertIn(old, nothing_moves)
                 self.refused(number, nothing_moves.replace(old, new, 1))
+
+    def test_rules_and_sources_that_are_not_written(self):
+        """For each row: the words, what stands there instead, and the number of the line that is refused."""
+        text = common.groups_report()
+        for old, new, number in (
+                ("source sha256 6f", "source sha256 6F", 2),
+                ("bytes 18851", "bytes 018851", 2),
+                ("bytes 18851", "bytes 0", 2),
+                ("bytes 18851", "bytes 67108865", 2),
+                ("source sha256", "sources sha256", 2),
+                ('columns "pop" "a" "b" "d" region "county" group "bvap" of "vap"\n', "", 3),
+                ('"pop" "a"', '"pop"  "a"', 3),
+                ('"pop" "a"', '"pop", "a"', 3),
+                ('"pop" "a"', '"pop"', 3),
+                ('"pop" "a"', '"pop" "a" "c"', 3),
+                ('"pop" "a"', '"pop" 7', 3),
+                ('"pop" "a"', '"pop" "\\u0061"', 3),
+                ('"pop" "a"', '"pop" "\\/"', 3),
+                ('"pop" "a"', '"pop" "a', 3),
+                ('of "vap"', 'of "vap" ', 3),
+                ('of "vap"', 'of "vap" "more"', 3),
+                ('of "vap"', 'of', 3),
+                ('of "vap"', 'of ""', 3),
+                (' of "vap"', "", 3),
+                ('group "bvap"', 'group ""', 3),
+                ('region "county"', 'region ""', 3),
+                ('region "county" group "bvap" of "vap"', 'group "bvap" of "vap" region "county"', 3),
+                (' region "county"', "", 7),
+                (' group "bvap" of "vap"', "", 9),
+                ("group-districts 2 of 2\n", "", 9),
+                ("max-split 200 regions 6\nmax-splits 3 max-split-regions 3\n", "", 7),
+                ("max-split 200 regions 6\n", "", 7),
+                ("max-split 200 regions 6\nmax-splits 3 max-split-regions 3", "max-splits 3 max-split-regions 3\nmax-split 200 regions 6", 7),
+                ("max-splits 3", "max-splits 995001", 8),
+                ("max-splits 3 max-split-regions 3", "max-splits 3 max-split-regions 5001", 8),
+                ("max-splits 3 max-split-regions 3", "max-splits 995000 max-split-regions 5000", 8),
+                ("max-splits 3 max-split-regions 3", "max-splits 3", 8),
+                ("group-districts 2 of 2", "group-districts 2 of 1", 9),
+                ("group-districts 2 of 2", "group-districts 2 of 5", 9),
+                ("group-districts 2 of 2", "group-districts 02 of 2", 9),
+                ("group-districts 2 of 2", "group-districts 2", 9)):
+            with self.subTest(old=old, new=new):
+                self.assertIn(old, text)
+                self.refused(number, text.replace(old, new, 1))
+        origin = "".join(line + "\n" for line in text.split("\n")[1:3])
+        self.refused(3, text.replace(origin, "").replace("\nunits", "\n" + origin + "units"))
 
     def test_both_tails_of_one_walk_hold_every_plan(self):
         text = next(text for _, _, text in texts() if re.search("walk 0 moved [1-9][0-9]* gap low", text) and "walk 0 moved" in text and "gap high" in text)
