@@ -14,11 +14,11 @@ use Rattle.contig.specs.declared.corner.Corner.{Corner}
 use Rattle.contig.specs.Corners.{HasCorners, IsOnRow, units_of, with_corner}
 
 -- the rows with one more corner at u
-pub one_more : (g : Graph) (corners : ℕ → List (ℕ × ℕ × ℕ)) (rows new : List (List Corner)) (u : ℕ) (corner : Corner) (one other : ℕ)
+pub one_more : (g : Graph) (corners : ℕ → List (ℕ × ℕ × ℕ × ℕ)) (rows new : List (List Corner)) (u : ℕ) (corner : Corner) (one other : ℕ)
     → u < g.units → IsOnRow g (get_or g.neighbours u []) corner
     → get_or (get_or g.neighbours u []) corner.one 0 ≡ one → get_or (get_or g.neighbours u []) corner.other 0 ≡ other
     → new ≡ set rows u (get_or rows u [] ++ corner ∷ [])
-    → HasCorners g corners rows → HasCorners g (λ w. with_corner w (corners w) u (one, other, corner.far)) new
+    → HasCorners g corners rows → HasCorners g (λ w. with_corner w (corners w) u (one, other, corner.far, corner.further)) new
 one_more g corners rows new u corner one other lu placed is_one is_other is_new h = record {
   width = ap length is_new ∙ length-set rows u (get_or rows u [] ++ corner ∷ []) ∙ h.width;
   placed = λ w l. elim (cases_eq w u) [
@@ -28,19 +28,19 @@ one_more g corners rows new u corner one other lu placed is_one is_other is_new 
     | inr off ↦ subst (λ (xs : List Corner). All (IsOnRow g (get_or g.neighbours w [])) xs) (sym (off_u w off)) (h.placed w l)
   ];
   seen = λ w l. elim (cases_eq w u) [
-    | inl e ↦ subst (λ t. map (units_of (get_or g.neighbours t [])) (get_or new t []) ≡ with_corner t (corners t) u (one, other, corner.far)) (sym e)
+    | inl e ↦ subst (λ t. map (units_of (get_or g.neighbours t [])) (get_or new t []) ≡ with_corner t (corners t) u (one, other, corner.far, corner.further)) (sym e)
         (ap (map (units_of (get_or g.neighbours u []))) at_u
         ∙ map_push (units_of (get_or g.neighbours u [])) (get_or rows u []) corner
-        ∙ ap (λ (xs : List (ℕ × ℕ × ℕ)). xs ++ units_of (get_or g.neighbours u []) corner ∷ []) (h.seen u lu)
-        ∙ ap (λ (t : ℕ × ℕ × ℕ). corners u ++ t ∷ []) same_units
-        ∙ ap (λ (xs : List (ℕ × ℕ × ℕ)). corners u ++ xs)
-        (sym (cond-true {A = List (ℕ × ℕ × ℕ)} (u == u) ((one, other, corner.far) ∷ []) [] (eq-eqb u u refl))))
+        ∙ ap (λ (xs : List (ℕ × ℕ × ℕ × ℕ)). xs ++ units_of (get_or g.neighbours u []) corner ∷ []) (h.seen u lu)
+        ∙ ap (λ (t : ℕ × ℕ × ℕ × ℕ). corners u ++ t ∷ []) same_units
+        ∙ ap (λ (xs : List (ℕ × ℕ × ℕ × ℕ)). corners u ++ xs)
+        (sym (cond-true {A = List (ℕ × ℕ × ℕ × ℕ)} (u == u) ((one, other, corner.far, corner.further) ∷ []) [] (eq-eqb u u refl))))
     | inr off ↦
         ap (map (units_of (get_or g.neighbours w []))) (off_u w off)
         ∙ h.seen w l
         ∙ sym (append-nil (corners w))
-        ∙ ap (λ (xs : List (ℕ × ℕ × ℕ)). corners w ++ xs)
-        (sym (cond-false {A = List (ℕ × ℕ × ℕ)} (u == w) ((one, other, corner.far) ∷ []) [] (ne_eqb u w (λ e. off (sym e)))))
+        ∙ ap (λ (xs : List (ℕ × ℕ × ℕ × ℕ)). corners w ++ xs)
+        (sym (cond-false {A = List (ℕ × ℕ × ℕ × ℕ)} (u == w) ((one, other, corner.far, corner.further) ∷ []) [] (ne_eqb u w (λ e. off (sym e)))))
   ];
 }
   where
@@ -50,8 +50,8 @@ one_more g corners rows new u corner one other lu placed is_one is_other is_new 
     off_u : (w : ℕ) → (w ≡ u → ⊥) → get_or new w [] ≡ get_or rows w []
     off_u w off = ap (λ (t : List (List Corner)). get_or t w []) is_new ∙ get_or-set_other rows u w (get_or rows u [] ++ corner ∷ []) [] off
 
-    same_units : units_of (get_or g.neighbours u []) corner ≡ (one, other, corner.far)
-    same_units = ap (λ t. (t, get_or (get_or g.neighbours u []) corner.other 0, corner.far)) is_one ∙ ap (λ t. (one, t, corner.far)) is_other
+    same_units : units_of (get_or g.neighbours u []) corner ≡ (one, other, corner.far, corner.further)
+    same_units = ap (λ t. (t, get_or (get_or g.neighbours u []) corner.other 0, corner.far, corner.further)) is_one ∙ ap (λ t. (one, t, corner.far, corner.further)) is_other
 
 -- ---- the rings of a list of faces
 

@@ -12,7 +12,7 @@ use Rattle.audit_model.proofs.Bools.{in_1, in_2, in_3, in_4}
 use Rattle.audit_model.proofs.Every.{each_from_all}
 use Rattle.audit_model.proofs.Local.{left_behind, not_beside_itself}
 use Rattle.contig.proofs.RingLinks.{near_link, share_ring}
-use Rattle.contig.proofs.Rings.{pair_same, pair_is, side_in}
+use Rattle.contig.proofs.Rings.{pair_same, pair_is, side_in, by_five, five_1, five_2, five_3, five_4, five_5, unit_of_five, has_5}
 use Rattle.contig.specs.Faces.{is_pair, has_side, IsRing, AreFaces, share_face, link_graph, AreLinked}
 
 -- ---- rings, turned so that they begin with u
@@ -39,6 +39,17 @@ turn_four a b c d x y h = elim (or_cases (is_pair a b x y || is_pair b c x y || 
   ]
   | inr f ↦ in_3 (is_pair b c x y) (is_pair c d x y) (is_pair d a x y) (is_pair a b x y) f
 ]
+
+-- a pentagon from its second unit on has the same sides
+pub turn_five : (a b c d e x y : ℕ) → has_side (a ∷ b ∷ c ∷ d ∷ e ∷ []) x y ≡ true → has_side (b ∷ c ∷ d ∷ e ∷ a ∷ []) x y ≡ true
+turn_five a b c d e x y h =
+    by_five (has_side (b ∷ c ∷ d ∷ e ∷ a ∷ []) x y ≡ true) (is_pair a b x y) (is_pair b c x y) (is_pair c d x y) (is_pair d e x y) (is_pair e a x y)
+    (five_5 (is_pair b c x y) (is_pair c d x y) (is_pair d e x y) (is_pair e a x y) (is_pair a b x y))
+    (five_1 (is_pair b c x y) (is_pair c d x y) (is_pair d e x y) (is_pair e a x y) (is_pair a b x y))
+    (five_2 (is_pair b c x y) (is_pair c d x y) (is_pair d e x y) (is_pair e a x y) (is_pair a b x y))
+    (five_3 (is_pair b c x y) (is_pair c d x y) (is_pair d e x y) (is_pair e a x y) (is_pair a b x y))
+    (five_4 (is_pair b c x y) (is_pair c d x y) (is_pair d e x y) (is_pair e a x y) (is_pair a b x y))
+    h
 
 -- a side from u to p is one of two
 beside_three : (u b c p : ℕ) → (u ≡ b → ⊥) → (u ≡ c → ⊥) → has_side (u ∷ b ∷ c ∷ []) u p ≡ true → (p ≡ b) ⊎ (p ≡ c)
@@ -84,6 +95,17 @@ beside_four u b c d p off-b off-c off-d h = elim (or_cases (is_pair u b u p || i
   ]
 ]
 
+-- the units beside the first of a pentagon are its second and its last
+beside_five : (u b c d e p : ℕ) → (u ≡ b → ⊥) → (u ≡ c → ⊥) → (u ≡ d → ⊥) → (u ≡ e → ⊥) → has_side (u ∷ b ∷ c ∷ d ∷ e ∷ []) u p ≡ true → (p ≡ b) ⊎ (p ≡ e)
+beside_five u b c d e p off-b off-c off-d off-e h =
+    by_five ((p ≡ b) ⊎ (p ≡ e)) (is_pair u b u p) (is_pair b c u p) (is_pair c d u p) (is_pair d e u p) (is_pair e u u p)
+    (λ k. elim (pair_is u b u p k) [ inl m ↦ inl (sym m.1) | inr m ↦ absurd (off-b (sym m.1)) ])
+    (λ k. elim (pair_is b c u p k) [ inl m ↦ absurd (off-b (sym m.0)) | inr m ↦ absurd (off-c (sym m.1)) ])
+    (λ k. elim (pair_is c d u p k) [ inl m ↦ absurd (off-c (sym m.0)) | inr m ↦ absurd (off-d (sym m.1)) ])
+    (λ k. elim (pair_is d e u p k) [ inl m ↦ absurd (off-d (sym m.0)) | inr m ↦ absurd (off-e (sym m.1)) ])
+    (λ k. elim (pair_is e u u p k) [ inl m ↦ absurd (off-e (sym m.0)) | inr m ↦ inr (sym m.0) ])
+    h
+
 module _ (g : Graph) (simple : IsSimple g) (set : ℕ → Bool) (u : ℕ) where
   turned_near : (v w : ℕ) → adjacent g v w ≡ true → adjacent g w v ≡ true
   turned_near v w h = simple.symmetric w v ∙ h
@@ -117,6 +139,17 @@ module _ (g : Graph) (simple : IsSimple g) (set : ℕ → Bool) (u : ℕ) where
       λ t h. beside_four u b c d t (λ f. off-b (e ∙ f)) (λ f. off-c (e ∙ f)) (λ f. off-d (e ∙ f)) (subst (λ k. has_side (k ∷ b ∷ c ∷ d ∷ []) u t ≡ true) e h) in
       between b d p q (path_before g set b c d ib bc (path_before g set c d d ic cd (path_one g set d id)))
       (path_before g set d c b id (turned_near c d cd) (path_before g set c b b ic (turned_near b c bc) (path_one g set b ib))) ib id (which p hp) (which q hq)
+
+  past_five : (a b c d e p q : ℕ) → a ≡ u → (a ≡ b → ⊥) → (a ≡ c → ⊥) → (a ≡ d → ⊥) → (a ≡ e → ⊥) → IsIn g set b → IsIn g set c → IsIn g set d → IsIn g set e
+      → adjacent g b c ≡ true → adjacent g c d ≡ true → adjacent g d e ≡ true
+      → has_side (a ∷ b ∷ c ∷ d ∷ e ∷ []) u p ≡ true → has_side (a ∷ b ∷ c ∷ d ∷ e ∷ []) u q ≡ true → HasPath g set p q
+  past_five a b c d e p q at off-b off-c off-d off-e ib ic id ie bc cd de hp hq =
+      let which : (t : ℕ) → has_side (a ∷ b ∷ c ∷ d ∷ e ∷ []) u t ≡ true → (t ≡ b) ⊎ (t ≡ e) =
+      λ t h. beside_five u b c d e t (λ f. off-b (at ∙ f)) (λ f. off-c (at ∙ f)) (λ f. off-d (at ∙ f)) (λ f. off-e (at ∙ f))
+      (subst (λ k. has_side (k ∷ b ∷ c ∷ d ∷ e ∷ []) u t ≡ true) at h) in
+      between b e p q (path_before g set b c e ib bc (path_before g set c d e ic cd (path_before g set d e e id de (path_one g set e ie))))
+      (path_before g set e d b ie (turned_near d e de) (path_before g set d c b id (turned_near c d cd) (path_before g set c b b ic (turned_near b c bc) (path_one g set b ib))))
+      ib ie (which p hp) (which q hq)
 
   -- round any ring at u whose other units are in the set
   past_ring : (ring : List ℕ) (p q : ℕ) → IsRing g ring → ((v : ℕ) → has ring v ≡ true → (v ≡ u → ⊥) → IsIn g set v)
@@ -242,7 +275,88 @@ module _ (g : Graph) (simple : IsSimple g) (set : ℕ → Bool) (u : ℕ) where
       at_d : d ≡ u → HasPath g set p q
       at_d e = past_four d a b c p q e (λ f. a-d (sym f)) (λ f. b-d (sym f)) (λ f. c-d (sym f)) (in_a (λ f. a-d (f ∙ sym e))) (in_b (λ f. b-d (f ∙ sym e))) (in_c (λ f. c-d (f ∙ sym e))) ab bc
           (turn_four c d a b u p (turn_four b c d a u p (turn_four a b c d u p hp))) (turn_four c d a b u q (turn_four b c d a u q (turn_four a b c d u q hq)))
-  past_ring (a ∷ b ∷ c ∷ d ∷ e ∷ rest) p q is_ring others hp hq = absurd (false≢true hp)
+  past_ring (a ∷ b ∷ c ∷ d ∷ e ∷ []) p q is_ring others hp hq = unit_of_five (HasPath g set p q) a b c d e u at_a at_b at_c at_d at_e (side_in (a ∷ b ∷ c ∷ d ∷ e ∷ []) u p hp)
+    where
+      a-b : a ≡ b → ⊥
+      a-b h = other (b ∷ c ∷ d ∷ e ∷ []) a b is_ring.apart.0 (first_has b (c ∷ d ∷ e ∷ [])) h
+
+      a-c : a ≡ c → ⊥
+      a-c h = other (b ∷ c ∷ d ∷ e ∷ []) a c is_ring.apart.0 (has_2 b c (d ∷ e ∷ [])) h
+
+      a-d : a ≡ d → ⊥
+      a-d h = other (b ∷ c ∷ d ∷ e ∷ []) a d is_ring.apart.0 (has_3 b c d (e ∷ [])) h
+
+      a-e : a ≡ e → ⊥
+      a-e h = other (b ∷ c ∷ d ∷ e ∷ []) a e is_ring.apart.0 (has_4 b c d e []) h
+
+      b-c : b ≡ c → ⊥
+      b-c h = other (c ∷ d ∷ e ∷ []) b c is_ring.apart.1.0 (first_has c (d ∷ e ∷ [])) h
+
+      b-d : b ≡ d → ⊥
+      b-d h = other (c ∷ d ∷ e ∷ []) b d is_ring.apart.1.0 (has_2 c d (e ∷ [])) h
+
+      b-e : b ≡ e → ⊥
+      b-e h = other (c ∷ d ∷ e ∷ []) b e is_ring.apart.1.0 (has_3 c d e []) h
+
+      c-d : c ≡ d → ⊥
+      c-d h = other (d ∷ e ∷ []) c d is_ring.apart.1.1.0 (first_has d (e ∷ [])) h
+
+      c-e : c ≡ e → ⊥
+      c-e h = other (d ∷ e ∷ []) c e is_ring.apart.1.1.0 (has_2 d e []) h
+
+      d-e : d ≡ e → ⊥
+      d-e h = other (e ∷ []) d e is_ring.apart.1.1.1.0 (first_has e []) h
+
+      ab : adjacent g a b ≡ true
+      ab = is_ring.sides a b (five_1 (is_pair a b a b) (is_pair b c a b) (is_pair c d a b) (is_pair d e a b) (is_pair e a a b) (pair_same a b))
+
+      bc : adjacent g b c ≡ true
+      bc = is_ring.sides b c (five_2 (is_pair a b b c) (is_pair b c b c) (is_pair c d b c) (is_pair d e b c) (is_pair e a b c) (pair_same b c))
+
+      cd : adjacent g c d ≡ true
+      cd = is_ring.sides c d (five_3 (is_pair a b c d) (is_pair b c c d) (is_pair c d c d) (is_pair d e c d) (is_pair e a c d) (pair_same c d))
+
+      de : adjacent g d e ≡ true
+      de = is_ring.sides d e (five_4 (is_pair a b d e) (is_pair b c d e) (is_pair c d d e) (is_pair d e d e) (is_pair e a d e) (pair_same d e))
+
+      ea : adjacent g e a ≡ true
+      ea = is_ring.sides e a (five_5 (is_pair a b e a) (is_pair b c e a) (is_pair c d e a) (is_pair d e e a) (is_pair e a e a) (pair_same e a))
+
+      in_a : (a ≡ u → ⊥) → IsIn g set a
+      in_a off = others a (first_has a (b ∷ c ∷ d ∷ e ∷ [])) off
+
+      in_b : (b ≡ u → ⊥) → IsIn g set b
+      in_b off = others b (has_2 a b (c ∷ d ∷ e ∷ [])) off
+
+      in_c : (c ≡ u → ⊥) → IsIn g set c
+      in_c off = others c (has_3 a b c (d ∷ e ∷ [])) off
+
+      in_d : (d ≡ u → ⊥) → IsIn g set d
+      in_d off = others d (has_4 a b c d (e ∷ [])) off
+
+      in_e : (e ≡ u → ⊥) → IsIn g set e
+      in_e off = others e (has_5 a b c d e []) off
+
+      at_a : a ≡ u → HasPath g set p q
+      at_a h = past_five a b c d e p q h a-b a-c a-d a-e (in_b (λ f. a-b (h ∙ sym f))) (in_c (λ f. a-c (h ∙ sym f))) (in_d (λ f. a-d (h ∙ sym f))) (in_e (λ f. a-e (h ∙ sym f)))
+          bc cd de hp hq
+
+      at_b : b ≡ u → HasPath g set p q
+      at_b h = past_five b c d e a p q h b-c b-d b-e (λ f. a-b (sym f)) (in_c (λ f. b-c (h ∙ sym f))) (in_d (λ f. b-d (h ∙ sym f))) (in_e (λ f. b-e (h ∙ sym f))) (in_a (λ f. a-b (f ∙ sym h)))
+          cd de ea (turn_five a b c d e u p hp) (turn_five a b c d e u q hq)
+
+      at_c : c ≡ u → HasPath g set p q
+      at_c h = past_five c d e a b p q h c-d c-e (λ f. a-c (sym f)) (λ f. b-c (sym f)) (in_d (λ f. c-d (h ∙ sym f))) (in_e (λ f. c-e (h ∙ sym f))) (in_a (λ f. a-c (f ∙ sym h))) (in_b (λ f. b-c (f ∙ sym h)))
+          de ea ab (turn_five b c d e a u p (turn_five a b c d e u p hp)) (turn_five b c d e a u q (turn_five a b c d e u q hq))
+
+      at_d : d ≡ u → HasPath g set p q
+      at_d h = past_five d e a b c p q h d-e (λ f. a-d (sym f)) (λ f. b-d (sym f)) (λ f. c-d (sym f)) (in_e (λ f. d-e (h ∙ sym f))) (in_a (λ f. a-d (f ∙ sym h))) (in_b (λ f. b-d (f ∙ sym h))) (in_c (λ f. c-d (f ∙ sym h)))
+          ea ab bc (turn_five c d e a b u p (turn_five b c d e a u p (turn_five a b c d e u p hp))) (turn_five c d e a b u q (turn_five b c d e a u q (turn_five a b c d e u q hq)))
+
+      at_e : e ≡ u → HasPath g set p q
+      at_e h = past_five e a b c d p q h (λ f. a-e (sym f)) (λ f. b-e (sym f)) (λ f. c-e (sym f)) (λ f. d-e (sym f)) (in_a (λ f. a-e (f ∙ sym h))) (in_b (λ f. b-e (f ∙ sym h))) (in_c (λ f. c-e (f ∙ sym h))) (in_d (λ f. d-e (f ∙ sym h)))
+          ab bc cd (turn_five d e a b c u p (turn_five c d e a b u p (turn_five b c d e a u p (turn_five a b c d e u p hp)))) (turn_five d e a b c u q (turn_five c d e a b u q (turn_five b c d e a u q (turn_five a b c d e u q hq))))
+  past_ring (a ∷ b ∷ c ∷ d ∷ e ∷ f ∷ rest) p q is_ring others hp hq = absurd (false≢true hp)
 
 -- ---- round the unit
 

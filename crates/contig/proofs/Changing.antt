@@ -52,7 +52,7 @@ module _ (g : Graph) (p q : ℕ → Bool) (same : (v : ℕ) → v < g.units → 
 -- ---- one more unit
 
 -- two tests that agree on each corner count as many
-count_alike : (p q : ℕ × ℕ × ℕ → Bool) (cs : List (ℕ × ℕ × ℕ)) → All (λ t. p t ≡ q t) cs → count_by p cs ≡ count_by q cs
+count_alike : (p q : ℕ × ℕ × ℕ × ℕ → Bool) (cs : List (ℕ × ℕ × ℕ × ℕ)) → All (λ t. p t ≡ q t) cs → count_by p cs ≡ count_by q cs
 count_alike p q [] same = refl
 count_alike p q (t ∷ rest) same =
     let first = sum_by-cons (λ c. cond {A = ℕ} (p c) 1 0) t rest in
@@ -87,10 +87,11 @@ module _ (g : Graph) (sound : IsGraph g) (faces : List (List ℕ)) (are : AreFac
       let without = edges_alike g (without_unit large u) small left in
       omega (arith, law, without, mates_alike)
 
-  same_filled : (t : ℕ × ℕ × ℕ) → AreOthers g u t → is_filled large t ≡ is_filled test t
+  same_filled : (t : ℕ × ℕ × ℕ × ℕ) → AreOthers g u t → is_filled large t ≡ is_filled test t
   same_filled t o =
       let at : (v : ℕ) → IsOther g u v → large v ≡ test v = λ v i. more v i.0 i.1 ∙ sym (tests v i.0 i.1) in
-      ap (λ b. b && (large t.1 && large t.2)) (at t.0 o.0) ∙ ap (λ b. test t.0 && (b && large t.2)) (at t.1 o.1) ∙ ap (λ b. test t.0 && (test t.1 && b)) (at t.2 o.2)
+      ap (λ b. b && (large t.1 && (large t.2 && large t.3))) (at t.0 o.0) ∙ ap (λ b. test t.0 && (b && (large t.2 && large t.3))) (at t.1 o.1)
+      ∙ ap (λ b. test t.0 && (test t.1 && (b && large t.3))) (at t.2 o.2) ∙ ap (λ b. test t.0 && (test t.1 && (test t.2 && b))) (at t.3 o.3)
 
   pub filled_more : filled_of g faces large ≡ filled_of g faces small + 1 + count_by (is_filled test) (corners_at u faces)
   filled_more =

@@ -3,14 +3,14 @@ use Rattle.std.proofs.Common.{◌≡◌, ℕ, ◌<◌, Bool, true, false, not, �
 use Rattle.std.specs.Prelude.{◌==◌, nat_lt}
 use Rattle.std.specs.List.{list_any}
 use Rattle.std.proofs.lemmas.Bool.{and_parts, or_cases, cases_order, cond-true, cond-false, lt-ltb, le-ltb, false_from_ne_true, or_from, ltb-true, eqb-true, eq-eqb, not-true, both_ways, false≢true}
-use Rattle.audit_model.specs.Graph.{Graph, IsGraph, adjacent}
+use Rattle.audit_model.specs.Graph.{Graph, IsGraph, has, adjacent}
 use Rattle.audit_model.specs.Local.{IsSimple}
-use Rattle.contig.proofs.Rings.{pair_is}
+use Rattle.contig.proofs.Rings.{pair_is, by_five, unit_of_five}
 use Rattle.contig.specs.declared.face.Face.{Face}
-use Rattle.contig.specs.declared.face.Face.TheVariants.{Triangle, Square}
+use Rattle.contig.specs.declared.face.Face.TheVariants.{Triangle, Square, Pentagon}
 use Rattle.contig.specs.Faces.{is_pair, has_side, IsRing, OwnsSide, AreFaces}
 use Rattle.contig.specs.Listed.{rings, side, own_side}
-use Rattle.contig.specs.Rings.{ring_of, goes_round}
+use Rattle.contig.specs.Rings.{ring_of, goes_round, differ, follow}
 
 -- what is not one way round is not the other
 swapped : (a b : ℕ) → (a == b) ≡ false → (b == a) ≡ false
@@ -39,7 +39,7 @@ goes_round_ring g (Triangle a b c) simple h =
     let h7 = and_parts (adjacent g a b) _ h6.1 in
     let h8 = and_parts (adjacent g b c) (adjacent g c a) h7.1 in
     record {
-      size = inl refl;
+      size = (omega arith, omega arith);
       apart = (
         or_from (b == a) (c == a || false) (swapped a b (not-true (a == b) h4.0)) (or_from (c == a) false (swapped a c (not-true (a == c) h5.0)) refl),
         (or_from (c == b) false (swapped b c (not-true (b == c) h6.0)) refl, (refl, tt)),
@@ -77,7 +77,7 @@ goes_round_ring g (Square a b c d) simple h =
     let n2 = and_parts (adjacent g b c) _ n1.1 in
     let n3 = and_parts (adjacent g c d) (adjacent g d a) n2.1 in
     record {
-      size = inr refl;
+      size = (omega arith, omega arith);
       apart = (
         or_from (b == a) (c == a || (d == a || false)) (swapped a b (not-true (a == b) ab.0))
             (or_from (c == a) (d == a || false) (swapped a c (not-true (a == c) ac.0)) (or_from (d == a) false (swapped a d (not-true (a == d) ad.0)) refl)),
@@ -109,6 +109,53 @@ goes_round_ring g (Square a b c d) simple h =
         ]
         | inr f ↦ pair_near g d a x y simple n3.1 f
       ];
+    }
+goes_round_ring g (Pentagon a b c d e) simple h =
+    let h1 = and_parts (nat_lt a g.units) _ h in
+    let h2 = and_parts (nat_lt b g.units) _ h1.1 in
+    let h3 = and_parts (nat_lt c g.units) _ h2.1 in
+    let h4 = and_parts (nat_lt d g.units) _ h3.1 in
+    let h5 = and_parts (nat_lt e g.units) _ h4.1 in
+    let m = and_parts (differ a b c d e) (follow g a b c d e) h5.1 in
+    let ab = and_parts (not (a == b)) _ m.0 in
+    let ac = and_parts (not (a == c)) _ ab.1 in
+    let ad = and_parts (not (a == d)) _ ac.1 in
+    let ae = and_parts (not (a == e)) _ ad.1 in
+    let bc = and_parts (not (b == c)) _ ae.1 in
+    let bd = and_parts (not (b == d)) _ bc.1 in
+    let be = and_parts (not (b == e)) _ bd.1 in
+    let cd = and_parts (not (c == d)) _ be.1 in
+    let ce = and_parts (not (c == e)) (not (d == e)) cd.1 in
+    let n1 = and_parts (adjacent g a b) _ m.1 in
+    let n2 = and_parts (adjacent g b c) _ n1.1 in
+    let n3 = and_parts (adjacent g c d) _ n2.1 in
+    let n4 = and_parts (adjacent g d e) (adjacent g e a) n3.1 in
+    record {
+      size = (omega arith, omega arith);
+      apart = (
+        (or_from (b == a) (has (c ∷ d ∷ e ∷ []) a) (swapped a b (not-true (a == b) ab.0)) (or_from (c == a) (has (d ∷ e ∷ []) a) (swapped a c (not-true (a == c) ac.0)) (or_from (d == a) (has (e ∷ []) a) (swapped a d (not-true (a == d) ad.0)) (or_from (e == a) (false) (swapped a e (not-true (a == e) ae.0)) refl)))),
+        (
+          (or_from (c == b) (has (d ∷ e ∷ []) b) (swapped b c (not-true (b == c) bc.0)) (or_from (d == b) (has (e ∷ []) b) (swapped b d (not-true (b == d) bd.0)) (or_from (e == b) (false) (swapped b e (not-true (b == e) be.0)) refl))),
+          (
+            (or_from (d == c) (has (e ∷ []) c) (swapped c d (not-true (c == d) cd.0)) (or_from (e == c) (false) (swapped c e (not-true (c == e) ce.0)) refl)),
+            ((or_from (e == d) (false) (swapped d e (not-true (d == e) ce.1)) refl), (refl, tt)),
+          ),
+        ),
+      );
+      below = λ v m. unit_of_five (v < g.units) a b c d e v
+          (λ k. subst (λ t. t < g.units) k (ltb-true a g.units h1.0))
+          (λ k. subst (λ t. t < g.units) k (ltb-true b g.units h2.0))
+          (λ k. subst (λ t. t < g.units) k (ltb-true c g.units h3.0))
+          (λ k. subst (λ t. t < g.units) k (ltb-true d g.units h4.0))
+          (λ k. subst (λ t. t < g.units) k (ltb-true e g.units h5.0))
+          m;
+      sides = λ x y s. by_five (adjacent g x y ≡ true) (is_pair a b x y) (is_pair b c x y) (is_pair c d x y) (is_pair d e x y) (is_pair e a x y)
+          (λ k. pair_near g a b x y simple n1.0 k)
+          (λ k. pair_near g b c x y simple n2.0 k)
+          (λ k. pair_near g c d x y simple n3.0 k)
+          (λ k. pair_near g d e x y simple n4.0 k)
+          (λ k. pair_near g e a x y simple n4.1 k)
+          s;
     }
 
 -- ---- sides
@@ -157,6 +204,18 @@ square_sides test a b c d ab bc cd da x y h = elim (or_cases (is_pair a b x y ||
   | inr f ↦ subst (λ k. test k ≡ true) (pair_side d a x y f) da
 ]
 
+-- what holds of the five sides of a pentagon holds of each pair that follows on it
+pub pentagon_sides : (test : ℕ × ℕ → Bool) (a b c d e : ℕ) → test (side a b) ≡ true → test (side b c) ≡ true → test (side c d) ≡ true → test (side d e) ≡ true → test (side e a) ≡ true
+    → (x y : ℕ) → has_side (a ∷ b ∷ c ∷ d ∷ e ∷ []) x y ≡ true → test (side x y) ≡ true
+pentagon_sides test a b c d e ab bc cd de ea x y h =
+    by_five (test (side x y) ≡ true) (is_pair a b x y) (is_pair b c x y) (is_pair c d x y) (is_pair d e x y) (is_pair e a x y)
+    (λ k. subst (λ t. test t ≡ true) (pair_side a b x y k) ab)
+    (λ k. subst (λ t. test t ≡ true) (pair_side b c x y k) bc)
+    (λ k. subst (λ t. test t ≡ true) (pair_side c d x y k) cd)
+    (λ k. subst (λ t. test t ≡ true) (pair_side d e x y k) de)
+    (λ k. subst (λ t. test t ≡ true) (pair_side e a x y k) ea)
+    h
+
 -- ---- one face more
 
 -- a face appended to a list is the first of its rings
@@ -169,6 +228,7 @@ pub owns : (faces : List (List ℕ)) (there : ℕ × ℕ → Bool) (face : Face)
     → there (own_side face) ≡ false → OwnsSide (ring_of face) faces
 owns faces there (Triangle a b c) holds new = false_from_ne_true (list_any (λ f. has_side f a b) faces) (λ h. both_ways (there (side a b)) new (holds a b h))
 owns faces there (Square a b c d) holds new = false_from_ne_true (list_any (λ f. has_side f a b) faces) (λ h. both_ways (there (side a b)) new (holds a b h))
+owns faces there (Pentagon a b c d e) holds new = false_from_ne_true (list_any (λ f. has_side f a b) faces) (λ h. both_ways (there (side a b)) new (holds a b h))
 
 -- the sides of one face more are in the set
 pub holds_more : (faces new : List Face) (face : Face) (before after : ℕ × ℕ → Bool) → new ≡ faces ++ face ∷ []

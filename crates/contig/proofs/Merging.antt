@@ -120,18 +120,18 @@ module _ (g : Graph) (plan : List ℕ) (u : ℕ) (sound : IsGraph g) (lu : u < g
       (path_one (link_graph g faces (home plan u) u) (is_mate g plan u) y iy)
 
   module _ (corners : List Corner) (is : map (units_of (row g u)) corners ≡ corners_at u faces) (placed : All (IsOnRow g (row g u)) corners) (few : length (row g u) ≤ 32) where
-    units_at : (k : ℕ) (d : Corner) → k < length corners → units_of (row g u) (get_or corners k d) ≡ get_or (corners_at u faces) k (0, 0, 0)
-    units_at k d l = sym (get_or-map (units_of (row g u)) corners k d (0, 0, 0) l) ∙ ap (λ (t : List (ℕ × ℕ × ℕ)). get_or t k (0, 0, 0)) is
+    units_at : (k : ℕ) (d : Corner) → k < length corners → units_of (row g u) (get_or corners k d) ≡ get_or (corners_at u faces) k (0, 0, 0, 0)
+    units_at k d l = sym (get_or-map (units_of (row g u)) corners k d (0, 0, 0, 0) l) ∙ ap (λ (t : List (ℕ × ℕ × ℕ × ℕ)). get_or t k (0, 0, 0, 0)) is
 
     as_many : length corners ≡ length (corners_at u faces)
-    as_many = sym (length-map corners (units_of (row g u))) ∙ ap (length {A = ℕ × ℕ × ℕ}) is
+    as_many = sym (length-map corners (units_of (row g u))) ∙ ap (length {A = ℕ × ℕ × ℕ × ℕ}) is
 
     -- the neighbours on an inner corner share a face
     shares : (k : ℕ) (d : Corner) → k < length corners → is_inner g plan u (get_or corners k d) ≡ true
         → share_face faces (home plan u) u (get_or (row g u) (get_or corners k d).one 0) (get_or (row g u) (get_or corners k d).other 0) ≡ true
     shares k d l inner =
-        subst (λ (t : ℕ × ℕ × ℕ). is_filled (home plan u) t ≡ true → share_face faces (home plan u) u t.0 t.1 ≡ true) (sym (units_at k d l))
-        (corners_share (home plan u) u in_home g faces are k (0, 0, 0) (omega (arith, l, as_many))) inner
+        subst (λ (t : ℕ × ℕ × ℕ × ℕ). is_filled (home plan u) t ≡ true → share_face faces (home plan u) u t.0 t.1 ≡ true) (sym (units_at k d l))
+        (corners_share (home plan u) u in_home g faces are k (0, 0, 0, 0) (omega (arith, l, as_many))) inner
 
     module _ (old new : List ℕ) (k : ℕ) (d : Corner) (l : k < length corners) (inner : is_inner g plan u (get_or corners k d) ≡ true) where
       corner_is : IsOnRow g (row g u) (get_or corners k d)
@@ -140,8 +140,10 @@ module _ (g : Graph) (plan : List ℕ) (u : ℕ) (sound : IsGraph g) (lu : u < g
       inner_parts : (home plan u (get_or (row g u) (get_or corners k d).one 0) ≡ true) × (home plan u (get_or (row g u) (get_or corners k d).other 0) ≡ true)
       inner_parts =
           let first = and_parts (home plan u (get_or (row g u) (get_or corners k d).one 0))
-          (home plan u (get_or (row g u) (get_or corners k d).other 0) && home plan u (get_or corners k d).far) inner in
-          (first.0, (and_parts (home plan u (get_or (row g u) (get_or corners k d).other 0)) (home plan u (get_or corners k d).far) first.1).0)
+          (home plan u (get_or (row g u) (get_or corners k d).other 0) && (home plan u (get_or corners k d).far && home plan u (get_or corners k d).further)) inner in (
+            first.0,
+            (and_parts (home plan u (get_or (row g u) (get_or corners k d).other 0)) (home plan u (get_or corners k d).far && home plan u (get_or corners k d).further) first.1).0,
+          )
 
       abbrev IsLinked : ℕ → ℕ → Type 0
       IsLinked a b = a < length (row g u) → b < length (row g u) → IsIn g (is_mate g plan u) (get_or (row g u) a 0) → IsIn g (is_mate g plan u) (get_or (row g u) b 0)
@@ -179,13 +181,13 @@ module _ (g : Graph) (plan : List ℕ) (u : ℕ) (sound : IsGraph g) (lu : u < g
         | inl e ↦ subst (λ t. Has class t) e hx
         | inr (k, lk, filled, ends) ↦
             let l : k < length corners = omega (arith, lk, as_many) in
-            let d : Corner = record { one = 0; other = 0; far = 0 } in
+            let d : Corner = record { one = 0; other = 0; far = 0; further = 0 } in
             let is_at = units_at k d l in
             let placed_at : IsOnRow g (row g u) (get_or corners k d) = All-get_or (IsOnRow g (row g u)) corners k d l placed in
             let same : get_or classes (get_or corners k d).one 0 ≡ get_or classes (get_or corners k d).other 0 =
-            merged k d l (subst (λ (t : ℕ × ℕ × ℕ). is_filled (home plan u) t ≡ true) (sym is_at) filled) in
-            let one_is : get_or (row g u) (get_or corners k d).one 0 ≡ (get_or (corners_at u faces) k (0, 0, 0)).0 = ap (λ (t : ℕ × ℕ × ℕ). t.0) is_at in
-            let other_is : get_or (row g u) (get_or corners k d).other 0 ≡ (get_or (corners_at u faces) k (0, 0, 0)).1 = ap (λ (t : ℕ × ℕ × ℕ). t.1) is_at in
+            merged k d l (subst (λ (t : ℕ × ℕ × ℕ × ℕ). is_filled (home plan u) t ≡ true) (sym is_at) filled) in
+            let one_is : get_or (row g u) (get_or corners k d).one 0 ≡ (get_or (corners_at u faces) k (0, 0, 0, 0)).0 = ap (λ (t : ℕ × ℕ × ℕ × ℕ). t.0) is_at in
+            let other_is : get_or (row g u) (get_or corners k d).other 0 ≡ (get_or (corners_at u faces) k (0, 0, 0, 0)).1 = ap (λ (t : ℕ × ℕ × ℕ × ℕ). t.1) is_at in
             λ i li e. elim ends [
               | inl both ↦
                   let at = rising_once (row g u) (row_rises g u sound) i (get_or corners k d).other li placed_at.other (e ∙ sym both.1 ∙ sym other_is) in

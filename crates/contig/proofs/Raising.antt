@@ -103,7 +103,7 @@ module _ (g : Graph) (sound : IsGraph g) (faces : List (List ℕ)) (are : AreFac
 
   none_inside : (p : ℕ → Bool) → ((v : ℕ) → p v ≡ false) → (faces : List (List ℕ)) → AreFaces g faces → count_inner_faces p faces ≡ 0
   none_inside p none [] are = refl
-  none_inside p none ([] ∷ later) are = elim are.0.size [ inl e ↦ absurd (omega (arith, e)) | inr e ↦ absurd (omega (arith, e)) ]
+  none_inside p none ([] ∷ later) are = absurd (omega (arith, are.0.size.0))
   none_inside p none ((v ∷ rest) ∷ later) are =
       let out : (p v && list_all p rest) ≡ false = and_left (p v) (list_all p rest) (none v) in
       omega (arith, none_inside p none later are.2, ap (λ b. cond {A = ℕ} b 1 0) out)

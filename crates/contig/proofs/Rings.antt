@@ -1,5 +1,5 @@
 -- Sides of rings, and a way round a ring that leaves its own side out.
-use Rattle.std.proofs.Common.{◌≡◌, ℕ, Bool, true, false, ◌&&◌, ◌||◌, List, [], ◌∷◌, length, refl, sym, ap, ◌∙◌, subst, inl, inr, arith}
+use Rattle.std.proofs.Common.{◌≡◌, ℕ, ◌≤◌, Bool, true, false, ◌&&◌, ◌||◌, List, [], ◌∷◌, length, refl, sym, ap, ◌∙◌, subst, inl, inr, arith}
 use Rattle.std.specs.Prelude.{◌==◌, ◌⊎◌}
 use Rattle.std.proofs.lemmas.Bool.{and_parts, and_from, or_cases, or_left, or_right, eq-eqb, eqb-true, false≢true, false_from_ne_true}
 use Rattle.audit_model.specs.Apart.{AllApart}
@@ -7,6 +7,57 @@ use Rattle.audit_model.specs.Graph.{has}
 use Rattle.audit_model.proofs.ListFacts.{first_has, other, has_2, has_3, has_4}
 use Rattle.audit_model.proofs.Bools.{in_1, in_2, in_3, in_4}
 use Rattle.contig.specs.Faces.{is_pair, has_side}
+
+-- ---- one of five
+
+-- what follows from each of five cases follows from any
+pub by_five : (P : Type 0) (p q r s t : Bool) → (p ≡ true → P) → (q ≡ true → P) → (r ≡ true → P) → (s ≡ true → P) → (t ≡ true → P) → (p || q || r || s || t) ≡ true → P
+by_five P true q r s t f1 f2 f3 f4 f5 h = f1 refl
+by_five P false true r s t f1 f2 f3 f4 f5 h = f2 refl
+by_five P false false true s t f1 f2 f3 f4 f5 h = f3 refl
+by_five P false false false true t f1 f2 f3 f4 f5 h = f4 refl
+by_five P false false false false true f1 f2 f3 f4 f5 h = f5 refl
+by_five P false false false false false f1 f2 f3 f4 f5 h = absurd (false≢true h)
+
+-- each part of five gives the whole
+pub five_1 : (p q r s t : Bool) → p ≡ true → (p || q || r || s || t) ≡ true
+five_1 p q r s t h = or_left (p || q || r || s) t (in_1 p q r s h)
+
+-- the second part of five gives the whole
+pub five_2 : (p q r s t : Bool) → q ≡ true → (p || q || r || s || t) ≡ true
+five_2 p q r s t h = or_left (p || q || r || s) t (in_2 p q r s h)
+
+-- the third part of five gives the whole
+pub five_3 : (p q r s t : Bool) → r ≡ true → (p || q || r || s || t) ≡ true
+five_3 p q r s t h = or_left (p || q || r || s) t (in_3 p q r s h)
+
+-- the fourth part of five gives the whole
+pub five_4 : (p q r s t : Bool) → s ≡ true → (p || q || r || s || t) ≡ true
+five_4 p q r s t h = or_left (p || q || r || s) t (in_4 p q r s h)
+
+-- the fifth part of five gives the whole
+pub five_5 : (p q r s t : Bool) → t ≡ true → (p || q || r || s || t) ≡ true
+five_5 p q r s t h = or_right (p || q || r || s) t h
+
+-- what follows for each of five units follows for any of a list of them
+pub unit_of_five : (P : Type 0) (a b c d e v : ℕ) → (a ≡ v → P) → (b ≡ v → P) → (c ≡ v → P) → (d ≡ v → P) → (e ≡ v → P) → has (a ∷ b ∷ c ∷ d ∷ e ∷ []) v ≡ true → P
+unit_of_five P a b c d e v f1 f2 f3 f4 f5 h = elim (or_cases (a == v) (has (b ∷ c ∷ d ∷ e ∷ []) v) h) [
+  | inl k ↦ f1 (eqb-true a v k)
+  | inr h2 ↦ elim (or_cases (b == v) (has (c ∷ d ∷ e ∷ []) v) h2) [
+    | inl k ↦ f2 (eqb-true b v k)
+    | inr h3 ↦ elim (or_cases (c == v) (has (d ∷ e ∷ []) v) h3) [
+      | inl k ↦ f3 (eqb-true c v k)
+      | inr h4 ↦ elim (or_cases (d == v) (has (e ∷ []) v) h4) [
+        | inl k ↦ f4 (eqb-true d v k)
+        | inr h5 ↦ elim (or_cases (e == v) (has [] v) h5) [ inl k ↦ f5 (eqb-true e v k) | inr z ↦ absurd (false≢true z) ]
+      ]
+    ]
+  ]
+]
+
+-- a list has its fifth number
+pub has_5 : (a b c d e : ℕ) (xs : List ℕ) → has (a ∷ b ∷ c ∷ d ∷ e ∷ xs) e ≡ true
+has_5 a b c d e xs = or_right (a == e) (has (b ∷ c ∷ d ∷ e ∷ xs) e) (has_4 b c d e xs)
 
 -- ---- pairs
 
@@ -62,7 +113,15 @@ side_turned (a ∷ b ∷ c ∷ d ∷ []) x y h =
     (or_map (is_pair a b x y || is_pair b c x y) (is_pair c d x y) (is_pair a b y x || is_pair b c y x) (is_pair c d y x)
     (or_map (is_pair a b x y) (is_pair b c x y) (is_pair a b y x) (is_pair b c y x) (pair_turned a b x y) (pair_turned b c x y))
     (pair_turned c d x y)) (pair_turned d a x y) h
-side_turned (a ∷ b ∷ c ∷ d ∷ e ∷ rest) x y h = absurd (false≢true h)
+side_turned (a ∷ b ∷ c ∷ d ∷ e ∷ []) x y h =
+    by_five (has_side (a ∷ b ∷ c ∷ d ∷ e ∷ []) y x ≡ true) (is_pair a b x y) (is_pair b c x y) (is_pair c d x y) (is_pair d e x y) (is_pair e a x y)
+    (λ k. five_1 (is_pair a b y x) (is_pair b c y x) (is_pair c d y x) (is_pair d e y x) (is_pair e a y x) (pair_turned a b x y k))
+    (λ k. five_2 (is_pair a b y x) (is_pair b c y x) (is_pair c d y x) (is_pair d e y x) (is_pair e a y x) (pair_turned b c x y k))
+    (λ k. five_3 (is_pair a b y x) (is_pair b c y x) (is_pair c d y x) (is_pair d e y x) (is_pair e a y x) (pair_turned c d x y k))
+    (λ k. five_4 (is_pair a b y x) (is_pair b c y x) (is_pair c d y x) (is_pair d e y x) (is_pair e a y x) (pair_turned d e x y k))
+    (λ k. five_5 (is_pair a b y x) (is_pair b c y x) (is_pair c d y x) (is_pair d e y x) (is_pair e a y x) (pair_turned e a x y k))
+    h
+side_turned (a ∷ b ∷ c ∷ d ∷ e ∷ f ∷ rest) x y h = absurd (false≢true h)
 
 -- a side that is a and b in either order is the side from a to b
 pub side_at : (ring : List ℕ) (a b x y : ℕ) → is_pair a b x y ≡ true → has_side ring x y ≡ true → has_side ring a b ≡ true
@@ -72,19 +131,12 @@ side_at ring a b x y pair h = elim (pair_is a b x y pair) [
 ]
 
 -- the first two units of a ring are a side of it
-pub own_side : (a b : ℕ) (rest : List ℕ) → (length (a ∷ b ∷ rest) ≡ 3) ⊎ (length (a ∷ b ∷ rest) ≡ 4) → has_side (a ∷ b ∷ rest) a b ≡ true
-own_side a b [] size = absurd (no_two size)
-  where
-    no_two : (length (a ∷ b ∷ []) ≡ 3) ⊎ (length (a ∷ b ∷ []) ≡ 4) → ⊥
-    no_two (inl e) = omega arith
-    no_two (inr e) = omega arith
+pub own_side : (a b : ℕ) (rest : List ℕ) → (3 ≤ length (a ∷ b ∷ rest)) × (length (a ∷ b ∷ rest) ≤ 5) → has_side (a ∷ b ∷ rest) a b ≡ true
+own_side a b [] size = absurd (omega (arith, size.0))
 own_side a b (c ∷ []) size = or_left (is_pair a b a b || is_pair b c a b) (is_pair c a a b) (or_left (is_pair a b a b) (is_pair b c a b) (pair_same a b))
 own_side a b (c ∷ d ∷ []) size = in_1 (is_pair a b a b) (is_pair b c a b) (is_pair c d a b) (is_pair d a a b) (pair_same a b)
-own_side a b (c ∷ d ∷ e ∷ rest) size = absurd (no_five size)
-  where
-    no_five : (length (a ∷ b ∷ c ∷ d ∷ e ∷ rest) ≡ 3) ⊎ (length (a ∷ b ∷ c ∷ d ∷ e ∷ rest) ≡ 4) → ⊥
-    no_five (inl f) = omega arith
-    no_five (inr f) = omega arith
+own_side a b (c ∷ d ∷ e ∷ []) size = five_1 (is_pair a b a b) (is_pair b c a b) (is_pair c d a b) (is_pair d e a b) (is_pair e a a b) (pair_same a b)
+own_side a b (c ∷ d ∷ e ∷ f ∷ rest) size = absurd (omega (arith, size.1))
 
 -- a label that is the same along each other side, and of the two edges at each corner, is the same along a ring's own side
 pub round : (at : ℕ → ℕ → ℕ) (label : ℕ → ℕ) (a b : ℕ) (rest : List ℕ) → AllApart (a ∷ b ∷ rest) → has_side (a ∷ b ∷ rest) a b ≡ true
@@ -140,7 +192,43 @@ round at label a b (c ∷ d ∷ []) apart own edge corner =
 
     b-d : b ≡ d → ⊥
     b-d e = other (c ∷ d ∷ []) b d apart.1.0 (has_2 c d []) e
-round at label a b (c ∷ d ∷ e ∷ rest) apart own edge corner = absurd (false≢true own)
+round at label a b (c ∷ d ∷ e ∷ []) apart own edge corner =
+    ap label (corner a b e own ae) ∙ edge a e ae (not_pair a b a e (λ h f. b-e f) (λ h f. a-e h))
+    ∙ ap label (corner e a d (turn a e ae) ed) ∙ edge e d ed (not_pair a b e d (λ h f. a-e h) (λ h f. a-d h))
+    ∙ ap label (corner d e c (turn e d ed) dc) ∙ edge d c dc (not_pair a b d c (λ h f. a-d h) (λ h f. a-c h))
+    ∙ ap label (corner c d b (turn d c dc) cb) ∙ edge c b cb (not_pair a b c b (λ h f. a-c h) (λ h f. b-c f))
+    ∙ ap label (corner b c a (turn c b cb) (turn a b own))
+  where
+    turn : (x y : ℕ) → has_side (a ∷ b ∷ c ∷ d ∷ e ∷ []) x y ≡ true → has_side (a ∷ b ∷ c ∷ d ∷ e ∷ []) y x ≡ true
+    turn x y h = side_turned (a ∷ b ∷ c ∷ d ∷ e ∷ []) x y h
+
+    ae : has_side (a ∷ b ∷ c ∷ d ∷ e ∷ []) a e ≡ true
+    ae = five_5 (is_pair a b a e) (is_pair b c a e) (is_pair c d a e) (is_pair d e a e) (is_pair e a a e) (pair_turned e a e a (pair_same e a))
+
+    ed : has_side (a ∷ b ∷ c ∷ d ∷ e ∷ []) e d ≡ true
+    ed = five_4 (is_pair a b e d) (is_pair b c e d) (is_pair c d e d) (is_pair d e e d) (is_pair e a e d) (pair_turned d e d e (pair_same d e))
+
+    dc : has_side (a ∷ b ∷ c ∷ d ∷ e ∷ []) d c ≡ true
+    dc = five_3 (is_pair a b d c) (is_pair b c d c) (is_pair c d d c) (is_pair d e d c) (is_pair e a d c) (pair_turned c d c d (pair_same c d))
+
+    cb : has_side (a ∷ b ∷ c ∷ d ∷ e ∷ []) c b ≡ true
+    cb = five_2 (is_pair a b c b) (is_pair b c c b) (is_pair c d c b) (is_pair d e c b) (is_pair e a c b) (pair_turned b c b c (pair_same b c))
+
+    a-c : a ≡ c → ⊥
+    a-c h = other (b ∷ c ∷ d ∷ e ∷ []) a c apart.0 (has_2 b c (d ∷ e ∷ [])) h
+
+    a-d : a ≡ d → ⊥
+    a-d h = other (b ∷ c ∷ d ∷ e ∷ []) a d apart.0 (has_3 b c d (e ∷ [])) h
+
+    a-e : a ≡ e → ⊥
+    a-e h = other (b ∷ c ∷ d ∷ e ∷ []) a e apart.0 (has_4 b c d e []) h
+
+    b-c : b ≡ c → ⊥
+    b-c h = other (c ∷ d ∷ e ∷ []) b c apart.1.0 (first_has c (d ∷ e ∷ [])) h
+
+    b-e : b ≡ e → ⊥
+    b-e h = other (c ∷ d ∷ e ∷ []) b e apart.1.0 (has_3 c d e []) h
+round at label a b (c ∷ d ∷ e ∷ f ∷ rest) apart own edge corner = absurd (false≢true own)
 
 -- ---- the units of a ring
 
@@ -173,4 +261,12 @@ side_in (a ∷ b ∷ c ∷ d ∷ []) x y h = elim (or_cases (is_pair a b x y || 
   ]
   | inr f ↦ pair_in (a ∷ b ∷ c ∷ d ∷ []) d a x y (has_4 a b c d []) (first_has a (b ∷ c ∷ d ∷ [])) f
 ]
-side_in (a ∷ b ∷ c ∷ d ∷ e ∷ rest) x y h = absurd (false≢true h)
+side_in (a ∷ b ∷ c ∷ d ∷ e ∷ []) x y h =
+    by_five (has (a ∷ b ∷ c ∷ d ∷ e ∷ []) x ≡ true) (is_pair a b x y) (is_pair b c x y) (is_pair c d x y) (is_pair d e x y) (is_pair e a x y)
+    (λ k. pair_in (a ∷ b ∷ c ∷ d ∷ e ∷ []) a b x y (first_has a (b ∷ c ∷ d ∷ e ∷ [])) (has_2 a b (c ∷ d ∷ e ∷ [])) k)
+    (λ k. pair_in (a ∷ b ∷ c ∷ d ∷ e ∷ []) b c x y (has_2 a b (c ∷ d ∷ e ∷ [])) (has_3 a b c (d ∷ e ∷ [])) k)
+    (λ k. pair_in (a ∷ b ∷ c ∷ d ∷ e ∷ []) c d x y (has_3 a b c (d ∷ e ∷ [])) (has_4 a b c d (e ∷ [])) k)
+    (λ k. pair_in (a ∷ b ∷ c ∷ d ∷ e ∷ []) d e x y (has_4 a b c d (e ∷ [])) (has_5 a b c d e []) k)
+    (λ k. pair_in (a ∷ b ∷ c ∷ d ∷ e ∷ []) e a x y (has_5 a b c d e []) (first_has a (b ∷ c ∷ d ∷ e ∷ [])) k)
+    h
+side_in (a ∷ b ∷ c ∷ d ∷ e ∷ f ∷ rest) x y h = absurd (false≢true h)

@@ -1,43 +1,46 @@
--- The corners of faces: a face at a unit, as the unit's two neighbours on it and the unit opposite.
+-- The corners of faces: a face at a unit, as the unit's two neighbours on it and the two units opposite.
 use Rattle.std.specs.Prelude.{◌≡◌, ℕ, ◌<◌, ◌==◌, ◌&&◌, Bool, cond, List, [], ◌∷◌, ◌++◌, length, slice_index, map, All}
 use Rattle.std.specs.List.{slice_index_or}
 use Rattle.audit_model.specs.Graph.{Graph}
 use Rattle.contig.specs.declared.corner.Corner.{Corner}
 
 -- one more corner, where it is at u
-abbrev pub with_corner : ℕ → List (ℕ × ℕ × ℕ) → ℕ → ℕ × ℕ × ℕ → List (ℕ × ℕ × ℕ)
+abbrev pub with_corner : ℕ → List (ℕ × ℕ × ℕ × ℕ) → ℕ → ℕ × ℕ × ℕ × ℕ → List (ℕ × ℕ × ℕ × ℕ)
 with_corner u corners v corner = corners ++ cond (v == u) (corner ∷ []) []
 
--- the corners at u with that of one more face; in a triangle one of the two neighbours stands for the unit opposite
-abbrev pub with_face : ℕ → List (ℕ × ℕ × ℕ) → List ℕ → List (ℕ × ℕ × ℕ)
-with_face u corners (a ∷ b ∷ c ∷ []) = with_corner u (with_corner u (with_corner u corners a (b, c, c)) b (c, a, a)) c (a, b, b)
+-- the corners at u with that of one more face; in a square the two units opposite are one, and in a triangle one of the two neighbours stands for both
+abbrev pub with_face : ℕ → List (ℕ × ℕ × ℕ × ℕ) → List ℕ → List (ℕ × ℕ × ℕ × ℕ)
+with_face u corners (a ∷ b ∷ c ∷ []) = with_corner u (with_corner u (with_corner u corners a (b, c, c, c)) b (c, a, a, a)) c (a, b, b, b)
 with_face u corners (a ∷ b ∷ c ∷ d ∷ []) =
-    with_corner u (with_corner u (with_corner u (with_corner u corners a (b, d, c)) b (c, a, d)) c (d, b, a)) d (a, c, b)
+    with_corner u (with_corner u (with_corner u (with_corner u corners a (b, d, c, c)) b (c, a, d, d)) c (d, b, a, a)) d (a, c, b, b)
+with_face u corners (a ∷ b ∷ c ∷ d ∷ e ∷ []) =
+    with_corner u (with_corner u (with_corner u (with_corner u (with_corner u corners a (b, e, c, d)) b (c, a, d, e)) c (d, b, e, a)) d (e, c, a, b)) e (a, d, b, c)
 with_face u corners _ = corners
 
 -- the corners of the faces at u
-abbrev pub corners_at : ℕ → List (List ℕ) → List (ℕ × ℕ × ℕ)
+abbrev pub corners_at : ℕ → List (List ℕ) → List (ℕ × ℕ × ℕ × ℕ)
 corners_at u [] = []
 corners_at u (face ∷ later) = with_face u (corners_at u later) face
 
--- whether the three units are in the set
-abbrev pub is_filled : (ℕ → Bool) → ℕ × ℕ × ℕ → Bool
-is_filled inside corner = inside corner.0 && (inside corner.1 && inside corner.2)
+-- whether the four units are in the set
+abbrev pub is_filled : (ℕ → Bool) → ℕ × ℕ × ℕ × ℕ → Bool
+is_filled inside corner = inside corner.0 && (inside corner.1 && (inside corner.2 && inside corner.3))
 
 -- ---- as a program keeps them
 
 -- the units that a corner tells of, among these neighbours of its unit
-abbrev pub units_of : List ℕ → Corner → ℕ × ℕ × ℕ
-units_of row corner = (slice_index row corner.one, slice_index row corner.other, corner.far)
+abbrev pub units_of : List ℕ → Corner → ℕ × ℕ × ℕ × ℕ
+units_of row corner = (slice_index row corner.one, slice_index row corner.other, corner.far, corner.further)
 
--- the places are those of neighbours, and the unit opposite is one of the graph's
+-- the places are those of neighbours, and the units opposite are of the graph
 pub record IsOnRow (g : Graph) (row : List ℕ) (corner : Corner) : Type 0 where
   pub one : corner.one < length row
   pub other : corner.other < length row
   pub far : corner.far < g.units
+  pub further : corner.further < g.units
 
 -- the rows tell of these corners at each unit
-pub record HasCorners (g : Graph) (corners : ℕ → List (ℕ × ℕ × ℕ)) (rows : List (List Corner)) : Type 0 where
+pub record HasCorners (g : Graph) (corners : ℕ → List (ℕ × ℕ × ℕ × ℕ)) (rows : List (List Corner)) : Type 0 where
   pub width : length rows ≡ g.units
   pub placed : (u : ℕ) → u < g.units → All (IsOnRow g (slice_index_or g.neighbours u [])) (slice_index_or rows u [])
   pub seen : (u : ℕ) → u < g.units → map (units_of (slice_index_or g.neighbours u [])) (slice_index_or rows u []) ≡ corners u

@@ -1,5 +1,5 @@
--- Faces: rings of three or four units, listed so that each has a side that no later one has.
-use Rattle.std.specs.Prelude.{◌≡◌, ℕ, ◌+◌, ◌<◌, ◌==◌, ◌&&◌, ◌||◌, Bool, false, not, cond, IsTrue, IsFalse, List, [], ◌∷◌, length, slice_index, ◌⊎◌}
+-- Faces: rings of three to five units, listed so that each has a side that no later one has.
+use Rattle.std.specs.Prelude.{◌≡◌, ℕ, ◌+◌, ◌<◌, ◌≤◌, ◌==◌, ◌&&◌, ◌||◌, Bool, false, not, cond, IsTrue, IsFalse, List, [], ◌∷◌, length, slice_index}
 use Rattle.std.specs.List.{list_any, list_all}
 use Rattle.audit_model.specs.Apart.{AllApart}
 use Rattle.audit_model.specs.Below.{count_below, filter_below, map_below}
@@ -12,15 +12,16 @@ use Rattle.audit_model.specs.District.{in_district}
 abbrev pub is_pair : ℕ → ℕ → ℕ → ℕ → Bool
 is_pair a b x y = ((a == x) && (b == y)) || ((a == y) && (b == x))
 
--- whether x and y follow each other on a ring of three or four units
+-- whether x and y follow each other on a ring of three to five units
 abbrev pub has_side : List ℕ → ℕ → ℕ → Bool
 has_side (a ∷ b ∷ c ∷ []) x y = is_pair a b x y || is_pair b c x y || is_pair c a x y
 has_side (a ∷ b ∷ c ∷ d ∷ []) x y = is_pair a b x y || is_pair b c x y || is_pair c d x y || is_pair d a x y
+has_side (a ∷ b ∷ c ∷ d ∷ e ∷ []) x y = is_pair a b x y || is_pair b c x y || is_pair c d x y || is_pair d e x y || is_pair e a x y
 has_side _ x y = false
 
--- three or four units of the graph, no two the same, each adjacent to the next and the last to the first
+-- three to five units of the graph, no two the same, each adjacent to the next and the last to the first
 pub record IsRing (g : Graph) (ring : List ℕ) : Type 0 where
-  pub size : (length ring ≡ 3) ⊎ (length ring ≡ 4)
+  pub size : (3 ≤ length ring) × (length ring ≤ 5)
   pub apart : AllApart ring
   pub below : (v : ℕ) → IsTrue (has ring v) → v < g.units
   pub sides : (x y : ℕ) → IsTrue (has_side ring x y) → IsTrue (adjacent g x y)

@@ -3,7 +3,7 @@ use Rattle.std.specs.Prelude.{ℕ, ◌&&◌, Bool, cond, nat_lt, nat_eq, IsTrue,
 use Rattle.std.specs.List.{list_any}
 use Rattle.std.specs.HashSet.{HashSet, contains}
 use Rattle.contig.specs.declared.face.Face.{Face}
-use Rattle.contig.specs.declared.face.Face.TheVariants.{Triangle, Square}
+use Rattle.contig.specs.declared.face.Face.TheVariants.{Triangle, Square, Pentagon}
 use Rattle.contig.specs.Faces.{has_side}
 use Rattle.contig.specs.Rings.{ring_of}
 
@@ -24,6 +24,7 @@ same_side p q = nat_eq p.0 q.0 && nat_eq p.1 q.1
 abbrev pub own_side : Face → ℕ × ℕ
 own_side (Triangle a b c) = side a b
 own_side (Square a b c d) = side a b
+own_side (Pentagon a b c d e) = side a b
 
 -- all sides of the rings are in the set
 abbrev pub HoldsSides : {S : Type 0} → List (List ℕ) → HashSet (ℕ × ℕ) S → Type 0

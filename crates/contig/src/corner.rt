@@ -6,13 +6,14 @@ use audit_model::memory::Memory;
 use std::alloc::Global;
 use std::marker::Model;
 
-/// A face at a unit: the places of the unit's two neighbours on it in the list of its neighbours, and the
-/// unit opposite, which in a triangle is one of the two.
+/// A face at a unit: the places of the unit's two neighbours on it in the list of its neighbours, and the two
+/// units opposite, which in a square are one, and in a triangle one of the two neighbours.
 #[derive(Clone, Copy)]
 pub struct Corner {
     pub one: u32,
     pub other: u32,
     pub far: u32,
+    pub further: u32,
 }
 
 /// A list of corners.

@@ -182,12 +182,15 @@ fn corners_in(member: Member, table: &FaceTable, district: u32, end: u32) -> u64
         let one = row[corner.one as usize];
         let other = row[corner.other as usize];
         let far = corner.far;
+        let further = corner.further;
         if plan[one as usize] == district
             && one < end
             && plan[other as usize] == district
             && other < end
             && plan[far as usize] == district
             && far < end
+            && plan[further as usize] == district
+            && further < end
         {
             count += 1;
         }

@@ -1,7 +1,7 @@
-//! Rings of three or four units.
+//! Rings of three to five units.
 
-ghost use Rattle.std.specs.Prelude.{◌≡◌};
-ghost use Rattle.contig.specs.Rings.{goes_round, turned};
+ghost use Rattle.std.specs.Prelude.{◌≡◌, ◌<◌};
+ghost use Rattle.contig.specs.Rings.{goes_round, turned, differ, follow};
 
 use dual_graph::graph::Graph;
 
@@ -10,6 +10,7 @@ use dual_graph::graph::Graph;
 pub enum Face {
     Triangle(u32, u32, u32),
     Square(u32, u32, u32, u32),
+    Pentagon(u32, u32, u32, u32, u32),
 }
 
 impl Face {
@@ -46,6 +47,15 @@ impl Face {
                     && graph.adjacent(c, d)
                     && graph.adjacent(d, a)
             }
+            Face::Pentagon(a, b, c, d, e) => {
+                a < n
+                    && b < n
+                    && c < n
+                    && d < n
+                    && e < n
+                    && differ(a, b, c, d, e)
+                    && follow(graph, a, b, c, d, e)
+            }
         }
     }
 
@@ -56,6 +66,27 @@ impl Face {
         match self {
             Face::Triangle(a, b, c) => Face::Triangle(b, c, a),
             Face::Square(a, b, c, d) => Face::Square(b, c, d, a),
+            Face::Pentagon(a, b, c, d, e) => Face::Pentagon(b, c, d, e, a),
         }
     }
+}
+
+/// Whether no two of five units are the same.
+fn differ(a: u32, b: u32, c: u32, d: u32, e: u32) -> bool
+    ensures { result ≡ differ a b c d e }
+{
+    a != b && a != c && a != d && a != e && b != c && b != d && b != e && c != d && c != e && d != e
+}
+
+/// Whether each of five units is adjacent to the next and the last to the first.
+fn follow(graph: &Graph, a: u32, b: u32, c: u32, d: u32, e: u32) -> bool
+    requires three { (a < graph.now.units) × (b < graph.now.units) × (c < graph.now.units) }
+    requires two { (d < graph.now.units) × (e < graph.now.units) }
+    ensures { result ≡ follow graph.now a b c d e }
+{
+    graph.adjacent(a, b)
+        && graph.adjacent(b, c)
+        && graph.adjacent(c, d)
+        && graph.adjacent(d, e)
+        && graph.adjacent(e, a)
 }

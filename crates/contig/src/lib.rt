@@ -1,5 +1,5 @@
 //! May a unit leave its district without disconnecting it? First its neighbours there are asked: where they are connected
-//! among themselves it may. Then the triangles and squares of the graph, its faces: counts of a district's inner edges and faces
+//! among themselves it may. Then the triangles, squares and pentagons of the graph, its faces: counts of a district's inner edges and faces
 //! tell that a district has no hole, and then the neighbours linked through faces are all that matters. A search of the district
 //! comes last.
 //!

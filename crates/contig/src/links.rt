@@ -48,6 +48,7 @@ fn is_inner(leaving: Member, corner: Corner) -> bool
     plan[row[corner.one as usize] as usize] == district
         && plan[row[corner.other as usize] as usize] == district
         && plan[corner.far as usize] == district
+        && plan[corner.further as usize] == district
 }
 
 /// Makes the classes of neighbours one that share a face inside their district.

@@ -117,6 +117,14 @@ fn note_sides(sides: &mut HashSet<(u32, u32)>, face: Face) -> Result<(), Memory>
             note(sides, d, a)?;
             Ok(())
         }
+        Face::Pentagon(a, b, c, d, e) => {
+            note(sides, a, b)?;
+            note(sides, b, c)?;
+            note(sides, c, d)?;
+            note(sides, d, e)?;
+            note(sides, e, a)?;
+            Ok(())
+        }
     }
 }
 
@@ -127,5 +135,6 @@ fn has_own(sides: &HashSet<(u32, u32)>, face: Face) -> bool
     match face {
         Face::Triangle(a, b, _) => sides.contains(&side_of(a, b)),
         Face::Square(a, b, _, _) => sides.contains(&side_of(a, b)),
+        Face::Pentagon(a, b, _, _, _) => sides.contains(&side_of(a, b)),
     }
 }

@@ -9,11 +9,11 @@ use dual_graph::graph::Graph;
 use std::alloc::Global;
 
 /// No ring has more sides.
-const MOST_SIDES: u8 = 4;
+const MOST_SIDES: u8 = 5;
 
 /// For each side how many of the rings that are left have it, and the exclusive or of their numbers.
 #[derive(Drop)]
-struct Sides {
+pub struct Sides {
     /// The number of the first side of each unit.
     begins: Vec<usize>,
     counts: Vec<u32>,
@@ -26,6 +26,17 @@ impl Sides {
     /// The number of a ring's own side.
     fn own(&self, graph: &Graph, ring: Face) -> usize {
         let (a, b) = first_two(ring);
+        self.number_of(graph, a, b)
+    }
+
+    /// Whether fewer than two of the rings that are left have this side.
+    pub fn has_room(&self, graph: &Graph, a: u32, b: u32) -> bool {
+        let side = self.number_of(graph, a, b);
+        side < self.counts.len() && self.counts[side] < 2
+    }
+
+    /// The number of the side of two units.
+    fn number_of(&self, graph: &Graph, a: u32, b: u32) -> usize {
         let (low, high) = if a < b { (a, b) } else { (b, a) };
         if low >= graph.units() || low as usize >= self.begins.len() {
             return 0;
@@ -74,7 +85,7 @@ impl Sides {
     }
 
     /// The sides of these rings.
-    fn of(alloc: Global, graph: &Graph, rings: &[Face]) -> Result<Sides, Memory> {
+    pub fn of(alloc: Global, graph: &Graph, rings: &[Face]) -> Result<Sides, Memory> {
         let begins = begins_of(alloc, graph)?;
         let all = match begins.last() {
             None => 0,
@@ -203,6 +214,7 @@ fn length_of(ring: Face) -> usize {
     match ring {
         Face::Triangle(_, _, _) => 3,
         Face::Square(_, _, _, _) => 4,
+        Face::Pentagon(_, _, _, _, _) => 5,
     }
 }
 
@@ -211,6 +223,7 @@ fn first_two(ring: Face) -> (u32, u32) {
     match ring {
         Face::Triangle(a, b, _) => (a, b),
         Face::Square(a, b, _, _) => (a, b),
+        Face::Pentagon(a, b, _, _, _) => (a, b),
     }
 }
 

@@ -43,26 +43,27 @@ fn place_of(graph: &Graph, unit: u32, other: u32) -> u32
     0
 }
 
-/// Adds a corner at a unit.
+/// Adds a corner at a unit, with the units opposite.
 fn add_corner(
     graph: &Graph,
     rows: &mut Vec<CornerList>,
     unit: u32,
     one: u32,
     other: u32,
-    far: u32,
+    opposite: (u32, u32),
 ) -> Result<(), Memory>
-    requires units { (unit < graph.now.units) × (far < graph.now.units) }
+    requires units { (unit < graph.now.units) × (opposite.0 < graph.now.units) × (opposite.1 < graph.now.units) }
     requires near { IsTrue (adjacent graph.now unit one) × IsTrue (adjacent graph.now unit other) }
     requires rows { length rows.old.items ≡ graph.now.units }
     ensures width { length rows.new.items ≡ graph.now.units }
-    ensures added { OnOk result ((corners : ℕ → List (ℕ × ℕ × ℕ)) → HasCorners graph.now corners rows.old.items →
-        HasCorners graph.now (λ w. with_corner w (corners w) unit (one, other, far)) rows.new.items) }
+    ensures added { OnOk result ((corners : ℕ → List (ℕ × ℕ × ℕ × ℕ)) → HasCorners graph.now corners rows.old.items →
+        HasCorners graph.now (λ w. with_corner w (corners w) unit (one, other, opposite.0, opposite.1)) rows.new.items) }
 {
     let corner = Corner {
         one: place_of(graph, unit, one),
         other: place_of(graph, unit, other),
-        far,
+        far: opposite.0,
+        further: opposite.1,
     };
     rows[unit as usize].push(corner)?;
     Ok(())
@@ -73,21 +74,29 @@ fn add_face(graph: &Graph, rows: &mut Vec<CornerList>, face: Face) -> Result<(),
     requires ring { IsRing graph.now (ring_of face) }
     requires rows { length rows.old.items ≡ graph.now.units }
     ensures width { length rows.new.items ≡ graph.now.units }
-    ensures added { OnOk result ((corners : ℕ → List (ℕ × ℕ × ℕ)) → HasCorners graph.now corners rows.old.items →
+    ensures added { OnOk result ((corners : ℕ → List (ℕ × ℕ × ℕ × ℕ)) → HasCorners graph.now corners rows.old.items →
         HasCorners graph.now (λ w. with_face w (corners w) (ring_of face)) rows.new.items) }
 {
     match face {
         Face::Triangle(a, b, c) => {
-            add_corner(graph, rows, a, b, c, c)?;
-            add_corner(graph, rows, b, c, a, a)?;
-            add_corner(graph, rows, c, a, b, b)?;
+            add_corner(graph, rows, a, b, c, (c, c))?;
+            add_corner(graph, rows, b, c, a, (a, a))?;
+            add_corner(graph, rows, c, a, b, (b, b))?;
             Ok(())
         }
         Face::Square(a, b, c, d) => {
-            add_corner(graph, rows, a, b, d, c)?;
-            add_corner(graph, rows, b, c, a, d)?;
-            add_corner(graph, rows, c, d, b, a)?;
-            add_corner(graph, rows, d, a, c, b)?;
+            add_corner(graph, rows, a, b, d, (c, c))?;
+            add_corner(graph, rows, b, c, a, (d, d))?;
+            add_corner(graph, rows, c, d, b, (a, a))?;
+            add_corner(graph, rows, d, a, c, (b, b))?;
+            Ok(())
+        }
+        Face::Pentagon(a, b, c, d, e) => {
+            add_corner(graph, rows, a, b, e, (c, d))?;
+            add_corner(graph, rows, b, c, a, (d, e))?;
+            add_corner(graph, rows, c, d, b, (e, a))?;
+            add_corner(graph, rows, d, e, c, (a, b))?;
+            add_corner(graph, rows, e, a, d, (b, c))?;
             Ok(())
         }
     }

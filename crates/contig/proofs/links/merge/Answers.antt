@@ -17,7 +17,7 @@ loop-corner-preserved c =
     let u : ℕ = c.args.leaving.unit in
     let corners : List Corner = c.args.corners.now in
     let k : ℕ = c.loop-corner.corner-index in
-    let d : Corner = record { one = 0; other = 0; far = 0 } in
+    let d : Corner = record { one = 0; other = 0; far = 0; further = 0 } in
     let lt : k < length corners = c.loop-corner-test.true in
     let placed : IsOnRow g (row g u) (get_or corners k d) = All-get_or (IsOnRow g (row g u)) corners k d lt c.requires.placed in
     let lf : (get_or corners k d).one < 32 = omega (arith, placed.one, c.requires.few) in

@@ -6,9 +6,9 @@ use Rattle.contig.proofs.rows.add_corner.Goals as goal
 
 pub returns-clause-added : goal.returns-clause-added
 returns-clause-added c corners h =
-    let corner : Corner = record { one = c.place_of.result; other = c.place_of-2.result; far = c.args.far } in
+    let corner : Corner = record { one = c.place_of.result; other = c.place_of-2.result; far = c.args.opposite.0; further = c.args.opposite.1 } in
     one_more c.args.graph.now corners c.args.rows.now.items _ c.args.unit corner c.args.one c.args.other
-    c.requires.units.0 (record { one = c.place_of.ensures.within; other = c.place_of-2.ensures.within; far = c.requires.units.1 })
+    c.requires.units.0 (record { one = c.place_of.ensures.within; other = c.place_of-2.ensures.within; far = c.requires.units.1; further = c.requires.units.2 })
     c.place_of.ensures.there c.place_of-2.ensures.there
     (ap (λ (xs : List Corner). set c.args.rows.now.items c.args.unit xs)
     (c.in_ok-push.ensures.ok ∙ ap (λ (xs : List Corner). xs ++ corner ∷ [])

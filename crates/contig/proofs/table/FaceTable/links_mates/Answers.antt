@@ -12,7 +12,7 @@ use Rattle.contig.proofs.table.FaceTable.links_mates.Goals as goal
 are_at : (g h : Graph) (faces : List (List ℕ)) → h ≡ g → AreFaces h faces → AreFaces g faces
 are_at g h faces made are = subst (λ (t : Graph). AreFaces t faces) made are
 
-seen_at : (g h : Graph) (corners : List Corner) (u : ℕ) (seen : List (ℕ × ℕ × ℕ)) → h ≡ g → map (units_of (get_or h.neighbours u [])) corners ≡ seen
+seen_at : (g h : Graph) (corners : List Corner) (u : ℕ) (seen : List (ℕ × ℕ × ℕ × ℕ)) → h ≡ g → map (units_of (get_or h.neighbours u [])) corners ≡ seen
     → map (units_of (get_or g.neighbours u [])) corners ≡ seen
 seen_at g h corners u seen made is = subst (λ (t : Graph). map (units_of (get_or t.neighbours u [])) corners ≡ seen) made is
 
