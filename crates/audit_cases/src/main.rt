@@ -3,12 +3,13 @@
 //!
 //! After them public calls that no command of the auditor makes, calls whose answer no contract says, and the auditor's outside over real files:
 //! each call is made once, and what it answers is printed. Then walks of which it is shown how many steps searched, counters that passes draw
-//! from in turn and in threads, and tests that stop early. At last audits at gates of other kinds: one for each line of the files `crowds` and
-//! `counted`.
+//! from in turn and in threads, desks at which two passes claim and post in turn, and tests that stop early. At last audits at gates of other
+//! kinds: one for each line of the files `crowds`, `counted` and `timed`.
 #![tactic(auto)]
 
 mod calls;
 mod claims;
+mod desks;
 mod flips;
 mod gated;
 mod jobs;
@@ -20,6 +21,7 @@ mod shown;
 
 use crate::calls::show_calls;
 use crate::claims::{draw_all, show_claims};
+use crate::desks::{DeskKeeper, run_desk, show_desks};
 use crate::gated::run_gated;
 use crate::settling::show_ends;
 use audit_io::mem_keeper::MemKeeper;
@@ -30,10 +32,12 @@ use audit_run::audit::audit;
 use audit_run::sure::audit_surely;
 use case_lines::counted::{CountedKeeper, CountingGate};
 use case_lines::crowd::CrowdGate;
-use case_lines::gated::{Gated, run_counts, run_crowds};
+use case_lines::gated::{Gated, run_counts, run_crowds, run_timings};
 use case_lines::lines::{Kind, run_file};
 use case_lines::runs::{Case, SureCase};
 use case_lines::sure;
+use case_lines::timed::TimedGate;
+use plan_core::job::Job;
 use std::sync::Wait;
 use std::test::Fail;
 use std::thread::Threads;
@@ -88,12 +92,20 @@ fn main(rt: HostRuntime) -> Result<(), Fail> {
     sure::run_file(&rt, &surely, "sure")?;
     show_calls(&rt)?;
     show_claims(&rt, &|seats: u32| draw_all(&rt, rt.alloc(), seats))?;
+    show_desks(
+        &rt,
+        &|job: &Job, keeper: DeskKeeper, every: u32| {
+            run_desk(&rt, rt.alloc(), job, keeper, every)
+        },
+    )?;
     show_ends(&rt)?;
     let held = |case: &mut Gated<CrowdGate>, keeper: MemKeeper| run_gated(&rt, case, keeper);
     let counted = |case: &mut Gated<CountingGate>, keeper: CountedKeeper<MemKeeper>| {
         run_gated(&rt, case, keeper)
     };
+    let timed = |case: &mut Gated<TimedGate>, keeper: MemKeeper| run_gated(&rt, case, keeper);
     run_crowds(&rt, &held, "crowds")?;
     run_counts(&rt, &counted, "counted")?;
+    run_timings(&rt, &timed, "timed")?;
     Ok(())
 }

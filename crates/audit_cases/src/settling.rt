@@ -17,7 +17,8 @@ use sequential_test::settle::settle;
 use std::alloc::Global;
 use std::{fs, io};
 
-fn job_with(alloc: Global, text: &[u8], setting: Setting) -> Result<Job, PlanFault>
+/// The job of a graph's text.
+pub fn job_with(alloc: Global, text: &[u8], setting: Setting) -> Result<Job, PlanFault>
     requires { IsSetting setting }
 {
     match read_graph(alloc, text, &setting.columns) {

@@ -1,10 +1,11 @@
-//! Runs at gates of other kinds, one for each line of a file: one that holds everyone until three have begun, and one that shares a count with
-//! the keeper. A line has the file of the graph and the words of the audit.
+//! Runs at gates of other kinds, one for each line of a file: one that holds everyone until three have begun, one that shares a count with the
+//! keeper, and one with a clock. A line has the file of the graph and the words of the audit.
 
 use crate::counted::{CountedKeeper, CountingGate};
 use crate::crowd::CrowdGate;
 use crate::held::absent;
 use crate::streams::{failing, source_of, text_of, words_of};
+use crate::timed::TimedGate;
 use audit_io::mem_keeper::MemKeeper;
 use audit_io::mem_sink::MemSink;
 use audit_io::mem_source::MemSource;
@@ -140,6 +141,43 @@ pub fn run_counts<
     let lines = text_of(rt, file)?;
     for line in lines.lines() {
         run_counted(rt, audit, line)?;
+    }
+    Ok(())
+}
+
+// Shows the status, of how many ids the gate was told, and whether the first of them came in the first half of the time.
+fn show_timed(rt: &HostRuntime, status: u8, gate: &TimedGate) -> io::Result<()> {
+    let early = gate.was_told_early();
+    let told = gate.told();
+    println!(rt; "status {status} told {told} in the first half {early}")
+}
+
+fn run_timed<A: Fn(&mut Gated<TimedGate>, MemKeeper) -> (u8, MemKeeper)>(
+    rt: &HostRuntime,
+    audit: &A,
+    line: &str,
+) -> Result<(), Fail>
+    requires { A.IsAlwaysCallable audit.now }
+{
+    let keeper = absent(rt.alloc())?;
+    let gate = TimedGate::new(*rt)?;
+    let mut case = given_by(rt, line, gate)?;
+    let (status, _keeper) = audit(&mut case, keeper);
+    show_timed(rt, status, &case.gate)?;
+    Ok(())
+}
+
+/// Makes the run of each line of a file, each of one long walk, and shows whether the gate was told of it in the first half of the run's time.
+pub fn run_timings<A: Fn(&mut Gated<TimedGate>, MemKeeper) -> (u8, MemKeeper)>(
+    rt: &HostRuntime,
+    audit: &A,
+    file: &str,
+) -> Result<(), Fail>
+    requires { A.IsAlwaysCallable audit.now }
+{
+    let lines = text_of(rt, file)?;
+    for line in lines.lines() {
+        run_timed(rt, audit, line)?;
     }
     Ok(())
 }

@@ -36,6 +36,7 @@ mod slots;
 mod streams;
 pub mod sure;
 pub mod texts;
+pub mod timed;
 
 pub use books::show_book;
 pub use checkpoints::show_checkpoint;

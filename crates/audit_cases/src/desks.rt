@@ -1,0 +1,412 @@
+//! Desks at which two passes claim the first three ids of a job in turn, and what such a desk keeps.
+
+ghost use Rattle.std.specs.Prelude.{◌≡◌, ◌≤◌, [], IfOk, IfSome};
+ghost use Rattle.audit_cases.specs.Passes.{OwesNothing};
+ghost use Rattle.audit_model.specs.Job.{rules};
+ghost use Rattle.audit_model.specs.Run.{run_ids, total};
+ghost use Rattle.ckpt_store.specs.Places.{IsPlace};
+ghost use Rattle.claim_counter.specs.Walks.{IsWithin};
+ghost use Rattle.audit_statement.specs.Checkpoint as definition;
+ghost use Rattle.flip_kernel.specs.Judged.{IsJudgeFor};
+ghost use Rattle.tally_desk.specs.Crews.{IsWalker, WalksAtDesk};
+ghost use Rattle.tally_desk.specs.Founded.{parts_of};
+ghost use Rattle.tally_desk.specs.Parts.{IsPlaceFor, MayFound};
+ghost use Rattle.tally_desk.specs.Passes.{IsFirstPass};
+
+use crate::settling::job_with;
+use audit_io::keeper::Keeper;
+use audit_io::mem_keeper::MemKeeper;
+use audit_model::buffers::Bytes;
+use audit_model::fault::PlanFault;
+use audit_model::lists::{NumList, UnitList};
+use audit_model::memory::Memory;
+use audit_model::outcome::SumsView;
+use audit_model::rules::Rules;
+use audit_walks::todo::todo_of;
+use audit_words::read;
+use case_lines::counted::{CountedKeeper, CountingGate};
+use ckpt_format::digest::job_digest;
+use ckpt_store::look::look;
+use flip_guard::guard::Guard;
+use flip_guard::judge::Judge;
+use outcome_book::book::Book;
+use plan_core::job::Job;
+use std::alloc::{AllocError, Global};
+use std::sync::Wait;
+use std::{fs, io};
+use tally_desk::desk::Desk;
+use tally_desk::handing::{DeskPlan, Kept, Outset};
+use tally_desk::laws::posts_stay_whole;
+use tally_desk::pass::DeskPass;
+use walker::walker::Walker;
+
+/// The words of a run of twelve walks of eight steps.
+const WORDS: &str =
+    "run --pop pop --first a --second b --district d --slack 5000 --key 0000000000000000000000000000000000000000000000000000000000000000 --walks 12 --steps 8 --ask gap:low";
+
+/// How many ids a desk has.
+const IDS: u32 = 3;
+
+/// What saves at a desk, and counts how often it was asked to.
+pub type DeskKeeper = CountedKeeper<MemKeeper>;
+
+// The pass claims an id, unless it has ended, walks its trajectory, and posts what this finds.
+fn take_turn<R: Wait, C: Keeper, J: Judge>(
+    rt: &R,
+    job: &Job,
+    walker: &mut Walker<J>,
+    desk: &Desk<C>,
+    pass: &mut DeskPass,
+)
+    requires walks { IsWalker job.now walker.old }
+    requires shared { WalksAtDesk job.now (parts_of C.state desk.now.table.shared.key) [] }
+    requires pass { OwesNothing desk.now.table.shared.table_id (parts_of C.state desk.now.table.shared.key) pass.old }
+    ensures walks { IsWalker job.now walker.new }
+    ensures pass { OwesNothing desk.now.table.shared.table_id (parts_of C.state desk.now.table.shared.key) pass.new }
+{
+    // A law, called for what its contract says: a pass that posts what it claims has posted all that it claimed.
+    posts_stay_whole();
+    if pass.ended() {
+        return;
+    }
+    if let Some(id) = desk.claim(pass) {
+        desk.post(rt, pass, walker.walk(job, &[], id));
+    }
+}
+
+// Two passes claim in turn, as often as it takes until both have ended.
+fn take_turns<R: Wait, C: Keeper, J: Judge>(
+    rt: &R,
+    job: &Job,
+    walker: &mut Walker<J>,
+    desk: &Desk<C>,
+    first: &mut DeskPass,
+    second: &mut DeskPass,
+)
+    requires walks { IsWalker job.now walker.old }
+    requires shared { WalksAtDesk job.now (parts_of C.state desk.now.table.shared.key) [] }
+    requires first { OwesNothing desk.now.table.shared.table_id (parts_of C.state desk.now.table.shared.key) first.old }
+    requires second { OwesNothing desk.now.table.shared.table_id (parts_of C.state desk.now.table.shared.key) second.old }
+    ensures first { OwesNothing desk.now.table.shared.table_id (parts_of C.state desk.now.table.shared.key) first.new }
+    ensures second { OwesNothing desk.now.table.shared.table_id (parts_of C.state desk.now.table.shared.key) second.new }
+{
+    for _ in 0..IDS {
+        take_turn(rt, job, walker, desk, first);
+        take_turn(rt, job, walker, desk, second);
+    }
+}
+
+// Lets two passes claim all ids in turn, and closes the desk.
+fn serve<R: Wait, C: Keeper + Drop, J: Judge>(
+    rt: &R,
+    job: &Job,
+    walker: &mut Walker<J>,
+    desk: Desk<C>,
+    pass: DeskPass,
+) -> Option<Kept<C>>
+    requires walks { IsWalker job.now walker.old }
+    requires shared { WalksAtDesk job.now (parts_of C.state desk.table.shared.key) [] }
+    requires pass { IsFirstPass desk.table.shared.table_id (parts_of C.state desk.table.shared.key) pass }
+    requires two { (parts_of C.state desk.table.shared.key).seats ≡ 2 }
+{
+    // A law, called for what its contract says: a pass that posts what it claims has posted all that it claimed.
+    posts_stay_whole();
+    let mut first = pass;
+    let mut second = desk.split(&mut first);
+    take_turns(rt, job, walker, &desk, &mut first, &mut second);
+    let both = desk.join(first, second);
+    if both.ended() {
+        Some(desk.close(both))
+    } else {
+        None
+    }
+}
+
+// How a desk saves: by a look at the slots, and as often as is said.
+fn plan_of<C: Keeper>(alloc: Global, job: &Job, keeper: &mut C, every: u32) -> Option<DeskPlan>
+    ensures digest { IfSome result (λ p. p.digest ≡ definition.job_digest job.now) }
+    ensures every { IfSome result (λ p. p.save_every ≡ every) }
+    ensures known { IfSome result (λ p. IsPlace p.place) }
+    ensures place { IfSome result (λ p. IsPlaceFor job.now (C.state keeper.new).slots p.place) }
+{
+    let digest = job_digest(job);
+    let mut room = Bytes::new(alloc);
+    match look(alloc, keeper, job, &digest, &mut room) {
+        Ok(slots) => Some(DeskPlan {
+            digest,
+            save_every: every,
+            place: slots.place(),
+        }),
+        Err(_) => None,
+    }
+}
+
+// An empty book, and the first ids of the job.
+fn ids_of(alloc: Global, job: &Job) -> Result<(Book, UnitList), Memory>
+    ensures total { IfOk result (λ b. b.0.total ≡ total job.now) }
+    ensures empty { IfOk result (λ b. b.0.outcomes ≡ []) }
+    ensures ids { IfOk result (λ b. b.1 ≡ run_ids job.now [] 3) }
+    ensures within { IfOk result (λ b. IsWithin job.now b.1) }
+{
+    // Called for what its contract says: the job is within its limits.
+    let _units = job.units();
+    let book = Book::with_room(alloc, job.total())?;
+    let ids = todo_of(alloc, job, &book, IDS)?;
+    Ok((book, ids))
+}
+
+// What a desk is made of.
+fn outset_of<C: Keeper + Drop>(
+    alloc: Global,
+    job: &Job,
+    mut keeper: C,
+    every: u32,
+) -> Option<Outset<C>>
+    requires every { 1 ≤ every }
+    ensures outset { IfSome result (λ o. MayFound job.now (C.state o.keeper).slots o.plan o.todo o.book) }
+    ensures within { IfSome result (λ o. IsWithin job.now o.todo) }
+{
+    let Some(plan) = plan_of(alloc, job, &mut keeper, every) else {
+        return None;
+    };
+    match ids_of(alloc, job) {
+        Ok((book, todo)) => Some(Outset {
+            plan,
+            todo,
+            book,
+            keeper,
+        }),
+        Err(_) => None,
+    }
+}
+
+// The desk, and its first pass of two.
+fn open<C: Keeper + Drop>(
+    alloc: Global,
+    job: &Job,
+    outset: Outset<C>,
+) -> Option<(Desk<C>, DeskPass)>
+    requires outset { MayFound job.now (C.state outset.keeper).slots outset.plan outset.todo outset.book }
+    requires within { IsWithin job.now outset.todo }
+    requires no_ends { job.now.setting.ends ≡ 0 }
+    ensures shared { IfSome result (λ d. WalksAtDesk job.now (parts_of C.state d.0.table.shared.key) []) }
+    ensures pass { IfSome result (λ d. IsFirstPass d.0.table.shared.table_id (parts_of C.state d.0.table.shared.key) d.1) }
+    ensures two { IfSome result (λ d. (parts_of C.state d.0.table.shared.key).seats ≡ 2) }
+{
+    match Desk::new(alloc, job, outset, 2) {
+        Ok(made) => Some(made),
+        Err(_) => None,
+    }
+}
+
+// The same by the keeper, and by how often the desk saves.
+fn open_with<C: Keeper + Drop>(
+    alloc: Global,
+    job: &Job,
+    keeper: C,
+    every: u32,
+) -> Option<(Desk<C>, DeskPass)>
+    requires every { 1 ≤ every }
+    requires no_ends { job.now.setting.ends ≡ 0 }
+    ensures shared { IfSome result (λ d. WalksAtDesk job.now (parts_of C.state d.0.table.shared.key) []) }
+    ensures pass { IfSome result (λ d. IsFirstPass d.0.table.shared.table_id (parts_of C.state d.0.table.shared.key) d.1) }
+    ensures two { IfSome result (λ d. (parts_of C.state d.0.table.shared.key).seats ≡ 2) }
+{
+    match outset_of(alloc, job, keeper, every) {
+        Some(outset) => open(alloc, job, outset),
+        None => None,
+    }
+}
+
+// Opens the desk, and serves the passes.
+fn run_walker<R: Wait, C: Keeper + Drop, J: Judge>(
+    rt: &R,
+    alloc: Global,
+    job: &Job,
+    walker: &mut Walker<J>,
+    keeper: C,
+    every: u32,
+) -> Option<Kept<C>>
+    requires walks { IsWalker job.now walker.old }
+    requires every { 1 ≤ every }
+    requires no_ends { job.now.setting.ends ≡ 0 }
+{
+    match open_with(alloc, job, keeper, every) {
+        Some((desk, pass)) => serve(rt, job, walker, desk, pass),
+        None => None,
+    }
+}
+
+// The same by a judge.
+fn run_judge<R: Wait, C: Keeper + Drop, J: Judge>(
+    rt: &R,
+    alloc: Global,
+    job: &Job,
+    judge: J,
+    keeper: C,
+    every: u32,
+) -> Option<Kept<C>>
+    requires judge { IsJudgeFor job.now (J.judging judge) }
+    requires every { 1 ≤ every }
+    requires no_ends { job.now.setting.ends ≡ 0 }
+{
+    match Walker::new(alloc, job, judge) {
+        Ok(mut walker) => run_walker(rt, alloc, job, &mut walker, keeper, every),
+        Err(_) => None,
+    }
+}
+
+// The same by the rules of the job.
+fn run_ruled<R: Wait, C: Keeper + Drop>(
+    rt: &R,
+    alloc: Global,
+    job: &Job,
+    of_job: Rules,
+    keeper: C,
+    every: u32,
+) -> Option<Kept<C>>
+    requires same { of_job ≡ rules job.now }
+    requires no_regions { of_job.regions ≡ [] }
+    requires no_majority { of_job.group_districts ≡ 0 }
+    requires every { 1 ≤ every }
+    requires no_ends { job.now.setting.ends ≡ 0 }
+{
+    let max_cut = of_job.max_cut;
+    let judge = Guard::new(move |sums: &SumsView| sums.cut <= max_cut, of_job);
+    run_judge(rt, alloc, job, judge, keeper, every)
+}
+
+/// What a desk keeps at which two passes claim the first three ids of a job in turn. None where the job is not one of walks alone and without
+/// regions and majorities, and where there is no memory.
+pub fn run_desk<R: Wait, C: Keeper + Drop>(
+    rt: &R,
+    alloc: Global,
+    job: &Job,
+    keeper: C,
+    every: u32,
+) -> Option<Kept<C>> {
+    let rules = job.rules();
+    if rules.regions.len() > 0 || rules.group_districts > 0 || job.setting().ends > 0 {
+        return None;
+    }
+    match rules.copy() {
+        Ok(rules) => run_ruled(rt, alloc, job, rules, keeper, every.max(1)),
+        Err(_) => None,
+    }
+}
+
+// The numbers of the saves that fail: this one, or none where it is 0.
+fn failing(alloc: Global, save: u64) -> Result<NumList, Memory> {
+    let mut saves = NumList::new(alloc);
+    if save > 0 {
+        saves.push(save)?;
+    }
+    Ok(saves)
+}
+
+// Two absent slots.
+fn absent(alloc: Global, save: u64) -> Result<MemKeeper, Memory> {
+    let saves = failing(alloc, save)?;
+    MemKeeper::new(alloc, None, None, NumList::new(alloc), saves)
+}
+
+// A keeper of two absent slots, of which this save fails.
+fn keeper_of(alloc: Global, save: u64) -> Result<DeskKeeper, Memory> {
+    let gate = CountingGate::new(alloc)?;
+    let keeper = gate.keeper(absent(alloc, save)?)?;
+    Ok(keeper)
+}
+
+fn show_id(rt: &HostRuntime, book: &Book, id: u32) -> io::Result<()> {
+    if book.has(id) {
+        return print!(rt; " {id}");
+    }
+    Ok(())
+}
+
+// Shows the ids of the book and how many outcomes it has, how many saves were tried and how many of them failed, and whether one was made with
+// the last post.
+fn show_kept(rt: &HostRuntime, every: u32, kept: &Kept<DeskKeeper>) -> io::Result<()> {
+    print!(rt; "desk save-every {every} ids")?;
+    for id in 0..12 {
+        show_id(rt, &kept.book, id)?;
+    }
+    let count = kept.book.len();
+    let saves = kept.keeper.saves();
+    println!(rt;
+        " count {count} saves {saves} failed {} last {}",
+        kept.failed_saves, kept.last_saved
+    )
+}
+
+fn show_closed(rt: &HostRuntime, every: u32, kept: Option<Kept<DeskKeeper>>) -> io::Result<()> {
+    match kept {
+        Some(kept) => show_kept(rt, every, &kept),
+        None => rt.println("no desk"),
+    }
+}
+
+// Shows what a desk keeps that saves so often, where the save with this number fails.
+fn show_desk<D: Fn(&Job, DeskKeeper, u32) -> Option<Kept<DeskKeeper>>>(
+    rt: &HostRuntime,
+    running: &D,
+    job: &Job,
+    every: u32,
+    save: u64,
+) -> io::Result<()>
+    requires { D.IsAlwaysCallable running.now }
+{
+    match keeper_of(rt.alloc(), save) {
+        Ok(keeper) => show_closed(rt, every, running(job, keeper, every)),
+        Err(_) => rt.println("memory"),
+    }
+}
+
+fn show_each<D: Fn(&Job, DeskKeeper, u32) -> Option<Kept<DeskKeeper>>>(
+    rt: &HostRuntime,
+    running: &D,
+    job: &Job,
+) -> io::Result<()>
+    requires { D.IsAlwaysCallable running.now }
+{
+    show_desk(rt, running, job, 2, 0)?;
+    show_desk(rt, running, job, 3, 0)?;
+    show_desk(rt, running, job, 2, 1)
+}
+
+fn words(alloc: Global) -> Result<Vec<String>, AllocError> {
+    let mut words = Vec::new(alloc);
+    for word in WORDS.split_whitespace() {
+        words.push(String::from_str(alloc, word)?)?;
+    }
+    Ok(words)
+}
+
+fn job_by(alloc: Global, text: &[u8], words: &[String]) -> Result<Job, PlanFault> {
+    match read(alloc, words) {
+        Ok(setting) => job_with(alloc, text, setting),
+        Err(_) => Err(PlanFault::Memory),
+    }
+}
+
+// The job of a graph's text, by the words.
+fn job_of(alloc: Global, text: &[u8]) -> Result<Job, PlanFault> {
+    match words(alloc) {
+        Ok(words) => job_by(alloc, text, words.as_slice()),
+        Err(_) => Err(PlanFault::Memory),
+    }
+}
+
+/// Shows what a desk of three ids keeps that saves after each second post, after each third, and after each second where the first save fails.
+pub fn show_desks<D: Fn(&Job, DeskKeeper, u32) -> Option<Kept<DeskKeeper>>>(
+    rt: &HostRuntime,
+    running: &D,
+) -> io::Result<()>
+    requires { D.IsAlwaysCallable running.now }
+{
+    let text = fs::read(rt, "cycle.json")?;
+    match job_of(rt.alloc(), text.as_slice()) {
+        Ok(job) => show_each(rt, running, &job),
+        Err(_) => rt.println("no job"),
+    }
+}
