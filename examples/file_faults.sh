@@ -38,11 +38,11 @@ folder() {
     mkdir "$room/$name" && cd "$room/$name" || fail "no folder for the $name run"
 }
 
-# Makes a run in the folder, with more words; it has to end with the status $1 and the note $2.
+# Makes a run in the folder, with more words; it has to end within a minute, with the status $1 and the note $2.
 run() {
     local wanted=$1 note=$2
     shift 2
-    "$program" "${words[@]}" "$@" <"$here/cycle.json" >"$room/$name.out" 2>"$room/$name.note"
+    timeout 60 "$program" "${words[@]}" "$@" <"$here/cycle.json" >"$room/$name.out" 2>"$room/$name.note"
     ended $? "$wanted" "$note"
 }
 

@@ -1,6 +1,7 @@
 """Takes inputs that are as great as they may be, and others that are one greater: the first are accepted, the others refused by their note. And
 makes a run of three million steps on 100,000 units in 5000 regions, with rules on regions and a group, of which about every second moves one: with a
-look at all units, or all regions, at each move it would not end in time.
+look at all units at each move it would not end in time. So is a parallel test of 100,000 ends that stops at the last of them: with a look at all
+ends for each end it would not end in time.
 
 Usage: python3 limits.py PROGRAM
        python3 limits.py walk
@@ -19,7 +20,7 @@ CYCLE = (pathlib.Path(__file__).resolve().parent / "cycle.json").read_bytes()
 COLUMNS = "--pop pop --first a --second b --district d --slack".split()
 CHECK = ["check", *COLUMNS, "5000"]
 KEY = "0" * 64
-STEPS, UNITS = 3000000, 100000
+STEPS, UNITS, ENDS = 3000000, 100000, 100000
 MOVES = 1500103
 SECONDS = 60
 
@@ -82,6 +83,14 @@ def walked():
     return 0, head + line + "end\n", ""
 
 
+def stopped():
+    """Where each test stops whose ends all have the start's value."""
+    lines = ["seats low start 1/1", "mean-median high start 0/4000000000", "gap low start 0/4", "cut-edges high start 1/1"]
+    head = (f"district-audit 1\nkey {KEY}\nunits 2 edges 1 districts 2\npopulation 2 slack 5000 low 1 high 1\nwalks 0 steps 1 ends {ENDS} hub-steps 1\n"
+            f"stop {ENDS}\n")
+    return 0, head + "".join(f"stop {line} place {ENDS} value {ENDS}/{ENDS} p 1.000000000\n" for line in lines) + "end\n", ""
+
+
 def cases():
     """The name of each input, the words, the input, and its end."""
     most = 67108864
@@ -110,6 +119,9 @@ def cases():
             graph([node(at, at // 200, at % 200) for at in range(400)], [[{"id": at + 1}] if at < 399 else [] for at in range(400)]), own
     yield "200 majorities", [*CHECK, "--group", "a", "--group-of", "b", "--group-districts", "200"], path(200, lambda at: at), \
         checked(200, 199, 200, 1, 1, "group-districts 200 of 200\n")
+    yield "100000 ends", ["run", *COLUMNS, "5000", "--key", KEY, "--walks", "0", "--steps", "1", "--ends", str(ENDS), "--hub-steps", "1", "--ask",
+                          "seats:low,mean-median:high,gap:low,cut-edges:high", "--stop", str(ENDS), "--workers", "2"], \
+        graph([{"id": at, "pop": 1, "a": 1 - at, "b": at, "d": at + 1} for at in range(2)], [[{"id": 1}], [{"id": 0}]]), stopped()
     yield "three million steps", ["run", *COLUMNS, "10000", "--key", KEY, "--steps", str(STEPS), "--ask", "cut-edges:low", "--region", "r",
                               "--max-split", "2", "--max-splits", "5000", "--group", "a", "--group-of", "b", "--group-districts", "2"], two_hubs(), walked()
 

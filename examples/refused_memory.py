@@ -4,21 +4,24 @@ Usage: python3 refused_memory.py PROGRAM [DRAWN|each [SEED]]
        python3 refused_memory.py PROGRAM jobs COUNT [SEED]
 Builds a small library with gcc that stands before the C library's allocations and refuses the one with a given number, or that one and all
 after it, and runs the program under it for each number from 1 until a run ends in which none was refused: over an outlier trajectory, the
-parallel test, the serial test with the tally of seats, a run of three workers, a run with regions, one with each rule and the origin, one that
+parallel test, a run with a long way to its hub that saves, the serial test with the tally of seats, a run of three workers, a run with regions, one with each rule and the origin, one that
 stops early, one of several plans, a made grid, each run of a chain that is halted and resumed, and one that goes on from the first version of the format with the tally. The
 status must be 3 or the run's own; after 3 the output must be empty and both files as before; else output, note and files must be those of the
-run with all its memory.
+run with all its memory. Status 3 must come early: where a run takes more than a second of a processor, in less than a tenth of that, since nothing is walked before
+all memory is taken.
 With a number only so many allocations of each run are refused, alone and with all after them by turns, drawn each from an equal part of those
 that the run makes. With `each` every one is refused once: a call that does not return where there is no memory for it is found so, which no
 contract says of a function that may wait for another thread.
 With `jobs` every allocation is refused, alone and with all after it, in so many jobs that are drawn as fuzz.py draws them before it breaks some: words
-of every kind, a graph, and slots as earlier runs left them.
+of every kind, a graph, and slots as earlier runs left them. Where several workers save, which outcomes a save has depends on chance, and the files
+are not compared.
 Prints how many runs there were, and each that is not so; ends with 1 where there is one.
 """
 import json
 import os
 import pathlib
 import random
+import resource
 import shutil
 import subprocess
 import sys
@@ -134,6 +137,7 @@ def runs():
         "check": [(["check", *BASE, "--slack", "5000"], cycle)],
         "one walk": [(["run", *BASE, "--slack", "5000", *KEY, "--steps", "8", "--ask", "gap:low,gap:high"], cycle)],
         "parallel test": [(["run", *BASE, *KEY, "--steps", "3", "--ends", "2", "--hub-steps", "8", "--ask", "gap:low"], TWO)],
+        "long hub": [(["run", *BASE, *KEY, "--steps", "3", "--ends", "2", "--hub-steps", "30000000", "--ask", "gap:low", "--save", "1"], TWO)],
         "serial test": [(["run", *BASE, "--slack", "5000", *KEY, "--steps", "7", "--ask", "gap:low,seats:high", "--serial", "yes", "--shift", "yes"],
                          cycle)],
         "three workers": [([*CHAIN, "--workers", "3"], cycle)],
@@ -172,7 +176,7 @@ class Room:
 
     def __init__(self, program, folder):
         self.program, self.library, self.mark, self.slots = program, built(folder), folder / "mark", folder / "slots"
-        self.counted = folder / "counted"
+        self.counted, self.seconds = folder / "counted", 0
         self.slots.mkdir()
 
     def hold(self, held):
@@ -192,21 +196,30 @@ class Room:
                  "ALLOCATIONS": str(self.counted)}
         if is_all:
             given["REFUSE_ALL"] = "1"
+        begun = taken()
         try:
             done = subprocess.run([self.program, *words], input=graph, capture_output=True, cwd=self.slots, env=given, timeout=20, check=False)
         except subprocess.TimeoutExpired:
             return "none after 20 seconds", b"", b"", held, self.mark.exists()
+        finally:
+            self.seconds = taken() - begun
         return done.returncode, done.stdout, done.stderr, self.held(), self.mark.exists()
 
 
-def wrong(end, own, held):
-    """What is wrong with an end, or None."""
+def taken():
+    """The seconds of a processor that all runs up to now took."""
+    return resource.getrusage(resource.RUSAGE_CHILDREN).ru_utime
+
+
+def wrong(end, own, held, is_told):
+    """What is wrong with an end, or None. With `is_told` it is told which outcomes each save has, as it is of one worker."""
     status, out, note, after, _ = end
     if status == 3 and own[0] != 3:
         if out or after != held:
             return "status 3, and the output or the files changed"
         return None if note in (b"memory\n", b"") else f"status 3 with the note {note}"
-    return None if end[:4] == own[:4] else f"status {status}, and not all as with all memory: {note}"
+    parts = 4 if is_told else 3
+    return None if end[:parts] == own[:parts] else f"status {status}, and not all as with all memory: {note}"
 
 
 def drawn_of(made, most, draw):
@@ -220,15 +233,18 @@ class Tries:
 
     def __init__(self, room, name, words, graph, held):
         self.room, self.name, self.job, self.held = room, name, (words, graph, held), held
-        self.own = room.run(*self.job)
+        self.own, self.seconds = room.run(*self.job), room.seconds
         self.made = int.from_bytes(room.counted.read_bytes(), sys.byteorder)
+        self.is_told = "--workers" not in words or "--save" not in words
         self.count, self.threes, self.found = 0, 0, []
 
     def refuse(self, number, is_all):
         """Makes the run without an allocation, and answers whether there was one to refuse."""
         end = self.room.run(*self.job, number, is_all)
         self.count, self.threes = self.count + end[4], self.threes + (end[0] == 3)
-        why = wrong(end, self.own, self.held)
+        why = wrong(end, self.own, self.held, self.is_told)
+        if end[0] == 3 and 1 < self.seconds < 10 * self.room.seconds:
+            why = f"status 3 after {self.room.seconds:.1f} seconds of a processor, where the run itself takes {self.seconds:.1f}"
         if why:
             self.found.append(f"{self.name}, allocation {number}{' and all after it' if is_all else ''}: {why}")
         return end[4]

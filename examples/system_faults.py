@@ -21,6 +21,7 @@ import sys
 import tempfile
 
 import model
+import power_cuts
 
 HERE = pathlib.Path(__file__).resolve().parent
 CYCLE = (HERE / "cycle.json").read_bytes()
@@ -141,8 +142,8 @@ def front(count):
 
 
 def injected(room):
-    if shutil.which("strace") is None:
-        return "strace is not installed: no faults injected"
+    if not power_cuts.can_trace():
+        return "no faults injected: strace is not installed, or may not trace here"
     first = model.audit([*room.chain, "--save", "2", "--budget", "5"], CYCLE, [None, None]).slots
     report = model.audit(room.chain, CYCLE, [None, None]).out
     fresh, resumed = [*room.chain, "--save", "2"], [*room.chain, "--save", "2", "--resume", "yes"]

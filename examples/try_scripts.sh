@@ -270,7 +270,7 @@ try_slots() {
     refuses_slots
 }
 
-# What no file of the repository can hold or make: inputs at the limits, refused memory, and a cut of power.
+# What no file of the repository can hold or make: inputs at the limits, refused memory, a cut of power, and a system that fails.
 try_outside() {
     python3 limits.py "$auditor" >"$room/told" 2>&1
     judge $? "limits.py: $(grep -m 1 WRONG "$room/told" || tail -n 1 "$room/told")"
@@ -289,6 +289,8 @@ try_outside() {
         else
             judge $ended "power_cuts.py: $(grep -m 1 WRONG "$room/told" || tail -n 1 "$room/told")"
         fi
+        python3 system_faults.py "$auditor" >"$room/told" 2>&1
+        judge $? "system_faults.py: $(grep -m 1 WRONG "$room/told" || tail -n 1 "$room/told")"
     else
         missing power_cuts.py strace
     fi
