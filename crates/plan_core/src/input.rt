@@ -107,6 +107,28 @@ impl Input {
         }
     }
 
+    // A copy of the graph and of what is counted in its units.
+    fn copy_map(&self) -> Result<(Graph, Counts), Memory>
+        ensures { IfOk result (λ m. (m.0 ≡ self.now.graph) × (m.1 ≡ self.now.counts)) }
+    {
+        let graph = self.graph.copy()?;
+        match self.counts.copy() {
+            Ok(counts) => Ok((graph, counts)),
+            Err(_) => Err(Memory),
+        }
+    }
+
+    // A copy of the setting and of the rules.
+    fn copy_words(&self) -> Result<(Setting, Rules), Memory>
+        ensures { IfOk result (λ w. (w.0 ≡ self.now.setting) × (w.1 ≡ rules self.now)) }
+    {
+        let setting = self.setting.copy()?;
+        match self.rules.copy() {
+            Ok(rules) => Ok((setting, rules)),
+            Err(_) => Err(Memory),
+        }
+    }
+
     /// The same with another plan to start from, of so many districts.
     pub fn restarted(&self, start: UnitList, districts: u32) -> Result<Input, Memory>
         requires start { GivesDistricts self.now.graph.units districts start }
@@ -114,13 +136,15 @@ impl Input {
         requires few { districts ≤ most_districts }
         ensures { IfOk result (λ input. input ≡ record self.now { start = start; districts = districts }) }
     {
+        let (graph, counts) = self.copy_map()?;
+        let (setting, rules) = self.copy_words()?;
         Ok(Input {
-            graph: self.graph.copy()?,
-            counts: self.counts.copy()?,
+            graph,
+            counts,
             start,
             districts,
-            setting: self.setting.copy()?,
-            rules: self.rules.copy()?,
+            setting,
+            rules,
             origin: self.origin,
             population: self.population,
             votes: self.votes,
