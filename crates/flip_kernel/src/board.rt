@@ -35,7 +35,6 @@ use std::sync::ledger::Ledger;
 
 /// A job's plan, which is legal for it, with its sums, the pairs that are open, what is counted of the faces in each
 /// district, and room for a search.
-#[derive(Drop)]
 pub struct Board {
     job: Snapshot<Job>,
     plan: UnitList,
@@ -47,6 +46,24 @@ pub struct Board {
     pairs: Pairs,
     low: u64,
     high: u64,
+}
+
+/// Written out, so that to let a board go is one call for the proof of whoever does so.
+impl Drop for Board {
+    fn drop(self) {
+        let Board {
+            job: _job,
+            plan: _plan,
+            sums: _sums,
+            marks: _marks,
+            faces: _faces,
+            counts: _counts,
+            openings: _openings,
+            pairs: _pairs,
+            low: _,
+            high: _,
+        } = self;
+    }
 }
 
 impl Model for Board {

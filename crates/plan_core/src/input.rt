@@ -30,7 +30,6 @@ use std::marker::Model;
 
 /// A graph with its counts, a plan to start from that need not be legal, a setting and the rules for plans,
 /// and where it comes from, where that is told.
-#[derive(Drop)]
 pub struct Input {
     graph: Graph,
     counts: Counts,
@@ -41,6 +40,23 @@ pub struct Input {
     origin: Option<Origin>,
     population: u64,
     votes: u64,
+}
+
+/// Written out, so that to let an input go is one call for the proof of whoever does so.
+impl Drop for Input {
+    fn drop(self) {
+        let Input {
+            graph: _graph,
+            counts: _counts,
+            start: _start,
+            districts: _,
+            setting: _setting,
+            rules: _rules,
+            origin: _,
+            population: _,
+            votes: _,
+        } = self;
+    }
 }
 
 impl Model for Input {
@@ -155,16 +171,27 @@ impl Input {
     pub fn with_origin(self, origin: Option<Origin>) -> Input
         ensures { result ≡ record self { origin = origin } }
     {
+        let Input {
+            graph,
+            counts,
+            start,
+            districts,
+            setting,
+            rules,
+            origin: _,
+            population,
+            votes,
+        } = self;
         Input {
-            graph: self.graph,
-            counts: self.counts,
-            start: self.start,
-            districts: self.districts,
-            setting: self.setting,
-            rules: self.rules,
+            graph,
+            counts,
+            start,
+            districts,
+            setting,
+            rules,
             origin,
-            population: self.population,
-            votes: self.votes,
+            population,
+            votes,
         }
     }
 
