@@ -3,7 +3,7 @@
 //! tell that a district has no hole, and then the neighbours linked through faces are all that matters. A search of the district
 //! comes last.
 //!
-//! `face`, `near`, `surroundings`, `peel` and `list` find faces, `rows` and `table` keep them by their units, `counts` follows a plan, `links` asks
+//! `face`, `near`, `peel` and `list` find faces, `rows` and `table` keep them by their units, `counts` follows a plan, `links` asks
 //! the neighbours of a unit, `parts` and `flood` search, and `leave` has the calls that decide.
 #![tactic(auto)]
 
@@ -20,7 +20,6 @@ pub mod near;
 mod parts;
 mod peel;
 mod rows;
-mod surroundings;
 pub mod table;
 
 pub use counts::FaceCounts;

@@ -6,7 +6,6 @@ ghost use Rattle.contig.specs.Faces.{AreFaces};
 use crate::face::Face;
 use crate::list::{FaceList, list_faces};
 use crate::peel::{Sides, peeled};
-use crate::surroundings::Surroundings;
 use audit_model::memory::Memory;
 use dual_graph::graph::Graph;
 use std::alloc::Global;
@@ -51,10 +50,9 @@ fn are_all(graph: &Graph, rings: usize) -> bool {
     rings.wrapping_add(graph.units() as usize) > graph.edges() as usize
 }
 
-/// Rings that can be faces, as they are found.
+/// Rings, as they are found.
 #[derive(Drop)]
 struct Rings {
-    around: Surroundings,
     rings: Vec<Face>,
     /// How many more ways to a ring of five are tried.
     ways: usize,
@@ -64,8 +62,6 @@ impl Rings {
     /// Adds the squares with these units in a row, where the fourth unit is greater than the first and not adjacent to it.
     fn add_squares(&mut self, graph: &Graph, a: u32, b: u32, d: u32) -> Result<(), Memory>
         requires units { (a < graph.now.units) × (b < graph.now.units) × (d < graph.now.units) }
-        requires around { self.old.around ≡ graph.now.units }
-        ensures { self.new.around ≡ graph.now.units }
     {
         for other in graph.neighbours(b) {
             let c = *other;
@@ -73,7 +69,6 @@ impl Rings {
                 && graph.neighbours(c).len() <= DEGREE
                 && graph.adjacent(c, d)
                 && !graph.adjacent(c, a)
-                && self.around.is_face(graph, &[a, b, c, d])
             {
                 self.rings.push(Face::Square(a, b, c, d))?;
             }
@@ -84,15 +79,13 @@ impl Rings {
     /// Adds the rings with a unit and two greater neighbours of it, one of them given.
     fn add_beside(&mut self, graph: &Graph, a: u32, b: u32) -> Result<(), Memory>
         requires units { (a < graph.now.units) × (b < graph.now.units) }
-        requires around { self.old.around ≡ graph.now.units }
-        ensures { self.new.around ≡ graph.now.units }
     {
         for other in graph.neighbours(a) {
             let d = *other;
             if d > b && graph.neighbours(d).len() <= DEGREE {
                 if !graph.adjacent(b, d) {
                     self.add_squares(graph, a, b, d)?;
-                } else if self.around.is_face(graph, &[a, b, d]) {
+                } else {
                     self.rings.push(Face::Triangle(a, b, d))?;
                 }
             }
@@ -103,8 +96,6 @@ impl Rings {
     /// Adds the rings of which a unit is the least.
     fn add_at(&mut self, graph: &Graph, a: u32) -> Result<(), Memory>
         requires unit { a < graph.now.units }
-        requires around { self.old.around ≡ graph.now.units }
-        ensures { self.new.around ≡ graph.now.units }
     {
         if graph.neighbours(a).len() <= DEGREE {
             for b in graph.neighbours(a) {
@@ -131,8 +122,6 @@ impl Rings {
         ring: (u32, u32, u32, u32),
     ) -> Result<(), Memory>
         requires units { (ring.0 < graph.now.units) × (ring.1 < graph.now.units) × (ring.2 < graph.now.units) × (ring.3 < graph.now.units) }
-        requires around { self.old.around ≡ graph.now.units }
-        ensures { self.new.around ≡ graph.now.units }
     {
         let (a, b, c, e) = ring;
         for other in graph.neighbours(c) {
@@ -143,7 +132,6 @@ impl Rings {
                 && !graph.adjacent(d, a)
                 && !graph.adjacent(d, b)
                 && sides.has_room(graph, d, e)
-                && self.around.is_face(graph, &[a, b, c, d, e])
             {
                 self.rings.push(Face::Pentagon(a, b, c, d, e))?;
             }
@@ -161,8 +149,6 @@ impl Rings {
         e: u32,
     ) -> Result<(), Memory>
         requires units { (a < graph.now.units) × (b < graph.now.units) × (e < graph.now.units) }
-        requires around { self.old.around ≡ graph.now.units }
-        ensures { self.new.around ≡ graph.now.units }
     {
         for other in graph.neighbours(b) {
             let c = *other;
@@ -190,8 +176,6 @@ impl Rings {
         b: u32,
     ) -> Result<(), Memory>
         requires units { (a < graph.now.units) × (b < graph.now.units) }
-        requires around { self.old.around ≡ graph.now.units }
-        ensures { self.new.around ≡ graph.now.units }
     {
         for other in graph.neighbours(a) {
             let e = *other;
@@ -205,8 +189,6 @@ impl Rings {
     /// Adds the pentagons of which a unit is the least.
     fn add_pentagons_at(&mut self, graph: &Graph, sides: &Sides, a: u32) -> Result<(), Memory>
         requires unit { a < graph.now.units }
-        requires around { self.old.around ≡ graph.now.units }
-        ensures { self.new.around ≡ graph.now.units }
     {
         if graph.neighbours(a).len() <= DEGREE {
             for b in graph.neighbours(a) {
@@ -218,11 +200,8 @@ impl Rings {
         Ok(())
     }
 
-    /// Adds the pentagons that can be faces and have no side without room.
-    fn add_pentagons(&mut self, graph: &Graph, sides: &Sides) -> Result<(), Memory>
-        requires { self.old.around ≡ graph.now.units }
-        ensures { self.new.around ≡ graph.now.units }
-    {
+    /// Adds the pentagons that have no side without room.
+    fn add_pentagons(&mut self, graph: &Graph, sides: &Sides) -> Result<(), Memory> {
         self.ways = (graph.units() as usize).wrapping_mul(WAYS);
         for a in 0..graph.units() {
             self.add_pentagons_at(graph, sides, a)?;
@@ -231,12 +210,9 @@ impl Rings {
     }
 }
 
-/// The triangles and squares of a graph that can be faces. Where they are too many, not all are there.
-fn rings_of(alloc: Global, graph: &Graph) -> Result<Rings, Memory>
-    ensures { IfOk result (λ r. r.around ≡ graph.now.units) }
-{
+/// The triangles and squares of a graph. Where they are too many, not all are there.
+fn rings_of(alloc: Global, graph: &Graph) -> Result<Rings, Memory> {
     let mut found = Rings {
-        around: Surroundings::new(alloc, graph)?,
         rings: Vec::new(alloc),
         ways: 0,
     };

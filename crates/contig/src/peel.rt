@@ -8,8 +8,12 @@ use audit_model::memory::Memory;
 use dual_graph::graph::Graph;
 use std::alloc::Global;
 
-/// No ring has more sides.
-const MOST_SIDES: u8 = 5;
+/// A crowded side counts as so many neighbours.
+const CROWDED: usize = 4;
+
+/// How many classes of rings there are: a pentagon whose units have 32 neighbours each and whose sides are crowded has
+/// the first.
+const CLASSES: usize = 181;
 
 /// For each side how many of the rings that are left have it, and the exclusive or of their numbers.
 #[derive(Drop)]
@@ -160,7 +164,7 @@ impl Sides {
 }
 
 /// The rings that are taken off while one has a side alone, the last first, each begun with that side. Where none has,
-/// one is dropped: a face has its sides with one other at most, so first those with the most sides that more rings have.
+/// one is dropped: a face has its sides with one other at most, and has neighbours on one side.
 pub fn peeled(alloc: Global, graph: &Graph, rings: &[Face]) -> Result<Vec<Face>, Memory> {
     let mut sides = Sides::of(alloc, graph, rings)?;
     let order = drop_order(alloc, graph, &sides, rings)?;
@@ -175,26 +179,71 @@ pub fn peeled(alloc: Global, graph: &Graph, rings: &[Face]) -> Result<Vec<Face>,
     Ok(kept)
 }
 
-/// The numbers of the rings, those with the most crowded sides first.
+/// The numbers of the rings in the order of their classes.
 fn drop_order(
     alloc: Global,
     graph: &Graph,
     sides: &Sides,
     rings: &[Face],
 ) -> Result<Vec<usize>, Memory> {
-    let mut order = Vec::with_capacity(alloc, rings.len())?;
-    let mut crowds = Vec::with_capacity(alloc, rings.len())?;
+    let mut classes = Vec::with_capacity(alloc, rings.len())?;
+    let mut places: Vec<usize> = vec![in alloc; 0; CLASSES]?;
     for ring in rings {
-        crowds.push(sides.crowded(graph, *ring))?;
+        let class = class_of(graph, sides, *ring);
+        places[class] = places[class].wrapping_add(1);
+        classes.push(class)?;
     }
-    for fewer in 0..MOST_SIDES + 1 {
-        for number in 0..crowds.len() {
-            if crowds[number] == MOST_SIDES - fewer {
-                order.push(number)?;
-            }
-        }
+    begin_classes(&mut places);
+    let mut order: Vec<usize> = vec![in alloc; 0; rings.len()]?;
+    for number in 0..classes.len() {
+        put(&mut order, &mut places, classes[number], number);
     }
     Ok(order)
+}
+
+/// The class of a ring: the more neighbours its units have and the more of its sides are crowded, the sooner it comes. A
+/// ring round other units has neighbours on both of its sides, a face has them on one. And of four units that are all
+/// adjacent to one another, the one with the fewest neighbours is rarely apart from the other three, so that the ring of
+/// these three is missed the least.
+fn class_of(graph: &Graph, sides: &Sides, ring: Face) -> usize
+    ensures { result < 181 }
+{
+    let crowded = CROWDED.wrapping_mul(sides.crowded(graph, ring) as usize);
+    let weight = neighbours_of(graph, ring).saturating_add(crowded);
+    (CLASSES - 1).saturating_sub(weight)
+}
+
+/// How many neighbours the units of a ring have, taken together.
+fn neighbours_of(graph: &Graph, ring: Face) -> usize {
+    let mut all = 0usize;
+    let mut turn = ring;
+    for _ in 0..length_of(ring) {
+        let (unit, _) = first_two(turn);
+        if unit < graph.units() {
+            all = all.wrapping_add(graph.neighbours(unit).len());
+        }
+        turn = turn.turned();
+    }
+    all
+}
+
+/// Makes of how many there are in each class the place at which it begins.
+fn begin_classes(places: &mut [usize]) {
+    let mut end = 0usize;
+    for class in 0..places.len() {
+        let count = places[class];
+        places[class] = end;
+        end = end.wrapping_add(count);
+    }
+}
+
+/// Puts a number at the place of its class, which moves on.
+fn put(order: &mut [usize], places: &mut [usize], class: usize, number: usize) {
+    if class < places.len() && places[class] < order.len() {
+        let place = places[class];
+        order[place] = number;
+        places[class] = place.wrapping_add(1);
+    }
 }
 
 /// The number of the first side of each unit, and behind them that of all.
