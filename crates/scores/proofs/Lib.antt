@@ -1,3 +1,4 @@
 pub mod Below
+pub mod Few
 pub mod Ranked
 pub mod Shares

@@ -20,11 +20,7 @@ pub fn value(score: Score, sums: &SumsView, room: &mut [u64]) -> i64
 {
     match score {
         Score::Seats => i64::from(seats(sums)),
-        Score::MeanMedian => {
-            let shares = &mut room[..sums.first.len()];
-            write_shares(sums, shares);
-            mean_median(shares)
-        }
+        Score::MeanMedian => median_less_mean(sums, room),
         Score::Gap => efficiency_gap(sums),
         Score::CutEdges => i64::from(sums.cut),
     }
@@ -81,6 +77,20 @@ fn efficiency_gap(sums: &SumsView) -> i64
         }
     }
     second_wasted as i64 - first_wasted as i64
+}
+
+/// The median share less the mean share, times twice the number of districts. Of one district or two it needs no share.
+fn median_less_mean(sums: &SumsView, room: &mut [u64]) -> i64
+    requires votes { AreVotes sums.now.first sums.now.second }
+    requires room { length sums.now.first ≤ length room.old }
+    ensures { result ≡ definition.mean_median (definition.shares sums.now) }
+{
+    if sums.first.len() <= 2 {
+        return 0;
+    }
+    let shares = &mut room[..sums.first.len()];
+    write_shares(sums, shares);
+    mean_median(shares)
 }
 
 /// Writes the first party's share in each district.
