@@ -195,9 +195,9 @@ put_in plan u d x v l other = elim (cases_eq v u) [
 pub put_there : (plan : List ℕ) (u d : ℕ) → u < length plan → in_district (set plan u d) d u ≡ true
 put_there plan u d l = eq-eqb (get_or (set plan u d) u 0) d (get_or-set_same plan u d 0 l)
 
--- for every other unit before the end the two tests agree
-pub tests_between : (plan : List ℕ) (end u x v : ℕ) → v < end → (v ≡ u → ⊥) → is_before plan end x v ≡ between plan u x v
-tests_between plan end u x v l off = before_all plan end x v l ∙ sym (between_other plan u x v off)
+-- for every other unit the two tests agree
+pub tests_between : (plan : List ℕ) (u x v : ℕ) → (v ≡ u → ⊥) → in_district plan x v ≡ between plan u x v
+tests_between plan u x v off = sym (between_other plan u x v off)
 
 -- a list of zeros has a zero at each place
 pub zeros_at : (n d : ℕ) → get_or (replicate {A = ℕ} n 0) d 0 ≡ 0

@@ -1,11 +1,14 @@
 //! What is counted in each district, as its units move.
 
-ghost use Rattle.std.specs.Prelude.{◌≡◌, ◌≢◌, ℕ, ◌+◌, ◌-◌, ◌<◌, ◌≤◌, ◌↔◌, length, replicate, slice_index, slice_set, count_by, IsTrue, IfOk};
-ghost use Rattle.contig.specs.Corners.{is_filled, corners_at};
+ghost use Rattle.std.specs.Prelude.{◌≡◌, ◌≢◌, ℕ, ◌+◌, ◌-◌, ◌<◌, ◌≤◌, ◌↔◌, ◌^◌, cond, [], length, replicate, slice_index, slice_set, count_by, IsTrue, IfOk};
+ghost use Rattle.std.specs.List.{slice_index_or};
+ghost use Rattle.audit_model.specs.District.{in_district};
+ghost use Rattle.contig.specs.Corners.{IsOnRow, is_filled, corners_at, units_of};
 ghost use Rattle.contig.specs.Counts.{AreCounts, HasNoHole, is_before};
 ghost use Rattle.contig.specs.Faces.{count_mates};
 ghost use Rattle.audit_model.specs.Limits.{most_edges};
 
+use crate::corner::Corner;
 use crate::table::FaceTable;
 use audit_model::memory::Memory;
 use dual_graph::graph::Graph;
@@ -127,21 +130,16 @@ impl FaceCounts {
         requires counts { AreCounts leaving.graph.now table.now.faces (length self.old.edges) leaving.plan.now self.old }
         ensures { AreCounts leaving.entry.graph.now table.now.faces (length self.old.edges) (slice_set leaving.entry.plan.now leaving.entry.unit district) self.new }
     {
-        let units = leaving.graph.units();
-        // Called for what their contracts say: the graph has at most 400,000 edges, and the table's faces are the graph's, and few.
+        // Called for what their contracts say: the graph is sound, with at most 100,000 units and 400,000 edges, and the table's faces are
+        // the graph's, and few.
+        let _units = leaving.graph.units();
         let _edges = leaving.graph.edges();
-        let _units = table.units();
+        let _faces = table.units();
         let home = leaving.plan[leaving.unit as usize];
-        self.lower(
-            home,
-            mates_in(leaving, home, units),
-            corners_in(leaving, table, home, units),
-        );
-        self.raise(
-            district,
-            mates_in(leaving, district, units),
-            corners_in(leaving, table, district, units),
-        );
+        let mates = mates_of(leaving, home, district);
+        let corners = corners_of(leaving, table, home, district);
+        self.lower(home, mates.0, corners.0);
+        self.raise(district, mates.1, corners.1);
     }
 
     /// Whether a district's counts say that it has no hole.
@@ -196,4 +194,60 @@ fn corners_in(member: Member, table: &FaceTable, district: u32, end: u32) -> u64
         }
     }
     count
+}
+
+/// How many neighbours of a unit are in one district, and how many in another.
+#[inline]
+fn mates_of(member: Member, one: u32, other: u32) -> (u64, u64)
+    ensures one { result.0 ≡ count_mates member.entry.graph.now (in_district member.entry.plan.now one) member.entry.unit }
+    ensures other { result.1 ≡ count_mates member.entry.graph.now (in_district member.entry.plan.now other) member.entry.unit }
+{
+    let plan = member.plan;
+    let mut in_one = 0;
+    let mut in_other = 0;
+    for neighbour in member.graph.neighbours(member.unit) {
+        let district = plan[*neighbour as usize];
+        in_one = with_one(in_one, district == one);
+        in_other = with_one(in_other, district == other);
+    }
+    (in_one, in_other)
+}
+
+/// How many faces at a unit have all their other units in one district, and how many in another.
+#[inline]
+fn corners_of(member: Member, table: &FaceTable, one: u32, other: u32) -> (u64, u64)
+    requires { table.now.graph ≡ member.graph.now }
+    ensures one { result.0 ≡ count_by (is_filled (in_district member.entry.plan.now one)) (corners_at member.entry.unit table.now.faces) }
+    ensures other { result.1 ≡ count_by (is_filled (in_district member.entry.plan.now other)) (corners_at member.entry.unit table.now.faces) }
+{
+    let mut in_one = 0;
+    let mut in_other = 0;
+    for corner in table.at(member.unit) {
+        in_one = with_one(in_one, is_inside(member, *corner, one));
+        in_other = with_one(in_other, is_inside(member, *corner, other));
+    }
+    (in_one, in_other)
+}
+
+/// Whether the other units of a face at a unit are all in a district.
+#[inline]
+fn is_inside(member: Member, corner: Corner, district: u32) -> bool
+    requires { IsOnRow member.graph.now (slice_index_or member.graph.now.neighbours member.unit []) corner }
+    ensures { result ≡ is_filled (in_district member.entry.plan.now district) (units_of (slice_index_or member.entry.graph.now.neighbours member.entry.unit []) corner) }
+{
+    let plan = member.plan;
+    let row = member.graph.neighbours(member.unit);
+    plan[row[corner.one as usize] as usize] == district
+        && plan[row[corner.other as usize] as usize] == district
+        && plan[corner.far as usize] == district
+        && plan[corner.further as usize] == district
+}
+
+/// The count with one more where something counts.
+#[inline]
+fn with_one(count: u64, counts: bool) -> u64
+    requires few { count < 2 ^ 63 }
+    ensures { result ≡ count + cond counts 1 0 }
+{
+    if counts { count + 1 } else { count }
 }

@@ -3,9 +3,9 @@ use Rattle.audit_model.specs.Graph.{Graph}
 use Rattle.audit_model.specs.District.{in_district}
 use Rattle.std.proofs.lemmas.Bool.{eq-eqb}
 use Rattle.contig.specs.Faces.{AreFaces}
-use Rattle.contig.specs.Counts.{AreCountsOf, is_before}
+use Rattle.contig.specs.Counts.{AreCountsOf}
 use Rattle.contig.proofs.Changing.{edges_few, filled_few}
-use Rattle.contig.proofs.Raising.{raised, raised_edges, raised_filled, lowered, lowered_edges, lowered_filled, between, between_itself, left_out, put_in, put_there, tests_between, before_all}
+use Rattle.contig.proofs.Raising.{raised, raised_edges, raised_filled, lowered, lowered_edges, lowered_filled, between, between_itself, left_out, put_in, put_there, tests_between}
 use Rattle.contig.proofs.counts.FaceCounts.follow.Goals as goal
 
 pub lower-requires-clause-edges : goal.lower-requires-clause-edges
@@ -16,11 +16,11 @@ lower-requires-clause-edges c =
     let home : ℕ = get_or plan u 0 in
     let n : ℕ = length c.args.self.now.edges in
     let faces = c.args.table.now.faces in
-    let are : AreFaces g faces = subst (λ (t : Graph). AreFaces t c.args.table.now.faces) c.requires.made c.units-units-2.ensures.faces in
+    let are : AreFaces g faces = subst (λ (t : Graph). AreFaces t c.args.table.now.faces) c.requires.made c.units-faces.ensures.faces in
     let sum = lowered_edges g c.units-units.ensures.sound faces are
-    (in_district plan) (between plan u) home u n c.mates_in.result c.corners_in.result (is_before plan c.units-units.result home) c.args.self.now c.args.leaving.within c.requires.home
-    (λ x v l other. left_out plan u x v other) (λ v l off. before_all plan c.units-units.result home v (subst (λ t. v < t) (sym c.units-units.ensures.units) l))
-    c.mates_in.ensures c.corners_in.ensures c.requires.counts (eq-eqb home home refl) (between_itself plan u home) in
+    (in_district plan) (between plan u) home u n c.mates_of-mates.result.0 c.corners_of-corners.result.0 (in_district plan home) c.args.self.now c.args.leaving.within c.requires.home
+    (λ x v l other. left_out plan u x v other) (λ v l off. refl)
+    c.mates_of-mates.ensures.one c.corners_of-corners.ensures.one c.requires.counts (eq-eqb home home refl) (between_itself plan u home) in
     omega (arith, sum)
 
 pub lower-requires-clause-filled : goal.lower-requires-clause-filled
@@ -31,11 +31,11 @@ lower-requires-clause-filled c =
     let home : ℕ = get_or plan u 0 in
     let n : ℕ = length c.args.self.now.edges in
     let faces = c.args.table.now.faces in
-    let are : AreFaces g faces = subst (λ (t : Graph). AreFaces t c.args.table.now.faces) c.requires.made c.units-units-2.ensures.faces in
+    let are : AreFaces g faces = subst (λ (t : Graph). AreFaces t c.args.table.now.faces) c.requires.made c.units-faces.ensures.faces in
     let sum = lowered_filled g c.units-units.ensures.sound faces are
-    (in_district plan) (between plan u) home u n c.mates_in.result c.corners_in.result (is_before plan c.units-units.result home) c.args.self.now c.args.leaving.within c.requires.home
-    (λ x v l other. left_out plan u x v other) (λ v l off. before_all plan c.units-units.result home v (subst (λ t. v < t) (sym c.units-units.ensures.units) l))
-    c.mates_in.ensures c.corners_in.ensures c.requires.counts (eq-eqb home home refl) (between_itself plan u home) in
+    (in_district plan) (between plan u) home u n c.mates_of-mates.result.0 c.corners_of-corners.result.0 (in_district plan home) c.args.self.now c.args.leaving.within c.requires.home
+    (λ x v l other. left_out plan u x v other) (λ v l off. refl)
+    c.mates_of-mates.ensures.one c.corners_of-corners.ensures.one c.requires.counts (eq-eqb home home refl) (between_itself plan u home) in
     omega (arith, sum)
 
 pub raise-requires-clause-edges : goal.raise-requires-clause-edges
@@ -46,18 +46,18 @@ raise-requires-clause-edges c =
     let home : ℕ = get_or plan u 0 in
     let n : ℕ = length c.args.self.now.edges in
     let faces = c.args.table.now.faces in
-    let are : AreFaces g faces = subst (λ (t : Graph). AreFaces t c.args.table.now.faces) c.requires.made c.units-units-2.ensures.faces in
+    let are : AreFaces g faces = subst (λ (t : Graph). AreFaces t c.args.table.now.faces) c.requires.made c.units-faces.ensures.faces in
     let between_counts : AreCountsOf g faces (between plan u) n c.lower.new.self = lowered g c.units-units.ensures.sound faces are
-    (in_district plan) (between plan u) home u n c.mates_in.result c.corners_in.result (is_before plan c.units-units.result home) c.args.self.now c.args.leaving.within c.requires.home
-    (λ x v l other. left_out plan u x v other) (λ v l off. before_all plan c.units-units.result home v (subst (λ t. v < t) (sym c.units-units.ensures.units) l))
-    c.mates_in.ensures c.corners_in.ensures c.requires.counts (eq-eqb home home refl) (between_itself plan u home) c.lower.new.self c.lower.ensures.edges c.lower.ensures.filled in
+    (in_district plan) (between plan u) home u n c.mates_of-mates.result.0 c.corners_of-corners.result.0 (in_district plan home) c.args.self.now c.args.leaving.within c.requires.home
+    (λ x v l other. left_out plan u x v other) (λ v l off. refl)
+    c.mates_of-mates.ensures.one c.corners_of-corners.ensures.one c.requires.counts (eq-eqb home home refl) (between_itself plan u home) c.lower.new.self c.lower.ensures.edges c.lower.ensures.filled in
     let inside : u < length plan = subst (λ t. u < t) (sym c.args.leaving.complete) c.args.leaving.within in
     let sum = raised_edges g c.units-units.ensures.sound faces are
-    (between plan u) (in_district (set plan u c.args.district)) c.args.district u n c.mates_in-2.result c.corners_in-2.result (is_before plan c.units-units.result c.args.district)
+    (between plan u) (in_district (set plan u c.args.district)) c.args.district u n c.mates_of-mates.result.1 c.corners_of-corners.result.1 (in_district plan c.args.district)
     c.lower.new.self c.args.leaving.within c.requires.district
     (λ x v l other. put_in plan u c.args.district x v inside other)
-    (λ v l off. tests_between plan c.units-units.result u c.args.district v (subst (λ t. v < t) (sym c.units-units.ensures.units) l) off)
-    c.mates_in-2.ensures c.corners_in-2.ensures between_counts (put_there plan u c.args.district inside) (between_itself plan u c.args.district) in
+    (λ v l off. tests_between plan u c.args.district v off)
+    c.mates_of-mates.ensures.other c.corners_of-corners.ensures.other between_counts (put_there plan u c.args.district inside) (between_itself plan u c.args.district) in
     omega (arith, sum, edges_few g (in_district (set plan u c.args.district) c.args.district), c.edges-edges.ensures.few)
 
 pub raise-requires-clause-filled : goal.raise-requires-clause-filled
@@ -68,19 +68,19 @@ raise-requires-clause-filled c =
     let home : ℕ = get_or plan u 0 in
     let n : ℕ = length c.args.self.now.edges in
     let faces = c.args.table.now.faces in
-    let are : AreFaces g faces = subst (λ (t : Graph). AreFaces t c.args.table.now.faces) c.requires.made c.units-units-2.ensures.faces in
+    let are : AreFaces g faces = subst (λ (t : Graph). AreFaces t c.args.table.now.faces) c.requires.made c.units-faces.ensures.faces in
     let between_counts : AreCountsOf g faces (between plan u) n c.lower.new.self = lowered g c.units-units.ensures.sound faces are
-    (in_district plan) (between plan u) home u n c.mates_in.result c.corners_in.result (is_before plan c.units-units.result home) c.args.self.now c.args.leaving.within c.requires.home
-    (λ x v l other. left_out plan u x v other) (λ v l off. before_all plan c.units-units.result home v (subst (λ t. v < t) (sym c.units-units.ensures.units) l))
-    c.mates_in.ensures c.corners_in.ensures c.requires.counts (eq-eqb home home refl) (between_itself plan u home) c.lower.new.self c.lower.ensures.edges c.lower.ensures.filled in
+    (in_district plan) (between plan u) home u n c.mates_of-mates.result.0 c.corners_of-corners.result.0 (in_district plan home) c.args.self.now c.args.leaving.within c.requires.home
+    (λ x v l other. left_out plan u x v other) (λ v l off. refl)
+    c.mates_of-mates.ensures.one c.corners_of-corners.ensures.one c.requires.counts (eq-eqb home home refl) (between_itself plan u home) c.lower.new.self c.lower.ensures.edges c.lower.ensures.filled in
     let inside : u < length plan = subst (λ t. u < t) (sym c.args.leaving.complete) c.args.leaving.within in
     let sum = raised_filled g c.units-units.ensures.sound faces are
-    (between plan u) (in_district (set plan u c.args.district)) c.args.district u n c.mates_in-2.result c.corners_in-2.result (is_before plan c.units-units.result c.args.district)
+    (between plan u) (in_district (set plan u c.args.district)) c.args.district u n c.mates_of-mates.result.1 c.corners_of-corners.result.1 (in_district plan c.args.district)
     c.lower.new.self c.args.leaving.within c.requires.district
     (λ x v l other. put_in plan u c.args.district x v inside other)
-    (λ v l off. tests_between plan c.units-units.result u c.args.district v (subst (λ t. v < t) (sym c.units-units.ensures.units) l) off)
-    c.mates_in-2.ensures c.corners_in-2.ensures between_counts (put_there plan u c.args.district inside) (between_itself plan u c.args.district) in
-    omega (arith, sum, filled_few g (in_district (set plan u c.args.district) c.args.district) faces, c.units-units-2.ensures.few, c.units-units.ensures.few)
+    (λ v l off. tests_between plan u c.args.district v off)
+    c.mates_of-mates.ensures.other c.corners_of-corners.ensures.other between_counts (put_there plan u c.args.district inside) (between_itself plan u c.args.district) in
+    omega (arith, sum, filled_few g (in_district (set plan u c.args.district) c.args.district) faces, c.units-faces.ensures.few, c.units-units.ensures.few)
 
 pub returns : goal.returns
 returns c =
@@ -90,15 +90,15 @@ returns c =
     let home : ℕ = get_or plan u 0 in
     let n : ℕ = length c.args.self.now.edges in
     let faces = c.args.table.now.faces in
-    let are : AreFaces g faces = subst (λ (t : Graph). AreFaces t c.args.table.now.faces) c.requires.made c.units-units-2.ensures.faces in
+    let are : AreFaces g faces = subst (λ (t : Graph). AreFaces t c.args.table.now.faces) c.requires.made c.units-faces.ensures.faces in
     let between_counts : AreCountsOf g faces (between plan u) n c.lower.new.self = lowered g c.units-units.ensures.sound faces are
-    (in_district plan) (between plan u) home u n c.mates_in.result c.corners_in.result (is_before plan c.units-units.result home) c.args.self.now c.args.leaving.within c.requires.home
-    (λ x v l other. left_out plan u x v other) (λ v l off. before_all plan c.units-units.result home v (subst (λ t. v < t) (sym c.units-units.ensures.units) l))
-    c.mates_in.ensures c.corners_in.ensures c.requires.counts (eq-eqb home home refl) (between_itself plan u home) c.lower.new.self c.lower.ensures.edges c.lower.ensures.filled in
+    (in_district plan) (between plan u) home u n c.mates_of-mates.result.0 c.corners_of-corners.result.0 (in_district plan home) c.args.self.now c.args.leaving.within c.requires.home
+    (λ x v l other. left_out plan u x v other) (λ v l off. refl)
+    c.mates_of-mates.ensures.one c.corners_of-corners.ensures.one c.requires.counts (eq-eqb home home refl) (between_itself plan u home) c.lower.new.self c.lower.ensures.edges c.lower.ensures.filled in
     let inside : u < length plan = subst (λ t. u < t) (sym c.args.leaving.complete) c.args.leaving.within in
     raised g c.units-units.ensures.sound faces are
-    (between plan u) (in_district (set plan u c.args.district)) c.args.district u n c.mates_in-2.result c.corners_in-2.result (is_before plan c.units-units.result c.args.district)
+    (between plan u) (in_district (set plan u c.args.district)) c.args.district u n c.mates_of-mates.result.1 c.corners_of-corners.result.1 (in_district plan c.args.district)
     c.lower.new.self c.args.leaving.within c.requires.district
     (λ x v l other. put_in plan u c.args.district x v inside other)
-    (λ v l off. tests_between plan c.units-units.result u c.args.district v (subst (λ t. v < t) (sym c.units-units.ensures.units) l) off)
-    c.mates_in-2.ensures c.corners_in-2.ensures between_counts (put_there plan u c.args.district inside) (between_itself plan u c.args.district) c.raise.new.self c.raise.ensures.edges c.raise.ensures.filled
+    (λ v l off. tests_between plan u c.args.district v off)
+    c.mates_of-mates.ensures.other c.corners_of-corners.ensures.other between_counts (put_there plan u c.args.district inside) (between_itself plan u c.args.district) c.raise.new.self c.raise.ensures.edges c.raise.ensures.filled
