@@ -1,16 +1,18 @@
 """Takes inputs that are as great as they may be, and others that are one greater: the first are accepted, the others refused by their note. And
 makes a run of three million steps on 100,000 units in 5000 regions, with rules on regions and a group, of which about every second moves one: with a
 look at all units at each move it would not end in time. So is a parallel test of 100,000 ends that stops at the last of them: with a look at all
-ends for each end it would not end in time.
+ends for each end it would not end in time. And a run of a million steps in 5000 regions takes hardly more of a processor than the same run in five:
+with a look at all regions at each move it would take many times as much.
 
 Usage: python3 limits.py PROGRAM
        python3 limits.py walk
-What each must print follows from how it is built; how many steps of the run move is what the second prints, by a plain loop over the draws.
+What each must print follows from how it is built; how many steps of the runs move is what the second prints, by a plain loop over the draws.
 Prints one line, and one for each input that is not so; ends with 1 where there is one.
 """
 import json
 import os
 import pathlib
+import resource
 import subprocess
 import sys
 
@@ -23,6 +25,9 @@ KEY = "0" * 64
 STEPS, UNITS, ENDS = 3000000, 100000, 100000
 MOVES = 1500103
 SECONDS = 60
+# Runs that are alike but for the number of regions: how many steps, units and moves, how often each is made, and how many times the time of the one
+# in few regions the other may take.
+FEW_STEPS, FEW_UNITS, FEW_MOVES, TRIES, MOST_TIMES = 1000000, 10000, 499203, 3, 3
 
 
 # ---- the inputs
@@ -49,19 +54,20 @@ def dense(edges, units=895):
     return graph([node(at, at * 2 // units) for at in range(units)], adjacency)
 
 
-def two_hubs():
+def two_hubs(units=UNITS):
     """Two units that are neighbours, each in a district of its own, and others, each of which has these two as its neighbours, by turns in one
-    district and in the other. Each of the others may change its district at any time, and the first two never may."""
-    adjacency = [[{"id": 1}], [], *[[{"id": 0}, {"id": 1}]] * (UNITS - 2)]
-    return graph([node(at, at % 2, at * 5000 // UNITS) for at in range(UNITS)], adjacency)
+    district and in the other. Each of the others may change its district at any time, and the first two never may. One column has 5000 regions,
+    another five."""
+    adjacency = [[{"id": 1}], [], *[[{"id": 0}, {"id": 1}]] * (units - 2)]
+    return graph([{**node(at, at % 2, at * 5000 // units), "few": at * 5 // units} for at in range(units)], adjacency)
 
 
-def moves():
-    """How many steps of the run on this graph move a unit."""
-    plan, moved = [at % 2 for at in range(UNITS)], 0
-    for draw in model.draws(bytes.fromhex(KEY), 0, STEPS):
-        unit, district = divmod(draw % (2 * UNITS), 2)
-        if draw < 2 ** 64 // (2 * UNITS) * (2 * UNITS) and unit > 1 and plan[unit] != district:
+def moves(units, steps):
+    """How many steps of a run on this graph move a unit."""
+    plan, moved = [at % 2 for at in range(units)], 0
+    for draw in model.draws(bytes.fromhex(KEY), 0, steps):
+        unit, district = divmod(draw % (2 * units), 2)
+        if draw < 2 ** 64 // (2 * units) * (2 * units) and unit > 1 and plan[unit] != district:
             plan[unit], moved = district, moved + 1
     return moved
 
@@ -76,10 +82,10 @@ def refused(note):
     return 2, "", f"graph: {note}\n"
 
 
-def walked():
-    head = (f"district-audit 1\nkey {KEY}\nunits {UNITS} edges {2 * UNITS - 3} districts 2\npopulation {UNITS} slack 10000 low 0 high {UNITS}\n"
-            f"max-split 2 regions 5000\nmax-splits 5000 max-split-regions 5000\ngroup-districts 2 of 2\nwalks 1 steps {STEPS} ends 0 hub-steps 1000\n")
-    line = f"walk 0 moved {MOVES} cut-edges low start {UNITS - 1}/1 count {STEPS + 1} of {STEPS + 1} bound 1.414213563\n"
+def walked(units=UNITS, regions=5000, steps=STEPS, moved=MOVES):
+    head = (f"district-audit 1\nkey {KEY}\nunits {units} edges {2 * units - 3} districts 2\npopulation {units} slack 10000 low 0 high {units}\n"
+            f"max-split 2 regions {regions}\nmax-splits 5000 max-split-regions 5000\ngroup-districts 2 of 2\nwalks 1 steps {steps} ends 0 hub-steps 1000\n")
+    line = f"walk 0 moved {moved} cut-edges low start {units - 1}/1 count {steps + 1} of {steps + 1} bound 1.414213563\n"
     return 0, head + line + "end\n", ""
 
 
@@ -122,8 +128,13 @@ def cases():
     yield "100000 ends", ["run", *COLUMNS, "5000", "--key", KEY, "--walks", "0", "--steps", "1", "--ends", str(ENDS), "--hub-steps", "1", "--ask",
                           "seats:low,mean-median:high,gap:low,cut-edges:high", "--stop", str(ENDS), "--workers", "2"], \
         graph([{"id": at, "pop": 1, "a": 1 - at, "b": at, "d": at + 1} for at in range(2)], [[{"id": 1}], [{"id": 0}]]), stopped()
-    yield "three million steps", ["run", *COLUMNS, "10000", "--key", KEY, "--steps", str(STEPS), "--ask", "cut-edges:low", "--region", "r",
-                              "--max-split", "2", "--max-splits", "5000", "--group", "a", "--group-of", "b", "--group-districts", "2"], two_hubs(), walked()
+    yield "three million steps", walk("r", STEPS), two_hubs(), walked()
+
+
+def walk(region, steps):
+    """The words of a run by all rules whose regions are those of this column."""
+    return ["run", *COLUMNS, "10000", "--key", KEY, "--steps", str(steps), "--ask", "cut-edges:low", "--region", region, "--max-split", "2",
+            "--max-splits", "5000", "--group", "a", "--group-of", "b", "--group-districts", "2"]
 
 
 def ended(program, words, given):
@@ -134,17 +145,34 @@ def ended(program, words, given):
     return end.returncode, end.stdout.decode(), end.stderr.decode()
 
 
+def times(program):
+    """How many times the time of a run in few regions one in 5000 takes, of a processor and not by the clock; and what they end with that is wrong.
+    Each is made several times, by turns, and the least time of each counts, since others may use the processor beside it."""
+    given, least = two_hubs(FEW_UNITS), {}
+    for region, regions in [("few", 5), ("r", 5000)] * TRIES:
+        before = resource.getrusage(resource.RUSAGE_CHILDREN).ru_utime
+        found = ended(program, walk(region, FEW_STEPS), given)
+        least[region] = min(least.get(region, SECONDS), resource.getrusage(resource.RUSAGE_CHILDREN).ru_utime - before)
+        if found != walked(FEW_UNITS, regions, FEW_STEPS, FEW_MOVES):
+            return 0, f"a million steps in {regions} regions: {str(found)[:300]}"
+    return least["r"] / least["few"], None
+
+
 def main(program):
     if program == "walk":
-        print(moves())
+        print(moves(UNITS, STEPS), moves(FEW_UNITS, FEW_STEPS))
         return 0
-    count, wrong = 0, 0
+    count, wrong, program = 0, 0, os.path.abspath(program)
     for name, words, given, wanted in cases():
-        found, count = ended(os.path.abspath(program), words, given), count + 1
+        found, count = ended(program, words, given), count + 1
         if found != wanted:
             print(f"WRONG: {name}: {str(found)[:300]} and not {str(wanted)[:300]}")
             wrong += 1
-    print(f"{count} inputs at the limits, {wrong} not as they have to be")
+    more, told = times(program)
+    if told or more > MOST_TIMES:
+        print(f"WRONG: {told or f'a run in 5000 regions takes {more:.1f} times the time of one in five, and not at most {MOST_TIMES}'}")
+        wrong += 1
+    print(f"{count + 1} inputs at the limits, {wrong} not as they have to be")
     return 1 if wrong else 0
 
 
