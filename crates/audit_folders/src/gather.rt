@@ -101,39 +101,73 @@ fn ended_of(why: Ungathered) -> Ended {
     }
 }
 
-// Tells how far each folder and the job are, and saves nothing.
-fn look_at(
-    rt: &HostRuntime,
-    job: &Job,
-    folders: &[String],
-    keepers: &mut [FolderKeeper<'_>],
-) -> ExitCode
+// Looks at the folders, and saves nothing.
+fn look(rt: &HostRuntime, job: &Job, keepers: &mut [FolderKeeper<'_>]) -> Result<Told, Ungathered>
     requires { total job.now ≤ most_trajectories }
 {
     let mut own = FolderKeeper::new(rt, rt.alloc(), ".", false);
-    match gather(rt.alloc(), &mut own, keepers, job, false) {
-        Ok(told) => end_shown(rt, &show_all(rt, job, folders, keepers, &told), 0),
-        Err(why) => end_told(rt, &ended_of(why)),
-    }
+    gather(rt.alloc(), &mut own, keepers, job, false)
 }
 
-// Gathers, or tells why not.
-fn gather_told(
+// Gathers into the slots of the working folder.
+fn gather_here(
+    rt: &HostRuntime,
+    job: &Job,
+    keepers: &mut [FolderKeeper<'_>],
+) -> Result<Told, Ungathered>
+    requires { total job.now ≤ most_trajectories }
+{
+    let mut own = FileKeeper::new(rt);
+    gather(rt.alloc(), &mut own, keepers, job, true)
+}
+
+// Tells how far each folder and the job are, or for which nothing was saved that was to be.
+fn show_told(
+    rt: &HostRuntime,
+    job: &Job,
+    folders: &[String],
+    keepers: &[FolderKeeper<'_>],
+    told: &Told,
+    looks: bool,
+) -> ExitCode {
+    if looks || told.saved {
+        return end_shown(rt, show_all(rt, job, folders, keepers, told), 0);
+    }
+    end_shown(rt, refuse_all(rt, job, folders, keepers, told), REFUSED)
+}
+
+// Looks at the folders, or gathers them.
+fn look_or_gather(
+    rt: &HostRuntime,
+    job: &Job,
+    keepers: &mut [FolderKeeper<'_>],
+    looks: bool,
+) -> Result<Told, Ungathered>
+    requires { total job.now ≤ most_trajectories }
+{
+    if looks {
+        return look(rt, job, keepers);
+    }
+    gather_here(rt, job, keepers)
+}
+
+// The same, and tells what was found, or why nothing was.
+fn end_gathered(
     rt: &HostRuntime,
     job: &Job,
     folders: &[String],
     keepers: &mut [FolderKeeper<'_>],
+    looks: bool,
 ) -> ExitCode
     requires { total job.now ≤ most_trajectories }
 {
-    match gather(rt.alloc(), &mut FileKeeper::new(rt), keepers, job, true) {
+    match look_or_gather(rt, job, keepers, looks) {
         Ok(told) => {
-            if told.saved {
-                return end_shown(rt, &show_all(rt, job, folders, keepers, &told), 0);
-            }
-            end_shown(rt, &refuse_all(rt, job, folders, keepers, &told), REFUSED)
+            let code = show_told(rt, job, folders, keepers, &told, looks);
+            drop(told);
+            code
         }
-        Err(why) => end_told(rt, &ended_of(why)),
+        Err(why) => end_told(rt, ended_of(why)),
     }
 }
 
@@ -141,16 +175,11 @@ fn gather_told(
 pub fn gather_job(rt: &HostRuntime, job: &Job, folders: &[String], looks: bool) -> ExitCode {
     if job.total() > 100_000 {
         // No job has so many.
-        return end_told(rt, &Ended::NoMemory);
+        return end_told(rt, Ended::NoMemory);
     }
     match keepers_of(rt, folders, !looks) {
-        Ok(mut keepers) => {
-            if looks {
-                return look_at(rt, job, folders, keepers.as_mut_slice());
-            }
-            gather_told(rt, job, folders, keepers.as_mut_slice())
-        }
-        Err(_) => end_told(rt, &Ended::NoMemory),
+        Ok(mut keepers) => end_gathered(rt, job, folders, keepers.as_mut_slice(), looks),
+        Err(_) => end_told(rt, Ended::NoMemory),
     }
 }
 

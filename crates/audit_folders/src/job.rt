@@ -23,15 +23,24 @@ pub enum Task<'a> {
 
 fn run_task(rt: &HostRuntime, job: &Job, task: Task<'_>) -> ExitCode {
     match task {
-        Task::Slots(folder) => end_shown(rt, &show_job(rt, folder, job), 0),
+        Task::Slots(folder) => end_shown(rt, show_job(rt, folder, job), 0),
         Task::Gather(folders, looks) => gather_job(rt, job, folders, looks),
     }
 }
 
+// The job of the words and of what stands on standard input.
+fn read_job(rt: &HostRuntime, words: &[String]) -> Result<Job, Ended> {
+    prepare(rt.alloc(), words, &mut ReadSource::new(rt.stdin()))
+}
+
 fn run_read(rt: &HostRuntime, words: &[String], task: Task<'_>) -> ExitCode {
-    match prepare(rt.alloc(), words, &mut ReadSource::new(rt.stdin())) {
-        Ok(job) => run_task(rt, &job, task),
-        Err(why) => end_told(rt, &why),
+    match read_job(rt, words) {
+        Ok(job) => {
+            let code = run_task(rt, &job, task);
+            drop(job);
+            code
+        }
+        Err(why) => end_told(rt, why),
     }
 }
 
@@ -59,7 +68,7 @@ fn idle_command(words: &[String]) -> Option<&str> {
 /// Does the task with the job of these words and of the graph on standard input.
 pub fn run_words(rt: &HostRuntime, words: &[String], task: Task<'_>) -> ExitCode {
     match idle_command(words) {
-        Some(command) => end_told(rt, &no_run(rt.alloc(), command)),
+        Some(command) => end_told(rt, no_run(rt.alloc(), command)),
         None => run_read(rt, words, task),
     }
 }

@@ -114,7 +114,7 @@ pub fn show_job(rt: &HostRuntime, folder: &str, job: &Job) -> Result<(), Ended> 
 // Tells of the slots in the folder, and of the job of the words, where there are any.
 fn show_words(rt: &HostRuntime, folder: &str, words: &[String]) -> ExitCode {
     if words.is_empty() {
-        return end_shown(rt, &show_folder(rt, rt.alloc(), folder, None), 0);
+        return end_shown(rt, show_folder(rt, rt.alloc(), folder, None), 0);
     }
     run_words(rt, words, Task::Slots(folder))
 }

@@ -15,13 +15,20 @@ pub fn end_with(rt: &HostRuntime, note: &str, status: u8) -> ExitCode {
     ExitCode::from(status)
 }
 
+// The status of a call that ended so, of which it tells.
+fn status_of(rt: &HostRuntime, why: &Ended) -> u8 {
+    tell(why, &mut WriteSink::new(rt.stderr()))
+}
+
 /// Tells why a call ended.
-pub fn end_told(rt: &HostRuntime, why: &Ended) -> ExitCode {
-    ExitCode::from(tell(why, &mut WriteSink::new(rt.stderr())))
+pub fn end_told(rt: &HostRuntime, why: Ended) -> ExitCode {
+    let status = status_of(rt, &why);
+    drop(why);
+    ExitCode::from(status)
 }
 
 /// Ends with what was told, or with the status.
-pub fn end_shown(rt: &HostRuntime, shown: &Result<(), Ended>, status: u8) -> ExitCode {
+pub fn end_shown(rt: &HostRuntime, shown: Result<(), Ended>, status: u8) -> ExitCode {
     match shown {
         Ok(()) => ExitCode::from(status),
         Err(why) => end_told(rt, why),
