@@ -1,24 +1,56 @@
-//! A gate and a keeper that share a count: how many ids the gate was told, and whether the keeper was asked to save more than those.
+//! The gate of a run, and a keeper that shares its count: how many ids the gate was told, and whether the keeper was asked to save more than those.
 
+use crate::crowd::CrowdGate;
+use crate::gate::NotingGate;
+use crate::timed::TimedGate;
 use audit_io::gate::Gate;
 use audit_io::keeper::{Keeper, LoadError};
 use audit_io::source::Failed;
+use audit_io::stop_keeper::StopKeeper;
 use audit_model::buffers::Bytes;
 use std::alloc::{AllocError, Global};
 use std::sync::Arc;
 use std::sync::atomic::{AtomicU64, Ordering};
 
-/// Counts the ids that it is told.
+/// What a gate does besides counting.
 #[derive(Drop)]
+pub enum Watch {
+    /// Nothing.
+    Nothing,
+    /// It notes the ids, and may hold the first.
+    Noting(NotingGate),
+    /// It holds everyone until enough have begun.
+    Crowd(CrowdGate),
+    /// It looks at the clock.
+    Timed(TimedGate),
+}
+
+/// Counts the ids that it is told.
 pub struct CountingGate {
     told: Arc<AtomicU64, Global>,
+    watch: Watch,
+}
+
+// Written out, so that a function that drops a gate has one step for it, and not one for each field.
+impl Drop for CountingGate {
+    fn drop(self) {
+        let CountingGate {
+            told: _told,
+            watch: _watch,
+        } = self;
+    }
 }
 
 impl CountingGate {
     /// A gate that was told of nothing.
-    pub fn new(alloc: Global) -> Result<CountingGate, AllocError> {
+    pub fn new(alloc: Global, watch: Watch) -> Result<CountingGate, AllocError> {
         let told = Arc::new(alloc, AtomicU64::new(0))?;
-        Ok(CountingGate { told })
+        Ok(CountingGate { told, watch })
+    }
+
+    /// What it does besides counting.
+    pub fn watch(&self) -> &Watch {
+        &self.watch
     }
 
     /// How many ids it was told.
@@ -35,45 +67,74 @@ impl CountingGate {
         Ok(CountedKeeper {
             inner,
             told,
-            saves: 0,
-            early: 0,
+            saves: Saves { all: 0, early: 0 },
         })
     }
 }
 
 impl Gate for CountingGate {
-    fn before(&self, _id: u32) {
+    fn before(&self, id: u32) {
         self.told.fetch_add(1, Ordering::SeqCst);
+        match &self.watch {
+            Watch::Nothing => {}
+            Watch::Noting(gate) => gate.before(id),
+            Watch::Crowd(gate) => gate.before(id),
+            Watch::Timed(gate) => gate.before(id),
+        }
     }
 }
 
-/// A keeper of a run that saves with each post: it counts the saves, and those before which fewer ids were told than outcomes posted.
-#[derive(Drop)]
+/// How many saves a keeper was asked for, and how many of them came before as many ids were told.
+#[derive(Clone, Copy)]
+pub struct Saves {
+    pub all: u64,
+    pub early: u64,
+}
+
+/// A keeper that counts the saves, and of a run that saves with each post those before which fewer ids were told than outcomes posted.
 pub struct CountedKeeper<K> {
     inner: K,
     told: Arc<AtomicU64, Global>,
-    saves: u64,
-    early: u64,
+    saves: Saves,
+}
+
+/// The keeper of a run.
+pub type RunKeeper = CountedKeeper<StopKeeper>;
+
+// Written out as that of the gate.
+impl<K: Drop> Drop for CountedKeeper<K> {
+    fn drop(self) {
+        let CountedKeeper {
+            inner: _inner,
+            told: _told,
+            saves: _,
+        } = self;
+    }
 }
 
 impl<K> CountedKeeper<K> {
-    /// How many saves it was asked for.
-    pub fn saves(&self) -> u64 {
+    /// The saves that it was asked for.
+    pub fn saves(&self) -> Saves {
         self.saves
     }
 
-    /// How many of them came before the gate was told.
-    pub fn early(&self) -> u64 {
-        self.early
+    /// The keeper that it counted for.
+    pub fn into_inner(self) -> K {
+        let CountedKeeper {
+            inner,
+            told: _told,
+            saves: _,
+        } = self;
+        inner
     }
 
     // Counts a save.
     fn count(&mut self)
         ensures { self.new.inner ≡ self.old.inner }
     {
-        self.saves = self.saves.wrapping_add(1);
-        if self.told.load(Ordering::SeqCst) < self.saves {
-            self.early = self.early.wrapping_add(1);
+        self.saves.all = self.saves.all.wrapping_add(1);
+        if self.told.load(Ordering::SeqCst) < self.saves.all {
+            self.saves.early = self.saves.early.wrapping_add(1);
         }
     }
 }

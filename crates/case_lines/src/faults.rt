@@ -4,7 +4,7 @@
 //! read and of a write, what is in slot 0 and in slot 1 before each run, as in `keeping`, the file of the graph, and the words of the audit. The
 //! first of these calls fails in the first run, the second in the second, and so on, until a run ends with status 0 or 7.
 
-use crate::given::{Given, Origin};
+use crate::given::{Given, Origin, Watched};
 use crate::held::{Held, saves_failing};
 use crate::said::Said;
 use crate::streams::{number, word};
@@ -53,7 +53,7 @@ fn given_in<'a>(setup: &Setup<'a>, run: u64) -> Given<'a> {
         room: ROOM,
         most_write: setup.most,
         failing_write: failing_call(setup, "writes", run),
-        wanted: 0,
+        watched: Watched::Noted(0),
     }
 }
 

@@ -1,13 +1,17 @@
 //! What a line gives to a run besides its keeper.
 
+use crate::counted::{CountingGate, Watch};
+use crate::crowd::CrowdGate;
 use crate::gate::NotingGate;
 use crate::runs::Case;
 use crate::streams::{failing, source_of, text_of, words_of};
+use crate::timed::TimedGate;
 use audit_io::mem_sink::MemSink;
 use audit_io::mem_source::MemSource;
 use audit_model::memory::Memory;
 use hex::decode;
 use std::alloc::Global;
+use std::io;
 use std::str::SplitWhitespace;
 use std::test::Fail;
 
@@ -28,9 +32,18 @@ pub enum Origin<'a> {
     Hex(&'a str),
 }
 
+/// What the gate of a run does: it notes the ids, and lets the first trajectory walk once so many have begun; it holds each until three have
+/// begun; it looks at the clock; or it counts the ids alone.
+#[derive(Clone, Copy)]
+pub enum Watched {
+    Noted(u64),
+    Crowd,
+    Timed,
+    Counted,
+}
+
 /// The source and the sink of a run: where the graph is, the most bytes of each read, the number of the one that fails or 0, the room for
-/// the output, the most bytes of each write, and the number of the one that fails or 0; and how many trajectories have to begin before the first
-/// one may walk.
+/// the output, the most bytes of each write, and the number of the one that fails or 0; and what its gate does.
 #[derive(Clone, Copy)]
 pub struct Given<'a> {
     pub graph: Origin<'a>,
@@ -39,7 +52,22 @@ pub struct Given<'a> {
     pub room: usize,
     pub most_write: usize,
     pub failing_write: u64,
-    pub wanted: u64,
+    pub watched: Watched,
+}
+
+fn watch_of(rt: &HostRuntime, watched: Watched) -> io::Result<Watch> {
+    match watched {
+        Watched::Noted(wanted) => Ok(Watch::Noting(NotingGate::new(wanted))),
+        Watched::Crowd => Ok(Watch::Crowd(CrowdGate::new(3))),
+        Watched::Timed => Ok(Watch::Timed(TimedGate::new(*rt)?)),
+        Watched::Counted => Ok(Watch::Nothing),
+    }
+}
+
+fn gate_of(rt: &HostRuntime, watched: Watched) -> Result<CountingGate, Fail> {
+    let watch = watch_of(rt, watched)?;
+    let gate = CountingGate::new(rt.alloc(), watch)?;
+    Ok(gate)
 }
 
 /// What a run is given, with the words that are left of a line.
@@ -48,8 +76,21 @@ pub fn case_of(
     given: &Given<'_>,
     parts: SplitWhitespace<'_>,
 ) -> Result<Case, Fail> {
+    match gate_of(rt, given.watched) {
+        Ok(gate) => case_at(rt, gate, given, parts),
+        Err(fail) => Err(fail),
+    }
+}
+
+// What a run at this gate is given.
+fn case_at(
+    rt: &HostRuntime,
+    gate: CountingGate,
+    given: &Given<'_>,
+    parts: SplitWhitespace<'_>,
+) -> Result<Case, Fail> {
     let source = graph_source(rt, given)?;
-    let case = case_over(rt.alloc(), source, given, parts)?;
+    let case = case_over(rt.alloc(), source, gate, given, parts)?;
     Ok(case)
 }
 
@@ -75,10 +116,11 @@ fn bytes_source(alloc: Global, bytes: &[u8], given: &Given<'_>) -> Result<MemSou
     Ok(source_of(alloc, bytes, given.most_read, given.failing_read)?)
 }
 
-// What a run over a source is given.
+// What a run at this gate and over this source is given.
 fn case_over(
     alloc: Global,
     source: MemSource,
+    gate: CountingGate,
     given: &Given<'_>,
     parts: SplitWhitespace<'_>,
 ) -> Result<Case, Memory> {
@@ -89,7 +131,7 @@ fn case_over(
         source,
         out,
         note,
-        gate: NotingGate::new(given.wanted),
+        gate,
     })
 }
 

@@ -1,6 +1,6 @@
 //! Checks of graphs, one for each line of a file, which is the whole text of a graph, or `hex` and the hexadecimal digits of its bytes.
 
-use crate::given::{Given, Origin, READ, WRITE};
+use crate::given::{Given, Origin, READ, WRITE, Watched};
 use crate::held::{ABSENT, UNSTOPPED};
 use crate::said::Said;
 use crate::streams::word;
@@ -26,7 +26,7 @@ pub fn said_of(line: &str) -> Said<'_> {
         room: 1000,
         most_write: WRITE,
         failing_write: 0,
-        wanted: 0,
+        watched: Watched::Noted(0),
     };
     Said {
         held: ABSENT,

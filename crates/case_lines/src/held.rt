@@ -1,5 +1,6 @@
 //! What a line says of the keeper of a run.
 
+use crate::counted::{CountingGate, RunKeeper, Watch};
 use crate::slots::slot_of;
 use crate::streams::failing;
 use audit_io::mem_keeper::MemKeeper;
@@ -48,16 +49,19 @@ pub fn saves_failing(failing: u64) -> Saves {
     }
 }
 
-/// The keeper of a run, where it is the `same` over what a run before left in both slots.
+/// The keeper of a run at this gate, where it is the `same` over what a run before left in both slots.
 pub fn keeper_of(
     rt: &HostRuntime,
     held: &Held<'_>,
     saves: &Saves,
     before: [Option<&[u8]>; 2],
-) -> Result<StopKeeper, Fail> {
+    gate: &CountingGate,
+) -> Result<RunKeeper, Fail> {
     let (zero, one) = slots_of(rt, held, before)?;
     let keeper = keeper_over(rt.alloc(), zero, one, held.failing_load, saves.failing)?;
-    Ok(StopKeeper::new(keeper, saves.stop_at.max(1), saves.kept))
+    let stopping = StopKeeper::new(keeper, saves.stop_at.max(1), saves.kept);
+    let keeper = gate.keeper(stopping)?;
+    Ok(keeper)
 }
 
 fn slots_of(
@@ -85,4 +89,19 @@ fn keeper_over(
 /// Two absent slots, of which no call fails.
 pub fn absent(alloc: Global) -> Result<MemKeeper, Memory> {
     keeper_over(alloc, None, None, 0, 0)
+}
+
+// The keeper over absent slots, of which this save fails, or none where it is 0.
+fn keeper_at(alloc: Global, gate: &CountingGate, save: u64) -> Result<RunKeeper, Memory> {
+    let keeper = keeper_over(alloc, None, None, 0, save)?;
+    let keeper = gate.keeper(StopKeeper::new(keeper, u32::MAX, 0))?;
+    Ok(keeper)
+}
+
+/// A keeper over absent slots that counts its saves, of which this one fails, or none where it is 0.
+pub fn counting_keeper(alloc: Global, save: u64) -> Result<RunKeeper, Memory> {
+    match CountingGate::new(alloc, Watch::Nothing) {
+        Ok(gate) => keeper_at(alloc, &gate, save),
+        Err(_) => Err(Memory),
+    }
 }

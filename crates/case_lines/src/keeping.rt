@@ -5,7 +5,7 @@
 //! that fails and that of the save, 0 for none, then the room of the sink in bytes, the file of the graph, and the words of the audit. In place
 //! of the number of a save, `2/40` is a stop within the second save that leaves 40 of its bytes; no later save changes anything.
 
-use crate::given::{Given, Origin, READ, WRITE};
+use crate::given::{Given, Origin, READ, WRITE, Watched};
 use crate::held::{Held, Saves, saves_failing};
 use crate::said::Said;
 use crate::streams::{number, word};
@@ -57,7 +57,7 @@ pub fn said_of<'a>(parts: &mut SplitWhitespace<'a>) -> Result<Said<'a>, Fail> {
         room,
         most_write: WRITE,
         failing_write: 0,
-        wanted: 0,
+        watched: Watched::Noted(0),
     };
     Ok(Said {
         held,

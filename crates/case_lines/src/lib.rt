@@ -1,8 +1,8 @@
 //! What `audit_cases` prints: the lines of files, each of which tells of one whole audit or of many over sources, sinks and keepers in memory;
 //! and calls that no command makes, or whose answer no contract says.
 //!
-//! There are five kinds of files: `plain` says what a line of `cases` has, `graphs` what one of `graphs` has, `keeping` what one of `slots`
-//! has, `faults` what one of `faults` has, and `sure` what one of `sure` has. `lines` makes the runs of the first four.
+//! `plain` says what a line of `cases` has, `graphs` what one of `graphs` has, `keeping` what one of `slots` has, `faults` what one of `faults`
+//! has, `gated` what one of `crowds`, `counted` and `timed` has, and `sure` what one of `sure` has. `lines` makes the runs of all but the last.
 //!
 //! The calls need no job: `books` posts outcomes, `checkpoints` writes one of the first version, `machine` gives events to the run machine,
 //! `outside` saves in real files, `rings` looks for faces, `leaving` asks whether units may leave, and `texts` reads graphs. Those on jobs stand in `audit_cases`.
@@ -13,35 +13,37 @@
 
 pub mod books;
 pub mod checkpoints;
-pub mod counted;
-pub mod crowd;
+mod counted;
+mod crowd;
 mod faults;
-pub mod gate;
-pub mod gated;
+mod gate;
+mod gated;
 mod given;
 mod graphs;
 mod held;
 mod keeping;
 pub mod leaving;
-pub mod lines;
+mod lines;
 pub mod machine;
 pub mod outside;
 mod plain;
 pub mod rings;
-pub mod runs;
+mod runs;
 mod said;
-pub mod settings;
+mod settings;
 mod shown;
 mod slots;
 mod streams;
 pub mod sure;
 pub mod texts;
-pub mod timed;
+mod timed;
 
 pub use books::show_book;
 pub use checkpoints::show_checkpoint;
+pub use counted::RunKeeper;
+pub use held::counting_keeper;
 pub use leaving::show_leaving;
-pub use lines::{Kind, run_file};
+pub use lines::{Kind, run_files};
 pub use machine::show_machine;
 pub use outside::show_outside;
 pub use rings::show_rings;

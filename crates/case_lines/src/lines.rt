@@ -1,27 +1,31 @@
 //! The runs of the lines of a file.
 
+use crate::counted::RunKeeper;
 use crate::faults::{PAST_RUNS, said_in, setup_of};
-use crate::given::case_of;
+use crate::given::{Watched, case_of};
 use crate::graphs::WORDS;
 use crate::held::{absent, keeper_of};
 use crate::runs::Case;
 use crate::said::Said;
 use crate::shown::show_run;
 use crate::streams::text_of;
-use crate::{graphs, keeping, plain};
+use crate::{gated, graphs, keeping, plain};
 use audit_io::mem_keeper::MemKeeper;
-use audit_io::stop_keeper::StopKeeper;
 use std::io;
+use std::mem::replace;
 use std::str::SplitWhitespace;
 use std::test::Fail;
 
-/// What a line of a file says: as in `plain`, as in `keeping`, as in `graphs`, or as in `faults`.
+/// What a line of a file says: as in `plain`, as in `keeping`, as in `graphs`, as in `faults`, or as in `gated`, at one of its gates.
 #[derive(Clone, Copy)]
 pub enum Kind {
     Plain,
     Keeping,
     Graphs,
     Faults,
+    Crowd,
+    Counted,
+    Timed,
 }
 
 fn faulty<'a>(parts: &mut SplitWhitespace<'a>, run: u64) -> Result<Said<'a>, Fail> {
@@ -44,46 +48,32 @@ fn said_of<'a>(
             *parts = WORDS.split_whitespace();
             Ok(graphs::said_of(line))
         }
+        Kind::Crowd => Ok(gated::said_of(parts, Watched::Crowd)),
+        Kind::Counted => Ok(gated::said_of(parts, Watched::Counted)),
+        Kind::Timed => Ok(gated::said_of(parts, Watched::Timed)),
     }
-}
-
-// What a run is given, and its keeper over what the run before left.
-fn ready(
-    rt: &HostRuntime,
-    said: &Said<'_>,
-    parts: SplitWhitespace<'_>,
-    left: &MemKeeper,
-) -> Result<(Case, StopKeeper), Fail> {
-    let keeper = keeper_of(rt, &said.held, &said.saves, [left.slot(0), left.slot(1)])?;
-    with_keeper(rt, said, parts, keeper)
-}
-
-fn with_keeper(
-    rt: &HostRuntime,
-    said: &Said<'_>,
-    parts: SplitWhitespace<'_>,
-    keeper: StopKeeper,
-) -> Result<(Case, StopKeeper), Fail> {
-    match case_of(rt, &said.given, parts) {
-        Ok(case) => Ok((case, keeper)),
-        Err(fail) => Err(fail),
-    }
-}
-
-// Shows the end of a run, and answers its status.
-fn shown(
-    rt: &HostRuntime,
-    status: u8,
-    said: &Said<'_>,
-    case: &Case,
-    left: &MemKeeper,
-) -> Result<u8, Fail> {
-    show_run(rt, status, said.is_told, case, left)?;
-    Ok(status)
 }
 
 // Makes a run over what the run before left, and leaves there what is in its slots.
-fn run_said<A: Fn(&mut Case, StopKeeper) -> (u8, StopKeeper)>(
+fn run_case<A: Fn(&mut Case, RunKeeper) -> (u8, RunKeeper)>(
+    rt: &HostRuntime,
+    audit: &A,
+    said: &Said<'_>,
+    case: &mut Case,
+    left: &mut MemKeeper,
+) -> Result<u8, Fail>
+    requires { A.IsAlwaysCallable audit.now }
+{
+    let before = [left.slot(0), left.slot(1)];
+    let keeper = keeper_of(rt, &said.held, &said.saves, before, &case.gate)?;
+    let (status, keeper) = audit(case, keeper);
+    let saves = keeper.saves();
+    drop(replace(left, keeper.into_inner().into_inner()));
+    show_run(rt, status, said.is_told, case, saves, left)?;
+    Ok(status)
+}
+
+fn run_said<A: Fn(&mut Case, RunKeeper) -> (u8, RunKeeper)>(
     rt: &HostRuntime,
     audit: &A,
     said: &Said<'_>,
@@ -92,30 +82,30 @@ fn run_said<A: Fn(&mut Case, StopKeeper) -> (u8, StopKeeper)>(
 ) -> Result<u8, Fail>
     requires { A.IsAlwaysCallable audit.now }
 {
-    let (mut case, keeper) = ready(rt, said, parts, left)?;
-    let (status, keeper) = audit(&mut case, keeper);
-    *left = keeper.into_inner();
-    shown(rt, status, said, &case, left)
+    match case_of(rt, &said.given, parts) {
+        Ok(mut case) => run_case(rt, audit, said, &mut case, left),
+        Err(fail) => Err(fail),
+    }
 }
 
 // The number that no run of a line has any more; the first has number 1.
 fn past_runs(kind: Kind) -> u64 {
     match kind {
-        Kind::Plain | Kind::Keeping | Kind::Graphs => 2,
         Kind::Faults => PAST_RUNS,
+        _ => 2,
     }
 }
 
 // Shows the number of a run, where a line has many.
 fn show_number(rt: &HostRuntime, kind: Kind, run: u64) -> io::Result<()> {
     match kind {
-        Kind::Plain | Kind::Keeping | Kind::Graphs => Ok(()),
         Kind::Faults => println!(rt; "run {run}"),
+        _ => Ok(()),
     }
 }
 
 // Makes the runs of a line, until one ends with status 0 or 7.
-fn run_line<A: Fn(&mut Case, StopKeeper) -> (u8, StopKeeper)>(
+fn run_line<A: Fn(&mut Case, RunKeeper) -> (u8, RunKeeper)>(
     rt: &HostRuntime,
     audit: &A,
     kind: Kind,
@@ -137,7 +127,22 @@ fn run_line<A: Fn(&mut Case, StopKeeper) -> (u8, StopKeeper)>(
     Ok(())
 }
 
-fn run_lines<A: Fn(&mut Case, StopKeeper) -> (u8, StopKeeper)>(
+fn run_each<A: Fn(&mut Case, RunKeeper) -> (u8, RunKeeper)>(
+    rt: &HostRuntime,
+    audit: &A,
+    kind: Kind,
+    lines: &str,
+    left: &mut MemKeeper,
+) -> Result<(), Fail>
+    requires { A.IsAlwaysCallable audit.now }
+{
+    for line in lines.lines() {
+        run_line(rt, audit, kind, line, left)?;
+    }
+    Ok(())
+}
+
+fn run_lines<A: Fn(&mut Case, RunKeeper) -> (u8, RunKeeper)>(
     rt: &HostRuntime,
     audit: &A,
     kind: Kind,
@@ -146,14 +151,12 @@ fn run_lines<A: Fn(&mut Case, StopKeeper) -> (u8, StopKeeper)>(
     requires { A.IsAlwaysCallable audit.now }
 {
     let mut left = absent(rt.alloc())?;
-    for line in lines.lines() {
-        run_line(rt, audit, kind, line, &mut left)?;
-    }
-    Ok(())
+    let ran = run_each(rt, audit, kind, lines, &mut left);
+    drop(left);
+    ran
 }
 
-/// Makes the runs of each line of a file.
-pub fn run_file<A: Fn(&mut Case, StopKeeper) -> (u8, StopKeeper)>(
+fn run_file<A: Fn(&mut Case, RunKeeper) -> (u8, RunKeeper)>(
     rt: &HostRuntime,
     audit: &A,
     kind: Kind,
@@ -163,4 +166,18 @@ pub fn run_file<A: Fn(&mut Case, StopKeeper) -> (u8, StopKeeper)>(
 {
     let lines = text_of(rt, file)?;
     run_lines(rt, audit, kind, lines.as_str())
+}
+
+/// Makes the runs of each line of these files.
+pub fn run_files<A: Fn(&mut Case, RunKeeper) -> (u8, RunKeeper)>(
+    rt: &HostRuntime,
+    audit: &A,
+    files: &[(Kind, &str)],
+) -> Result<(), Fail>
+    requires { A.IsAlwaysCallable audit.now }
+{
+    for (kind, file) in files {
+        run_file(rt, audit, *kind, file)?;
+    }
+    Ok(())
 }

@@ -3,7 +3,7 @@
 //! A line has the number of the read that fails, 0 for none, then the room of the sink in bytes, then how many trajectories have to
 //! begin before the first one may walk, 0 for a gate that holds nobody and is not shown, then the file of the graph, and the words of the audit.
 
-use crate::given::{Given, Origin, READ, WRITE};
+use crate::given::{Given, Origin, READ, WRITE, Watched};
 use crate::held::{ABSENT, UNSTOPPED};
 use crate::said::Said;
 use crate::streams::{number, word};
@@ -22,7 +22,7 @@ pub fn said_of<'a>(parts: &mut SplitWhitespace<'a>) -> Result<Said<'a>, Fail> {
         room,
         most_write: WRITE,
         failing_write: 0,
-        wanted,
+        watched: Watched::Noted(wanted),
     };
     Ok(Said {
         held: ABSENT,

@@ -1,26 +1,51 @@
 //! Over what a run is made.
 
+use crate::counted::CountingGate;
 use crate::gate::NotingGate;
 use audit_io::mem_sink::MemSink;
 use audit_io::mem_source::MemSource;
 use audit_io::sure::{SureSink, SureSource};
 
 /// What a run is given besides its keeper, and what it leaves there.
-#[derive(Drop)]
 pub struct Case {
     pub words: Vec<String>,
     pub source: MemSource,
     pub out: MemSink,
     pub note: MemSink,
-    pub gate: NotingGate,
+    pub gate: CountingGate,
+}
+
+// Written out, so that a function that drops a case has one step for it, and not one for each part of a field.
+impl Drop for Case {
+    fn drop(self) {
+        let Case {
+            words: _words,
+            source: _source,
+            out: _out,
+            note: _note,
+            gate: _gate,
+        } = self;
+    }
 }
 
 /// What a run is given where nothing outside fails, and what it leaves there.
-#[derive(Drop)]
 pub struct SureCase {
     pub words: Vec<String>,
     pub source: SureSource,
     pub out: SureSink,
     pub note: MemSink,
     pub gate: NotingGate,
+}
+
+// Written out as that of the other.
+impl Drop for SureCase {
+    fn drop(self) {
+        let SureCase {
+            words: _words,
+            source: _source,
+            out: _out,
+            note: _note,
+            gate: _gate,
+        } = self;
+    }
 }

@@ -16,9 +16,15 @@ const FIVE_ENDS: &str =
     "run --pop pop --first a --second b --district district --slack 5000 --key 0000000000000000000000000000000000000000000000000000000000000000 --ask gap:low --walks 0 --ends 5";
 
 /// A setting within the limits.
-#[derive(Drop)]
 pub struct Accepted {
     setting: Setting,
+}
+
+// Written out, so that a function that drops a setting has one step for it, and not one for each of its texts.
+impl Drop for Accepted {
+    fn drop(self) {
+        let Accepted { setting: _setting } = self;
+    }
 }
 
 impl Model for Accepted {
@@ -45,7 +51,7 @@ impl Accepted {
 
     /// The same, where no region may lie in two districts.
     pub fn strict(self) -> Accepted {
-        let setting = self.setting;
+        let Accepted { setting } = self;
         Accepted {
             setting: Setting {
                 max_split: 1,
@@ -59,7 +65,8 @@ impl Accepted {
         ensures same { result ≡ self }
         ensures limits { IsSetting result }
     {
-        self.setting
+        let Accepted { setting } = self;
+        setting
     }
 }
 

@@ -1,21 +1,41 @@
 //! What a run leaves, as it is printed.
 
+use crate::counted::{Saves, Watch};
 use crate::gate::NotingGate;
+use crate::gated::{show_counted, show_crowd, show_timed};
 use crate::runs::Case;
 use crate::slots::show_slots;
 use audit_io::mem_keeper::MemKeeper;
 use std::io;
 
-/// Shows the end of a run and both texts, and where it is asked for the ids that the gate was told and both slots; those ids also of a gate
-/// that is shown.
+/// Shows what is asked for of a run at its gate.
 pub fn show_run(
     rt: &HostRuntime,
     status: u8,
     is_told: bool,
     case: &Case,
+    saves: Saves,
     left: &MemKeeper,
 ) -> io::Result<()> {
-    show_end(rt, status, is_told || case.gate.is_shown(), &case.gate)?;
+    match case.gate.watch() {
+        Watch::Noting(gate) => show_noted(rt, status, is_told, gate, case, left),
+        Watch::Crowd(gate) => show_crowd(rt, status, gate),
+        Watch::Timed(gate) => show_timed(rt, status, gate),
+        Watch::Nothing => show_counted(rt, status, case.gate.told(), saves),
+    }
+}
+
+// Shows the end of a run and both texts, and where it is asked for the ids that the gate was told and both slots; those ids also of a gate
+// that is shown.
+fn show_noted(
+    rt: &HostRuntime,
+    status: u8,
+    is_told: bool,
+    gate: &NotingGate,
+    case: &Case,
+    left: &MemKeeper,
+) -> io::Result<()> {
+    show_end(rt, status, is_told || gate.is_shown(), gate)?;
     show_texts(rt, case)?;
     if is_told {
         return show_slots(rt, left);

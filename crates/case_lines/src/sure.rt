@@ -57,40 +57,22 @@ fn show(rt: &HostRuntime, status: u8, case: &SureCase) -> Result<(), Fail> {
     Ok(())
 }
 
-fn ready(
+// Makes the run of a line whose slots hold what these words say.
+fn run_case<A: Fn(&mut SureCase, SureKeeper) -> (u8, SureKeeper)>(
     rt: &HostRuntime,
+    audit: &A,
     zero: &str,
     one: &str,
-    file: &str,
-    parts: SplitWhitespace<'_>,
-) -> Result<(SureCase, SureKeeper), Fail> {
+    case: &mut SureCase,
+) -> Result<(), Fail>
+    requires { A.IsAlwaysCallable audit.now }
+{
     let keeper = keeper_of(rt, zero, one)?;
-    with_keeper(rt, file, parts, keeper)
+    let (status, keeper) = audit(case, keeper);
+    drop(keeper);
+    show(rt, status, case)
 }
 
-fn with_keeper(
-    rt: &HostRuntime,
-    file: &str,
-    parts: SplitWhitespace<'_>,
-    keeper: SureKeeper,
-) -> Result<(SureCase, SureKeeper), Fail> {
-    match case_of(rt, file, parts) {
-        Ok(case) => Ok((case, keeper)),
-        Err(fail) => Err(fail),
-    }
-}
-
-// What the run of a line is given, and its keeper.
-fn ready_by(rt: &HostRuntime, line: &str) -> Result<(SureCase, SureKeeper), Fail> {
-    rt.println(line)?;
-    let mut parts = line.split_whitespace();
-    let zero = word(&mut parts);
-    let one = word(&mut parts);
-    let file = word(&mut parts);
-    ready(rt, zero, one, file, parts)
-}
-
-// Makes the run of one line.
 fn run_line<A: Fn(&mut SureCase, SureKeeper) -> (u8, SureKeeper)>(
     rt: &HostRuntime,
     audit: &A,
@@ -98,9 +80,15 @@ fn run_line<A: Fn(&mut SureCase, SureKeeper) -> (u8, SureKeeper)>(
 ) -> Result<(), Fail>
     requires { A.IsAlwaysCallable audit.now }
 {
-    let (mut case, keeper) = ready_by(rt, line)?;
-    let (status, _keeper) = audit(&mut case, keeper);
-    show(rt, status, &case)
+    rt.println(line)?;
+    let mut parts = line.split_whitespace();
+    let zero = word(&mut parts);
+    let one = word(&mut parts);
+    let file = word(&mut parts);
+    match case_of(rt, file, parts) {
+        Ok(mut case) => run_case(rt, audit, zero, one, &mut case),
+        Err(fail) => Err(fail),
+    }
 }
 
 /// Makes the run of each line of a file.
