@@ -159,16 +159,31 @@ fn drawn_once(crew: &[Drawer]) -> usize {
         .count()
 }
 
-/// How many passes there were of so many seats, and how many of the numbers they drew once.
-pub fn draw_all<R: Threads + Sync>(
+// The passes that stem from this one draw: how many there are, and how many of the numbers they draw once.
+fn draw_from<R: Threads + Sync>(
+    rt: &R,
+    alloc: Global,
+    claims: &Claims,
+    pass: Pass,
+) -> Result<(usize, usize), Memory>
+    requires pass { BelongsTo claims.now pass }
+    requires before_end { (own pass).ended ≡ false }
+{
+    let mut crew = recruit(alloc, claims, pass)?;
+    draw_each(rt, claims, crew.as_mut_slice());
+    Ok((crew.len(), drawn_once(crew.as_slice())))
+}
+
+// How many passes there were of so many seats, and how many of the numbers they drew once.
+fn draw_all<R: Threads + Sync>(
     rt: &R,
     alloc: Global,
     seats: u32,
 ) -> Result<(usize, usize), Memory> {
     let (claims, pass) = Claims::new(alloc, LIMIT, seats.max(1).min(33))?;
-    let mut crew = recruit(alloc, &claims, pass)?;
-    draw_each(rt, &claims, crew.as_mut_slice());
-    Ok((crew.len(), drawn_once(crew.as_slice())))
+    let drawn = draw_from(rt, alloc, &claims, pass);
+    drop(claims);
+    drawn
 }
 
 fn show_drawn(rt: &HostRuntime, drawn: Result<(usize, usize), Memory>) -> io::Result<()> {
@@ -179,15 +194,10 @@ fn show_drawn(rt: &HostRuntime, drawn: Result<(usize, usize), Memory>) -> io::Re
 }
 
 /// Shows what three passes draw in turn, and what passes draw in threads.
-pub fn show_claims<D: Fn(u32) -> Result<(usize, usize), Memory>>(
-    rt: &HostRuntime,
-    drawing: &D,
-) -> io::Result<()>
-    requires { D.IsAlwaysCallable drawing.now }
-{
+pub fn show_claims<R: Threads + Sync>(rt: &HostRuntime, threads: &R) -> io::Result<()> {
     show_turns(rt)?;
     for seats in [1, 4, 32] {
-        show_drawn(rt, drawing(seats))?;
+        show_drawn(rt, draw_all(threads, rt.alloc(), seats))?;
     }
     Ok(())
 }

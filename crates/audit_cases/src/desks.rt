@@ -15,16 +15,15 @@ ghost use Rattle.tally_desk.specs.Passes.{IsFirstPass};
 
 use crate::settling::job_with;
 use audit_io::keeper::Keeper;
-use audit_io::mem_keeper::MemKeeper;
 use audit_model::buffers::Bytes;
 use audit_model::fault::PlanFault;
-use audit_model::lists::{NumList, UnitList};
+use audit_model::lists::UnitList;
 use audit_model::memory::Memory;
 use audit_model::outcome::SumsView;
 use audit_model::rules::Rules;
 use audit_walks::todo::todo_of;
 use audit_words::read;
-use case_lines::counted::{CountedKeeper, CountingGate};
+use case_lines::{RunKeeper, counting_keeper};
 use ckpt_format::digest::job_digest;
 use ckpt_store::look::look;
 use flip_guard::guard::Guard;
@@ -46,9 +45,6 @@ const WORDS: &str =
 
 /// How many ids a desk has.
 const IDS: u32 = 3;
-
-/// What saves at a desk, and counts how often it was asked to.
-pub type DeskKeeper = CountedKeeper<MemKeeper>;
 
 // The pass claims an id, unless it has ended, walks its trajectory, and posts what this finds.
 fn take_turn<R: Wait, C: Keeper, J: Judge>(
@@ -118,6 +114,7 @@ fn serve<R: Wait, C: Keeper + Drop, J: Judge>(
     if both.ended() {
         Some(desk.close(both))
     } else {
+        drop(desk);
         None
     }
 }
@@ -251,7 +248,11 @@ fn run_judge<R: Wait, C: Keeper + Drop, J: Judge>(
     requires no_ends { job.now.setting.ends ≡ 0 }
 {
     match Walker::new(alloc, job, judge) {
-        Ok(mut walker) => run_walker(rt, alloc, job, &mut walker, keeper, every),
+        Ok(mut walker) => {
+            let kept = run_walker(rt, alloc, job, &mut walker, keeper, every);
+            drop(walker);
+            kept
+        }
         Err(_) => None,
     }
 }
@@ -276,9 +277,9 @@ fn run_ruled<R: Wait, C: Keeper + Drop>(
     run_judge(rt, alloc, job, judge, keeper, every)
 }
 
-/// What a desk keeps at which two passes claim the first three ids of a job in turn. None where the job is not one of walks alone and without
-/// regions and majorities, and where there is no memory.
-pub fn run_desk<R: Wait, C: Keeper + Drop>(
+// What a desk keeps at which two passes claim the first three ids of a job in turn. None where the job is not one of walks alone and without
+// regions and majorities, and where there is no memory.
+fn run_desk<R: Wait, C: Keeper + Drop>(
     rt: &R,
     alloc: Global,
     job: &Job,
@@ -295,28 +296,6 @@ pub fn run_desk<R: Wait, C: Keeper + Drop>(
     }
 }
 
-// The numbers of the saves that fail: this one, or none where it is 0.
-fn failing(alloc: Global, save: u64) -> Result<NumList, Memory> {
-    let mut saves = NumList::new(alloc);
-    if save > 0 {
-        saves.push(save)?;
-    }
-    Ok(saves)
-}
-
-// Two absent slots.
-fn absent(alloc: Global, save: u64) -> Result<MemKeeper, Memory> {
-    let saves = failing(alloc, save)?;
-    MemKeeper::new(alloc, None, None, NumList::new(alloc), saves)
-}
-
-// A keeper of two absent slots, of which this save fails.
-fn keeper_of(alloc: Global, save: u64) -> Result<DeskKeeper, Memory> {
-    let gate = CountingGate::new(alloc)?;
-    let keeper = gate.keeper(absent(alloc, save)?)?;
-    Ok(keeper)
-}
-
 fn show_id(rt: &HostRuntime, book: &Book, id: u32) -> io::Result<()> {
     if book.has(id) {
         return print!(rt; " {id}");
@@ -326,20 +305,20 @@ fn show_id(rt: &HostRuntime, book: &Book, id: u32) -> io::Result<()> {
 
 // Shows the ids of the book and how many outcomes it has, how many saves were tried and how many of them failed, and whether one was made with
 // the last post.
-fn show_kept(rt: &HostRuntime, every: u32, kept: &Kept<DeskKeeper>) -> io::Result<()> {
+fn show_kept(rt: &HostRuntime, every: u32, kept: &Kept<RunKeeper>) -> io::Result<()> {
     print!(rt; "desk save-every {every} ids")?;
     for id in 0..12 {
         show_id(rt, &kept.book, id)?;
     }
     let count = kept.book.len();
-    let saves = kept.keeper.saves();
+    let saves = kept.keeper.saves().all;
     println!(rt;
         " count {count} saves {saves} failed {} last {}",
         kept.failed_saves, kept.last_saved
     )
 }
 
-fn show_closed(rt: &HostRuntime, every: u32, kept: Option<Kept<DeskKeeper>>) -> io::Result<()> {
+fn show_closed(rt: &HostRuntime, every: u32, kept: Option<Kept<RunKeeper>>) -> io::Result<()> {
     match kept {
         Some(kept) => show_kept(rt, every, &kept),
         None => rt.println("no desk"),
@@ -347,31 +326,23 @@ fn show_closed(rt: &HostRuntime, every: u32, kept: Option<Kept<DeskKeeper>>) -> 
 }
 
 // Shows what a desk keeps that saves so often, where the save with this number fails.
-fn show_desk<D: Fn(&Job, DeskKeeper, u32) -> Option<Kept<DeskKeeper>>>(
+fn show_desk<R: Wait>(
     rt: &HostRuntime,
-    running: &D,
+    waiting: &R,
     job: &Job,
     every: u32,
     save: u64,
-) -> io::Result<()>
-    requires { D.IsAlwaysCallable running.now }
-{
-    match keeper_of(rt.alloc(), save) {
-        Ok(keeper) => show_closed(rt, every, running(job, keeper, every)),
+) -> io::Result<()> {
+    match counting_keeper(rt.alloc(), save) {
+        Ok(keeper) => show_closed(rt, every, run_desk(waiting, rt.alloc(), job, keeper, every)),
         Err(_) => rt.println("memory"),
     }
 }
 
-fn show_each<D: Fn(&Job, DeskKeeper, u32) -> Option<Kept<DeskKeeper>>>(
-    rt: &HostRuntime,
-    running: &D,
-    job: &Job,
-) -> io::Result<()>
-    requires { D.IsAlwaysCallable running.now }
-{
-    show_desk(rt, running, job, 2, 0)?;
-    show_desk(rt, running, job, 3, 0)?;
-    show_desk(rt, running, job, 2, 1)
+fn show_each<R: Wait>(rt: &HostRuntime, waiting: &R, job: &Job) -> io::Result<()> {
+    show_desk(rt, waiting, job, 2, 0)?;
+    show_desk(rt, waiting, job, 3, 0)?;
+    show_desk(rt, waiting, job, 2, 1)
 }
 
 fn words(alloc: Global) -> Result<Vec<String>, AllocError> {
@@ -398,15 +369,14 @@ fn job_of(alloc: Global, text: &[u8]) -> Result<Job, PlanFault> {
 }
 
 /// Shows what a desk of three ids keeps that saves after each second post, after each third, and after each second where the first save fails.
-pub fn show_desks<D: Fn(&Job, DeskKeeper, u32) -> Option<Kept<DeskKeeper>>>(
-    rt: &HostRuntime,
-    running: &D,
-) -> io::Result<()>
-    requires { D.IsAlwaysCallable running.now }
-{
+pub fn show_desks<R: Wait>(rt: &HostRuntime, waiting: &R) -> io::Result<()> {
     let text = fs::read(rt, "cycle.json")?;
     match job_of(rt.alloc(), text.as_slice()) {
-        Ok(job) => show_each(rt, running, &job),
+        Ok(job) => {
+            let told = show_each(rt, waiting, &job);
+            drop(job);
+            told
+        }
         Err(_) => rt.println("no job"),
     }
 }

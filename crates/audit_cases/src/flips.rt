@@ -46,7 +46,11 @@ fn show_judged<J: Judge>(rt: &HostRuntime, job: &Job, judge: J) -> io::Result<()
     requires { IsJudgeFor job.now (J.judging judge) }
 {
     match State::new(rt.alloc(), job, judge) {
-        Ok(mut state) => show_state(rt, job, &mut state),
+        Ok(mut state) => {
+            let told = show_state(rt, job, &mut state);
+            drop(state);
+            told
+        }
         Err(_) => rt.println("memory"),
     }
 }

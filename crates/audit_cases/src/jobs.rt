@@ -54,6 +54,7 @@ fn job_with(
         return Err(PlanFault::Memory);
     };
     let Ok(regions) = read_regions(alloc, text, column) else {
+        drop(parsed);
         return Err(PlanFault::Memory);
     };
     Job::with_regions(alloc, parsed, setting.into_setting(), regions)
@@ -96,7 +97,11 @@ fn again(alloc: Global, job: &Job) -> Result<Job, PlanFault> {
 /// The job of a graph's text of two districts, and of its own plan as another one.
 pub fn other_job(alloc: Global, text: &[u8]) -> Result<Job, PlanFault> {
     match plain_job(alloc, text) {
-        Ok(job) => again(alloc, &job),
+        Ok(job) => {
+            let other = again(alloc, &job);
+            drop(job);
+            other
+        }
         Err(fault) => Err(fault),
     }
 }

@@ -11,7 +11,6 @@ mod calls;
 mod claims;
 mod desks;
 mod flips;
-mod gated;
 mod jobs;
 mod noted;
 mod saves;
@@ -20,36 +19,44 @@ mod settling;
 mod shown;
 
 use crate::calls::show_calls;
-use crate::claims::{draw_all, show_claims};
-use crate::desks::{DeskKeeper, run_desk, show_desks};
-use crate::gated::run_gated;
+use crate::claims::show_claims;
+use crate::desks::show_desks;
 use crate::settling::show_ends;
-use audit_io::mem_keeper::MemKeeper;
-use audit_io::stop_keeper::StopKeeper;
 use audit_io::sure_keeper::SureKeeper;
 use audit_run::Runtime;
 use audit_run::audit::audit;
 use audit_run::sure::audit_surely;
-use case_lines::counted::{CountedKeeper, CountingGate};
-use case_lines::crowd::CrowdGate;
-use case_lines::gated::{Gated, run_counts, run_crowds, run_timings};
-use case_lines::lines::{Kind, run_file};
-use case_lines::runs::{Case, SureCase};
-use case_lines::sure;
-use case_lines::timed::TimedGate;
-use plan_core::job::Job;
+use case_lines::{Case, Kind, RunKeeper, SureCase, run_files, sure};
+use std::alloc::Global;
+use std::io;
 use std::sync::Wait;
 use std::test::Fail;
 use std::thread::Threads;
 
-fn run<R: Threads + Wait + Sync + AllocGlobal>(
-    rt: &R,
+/// The files of the lines whose audits come before the calls.
+const BEFORE_CALLS: [(Kind, &str); 4] = [
+    (Kind::Plain, "cases"),
+    (Kind::Keeping, "slots"),
+    (Kind::Graphs, "graphs"),
+    (Kind::Faults, "faults"),
+];
+
+/// The files of the lines whose audits come after the calls.
+const AFTER_CALLS: [(Kind, &str); 3] = [
+    (Kind::Crowd, "crowds"),
+    (Kind::Counted, "counted"),
+    (Kind::Timed, "timed"),
+];
+
+fn run<R: Threads + Wait + Sync>(
+    threads: &R,
+    alloc: Global,
     case: &mut Case,
-    keeper: StopKeeper,
-) -> (u8, StopKeeper) {
+    keeper: RunKeeper,
+) -> (u8, RunKeeper) {
     let lent = Runtime {
-        threads: rt,
-        alloc: rt.alloc(),
+        threads,
+        alloc,
         gate: &case.gate,
     };
     audit(
@@ -62,14 +69,15 @@ fn run<R: Threads + Wait + Sync + AllocGlobal>(
     )
 }
 
-fn run_surely<R: Threads + Wait + Sync + AllocGlobal>(
-    rt: &R,
+fn run_surely<R: Threads + Wait + Sync>(
+    threads: &R,
+    alloc: Global,
     case: &mut SureCase,
     keeper: SureKeeper,
 ) -> (u8, SureKeeper) {
     let lent = Runtime {
-        threads: rt,
-        alloc: rt.alloc(),
+        threads,
+        alloc,
         gate: &case.gate,
     };
     audit_surely(
@@ -82,30 +90,40 @@ fn run_surely<R: Threads + Wait + Sync + AllocGlobal>(
     )
 }
 
+// Makes the audits of the lines of these files. The runtime that prints is the one that has threads.
+fn run_lines<R: Threads + Wait + Sync>(
+    rt: &HostRuntime,
+    threads: &R,
+    files: &[(Kind, &str)],
+) -> Result<(), Fail> {
+    let alloc = rt.alloc();
+    run_files(
+        rt,
+        &|case: &mut Case, keeper: RunKeeper| run(threads, alloc, case, keeper),
+        files,
+    )
+}
+
+fn run_sure_lines<R: Threads + Wait + Sync>(rt: &HostRuntime, threads: &R) -> Result<(), Fail> {
+    let alloc = rt.alloc();
+    sure::run_file(
+        rt,
+        &|case: &mut SureCase, keeper: SureKeeper| run_surely(threads, alloc, case, keeper),
+        "sure",
+    )
+}
+
+// Makes the calls, and shows what they answer.
+fn show_all<R: Threads + Wait + Sync>(rt: &HostRuntime, threads: &R) -> io::Result<()> {
+    show_calls(rt)?;
+    show_claims(rt, threads)?;
+    show_desks(rt, threads)?;
+    show_ends(rt)
+}
+
 fn main(rt: HostRuntime) -> Result<(), Fail> {
-    let whole = |case: &mut Case, keeper: StopKeeper| run(&rt, case, keeper);
-    let surely = |case: &mut SureCase, keeper: SureKeeper| run_surely(&rt, case, keeper);
-    run_file(&rt, &whole, Kind::Plain, "cases")?;
-    run_file(&rt, &whole, Kind::Keeping, "slots")?;
-    run_file(&rt, &whole, Kind::Graphs, "graphs")?;
-    run_file(&rt, &whole, Kind::Faults, "faults")?;
-    sure::run_file(&rt, &surely, "sure")?;
-    show_calls(&rt)?;
-    show_claims(&rt, &|seats: u32| draw_all(&rt, rt.alloc(), seats))?;
-    show_desks(
-        &rt,
-        &|job: &Job, keeper: DeskKeeper, every: u32| {
-            run_desk(&rt, rt.alloc(), job, keeper, every)
-        },
-    )?;
-    show_ends(&rt)?;
-    let held = |case: &mut Gated<CrowdGate>, keeper: MemKeeper| run_gated(&rt, case, keeper);
-    let counted = |case: &mut Gated<CountingGate>, keeper: CountedKeeper<MemKeeper>| {
-        run_gated(&rt, case, keeper)
-    };
-    let timed = |case: &mut Gated<TimedGate>, keeper: MemKeeper| run_gated(&rt, case, keeper);
-    run_crowds(&rt, &held, "crowds")?;
-    run_counts(&rt, &counted, "counted")?;
-    run_timings(&rt, &timed, "timed")?;
-    Ok(())
+    run_lines(&rt, &rt, &BEFORE_CALLS)?;
+    run_sure_lines(&rt, &rt)?;
+    show_all(&rt, &rt)?;
+    run_lines(&rt, &rt, &AFTER_CALLS)
 }

@@ -76,13 +76,19 @@ fn show_gap(rt: &HostRuntime, job: &Job) -> io::Result<()> {
     show_stop(rt, job, 2, &ends)
 }
 
+fn show_job(rt: &HostRuntime, job: &Job) -> io::Result<()> {
+    show_all(rt, job)?;
+    show_gap(rt, job)
+}
+
 /// Shows where tests of five ends stop, on the four units in a row.
 pub fn show_ends(rt: &HostRuntime) -> io::Result<()> {
     let text = fs::read(rt, "four_in_a_row.json")?;
     match job_of(rt.alloc(), text.as_slice()) {
         Ok(job) => {
-            show_all(rt, &job)?;
-            show_gap(rt, &job)
+            let told = show_job(rt, &job);
+            drop(job);
+            told
         }
         Err(_) => rt.println("no job"),
     }

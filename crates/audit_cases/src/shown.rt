@@ -46,7 +46,11 @@ fn show_made(rt: &HostRuntime, job: &Job, shown: Shown) -> io::Result<()> {
 /// Shows a job, or why there is none.
 pub fn show_job(rt: &HostRuntime, job: Result<Job, PlanFault>, shown: Shown) -> io::Result<()> {
     match job {
-        Ok(job) => show_made(rt, &job, shown),
+        Ok(job) => {
+            let told = show_made(rt, &job, shown);
+            drop(job);
+            told
+        }
         Err(fault) => show_fault(rt, &fault),
     }
 }
