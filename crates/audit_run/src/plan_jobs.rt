@@ -14,23 +14,48 @@ use audit_input::prepare::word_end;
 use audit_input::reading::{ReadEnd, read_source};
 use audit_io::source::Source;
 use audit_model::fault::PlansFault;
-use audit_model::setting::Setting;
+use audit_model::setting::{Columns, Setting};
+use audit_model::text::Text;
 use audit_words::read;
 use plan_csv::named::Named;
 use plan_csv::read_jobs;
 use report::ended::Ended;
 use std::alloc::Global;
 
+fn columns_of(setting: Setting) -> Columns
+    ensures { result ≡ setting.columns }
+{
+    setting.columns
+}
+
+fn region_of(setting: Setting) -> Text
+    ensures { result ≡ setting.region }
+{
+    setting.region
+}
+
 fn plans_end(fault: PlansFault, setting: Setting) -> Ended
     ensures { result ≡ plans_ended setting fault }
 {
     match fault {
-        PlansFault::Graph(fault) => Ended::BadGraph(fault, setting.columns),
-        PlansFault::Regions(fault) => Ended::BadRegions(fault, setting.region),
-        PlansFault::Table(fault) => Ended::BadTable(fault),
-        PlansFault::Own(fault) => Ended::BadPlan(fault),
-        PlansFault::Other(name, fault) => Ended::BadPlanNamed(name, fault),
-        PlansFault::Memory => Ended::NoMemory,
+        PlansFault::Graph(fault) => Ended::BadGraph(fault, columns_of(setting)),
+        PlansFault::Regions(fault) => Ended::BadRegions(fault, region_of(setting)),
+        PlansFault::Table(fault) => {
+            drop(setting);
+            Ended::BadTable(fault)
+        }
+        PlansFault::Own(fault) => {
+            drop(setting);
+            Ended::BadPlan(fault)
+        }
+        PlansFault::Other(name, fault) => {
+            drop(setting);
+            Ended::BadPlanNamed(name, fault)
+        }
+        PlansFault::Memory => {
+            drop(setting);
+            Ended::NoMemory
+        }
     }
 }
 
@@ -53,7 +78,10 @@ fn judge_plans(alloc: Global, setting: Setting, bytes: &[u8]) -> Result<Vec<Name
         → MatchResult result (λ plans. IsAtEnd after.bytes → AreReadyFor setting before after plans.items) (λ why. PlansRefused setting before after why) }
 {
     match read_jobs(alloc, &setting, bytes) {
-        Ok(plans) => Ok(plans),
+        Ok(plans) => {
+            drop(setting);
+            Ok(plans)
+        }
         Err(fault) => Err(plans_end(fault, setting)),
     }
 }
@@ -70,7 +98,10 @@ fn prepare_jobs<S: Source>(
 {
     match read_source(alloc, source) {
         Ok(bytes) => judge_plans(alloc, setting, bytes.as_slice()),
-        Err(end) => Err(read_end(end)),
+        Err(end) => {
+            drop(setting);
+            Err(read_end(end))
+        }
     }
 }
 

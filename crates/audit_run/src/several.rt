@@ -56,5 +56,7 @@ pub fn audit_plans<R: Threads + Sync, S: Source, K: Sink, N: Sink, G: Gate + Syn
         (N.state note.old) (N.state note.new) result }
 {
     let why = run_plans(rt, words, graph, out);
-    tell(&why, note)
+    let status = tell(&why, note);
+    drop(why);
+    status
 }

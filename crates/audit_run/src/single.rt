@@ -92,8 +92,15 @@ pub fn audit_single<
     match prepare(rt.alloc, words, graph) {
         Ok(job) => {
             let (why, keeper) = finish(rt, &job, out, keeper);
-            (tell(&why, note), keeper)
+            drop(job);
+            let status = tell(&why, note);
+            drop(why);
+            (status, keeper)
         }
-        Err(why) => (tell(&why, note), keeper),
+        Err(why) => {
+            let status = tell(&why, note);
+            drop(why);
+            (status, keeper)
+        }
     }
 }

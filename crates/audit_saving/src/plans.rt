@@ -41,7 +41,10 @@ fn make_walk<J: Judge>(alloc: Global, plan: Named, judges: Vec<J>) -> Result<Pla
 {
     match make_means(alloc, &plan.job, &[], judges) {
         Ok(means) => Ok(PlanWalk { plan, means }),
-        Err(_) => Err(Memory),
+        Err(_) => {
+            drop(plan);
+            Err(Memory)
+        }
     }
 }
 
@@ -118,7 +121,9 @@ fn report_plan<R: Threads + Sync, K: Sink, J: Judge + Send, G: Gate + Sync>(
 {
     let PlanWalk { plan, means } = walk;
     let text = walk_plan(rt, &plan.job, means);
-    write_plan(out, plan.name.as_str(), text.as_slice())
+    let written = write_plan(out, plan.name.as_str(), text.as_slice());
+    drop(plan);
+    written
 }
 
 // Walks one plan after the other, and writes their names and reports. It takes no memory.

@@ -4,6 +4,7 @@ ghost use Rattle.std.specs.Prelude.{◌≡◌, IfOk, length, vec_len};
 ghost use Rattle.walker.specs.Judges.{AreJudges};
 ghost use Rattle.audit_walks.specs.Means.{AreWorkersFor, IsBench, IsMeansFor};
 ghost use Rattle.audit_walks.specs.Ready.{IsReadyFor, IsStartOf};
+ghost use Rattle.audit_walks.specs.Serially.{IsTester};
 
 use crate::ready::{Ready, make_ready};
 use crate::serially::make_tester;
@@ -51,6 +52,55 @@ fn make_workers<J: Judge>(
     Ok(Workers::All(crew))
 }
 
+// What a run holds that starts with these outcomes, and its workers.
+fn make_ready_workers<J: Judge>(
+    alloc: Global,
+    job: &Job,
+    outcomes: &[Outcome],
+    judges: Vec<J>,
+) -> Result<(Ready, Workers<J>), Memory>
+    requires start { IsStartOf job.now outcomes.now }
+    requires judges { AreJudges job.now J.judging judges.items }
+    requires workers { vec_len judges ≡ job.now.setting.workers }
+    ensures ready { IfOk result (λ r. IsReadyFor job.now r.0) }
+    ensures workers { IfOk result (λ r. AreWorkersFor job.now (length r.0.todo) r.1) }
+    ensures outcomes { IfOk result (λ r. r.0.book.outcomes ≡ outcomes.now) }
+{
+    let ready = make_ready(alloc, job, outcomes)?;
+    match make_workers(alloc, job, &ready, judges) {
+        Ok(workers) => Ok((ready, workers)),
+        Err(fault) => {
+            drop(ready);
+            Err(fault)
+        }
+    }
+}
+
+// All that a run takes, with what makes its serial test.
+fn make_with<J: Judge>(
+    alloc: Global,
+    job: &Job,
+    outcomes: &[Outcome],
+    judges: Vec<J>,
+    tester: Option<Walker<J>>,
+) -> Result<Means<J>, Memory>
+    requires start { IsStartOf job.now outcomes.now }
+    requires judges { AreJudges job.now J.judging judges.items }
+    requires workers { vec_len judges ≡ job.now.setting.workers }
+    requires tester { IsTester job.now tester }
+    ensures means { IfOk result (IsMeansFor job.now) }
+    ensures outcomes { IfOk result (λ m. m.ready.book.outcomes ≡ outcomes.now) }
+{
+    match make_ready_workers(alloc, job, outcomes, judges) {
+        Ok((ready, workers)) => Ok(Means {
+            ready,
+            workers,
+            tester,
+        }),
+        Err(fault) => Err(fault),
+    }
+}
+
 /// All that a run takes that starts with these outcomes and saves nothing, with a judge for each worker and one for the serial test. The only error is want of
 /// memory.
 pub fn make_means<J: Judge>(
@@ -67,12 +117,8 @@ pub fn make_means<J: Judge>(
     let Some(judge) = judges.pop() else {
         unreachable!()
     };
-    let tester = make_tester(alloc, job, judge)?;
-    let ready = make_ready(alloc, job, outcomes)?;
-    let workers = make_workers(alloc, job, &ready, judges)?;
-    Ok(Means {
-        ready,
-        workers,
-        tester,
-    })
+    match make_tester(alloc, job, judge) {
+        Ok(tester) => make_with(alloc, job, outcomes, judges, tester),
+        Err(fault) => Err(fault),
+    }
 }

@@ -7,9 +7,9 @@ finish-why-requires-clause-run g c κs within = c.accepted_jobs_are_runs.ensures
 pub returns-in-Ok : goal.returns-in-Ok
 returns-in-Ok g c =
     c.ended_calls_keep_their_promise.ensures _ _ _ _ _ _
-    (ends_for _ _ _ _ _ _ _ (c.finish-why.ensures _ _ _ c.in-Ok.ensures) c.tell.ensures.status c.tell.ensures.told)
+    (ends_for _ _ _ _ _ _ _ (c.finish-why.ensures _ _ _ c.in-Ok.ensures) c.tell-status.ensures.status c.tell-status.ensures.told)
 
 pub returns-in-Err : goal.returns-in-Err
 returns-in-Err g c =
     c.ended_calls_keep_their_promise.ensures _ _ _ _ _ _
-    (ends_for _ _ _ _ _ _ _ (c.in-Err.ensures _ _) c.tell-in-Err.ensures.status c.tell-in-Err.ensures.told)
+    (ends_for _ _ _ _ _ _ _ (c.in-Err.ensures _ _) c.tell-status-in-Err.ensures.status c.tell-status-in-Err.ensures.told)

@@ -17,5 +17,5 @@ walk_plan-text-requires-clause-fresh g c κs within = c.requires.fresh
 pub returns : goal.returns
 returns g c =
     let told = c.as_slice.ensures ∙ c.walk_plan-text.ensures in
-    subst (λ (name : List ℕ). WritesAllOf (g.K.Sink.state c.args.out.now) (g.K.Sink.state c.write_plan.new.out) (plan_title name ++ thread_report c.args.walk.plan.job (draw c.args.walk.plan.job.setting.key)) c.write_plan.result) c.as_str.ensures
-    (subst (λ (text : List ℕ). WritesAllOf (g.K.Sink.state c.args.out.now) (g.K.Sink.state c.write_plan.new.out) (plan_title c.as_str.result.now ++ text) c.write_plan.result) told c.write_plan.ensures)
+    subst (λ (name : List ℕ). WritesAllOf (g.K.Sink.state c.args.out.now) (g.K.Sink.state c.write_plan-written.new.out) (plan_title name ++ thread_report c.args.walk.plan.job (draw c.args.walk.plan.job.setting.key)) c.write_plan-written.result) c.as_str.ensures
+    (subst (λ (text : List ℕ). WritesAllOf (g.K.Sink.state c.args.out.now) (g.K.Sink.state c.write_plan-written.new.out) (plan_title c.as_str.result.now ++ text) c.write_plan-written.result) told c.write_plan-written.ensures)

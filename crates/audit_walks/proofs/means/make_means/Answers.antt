@@ -6,11 +6,8 @@ use Rattle.audit_walks.proofs.means.make_means.Goals as goal
 pub make_tester-requires : goal.make_tester-requires
 make_tester-requires g c = popped_last (λ judge. IsJudgeFor c.args.job.now (g.J.Judge.judging judge)) _ _ c.in-Some.judge c.requires.judges.judges_are c.in-Some.ensures.items
 
-pub make_workers-requires-clause-judges : goal.make_workers-requires-clause-judges
-make_workers-requires-clause-judges g c = popped_rest (λ judge. IsJudgeFor c.args.job.now (g.J.Judge.judging judge)) _ _ c.in-Some.judge c.requires.judges.judges_are c.in-Some.ensures.items
+pub make_with-requires-clause-judges : goal.make_with-requires-clause-judges
+make_with-requires-clause-judges g c = popped_rest (λ judge. IsJudgeFor c.args.job.now (g.J.Judge.judging judge)) _ _ c.in-Some.judge c.requires.judges.judges_are c.in-Some.ensures.items
 
-pub make_workers-requires-clause-workers : goal.make_workers-requires-clause-workers
-make_workers-requires-clause-workers g c = omega (arith, c.in-Some.ensures.len, c.requires.judges.count_is)
-
-pub returns-clause-means : goal.returns-clause-means
-returns-clause-means g c = record { ready = c.in_ok-ready.ensures.ready; workers = c.in_ok-workers.ensures; tester = c.in_ok-tester.ensures }
+pub make_with-requires-clause-workers : goal.make_with-requires-clause-workers
+make_with-requires-clause-workers g c = omega (arith, c.in-Some.ensures.len, c.requires.judges.count_is)
