@@ -27,7 +27,7 @@ MOVES = 1500103
 SECONDS = 60
 # Runs that are alike but for the number of regions: how many steps, units and moves, how often each is made, and how many times the time of the one
 # in few regions the other may take.
-FEW_STEPS, FEW_UNITS, FEW_MOVES, TRIES, MOST_TIMES = 1000000, 10000, 499203, 3, 3
+FEW_STEPS, FEW_UNITS, FEW_MOVES, TRIES, MOST_TIMES = 1000000, 10000, 499203, 3, 6
 
 
 # ---- the inputs
