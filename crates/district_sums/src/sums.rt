@@ -1,9 +1,8 @@
 //! Sums that follow a plan.
 
-ghost use Rattle.std.specs.Prelude.{◌≡◌, ◌≢◌, ◌<◌, length, slice_index, slice_set, IfOk};
+ghost use Rattle.std.specs.Prelude.{◌≡◌, ◌<◌, length, slice_set, IfOk};
 ghost use Rattle.audit_model.specs.Below.{map_below};
 ghost use Rattle.audit_model.specs.Plan.{cut_edges};
-ghost use Rattle.audit_model.specs.Score.{sums_of};
 ghost use Rattle.district_sums.specs.Following.{AreInputs, StandsFor, StandsForSome, apart_of, districts_in};
 
 use crate::scratch::{refill_apart, refill_view};
@@ -101,19 +100,11 @@ impl Sums {
         self.view.cut + others_than(member, district) - before
     }
 
-    /// Moves a unit to another district in the sums of the districts alone: the plan with it there cuts so many edges.
+    /// Writes another number of cut edges, and leaves all else as it is.
     #[inline]
-    pub fn shift_view(&mut self, counts: &Counts, member: Member, district: u32, cut: u32)
-        requires inputs { AreInputs member.graph.now counts.now (districts_in self.old) member.plan.now }
-        requires view { self.old.view ≡ sums_of member.graph.now counts.now (districts_in self.old) member.plan.now }
-        requires district { district < districts_in self.old }
-        requires elsewhere { slice_index member.plan.now member.unit ≢ district }
-        requires cut { cut ≡ cut_edges member.graph.now (slice_set member.plan.now member.unit district) }
-        ensures districts { districts_in self.new ≡ districts_in self.old }
-        ensures view { self.new.view ≡ sums_of member.entry.graph.now counts.now (districts_in self.old) (slice_set member.entry.plan.now member.entry.unit district) }
-        ensures apart { self.new.apart ≡ self.old.apart }
+    pub fn put_cut(&mut self, cut: u32)
+        ensures { self.new ≡ record self.old { view = record self.old.view { cut = cut } } }
     {
-        shift_counts(counts, member, district, &mut self.view);
         self.view.cut = cut;
     }
 

@@ -1,12 +1,16 @@
 //! A judge by a stored closure.
 
-ghost use Rattle.std.specs.Prelude.{◌≡◌, ◌<◌, ◌^◌, [], ⊤, nat_le, Bool, true};
+ghost use Rattle.std.specs.Prelude.{◌≡◌, ◌<◌, ◌≤◌, ◌↔◌, ◌^◌, [], ⊤, nat_le, Bool, IsTrue, true};
 ghost use Rattle.std.specs.Fn.{FnReturnsAt};
+ghost use Rattle.audit_model.specs.Limits.{most_edges};
 ghost use Rattle.audit_model.specs.declared.outcome.SumsView.{SumsView as Sums};
 
 use crate::judge::Judge;
 use audit_model::outcome::SumsView;
 use audit_model::rules::Rules;
+
+/// The most edges that a graph may have.
+const MOST_EDGES: u32 = 400_000;
 
 /// A closure that tests the cut edges of a plan, beside the fact that it may be called on all sums and answers whether there are no more
 /// than the rules allow.
@@ -40,6 +44,14 @@ impl<F: Fn(&SumsView) -> bool + Drop> Guard<F> {
         let _cut = sums.cut;
         (self.test)(sums)
     }
+
+    /// Whether the rules allow as many cut edges as a graph may have.
+    #[inline]
+    pub fn allows_all(&self) -> bool
+        ensures { IsTrue result ↔ (most_edges ≤ self.now.rules.max_cut) }
+    {
+        MOST_EDGES <= self.rules.max_cut
+    }
 }
 
 impl<F: Fn(&SumsView) -> bool + Drop> Judge for Guard<F> {
@@ -52,6 +64,11 @@ impl<F: Fn(&SumsView) -> bool + Drop> Judge for Guard<F> {
           × (g.rules.group_districts ≡ 0);
       stands = λ plan. ⊤;
     } };
+
+    #[inline]
+    fn limits_nothing(&self) -> bool {
+        self.allows_all()
+    }
 
     fn permits(&self, _after: &[u32], sums: &SumsView, _unit: u32, _from: u32) -> bool {
         self.allows(sums)

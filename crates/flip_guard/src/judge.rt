@@ -1,8 +1,10 @@
 //! Who judges a plan by its rules.
 
-ghost use Rattle.std.specs.Prelude.{◌≡◌};
+ghost use Rattle.std.specs.Prelude.{◌≡◌, ◌≤◌, ◌↔◌, ℕ, List, IsTrue};
+ghost use Rattle.audit_model.specs.Limits.{most_edges};
 ghost use Rattle.audit_model.specs.Meets.{meets_rules};
 ghost use Rattle.flip_guard.specs.Judging.{IsAfterMove, IsTaken, Judging};
+ghost use Rattle.flip_guard.specs.Limiting.{LimitNothing};
 
 use audit_model::outcome::SumsView;
 
@@ -11,7 +13,14 @@ pub trait Judge: Drop {
     /// What it judges by, and of which plans it may be asked.
     ghost judging: { Self → Judging };
 
-    /// Whether the plan after a move, with its sums, meets the rules: the unit came from another district of a plan for which it stands.
+    /// Whether its rules limit nothing, so that it need not be asked: each plan meets them that cuts no more edges than a graph may have.
+    fn limits_nothing(&self) -> bool
+        requires kept { (judging self.now).keeps }
+        ensures exact { IsTrue result ↔ LimitNothing (judging self.now).rules }
+        ensures meets { IsTrue result → (cut : ℕ) (plan : List ℕ) → cut ≤ most_edges → IsTrue (meets_rules (judging self.now).rules cut plan) };
+
+    /// Whether the plan after a move meets the rules, where it cuts as many edges as the sums have: the unit came from another district of a
+    /// plan for which it stands. Of the sums the cut edges alone are those of the plan after the move.
     fn permits(&self, after: &[u32], sums: &SumsView, unit: u32, from: u32) -> bool
         requires kept { (judging self.now).keeps }
         requires after { IsAfterMove (judging self.now) after.now unit from }

@@ -1,17 +1,13 @@
--- What a judge is asked of a job's plans, and the sums that are as before once it has answered.
-use Rattle.std.proofs.Common.{◌≡◌, ℕ, ◌<◌, Bool, List, length, get_or, set, sym, ap, ◌∙◌, subst, inl, inr, arith, length-set}
+-- What a judge is asked of a job's plans.
+use Rattle.std.proofs.Common.{◌≡◌, ℕ, ◌<◌, List, length, get_or, set, sym, ap, ◌∙◌, subst, inl, inr, arith, length-set}
 use Rattle.std.specs.Prelude.{IsTrue}
 use Rattle.std.proofs.lemmas.Bool.{cases_eq}
 use Rattle.std.proofs.lemmas.List.{get_or-set_same, get_or-set_other}
-use Rattle.audit_model.specs.declared.outcome.SumsView.{SumsView}
 use Rattle.audit_model.specs.Below.{above_all}
 use Rattle.audit_model.specs.Job.{Job}
 use Rattle.audit_model.specs.Plan.{IsLegal}
-use Rattle.audit_model.specs.Score.{sums_of}
 use Rattle.audit_model.proofs.ListFacts.{above_all_most}
-use Rattle.district_sums.specs.Following.{Following, StandsFor, districts_in}
 use Rattle.flip_guard.specs.Judging.{IsAfterMove, IsTaken, Judging}
-use Rattle.flip_kernel.specs.Held.{sums_in}
 use Rattle.flip_kernel.specs.Judged.{IsJudgeFor, IsSeated, TakesPlansOf}
 use Rattle.flip_kernel.proofs.Holding.{put_back}
 
@@ -52,12 +48,3 @@ seated_now job old new plan judge kept stood same_rules same_takes = record {
   };
   stood = stood;
 }
-
--- the sums of a plan, with the same counts of neighbours
-pub same_sums : (job : Job) (plan now : List ℕ) (old new : Following) → StandsFor job.graph job.counts plan old → districts_in old ≡ job.districts
-    → now ≡ plan → new.view ≡ sums_in job now → new.apart ≡ old.apart → new ≡ old
-same_sums job plan now old new stands places at view apart =
-    let same : new.view ≡ old.view =
-    view ∙ ap (λ (p : List ℕ). sums_in job p) at ∙ ap (λ (n : ℕ). sums_of job.graph job.counts n plan) (sym places) ∙ sym stands.view in
-    ap (λ (v : SumsView). (let f : Following = record { view = v; apart = new.apart } in f)) same
-    ∙ ap (λ (xs : List ℕ). (let f : Following = record { view = old.view; apart = xs } in f)) apart

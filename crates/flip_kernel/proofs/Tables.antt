@@ -12,7 +12,7 @@ use Rattle.audit_model.specs.District.{in_district}
 use Rattle.audit_model.proofs.Bools.{and_true}
 use Rattle.audit_model.proofs.ListFacts.{has_at}
 use Rattle.flip_kernel.specs.Openings.{is_open, flag_of, TellsOpen, HasOpened}
-use Rattle.flip_kernel.proofs.Beside.{open_other, open_far}
+use Rattle.flip_kernel.proofs.Beside.{not_open, open_other, open_far}
 
 -- ---- one pair
 
@@ -91,6 +91,31 @@ IsStale row unit home district i u d =
 pub record IsRenewing (g : Graph) (plan : List ℕ) (districts : ℕ) (row : List ℕ) (unit home district i : ℕ) (table : List Bool) : Type 0 where
   pub width : g.units * districts ≤ length table
   pub each : (u d : ℕ) → u < g.units → d < districts → (flag_of table districts u d ≡ is_open g plan u d) ⊎ IsStale row unit home district i u d
+
+-- the district that a unit is in is closed to it, but for the unit that moves
+abbrev pub IsClosed : ℕ → List ℕ → ℕ → ℕ → List Bool → Type 0
+IsClosed units plan districts unit table = (u d : ℕ) → u < units → d < districts → (u ≡ unit → ⊥) → get_or plan u 0 ≡ d → flag_of table districts u d ≡ false
+
+-- it is so before the move
+pub closed_none : (g : Graph) (plan : List ℕ) (districts unit home : ℕ) (table : List Bool) → TellsOpen g (set plan unit home) districts table
+    → IsClosed g.units plan districts unit table
+closed_none g plan districts unit home table before = λ u d lu ld off is.
+    before.each u d lu ld ∙ not_open g (set plan unit home) u d (get_or-set_other plan unit u home 0 off ∙ is)
+
+-- and stays so where a pair is written, closed where it is of the unit's own district
+pub closed_more : (units : ℕ) (plan : List ℕ) (districts unit v e : ℕ) (flag : Bool) (table : List Bool) → v * districts + e < length table → e < districts
+    → (get_or plan v 0 ≡ e → flag ≡ false) → IsClosed units plan districts unit table → IsClosed units plan districts unit (set table (v * districts + e) flag)
+closed_more units plan districts unit v e flag table inside le own closed = λ u d lu ld off is. elim (cases_eq u v) [
+  | inl same ↦ elim (cases_eq d e) [
+    | inl at ↦
+        ap (λ (x : ℕ). flag_of (set table (v * districts + e) flag) districts x d) same
+        ∙ ap (λ (x : ℕ). flag_of (set table (v * districts + e) flag) districts v x) at
+        ∙ flag_same table districts v e flag inside
+        ∙ own (ap (λ (x : ℕ). get_or plan x 0) (sym same) ∙ is ∙ at)
+    | inr apart ↦ flag_other table districts u d v e flag ld le (λ _ at. apart at) ∙ closed u d lu ld off is
+  ]
+  | inr apart ↦ flag_other table districts u d v e flag ld le (λ same _. apart same) ∙ closed u d lu ld off is
+]
 
 -- before any pair is renewed all others than those of the two districts beside the unit are right
 pub renewing_none : (g : Graph) (plan : List ℕ) (districts : ℕ) (row : List ℕ) (unit home : ℕ) (table : List Bool) → IsGraph g → unit < length plan

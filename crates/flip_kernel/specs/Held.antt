@@ -26,13 +26,6 @@ pub record IsSummed (job : Job) (plan : List ℕ) (sums : Following) : Type 0 wh
   pub places : districts_in sums ≡ job.districts
   pub stands : StandsFor job.graph job.counts plan sums
 
--- each unit is in one of the job's districts, and the view of the sums is that of the plan's
-pub record IsViewed (job : Job) (plan : List ℕ) (sums : Following) : Type 0 where
-  pub complete : length plan ≡ job.graph.units
-  pub in_range : (u : ℕ) → u < job.graph.units → slice_index plan u < job.districts
-  pub places : districts_in sums ≡ job.districts
-  pub view : sums.view ≡ sums_in job plan
-
 -- the plan is legal, the sums are its sums, there are marks for all units, the table tells which pairs are open, the numbers are the job's,
 -- and the faces are its graph's and counted in each district of the plan
 pub record IsHeld (job : Job) (plan : List ℕ) (sums : Following) (marks : ℕ) (table : List Bool) (pairs : Pairs) (low high : ℕ)

@@ -9,7 +9,7 @@ ghost use Rattle.audit_model.specs.District.{district_sum};
 ghost use Rattle.audit_model.specs.Plan.{IsLegal, cut_edges, least_population, greatest_population};
 ghost use Rattle.audit_model.specs.Step.{next};
 ghost use Rattle.district_sums.specs.Following.{StandsFor, districts_in};
-ghost use Rattle.flip_kernel.specs.Held.{IsMove, IsSummed, IsViewed, KeepsBounds, ProposesOpen, sums_in};
+ghost use Rattle.flip_kernel.specs.Held.{IsMove, IsSummed, KeepsBounds, ProposesOpen, sums_in};
 ghost use Rattle.flip_kernel.specs.Judged.{IsSeated};
 ghost use Rattle.flip_kernel.specs.Openings.{is_open};
 
@@ -177,7 +177,8 @@ impl Board {
         )
     }
 
-    /// Whether the judge permits the plan with the unit in the district.
+    /// Whether the judge permits the plan with the unit in the district. A judge that limits nothing is not asked.
+    #[inline]
     fn permits<J: Judge>(&mut self, judge: &J, flip: Flip) -> bool
         requires made { self.old.job ≡ flip.job.now }
         requires judge { IsSeated flip.job.now self.old.plan (J.judging judge.now) }
@@ -186,6 +187,11 @@ impl Board {
             result ≡ meets_rules (rules flip.entry.job.now) (cut_edges flip.entry.job.now.graph after) after }
         ensures same { self.new ≡ self.old }
     {
+        // Called for what its contract says: the job is within its limits, and so is the number of its graph's edges.
+        let _units = flip.job.units();
+        if judge.limits_nothing() {
+            return true;
+        }
         is_permitted(judge, flip, &mut self.sums, &mut self.plan)
     }
 
@@ -337,29 +343,18 @@ fn shift(flip: Flip, sums: &mut Sums, plan: &mut UnitList)
     );
 }
 
-/// Moves a unit to another district in the plan and in the sums of its districts: so many edges are cut then.
+/// Puts a unit into a district in the plan alone.
 #[inline]
-fn shift_view(flip: Flip, sums: &mut Sums, plan: &mut UnitList, cut: u32)
-    requires viewed { IsViewed flip.job.now plan.old sums.old }
-    requires elsewhere { slice_index plan.old flip.unit ≢ flip.district }
-    requires cut { cut ≡ cut_edges flip.job.now.graph (slice_set plan.old flip.unit flip.district) }
-    ensures plan { plan.new ≡ slice_set plan.old flip.entry.unit flip.entry.district }
-    ensures places { districts_in sums.new ≡ flip.entry.job.now.districts }
-    ensures view { sums.new.view ≡ sums_in flip.entry.job.now plan.new }
-    ensures apart { sums.new.apart ≡ sums.old.apart }
+fn put_unit(plan: &mut UnitList, unit: u32, district: u32)
+    requires { unit < length plan.old }
+    ensures { plan.new ≡ slice_set plan.old unit district }
 {
-    // Called for what its contract says: the job is within its limits, and its start plan is legal.
-    let _units = flip.job.units();
-    let member = Member {
-        graph: flip.job.graph(),
-        plan: plan.as_slice(),
-        unit: flip.unit,
-    };
-    sums.shift_view(flip.job.counts(), member, flip.district, cut);
-    plan.as_mut_slice()[flip.unit as usize] = flip.district;
+    plan.as_mut_slice()[unit as usize] = district;
 }
 
-/// Whether a judge permits the plan with a unit in another district. The plan and its sums are as before afterwards.
+/// Whether a judge permits the plan with a unit in another district. It sees that plan and the number of its cut edges. The plan and its
+/// sums are as before afterwards.
+#[inline(never)]
 fn is_permitted<J: Judge>(judge: &J, flip: Flip, sums: &mut Sums, plan: &mut UnitList) -> bool
     requires summed { IsSummed flip.job.now plan.old sums.old }
     requires judge { IsSeated flip.job.now plan.old (J.judging judge.now) }
@@ -379,14 +374,11 @@ fn is_permitted<J: Judge>(judge: &J, flip: Flip, sums: &mut Sums, plan: &mut Uni
         unit: flip.unit,
     };
     let after = sums.cut_after(member, flip.district);
-    shift_view(flip, sums, plan, after);
+    sums.put_cut(after);
+    put_unit(plan, flip.unit, flip.district);
     let permitted = judge.permits(plan.as_slice(), sums.view(), flip.unit, home);
-    let back = Flip {
-        job: flip.job,
-        unit: flip.unit,
-        district: home,
-    };
-    shift_view(back, sums, plan, before);
+    put_unit(plan, flip.unit, home);
+    sums.put_cut(before);
     permitted
 }
 

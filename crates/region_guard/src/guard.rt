@@ -236,6 +236,11 @@ impl<F: Fn(&SumsView) -> bool + Drop, T: Fn(u32) -> bool + Drop> Judge for Regio
       stands = λ plan. IsStanding g.rules g.districts g.splits g.tally plan;
     } };
 
+    #[inline]
+    fn limits_nothing(&self) -> bool {
+        self.cut.allows_all() && self.rules.regions.len() == 0 && self.rules.group_districts == 0
+    }
+
     fn permits(&self, after: &[u32], sums: &SumsView, unit: u32, from: u32) -> bool {
         self.cut.allows(sums)
             && self.permits_regions(after, unit, from)

@@ -1,4 +1,4 @@
-use Rattle.std.proofs.Common.{◌≡◌, ℕ, List, set, sym, ap, ◌∙◌, subst}
+use Rattle.std.proofs.Common.{ℕ, List, set, sym, ◌∙◌, subst}
 use Rattle.std.proofs.lemmas.Bool.{both_ways, false≢true}
 use Rattle.audit_model.specs.Job.{Job, rules}
 use Rattle.audit_model.specs.JobOf.{IsJob}

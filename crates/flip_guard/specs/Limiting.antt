@@ -1,0 +1,10 @@
+-- Rules that limit nothing.
+use Rattle.std.specs.Prelude.{◌≡◌, ◌≤◌, []}
+use Rattle.audit_model.specs.declared.rules.Rules.{Rules}
+use Rattle.audit_model.specs.Limits.{most_edges}
+
+-- as many edges may be cut as a graph may have, there are no regions, and no majority is asked for
+pub record LimitNothing (rules : Rules) : Type 0 where
+  pub all_cuts : most_edges ≤ rules.max_cut
+  pub no_regions : rules.regions ≡ []
+  pub no_group : rules.group_districts ≡ 0
