@@ -237,10 +237,10 @@ fn is_inside(member: Member, corner: Corner, district: u32) -> bool
 {
     let plan = member.plan;
     let row = member.graph.neighbours(member.unit);
-    plan[row[corner.one as usize] as usize] == district
-        && plan[row[corner.other as usize] as usize] == district
-        && plan[corner.far as usize] == district
-        && plan[corner.further as usize] == district
+    (plan[row[corner.one as usize] as usize] == district)
+        & (plan[row[corner.other as usize] as usize] == district)
+        & (plan[corner.far as usize] == district)
+        & (plan[corner.further as usize] == district)
 }
 
 /// The count with one more where something counts.

@@ -36,7 +36,7 @@ pub fn are_linked(leaving: Member, corners: &[Corner]) -> bool
     }
 }
 
-/// Whether the units of a corner at u are all in u's district.
+/// Whether the units of a corner at u are all in u's district. They are counted, so that one test follows and not four.
 #[inline]
 fn is_inner(leaving: Member, corner: Corner) -> bool
     requires { IsOnRow leaving.graph.now (slice_index_or leaving.graph.now.neighbours leaving.unit []) corner }
@@ -45,10 +45,11 @@ fn is_inner(leaving: Member, corner: Corner) -> bool
     let plan = leaving.plan;
     let row = leaving.graph.neighbours(leaving.unit);
     let district = plan[leaving.unit as usize];
-    plan[row[corner.one as usize] as usize] == district
-        && plan[row[corner.other as usize] as usize] == district
-        && plan[corner.far as usize] == district
-        && plan[corner.further as usize] == district
+    let inside = u32::from(plan[row[corner.one as usize] as usize] == district)
+        + u32::from(plan[row[corner.other as usize] as usize] == district)
+        + u32::from(plan[corner.far as usize] == district)
+        + u32::from(plan[corner.further as usize] == district);
+    inside == 4
 }
 
 /// Makes the classes of neighbours one that share a face inside their district.
@@ -98,10 +99,9 @@ fn all_of(leaving: Member, classes: &[u8; 32], class: u8) -> bool
     let plan = leaving.plan;
     let row = leaving.graph.neighbours(leaving.unit);
     let district = plan[leaving.unit as usize];
+    let mut all = true;
     for place in 0..row.len() {
-        if plan[row[place] as usize] == district && classes[place] != class {
-            return false;
-        }
+        all = all & ((plan[row[place] as usize] != district) | (classes[place] == class));
     }
-    true
+    all
 }

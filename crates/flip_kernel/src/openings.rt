@@ -55,6 +55,19 @@ impl Openings {
         put_bit(&mut self.words, place_of(unit, district, districts), flag);
     }
 
+    /// Opens or closes a pair of a unit that is in the district `there`. Its own district is closed to it already.
+    #[inline]
+    fn put_elsewhere(&mut self, districts: u32, unit: u32, district: u32, there: u32, flag: bool)
+        requires inside { unit * districts + district < length self.old }
+        requires closed { there ≡ district → flag_of self.old districts unit district ≡ false }
+        requires own { there ≡ district → flag ≡ false }
+        ensures { self.new ≡ slice_set self.old (unit * districts + district) flag }
+    {
+        if there != district {
+            self.put(districts, unit, district, flag);
+        }
+    }
+
     /// Closes all pairs.
     fn clear(&mut self)
         ensures { self.new ≡ replicate (length self.old) false }
@@ -106,8 +119,9 @@ impl Openings {
         let district = plan[unit as usize];
         for other in graph.neighbours(unit) {
             let v = *other;
-            self.put(districts, v, district, plan[v as usize] != district);
-            self.put(districts, v, home, is_open(graph, plan, v, home));
+            let there = plan[v as usize];
+            self.put_elsewhere(districts, v, district, there, there != district);
+            self.put_elsewhere(districts, v, home, there, is_open(graph, plan, v, home));
         }
         self.put(districts, unit, district, false);
         self.put(districts, unit, home, is_open(graph, plan, unit, home));
