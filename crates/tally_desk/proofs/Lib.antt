@@ -23,4 +23,5 @@ pub mod Todo
 pub mod Tried
 pub mod Trying
 pub mod Turning
+pub mod Unposted
 pub mod Wholes

@@ -11,14 +11,14 @@ use Rattle.audit_model.specs.Times.{times}
 use Rattle.audit_model.proofs.Times.{one, one_same, times-append, times_push}
 
 -- one more claim
-claimed_more : (parts : Parts) (id x : ℕ) (v w : PassView) (c : Claims parts id v w) → times x (claimed_ids parts w) ≡ times x (claimed_ids parts v) + one x id
+pub claimed_more : (parts : Parts) (id x : ℕ) (v w : PassView) (c : Claims parts id v w) → times x (claimed_ids parts w) ≡ times x (claimed_ids parts v) + one x id
 claimed_more parts id x v w c =
     ap (λ (u : PassView). times x (claimed_ids parts u)) c.view
     ∙ ap (times x) (map-append (λ (p : ℕ). get_or parts.todo p 0) v.own.claims (c.place ∷ []))
     ∙ times_push x (claimed_ids parts v) (get_or parts.todo c.place 0) ∙ ap (λ (k : ℕ). times x (claimed_ids parts v) + one x k) (sym c.id_is)
 
 -- a claim changes no posts
-same_entries : (parts : Parts) (id : ℕ) (v w : PassView) → Claims parts id v w → w.entries ≡ v.entries
+pub same_entries : (parts : Parts) (id : ℕ) (v w : PassView) → Claims parts id v w → w.entries ≡ v.entries
 same_entries parts id v w c = ap (λ (u : PassView). u.entries) c.view
 
 -- what a whole pass has just claimed may be posted

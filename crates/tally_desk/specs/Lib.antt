@@ -16,4 +16,5 @@ pub mod Righted
 pub mod Rooms
 pub mod Saves
 pub mod Saving
+pub mod Unposted
 pub mod Views

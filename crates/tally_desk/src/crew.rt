@@ -1,9 +1,10 @@
 //! All workers of a run that saves while it walks.
 
-ghost use Rattle.std.specs.Prelude.{◌≡◌, All, IfOk, vec_len};
+ghost use Rattle.std.specs.Prelude.{◌≡◌, ◌+◌, ◌-◌, ◌*◌, ◌<◌, ◌≤◌, ◌∷◌, [], ◌++◌, All, IfOk, vec_len};
 ghost use Rattle.tally_desk.specs.Founded.{parts_of};
 ghost use Rattle.tally_desk.specs.Passes.{IsFirstPass};
 ghost use Rattle.tally_desk.specs.Crews.{AreWalkers, IsDeskCrew, IsReadyAtDesk, MaySeat};
+ghost use Rattle.tally_desk.specs.Unposted.{AreRooms, held_room, holders, room_at};
 ghost use Rattle.walker.specs.Judges.{AreJudges};
 
 use crate::desk::Desk;
@@ -13,18 +14,30 @@ use crate::worker::DeskWorker;
 use audit_io::keeper::Keeper;
 use audit_model::lists::UnitList;
 use audit_model::memory::Memory;
+use audit_model::outcome::Outcome;
+use audit_model::setting::Setting;
 use claim_counter::gated::GatedWalker;
 use flip_guard::judge::Judge;
 use plan_core::job::Job;
 use std::alloc::Global;
 
-/// All that walking takes beside the desk: walkers, room for as many workers, and room for the hub.
+/// All that walking takes beside the desk: walkers, room for as many workers, room for what each of these may hold, and room for the hub.
 #[derive(Drop)]
 pub struct Crew<J: Judge> {
     pub(crate) walkers: Vec<GatedWalker<J>>,
     pub(crate) workers: Vec<DeskWorker<J>>,
+    pub(crate) held: Vec<Vec<Outcome>>,
     pub(crate) hub: UnitList,
 }
+
+/// Trajectories of so many steps are long.
+const LONG_STEPS: u32 = 100_000;
+
+/// The most outcomes for which a worker has room.
+const MOST_HELD: usize = 4096;
+
+/// The most workers that have room for outcomes. More of them take so much of the processors that the one that saves is slower.
+const MOST_HOLDERS: usize = 4;
 
 /// A worker for each judge, who judges by the rules of the job. The only error is want of memory, and walking takes no more of it.
 pub fn recruit<J: Judge>(alloc: Global, job: &Job, judges: Vec<J>) -> Result<Crew<J>, Memory>
@@ -33,23 +46,72 @@ pub fn recruit<J: Judge>(alloc: Global, job: &Job, judges: Vec<J>) -> Result<Cre
 {
     let room = Vec::with_capacity(alloc, judges.len())?;
     let hub = UnitList::zeros(alloc, job.units() as usize)?;
+    let setting = job.setting();
+    // Called for what its contract says: together workers hold few outcomes.
+    let _each = room_each(setting, judges.len());
+    let held = make_rooms(alloc, setting, judges.len())?;
     let walkers = hire(alloc, job, judges)?;
     Ok(Crew {
         walkers,
         workers: room,
+        held,
         hub,
     })
 }
 
-// A worker for each walker, with a pass of its own.
+// Of so many workers so many may hold.
+fn holders(workers: usize) -> usize
+    ensures { result ≡ holders workers }
+{
+    workers.min(MOST_HOLDERS)
+}
+
+// For how many outcomes each of those has room. Together they hold fewer than are posted between two saves.
+fn room_each(setting: &Setting, workers: usize) -> usize
+    ensures room { result ≡ held_room setting.now workers }
+    ensures few { holders workers * result ≤ setting.now.save_every - 1 }
+{
+    if setting.steps.max(setting.hub_steps) >= LONG_STEPS {
+        return 0;
+    }
+    let few = setting.save_every.saturating_sub(1) as usize;
+    MOST_HELD.min(few / holders(workers).max(1))
+}
+
+// For how many outcomes the worker at this place has room.
+fn room_at(setting: &Setting, workers: usize, place: usize) -> usize
+    ensures { result ≡ room_at setting.now workers place }
+{
+    if place < holders(workers) {
+        room_each(setting, workers)
+    } else {
+        0
+    }
+}
+
+// An empty list for each of so many workers, with the room that it has.
+fn make_rooms(alloc: Global, setting: &Setting, workers: usize) -> Result<Vec<Vec<Outcome>>, Memory>
+    ensures count { IfOk result (λ h. vec_len h ≡ workers) }
+    ensures rooms { IfOk result (λ h. AreRooms setting.now workers h.items) }
+{
+    let mut held = Vec::with_capacity(alloc, workers)?;
+    for place in 0..workers {
+        let room = room_at(setting, workers, place);
+        held.push_reserved(Vec::with_capacity(alloc, room)?);
+    }
+    Ok(held)
+}
+
+// A worker for each walker, with a pass and a list of its own.
 pub(crate) fn seat<C: Keeper, J: Judge>(
     desk: &Desk<C>,
     mut pass: DeskPass,
     mut walkers: Vec<GatedWalker<J>>,
     mut workers: Vec<DeskWorker<J>>,
+    mut lists: Vec<Vec<Outcome>>,
 ) -> Vec<DeskWorker<J>>
     requires pass { IsFirstPass desk.now.table.shared.table_id (parts_of C.state desk.now.table.shared.key) pass }
-    requires crew { MaySeat (parts_of C.state desk.now.table.shared.key) walkers workers }
+    requires crew { MaySeat (parts_of C.state desk.now.table.shared.key) walkers workers lists }
     ensures ready { All (IsReadyAtDesk desk.now.table.shared.table_id (parts_of C.state desk.now.table.shared.key)) result.items }
     ensures count { vec_len result ≡ vec_len walkers }
 {
@@ -60,10 +122,32 @@ pub(crate) fn seat<C: Keeper, J: Judge>(
     };
     while let Some(walker) = walkers.pop() {
         let part = desk.split(&mut pass);
-        workers.push_reserved(DeskWorker { walker, pass: part });
+        let held = take_last(&mut lists);
+        workers.push_reserved(DeskWorker {
+            walker,
+            pass: part,
+            held,
+        });
     }
-    workers.push_reserved(DeskWorker { walker: last, pass });
+    let held = take_last(&mut lists);
+    workers.push_reserved(DeskWorker {
+        walker: last,
+        pass,
+        held,
+    });
     workers
+}
+
+// Takes the last list.
+fn take_last(lists: &mut Vec<Vec<Outcome>>) -> Vec<Outcome>
+    requires { 0 < vec_len lists.old }
+    ensures items { lists.old.items ≡ lists.new.items ++ result ∷ [] }
+    ensures len { vec_len lists.new + 1 ≡ vec_len lists.old }
+{
+    let Some(last) = lists.pop() else {
+        unreachable!()
+    };
+    last
 }
 
 // A walker for each judge.

@@ -17,6 +17,10 @@ use std::marker::Brand;
 use std::snapshot::Snapshot;
 use std::sync::Wait;
 use std::thread;
+use std::time::Duration;
+
+/// So often a pass looks for a turn before it sleeps.
+const LOOKS: u32 = 16;
 
 /// Gives out the ids of a list to several passes, keeps the book of their outcomes, and saves a checkpoint of it each time that the number of
 /// posts is a multiple. Only a post waits for another.
@@ -126,8 +130,8 @@ impl<C: Keeper> Desk<C> {
         }
     }
 
-    /// Posts the outcome of a claim, under a turn of its own: it looks again until its ticket is served, and parks nobody. It takes no memory but
-    /// the keeper's.
+    /// Posts the outcome of a claim, under a turn of its own: it looks again until no ticket is out and its own is served, and sleeps while another
+    /// pass saves. It takes no memory but the keeper's.
     pub fn post<R: Wait>(&self, rt: &R, pass: &mut DeskPass, outcome: Outcome)
         requires pass { Belongs self.now.table.shared.table_id (parts_of C.state self.now.table.shared.key) pass.old }
         requires claimed { 0 < times outcome.id (claimed_ids (parts_of C.state self.now.table.shared.key) (view_of pass.old)) }
@@ -141,6 +145,31 @@ impl<C: Keeper> Desk<C> {
         self.await_turn(rt, &mut seat, ticket, outcome.id);
         self.serve(&mut seat, ticket, outcome);
         pass.badge = seat.into_badge();
+    }
+
+    /// Posts the outcome of a claim where no other pass is in turn, as `post` does. Whether it was posted.
+    pub fn try_post<R: Wait>(&self, rt: &R, pass: &mut DeskPass, outcome: Outcome) -> bool
+        requires pass { Belongs self.now.table.shared.table_id (parts_of C.state self.now.table.shared.key) pass.old }
+        requires claimed { 0 < times outcome.id (claimed_ids (parts_of C.state self.now.table.shared.key) (view_of pass.old)) }
+        requires unposted { times outcome.id (ids_of (view_of pass.old).entries) ≡ 0 }
+        requires right { outcome ≡ found self.now.table.shared.key.job.value outcome.id }
+        ensures pass { Belongs self.now.table.shared.table_id (parts_of C.state self.now.table.shared.key) pass.new }
+        ensures posted { result ≡ true → Posts outcome.id (view_of pass.old) (view_of pass.new) }
+        ensures missed { result ≡ false → view_of pass.new ≡ view_of pass.old }
+    {
+        let mut seat = take_out(&mut pass.badge);
+        match self.try_ticket::<Brand>(&mut seat, outcome.id) {
+            Some(ticket) => {
+                self.await_turn(rt, &mut seat, ticket, outcome.id);
+                self.serve(&mut seat, ticket, outcome);
+                pass.badge = seat.into_badge();
+                true
+            }
+            None => {
+                pass.badge = seat.into_badge();
+                false
+            }
+        }
     }
 
     // Takes a ticket for the post of this id, as soon as no ticket is out: then it is the one that is served. So the next turn is that of
@@ -158,13 +187,39 @@ impl<C: Keeper> Desk<C> {
         ensures table { seat.new.table_id ≡ seat.old.table_id }
         ensures seat { seat.new.me ≡ (with_turn seat.old.me.0 (waiting result id), []) }
     {
+        let mut looks = 0;
         for _ in rt.forever() {
             if let Some(ticket) = self.try_ticket::<B>(seat, id) {
                 return ticket;
             }
-            thread::yield_now();
+            looks = self.rest(rt, looks);
         }
         unreachable!()
+    }
+
+    // Lets other threads run while a ticket is out: after so many looks, of which it answers one more. After the first few it sleeps, until that
+    // ticket was served with a save, or for a millisecond.
+    fn rest<R: Wait>(&self, rt: &R, looks: u32) -> u32
+        ensures { result ≤ looks + 1 }
+    {
+        if looks < LOOKS {
+            thread::yield_now();
+            return looks + 1;
+        }
+        let words = &self.table.shared;
+        let served = words.peek(2);
+        if words.peek(1) != served {
+            let low = (served % (1 << 32)) as u32;
+            words.park_timeout(rt, 2, low, Duration::from_millis(1));
+        }
+        looks
+    }
+
+    // Ends the sleep of all that wait for a turn, after one that made a save. Others are too short to sleep for.
+    fn wake(&self, saved: bool) {
+        if saved {
+            self.table.shared.wake_all(2);
+        }
     }
 
     // Takes a ticket for the post of this id where none is out.
@@ -213,8 +268,9 @@ impl<C: Keeper> Desk<C> {
         ensures served { HasServed ticket outcome.id seat.old.me seat.new.me }
     {
         let home = seat.slot_mut(&self.table.shared, 0);
-        home.turn(outcome);
+        let saved = home.turn(outcome);
         self.table.shared.store::<Serve>(seat, 2, ticket + 1);
+        self.wake(saved);
     }
 
     /// One more pass, which has claimed nothing. `pass` can then be split once less.

@@ -11,7 +11,7 @@ use claim_counter::gated::GatedWalker;
 use flip_guard::judge::Judge;
 use plan_core::job::Job;
 
-/// Writes the hub, where it is needed. It is asked for beside a desk, so that it is walked only once all memory of the desk is taken.
+/// Writes the hub, exactly where it is needed. It is asked for beside a desk, so that it is walked only once all memory of the desk is taken.
 pub fn walk_hub<C: Keeper, J: Judge>(
     _desk: &Desk<C>,
     job: &Job,
@@ -23,6 +23,7 @@ pub fn walk_hub<C: Keeper, J: Judge>(
     requires units { length hub.old ≡ job.now.graph.units }
     ensures walks { IsWalker job.now walker.new }
     ensures hub { (todo : List ℕ) → (IsFalse needed → All (λ id. id < job.now.setting.walks) todo) → ServesEnds job.now todo hub.new }
+    ensures unneeded { IsFalse needed → hub.new ≡ hub.old }
 {
     if needed {
         walker.hub_into(job, hub.as_mut_slice());

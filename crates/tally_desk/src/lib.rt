@@ -11,6 +11,7 @@ mod home;
 mod hub;
 pub mod laws;
 pub mod pass;
+mod posting;
 pub mod ran;
 mod rule;
 pub mod run_laws;

@@ -90,7 +90,7 @@ fn work<R: Threads + Wait + Sync, C: Keeper + Send, J: Judge + Send, G: Gate + S
     crew: Crew<J>,
 ) -> Kept<C>
     requires pass { IsFirstPass desk.table.shared.table_id (parts_of C.state desk.table.shared.key) pass }
-    requires crew { MaySeat (parts_of C.state desk.table.shared.key) crew.walkers crew.workers }
+    requires crew { MaySeat (parts_of C.state desk.table.shared.key) crew.walkers crew.workers crew.held }
     requires shared { WalksAtDesk job.now (parts_of C.state desk.table.shared.key) crew.hub }
     ensures { (v : PassView) × IsClosed C.state (parts_of C.state desk.table.shared.key) v
         result.book result.keeper result.place result.failed_saves result.last_saved }
@@ -98,9 +98,10 @@ fn work<R: Threads + Wait + Sync, C: Keeper + Send, J: Judge + Send, G: Gate + S
     let Crew {
         walkers,
         workers,
+        held,
         hub,
     } = crew;
-    let mut workers = seat(&desk, pass, walkers, workers);
+    let mut workers = seat(&desk, pass, walkers, workers, held);
     walk_each(rt, job, hub.as_slice(), &desk, workers.as_mut_slice());
     let pass = gather(&desk, workers);
     desk.close(pass)

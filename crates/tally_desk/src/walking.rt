@@ -69,6 +69,10 @@ pub fn gather<C: Keeper, J: Judge>(desk: &Desk<C>, mut workers: Vec<DeskWorker<J
 fn into_pass<J: Judge>(worker: DeskWorker<J>) -> DeskPass
     ensures { result ≡ worker.pass }
 {
-    let DeskWorker { walker: _, pass } = worker;
+    let DeskWorker {
+        walker: _,
+        pass,
+        held: _,
+    } = worker;
     pass
 }

@@ -1,27 +1,31 @@
 //! One thread's part of a run that saves.
 
 use crate::desk::Desk;
-use crate::laws::posts_stay_whole;
 use crate::pass::DeskPass;
+use crate::posting::{hand_in, post_all};
 use audit_io::gate::Gate;
 use audit_io::keeper::Keeper;
+use audit_model::outcome::Outcome;
 use claim_counter::gated::{GatedWalker, Told};
 use flip_guard::judge::Judge;
 use plan_core::job::Job;
 use std::sync::Wait;
 
-/// A walker and a pass.
+/// A walker, a pass, and what the walker found while another worker was in turn. It gets no more room for that.
 #[derive(Drop)]
 pub struct DeskWorker<J: Judge> {
     pub walker: GatedWalker<J>,
     pub pass: DeskPass,
+    pub held: Vec<Outcome>,
 }
 
 impl<J: Judge> DeskWorker<J> {
+    ghost use Rattle.std.specs.Prelude.{◌≡◌, vec_capacity};
     ghost use Rattle.tally_desk.specs.Founded.{parts_of};
     ghost use Rattle.tally_desk.specs.Crews.{IsDeskWorkerDone, IsReadyAtDesk, WalksAtDesk};
 
-    /// Claims ids at the desk until none is left, walks the trajectory of each, and posts what it finds.
+    /// Claims ids at the desk until none is left, walks the trajectory of each, and posts what it finds: at once, or, where another worker is in
+    /// turn and there is room, after a later walk.
     pub fn run<R: Wait, C: Keeper, G: Gate>(
         &mut self,
         rt: &R,
@@ -32,15 +36,17 @@ impl<J: Judge> DeskWorker<J> {
     )
         requires ready { IsReadyAtDesk desk.now.table.shared.table_id (parts_of C.state desk.now.table.shared.key) self.old }
         requires shared { WalksAtDesk job.now (parts_of C.state desk.now.table.shared.key) hub.now }
-        ensures { IsDeskWorkerDone desk.now.table.shared.table_id (parts_of C.state desk.now.table.shared.key) self.new }
+        ensures done { IsDeskWorkerDone desk.now.table.shared.table_id (parts_of C.state desk.now.table.shared.key) self.new }
+        ensures room { vec_capacity self.new.held ≡ vec_capacity self.old.held }
     {
-        // A law, called for what its contract says: a pass that posts what it claims has posted all that it claimed.
-        posts_stay_whole();
         let walker = &mut self.walker;
         let pass = &mut self.pass;
+        let held = &mut self.held;
         while let Some(id) = desk.claim(pass) {
             let told = Told::tell(gate, id);
-            desk.post(rt, pass, walker.walk(job, hub, told));
+            let outcome = walker.walk(job, hub, told);
+            hand_in(rt, desk, pass, held, outcome);
         }
+        post_all(rt, desk, pass, held);
     }
 }

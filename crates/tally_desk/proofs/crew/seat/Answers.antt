@@ -4,6 +4,8 @@ use Rattle.tally_desk.specs.Founded.{parts_of}
 use Rattle.tally_desk.specs.Passes.{HasPostedAll, view_of}
 use Rattle.tally_desk.specs.Views.{PassView}
 use Rattle.tally_desk.specs.Crews.{IsReadyAtDesk, IsWalker}
+use Rattle.tally_desk.specs.Unposted.{IsRoomWithin, held_room}
+use Rattle.tally_desk.proofs.Unposted.{nothing_held}
 use Rattle.tally_desk.proofs.crew.seat.Goals as goal
 use Rattle.audit_model.proofs.ListFacts.{popped_last, popped_rest}
 
@@ -23,6 +25,8 @@ loop-walker-init g c =
       whole = subst (HasPostedAll parts) (sym first) (c.posts_stay_whole.ensures.first parts);
       count = omega (arith, c.args.workers.ok.0, ap length c.requires.crew.blank, left);
       room = c.requires.crew.room;
+      lists = omega (arith, c.requires.crew.held_count, left);
+      rooms = c.requires.crew.held_rooms;
     }
 
 pub loop-walker-preserved : goal.loop-walker-preserved
@@ -37,12 +41,18 @@ loop-walker-preserved g c =
       walkers = popped_rest (IsWalker parts.job) _ _ c.in-Some-pop.walker was.walkers c.in-Some-pop.ensures.items;
       ready = subst (All (IsReadyAtDesk table parts)) (sym c.push_reserved.ensures.items)
           (All-push (IsReadyAtDesk table parts) c.loop-walker.workers.items _ was.ready (record {
-            walks = popped_last (IsWalker parts.job) _ _ c.in-Some-pop.walker was.walkers c.in-Some-pop.ensures.items;
-            belongs = new.0;
-            going = ap (λ (v : PassView). v.own.ended) new.1;
-            weight = ap (λ (v : PassView). v.own.weight) new.1;
-            spare = ap (λ (v : PassView). v.own.spare) new.1;
-            whole = subst (HasPostedAll parts) (sym new.1) (c.posts_stay_whole.ensures.right parts (view_of c.loop-walker.pass));
+            at_desk = record {
+              walks = popped_last (IsWalker parts.job) _ _ c.in-Some-pop.walker was.walkers c.in-Some-pop.ensures.items;
+              holds = record {
+                belongs = new.0;
+                rest = nothing_held parts (view_of c.split-part.result)
+                    (subst (HasPostedAll parts) (sym new.1) (c.posts_stay_whole.ensures.right parts (view_of c.loop-walker.pass)));
+              };
+              going = ap (λ (v : PassView). v.own.ended) new.1;
+              weight = ap (λ (v : PassView). v.own.weight) new.1;
+              spare = ap (λ (v : PassView). v.own.spare) new.1;
+            };
+            held = popped_last (IsRoomWithin (held_room parts.job.setting parts.seats)) _ _ c.take_last-held.result was.rooms c.take_last-held.ensures.items;
           }));
       pass = rest.0;
       going = ap (λ (v : PassView). v.own.ended) rest.1 ∙ was.going;
@@ -51,6 +61,8 @@ loop-walker-preserved g c =
       whole = subst (HasPostedAll parts) (sym rest.1) (c.posts_stay_whole.ensures.left parts (view_of c.loop-walker.pass) was.whole);
       count = omega (arith, was.count, left, c.push_reserved.ensures.len);
       room = omega (arith, was.room, c.push_reserved.ensures.capacity);
+      lists = omega (arith, was.lists, left, c.take_last-held.ensures.len);
+      rooms = popped_rest (IsRoomWithin (held_room parts.job.setting parts.seats)) _ _ c.take_last-held.result was.rooms c.take_last-held.ensures.items;
     }
 
 pub returns-clause-ready : goal.returns-clause-ready
@@ -60,10 +72,12 @@ returns-clause-ready g c =
     let was = c.loop-walker.invariant in
     subst (All (IsReadyAtDesk table parts)) (sym c.push_reserved-2.ensures.items)
     (All-push (IsReadyAtDesk table parts) c.loop-walker.workers.items _ was.ready (record {
-      walks = popped_last (IsWalker parts.job) _ _ c.in-Some.last c.requires.crew.walkers_are c.in-Some.ensures.items;
-      belongs = was.pass;
-      going = was.going;
-      weight = was.weight;
-      spare = omega (arith, was.spare, c.in_default-pop.ensures.cases.0);
-      whole = was.whole;
+      at_desk = record {
+        walks = popped_last (IsWalker parts.job) _ _ c.in-Some.last c.requires.crew.walkers_are c.in-Some.ensures.items;
+        holds = record { belongs = was.pass; rest = nothing_held parts (view_of c.loop-walker.pass) was.whole };
+        going = was.going;
+        weight = was.weight;
+        spare = omega (arith, was.spare, c.in_default-pop.ensures.cases.0);
+      };
+      held = popped_last (IsRoomWithin (held_room parts.job.setting parts.seats)) _ _ c.take_last-held-2.result was.rooms c.take_last-held-2.ensures.items;
     }))

@@ -2,6 +2,7 @@ use Rattle.std.proofs.Common.{◌≡◌, ◌+◌, ◌≤◌, All, vec_capacity, 
 use Rattle.tally_desk.specs.Founded.{parts_of}
 use Rattle.tally_desk.specs.Passes.{Belongs, HasPostedAll, view_of}
 use Rattle.tally_desk.specs.Crews.{AreWalkers, IsReadyAtDesk}
+use Rattle.tally_desk.specs.Unposted.{IsRoomWithin, held_room}
 use Rattle.tally_desk.proofs.crew.seat.Given as goal
 
 abbrev pub invariant-loop-walker : goal.invariant-loop-walker
@@ -15,6 +16,8 @@ invariant-loop-walker g l = record {
   whole : HasPostedAll (parts_of g.C.Keeper.state l.desk.table.shared.key) (view_of l.pass);
   count : vec_len l.workers + vec_len l.walkers + 1 ≡ vec_len l.fn.walkers;
   room : vec_len l.fn.walkers ≤ vec_capacity l.workers;
+  lists : vec_len l.lists ≡ vec_len l.walkers + 1;
+  rooms : All (IsRoomWithin (held_room l.desk.table.shared.key.job.value.setting l.desk.table.shared.key.seats)) l.lists.items;
 }
 
 abbrev pub decreases-loop-walker : goal.decreases-loop-walker

@@ -1,48 +1,67 @@
-use Rattle.std.proofs.Common.{◌∙◌, ap, subst, sym, ℕ}
+use Rattle.std.proofs.Common.{◌∙◌, List, ap, refl, subst, sym}
+use Rattle.audit_model.specs.declared.outcome.Outcome.{Outcome}
+use Rattle.claim_counter.specs.declared.record.PassRecord.{PassRecord}
+use Rattle.tally_desk.specs.Crews.{IsAtDesk}
 use Rattle.tally_desk.specs.Founded.{parts_of}
-use Rattle.tally_desk.specs.Passes.{HasPostedAll, MayPost, Posts, view_of}
+use Rattle.tally_desk.specs.Passes.{view_of}
+use Rattle.tally_desk.specs.Unposted.{HoldsRest}
 use Rattle.tally_desk.specs.Views.{PassView}
 use Rattle.tally_desk.proofs.Found.{walked_found, walked_id}
+use Rattle.tally_desk.proofs.Unposted.{all_posted, claimed_held, ended_held}
 use Rattle.tally_desk.proofs.worker.DeskWorker.run.Goals as goal
 
-pub post-requires-clause-right : goal.post-requires-clause-right
-post-requires-clause-right g c = walked_found c.args.job.now c.args.desk.now.table.shared.key.job.value c.in-Some.id c.tell-told.result c.walk.result c.requires.shared.same c.tell-told.ensures c.walk.ensures.outcome
+pub loop-id-init : goal.loop-id-init
+loop-id-init g c = record {
+  at_desk = subst (λ (held : List Outcome). IsAtDesk c.args.desk.now.table.shared.table_id (parts_of g.C.Keeper.state c.args.desk.now.table.shared.key) c.args.self.now.walker c.args.self.now.pass held)
+      (sym c.requires.ready.held.blank) c.requires.ready.at_desk;
+  room = refl;
+}
 
-pub post-requires-clause-claimed : goal.post-requires-clause-claimed
-post-requires-clause-claimed g c =
+pub hand_in-requires : goal.hand_in-requires
+hand_in-requires g c =
     let parts = parts_of g.C.Keeper.state c.args.desk.now.table.shared.key in
-    let may = c.posts_stay_whole.ensures.may parts c.in-Some.id _ _ c.loop-id.invariant.whole c.in-Some.ensures.claimed in
-    (subst (λ (id : ℕ). MayPost parts id (view_of c.claim.new.pass)) (sym (walked_id c.args.job.now c.in-Some.id c.tell-told.result c.walk.result c.tell-told.ensures c.walk.ensures.outcome)) may).claimed
-
-pub post-requires-clause-unposted : goal.post-requires-clause-unposted
-post-requires-clause-unposted g c =
-    let parts = parts_of g.C.Keeper.state c.args.desk.now.table.shared.key in
-    let may = c.posts_stay_whole.ensures.may parts c.in-Some.id _ _ c.loop-id.invariant.whole c.in-Some.ensures.claimed in
-    (subst (λ (id : ℕ). MayPost parts id (view_of c.claim.new.pass)) (sym (walked_id c.args.job.now c.in-Some.id c.tell-told.result c.walk.result c.tell-told.ensures c.walk.ensures.outcome)) may).unposted
+    let right = walked_found c.args.job.now c.args.desk.now.table.shared.key.job.value c.in-Some.id c.tell-told.result c.walk-outcome.result c.requires.shared.same c.tell-told.ensures c.walk-outcome.ensures.outcome in
+    let named = walked_id c.args.job.now c.in-Some.id c.tell-told.result c.walk-outcome.result c.tell-told.ensures c.walk-outcome.ensures.outcome in
+    record {
+      belongs = c.in-Some.ensures.pass;
+      rest = claimed_held parts c.in-Some.id (view_of c.loop-id.pass) (view_of c.claim.new.pass) c.loop-id.held.items c.walk-outcome.result c.loop-id.invariant.at_desk.holds.rest
+          c.in-Some.ensures.claimed right named;
+    }
 
 pub loop-id-preserved : goal.loop-id-preserved
 loop-id-preserved g c =
-    let parts = parts_of g.C.Keeper.state c.args.desk.now.table.shared.key in
-    let was = c.loop-id.invariant in
+    let was = c.loop-id.invariant.at_desk in
     let claimed = c.in-Some.ensures.claimed in
-    let posted = subst (λ (id : ℕ). Posts id (view_of c.claim.new.pass) (view_of c.post.new.pass)) (walked_id c.args.job.now c.in-Some.id c.tell-told.result c.walk.result c.tell-told.ensures c.walk.ensures.outcome) c.post.ensures.posted in
+    let own = c.hand_in.ensures.own in
     record {
-      walks = c.walk.ensures.made ∙ c.requires.shared.same;
-      belongs = c.post.ensures.pass;
-      going = ap (λ (v : PassView). v.own.ended) posted.view ∙ ap (λ (v : PassView). v.own.ended) claimed.view ∙ was.going;
-      weight = ap (λ (v : PassView). v.own.weight) posted.view ∙ ap (λ (v : PassView). v.own.weight) claimed.view ∙ was.weight;
-      spare = ap (λ (v : PassView). v.own.spare) posted.view ∙ ap (λ (v : PassView). v.own.spare) claimed.view ∙ was.spare;
-      whole = c.posts_stay_whole.ensures.posted parts c.in-Some.id _ _ _ was.whole claimed posted;
+      at_desk = record {
+        walks = c.walk-outcome.ensures.made ∙ c.requires.shared.same;
+        holds = c.hand_in.ensures.holds;
+        going = ap (λ (r : PassRecord). r.ended) own ∙ ap (λ (v : PassView). v.own.ended) claimed.view ∙ was.going;
+        weight = ap (λ (r : PassRecord). r.weight) own ∙ ap (λ (v : PassView). v.own.weight) claimed.view ∙ was.weight;
+        spare = ap (λ (r : PassRecord). r.spare) own ∙ ap (λ (v : PassView). v.own.spare) claimed.view ∙ was.spare;
+      };
+      room = c.hand_in.ensures.room ∙ c.loop-id.invariant.room;
     }
 
-pub returns : goal.returns
-returns g c =
-    let was = c.loop-id.invariant in
-    let end = c.in_default.ensures.end in
+pub post_all-requires : goal.post_all-requires
+post_all-requires g c =
+    let parts = parts_of g.C.Keeper.state c.args.desk.now.table.shared.key in
     record {
       belongs = c.claim.ensures.pass;
-      ended = ap (λ (v : PassView). v.own.ended) end;
-      weight = ap (λ (v : PassView). v.own.weight) end ∙ was.weight;
-      spare = ap (λ (v : PassView). v.own.spare) end ∙ was.spare;
-      whole = subst (HasPostedAll (parts_of g.C.Keeper.state c.args.desk.now.table.shared.key)) (sym end) was.whole;
+      rest = subst (λ (v : PassView). HoldsRest parts v c.loop-id.held.items) (sym c.in_default.ensures.end)
+          (ended_held parts (view_of c.loop-id.pass) c.loop-id.held.items c.loop-id.invariant.at_desk.holds.rest);
+    }
+
+pub returns-clause-done : goal.returns-clause-done
+returns-clause-done g c =
+    let was = c.loop-id.invariant.at_desk in
+    let end = c.in_default.ensures.end in
+    let own = c.post_all.ensures.own in
+    record {
+      belongs = c.post_all.ensures.holds.belongs;
+      ended = ap (λ (r : PassRecord). r.ended) own ∙ ap (λ (v : PassView). v.own.ended) end;
+      weight = ap (λ (r : PassRecord). r.weight) own ∙ ap (λ (v : PassView). v.own.weight) end ∙ was.weight;
+      spare = ap (λ (r : PassRecord). r.spare) own ∙ ap (λ (v : PassView). v.own.spare) end ∙ was.spare;
+      whole = all_posted (parts_of g.C.Keeper.state c.args.desk.now.table.shared.key) (view_of c.post_all.new.pass) c.post_all.ensures.holds.rest;
     }

@@ -1,0 +1,129 @@
+-- What a pass claimed is posted or held.
+use Rattle.std.proofs.Common.{◌≡◌, ℕ, ◌+◌, ◌<◌, ◌≤◌, All, Bool, true, false, cond, List, [], ◌∷◌, ◌++◌, get_or, length, length-append, nat_lt, refl, ap, subst, sym, ◌∙◌, ⊎_elim, arith, Vec}
+use Rattle.std.specs.Prelude.{if◌then◌else◌}
+use Rattle.std.proofs.lemmas.List.{get_or_append_left}
+use Rattle.std.proofs.lemmas.Bool.{cases_lt}
+use Rattle.std.proofs.Math.Seq.{get_or-append_seam}
+use Rattle.audit_model.specs.declared.setting.Setting.{Setting}
+use mathlib.Core.List.{map-append}
+use Rattle.std.proofs.lemmas.Bool.Decides.{eqb_tells}
+use Rattle.std.proofs.lemmas.List.Elements.{All-nil, All-push}
+use Rattle.atomic_table.specs.Seated.{TableId}
+use Rattle.audit_model.specs.declared.outcome.Outcome.{Outcome}
+use Rattle.audit_model.specs.Times.{times}
+use Rattle.audit_model.proofs.ListFacts.{popped_last, popped_rest}
+use Rattle.audit_model.proofs.Times.{one, one_same, times_push}
+use Rattle.claim_counter.specs.Walks.{found}
+use Rattle.tally_desk.specs.declared.pass.DeskPass.{DeskPass}
+use Rattle.tally_desk.specs.declared.entry.Entry.{Entry}
+use Rattle.tally_desk.specs.Desks.{claimed_ids, ended_view}
+use Rattle.tally_desk.specs.Entries.{post_of, posted_id, ids_of}
+use Rattle.tally_desk.specs.Parts.{Parts}
+use Rattle.tally_desk.specs.Passes.{Belongs, Claims, HasPostedAll, MayPost, Posts, view_of}
+use Rattle.tally_desk.specs.Unposted.{AreRooms, HoldsRest, IsHolding, IsRoomFor, IsRoomWithin, found_id, held_ids, held_room, holders, room_at}
+use Rattle.tally_desk.specs.Views.{PassView}
+use Rattle.tally_desk.proofs.Wholes.{claimed_more, same_entries}
+
+-- where nothing is held, all is posted
+pub nothing_held : (parts : Parts) (v : PassView) → HasPostedAll parts v → HoldsRest parts v []
+nothing_held parts v all = record {
+  counted = λ id. omega (arith, all id);
+  once = λ id some. absurd (omega (arith, some));
+  right = All-nil (λ o. o ≡ found parts.job o.id);
+}
+
+pub all_posted : (parts : Parts) (v : PassView) → HoldsRest parts v [] → HasPostedAll parts v
+all_posted parts v h id = omega (arith, h.counted id)
+
+-- a draw past the end changes neither
+pub ended_held : (parts : Parts) (v : PassView) (held : List Outcome) → HoldsRest parts v held → HoldsRest parts (ended_view v) held
+ended_held parts v held h = record { counted = h.counted; once = h.once; right = h.right }
+
+-- one outcome more that is held
+held_push : (x : ℕ) (held : List Outcome) (o : Outcome) → times x (held_ids (held ++ o ∷ [])) ≡ times x (held_ids held) + one x o.id
+held_push x held o = ap (times x) (map-append found_id held (o ∷ [])) ∙ times_push x (held_ids held) o.id
+
+-- what was claimed and found is held
+pub claimed_held : (parts : Parts) (id : ℕ) (v w : PassView) (held : List Outcome) (o : Outcome) → HoldsRest parts v held → Claims parts id v w
+    → o ≡ found parts.job o.id → o.id ≡ id → HoldsRest parts w (held ++ o ∷ [])
+claimed_held parts id v w held o h c right named = record {
+  counted = λ x. omega (arith, h.counted x, claimed_more parts id x v w c, entries x, pushed x);
+  once = λ x some. ⊎_elim
+      (λ t. let one_is : one x id ≡ 1 = ap (λ (b : Bool). cond b 1 0) t.0 in
+      let none : times x (claimed_ids parts v) ≡ 0 = subst (λ (k : ℕ). times k (claimed_ids parts v) ≡ 0) t.1 c.unclaimed in
+      omega (arith, claimed_more parts id x v w c, one_is, none))
+      (λ t. let none : one x id ≡ 0 = ap (λ (b : Bool). cond b 1 0) t.0 in
+      omega (arith, claimed_more parts id x v w c, none, h.once x (omega (arith, some, pushed x, none)))) (eqb_tells id x);
+  right = All-push (λ u. u ≡ found parts.job u.id) held o h.right right;
+}
+  where
+    entries : (x : ℕ) → times x (ids_of w.entries) ≡ times x (ids_of v.entries)
+    entries x = ap (λ (l : List Entry). times x (ids_of l)) (same_entries parts id v w c)
+
+    pushed : (x : ℕ) → times x (held_ids (held ++ o ∷ [])) ≡ times x (held_ids held) + one x id
+    pushed x = held_push x held o ∙ ap (λ (k : ℕ). times x (held_ids held) + one x k) named
+
+-- the last that is held may be posted
+pub may_post_held : (parts : Parts) (v : PassView) (held : List Outcome) (o : Outcome) → HoldsRest parts v (held ++ o ∷ []) → MayPost parts o.id v
+may_post_held parts v held o h =
+    let some : 0 < times o.id (held_ids (held ++ o ∷ [])) = omega (arith, held_push o.id held o, one_same o.id) in
+    record {
+      claimed = omega (arith, h.once o.id some);
+      unposted = omega (arith, h.once o.id some, h.counted o.id, some);
+    }
+
+-- and is what its trajectory finds
+pub found_held : (parts : Parts) (v : PassView) (held : List Outcome) (o : Outcome) → HoldsRest parts v (held ++ o ∷ []) → o ≡ found parts.job o.id
+found_held parts v held o h = popped_last (λ u. u ≡ found parts.job u.id) (held ++ o ∷ []) held o h.right refl
+
+-- after its post the others are held
+pub posted_held : (parts : Parts) (v w : PassView) (held : List Outcome) (o : Outcome) → HoldsRest parts v (held ++ o ∷ []) → Posts o.id v w → HoldsRest parts w held
+posted_held parts v w held o h p = record {
+  counted = λ x. omega (arith, h.counted x, entries x, claims x, held_push x held o);
+  once = λ x some. claims x ∙ h.once x (omega (arith, some, held_push x held o));
+  right = popped_rest (λ u. u ≡ found parts.job u.id) (held ++ o ∷ []) held o h.right refl;
+}
+  where
+    entries : (x : ℕ) → times x (ids_of w.entries) ≡ times x (ids_of v.entries) + one x o.id
+    entries x = ap (λ (z : PassView). times x (ids_of z.entries)) p.view
+        ∙ ap (times x) (map-append posted_id v.entries (post_of p.ticket o.id p.saved ∷ [])) ∙ times_push x (ids_of v.entries) o.id
+
+    claims : (x : ℕ) → times x (claimed_ids parts w) ≡ times x (claimed_ids parts v)
+    claims x = ap (λ (z : PassView). times x (claimed_ids parts z)) p.view
+
+-- ---- the same of a pass
+
+-- the list that is held, said in another way
+pub same_held : (table : TableId) (parts : Parts) (p : DeskPass) (xs ys : List Outcome) → xs ≡ ys → IsHolding table parts p xs → IsHolding table parts p ys
+same_held table parts p xs ys same h = subst (IsHolding table parts p) same h
+
+-- after a post of the last that is held
+pub holds_fewer : (table : TableId) (parts : Parts) (p q : DeskPass) (held : List Outcome) (o : Outcome) → IsHolding table parts p (held ++ o ∷ []) → Belongs table parts q
+    → Posts o.id (view_of p) (view_of q) → IsHolding table parts q held
+holds_fewer table parts p q held o h belongs posts = record { belongs = belongs; rest = posted_held parts (view_of p) (view_of q) held o h.rest posts }
+
+-- ---- rooms by places
+
+module _ {A : Type 0} (s : Setting) (workers : ℕ) where
+  -- no list has none
+  pub no_rooms : (lists : List (Vec Outcome A)) → lists ≡ [] → AreRooms s workers lists
+  no_rooms lists none place d inside = absurd (omega (arith, inside, ap length none))
+
+  -- one list more at the end
+  pub rooms_push : (lists : List (Vec Outcome A)) (h : Vec Outcome A) → AreRooms s workers lists → IsRoomFor (room_at s workers (length lists)) h → AreRooms s workers (lists ++ h ∷ [])
+  rooms_push lists h rooms last place d inside = ⊎_elim
+      (λ below. subst (IsRoomFor (room_at s workers place)) (sym (get_or_append_left lists (h ∷ []) d place below)) (rooms place d below))
+      (λ past. let at : place ≡ length lists = omega (arith, past, inside, length-append lists (h ∷ [])) in
+      subst (λ (k : ℕ). IsRoomFor (room_at s workers k) (get_or (lists ++ h ∷ []) k d)) (sym at)
+      (subst (IsRoomFor (room_at s workers (length lists))) (sym (get_or-append_seam lists h [] d)) last)) (cases_lt place (length lists))
+
+  -- no worker has more room than those that may hold
+  pub rooms_within : (lists : List (Vec Outcome A)) → AreRooms s workers lists → All (IsRoomWithin (held_room s workers)) lists
+  rooms_within lists rooms place d inside = let r = rooms place d inside in record { blank = r.blank; few = omega (arith, r.room_is, at_most place) }
+    where
+      at_most : (place : ℕ) → room_at s workers place ≤ held_room s workers
+      at_most place = cases (nat_lt place (holders workers))
+        where
+          cases : (b : Bool) → (if b then held_room s workers else 0) ≤ held_room s workers
+          cases true = omega arith
+          cases false = omega arith

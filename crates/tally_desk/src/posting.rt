@@ -1,0 +1,92 @@
+//! How a worker posts what it finds. While another worker is in turn it holds outcomes, as many as there is room for, and walks on.
+
+ghost use Rattle.std.specs.Prelude.{◌≡◌, ◌∷◌, [], ◌++◌, vec_capacity};
+ghost use Rattle.tally_desk.specs.Founded.{parts_of};
+ghost use Rattle.tally_desk.specs.Passes.{view_of};
+ghost use Rattle.tally_desk.specs.Unposted.{IsHolding};
+
+use crate::desk::Desk;
+use crate::pass::DeskPass;
+use audit_io::keeper::Keeper;
+use audit_model::outcome::Outcome;
+use std::sync::Wait;
+
+/// Posts the outcome of the last claim, and then what is held, while no other pass is in turn. Where one is, the outcome is held; and where there is
+/// no room for it, its post waits.
+pub fn hand_in<R: Wait, C: Keeper>(
+    rt: &R,
+    desk: &Desk<C>,
+    pass: &mut DeskPass,
+    held: &mut Vec<Outcome>,
+    outcome: Outcome,
+)
+    requires { IsHolding desk.now.table.shared.table_id (parts_of C.state desk.now.table.shared.key) pass.old (held.old.items ++ outcome ∷ []) }
+    ensures holds { IsHolding desk.now.table.shared.table_id (parts_of C.state desk.now.table.shared.key) pass.new held.new.items }
+    ensures own { (view_of pass.new).own ≡ (view_of pass.old).own }
+    ensures room { vec_capacity held.new ≡ vec_capacity held.old }
+{
+    if post_or_hold(rt, desk, pass, held, outcome) {
+        post_while_free(rt, desk, pass, held);
+    }
+}
+
+/// Posts all that is held. Each post waits for its turn.
+pub fn post_all<R: Wait, C: Keeper>(
+    rt: &R,
+    desk: &Desk<C>,
+    pass: &mut DeskPass,
+    held: &mut Vec<Outcome>,
+)
+    requires { IsHolding desk.now.table.shared.table_id (parts_of C.state desk.now.table.shared.key) pass.old held.old.items }
+    ensures holds { IsHolding desk.now.table.shared.table_id (parts_of C.state desk.now.table.shared.key) pass.new [] }
+    ensures own { (view_of pass.new).own ≡ (view_of pass.old).own }
+    ensures room { vec_capacity held.new ≡ vec_capacity held.old }
+{
+    while let Some(outcome) = held.pop() {
+        desk.post(rt, pass, outcome);
+    }
+}
+
+// Posts the outcome, or holds it while another pass is in turn and there is room. Whether it was posted.
+fn post_or_hold<R: Wait, C: Keeper>(
+    rt: &R,
+    desk: &Desk<C>,
+    pass: &mut DeskPass,
+    held: &mut Vec<Outcome>,
+    outcome: Outcome,
+) -> bool
+    requires { IsHolding desk.now.table.shared.table_id (parts_of C.state desk.now.table.shared.key) pass.old (held.old.items ++ outcome ∷ []) }
+    ensures holds { IsHolding desk.now.table.shared.table_id (parts_of C.state desk.now.table.shared.key) pass.new held.new.items }
+    ensures own { (view_of pass.new).own ≡ (view_of pass.old).own }
+    ensures room { vec_capacity held.new ≡ vec_capacity held.old }
+{
+    if held.len() == held.capacity() {
+        desk.post(rt, pass, outcome);
+        return true;
+    }
+    if desk.try_post(rt, pass, outcome) {
+        return true;
+    }
+    held.push_reserved(outcome);
+    false
+}
+
+// Posts what is held, one after another, until another pass is in turn.
+fn post_while_free<R: Wait, C: Keeper>(
+    rt: &R,
+    desk: &Desk<C>,
+    pass: &mut DeskPass,
+    held: &mut Vec<Outcome>,
+)
+    requires { IsHolding desk.now.table.shared.table_id (parts_of C.state desk.now.table.shared.key) pass.old held.old.items }
+    ensures holds { IsHolding desk.now.table.shared.table_id (parts_of C.state desk.now.table.shared.key) pass.new held.new.items }
+    ensures own { (view_of pass.new).own ≡ (view_of pass.old).own }
+    ensures room { vec_capacity held.new ≡ vec_capacity held.old }
+{
+    while let Some(outcome) = held.pop() {
+        if !desk.try_post(rt, pass, outcome) {
+            held.push_reserved(outcome);
+            return;
+        }
+    }
+}
