@@ -74,7 +74,6 @@ sum_of() {
 # ---- three parts side by side
 
 graph=/dev/null
-words=(make --size 3 --slack 1000 --walks 18 --steps 1500000 --ends 6 --hub-steps 200000 --ask cut-edges:low,seats:low --key $key)
 
 # Starts the run of the part $1 in its folder, and leaves its process's number in `started`.
 start() {
@@ -83,33 +82,60 @@ start() {
     started=$!
 }
 
-# Waits until both slots of the part $1 are there, so that one of them is whole, and are no longer as they were.
-wait_for_save() {
+# Waits until both slots of the part $1 are there, so that one of them is whole, and are no longer as they were; then stops its run in mid-run. 1
+# where it ended before.
+stop_after_save() {
     local tries=0
     while [ ! -e "part-$1/audit-1.ckpt" ] || [ "$(sum_of "part-$1")" = "$2" ]; do
-        kill -0 "$started" 2>/dev/null || fail "the run of part $1 ended before it was killed: $(cat "$room/part-$1.note")"
+        kill -0 "$started" 2>/dev/null || return 1
         [ $((tries += 1)) -lt 6000 ] || fail "the run of part $1 does not save"
+        sleep 0.01
+    done
+    kill -STOP "$started" 2>/dev/null || return 1
+    until grep -q '^State:.*stopped' "/proc/$started/status" 2>/dev/null; do
+        kill -0 "$started" 2>/dev/null && ! grep -q '^State:.*zombie' "/proc/$started/status" 2>/dev/null || return 1
         sleep 0.01
     done
 }
 
-start 0
-zero=$started
-start 2
-two=$started
-start 1
-wait_for_save 1 "$(sum_of nowhere)"
-run second part-1 6 "checkpoint: another run holds the folder" --save 1 --resume yes --parts 3 --part 1
-[ ! -s second.out ] || fail "a second run in one folder wrote a report"
-kill -9 "$started"
-wait "$started" 2>/dev/null
-[ $? -eq 137 ] || fail "the run of part 1 ended before it was killed"
-start 1
-wait_for_save 1 "$(sum_of part-1)"
-kill -9 "$started"
-wait "$started" 2>/dev/null
-[ $? -eq 137 ] || fail "the run of part 1 ended before it was killed again"
-start 1
+# Kills the run of the part $1, which is stopped.
+kill_stopped() {
+    kill -9 "$started"
+    wait "$started" 2>/dev/null
+    [ $? -eq 137 ] || fail "the run of part $1 ended before it was killed"
+}
+
+# Starts all parts, and kills the run of part 1 twice; 1 where it ended before.
+side_by_side() {
+    start 0
+    zero=$started
+    start 2
+    two=$started
+    start 1
+    stop_after_save 1 "$(sum_of nowhere)" || return 1
+    run second part-1 6 "checkpoint: another run holds the folder" --save 1 --resume yes --parts 3 --part 1
+    [ ! -s second.out ] || fail "a second run in one folder wrote a report"
+    kill_stopped 1
+    local before
+    before=$(sum_of part-1)
+    start 1
+    stop_after_save 1 "$before" || return 1
+    kill_stopped 1
+    start 1
+}
+
+# The run of part 1 has to be killed in mid-run. Where it ended before, since it is fast beside this script, all is begun anew with longer walks.
+steps=1500000
+while :; do
+    words=(make --size 3 --slack 1000 --walks 18 --steps "$steps" --ends 6 --hub-steps 200000 --ask cut-edges:low,seats:low --key $key)
+    side_by_side && break
+    # shellcheck disable=SC2046
+    kill -9 $(jobs -p) 2>/dev/null
+    wait
+    rm -rf part-0 part-1 part-2
+    passed=0
+    [ $((steps *= 4)) -le 400000000 ] || fail "the run of part 1 ended before it was killed, whatever the length of its walks"
+done
 for part in 0 1 2; do
     case $part in
         0) wait "$zero" ;;
