@@ -166,7 +166,11 @@ fn put_bit(words: &mut [u64], place: usize, flag: bool)
     words[place / 64] = with_bit(word, place % 64, flag);
 }
 
-/// Whether the unit is in another district and has a neighbour in this one.
+/// A row of at most so many neighbours is read to its end.
+const SHORT: usize = 16;
+
+/// Whether the unit is in another district and has a neighbour in this one. A short row of neighbours is read to its end, so that no branch goes by
+/// which of them is the first in the district; a long one is read up to the first.
 fn is_open(graph: &Graph, plan: &[u32], unit: u32, district: u32) -> bool
     requires plan { length plan.now ≡ graph.now.units }
     requires unit { unit < graph.now.units }
@@ -175,10 +179,18 @@ fn is_open(graph: &Graph, plan: &[u32], unit: u32, district: u32) -> bool
     if plan[unit as usize] == district {
         return false;
     }
-    for other in graph.neighbours(unit) {
-        if plan[*other as usize] == district {
-            return true;
+    let row = graph.neighbours(unit);
+    if row.len() > SHORT {
+        for one in row {
+            if plan[*one as usize] == district {
+                return true;
+            }
         }
+        return false;
     }
-    false
+    let mut beside = false;
+    for other in row {
+        beside = beside | (plan[*other as usize] == district);
+    }
+    beside
 }
