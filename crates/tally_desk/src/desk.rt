@@ -1,5 +1,5 @@
 //! The desk.
-ghost use Rattle.std.specs.Prelude.{◌≡◌};
+ghost use Rattle.std.specs.Prelude.{◌≡◌, ◌≤◌};
 
 use crate::counter::counter_laws;
 use crate::handing::{Kept, Outset, Refused, furnish, hand_over, open};
@@ -19,8 +19,8 @@ use std::sync::Wait;
 use std::thread;
 use std::time::Duration;
 
-/// So often a pass looks for a turn before it sleeps.
-const LOOKS: u32 = 16;
+/// A pass that waits for a save looks again after so many milliseconds, if nobody wakes it before.
+const LONGEST_SLEEP: u64 = 100;
 
 /// Gives out the ids of a list to several passes, keeps the book of their outcomes, and saves a checkpoint of it each time that the number of
 /// posts is a multiple. Only a post waits for another.
@@ -28,9 +28,11 @@ const LOOKS: u32 = 16;
 pub struct Desk<C: Keeper> {
     pub(crate) table: Table<Home<C>, View, Founding<C>, OneTally<C>, Global>,
     todo: UnitList,
+    save_every: u32,
     ghost three_words: { table.shared.table_id.words ≡ 3 },
     ghost one_slot: { table.shared.table_id.slots ≡ 1 },
     ghost todo_is: { todo ≡ table.shared.key.todo.value },
+    ghost some_every: { 1 ≤ save_every },
 }
 
 impl<C: Keeper> Desk<C> {
@@ -90,13 +92,18 @@ impl<C: Keeper> Desk<C> {
             book,
             keeper,
         } = outset;
+        let save_every = plan.save_every;
         let home = match furnish(alloc, job, plan, todo.len(), book, keeper) {
             Ok(home) => home,
             Err(refused) => return Err(refused),
         };
         match open(alloc, home, &founding) {
             Ok((table, seat)) => Ok((
-                Desk { table, todo },
+                Desk {
+                    table,
+                    todo,
+                    save_every,
+                },
                 DeskPass {
                     badge: seat.into_badge(),
                     spare: seats - 1,
@@ -187,39 +194,41 @@ impl<C: Keeper> Desk<C> {
         ensures table { seat.new.table_id ≡ seat.old.table_id }
         ensures seat { seat.new.me ≡ (with_turn seat.old.me.0 (waiting result id), []) }
     {
-        let mut looks = 0;
         for _ in rt.forever() {
             if let Some(ticket) = self.try_ticket::<B>(seat, id) {
                 return ticket;
             }
-            looks = self.rest(rt, looks);
+            self.rest(rt);
         }
         unreachable!()
     }
 
-    // Lets other threads run while a ticket is out: after so many looks, of which it answers one more. After the first few it sleeps, until that
-    // ticket was served with a save, or for a millisecond.
-    fn rest<R: Wait>(&self, rt: &R, looks: u32) -> u32
-        ensures { result ≤ looks + 1 }
-    {
-        if looks < LOOKS {
-            thread::yield_now();
-            return looks + 1;
-        }
+    // Lets other threads run while a ticket is out. Where its turn makes a save it sleeps until that is over; others are too short to sleep for.
+    fn rest<R: Wait>(&self, rt: &R) {
         let words = &self.table.shared;
         let served = words.peek(2);
-        if words.peek(1) != served {
-            let low = (served % (1 << 32)) as u32;
-            words.park_timeout(rt, 2, low, Duration::from_millis(1));
+        if words.peek(1) == served {
+            return;
         }
-        looks
+        if self.makes_save(served) {
+            let low = (served % (1 << 32)) as u32;
+            words.park_timeout(rt, 2, low, Duration::from_millis(LONGEST_SLEEP));
+        } else {
+            thread::yield_now();
+        }
     }
 
-    // Ends the sleep of all that wait for a turn, after one that made a save. Others are too short to sleep for.
-    fn wake(&self, saved: bool) {
-        if saved {
+    // Ends the sleep of all that wait for the turn of this ticket, which is over.
+    fn wake(&self, ticket: u64) {
+        if self.makes_save(ticket) {
             self.table.shared.wake_all(2);
         }
+    }
+
+    // Whether a save is due in the turn of this ticket.
+    #[inline]
+    fn makes_save(&self, ticket: u64) -> bool {
+        ticket.wrapping_add(1) % u64::from(self.save_every) == 0
     }
 
     // Takes a ticket for the post of this id where none is out.
@@ -268,9 +277,9 @@ impl<C: Keeper> Desk<C> {
         ensures served { HasServed ticket outcome.id seat.old.me seat.new.me }
     {
         let home = seat.slot_mut(&self.table.shared, 0);
-        let saved = home.turn(outcome);
+        home.turn(outcome);
         self.table.shared.store::<Serve>(seat, 2, ticket + 1);
-        self.wake(saved);
+        self.wake(ticket);
     }
 
     /// One more pass, which has claimed nothing. `pass` can then be split once less.
@@ -335,7 +344,11 @@ impl<C: Keeper> Desk<C> {
     {
         // Laws, called for what their contracts say: what each kind of draw keeps.
         counter_laws();
-        let Desk { table, todo: _ } = self;
+        let Desk {
+            table,
+            todo: _,
+            save_every: _,
+        } = self;
         let DeskPass {
             mut badge,
             spare: _,

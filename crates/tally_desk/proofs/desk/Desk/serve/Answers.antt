@@ -13,8 +13,8 @@ use Rattle.tally_desk.proofs.desk.Desk.serve.Goals as goal
 pub slot_mut-home-requires : goal.slot_mut-home-requires
 slot_mut-home-requires g c = let turn = c.requires.turn in (c.requires.table, (turn.home, turn.slots ∙ ap (λ (l : List (ℕ × Home g.row.C.Denot)). (0, turn.home) ∷ rest l) (sym turn.slots)))
 
-pub turn-saved-requires : goal.turn-saved-requires
-turn-saved-requires g c =
+pub turn-requires : goal.turn-requires
+turn-requires g c =
     let turn = c.requires.turn in
     let parts = parts_of g.C.Keeper.state c.args.self.now.table.shared.key in
     let len = posted_len (HomeAs g.C.Keeper.state) parts _ _ _ turn in
@@ -50,11 +50,11 @@ store-requires g c =
       to_do = turn.awaits.to_do;
       unposted = turn.awaits.unposted;
     } in
-    let turned = subst (λ (t : ℕ). HomeAs g.C.Keeper.state parts c.turn-saved.new.self (turn.posted ++ post_of t c.args.outcome.id c.turn-saved.result ∷ []) × (c.turn-saved.result ≡ true → is_due parts.save_every (post_of t c.args.outcome.id c.turn-saved.result) ≡ true))
-    len ((c.turn-saved.ensures.turned parts turn.posted may).holds, (c.turn-saved.ensures.turned parts turn.posted may).due) in (
+    let turned = subst (λ (t : ℕ). HomeAs g.C.Keeper.state parts c.turn.new.self (turn.posted ++ post_of t c.args.outcome.id c.turn.result ∷ []) × (c.turn.result ≡ true → is_due parts.save_every (post_of t c.args.outcome.id c.turn.result) ≡ true))
+    len ((c.turn.ensures.turned parts turn.posted may).holds, (c.turn.ensures.turned parts turn.posted may).due) in (
       search rules,
       search rules,
-      serve (HomeAs g.C.Keeper.state) parts _ _ _ _ c.args.outcome.id turn.posted c.turn-saved.new.self c.turn-saved.result turn.fixed turn.weighs turn.turn (carried_now (HomeAs g.C.Keeper.state) parts _ _ _ c.turn-saved.new.self turn)
+      serve (HomeAs g.C.Keeper.state) parts _ _ _ _ c.args.outcome.id turn.posted c.turn.new.self c.turn.result turn.fixed turn.weighs turn.turn (carried_now (HomeAs g.C.Keeper.state) parts _ _ _ c.turn.new.self turn)
           turned.0 turned.0.entries turned.1,
     )
 
@@ -65,11 +65,11 @@ returns-clause-served g c =
     let len = posted_len (HomeAs g.C.Keeper.state) parts _ _ _ turn in
     let held = held_home (HomeAs g.C.Keeper.state) parts _ _ _ _ turn c.slot_mut-home.ensures.value in
     let home_len : length c.slot_mut-home.result.now.posted.items ≡ c.args.ticket = ap length held.entries ∙ len in
-    let entries : c.turn-saved.new.self.posted.items ≡ c.slot_mut-home.result.now.posted.items ++ post_of c.args.ticket c.args.outcome.id c.turn-saved.result ∷ [] =
-    c.turn-saved.ensures.entry ∙ ap (λ (t : ℕ). c.slot_mut-home.result.now.posted.items ++ post_of t c.args.outcome.id c.turn-saved.result ∷ []) home_len in
+    let entries : c.turn.new.self.posted.items ≡ c.slot_mut-home.result.now.posted.items ++ post_of c.args.ticket c.args.outcome.id c.turn.result ∷ [] =
+    c.turn.ensures.entry ∙ ap (λ (t : ℕ). c.slot_mut-home.result.now.posted.items ++ post_of t c.args.outcome.id c.turn.result ∷ []) home_len in
     let served = c.store.ensures.2 in
     record {
-      saved = c.turn-saved.result;
-      view = served.view _ _ _ _ (carried_now (HomeAs g.C.Keeper.state) parts _ _ _ c.turn-saved.new.self turn) entries;
-      slots = served.slots _ (carried_now (HomeAs g.C.Keeper.state) parts _ _ _ c.turn-saved.new.self turn);
+      saved = c.turn.result;
+      view = served.view _ _ _ _ (carried_now (HomeAs g.C.Keeper.state) parts _ _ _ c.turn.new.self turn) entries;
+      slots = served.slots _ (carried_now (HomeAs g.C.Keeper.state) parts _ _ _ c.turn.new.self turn);
     }
