@@ -6,8 +6,11 @@ ghost use Rattle.audit_model.specs.Score as definition;
 ghost use Rattle.scores.specs.Votes.{AreShares, AreVotes};
 ghost use Rattle.audit_model.specs.Limits.{most_districts};
 
+mod room;
+
 use audit_model::outcome::SumsView;
 use audit_model::setting::Score;
+pub use room::Room;
 
 const BILLION: u64 = 1_000_000_000;
 

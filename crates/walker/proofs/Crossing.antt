@@ -11,6 +11,7 @@ use Rattle.contig.specs.contracts.counts.FaceCounts as FaceCounts
 use Rattle.contig.specs.contracts.table.FaceTable as FaceTable
 use Rattle.flip_kernel.specs.contracts.board.Board as Board
 use Rattle.flip_kernel.specs.contracts.state.State as State
+use Rattle.scores.specs.contracts.room.Room as Room
 use Rattle.walker.specs.contracts.walker.Walker as Walker
 
 -- lists of 32 bits may go to another thread
@@ -45,10 +46,14 @@ board_send = search (table_send, counts_send, units_send, numbers_send, marks_se
 board_field_send : IsSend Board.the_field.row
 board_field_send = search (board_send, table_send, counts_send, units_send, numbers_send, marks_send, crosses, sendable) depth 20
 
+-- room for scores may
+room_send : IsSend Room.the_field.row
+room_send = search (crosses, sendable) depth 20
+
 module _ (J : RattleType) (g : Ghosts J.Denot) where
   state_send : IsSend J → IsSend (State.the_field J g).row
   state_send judge = search (board_field_send, crosses, sendable) depth 20
 
   -- a walker may, by what it holds
   pub walker_send : IsSend J → IsSend (Walker.the_field J g).row
-  walker_send judge = let a = state_send judge in search sendable depth 20
+  walker_send judge = let a = state_send judge in search (room_send, sendable) depth 20

@@ -9,7 +9,7 @@ use audit_model::setting::{Ask, Score};
 use flip_guard::judge::Judge;
 use flip_kernel::state::State;
 use outlier_tests::in_tail;
-use scores::value;
+use scores::Room;
 
 /// For each ask the start plan's value, one where the held plan is in its tail, and how many of the counted plans are.
 #[derive(Drop)]
@@ -20,7 +20,7 @@ pub struct Tally {
 }
 
 /// The value of each ask for the held plan.
-pub fn values<J: Judge>(state: &State<J>, asks: &[Ask], room: &mut [u64; 200]) -> [i64; 4]
+pub fn values<J: Judge>(state: &State<J>, asks: &[Ask], room: &mut Room) -> [i64; 4]
     ensures { result ≡ each (asked_value state.now.job state.now.plan) asks.now }
 {
     [
@@ -45,7 +45,7 @@ pub fn signed(counts: [u32; 4]) -> [i64; 4]
 
 impl Tally {
     /// A tally that has tested the start plan, which is held, and counted none.
-    pub fn new<J: Judge>(state: &State<J>, asks: &[Ask], room: &mut [u64; 200]) -> Tally
+    pub fn new<J: Judge>(state: &State<J>, asks: &[Ask], room: &mut Room) -> Tally
         requires start { state.now.plan ≡ state.now.job.start }
         ensures start { result.start ≡ each (asked_value state.now.job state.now.job.start) asks.now }
         ensures inside { result.inside ≡ each (inside state.now.job state.now.plan) asks.now }
@@ -62,7 +62,7 @@ impl Tally {
     }
 
     /// Tests the plan that is held now.
-    pub fn renew<J: Judge>(&mut self, state: &State<J>, asks: &[Ask], room: &mut [u64; 200])
+    pub fn renew<J: Judge>(&mut self, state: &State<J>, asks: &[Ask], room: &mut Room)
         requires start { self.old.start ≡ each (asked_value state.now.job state.now.job.start) asks.now }
         ensures start { self.new.start ≡ self.old.start }
         ensures inside { self.new.inside ≡ each (inside state.now.job state.now.plan) asks.now }
@@ -93,17 +93,17 @@ impl Tally {
 }
 
 /// The numerator of a score of the held plan.
-fn held_value<J: Judge>(state: &State<J>, score: Score, room: &mut [u64; 200]) -> i64
+fn held_value<J: Judge>(state: &State<J>, score: Score, room: &mut Room) -> i64
     ensures { result ≡ plan_value state.now.job state.now.plan score }
 {
     // Called for what its contract says: the job is within its limits, and the plan is legal.
     let _plan = state.plan();
-    value(score, state.view(), room)
+    room.value(score, state.view())
 }
 
 /// The value of the ask at a place for the held plan.
 #[tactic(auto, unfolding(crate::specs::Asked::asked_value))]
-fn value_at<J: Judge>(state: &State<J>, asks: &[Ask], place: usize, room: &mut [u64; 200]) -> i64
+fn value_at<J: Judge>(state: &State<J>, asks: &[Ask], place: usize, room: &mut Room) -> i64
     ensures { result ≡ asked_value state.now.job state.now.plan (slice_get asks.now place) }
 {
     match asks.get(place) {
@@ -119,7 +119,7 @@ fn inside_at<J: Judge>(
     asks: &[Ask],
     place: usize,
     start: i64,
-    room: &mut [u64; 200],
+    room: &mut Room,
 ) -> u32
     requires start { start ≡ asked_value state.now.job state.now.job.start (slice_get asks.now place) }
     ensures { result ≡ inside state.now.job state.now.plan (slice_get asks.now place) }

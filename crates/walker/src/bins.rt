@@ -8,7 +8,7 @@ ghost use Rattle.walker.specs.Binned.{plan_bin};
 use audit_model::setting::Score;
 use flip_guard::judge::Judge;
 use flip_kernel::state::State;
-use scores::value;
+use scores::Room;
 
 /// Where bins are asked for, the start plan's seats, the bin of the held plan, and how many of the counted plans are in each bin.
 /// Elsewhere the counts are zeros, and no seats are computed.
@@ -22,7 +22,7 @@ pub struct Bins {
 
 impl Bins {
     /// The bins of no plan, where the start plan is held.
-    pub fn new<J: Judge>(asked: bool, state: &State<J>, room: &mut [u64; 200]) -> Bins
+    pub fn new<J: Judge>(asked: bool, state: &State<J>, room: &mut Room) -> Bins
         requires start { state.now.plan ≡ state.now.job.start }
         ensures asked { result.asked ≡ asked }
         ensures start { IsTrue asked → result.start ≡ plan_seats state.now.job state.now.job.start }
@@ -40,7 +40,7 @@ impl Bins {
     }
 
     /// Takes the bin of the plan that is held now.
-    pub fn renew<J: Judge>(&mut self, state: &State<J>, room: &mut [u64; 200])
+    pub fn renew<J: Judge>(&mut self, state: &State<J>, room: &mut Room)
         requires start { IsTrue self.old.asked → self.old.start ≡ plan_seats state.now.job state.now.job.start }
         requires small { self.old.bin < 9 }
         ensures asked { self.new.asked ≡ self.old.asked }
@@ -73,13 +73,13 @@ impl Bins {
 }
 
 /// The seats of the held plan.
-fn held_seats<J: Judge>(state: &State<J>, room: &mut [u64; 200]) -> u64
+fn held_seats<J: Judge>(state: &State<J>, room: &mut Room) -> u64
     ensures seats { result ≡ plan_seats state.now.job state.now.plan }
     ensures small { result < 2 ^ 63 }
 {
     // Called for what its contract says: the job is within its limits, and the plan is legal.
     let _plan = state.plan();
-    value(Score::Seats, state.view(), room) as u64
+    room.value(Score::Seats, state.view()) as u64
 }
 
 /// The bin of a plan with so many seats: 4 for as many as the start has, and no farther than 4 from there.

@@ -15,6 +15,7 @@ use flip_guard::judge::Judge;
 use flip_kernel::flip::try_flip;
 use flip_kernel::state::State;
 use plan_core::job::Job;
+use scores::Room;
 use std::sync::ledger::Ledger;
 
 /// Makes this many steps along a stream from its first draw on, and counts those that change the plan.
@@ -60,7 +61,7 @@ pub fn count_visits<J: Judge, L: Ledger>(
     job: &Job,
     state: &mut State<J>,
     course: Course,
-    room: &mut [u64; 200],
+    room: &mut Room,
     counter: &mut Steps<L>,
 ) -> Trail
     requires made { state.old.job ≡ job.now }
@@ -108,7 +109,7 @@ fn visit_next<J: Judge, L: Ledger>(
     state: &mut State<J>,
     track: &mut Track,
     place: u32,
-    room: &mut [u64; 200],
+    room: &mut Room,
     counter: &mut Steps<L>,
 )
     requires made { state.old.job ≡ job.now }

@@ -11,6 +11,7 @@ use crate::bins::Bins;
 use flip_guard::judge::Judge;
 use flip_kernel::state::State;
 use plan_core::job::Job;
+use scores::Room;
 
 /// How many steps changed the plan, how many visits are counted, and what was found of the visited plans. The held plan was tested when
 /// it came, and is counted for all its visits at once when it goes.
@@ -24,7 +25,7 @@ pub struct Trail {
 
 impl Trail {
     /// The trail at the start plan, which is held.
-    pub fn new<J: Judge>(job: &Job, state: &State<J>, shift: bool, room: &mut [u64; 200]) -> Trail
+    pub fn new<J: Judge>(job: &Job, state: &State<J>, shift: bool, room: &mut Room) -> Trail
         requires made { state.now.job ≡ job.now }
         requires start { state.now.plan ≡ job.now.start }
         ensures asked { result.bins.asked ≡ shift }
@@ -59,7 +60,7 @@ impl Trail {
     }
 
     /// Tests the plan that is held now, after a step that changed it.
-    pub fn renew<J: Judge>(&mut self, job: &Job, state: &State<J>, room: &mut [u64; 200])
+    pub fn renew<J: Judge>(&mut self, job: &Job, state: &State<J>, room: &mut Room)
         requires made { state.now.job ≡ job.now }
         requires few { self.old.moved < 10 ^ 9 }
         requires start { self.old.tally.start ≡ each (asked_value job.now job.now.start) job.now.setting.asks }

@@ -17,6 +17,7 @@ use audit_model::steps::Steps;
 use flip_guard::judge::Judge;
 use flip_kernel::state::State;
 use plan_core::job::Job;
+use scores::Room;
 use std::alloc::Global;
 use std::marker::{Brand, Model};
 use std::sync::ledger::{Blank, Ledger};
@@ -26,7 +27,7 @@ use std::sync::ledger::{Blank, Ledger};
 #[derive(Drop)]
 pub struct Walker<J: Judge> {
     state: State<J>,
-    room: [u64; 200],
+    room: Room,
 }
 
 impl<J: Judge> Model for Walker<J> {
@@ -46,7 +47,7 @@ impl<J: Judge> Walker<J> {
     {
         Ok(Walker {
             state: State::new(alloc, job, judge)?,
-            room: [0; 200],
+            room: Room::new(),
         })
     }
 

@@ -1,0 +1,103 @@
+//! Room for the scores of one plan after another.
+
+ghost use Rattle.std.specs.Prelude.{◌≡◌, ◌+◌, ◌^◌, ◌<◌, ◌≤◌, length};
+ghost use Rattle.audit_model.specs.Score as definition;
+ghost use Rattle.scores.specs.Votes.{AreVotes};
+
+use crate::{mean_median, share, value};
+use audit_model::outcome::SumsView;
+use audit_model::setting::Score;
+
+/// Votes of a district, and the first party's share of them.
+#[derive(Clone, Copy)]
+struct Share {
+    first: u64,
+    second: u64,
+    billionths: u64,
+    ghost right: { billionths ≡ definition.share first second },
+}
+
+/// Room for scores. It remembers each district's last share, since a division takes longer than all else, and most plans differ in two districts
+/// from the one before.
+#[derive(Drop)]
+pub struct Room {
+    last: [Share; 200],
+    shares: [u64; 200],
+}
+
+impl Room {
+    /// Room that remembers districts without votes.
+    pub fn new() -> Room {
+        Room {
+            last: [Share::of(0, 0); 200],
+            shares: [0; 200],
+        }
+    }
+
+    /// The numerator of a score, as `value` of this crate answers it.
+    pub fn value(&mut self, score: Score, sums: &SumsView) -> i64
+        requires { AreVotes sums.now.first sums.now.second }
+        ensures { result ≡ definition.value score sums.now }
+    {
+        match score {
+            Score::MeanMedian => median_less_mean(sums, &mut self.last, &mut self.shares),
+            _ => value(score, sums, &mut self.shares),
+        }
+    }
+}
+
+impl Share {
+    // The share in a district with these votes.
+    fn of(first: u64, second: u64) -> Share
+        requires { first + second < 2 ^ 64 }
+        ensures first { result.first ≡ first }
+        ensures second { result.second ≡ second }
+    {
+        Share {
+            first,
+            second,
+            billionths: share(first, second),
+        }
+    }
+
+    // The share of these votes, in billionths, which is not reckoned again where they are the last ones.
+    fn renew(&mut self, first: u64, second: u64) -> u64
+        requires { first + second < 2 ^ 64 }
+        ensures { result ≡ definition.share first second }
+    {
+        if self.first != first || self.second != second {
+            *self = Share::of(first, second);
+        }
+        self.billionths
+    }
+}
+
+// The median share less the mean share, times twice the number of districts. Of one district or two it needs no share.
+fn median_less_mean(sums: &SumsView, last: &mut [Share], room: &mut [u64]) -> i64
+    requires votes { AreVotes sums.now.first sums.now.second }
+    requires last { length sums.now.first ≤ length last.old }
+    requires room { length sums.now.first ≤ length room.old }
+    ensures { result ≡ definition.mean_median (definition.shares sums.now) }
+{
+    if sums.first.len() <= 2 {
+        return 0;
+    }
+    let shares = &mut room[..sums.first.len()];
+    renew_shares(sums, last, shares);
+    mean_median(shares)
+}
+
+// Writes the first party's share in each district.
+#[tactic(auto, using(crate::proofs::Below::map_below_more))]
+fn renew_shares(sums: &SumsView, last: &mut [Share], shares: &mut [u64])
+    requires votes { AreVotes sums.now.first sums.now.second }
+    requires last { length sums.now.first ≤ length last.old }
+    requires room { length shares.old ≡ length sums.now.first }
+    ensures { shares.new ≡ definition.shares sums.now }
+{
+    let first = sums.first.as_slice();
+    let second = sums.second.as_slice();
+    for district in 0..first.len() {
+        shares[district] = last[district].renew(first[district], second[district]);
+    }
+}
