@@ -9,6 +9,7 @@ ghost use Rattle.audit_statement.specs.Checkpoint.{AreRising, HoldsBins, IsCheck
 ghost use Rattle.ckpt_format.specs.Written.{AppendsBytes, bytes_by, head_bytes, size_by};
 ghost use Rattle.audit_model.specs.Limits.{most_trajectories};
 
+use crate::ahead::Ahead;
 use audit_model::buffers::Bytes;
 use audit_model::outcome::Outcome;
 use sha2::{Digest, Sha256};
@@ -27,7 +28,27 @@ pub fn encode(digest: &[u8; 32], generation: u8, outcomes: &[Outcome], out: &mut
     ensures room { length out.new.items + out.new.spare ≡ length out.old.items + out.old.spare }
     ensures sound { IsCheckpoint out.new.items 2 digest.now generation outcomes.now }
 {
-    encode_as(2, digest, generation, outcomes, out);
+    encode_with(digest, generation, outcomes, out, None);
+}
+
+/// Does what `encode` does, and goes on with a digest where one was begun.
+pub fn encode_with(
+    digest: &[u8; 32],
+    generation: u8,
+    outcomes: &[Outcome],
+    out: &mut Bytes,
+    ahead: Option<&mut Ahead>,
+)
+    requires generation { generation < 3 }
+    requires few { length outcomes.now ≤ most_trajectories }
+    requires rising { AreRising (map (λ o. o.id) outcomes.now) }
+    requires room { bare_length + 80 * length outcomes.now ≤ length out.old.items + out.old.spare }
+    ensures bytes { out.new.items ≡ checkpoint 2 digest.now generation outcomes.now }
+    ensures length { length out.new.items ≡ bare_length + 80 * length outcomes.now }
+    ensures room { length out.new.items + out.new.spare ≡ length out.old.items + out.old.spare }
+    ensures sound { IsCheckpoint out.new.items 2 digest.now generation outcomes.now }
+{
+    encode_as(2, digest, generation, outcomes, out, ahead);
 }
 
 /// Makes `out` the checkpoint of a job's digest, a generation and outcomes without bins, in the first version of the format. It takes no
@@ -43,11 +64,18 @@ pub fn encode_old(digest: &[u8; 32], generation: u8, outcomes: &[Outcome], out: 
     ensures room { length out.new.items + out.new.spare ≡ length out.old.items + out.old.spare }
     ensures sound { IsCheckpoint out.new.items 1 digest.now generation outcomes.now }
 {
-    encode_as(1, digest, generation, outcomes, out);
+    encode_as(1, digest, generation, outcomes, out, None);
 }
 
 /// Makes `out` the checkpoint of a version. Of versions but the second the bins are left out.
-fn encode_as(version: u32, digest: &[u8; 32], generation: u8, outcomes: &[Outcome], out: &mut Bytes)
+fn encode_as(
+    version: u32,
+    digest: &[u8; 32],
+    generation: u8,
+    outcomes: &[Outcome],
+    out: &mut Bytes,
+    ahead: Option<&mut Ahead>,
+)
     requires generation { generation < 3 }
     requires few { length outcomes.now ≤ most_trajectories }
     requires rising { AreRising (map (λ o. o.id) outcomes.now) }
@@ -61,11 +89,17 @@ fn encode_as(version: u32, digest: &[u8; 32], generation: u8, outcomes: &[Outcom
     out.clear();
     append_head(out, version, digest, generation, outcomes.len() as u32);
     append_outcomes(out, version, outcomes);
-    append_digest(out);
+    append_digest(out, ahead);
 }
 
 /// Appends what stands before the outcomes.
-fn append_head(out: &mut Bytes, version: u32, digest: &[u8; 32], generation: u8, count: u32)
+pub(crate) fn append_head(
+    out: &mut Bytes,
+    version: u32,
+    digest: &[u8; 32],
+    generation: u8,
+    count: u32,
+)
     requires { outcomes_place ≤ out.old.spare }
     ensures { AppendsBytes out.old out.new (head_bytes version digest.now generation count) }
 {
@@ -88,7 +122,7 @@ fn append_outcomes(out: &mut Bytes, version: u32, outcomes: &[Outcome])
 }
 
 /// Appends an outcome: its id, its moves and its values, and its bins where they are written.
-fn append_outcome(out: &mut Bytes, with_bins: bool, outcome: &Outcome)
+pub(crate) fn append_outcome(out: &mut Bytes, with_bins: bool, outcome: &Outcome)
     requires { size_by with_bins ≤ out.old.spare }
     ensures bytes { AppendsBytes out.old out.new (bytes_by with_bins outcome.now) }
     ensures sound { IsOutcome outcome.now }
@@ -156,11 +190,14 @@ fn append_i64(out: &mut Bytes, number: i64)
 }
 
 /// Appends the digest of all bytes so far.
-fn append_digest(out: &mut Bytes)
+fn append_digest(out: &mut Bytes, ahead: Option<&mut Ahead>)
     requires { 32 ≤ out.old.spare }
     ensures { AppendsBytes out.old out.new (sha256 out.old.items) }
 {
-    let digest = Sha256::digest(out.as_slice());
+    let digest = match ahead {
+        Some(ahead) => ahead.digest_of(out.as_slice()),
+        None => Sha256::digest(out.as_slice()),
+    };
     append(out, &digest);
 }
 

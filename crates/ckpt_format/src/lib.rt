@@ -1,6 +1,7 @@
 //! The bytes of a checkpoint, read and written, and the digests of a job and of what it comes from.
 #![tactic(auto)]
 
+pub mod ahead;
 pub mod decode;
 pub mod digest;
 pub mod encode;
@@ -9,6 +10,7 @@ pub mod laws;
 pub mod origin;
 mod places;
 
+pub use ahead::Ahead;
 pub use decode::Checkpoint;
 pub use digest::job_digest;
 pub use encode::encode_old;
