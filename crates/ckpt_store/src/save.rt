@@ -15,7 +15,8 @@ use audit_io::source::Failed;
 use audit_model::buffers::Bytes;
 use audit_model::outcome::Outcome;
 use audit_model::place::Place;
-use ckpt_format::encode::encode;
+use ckpt_format::ahead::Ahead;
+use ckpt_format::encode::encode_with;
 
 /// Saves the checkpoint of outcomes, with bins or without, in the slot of a place, in the second version of the format, and moves the
 /// place on to the other slot and the next generation. It takes no memory but the keeper's.
@@ -46,7 +47,39 @@ pub fn save<C: Keeper>(
     ensures tried { (C.state keeper.new).tried ≡ tried_too (C.state keeper.old).tried place.old.slot (checkpoint 2 digest.now place.old.generation outcomes.now) (is_ok result) }
     ensures room { length room.new.items + room.new.spare ≡ length room.old.items + room.old.spare }
 {
-    encode(digest, place.generation, outcomes, room);
+    save_with(keeper, place, digest, outcomes, room, None)
+}
+
+/// Does what `save` does, and goes on with a digest where one was begun.
+///
+/// # Errors
+///
+/// The keeper failed: the place is as before, and its slot may hold anything.
+pub fn save_with<C: Keeper>(
+    keeper: &mut C,
+    place: &mut Place,
+    digest: &[u8; 32],
+    outcomes: &[Outcome],
+    room: &mut Bytes,
+    ahead: Option<&mut Ahead>,
+) -> Result<(), Failed>
+    requires slot { place.old.slot < 2 }
+    requires generation { place.old.generation < 3 }
+    requires few { length outcomes.now ≤ most_trajectories }
+    requires rising { AreRising (map (λ o. o.id) outcomes.now) }
+    requires room { bare_length + 80 * length outcomes.now ≤ length room.old.items + room.old.spare }
+    ensures saved { OnOk result (HoldsBytes (C.state keeper.new).slots place.old.slot (checkpoint 2 digest.now place.old.generation outcomes.now)) }
+    ensures sound { IsCheckpoint (checkpoint 2 digest.now place.old.generation outcomes.now) 2 digest.now place.old.generation outcomes.now }
+    ensures newest { OnOk result (IfTold (C.state keeper.new).slots (IsNewestForFitJobs digest.now place.old.slot place.old.generation outcomes.now)) }
+    ensures moved { OnOk result (place.new ≡ record { slot = 1 - place.old.slot; generation = (place.old.generation + 1) % 3 }) }
+    ensures kept { OnErr result (place.new ≡ place.old) }
+    ensures other { KeepsOther (C.state keeper.old).slots (C.state keeper.new).slots place.old.slot }
+    ensures cause { HasCause (C.state keeper.old).save_faults (C.state keeper.new).save_faults result }
+    ensures loads { (C.state keeper.new).load_faults ≡ (C.state keeper.old).load_faults }
+    ensures tried { (C.state keeper.new).tried ≡ tried_too (C.state keeper.old).tried place.old.slot (checkpoint 2 digest.now place.old.generation outcomes.now) (is_ok result) }
+    ensures room { length room.new.items + room.new.spare ≡ length room.old.items + room.old.spare }
+{
+    encode_with(digest, place.generation, outcomes, room, ahead);
     keeper.save(place.slot, room.as_slice())?;
     *place = Place {
         slot: 1 - place.slot,
