@@ -277,7 +277,7 @@ impl<C: Keeper> Desk<C> {
         ensures served { HasServed ticket outcome.id seat.old.me seat.new.me }
     {
         let home = seat.slot_mut(&self.table.shared, 0);
-        home.turn(outcome);
+        home.turn(outcome, self.todo.as_slice());
         self.table.shared.store::<Serve>(seat, 2, ticket + 1);
         self.wake(ticket);
     }

@@ -12,6 +12,7 @@ ghost use Rattle.tally_desk.specs.Parts.{IsPlan};
 use crate::counter::counter_laws;
 use crate::entry::Entry;
 use crate::home::Home;
+use crate::next_save::NextSave;
 use crate::rule::OneTally;
 use crate::view::{Founding, View};
 use atomic_table::{Seat, Table};
@@ -81,6 +82,9 @@ pub(crate) fn furnish<C>(
     let Ok(room) = Bytes::with_room(alloc, 84 + 80 * total) else {
         return Err(Refused { book, keeper });
     };
+    let Ok(next) = NextSave::with_room(alloc, plan.save_every, 84 + 80 * total) else {
+        return Err(Refused { book, keeper });
+    };
     Ok(Home {
         book,
         keeper,
@@ -91,6 +95,7 @@ pub(crate) fn furnish<C>(
         digest,
         sorted,
         room,
+        next,
     })
 }
 
@@ -144,6 +149,7 @@ pub(crate) fn hand_over<C>(home: Home<C>) -> Kept<C>
         digest: _,
         sorted: _,
         room: _,
+        next: _,
     } = home;
     Kept {
         book,
@@ -168,6 +174,7 @@ fn give_back<C>(home: Home<C>) -> Refused<C>
         digest: _,
         sorted: _,
         room: _,
+        next: _,
     } = home;
     Refused { book, keeper }
 }

@@ -1,6 +1,7 @@
 //! What the slot of a desk holds.
 
 use crate::entry::Entry;
+use crate::next_save::NextSave;
 use audit_io::keeper::Keeper;
 use audit_model::buffers::{Bytes, OutcomeList};
 use audit_model::outcome::Outcome;
@@ -23,6 +24,7 @@ pub struct Home<C> {
     pub(crate) digest: [u8; 32],
     pub(crate) sorted: OutcomeList,
     pub(crate) room: Bytes,
+    pub(crate) next: NextSave,
 }
 
 impl<C: Keeper> Home<C> {
@@ -47,12 +49,13 @@ impl<C: Keeper> Home<C> {
         self.book.sorted_into(&mut self.sorted);
         // A law, called for what its contract says: outcomes by rising id are as a checkpoint asks for them.
         rising_pairs_rise();
-        let saved = save::save(
+        let saved = save::save_with(
             &mut self.keeper,
             &mut self.place,
             &self.digest,
             self.sorted.as_slice(),
             &mut self.room,
+            Some(&mut self.next.ahead),
         );
         match saved {
             Ok(()) => true,
@@ -78,8 +81,8 @@ impl<C: Keeper> Home<C> {
     }
 
     /// Appends an outcome, and saves a checkpoint of the book where one is due: each time that the number of posts is a multiple. Whether a
-    /// save was made and succeeded. It takes no memory but the keeper's.
-    pub fn turn(&mut self, outcome: Outcome) -> bool
+    /// save was made and succeeded. `todo` are the ids of the run. It takes no memory but the keeper's.
+    pub fn turn(&mut self, outcome: Outcome, todo: &[u32]) -> bool
         requires { (parts : Parts) × ((posted : List model.Entry) × MayTurn C.state parts self.old posted outcome) }
         ensures turned { (parts : Parts) (posted : List model.Entry) → MayTurn C.state parts self.old posted outcome
             → HasTurned C.state parts self.new posted outcome result }
@@ -97,6 +100,20 @@ impl<C: Keeper> Home<C> {
             id: outcome.id,
             saved,
         });
+        self.look_ahead(ticket + 1, todo);
         saved
+    }
+
+    // Hashes a little of the next checkpoint, or begins with it where a save was due after so many posts and another is to come.
+    fn look_ahead(&mut self, posts: u64, todo: &[u32])
+        ensures { self.new ≡ record self.old { next = self.new.next } }
+    {
+        let every = u64::from(self.save_every.max(1));
+        let outcomes = self.sorted.as_slice();
+        if posts % every != 0 {
+            self.next.go_on(outcomes);
+        } else if posts.saturating_add(every) <= todo.len() as u64 {
+            self.next.begin(&self.digest, self.place, outcomes, todo);
+        }
     }
 }

@@ -10,6 +10,7 @@ pub mod handing;
 mod home;
 mod hub;
 pub mod laws;
+mod next_save;
 pub mod pass;
 mod posting;
 pub mod ran;

@@ -64,6 +64,9 @@ returns-clause-turned g c = λ parts posted may.
     ticket c.save_where_due-saved.ensures in
     let d = done g.C.Keeper.state parts y posted c.args.outcome may c.post.new.self c.post.ensures.total c.post.ensures.outcomes
     c.saved_slots_are_newest.ensures c.checkpoints_are_ours.ensures c.save_where_due-saved.new.self saved effect in
+    let same = c.look_ahead.ensures in
     turned g.C.Keeper.state parts y posted c.args.outcome may c.save_where_due-saved.new.self _ saved d
-    (c.push_reserved.ensures.items ∙ ap (λ (k : ℕ). c.save_where_due-saved.new.self.posted.items ++ post_of k c.args.outcome.id saved ∷ []) ticket)
-    c.push_reserved.ensures.capacity refl refl refl refl refl refl refl refl
+    (ap (λ h. h.posted.items) same ∙ c.push_reserved.ensures.items
+    ∙ ap (λ (k : ℕ). c.save_where_due-saved.new.self.posted.items ++ post_of k c.args.outcome.id saved ∷ []) ticket)
+    (ap (λ h. vec_capacity h.posted) same ∙ c.push_reserved.ensures.capacity) (ap (λ h. h.book) same) (ap (λ h. h.keeper) same) (ap (λ h. h.place) same)
+    (ap (λ h. h.failed_saves) same) (ap (λ h. h.save_every) same) (ap (λ h. h.digest) same) (ap (λ h. h.sorted) same) (ap (λ h. h.room) same)
