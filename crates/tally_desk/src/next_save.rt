@@ -6,6 +6,9 @@ use audit_model::place::Place;
 use ckpt_format::ahead::Ahead;
 use std::alloc::Global;
 
+/// The most outcomes that are hashed with one post. Where it would take more, saves come so often that everybody waits for hashing in any case.
+const MOST_EACH: usize = 32;
+
 /// What the next checkpoint begins with: the first outcomes of the last one, up to the least id that is still to do. Nothing is proved of it, since a
 /// checkpoint that begins otherwise is hashed from its first byte.
 #[derive(Drop)]
@@ -38,9 +41,10 @@ impl NextSave {
             place.generation,
             count.min(u32::MAX as usize) as u32,
         );
-        self.sure = count_sure(outcomes, todo);
+        let sure = count_sure(outcomes, todo);
+        self.each = (sure / self.save_every.max(1) as usize).saturating_add(1);
+        self.sure = if self.each <= MOST_EACH { sure } else { 0 };
         self.taken = 0;
-        self.each = (self.sure / self.save_every.max(1) as usize).saturating_add(1);
     }
 
     /// Takes in a few more outcomes of the last checkpoint.
