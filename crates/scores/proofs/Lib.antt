@@ -1,4 +1,5 @@
 pub mod Below
 pub mod Few
+mod Nearest
 pub mod Ranked
 pub mod Shares

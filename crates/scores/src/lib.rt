@@ -6,10 +6,12 @@ ghost use Rattle.audit_model.specs.Score as definition;
 ghost use Rattle.scores.specs.Votes.{AreShares, AreVotes};
 ghost use Rattle.audit_model.specs.Limits.{most_districts};
 
+mod median;
 mod room;
 
 use audit_model::outcome::SumsView;
 use audit_model::setting::Score;
+use median::twice_median;
 pub use room::Room;
 
 const BILLION: u64 = 1_000_000_000;
@@ -93,7 +95,7 @@ fn median_less_mean(sums: &SumsView, room: &mut [u64]) -> i64
     }
     let shares = &mut room[..sums.first.len()];
     write_shares(sums, shares);
-    mean_median(shares)
+    mean_median(shares, &mut (BILLION / 2))
 }
 
 /// Writes the first party's share in each district.
@@ -125,25 +127,15 @@ fn share(first: u64, second: u64) -> u64
     }
 }
 
-/// The median share less the mean share, times twice the number of districts. It puts the shares into rising order.
-fn mean_median(shares: &mut [u64]) -> i64
+/// The median share less the mean share, times twice the number of districts. It looks for the median from this number on, and leaves the median
+/// there; the order of the shares is open afterwards.
+fn mean_median(shares: &mut [u64], middle: &mut u64) -> i64
     requires { AreShares shares.old }
     ensures { result ≡ definition.mean_median shares.old }
 {
     let all = total(shares);
     let districts = shares.len() as u64;
-    (districts * twice_median(shares)) as i64 - (2 * all) as i64
-}
-
-/// The sum of the two numbers in the middle of the rising order, or twice the one in the middle. It puts the numbers
-/// into rising order.
-fn twice_median(numbers: &mut [u64]) -> u64
-    requires { AreShares numbers.old }
-    ensures value { result ≡ definition.ranked numbers.old ((length numbers.old - 1) / 2) + definition.ranked numbers.old (length numbers.old / 2) }
-    ensures small { result ≤ 2 * 10 ^ 9 }
-{
-    numbers.sort_unstable();
-    numbers[(numbers.len() - 1) / 2] + numbers[numbers.len() / 2]
+    (districts * twice_median(shares, middle)) as i64 - (2 * all) as i64
 }
 
 /// The sum of the shares.

@@ -17,12 +17,13 @@ struct Share {
     ghost right: { billionths ≡ definition.share first second },
 }
 
-/// Room for scores. It remembers each district's last share, since a division takes longer than all else, and most plans differ in two districts
-/// from the one before.
+/// Room for scores. It remembers each district's last share, since a division takes longer than any other step, and the last median, since most
+/// plans differ in two districts from the one before.
 #[derive(Drop)]
 pub struct Room {
     last: [Share; 200],
     shares: [u64; 200],
+    median: u64,
 }
 
 impl Room {
@@ -31,6 +32,7 @@ impl Room {
         Room {
             last: [Share::of(0, 0); 200],
             shares: [0; 200],
+            median: 0,
         }
     }
 
@@ -40,7 +42,12 @@ impl Room {
         ensures { result ≡ definition.value score sums.now }
     {
         match score {
-            Score::MeanMedian => median_less_mean(sums, &mut self.last, &mut self.shares),
+            Score::MeanMedian => median_less_mean(
+                sums,
+                &mut self.last,
+                &mut self.shares,
+                &mut self.median,
+            ),
             _ => value(score, sums, &mut self.shares),
         }
     }
@@ -73,7 +80,7 @@ impl Share {
 }
 
 // The median share less the mean share, times twice the number of districts. Of one district or two it needs no share.
-fn median_less_mean(sums: &SumsView, last: &mut [Share], room: &mut [u64]) -> i64
+fn median_less_mean(sums: &SumsView, last: &mut [Share], room: &mut [u64], median: &mut u64) -> i64
     requires votes { AreVotes sums.now.first sums.now.second }
     requires last { length sums.now.first ≤ length last.old }
     requires room { length sums.now.first ≤ length room.old }
@@ -84,7 +91,7 @@ fn median_less_mean(sums: &SumsView, last: &mut [Share], room: &mut [u64]) -> i6
     }
     let shares = &mut room[..sums.first.len()];
     renew_shares(sums, last, shares);
-    mean_median(shares)
+    mean_median(shares, median)
 }
 
 // Writes the first party's share in each district.
