@@ -58,18 +58,18 @@ pub struct Splits {
 
 impl Splits {
     /// Counts of no units.
-    pub(crate) fn zeros(alloc: Global, rows: usize, districts: usize) -> Result<Splits, Memory>
-        requires few_rows { rows ≤ most_regions }
+    pub(crate) fn zeros(alloc: Global, regions: usize, districts: usize) -> Result<Splits, Memory>
+        requires few_rows { regions ≤ most_regions }
         requires few { districts ≤ most_districts }
         ensures { IfOk result (λ s. s ≡ record {
-          cells = replicate (rows * districts) 0;
-          widths = replicate rows 0;
+          cells = replicate (regions * districts) 0;
+          widths = replicate regions 0;
           totals = record { broken = 0; in_all = 0; split = 0 };
         }) }
     {
         Ok(Splits {
-            cells: NumList::zeros(alloc, rows * districts)?,
-            widths: UnitList::zeros(alloc, rows)?,
+            cells: NumList::zeros(alloc, regions * districts)?,
+            widths: UnitList::zeros(alloc, regions)?,
             totals: Totals {
                 broken: 0,
                 in_all: 0,
