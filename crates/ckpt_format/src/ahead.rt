@@ -5,6 +5,7 @@ ghost use Rattle.sha2.specs.Hashers.{Holds256};
 ghost use Rattle.sha2.specs.Sha256.{sha256};
 
 use crate::encode::{append_head, append_outcome};
+use crate::places::{OUTCOMES, outcome_size};
 use audit_model::buffers::Bytes;
 use audit_model::memory::Memory;
 use audit_model::outcome::Outcome;
@@ -22,9 +23,6 @@ pub struct Ahead {
 }
 
 impl Ahead {
-    ghost use Rattle.std.specs.Prelude.{◌≡◌};
-    ghost use Rattle.sha2.specs.Sha256.{sha256};
-
     /// Nothing is thought of a checkpoint yet. There is room for so many bytes. The only error is want of memory, and no other call takes any.
     pub fn with_room(alloc: Global, count: usize) -> Result<Ahead, Memory> {
         Ok(Ahead {
@@ -37,7 +35,7 @@ impl Ahead {
     pub fn begin(&mut self, digest: &[u8; 32], generation: u8, count: u32) {
         self.bytes.clear();
         self.hasher = Sha256::new();
-        if self.bytes.spare() >= 52 {
+        if self.bytes.spare() >= OUTCOMES {
             append_head(&mut self.bytes, 2, digest, generation, count);
             self.hasher.update(self.bytes.as_slice());
         }
@@ -45,7 +43,7 @@ impl Ahead {
 
     /// Goes on with an outcome, where there is room for it.
     pub fn go_on(&mut self, outcome: &Outcome) {
-        if self.bytes.spare() >= 80 {
+        if self.bytes.spare() >= outcome_size(2) {
             let before = self.bytes.len();
             append_outcome(&mut self.bytes, true, outcome);
             self.hasher.update(&self.bytes.as_slice()[before..]);
