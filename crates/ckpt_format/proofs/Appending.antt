@@ -27,3 +27,14 @@ appends_more f xs i d a b c l first second =
 -- the room stays
 pub appends_room : (a b : RoomyBytes) (xs : List ℕ) → AppendsBytes a b xs → length b.items + b.spare ≡ length a.items + a.spare
 appends_room a b xs done = omega (arith, done.spare, ap length done.items, length-append a.items xs)
+
+-- what was put together in a piece is appended with it
+pub appends_piece : (a b p q : RoomyBytes) (xs ys : List ℕ) → p ≡ record { items = []; spare = 80 } → AppendsBytes p q ys → xs ≡ q.items
+    → AppendsBytes a b xs → AppendsBytes a b ys
+appends_piece a b p q xs ys new put seen done =
+    let all : xs ≡ ys = seen ∙ put.items ∙ ap (λ (r : RoomyBytes). r.items ++ ys) new in
+    subst (AppendsBytes a b) all done
+
+-- and has as many bytes
+pub piece_length : (p q : RoomyBytes) (xs ys : List ℕ) → p ≡ record { items = []; spare = 80 } → AppendsBytes p q ys → xs ≡ q.items → length xs ≡ length ys
+piece_length p q xs ys new put seen = ap length (seen ∙ put.items ∙ ap (λ (r : RoomyBytes). r.items ++ ys) new)

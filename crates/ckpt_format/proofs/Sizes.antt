@@ -49,12 +49,16 @@ length-bin_bytes : (with_bins : Bool) (bins : List ℕ) → length bins ≡ 9 �
 length-bin_bytes true bins nine = let numbers = length-even_pieces (to_be_bytes w32) 4 bins (λ n. refl) in omega (arith, nine, numbers)
 length-bin_bytes false bins nine = refl
 
+-- an outcome of four values and nine bins
+pub length-bytes_of : (with_bins : Bool) (o : Outcome) → length o.values ≡ 4 → length o.bins ≡ 9 → length (bytes_by with_bins o) ≡ size_by with_bins
+length-bytes_of with_bins o four nine =
+    let bare = length-bare_bytes o four in
+    let bins = length-bin_bytes with_bins o.bins nine in
+    omega (arith, bare, bins, length-append (to_be_bytes w32 o.id ++ to_be_bytes w64 o.moved ++ flat_map (λ v. to_be_bytes w64 (cast_unsigned w64 v)) o.values) (bin_bytes with_bins o.bins))
+
 -- an outcome
 pub length-bytes_by : (with_bins : Bool) (o : Outcome) → IsOutcome o → length (bytes_by with_bins o) ≡ size_by with_bins
-length-bytes_by with_bins o is =
-    let bare = length-bare_bytes o is.four in
-    let bins = length-bin_bytes with_bins o.bins is.nine in
-    omega (arith, bare, bins, length-append (to_be_bytes w32 o.id ++ to_be_bytes w64 o.moved ++ flat_map (λ v. to_be_bytes w64 (cast_unsigned w64 v)) o.values) (bin_bytes with_bins o.bins))
+length-bytes_by with_bins o is = length-bytes_of with_bins o is.four is.nine
 
 -- from 44 to 80 bytes
 pub few_bytes : (with_bins : Bool) → (44 ≤ size_by with_bins) × (size_by with_bins ≤ 80)

@@ -10,6 +10,7 @@ ghost use Rattle.ckpt_format.specs.Written.{AppendsBytes, bytes_by, head_bytes, 
 ghost use Rattle.audit_model.specs.Limits.{most_trajectories};
 
 use crate::ahead::Ahead;
+use crate::piece::Piece;
 use audit_model::buffers::Bytes;
 use audit_model::outcome::Outcome;
 use sha2::{Digest, Sha256};
@@ -103,11 +104,13 @@ pub(crate) fn append_head(
     requires { outcomes_place ≤ out.old.spare }
     ensures { AppendsBytes out.old out.new (head_bytes version digest.now generation count) }
 {
-    append(out, &MAGIC);
-    append_u32(out, version);
-    append(out, digest);
-    append_u32(out, u32::from(generation));
-    append_u32(out, count);
+    let mut piece = Piece::new();
+    piece.append(&MAGIC);
+    append_u32(&mut piece, version);
+    piece.append(digest);
+    append_u32(&mut piece, u32::from(generation));
+    append_u32(&mut piece, count);
+    append(out, piece.as_slice());
 }
 
 /// Appends the outcomes.
@@ -127,66 +130,68 @@ pub(crate) fn append_outcome(out: &mut Bytes, with_bins: bool, outcome: &Outcome
     ensures bytes { AppendsBytes out.old out.new (bytes_by with_bins outcome.now) }
     ensures sound { IsOutcome outcome.now }
 {
-    append_u32(out, outcome.id);
-    append_u64(out, outcome.moved);
-    append_values(out, &outcome.values);
-    append_bins(out, with_bins, &outcome.bins);
+    let mut piece = Piece::new();
+    append_u32(&mut piece, outcome.id);
+    append_u64(&mut piece, outcome.moved);
+    append_values(&mut piece, &outcome.values);
+    append_bins(&mut piece, with_bins, &outcome.bins);
+    append(out, piece.as_slice());
 }
 
 /// Appends bins where they are written.
-fn append_bins(out: &mut Bytes, with_bins: bool, bins: &[u32; 9])
-    requires { IsTrue with_bins → 36 ≤ out.old.spare }
-    ensures bytes { AppendsBytes out.old out.new (bin_bytes with_bins bins.now) }
+fn append_bins(piece: &mut Piece, with_bins: bool, bins: &[u32; 9])
+    requires { IsTrue with_bins → 36 ≤ piece.old.spare }
+    ensures bytes { AppendsBytes piece.old piece.new (bin_bytes with_bins bins.now) }
     ensures sound { AllByRecursion (λ n. n < 2 ^ 32) bins.now }
 {
     if with_bins {
-        append_numbers(out, bins);
+        append_numbers(piece, bins);
     }
 }
 
 /// Appends numbers.
-fn append_numbers(out: &mut Bytes, numbers: &[u32])
-    requires { 4 * length numbers.now ≤ out.old.spare }
-    ensures { AppendsBytes out.old out.new (flat_map (to_be_bytes w32) numbers.now) }
+fn append_numbers(piece: &mut Piece, numbers: &[u32])
+    requires { 4 * length numbers.now ≤ piece.old.spare }
+    ensures { AppendsBytes piece.old piece.new (flat_map (to_be_bytes w32) numbers.now) }
 {
     for number in numbers {
-        append_u32(out, *number);
+        append_u32(piece, *number);
     }
 }
 
 /// Appends values.
-fn append_values(out: &mut Bytes, values: &[i64])
-    requires { 8 * length values.now ≤ out.old.spare }
-    ensures bytes { AppendsBytes out.old out.new (flat_map (λ v. to_be_bytes w64 (cast_unsigned w64 v)) values.now) }
+fn append_values(piece: &mut Piece, values: &[i64])
+    requires { 8 * length values.now ≤ piece.old.spare }
+    ensures bytes { AppendsBytes piece.old piece.new (flat_map (λ v. to_be_bytes w64 (cast_unsigned w64 v)) values.now) }
     ensures sound { AllByRecursion (FitsSigned w64) values.now }
 {
     for value in values {
-        append_i64(out, *value);
+        append_i64(piece, *value);
     }
 }
 
 /// Appends the four bytes of a number.
-fn append_u32(out: &mut Bytes, number: u32)
-    requires { 4 ≤ out.old.spare }
-    ensures { AppendsBytes out.old out.new (to_be_bytes w32 number) }
+fn append_u32(piece: &mut Piece, number: u32)
+    requires { 4 ≤ piece.old.spare }
+    ensures { AppendsBytes piece.old piece.new (to_be_bytes w32 number) }
 {
-    append(out, &number.to_be_bytes());
+    piece.append(&number.to_be_bytes());
 }
 
 /// Appends the eight bytes of a number.
-fn append_u64(out: &mut Bytes, number: u64)
-    requires { 8 ≤ out.old.spare }
-    ensures { AppendsBytes out.old out.new (to_be_bytes w64 number) }
+fn append_u64(piece: &mut Piece, number: u64)
+    requires { 8 ≤ piece.old.spare }
+    ensures { AppendsBytes piece.old piece.new (to_be_bytes w64 number) }
 {
-    append(out, &number.to_be_bytes());
+    piece.append(&number.to_be_bytes());
 }
 
 /// Appends the eight bytes of a number, which may be negative.
-fn append_i64(out: &mut Bytes, number: i64)
-    requires { 8 ≤ out.old.spare }
-    ensures { AppendsBytes out.old out.new (to_be_bytes w64 (cast_unsigned w64 number)) }
+fn append_i64(piece: &mut Piece, number: i64)
+    requires { 8 ≤ piece.old.spare }
+    ensures { AppendsBytes piece.old piece.new (to_be_bytes w64 (cast_unsigned w64 number)) }
 {
-    append(out, &number.to_be_bytes());
+    piece.append(&number.to_be_bytes());
 }
 
 /// Appends the digest of all bytes so far.

@@ -8,6 +8,7 @@ pub mod encode;
 mod fault;
 pub mod laws;
 pub mod origin;
+mod piece;
 mod places;
 
 pub use ahead::Ahead;

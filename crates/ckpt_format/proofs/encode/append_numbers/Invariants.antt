@@ -5,4 +5,4 @@ use Rattle.ckpt_format.specs.Written.{AppendsBytes}
 use Rattle.ckpt_format.proofs.encode.append_numbers.Given as goal
 
 abbrev pub invariant-loop-number : goal.invariant-loop-number
-invariant-loop-number l = AppendsBytes l.fn.out l.out (flat_map (to_be_bytes w32) (take l.number-index l.numbers))
+invariant-loop-number l = AppendsBytes l.fn.piece l.piece (flat_map (to_be_bytes w32) (take l.number-index l.numbers))

@@ -15,7 +15,7 @@ append_i64-requires c =
     let values = c.args.values.now in
     let i = c.loop-value.value-index in
     let even = length-even_pieces (λ v. to_be_bytes w64 (cast_unsigned w64 v)) 8 (take i values) (λ v. refl) in
-    room_for_next (λ v. to_be_bytes w64 (cast_unsigned w64 v)) 8 values i c.args.out.now c.loop-value.out c.loop-value-test.true even c.requires c.loop-value.invariant.bytes
+    room_for_next (λ v. to_be_bytes w64 (cast_unsigned w64 v)) 8 values i c.args.piece.now c.loop-value.piece c.loop-value-test.true even c.requires c.loop-value.invariant.bytes
 
 pub loop-value-preserved : goal.loop-value-preserved
 loop-value-preserved c =
@@ -23,11 +23,11 @@ loop-value-preserved c =
     let i = c.loop-value.value-index in
     let v : ℤ = get_or values i (pos 0) in
     let fits : SFits w64 v = search rules in
-    let appended : AppendsBytes c.loop-value.out c.append_i64.new.out (to_be_bytes w64 (cast_unsigned w64 (to_z w64 (of_z w64 v)))) = c.append_i64.ensures in
-    let this : AppendsBytes c.loop-value.out c.append_i64.new.out (to_be_bytes w64 (cast_unsigned w64 v)) =
-    subst (λ z. AppendsBytes c.loop-value.out c.append_i64.new.out (to_be_bytes w64 (cast_unsigned w64 z))) (to_z-of_z w64 v fits) appended in
+    let appended : AppendsBytes c.loop-value.piece c.append_i64.new.piece (to_be_bytes w64 (cast_unsigned w64 (to_z w64 (of_z w64 v)))) = c.append_i64.ensures in
+    let this : AppendsBytes c.loop-value.piece c.append_i64.new.piece (to_be_bytes w64 (cast_unsigned w64 v)) =
+    subst (λ z. AppendsBytes c.loop-value.piece c.append_i64.new.piece (to_be_bytes w64 (cast_unsigned w64 z))) (to_z-of_z w64 v fits) appended in
     record {
-      bytes = appends_more (λ v. to_be_bytes w64 (cast_unsigned w64 v)) values i (pos 0) c.args.out.now c.loop-value.out c.append_i64.new.out c.loop-value-test.true c.loop-value.invariant.bytes this;
+      bytes = appends_more (λ v. to_be_bytes w64 (cast_unsigned w64 v)) values i (pos 0) c.args.piece.now c.loop-value.piece c.append_i64.new.piece c.loop-value-test.true c.loop-value.invariant.bytes this;
       sound = All-more (FitsSigned w64) values i (pos 0) c.loop-value-test.true c.loop-value.invariant.sound fits;
     }
 
