@@ -13,20 +13,19 @@ use std::marker::Model;
 #[derive(Drop)]
 pub struct Draws {
     key: [u8; 32],
-    place: u64,
     words: ChaCha20Rng,
 }
 
 impl Model for Draws {
-    ghost use Rattle.std.specs.Prelude.{◌≡◌, ◌*◌, ◌≤◌, ◌^◌};
+    ghost use Rattle.std.specs.Prelude.{◌≡◌, ◌*◌, ◌/◌, ◌≤◌, ◌^◌};
     ghost use Rattle.chacha_draws.specs.DrawPlace.{DrawPlace};
     ghost use Rattle.rand_chacha.specs.ChaCha.{key_of};
 
     ghost Value = { DrawPlace };
 
-    ghost view = { λ d. record { key = d.key; stream = d.words.stream; place = d.place } };
+    ghost view = { λ d. record { key = d.key; stream = d.words.stream; place = d.words.word_pos / 2 } };
 
-    ghost invariant = { λ d. (d.words.key ≡ key_of d.key) × (d.words.word_pos ≡ 2 * d.place) × (d.place ≤ 2 ^ 32) };
+    ghost invariant = { λ d. (d.words.key ≡ key_of d.key) × (d.words.word_pos ≡ 2 * (d.words.word_pos / 2)) × (d.words.word_pos ≤ 2 ^ 33) };
 }
 
 impl Draws {
@@ -38,11 +37,7 @@ impl Draws {
     {
         let mut words = ChaCha20Rng::from_seed(key);
         words.set_stream(stream);
-        Draws {
-            key,
-            place: 0,
-            words,
-        }
+        Draws { key, words }
     }
 
     /// The draw at this place, which moves to the next.
@@ -52,7 +47,6 @@ impl Draws {
         ensures value { result ≡ draw self.old.key self.old.stream self.old.place }
         ensures moved { self.new ≡ record self.old { place = self.old.place + 1 } }
     {
-        self.place += 1;
         next_u64_via_u32(&mut self.words)
     }
 }

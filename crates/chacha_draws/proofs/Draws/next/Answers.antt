@@ -1,4 +1,4 @@
-use Rattle.std.proofs.Common.{◌≡◌, ℕ, ◌+◌, ◌<◌, ◌^◌, ◌*◌, ◌%◌, List, ap, ◌∙◌, arith}
+use Rattle.std.proofs.Common.{◌≡◌, ℕ, ◌+◌, ◌<◌, ◌^◌, ◌*◌, ◌/◌, ◌%◌, List, ap, ◌∙◌, arith}
 use Rattle.std.proofs.Math.Nat.{mul_comm}
 use Rattle.audit_statement.specs.Draw.{draw}
 use Rattle.rand_chacha.specs.ChaCha.{ChaCha, word_at, key_of, next_word}
@@ -22,5 +22,5 @@ pub returns-clause-value : goal.returns-clause-value
 returns-clause-value c =
     let words = c.self.inside.words in
     ap (λ (p : ℕ × ChaCha). p.0) c.next_u64_via_u32.ensures
-    ∙ two_words words c.self.inside.key c.self.inside.place c.self.invariant.0 c.self.invariant.1 (omega (arith, ap (λ (p : DrawPlace). p.place) c.self.view_is))
+    ∙ two_words words c.self.inside.key (words.word_pos / 2) c.self.invariant.0 c.self.invariant.1 (omega (arith, ap (λ (p : DrawPlace). p.place) c.self.view_is))
     ∙ ap (λ (p : DrawPlace). draw p.key p.stream p.place) c.self.view_is
