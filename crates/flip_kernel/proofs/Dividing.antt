@@ -1,13 +1,18 @@
 -- The division of draws into blocks, by a product with an inverse.
-use Rattle.std.proofs.Common.{◌≡◌, ℕ, ◌+◌, ◌-◌, ◌*◌, ◌/◌, ◌%◌, ◌^◌, ◌<◌, ◌≤◌, Some, None, sym, ap, ◌∙◌, inl, inr, arith}
+use Rattle.std.proofs.Common.{◌≡◌, ℕ, Option, cond, ◌+◌, ◌-◌, ◌*◌, ◌/◌, ◌%◌, ◌^◌, ◌<◌, ◌≤◌, Some, None, sym, ap, ◌∙◌, inl, inr, arith}
 use Rattle.std.specs.Prelude.{nat_lt}
 use Rattle.std.proofs.Math.Nat.{mul-le-mul_left, mul-le-mul_right}
-use Rattle.std.proofs.lemmas.Bool.{cases_lt, cond-true, cond-false, lt-ltb, ltb-true, false_from_ne_true}
-use Rattle.std.proofs.lemmas.Nat.{div-add-mod', mod-mul-add, mod_below, div_below, le-div}
+use Rattle.std.proofs.lemmas.Bool.{cases_lt, cond-true, cond-false, le-ltb, lt-ltb, ltb-true, false_from_ne_true}
+use Rattle.std.proofs.lemmas.Nat.{div-add-mod', div-mul-add, mod-mul-add, mod_below, div_below, le-div}
 use Rattle.audit_model.proofs.Numbers.{one_more_block}
 use Rattle.flip_kernel.specs.Blocks.{place_in}
 
 -- ---- a quotient that is at most one short
+
+-- the quotient and the rest of a number that is put together of them
+divided_at : (blocks size rest : ℕ) → rest < size → ◌≡◌ {A = ℕ × ℕ} ((blocks * size + rest) / size, (blocks * size + rest) % size) (blocks, rest)
+divided_at blocks size rest small =
+    ap (λ (n : ℕ). (n, (blocks * size + rest) % size)) (div-mul-add blocks size rest small) ∙ ap (λ (n : ℕ). (blocks, n)) (mod-mul-add blocks size rest small)
 
 -- of all draws there are `all`, and the size goes into them `inverse` times; `blocks` is the product's quotient
 module _ (all draw size inverse blocks : ℕ) (some : 0 < size) (l : draw < all) (enough : inverse * size < all) (most : all ≤ inverse * size + size)
@@ -35,14 +40,16 @@ module _ (all draw size inverse blocks : ℕ) (some : 0 < size) (l : draw < all)
         absurd (omega (arith, one, two, three, four, some))
   ]
 
-  pub rest_is : draw - blocks * size < size → draw - blocks * size ≡ draw % size
-  rest_is small = sym (ap (λ (n : ℕ). n % size) split ∙ mod-mul-add blocks size (draw - blocks * size) small)
+  -- either it is less than one, and the quotient is right
+  pub divided_is : draw - blocks * size < size → ◌≡◌ {A = ℕ × ℕ} (blocks, draw - blocks * size) (draw / size, draw % size)
+  divided_is small = sym (ap (λ (n : ℕ). (n / size, n % size)) split ∙ divided_at blocks size (draw - blocks * size) small)
     where
       split : draw ≡ blocks * size + (draw - blocks * size)
       split = omega (arith, blocks_fit)
 
-  pub rest_next : size ≤ draw - blocks * size → draw - blocks * size - size ≡ draw % size
-  rest_next large = sym (ap (λ (n : ℕ). n % size) split ∙ mod-mul-add (blocks + 1) size (draw - blocks * size - size) (omega (arith, rest_small, large)))
+  -- or the quotient is the next
+  pub divided_next : size ≤ draw - blocks * size → ◌≡◌ {A = ℕ × ℕ} (blocks + 1, draw - blocks * size - size) (draw / size, draw % size)
+  divided_next large = sym (ap (λ (n : ℕ). (n / size, n % size)) split ∙ divided_at (blocks + 1) size (draw - blocks * size - size) (omega (arith, rest_small, large)))
     where
       split : draw ≡ (blocks + 1) * size + (draw - blocks * size - size)
       split = omega (arith, blocks_fit, large)
@@ -68,10 +75,16 @@ module _ (draw size last place : ℕ) (some : 0 < size) (whole : last + size ≡
       let more : (draw / size + 1) * size ≡ draw / size * size + size = one_more_block (draw / size) size in
       omega (arith, mul-le-mul_right size below, parts, more, div-add-mod' (2 ^ 64) size)
 
-  -- the place of a draw, by where its block begins
-  pub place_whole : draw - place ≤ last → Some place ≡ place_in size draw
+  place_whole : draw - place ≤ last → Some place ≡ place_in size draw
   place_whole within = ap (λ (n : ℕ). Some n) is ∙ sym (cond-true _ _ _ (lt-ltb draw (2 ^ 64 / size * size) (counted within)))
 
-  pub place_held : last < draw - place → None ≡ place_in size draw
+  place_held : last < draw - place → None ≡ place_in size draw
   place_held beyond = sym (cond-false _ _ _ (false_from_ne_true (nat_lt draw (2 ^ 64 / size * size))
       (λ l. let below = ends_below (ltb-true draw (2 ^ 64 / size * size) l) in omega (arith, below, beyond))))
+
+  -- the place of a draw, by where its block begins
+  pub place_by : place_in size draw ≡ cond {A = Option ℕ} (nat_lt last (draw - place)) None (Some place)
+  place_by = elim (cases_lt last (draw - place)) [
+    | inl beyond ↦ sym (place_held beyond) ∙ sym (cond-true _ _ _ (lt-ltb last (draw - place) beyond))
+    | inr within ↦ sym (place_whole within) ∙ sym (cond-false _ _ _ (le-ltb last (draw - place) within))
+  ]

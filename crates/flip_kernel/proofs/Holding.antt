@@ -1,13 +1,17 @@
 -- What a state knows of its job and its plan.
-use Rattle.std.proofs.Common.{◌≡◌, ℕ, ◌<◌, ◌≤◌, Bool, List, get_or, set, ap, ◌∙◌, subst, arith}
+use Rattle.std.proofs.Common.{◌≡◌, ℕ, ◌+◌, ◌*◌, ◌^◌, ◌<◌, ◌≤◌, Bool, List, get_or, set, ap, ◌∙◌, subst, arith}
 use Rattle.std.specs.Prelude.{◌↔◌, IsTrue}
 use Rattle.std.proofs.lemmas.List.{set-set, set-get_or}
+use Rattle.std.proofs.lemmas.Nat.{mul-le}
+use Rattle.std.proofs.Math.Nat.{div-le_self}
 use Rattle.audit_model.specs.declared.outcome.SumsView.{SumsView}
-use Rattle.audit_model.specs.Job.{Job}
+use Rattle.audit_model.specs.Job.{Job, total_population}
 use Rattle.audit_model.specs.JobOf.{IsJob}
 use Rattle.audit_model.specs.District.{district_sum}
+use Rattle.audit_model.specs.Plan.{greatest_population}
 use Rattle.audit_model.proofs.Below.{get_or-map_below}
 use Rattle.district_sums.specs.Following.{Following, districts_in}
+use Rattle.plan_core.proofs.Bounded.{sum_small}
 use Rattle.contig.specs.Counts.{Counted}
 use Rattle.contig.specs.Table.{Faced}
 use Rattle.flip_kernel.specs.declared.proposal.Pairs.{Pairs}
@@ -47,3 +51,11 @@ some_units job sound =
     let two : 2 ≤ job.districts = sound.within.input.two in
     let first = (sound.legal.connected 0 (omega (arith, two))).inhabited in
     omega (arith, first.1.0)
+
+-- the greatest population within the bounds is small
+pub greatest_small : (job : Job) → IsJob job → greatest_population job < 2 ^ 63
+greatest_small job sound =
+    let total : total_population job ≤ 10 ^ 14 =
+    sum_small job.counts.population (omega (arith, sound.within.input.population.width, sound.within.input.units)) sound.within.input.population.small in
+    let product : (10000 + job.setting.slack) * total_population job ≤ 20000 * 10 ^ 14 = mul-le _ _ 20000 (10 ^ 14) (omega (arith, sound.within.setting.slack)) total in
+    omega (arith, product, div-le_self ((10000 + job.setting.slack) * total_population job) (10000 * job.districts))

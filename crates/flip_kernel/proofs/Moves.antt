@@ -1,8 +1,8 @@
 -- A proposal is a move exactly where its pair is open, both populations stay within the bounds, the plan after it meets the rules, and the
 -- unit may leave its district.
-use Rattle.std.proofs.Common.{◌≡◌, ℕ, ◌+◌, ◌<◌, ◌≤◌, Bool, true, cond, not, ◌==◌, List, [], ◌∷◌, length, get_or, set, refl, sym, ap, ◌∙◌, subst, inl, inr, arith, length-set}
-use Rattle.std.specs.Prelude.{◌⊎◌}
-use Rattle.std.proofs.lemmas.Bool.{cases_eq, eq-eqb, eqb-true, ne_eqb, and_right, both_ways, cond-true, cond-false, not_from_true, not_from_false}
+use Rattle.std.proofs.Common.{◌≡◌, ℕ, ◌+◌, ◌<◌, ◌≤◌, Bool, true, false, cond, not, ◌==◌, List, [], ◌∷◌, length, get_or, set, refl, sym, ap, ◌∙◌, subst, inl, inr, arith, length-set}
+use Rattle.std.specs.Prelude.{◌⊎◌, ◌↔◌, IsTrue}
+use Rattle.std.proofs.lemmas.Bool.{cases_eq, eq-eqb, eqb-true, ne_eqb, and_right, both_ways, false≢true, cond-true, cond-false, not_from_true, not_from_false}
 use Rattle.std.proofs.lemmas.List.{get_or-set_same, get_or-set_other}
 use Rattle.audit_model.specs.Graph.{Graph, IsGraph, adjacent, IsIn}
 use Rattle.audit_model.specs.Job.{Job, rules}
@@ -19,6 +19,7 @@ use Rattle.district_sums.proofs.Shifted.{shifted_sum}
 use Rattle.flip_kernel.specs.Held.{IsMove, KeepsBounds}
 use Rattle.flip_kernel.specs.Openings.{is_open}
 use Rattle.flip_kernel.proofs.Beside.{open_from, open_neighbour, in_other}
+use Rattle.flip_kernel.proofs.Holding.{put_back}
 
 -- ---- connected sets
 
@@ -162,9 +163,15 @@ module _ (job : Job) (plan : List ℕ) (u d : ℕ) (sound : IsJob job) (legal : 
     ]
   ]
 
-  -- no district has fewer people than one of its units, nor more than the bounds allow
-  pub people_fit : (people ≤ sum_in plan (get_or plan u 0)) × (sum_in plan (get_or plan u 0) ≤ greatest_population job)
-  people_fit = (omega (arith, left_sum), (bounded plan (get_or plan u 0) (legal.balanced (get_or plan u 0) in_home)).1)
+  -- no district has fewer people than one of its units, and both districts' populations are within the bounds
+  pub people_fit : (people ≤ sum_in plan (get_or plan u 0))
+      × ((least_population job ≤ sum_in plan (get_or plan u 0)) × (sum_in plan (get_or plan u 0) ≤ greatest_population job))
+      × (sum_in plan d ≤ greatest_population job)
+  people_fit = (
+    omega (arith, left_sum),
+    bounded plan (get_or plan u 0) (legal.balanced (get_or plan u 0) in_home),
+    (bounded plan d (legal.balanced d within)).1,
+  )
 
   -- ---- both ways
 
@@ -218,3 +225,16 @@ module _ (job : Job) (plan : List ℕ) (u d : ℕ) (sound : IsJob job) (legal : 
 
     pub move_leaves : MayLeave job.graph plan u
     move_leaves = connected_same job.graph (in_district (set plan u d) (get_or plan u 0)) (stays_behind plan u) in_old (move.legal.connected (get_or plan u 0) in_home)
+
+  -- where the bounds are not kept it is no move
+  pub not_kept : (kept : Bool) → kept ≡ false → IsTrue kept ↔ Keeps → IsTrue false ↔ IsMove job plan u d
+  not_kept kept is told = (λ moved. absurd (false≢true moved), λ move. absurd (both_ways kept is (told.1 (move_keeps move))))
+
+-- after a move the way back is open
+pub left_is_open : (job : Job) (plan : List ℕ) (u d : ℕ) → IsJob job → IsLegal job plan → u < job.graph.units → d < job.districts → IsMove job plan u d
+    → is_open job.graph (set plan u d) u (get_or plan u 0) ≡ true
+left_is_open job plan u d sound legal inside within move =
+    let here : get_or (set plan u d) u 0 ≡ d = get_or-set_same plan u d 0 (omega (arith, inside, legal.complete)) in
+    let off : get_or (set plan u d) u 0 ≡ get_or plan u 0 → ⊥ = λ e. move.elsewhere (sym e ∙ here) in
+    move_is_open job (set plan u d) u (get_or plan u 0) sound move.legal inside (legal.in_range u inside) off
+    (record { elsewhere = off; legal = subst (IsLegal job) (sym (put_back plan (set plan u d) u d (get_or plan u 0) refl refl)) legal })

@@ -75,7 +75,7 @@ module _ (job : Job) (plan : List ℕ) (sums : Following) (marks : ℕ) (table :
     proposal_is = proposed_some job.graph.units job.districts pairs.count draw found held.numbers.count (is_place_of pairs.count draw found is)
 
     -- where it is not open the plan stays
-    pub still_closed : get_or table found false ≡ false → next job plan draw ≡ plan
+    still_closed : get_or table found false ≡ false → next job plan draw ≡ plan
     still_closed closed = next_stays job plan draw (found / job.districts) (found % job.districts) proposal_is
         (λ move. both_ways (is_open job.graph plan (found / job.districts) (found % job.districts)) (sym flag_is ∙ closed)
         (move_is_open job plan (found / job.districts) (found % job.districts) held.numbers.sound held.summed.legal unit_below district_below move.elsewhere move))
@@ -85,3 +85,10 @@ module _ (job : Job) (plan : List ℕ) (sums : Following) (marks : ℕ) (table :
     is_proposed districts same set1 =
         subst (λ (n : ℕ). ProposesOpen job plan draw (found / n) (found % n)) (sym same)
         (record { proposed = proposal_is; unit_below = unit_below; inside = omega (arith, unit_below, held.summed.legal.complete); district_below = district_below; beside = sym flag_is ∙ set1 })
+
+  -- where no pair is open at a draw's rest the plan stays, whether the draw has a place or not
+  pub closed_stays : (rest : ℕ) → rest ≡ draw % pairs.count → get_or table rest false ≡ false → next job plan draw ≡ plan
+  closed_stays rest is closed = elim (cases_Bool (nat_lt draw (2 ^ 64 / pairs.count * pairs.count))) [
+    | inl yes-counted ↦ still_closed rest (ap (λ (n : ℕ). Some n) is ∙ sym (cond-true _ _ _ yes-counted)) closed
+    | inr not-counted ↦ still_held (sym (cond-false _ _ _ not-counted))
+  ]

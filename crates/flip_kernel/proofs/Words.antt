@@ -1,9 +1,11 @@
 -- Truth values as bits of words, place by place.
-use Rattle.std.proofs.Common.{◌≡◌, ◌≢◌, ℕ, ◌*◌, ◌/◌, ◌%◌, ◌<◌, Bool, true, false, cond, ◌==◌, List, length, get_or, set, refl, sym, ap, ◌∙◌, inl, inr, arith, replicate, length-set, get_or-set_same, get_or-set_other}
-use Rattle.std.specs.Int.{bit_at}
+use mir.Val.{bool_byte}
+use Rattle.std.proofs.Common.{◌≡◌, ◌≢◌, ℕ, ◌*◌, ◌/◌, ◌%◌, ◌^◌, ◌<◌, max, bit_and, bit_or, w64, Bool, true, false, cond, ◌==◌, List, length, get_or, set, refl, sym, ap, ◌∙◌, inl, inr, arith, replicate, length-set, get_or-set_same, get_or-set_other}
+use Rattle.std.specs.Int.{bit_at, bit_not}
 use Rattle.std.proofs.lemmas.Bool.{cases_eq}
 use Rattle.std.proofs.lemmas.List.{ext_get_or, length-replicate, get_or-replicate}
-use Rattle.std.proofs.lemmas.Nat.Bits.{bit_at-zero}
+use Rattle.std.proofs.lemmas.Nat.Bits.{bit_at-zero, bit_at_or, bit_at_set_same, bit_at_set_other, bit_at_clear_same, bit_at_clear_other}
+use Rattle.std.proofs.Math.Nat.{max-zero, zero-mul}
 use Rattle.flip_kernel.specs.Flags.{bit_of, flags_of}
 use Rattle.audit_model.proofs.Below.{length-map_below, get_or-map_below}
 
@@ -80,3 +82,28 @@ flags_of-zeros words n same = ext_get_or false (flags_of (replicate n 0)) (repli
         ∙ ap (λ (w : ℕ). bit_at w (k % 64) == 1) (get_or-replicate n (k / 64) 0 0 (omega (arith, word_inside (replicate n 0) k l, length-replicate {A = ℕ} n 0)))
         ∙ ap (λ (b : ℕ). b == 1) (bit_at-zero (k % 64))
         ∙ sym (get_or-replicate (length (flags_of words)) k false false (omega (arith, l, width)))
+
+-- ---- a word with a bit put
+
+-- the word without the bit
+abbrev pub without : ℕ → ℕ → ℕ
+without word bit = bit_and word (bit_not w64 (1 * 2 ^ bit % 2 ^ 64))
+
+-- nothing is put where no bit is
+nothing_put : (word bit i : ℕ) → bit_at (bit_or (without word bit) (0 * 2 ^ bit % 2 ^ 64)) i ≡ bit_at (without word bit) i
+nothing_put word bit i =
+    ap (λ (n : ℕ). bit_at (bit_or (without word bit) (n % 2 ^ 64)) i) (zero-mul (2 ^ bit))
+    ∙ bit_at_or (without word bit) 0 i
+    ∙ ap (λ (n : ℕ). max (bit_at (without word bit) i) n) (bit_at-zero i)
+    ∙ max-zero (bit_at (without word bit) i)
+
+-- the bit is the one that was put
+pub put_own : (word bit : ℕ) (flag : Bool) → bit < 64 → bit_at (bit_or (without word bit) (bool_byte flag * 2 ^ bit % 2 ^ 64)) bit ≡ cond flag 1 0
+put_own word bit true l = bit_at_set_same w64 (without word bit) bit l
+put_own word bit false l = nothing_put word bit bit ∙ bit_at_clear_same w64 word bit l
+
+-- and each other as it was
+pub put_other : (word bit : ℕ) (flag : Bool) → bit < 64 → (i : ℕ) → i < 64 → i ≢ bit
+    → bit_at (bit_or (without word bit) (bool_byte flag * 2 ^ bit % 2 ^ 64)) i ≡ bit_at word i
+put_other word bit true l i li off = bit_at_set_other w64 (without word bit) bit l i off ∙ bit_at_clear_other w64 word bit l i li off
+put_other word bit false l i li off = nothing_put word bit i ∙ bit_at_clear_other w64 word bit l i li off

@@ -9,12 +9,15 @@ use Rattle.flip_kernel.specs.declared.proposal.Pairs.{Pairs}
 abbrev pub place_in : ℕ → ℕ → Option ℕ
 place_in size draw = if nat_lt draw (2 ^ 64 / size * size) then Some (draw % size) else None
 
--- the last whole block of draws begins here, and the count goes so often into all draws
+-- the last whole block of draws begins here, and the count and the districts go so often into all draws
 pub record AreBlocks (pairs : Pairs) : Type 0 where
   pub some : 0 < pairs.count
   pub last : pairs.last + pairs.count ≡ 2 ^ 64
   pub enough : pairs.inverse * pairs.count < 2 ^ 64
   pub most : 2 ^ 64 ≤ pairs.inverse * pairs.count + pairs.count
+  pub some_districts : 0 < pairs.districts
+  pub enough_districts : pairs.district_inverse * pairs.districts < 2 ^ 64
+  pub most_districts : 2 ^ 64 ≤ pairs.district_inverse * pairs.districts + pairs.districts
 
 -- what steps need of a job: its pairs, and the bounds of a district's population
 pub record AreNumbersOf (job : Job) (pairs : Pairs) (low high : ℕ) : Type 0 where

@@ -2,7 +2,8 @@
 use Rattle.std.specs.Prelude.{◌≡◌, ◌≢◌, ℕ, ◌+◌, ◌<◌, ◌≤◌, Bool, IsTrue, Some, List, length, slice_index, slice_set}
 use Rattle.audit_model.specs.declared.outcome.SumsView.{SumsView}
 use Rattle.audit_model.specs.Job.{Job}
-use Rattle.audit_model.specs.Plan.{IsLegal}
+use Rattle.audit_model.specs.District.{district_sum}
+use Rattle.audit_model.specs.Plan.{IsLegal, least_population, greatest_population}
 use Rattle.audit_model.specs.Proposal.{proposal}
 use Rattle.audit_model.specs.Score.{sums_of}
 use Rattle.district_sums.specs.Following.{Following, StandsFor, districts_in}
@@ -54,3 +55,9 @@ pub record IsMove (job : Job) (plan : List ℕ) (unit district : ℕ) : Type 0 w
 pub record KeepsBounds (low high people from to : ℕ) : Type 0 where
   pub left : low + people ≤ from
   pub joined : to + people ≤ high
+
+-- the two districts' populations keep the job's bounds where the unit moves to the district
+abbrev pub KeepsBoundsIn : Job → List ℕ → ℕ → ℕ → Type 0
+KeepsBoundsIn job plan unit district =
+    KeepsBounds (least_population job) (greatest_population job) (slice_index job.counts.population unit)
+    (district_sum job.counts.population plan (slice_index plan unit)) (district_sum job.counts.population plan district)

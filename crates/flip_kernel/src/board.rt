@@ -9,7 +9,7 @@ ghost use Rattle.audit_model.specs.District.{district_sum};
 ghost use Rattle.audit_model.specs.Plan.{IsLegal, cut_edges, least_population, greatest_population};
 ghost use Rattle.audit_model.specs.Step.{next};
 ghost use Rattle.district_sums.specs.Following.{StandsFor, districts_in};
-ghost use Rattle.flip_kernel.specs.Held.{IsMove, IsSummed, KeepsBounds, ProposesOpen, sums_in};
+ghost use Rattle.flip_kernel.specs.Held.{IsMove, IsSummed, KeepsBounds, KeepsBoundsIn, ProposesOpen, sums_in};
 ghost use Rattle.flip_kernel.specs.Judged.{IsSeated};
 ghost use Rattle.flip_kernel.specs.Openings.{is_open};
 
@@ -143,25 +143,19 @@ impl Board {
         ensures { MatchOption result (next self.now.job self.now.plan draw ≡ self.now.plan)
             (λ pair. ProposesOpen self.now.job self.now.plan draw pair.0 pair.1) }
     {
-        match self.pairs.place(draw) {
-            None => None,
-            Some(place) => {
-                if !self.openings.has(place as usize) {
-                    return None;
-                }
-                let pair = place as u32;
-                Some((pair / self.pairs.districts, pair % self.pairs.districts))
-            }
+        let place = self.pairs.rest(draw);
+        if !self.openings.has(place as usize) || self.pairs.is_past(draw, place) {
+            return None;
         }
+        Some(self.pairs.at(place))
     }
 
     /// Whether both districts stay within the population bounds where the unit moves.
-    fn keeps_bounds(&self, flip: Flip) -> bool
+    #[inline]
+    pub(crate) fn keeps_bounds(&self, flip: Flip) -> bool
         requires made { self.now.job ≡ flip.job.now }
         requires elsewhere { slice_index self.now.plan flip.unit ≢ flip.district }
-        ensures { IsTrue result ↔ KeepsBounds (least_population flip.entry.job.now) (greatest_population flip.entry.job.now) (slice_index flip.entry.job.now.counts.population flip.entry.unit)
-            (district_sum flip.entry.job.now.counts.population self.now.plan (slice_index self.now.plan flip.entry.unit))
-            (district_sum flip.entry.job.now.counts.population self.now.plan flip.entry.district) }
+        ensures { IsTrue result ↔ KeepsBoundsIn flip.entry.job.now self.now.plan flip.entry.unit flip.entry.district }
     {
         // Called for what its contract says: the job is within its limits, and its start plan is legal.
         let _units = flip.job.units();
@@ -230,12 +224,14 @@ impl Board {
         )
     }
 
-    /// Whether the unit can move to the district, which is open to it, where that is told without a search: the populations are
-    /// tested first, then the counts of faces, and the rules come last. Where it is not, the unit can move if it may leave its district.
+    /// Whether the unit can move to the district, which is open to it, where both districts stay within the population bounds and it is
+    /// told without a search: the counts of faces are asked first, and the rules last. Where it is not told, the unit can move if it may
+    /// leave its district.
     fn told<J: Judge>(&mut self, judge: &J, flip: Flip) -> Option<bool>
         requires made { self.old.job ≡ flip.job.now }
         requires judge { IsSeated flip.job.now self.old.plan (J.judging judge.now) }
         requires beside { IsTrue (is_open flip.job.now.graph self.old.plan flip.unit flip.district) }
+        requires kept { KeepsBoundsIn flip.job.now self.old.plan flip.unit flip.district }
         ensures told { MatchOption result
             (MayLeave flip.entry.job.now.graph self.old.plan flip.entry.unit ↔ IsMove flip.entry.job.now self.old.plan flip.entry.unit flip.entry.district)
             (λ moves. IsTrue moves ↔ IsMove flip.entry.job.now self.old.plan flip.entry.unit flip.entry.district) }
@@ -243,9 +239,6 @@ impl Board {
     {
         // Called for what its contract says: the job is within its limits, and the plan is legal.
         let _plan = self.plan();
-        if !self.keeps_bounds(flip) {
-            return Some(false);
-        }
         match self.counting_tells(flip.job, flip.unit) {
             Some(false) => Some(false),
             Some(true) => Some(self.permits(judge, flip)),
@@ -274,6 +267,30 @@ impl Board {
         ensures searches { (steps.old ≤ steps.new) × (steps.new ≤ steps.old + 1) }
         ensures local { IsLocal flip.entry.job.now.graph self.old.plan flip.entry.unit → steps.new ≡ steps.old }
     {
+        // Called for what its contract says: the job is within its limits, and the plan is legal.
+        let _plan = self.plan();
+        if !self.keeps_bounds(flip) {
+            return false;
+        }
+        self.may_move_within(judge, flip, steps)
+    }
+
+    /// The same where both districts stay within the population bounds.
+    pub(crate) fn may_move_within<J: Judge, L: Ledger>(
+        &mut self,
+        judge: &J,
+        flip: Flip,
+        steps: &mut Steps<L>,
+    ) -> bool
+        requires made { self.old.job ≡ flip.job.now }
+        requires judge { IsSeated flip.job.now self.old.plan (J.judging judge.now) }
+        requires beside { IsTrue (is_open flip.job.now.graph self.old.plan flip.unit flip.district) }
+        requires kept { KeepsBoundsIn flip.job.now self.old.plan flip.unit flip.district }
+        ensures moves { IsTrue result ↔ IsMove flip.entry.job.now self.old.plan flip.entry.unit flip.entry.district }
+        ensures same { self.new ≡ self.old }
+        ensures searches { (steps.old ≤ steps.new) × (steps.new ≤ steps.old + 1) }
+        ensures local { IsLocal flip.entry.job.now.graph self.old.plan flip.entry.unit → steps.new ≡ steps.old }
+    {
         match self.told(judge, flip) {
             Some(moves) => moves,
             None => self.searching_tells(flip.job, flip.unit, steps),
@@ -287,7 +304,7 @@ impl Board {
         requires beside { IsTrue (is_open flip.job.now.graph self.old.plan flip.unit flip.district) }
         ensures same { self.new ≡ self.old }
     {
-        if self.told(judge, flip).is_some() {
+        if !self.keeps_bounds(flip) || self.told(judge, flip).is_some() {
             return false;
         }
         !local_holds(
@@ -382,12 +399,17 @@ fn is_permitted<J: Judge>(judge: &J, flip: Flip, sums: &mut Sums, plan: &mut Uni
     permitted
 }
 
-/// Whether the bounds are kept where people leave one district and join another, by the populations before.
+/// Whether the bounds are kept where people leave one district and join another, by the populations before. What is left above the least and
+/// below the greatest population wraps where it would be below 0, so that one branch follows and not two.
 #[inline]
 fn are_kept(low: u64, high: u64, people: u64, from: u64, to: u64) -> bool
     requires people { people ≤ from }
-    requires from { from ≤ high }
+    requires from { (low ≤ from) × (from ≤ high) }
+    requires to { to ≤ high }
+    requires high { high < 2 ^ 63 }
     ensures { IsTrue result ↔ KeepsBounds low high people from to }
 {
-    from - people >= low && to <= high - people
+    let left = (from - people).wrapping_sub(low);
+    let room = (high - people).wrapping_sub(to);
+    left.max(room) < 1 << 63
 }

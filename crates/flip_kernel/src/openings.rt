@@ -1,7 +1,7 @@
 //! Which pairs of a unit and a district can be a move at all.
 
 ghost use Rattle.std.specs.Int.{bit_at};
-ghost use Rattle.std.specs.Prelude.{◌≡◌, ◌≢◌, ℕ, ◌+◌, ◌*◌, ◌/◌, ◌<◌, ◌≤◌, cond, false, [], length, slice_index, slice_set, replicate, IfOk};
+ghost use Rattle.std.specs.Prelude.{◌≡◌, ◌≢◌, ℕ, ◌+◌, ◌*◌, ◌/◌, ◌<◌, ◌≤◌, cond, false, [], length, slice_index, slice_set, replicate, IfOk, IsTrue};
 ghost use Rattle.std.specs.List.{slice_index_or};
 ghost use Rattle.flip_kernel.specs.Flags.{bit_of, flags_of};
 ghost use Rattle.flip_kernel.specs.Openings.{is_open, flag_of, TellsOpen, HasOpened};
@@ -104,13 +104,14 @@ impl Openings {
         }
     }
 
-    /// Follows a unit that was in one district and is in another now. It reads the unit's neighbours and
+    /// Follows a unit that was in one district and is in another now, and has neighbours where it was. It reads the unit's neighbours and
     /// theirs alone, and takes no memory.
     pub fn renew(&mut self, graph: &Graph, plan: &[u32], districts: u32, unit: u32, home: u32)
         requires plan { length plan.now ≡ graph.now.units }
         requires in_range { (u : ℕ) → u < graph.now.units → slice_index plan.now u < districts }
         requires unit { unit < graph.now.units }
         requires home { home < districts }
+        requires beside { IsTrue (is_open graph.now plan.now unit home) }
         requires table { TellsOpen graph.now (slice_set plan.now unit home) districts self.old }
         ensures { TellsOpen graph.now plan.now districts self.new }
     {
@@ -120,11 +121,11 @@ impl Openings {
         for other in graph.neighbours(unit) {
             let v = *other;
             let there = plan[v as usize];
-            self.put_elsewhere(districts, v, district, there, there != district);
+            self.put(districts, v, district, there != district);
             self.put_elsewhere(districts, v, home, there, is_open(graph, plan, v, home));
         }
         self.put(districts, unit, district, false);
-        self.put(districts, unit, home, is_open(graph, plan, unit, home));
+        self.put(districts, unit, home, true);
     }
 }
 
@@ -143,8 +144,7 @@ fn with_bit(word: u64, bit: usize, flag: bool) -> u64
     ensures own { bit_at result bit ≡ cond flag 1 0 }
     ensures others { (i : ℕ) → i < 64 → i ≢ bit → bit_at result i ≡ bit_at word i }
 {
-    let mask = 1u64 << bit;
-    if flag { word | mask } else { word & !mask }
+    (word & !(1u64 << bit)) | (u64::from(flag) << bit)
 }
 
 /// The bit at a place of words of 64 bits.

@@ -1,6 +1,6 @@
 //! What a draw proposes.
 
-ghost use Rattle.std.specs.Prelude.{◌≡◌, ◌*◌, ◌%◌, ◌<◌, ◌≤◌};
+ghost use Rattle.std.specs.Prelude.{◌≡◌, ◌+◌, ◌*◌, ◌/◌, ◌%◌, ◌^◌, ◌<◌, ◌≤◌, cond, None, Some};
 ghost use Rattle.audit_model.specs.Proposal.{proposal};
 ghost use Rattle.flip_kernel.specs.Blocks.{AreBlocks, place_in};
 ghost use Rattle.audit_model.specs.Limits.{most_units, most_districts};
@@ -14,6 +14,8 @@ pub struct Pairs {
     pub last: u64,
     /// How often the count goes into all draws, for a division by it that is a product.
     pub inverse: u64,
+    /// The same of the districts.
+    pub district_inverse: u64,
 }
 
 impl Pairs {
@@ -31,22 +33,27 @@ impl Pairs {
             count,
             last: u64::MAX - (count - 1),
             inverse: u64::MAX / count,
+            district_inverse: u64::MAX / u64::from(districts),
         }
     }
 
-    /// The rest of a draw where it is divided by the count. The product is at most one short of the quotient.
+    /// The rest of a draw where it is divided by the count: its place in its block.
     #[inline]
-    fn rest(&self, draw: u64) -> u64
+    pub fn rest(&self, draw: u64) -> u64
         requires { AreBlocks self.now }
         ensures { result ≡ draw % self.now.count }
     {
-        let blocks = ((u128::from(draw) * u128::from(self.inverse)) >> 64) as u64;
-        let rest = draw - blocks * self.count;
-        if rest < self.count {
-            rest
-        } else {
-            rest - self.count
-        }
+        divided(draw, self.count, self.inverse).1
+    }
+
+    /// Whether a draw with this rest is after the last whole block. Such a draw has no place.
+    #[inline]
+    pub fn is_past(&self, draw: u64, rest: u64) -> bool
+        requires blocks { AreBlocks self.now }
+        requires rest { rest ≡ draw % self.now.count }
+        ensures { place_in self.now.count draw ≡ cond result None (Some rest) }
+    {
+        draw - rest > self.last
     }
 
     /// The place of a draw in its block. The draws after the last whole block have none.
@@ -56,10 +63,39 @@ impl Pairs {
         ensures { result ≡ place_in self.now.count draw }
     {
         let place = self.rest(draw);
-        if draw - place > self.last {
+        if self.is_past(draw, place) {
             return None;
         }
         Some(place)
+    }
+
+    /// The unit and the district of the pair at a place.
+    #[inline]
+    pub fn at(&self, place: u64) -> (u32, u32)
+        requires blocks { AreBlocks self.now }
+        requires few { place < 2 ^ 32 }
+        ensures { result ≡ (place / self.now.districts, place % self.now.districts) }
+    {
+        let (unit, district) = divided(place, u64::from(self.districts), self.district_inverse);
+        (unit as u32, district as u32)
+    }
+}
+
+/// The quotient and the rest of a number, by how often the divisor goes into all numbers of 64 bits. The product is at most one short of the
+/// quotient.
+#[inline]
+fn divided(number: u64, divisor: u64, inverse: u64) -> (u64, u64)
+    requires some { 0 < divisor }
+    requires enough { inverse * divisor < 2 ^ 64 }
+    requires most { 2 ^ 64 ≤ inverse * divisor + divisor }
+    ensures { result ≡ (number / divisor, number % divisor) }
+{
+    let quotient = ((u128::from(number) * u128::from(inverse)) >> 64) as u64;
+    let rest = number - quotient * divisor;
+    if rest < divisor {
+        (quotient, rest)
+    } else {
+        (quotient + 1, rest - divisor)
     }
 }
 

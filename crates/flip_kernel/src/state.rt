@@ -5,7 +5,7 @@ ghost use Rattle.audit_model.specs.JobOf.{IsJob};
 ghost use Rattle.audit_model.specs.Local.{IsLocal};
 ghost use Rattle.audit_model.specs.Plan.{IsLegal};
 ghost use Rattle.audit_model.specs.Step.{next};
-ghost use Rattle.flip_kernel.specs.Held.{IsMove, ProposesOpen, sums_in};
+ghost use Rattle.flip_kernel.specs.Held.{IsMove, KeepsBoundsIn, ProposesOpen, sums_in};
 ghost use Rattle.flip_kernel.specs.Judged.{IsJudgeFor};
 ghost use Rattle.flip_kernel.specs.Openings.{is_open};
 
@@ -133,8 +133,9 @@ impl<J: Judge> State<J> {
             .moved(self.board.plan().as_slice(), flip.unit, home);
     }
 
-    /// Moves the unit to the district, which is open to it, where it can, and tells whether it did.
-    #[inline(never)]
+    /// Moves the unit to the district, which is open to it, where it can, and tells whether it did. The populations are tested first: they
+    /// hold most of the proposals that get so far.
+    #[inline]
     pub(crate) fn flip<L: Ledger>(&mut self, flip: Flip, steps: &mut Steps<L>) -> bool
         requires made { self.old.job ≡ flip.job.now }
         requires beside { IsTrue (is_open flip.job.now.graph self.old.plan flip.unit flip.district) }
@@ -144,7 +145,27 @@ impl<J: Judge> State<J> {
         ensures searches { (steps.old ≤ steps.new) × (steps.new ≤ steps.old + 1) }
         ensures local { IsLocal flip.entry.job.now.graph self.old.plan flip.entry.unit → steps.new ≡ steps.old }
     {
-        if !self.may_move(flip, steps) {
+        // Called for what its contract says: the job is within its limits, and the plan is legal.
+        let _plan = self.board.plan();
+        if !self.board.keeps_bounds(flip) {
+            return false;
+        }
+        self.flip_within(flip, steps)
+    }
+
+    /// The same where both districts stay within the population bounds.
+    #[inline(never)]
+    fn flip_within<L: Ledger>(&mut self, flip: Flip, steps: &mut Steps<L>) -> bool
+        requires made { self.old.job ≡ flip.job.now }
+        requires beside { IsTrue (is_open flip.job.now.graph self.old.plan flip.unit flip.district) }
+        requires kept { KeepsBoundsIn flip.job.now self.old.plan flip.unit flip.district }
+        ensures moves { IsTrue result ↔ IsMove flip.entry.job.now self.old.plan flip.entry.unit flip.entry.district }
+        ensures moved { IsTrue result → self.new ≡ record self.old { plan = slice_set self.old.plan flip.entry.unit flip.entry.district } }
+        ensures held { IsFalse result → self.new ≡ self.old }
+        ensures searches { (steps.old ≤ steps.new) × (steps.new ≤ steps.old + 1) }
+        ensures local { IsLocal flip.entry.job.now.graph self.old.plan flip.entry.unit → steps.new ≡ steps.old }
+    {
+        if !self.board.may_move_within(&self.judge, flip, steps) {
             return false;
         }
         self.make_move(flip);

@@ -1,15 +1,14 @@
-use Rattle.std.proofs.Common.{ℕ, Bool, cond, w64, sym, ap, ◌∙◌}
-use Rattle.std.proofs.lemmas.Nat.Bits.{bit_at_set_same, bit_at_set_other, bit_at_clear_same, bit_at_clear_other}
+use Rattle.std.proofs.Common.{ℕ, ◌*◌, ◌%◌, ◌^◌, bit_or, ap, ◌∙◌}
+use Rattle.std.specs.Int.{bit_at}
+use Rattle.flip_kernel.proofs.Words.{without, put_own, put_other}
 use Rattle.flip_kernel.proofs.openings.with_bit.Goals as goal
 
-pub returns-then-flag-clause-own : goal.returns-then-flag-clause-own
-returns-then-flag-clause-own c = bit_at_set_same w64 c.args.word c.args.bit c.requires ∙ sym (ap (λ (b : Bool). cond {A = ℕ} b 1 0) c.if-flag.true)
+pub returns-clause-own : goal.returns-clause-own
+returns-clause-own c =
+    ap (λ (n : ℕ). bit_at (bit_or (without c.args.word c.args.bit) (n * 2 ^ c.args.bit % 2 ^ 64)) c.args.bit) c.from.ensures
+    ∙ put_own c.args.word c.args.bit c.args.flag c.requires
 
-pub returns-then-flag-clause-others : goal.returns-then-flag-clause-others
-returns-then-flag-clause-others c = λ i l off. bit_at_set_other w64 c.args.word c.args.bit c.requires i off
-
-pub returns-else-flag-clause-own : goal.returns-else-flag-clause-own
-returns-else-flag-clause-own c = bit_at_clear_same w64 c.args.word c.args.bit c.requires ∙ sym (ap (λ (b : Bool). cond {A = ℕ} b 1 0) c.if-flag.false)
-
-pub returns-else-flag-clause-others : goal.returns-else-flag-clause-others
-returns-else-flag-clause-others c = λ i l off. bit_at_clear_other w64 c.args.word c.args.bit c.requires i l off
+pub returns-clause-others : goal.returns-clause-others
+returns-clause-others c = λ i l off.
+    ap (λ (n : ℕ). bit_at (bit_or (without c.args.word c.args.bit) (n * 2 ^ c.args.bit % 2 ^ 64)) i) c.from.ensures
+    ∙ put_other c.args.word c.args.bit c.args.flag c.requires i l off

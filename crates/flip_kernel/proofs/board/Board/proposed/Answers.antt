@@ -1,16 +1,10 @@
-use Rattle.std.proofs.Common.{sym, ap, ◌∙◌}
-use Rattle.flip_kernel.specs.Held.{Held}
+use Rattle.std.proofs.Common.{ℕ, sym, ap, ◌∙◌, subst}
+use Rattle.std.proofs.lemmas.Bool.{cond-true, cond-false}
+use Rattle.flip_kernel.specs.Held.{Held, ProposesOpen}
 use Rattle.flip_kernel.proofs.Holding.{held_for}
-use Rattle.flip_kernel.proofs.Proposing.{still_held, still_closed, is_proposed}
+use Rattle.flip_kernel.proofs.Proposing.{still_held, closed_stays, is_proposed}
+use Rattle.flip_kernel.proofs.board.Board.proposed.Goals.{then-not-has-via-then-not-has, then-not-has-via-else-not-has+then-is_past}
 use Rattle.flip_kernel.proofs.board.Board.proposed.Goals as goal
-
-pub returns-in-None : goal.returns-in-None
-returns-in-None c =
-    let s = c.self.inside in
-    let now = c.args.self.now in
-    let held = held_for s.job.value now.job s.plan now.plan s.sums s.marks.units s.openings s.pairs s.low s.high s.faces s.counts
-    (ap (λ (h : Held). h.job) c.self.view_is) (ap (λ (h : Held). h.plan) c.self.view_is) c.self.invariant in
-    still_held now.job now.plan s.sums s.marks.units s.openings s.pairs s.low s.high s.faces s.counts held c.args.draw c.in-None.ensures
 
 pub returns-then-not-has : goal.returns-then-not-has
 returns-then-not-has c =
@@ -18,14 +12,22 @@ returns-then-not-has c =
     let now = c.args.self.now in
     let held = held_for s.job.value now.job s.plan now.plan s.sums s.marks.units s.openings s.pairs s.low s.high s.faces s.counts
     (ap (λ (h : Held). h.job) c.self.view_is) (ap (λ (h : Held). h.plan) c.self.view_is) c.self.invariant in
-    still_closed now.job now.plan s.sums s.marks.units s.openings s.pairs s.low s.high s.faces s.counts held c.args.draw c.in-Some.place c.in-Some.ensures
-    (sym c.has.ensures ∙ c.if-not-has.true)
+    elim c.then-not-has.branch [
+      | then-not-has-via-then-not-has w ↦
+          closed_stays now.job now.plan s.sums s.marks.units s.openings s.pairs s.low s.high s.faces s.counts held c.args.draw c.rest-place.result c.rest-place.ensures
+          (sym c.has.ensures ∙ w.if-not-has.true)
+      | then-not-has-via-else-not-has+then-is_past w ↦
+          still_held now.job now.plan s.sums s.marks.units s.openings s.pairs s.low s.high s.faces s.counts held c.args.draw
+          (sym (w.is_past.ensures ∙ cond-true _ _ _ w.if-is_past.true))
+    ]
 
-pub returns-else-not-has : goal.returns-else-not-has
-returns-else-not-has c =
+pub returns : goal.returns
+returns c =
     let s = c.self.inside in
     let now = c.args.self.now in
     let held = held_for s.job.value now.job s.plan now.plan s.sums s.marks.units s.openings s.pairs s.low s.high s.faces s.counts
     (ap (λ (h : Held). h.job) c.self.view_is) (ap (λ (h : Held). h.plan) c.self.view_is) c.self.invariant in
-    is_proposed now.job now.plan s.sums s.marks.units s.openings s.pairs s.low s.high s.faces s.counts held c.args.draw c.in-Some.place c.in-Some.ensures
-    s.pairs.districts held.numbers.districts (sym c.has.ensures ∙ c.if-not-has.false)
+    subst (λ (pair : ℕ × ℕ). ProposesOpen now.job now.plan c.args.draw pair.0 pair.1) (sym c.at.ensures)
+    (is_proposed now.job now.plan s.sums s.marks.units s.openings s.pairs s.low s.high s.faces s.counts held c.args.draw c.rest-place.result
+    (sym (c.is_past.ensures ∙ cond-false _ _ _ c.if-is_past.false))
+    s.pairs.districts held.numbers.districts (sym c.has.ensures ∙ c.if-not-has.false))

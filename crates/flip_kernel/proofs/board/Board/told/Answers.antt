@@ -5,21 +5,8 @@ use Rattle.audit_model.specs.JobOf.{IsJob}
 use Rattle.audit_model.specs.Plan.{IsLegal, cut_edges}
 use Rattle.audit_model.proofs.Meeting.{meets_passes, passes_meets}
 use Rattle.flip_kernel.proofs.Beside.{open_elsewhere}
-use Rattle.flip_kernel.proofs.Moves.{is_move, move_keeps, move_leaves}
+use Rattle.flip_kernel.proofs.Moves.{is_move, move_leaves}
 use Rattle.flip_kernel.proofs.board.Board.told.Goals as goal
-
-pub returns-then-not-keeps_bounds-clause-told : goal.returns-then-not-keeps_bounds-clause-told
-returns-then-not-keeps_bounds-clause-told g c =
-    let flip = c.args.flip in
-    let job = flip.job.now in
-    let plan : List ℕ = c.args.self.now.plan in
-    let legal : IsLegal job plan = subst (λ (j : Job). IsLegal j plan) c.requires.made c.plan-plan.ensures.legal in
-    let sound : IsJob job = subst IsJob c.requires.made c.plan-plan.ensures.sound in
-    let off = open_elsewhere job.graph plan flip.unit flip.district c.requires.beside in (
-      λ moved. absurd (false≢true moved),
-      λ move. absurd (both_ways c.keeps_bounds.result c.if-not-keeps_bounds.true
-          (c.keeps_bounds.ensures.1 (move_keeps job plan flip.unit flip.district sound legal flip.unit_below flip.district_below off move))),
-    )
 
 pub returns-in-Some-true-clause-told : goal.returns-in-Some-true-clause-told
 returns-in-Some-true-clause-told g c =
@@ -30,7 +17,7 @@ returns-in-Some-true-clause-told g c =
     let legal : IsLegal job plan = subst (λ (j : Job). IsLegal j plan) c.requires.made c.plan-plan.ensures.legal in
     let sound : IsJob job = subst IsJob c.requires.made c.plan-plan.ensures.sound in
     let off = open_elsewhere job.graph plan flip.unit flip.district c.requires.beside in
-    let keeps = c.keeps_bounds.ensures.0 c.if-not-keeps_bounds.false in (
+    let keeps = c.requires.kept in (
       λ yes. is_move job plan flip.unit flip.district sound legal flip.unit_below flip.district_below off c.requires.beside keeps
           (passes_meets (rules job) (cut_edges job.graph after) after (sym c.permits.ensures.meets ∙ yes)) (c.in-Some-true.ensures.0 c.in-Some-true.field-0-test),
       λ move. c.permits.ensures.meets ∙ meets_passes (rules job) (cut_edges job.graph after) after move.legal.meeting,
@@ -58,7 +45,7 @@ returns-then-permits-clause-told g c =
     let legal : IsLegal job plan = subst (λ (j : Job). IsLegal j plan) c.requires.made c.plan-plan.ensures.legal in
     let sound : IsJob job = subst IsJob c.requires.made c.plan-plan.ensures.sound in
     let off = open_elsewhere job.graph plan flip.unit flip.district c.requires.beside in
-    let keeps = c.keeps_bounds.ensures.0 c.if-not-keeps_bounds.false in
+    let keeps = c.requires.kept in
     let meets = passes_meets (rules job) (cut_edges job.graph after) after (sym c.permits-in-None.ensures.meets ∙ c.if-permits.true) in (
       λ may. is_move job plan flip.unit flip.district sound legal flip.unit_below flip.district_below off c.requires.beside keeps meets may,
       λ move. move_leaves job plan flip.unit flip.district sound legal flip.unit_below flip.district_below off move,

@@ -15,20 +15,20 @@ loop-other-init c = record {
   closed = closed_none c.args.graph.now c.args.plan.now c.args.districts c.args.unit c.args.home c.args.self.now c.requires.table;
 }
 
-pub put_elsewhere-requires-clause-inside : goal.put_elsewhere-requires-clause-inside
-put_elsewhere-requires-clause-inside c =
+pub put-requires : goal.put-requires
+put-requires c =
     let row : List ℕ = c.neighbours-other-items.result.now in
     let i : ℕ = c.loop-other.other-index in
     let below : get_or row i 0 < c.args.graph.now.units = All-get_or (λ v. v < c.args.graph.now.units) row i 0 c.loop-other-test.true c.neighbours-other-items.ensures.below in
     place_within c.args.graph.now.units c.args.districts (get_or row i 0) (get_or c.args.plan.now c.args.unit 0) (length c.loop-other.self) below
     (c.requires.in_range c.args.unit c.requires.unit) c.loop-other.invariant.renewing.width
 
-pub put_elsewhere-requires-in-loop-other-clause-inside : goal.put_elsewhere-requires-in-loop-other-clause-inside
-put_elsewhere-requires-in-loop-other-clause-inside c =
+pub put_elsewhere-requires-clause-inside : goal.put_elsewhere-requires-clause-inside
+put_elsewhere-requires-clause-inside c =
     let row : List ℕ = c.neighbours-other-items.result.now in
     let i : ℕ = c.loop-other.other-index in
     let below : get_or row i 0 < c.args.graph.now.units = All-get_or (λ v. v < c.args.graph.now.units) row i 0 c.loop-other-test.true c.neighbours-other-items.ensures.below in
-    let same = ap (length {A = Bool}) c.put_elsewhere.ensures in
+    let same = ap (length {A = Bool}) c.put.ensures in
     let inside = place_within c.args.graph.now.units c.args.districts (get_or row i 0) c.args.home (length c.loop-other.self) below c.requires.home c.loop-other.invariant.renewing.width in
     omega (arith, inside, same, length-set {A = Bool})
 
@@ -52,8 +52,8 @@ loop-other-preserved c =
     let inside = place_within g.units n v district (length c.loop-other.self) below ld c.loop-other.invariant.renewing.width in
     let inside_next : v * n + c.args.home < length (set c.loop-other.self (v * n + district) (not (get_or plan v 0 == district))) =
     omega (arith, place_within g.units n v c.args.home (length c.loop-other.self) below c.requires.home c.loop-other.invariant.renewing.width, length-set {A = Bool}) in
-    let written = twice c.loop-other.self c.put_elsewhere.new.self c.put_elsewhere-in-loop-other.new.self (v * n + district) (v * n + c.args.home) (not (get_or plan v 0 == district)) c.is_open.result
-    c.put_elsewhere.ensures c.put_elsewhere-in-loop-other.ensures in
+    let written = twice c.loop-other.self c.put.new.self c.put_elsewhere.new.self (v * n + district) (v * n + c.args.home) (not (get_or plan v 0 == district)) c.is_open.result
+    c.put.ensures c.put_elsewhere.ensures in
     record {
       renewing = subst (λ (t : List Bool). IsRenewing g plan n row c.args.unit c.args.home district (i + 1) t) written
           (renewing_more g plan n v district c.args.home (not (get_or plan v 0 == district)) c.is_open.result c.loop-other.self below
@@ -74,8 +74,8 @@ returns c =
     let unit : ℕ = c.args.unit in
     let district : ℕ = get_or plan c.args.unit 0 in
     subst (λ (t : List Bool). TellsOpen g plan c.args.districts t)
-    (twice c.loop-other.self c.put.new.self c.put-2.new.self (unit * c.args.districts + district) (unit * c.args.districts + c.args.home) _ _ c.put.ensures c.put-2.ensures)
-    (renewing_all g plan c.args.districts unit district c.args.home false c.is_open-2.result c.loop-other.self c.requires.unit
+    (twice c.loop-other.self c.put-2.new.self c.put-3.new.self (unit * c.args.districts + district) (unit * c.args.districts + c.args.home) _ _ c.put-2.ensures c.put-3.ensures)
+    (renewing_all g plan c.args.districts unit district c.args.home false true c.loop-other.self c.requires.unit
     (c.requires.in_range c.args.unit c.requires.unit) c.requires.home c.loop-other.invariant.renewing.width
-    (sym (not_open g plan unit district refl)) c.is_open-2.ensures
+    (sym (not_open g plan unit district refl)) (sym c.requires.beside)
     row i c.loop-other-test.false c.loop-other.invariant.renewing)
