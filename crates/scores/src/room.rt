@@ -4,7 +4,7 @@ ghost use Rattle.std.specs.Prelude.{◌≡◌, ◌+◌, ◌^◌, ◌<◌, ◌≤
 ghost use Rattle.audit_model.specs.Score as definition;
 ghost use Rattle.scores.specs.Votes.{AreVotes};
 
-use crate::{mean_median, share, value};
+use crate::{efficiency_gap, mean_median, seats, share};
 use audit_model::outcome::SumsView;
 use audit_model::setting::Score;
 
@@ -42,13 +42,15 @@ impl Room {
         ensures { result ≡ definition.value score sums.now }
     {
         match score {
+            Score::Seats => i64::from(seats(sums)),
             Score::MeanMedian => median_less_mean(
                 sums,
                 &mut self.last,
                 &mut self.shares,
                 &mut self.median,
             ),
-            _ => value(score, sums, &mut self.shares),
+            Score::Gap => efficiency_gap(sums),
+            Score::CutEdges => i64::from(sums.cut),
         }
     }
 }
