@@ -17,6 +17,7 @@ from checkpoints import (MOST_BYTES, Setting, checkpoint, digest, fault, fits, g
                          sealed)
 from compare import expected
 from compare_walks import NO_BINS, is_inside, outcomes, report_of
+import usage
 
 Slot = namedtuple("Slot", "fault job generation found")
 End = namedtuple("End", "status told out note")
@@ -299,4 +300,5 @@ def main(*words):
 
 
 if __name__ == "__main__":
+    usage.begin(__doc__, 1)
     main(*sys.argv[1:])

@@ -14,6 +14,7 @@ import networkx
 
 from compare import rank, read
 from compare_walks import MOST_REGIONS, MOST_SPLIT, MOST_SPLITS, NO_LIMIT, Job, draws, limits_splits, origin_of, outcomes
+import usage
 
 NUMBERS = {"--size": 0, "--slack": 500, "--walks": 1, "--steps": 1000, "--ends": 0, "--hub-steps": 1000, "--max-cut": NO_LIMIT,
            "--max-split": MOST_SPLIT, "--max-splits": MOST_SPLITS, "--max-split-regions": MOST_REGIONS, "--group-districts": 0}
@@ -179,4 +180,5 @@ def main(*words):
 
 
 if __name__ == "__main__":
+    usage.begin(__doc__, 1)
     main(*sys.argv[1:])

@@ -11,6 +11,7 @@ import subprocess
 import sys
 
 import networkx
+import usage
 
 
 def read(document):
@@ -103,4 +104,5 @@ def main():
 
 
 if __name__ == "__main__":
+    usage.begin(__doc__, 7)
     main()

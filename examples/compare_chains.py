@@ -19,6 +19,7 @@ import tempfile
 
 import compare_walks
 from checkpoints import fault, generation_and_count, old_checkpoint, records
+import usage
 
 SLOTS = ("audit-0.ckpt", "audit-1.ckpt")
 
@@ -130,4 +131,5 @@ def main(program, graphs="20", seed="1", workers="", save=""):
 
 
 if __name__ == "__main__":
+    usage.begin(__doc__, 1)
     sys.exit(main(*sys.argv[1:]))

@@ -20,6 +20,7 @@ import sys
 import tempfile
 
 import model
+import usage
 
 ASKS = ("seats", "mean-median", "gap", "cut-edges")
 PREPARE = str(pathlib.Path(__file__).parent / "prepare.py")
@@ -146,4 +147,5 @@ def main():
 
 
 if __name__ == "__main__":
+    usage.begin(__doc__, 2)
     sys.exit(main())

@@ -14,6 +14,8 @@ import sys
 import tempfile
 import time
 
+import usage
+
 PARTS = (1, 3, 7, 20)
 ASKS = ("seats:low", "seats:high", "mean-median:high", "gap:low", "gap:high", "cut-edges:low", "cut-edges:high")
 
@@ -112,4 +114,5 @@ def main(program, gatherer, jobs="20", seed="1", kills="2"):
 
 
 if __name__ == "__main__":
+    usage.begin(__doc__, 2)
     sys.exit(main(*sys.argv[1:]))

@@ -13,6 +13,7 @@ import subprocess
 import sys
 
 import model
+import usage
 
 ASKS = ("seats:low", "cut-edges:low,gap:high", "mean-median:high", "seats:high,cut-edges:high")
 
@@ -123,4 +124,5 @@ def main():
 
 
 if __name__ == "__main__":
+    usage.begin(__doc__, 1)
     main()

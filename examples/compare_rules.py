@@ -20,6 +20,7 @@ import sys
 import tempfile
 
 import model
+import usage
 
 BASE = "--pop pop --first a --second b --district d".split()
 ASKS = ("seats", "mean-median", "gap", "cut-edges")
@@ -211,4 +212,5 @@ def main(program, runs="300", seed="1", processes="4"):
 
 
 if __name__ == "__main__":
+    usage.begin(__doc__, 1)
     sys.exit(main(*sys.argv[1:]))

@@ -14,6 +14,7 @@ import sys
 import networkx
 
 from compare_walks import Job, drawn_graph, drawn_plan, found, report
+import usage
 
 ASKS = [("seats", "low"), ("mean-median", "high"), ("gap", "low"), ("cut-edges", "high")]
 
@@ -123,4 +124,5 @@ def main(program, graphs="50", seed="1", steps="2000"):
 
 
 if __name__ == "__main__":
+    usage.begin(__doc__, 1)
     sys.exit(main(*sys.argv[1:]))

@@ -18,6 +18,7 @@ import subprocess
 import sys
 
 import networkx
+import usage
 
 BILLION = 10 ** 9
 NO_LIMIT = 400_000
@@ -394,4 +395,5 @@ def main(program, graphs="20", seed="1"):
 
 
 if __name__ == "__main__":
+    usage.begin(__doc__, 1)
     sys.exit(main(*sys.argv[1:]))

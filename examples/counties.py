@@ -18,6 +18,8 @@ import resource
 import subprocess
 import sys
 
+import usage
+
 ROWS, COLUMNS = 50, 60
 WORDS = "run --pop pop --first a --second b --district d --slack 1000 --ask cut-edges:low --key".split() + ["0" * 64]
 REGION, GROUP = ["--region", "county"], ["--group", "bvap", "--group-of", "vap", "--group-districts", "3"]
@@ -105,4 +107,5 @@ def main(program, steps="10000000", rounds="3"):
 
 
 if __name__ == "__main__":
+    usage.begin(__doc__, 1)
     main(*sys.argv[1:])

@@ -15,6 +15,7 @@ import re
 import sys
 
 from reading_path import CRATES, TOP, Path, fields_of
+import usage
 
 IMPORT = re.compile(r"^(?:ghost |pub )*use Rattle\.(\w+)\.specs\.([\w.]+?)(?:\.\{(.*?)\}| as (\w+))?;?$")
 
@@ -258,4 +259,5 @@ def main():
 
 
 if __name__ == "__main__":
+    usage.begin(__doc__)
     sys.exit(main())

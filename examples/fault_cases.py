@@ -12,6 +12,7 @@ import sys
 
 import model
 from checkpoint_cases import End, Keeper, audit, shown, slot_of, told
+import usage
 
 ROOM = 4000
 
@@ -79,4 +80,5 @@ def main(name):
 
 
 if __name__ == "__main__":
+    usage.begin(__doc__, 1)
     main(*sys.argv[1:])

@@ -19,6 +19,7 @@ import sys
 import tempfile
 
 import model
+import usage
 
 BASE = "--pop pop --first a --second b --district d".split()
 KEYS = ("0" * 64, "1" * 64, "2b7e151628aed2a6abf7158809cf4f3c762e7160f38b4da56a784d9045190cfe")
@@ -377,4 +378,5 @@ def main(program, runs=1000, seed=1, processes=2):
 
 
 if __name__ == "__main__":
+    usage.begin(__doc__, 1)
     sys.exit(main(*sys.argv[1:]))

@@ -15,6 +15,8 @@ import subprocess
 import sys
 import threading
 
+import usage
+
 BEGIN, END = "<!-- written by examples/gate_table.py -->", "<!-- end of what it wrote -->"
 KINDS = ["proof", "tests", "edits"]
 TICKS, PAGE = os.sysconf("SC_CLK_TCK"), os.sysconf("SC_PAGE_SIZE")
@@ -191,4 +193,5 @@ def main():
 
 
 if __name__ == "__main__":
+    usage.begin(__doc__)
     sys.exit(main())

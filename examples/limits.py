@@ -17,6 +17,7 @@ import subprocess
 import sys
 
 import model
+import usage
 
 CYCLE = (pathlib.Path(__file__).resolve().parent / "cycle.json").read_bytes()
 COLUMNS = "--pop pop --first a --second b --district d --slack".split()
@@ -177,4 +178,5 @@ def main(program):
 
 
 if __name__ == "__main__":
+    usage.begin(__doc__, 1)
     sys.exit(main(*sys.argv[1:]))

@@ -10,6 +10,7 @@ import pathlib
 import sys
 
 import model
+import usage
 
 CHECK = "check --pop pop --first a --second b --district d --slack 1000".split()
 
@@ -79,4 +80,5 @@ def main(name):
 
 
 if __name__ == "__main__":
+    usage.begin(__doc__, 1)
     main(*sys.argv[1:])

@@ -13,6 +13,7 @@ import random
 import sys
 
 from cost_table import once
+import usage
 
 ROWS, COLUMNS, DISTRICTS, PLANS = 90, 100, 10, 16
 WORDS = "--pop pop --first a --second b --district d --slack 1000 --ask seats:low,cut-edges:low --key".split() + ["0" * 64]
@@ -76,4 +77,5 @@ def main(program, steps="1000000", rounds="3"):
 
 
 if __name__ == "__main__":
+    usage.begin(__doc__, 1)
     main(*sys.argv[1:])

@@ -22,6 +22,7 @@ import tempfile
 from concurrent.futures import ThreadPoolExecutor
 
 import model
+import usage
 
 HERE = pathlib.Path(__file__).resolve().parent
 CYCLE = (HERE / "cycle.json").read_bytes()
@@ -319,4 +320,5 @@ def main(program, states="0", seed="1"):
 
 
 if __name__ == "__main__":
+    usage.begin(__doc__, 1)
     sys.exit(main(*sys.argv[1:]))

@@ -29,6 +29,7 @@ import tempfile
 
 import fuzz
 import model
+import usage
 
 HERE = pathlib.Path(__file__).resolve().parent
 LIBRARY = r"""
@@ -316,4 +317,5 @@ def main(program, drawn="0", *more):
 
 
 if __name__ == "__main__":
+    usage.begin(__doc__, 1)
     sys.exit(main(*sys.argv[1:]))

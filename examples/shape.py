@@ -17,6 +17,8 @@ import subprocess
 import sys
 from collections import defaultdict, deque
 
+import usage
+
 TOP = os.path.normpath(os.path.join(os.path.dirname(os.path.abspath(__file__)), ".."))
 BESIDE = ("httparse", "indexmap")
 
@@ -230,4 +232,5 @@ def main():
 
 
 if __name__ == "__main__":
+    usage.begin(__doc__)
     main()

@@ -22,6 +22,7 @@ import tempfile
 
 import model
 import power_cuts
+import usage
 
 HERE = pathlib.Path(__file__).resolve().parent
 CYCLE = (HERE / "cycle.json").read_bytes()
@@ -424,4 +425,5 @@ def main(program, jobs="1"):
 
 
 if __name__ == "__main__":
+    usage.begin(__doc__, 1)
     sys.exit(main(*sys.argv[1:]))

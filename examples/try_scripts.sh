@@ -404,6 +404,13 @@ try_networkx() {
         "$python" -c 'import sys; sys.exit(open(sys.argv[1]).read() not in open(sys.argv[2]).read())' "$room/told" ../crates/audit_cases/stdout
         judge $? "$script does not print what audit_cases has to print"
     done
+    for script in $(grep -l '^    usage.begin(' -- *.py); do
+        "$python" "$script" --help >"$room/told" 2>&1 && grep -qF "$(head -n 1 "$room/told")" "$script"
+        judge $? "$script --help does not tell how the script is called"
+    done
+    "$python" fuzz.py >"$room/nothing" 2>"$room/told"
+    [ $? -eq 2 ] && grep -q '^Usage: ' "$room/told" && ! [ -s "$room/nothing" ]
+    judge $? "fuzz.py without words does not end with 2 and its usage"
 }
 
 try_prepare
