@@ -1,9 +1,10 @@
 //! Desks at which two passes claim the first three ids of a job in turn, and what such a desk keeps.
 
-ghost use Rattle.std.specs.Prelude.{◌≡◌, ◌≤◌, [], IfOk, IfSome};
+ghost use Rattle.std.specs.Prelude.{◌≡◌, ℕ, ◌≤◌, List, [], IfOk, IfSome};
 ghost use Rattle.audit_cases.specs.Passes.{OwesNothing};
 ghost use Rattle.audit_model.specs.Job.{rules};
 ghost use Rattle.audit_model.specs.Run.{run_ids, total};
+ghost use Rattle.audit_model.specs.State.{Kept as KeeperState};
 ghost use Rattle.ckpt_store.specs.Places.{IsPlace};
 ghost use Rattle.claim_counter.specs.Walks.{IsWithin};
 ghost use Rattle.audit_statement.specs.Checkpoint as definition;
@@ -177,12 +178,13 @@ fn outset_of<C: Keeper + Drop>(
     }
 }
 
-// The desk, and its first pass of two.
+// The desk, and its first pass of two. As in the functions below, the keeper permits each save.
 fn open<C: Keeper + Drop>(
     alloc: Global,
     job: &Job,
     outset: Outset<C>,
 ) -> Option<(Desk<C>, DeskPass)>
+    requires lets { (kept : KeeperState) (slot : ℕ) (bytes : List ℕ) → C.lets kept slot bytes }
     requires outset { MayFound job.now (C.state outset.keeper).slots outset.plan outset.todo outset.book }
     requires within { IsWithin job.now outset.todo }
     requires no_ends { job.now.setting.ends ≡ 0 }
@@ -203,6 +205,7 @@ fn open_with<C: Keeper + Drop>(
     keeper: C,
     every: u32,
 ) -> Option<(Desk<C>, DeskPass)>
+    requires lets { (kept : KeeperState) (slot : ℕ) (bytes : List ℕ) → C.lets kept slot bytes }
     requires every { 1 ≤ every }
     requires no_ends { job.now.setting.ends ≡ 0 }
     ensures shared { IfSome result (λ d. WalksAtDesk job.now (parts_of C.state d.0.table.shared.key) []) }
@@ -224,6 +227,7 @@ fn run_walker<R: Wait, C: Keeper + Drop, J: Judge>(
     keeper: C,
     every: u32,
 ) -> Option<Kept<C>>
+    requires lets { (kept : KeeperState) (slot : ℕ) (bytes : List ℕ) → C.lets kept slot bytes }
     requires walks { IsWalker job.now walker.old }
     requires every { 1 ≤ every }
     requires no_ends { job.now.setting.ends ≡ 0 }
@@ -243,6 +247,7 @@ fn run_judge<R: Wait, C: Keeper + Drop, J: Judge>(
     keeper: C,
     every: u32,
 ) -> Option<Kept<C>>
+    requires lets { (kept : KeeperState) (slot : ℕ) (bytes : List ℕ) → C.lets kept slot bytes }
     requires judge { IsJudgeFor job.now (J.judging judge) }
     requires every { 1 ≤ every }
     requires no_ends { job.now.setting.ends ≡ 0 }
@@ -266,6 +271,7 @@ fn run_ruled<R: Wait, C: Keeper + Drop>(
     keeper: C,
     every: u32,
 ) -> Option<Kept<C>>
+    requires lets { (kept : KeeperState) (slot : ℕ) (bytes : List ℕ) → C.lets kept slot bytes }
     requires same { of_job ≡ rules job.now }
     requires no_regions { of_job.regions ≡ [] }
     requires no_majority { of_job.group_districts ≡ 0 }
@@ -285,7 +291,9 @@ fn run_desk<R: Wait, C: Keeper + Drop>(
     job: &Job,
     keeper: C,
     every: u32,
-) -> Option<Kept<C>> {
+) -> Option<Kept<C>>
+    requires { (kept : KeeperState) (slot : ℕ) (bytes : List ℕ) → C.lets kept slot bytes }
+{
     let rules = job.rules();
     if rules.regions.len() > 0 || rules.group_districts > 0 || job.setting().ends > 0 {
         return None;

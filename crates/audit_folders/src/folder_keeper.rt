@@ -1,6 +1,6 @@
 //! The slots of a folder that is only read.
 
-ghost use Rattle.std.specs.Prelude.{◌≡◌, [], None, Err, IsErr};
+ghost use Rattle.std.specs.Prelude.{◌≡◌, [], None, Err};
 ghost use Rattle.audit_io.specs.Loads.{LoadsWithin};
 
 use audit_io::file_keeper::load_opened;
@@ -21,7 +21,6 @@ pub struct FolderKeeper<'a> {
     alloc: Global,
     folder: &'a str,
     locks: bool,
-    is_held: bool,
     load_faults: LoadCount,
     save_faults: u64,
 }
@@ -39,27 +38,14 @@ impl<'a> FolderKeeper<'a> {
             alloc,
             folder,
             locks,
-            is_held: false,
             load_faults: LoadCount::new(),
             save_faults: 0,
         }
     }
 
-    /// The folder's name.
-    pub fn folder(&self) -> &'a str {
-        self.folder
-    }
-
-    /// A load failed for a run that holds the folder.
-    pub fn is_held(&self) -> bool {
-        self.is_held
-    }
-
     // Reads a slot, while no run holds the folder.
-    fn read(&mut self, slot: u8, limit: u64, room: &mut Bytes) -> Result<bool, LoadError>
+    fn read(&self, slot: u8, limit: u64, room: &mut Bytes) -> Result<bool, LoadError>
         ensures within { LoadsWithin limit room.new.items result }
-        ensures load_faults { self.new.load_faults ≡ self.old.load_faults }
-        ensures save_faults { self.new.save_faults ≡ self.old.save_faults }
     {
         if !self.locks || is_working_folder(self.rt, self.folder) {
             return read_slot(self.rt, self.alloc, self.folder, slot, limit, room);
@@ -67,10 +53,7 @@ impl<'a> FolderKeeper<'a> {
         match format!(in self.alloc; "{}/.", self.folder) {
             Ok(path) => match lock_folder(self.rt, path.as_str()) {
                 Ok(_lock) => read_slot(self.rt, self.alloc, self.folder, slot, limit, room),
-                Err(_) => {
-                    self.is_held = true;
-                    refuse(LoadError::Taken, room)
-                }
+                Err(_) => refuse(LoadError::Taken, room),
             },
             Err(_) => refuse(LoadError::Memory, room),
         }
@@ -85,7 +68,7 @@ impl Keeper for FolderKeeper<'_> {
         self.load_faults.count(loaded)
     }
 
-    /// Fails.
+    /// Fails. Who looks at a folder requires nothing of what its keeper permits, and so cannot call it.
     fn save(&mut self, _slot: u8, _bytes: &[u8]) -> Result<(), Failed> {
         self.save_faults = self.save_faults.saturating_add(1);
         Err(Failed)

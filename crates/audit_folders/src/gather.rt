@@ -6,46 +6,30 @@
 //! working folder then walks what is still lacking. With the words `--look yes` before the folders it tells how far each folder and the job
 //! are, takes no lock and saves nothing.
 
-ghost use Rattle.std.specs.Prelude.{◌≡◌, ◌≤◌, IfSome, length, true};
+ghost use Rattle.std.specs.Prelude.{◌≡◌, ◌≤◌, IfOk, IfSome, length, true};
 ghost use Rattle.audit_model.specs.Limits.{most_trajectories};
 ghost use Rattle.audit_model.specs.Run.{total};
 
 use crate::folder_keeper::FolderKeeper;
-use crate::folder_lines::{folder_line, own_line};
 use crate::job::{Task, run_words};
-use crate::told::{end_shown, end_told, end_with, show};
+use crate::told::{end_told, end_with};
 use audit_io::file_keeper::FileKeeper;
+use audit_io::std_adapters::WriteSink;
 use audit_words::names::command_of;
-use ckpt_format::digest::job_digest;
-use ckpt_store::told::{Told, Ungathered};
-use ckpt_store::whole::gather;
+use folder_report::gathering::gather_and_tell;
 use plan_core::job::Job;
 use report::ended::Ended;
 use std::alloc::AllocError;
 use std::process::ExitCode;
-
-// The status where a folder cannot be gathered.
-const REFUSED: u8 = 10;
-
-// Writes a line that was made to standard error, where there was memory for it.
-fn refuse(rt: &HostRuntime, line: Result<String, AllocError>) -> Result<(), Ended> {
-    match line {
-        Ok(line) => match format!(in rt.alloc(); "gather: {line}") {
-            Ok(line) => match rt.eprintln(line.as_str()) {
-                Ok(()) | Err(_) => Ok(()),
-            },
-            Err(_) => Err(Ended::NoMemory),
-        },
-        Err(_) => Err(Ended::NoMemory),
-    }
-}
 
 // The folders' keepers.
 fn keepers_of<'a>(
     rt: &'a HostRuntime,
     folders: &'a [String],
     locks: bool,
-) -> Result<Vec<FolderKeeper<'a>>, AllocError> {
+) -> Result<Vec<FolderKeeper<'a>>, AllocError>
+    ensures { IfOk result (λ keepers. length keepers.items ≡ length folders.now) }
+{
     let mut keepers = Vec::new(rt.alloc());
     for folder in folders {
         keepers.push(FolderKeeper::new(rt, rt.alloc(), folder.as_str(), locks))?;
@@ -53,122 +37,60 @@ fn keepers_of<'a>(
     Ok(keepers)
 }
 
-// Tells of each folder, and how far the job is.
-fn show_all(
-    rt: &HostRuntime,
-    job: &Job,
-    folders: &[String],
-    keepers: &[FolderKeeper<'_>],
-    told: &Told,
-) -> Result<(), Ended> {
-    show(rt, own_line(rt.alloc(), told.own))?;
-    let digest = job_digest(job);
-    for (keeper, finding) in keepers.iter().zip(told.folders.as_slice()) {
-        show(rt, folder_line(rt, job, &digest, folders, keeper, *finding))?;
-    }
-    let done = told.done;
-    let total = job.total();
-    show(rt, format!(in rt.alloc(); "done: {done} of {total}"))
-}
-
-// Tells of each folder for which nothing was saved.
-fn refuse_all(
-    rt: &HostRuntime,
-    job: &Job,
-    folders: &[String],
-    keepers: &[FolderKeeper<'_>],
-    told: &Told,
-) -> Result<(), Ended> {
-    if !told.own.is_start() {
-        refuse(rt, own_line(rt.alloc(), told.own))?;
-    }
-    let digest = job_digest(job);
-    for (keeper, finding) in keepers.iter().zip(told.folders.as_slice()) {
-        if !finding.is_added() {
-            refuse(rt, folder_line(rt, job, &digest, folders, keeper, *finding))?;
-        }
-    }
-    Ok(())
-}
-
-// What a gathering that told nothing is for a call.
-fn ended_of(why: Ungathered) -> Ended {
-    match why {
-        Ungathered::Memory => Ended::NoMemory,
-        Ungathered::Unread => Ended::LoadFault,
-        Ungathered::Taken => Ended::FolderTaken,
-        Ungathered::Unsaved => Ended::SaveFault,
-    }
-}
-
 // Looks at the folders, and saves nothing.
-fn look(rt: &HostRuntime, job: &Job, keepers: &mut [FolderKeeper<'_>]) -> Result<Told, Ungathered>
-    requires { total job.now ≤ most_trajectories }
+fn look(rt: &HostRuntime, job: &Job, folders: &[String], keepers: &mut [FolderKeeper<'_>]) -> u8
+    requires few { total job.now ≤ most_trajectories }
+    requires names { length folders.now ≡ length keepers.old }
 {
-    let mut own = FolderKeeper::new(rt, rt.alloc(), ".", false);
-    gather(rt.alloc(), &mut own, keepers, job, false)
+    gather_and_tell(
+        rt.alloc(),
+        job,
+        &mut FolderKeeper::new(rt, rt.alloc(), ".", false),
+        keepers,
+        folders,
+        false,
+        &mut WriteSink::new(rt.stdout()),
+        &mut WriteSink::new(rt.stderr()),
+    )
 }
 
 // Gathers into the slots of the working folder.
 fn gather_here(
     rt: &HostRuntime,
     job: &Job,
-    keepers: &mut [FolderKeeper<'_>],
-) -> Result<Told, Ungathered>
-    requires { total job.now ≤ most_trajectories }
-{
-    let mut own = FileKeeper::new(rt);
-    gather(rt.alloc(), &mut own, keepers, job, true)
-}
-
-// Tells how far each folder and the job are, or for which nothing was saved that was to be.
-fn show_told(
-    rt: &HostRuntime,
-    job: &Job,
     folders: &[String],
-    keepers: &[FolderKeeper<'_>],
-    told: &Told,
-    looks: bool,
-) -> ExitCode {
-    if looks || told.saved {
-        return end_shown(rt, show_all(rt, job, folders, keepers, told), 0);
-    }
-    end_shown(rt, refuse_all(rt, job, folders, keepers, told), REFUSED)
+    keepers: &mut [FolderKeeper<'_>],
+) -> u8
+    requires few { total job.now ≤ most_trajectories }
+    requires names { length folders.now ≡ length keepers.old }
+{
+    gather_and_tell(
+        rt.alloc(),
+        job,
+        &mut FileKeeper::new(rt),
+        keepers,
+        folders,
+        true,
+        &mut WriteSink::new(rt.stdout()),
+        &mut WriteSink::new(rt.stderr()),
+    )
 }
 
 // Looks at the folders, or gathers them.
 fn look_or_gather(
     rt: &HostRuntime,
     job: &Job,
-    keepers: &mut [FolderKeeper<'_>],
-    looks: bool,
-) -> Result<Told, Ungathered>
-    requires { total job.now ≤ most_trajectories }
-{
-    if looks {
-        return look(rt, job, keepers);
-    }
-    gather_here(rt, job, keepers)
-}
-
-// The same, and tells what was found, or why nothing was.
-fn end_gathered(
-    rt: &HostRuntime,
-    job: &Job,
     folders: &[String],
     keepers: &mut [FolderKeeper<'_>],
     looks: bool,
-) -> ExitCode
-    requires { total job.now ≤ most_trajectories }
+) -> u8
+    requires few { total job.now ≤ most_trajectories }
+    requires names { length folders.now ≡ length keepers.old }
 {
-    match look_or_gather(rt, job, keepers, looks) {
-        Ok(told) => {
-            let code = show_told(rt, job, folders, keepers, &told, looks);
-            drop(told);
-            code
-        }
-        Err(why) => end_told(rt, ended_of(why)),
+    if looks {
+        return look(rt, job, folders, keepers);
     }
+    gather_here(rt, job, folders, keepers)
 }
 
 /// Looks at the folders of the job, or gathers them.
@@ -178,7 +100,11 @@ pub fn gather_job(rt: &HostRuntime, job: &Job, folders: &[String], looks: bool) 
         return end_told(rt, Ended::NoMemory);
     }
     match keepers_of(rt, folders, !looks) {
-        Ok(mut keepers) => end_gathered(rt, job, folders, keepers.as_mut_slice(), looks),
+        Ok(mut keepers) => {
+            let status = look_or_gather(rt, job, folders, keepers.as_mut_slice(), looks);
+            drop(keepers);
+            ExitCode::from(status)
+        }
         Err(_) => end_told(rt, Ended::NoMemory),
     }
 }

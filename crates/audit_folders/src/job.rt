@@ -1,8 +1,8 @@
 //! The job of the words of a run and of the graph on standard input.
 
 use crate::gather::gather_job;
-use crate::slots::show_job;
-use crate::told::{end_shown, end_told};
+use crate::slots::show_folder;
+use crate::told::end_told;
 use audit_input::prepare::prepare;
 use audit_io::std_adapters::ReadSource;
 use audit_model::fault::WordFault;
@@ -23,7 +23,7 @@ pub enum Task<'a> {
 
 fn run_task(rt: &HostRuntime, job: &Job, task: Task<'_>) -> ExitCode {
     match task {
-        Task::Slots(folder) => end_shown(rt, show_job(rt, folder, job), 0),
+        Task::Slots(folder) => show_folder(rt, folder, Some(job)),
         Task::Gather(folders, looks) => gather_job(rt, job, folders, looks),
     }
 }
@@ -59,6 +59,7 @@ fn idle_command(words: &[String]) -> Option<&str> {
         [word, ..] => match word.as_str() {
             "check" => Some("check"),
             "plans" => Some("plans"),
+            "trace" => Some("trace"),
             _ => None,
         },
         [] => None,

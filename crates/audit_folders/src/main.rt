@@ -5,12 +5,9 @@
 //! saved in several folders (`gather`).
 #![tactic(auto)]
 
-mod files;
 mod folder_keeper;
-mod folder_lines;
 mod gather;
 mod job;
-mod slot_lines;
 mod slots;
 mod told;
 

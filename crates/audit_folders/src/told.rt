@@ -1,9 +1,8 @@
-//! What is told, and how the program ends.
+//! How the program ends where it did nothing.
 
 use audit_io::std_adapters::WriteSink;
 use report::ended::Ended;
 use report::note::tell;
-use std::alloc::AllocError;
 use std::process::ExitCode;
 
 /// Ends with a note that no call wrote.
@@ -25,28 +24,4 @@ pub fn end_told(rt: &HostRuntime, why: Ended) -> ExitCode {
     let status = status_of(rt, &why);
     drop(why);
     ExitCode::from(status)
-}
-
-/// Ends with what was told, or with the status.
-pub fn end_shown(rt: &HostRuntime, shown: Result<(), Ended>, status: u8) -> ExitCode {
-    match shown {
-        Ok(()) => ExitCode::from(status),
-        Err(why) => end_told(rt, why),
-    }
-}
-
-// Prints a line.
-fn show_text(rt: &HostRuntime, line: &str) -> Result<(), Ended> {
-    match rt.println(line) {
-        Ok(()) => Ok(()),
-        Err(_) => Err(Ended::WriteFault),
-    }
-}
-
-/// Prints a line that was made, where there was memory for it.
-pub fn show(rt: &HostRuntime, line: Result<String, AllocError>) -> Result<(), Ended> {
-    match line {
-        Ok(line) => show_text(rt, line.as_str()),
-        Err(_) => Err(Ended::NoMemory),
-    }
 }

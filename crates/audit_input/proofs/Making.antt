@@ -4,7 +4,7 @@ use Rattle.std.specs.Prelude.{nat_le, unwrap_or, option_map}
 use Rattle.std.proofs.lemmas.Bool.{and_parts, leb-true}
 use Rattle.audit_model.specs.declared.fault.Name.TheVariants.{Size}
 use Rattle.audit_model.specs.declared.setting.Command.{Command}
-use Rattle.audit_model.specs.declared.setting.Command.TheVariants.{Check, Run, Make, Plans}
+use Rattle.audit_model.specs.declared.setting.Command.TheVariants.{Check, Run, Make, Plans, Trace}
 use Rattle.audit_model.specs.declared.setting.Setting.{Setting}
 use Rattle.audit_statement.specs.Words.{NameAndValue, text_of, number_of, fault_of, setting_for, setting_of}
 use Rattle.grid_maker.specs.Columns.{grid_columns}
@@ -23,6 +23,8 @@ sized_by Check words setting faultless same make =
     let check : Check ≡ setting.command = ap (λ (s : Setting). s.command) same in cc
 sized_by Plans words setting faultless same make =
     let plans : Plans ≡ setting.command = ap (λ (s : Setting). s.command) same in cc
+sized_by Trace words setting faultless same make =
+    let trace : Trace ≡ setting.command = ap (λ (s : Setting). s.command) same in cc
 sized_by Run words setting faultless same make =
     let run : Run ≡ setting.command = ap (λ (s : Setting). s.command) same in cc
 sized_by Make words setting faultless same make =
@@ -35,6 +37,8 @@ made_by Check words setting same make =
     let check : Check ≡ setting.command = ap (λ (s : Setting). s.command) same in cc
 made_by Plans words setting same make =
     let plans : Plans ≡ setting.command = ap (λ (s : Setting). s.command) same in cc
+made_by Trace words setting same make =
+    let trace : Trace ≡ setting.command = ap (λ (s : Setting). s.command) same in cc
 made_by Run words setting same make =
     let run : Run ≡ setting.command = ap (λ (s : Setting). s.command) same in cc
 made_by Make words setting same make =

@@ -2,7 +2,7 @@
 use Rattle.std.proofs.Common.{◌≡◌, ℕ, Bool, true, List, Option, Result, Ok, refl, sym, subst}
 use Rattle.audit_model.specs.declared.fault.WordFault.{WordFault}
 use Rattle.audit_model.specs.declared.setting.Command.{Command}
-use Rattle.audit_model.specs.declared.setting.Command.TheVariants.{Check, Run, Make, Plans}
+use Rattle.audit_model.specs.declared.setting.Command.TheVariants.{Check, Run, Make, Plans, Trace}
 use Rattle.audit_model.specs.declared.setting.Setting.{Setting}
 use Rattle.audit_statement.specs.Words.{setting_of}
 use Rattle.report.specs.declared.ended.Ended.TheVariants as ended
@@ -32,6 +32,7 @@ reads_source Check setting left bytes reads given = given
 reads_source Run setting left bytes reads given = given
 reads_source Make setting left bytes reads given = cc
 reads_source Plans setting left bytes reads given = given
+reads_source Trace setting left bytes reads given = given
 
 module _ (words : List (List ℕ)) (setting : Setting) (before after : Stream) (accepted : setting_of words ≡ Ok setting) (out : Stream) (keeper : Kept) where
   -- nothing but the source was touched

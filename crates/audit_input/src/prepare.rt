@@ -181,7 +181,9 @@ pub fn prepare<S: Source>(alloc: Global, words: &[String], source: &mut S) -> Re
 {
     match read(alloc, words) {
         Ok(setting) => match setting.command {
-            Command::Check | Command::Run | Command::Plans => prepare_read(alloc, setting, source),
+            Command::Check | Command::Run | Command::Plans | Command::Trace => {
+                prepare_read(alloc, setting, source)
+            }
             Command::Make => prepare_grid(alloc, setting),
         },
         Err(fault) => Err(word_end(fault)),

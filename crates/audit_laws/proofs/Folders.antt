@@ -10,10 +10,12 @@ use Rattle.audit_statement.specs.Checkpoint.{checkpoint, job_digest}
 use Rattle.audit_statement.specs.Slots.{IsAfterStop, Slot, absent, broken, newest, opening_of, other, ours, outcomes_of_slot, place_beside, slot_of}
 use Rattle.ckpt_store.specs.declared.finding.Finding.{Finding}
 use Rattle.ckpt_store.specs.declared.finding.Finding.TheVariants as finding
+use Rattle.audit_model.specs.Run.{total}
+use Rattle.ckpt_store.specs.Collected.{Collected, no_collected, passed_over}
 use Rattle.ckpt_store.specs.Findings.{AreFound, Finds, HasSeen, IsFound}
 use Rattle.ckpt_store.specs.Gives.{Gives, damaged, gives, has_broken, nothing, other_job, outcomes, slot_gives, slots_give}
 use Rattle.ckpt_store.specs.Whole.{HasBegun, IsSavedIf, IsSavedUnion}
-use Rattle.audit_laws.specs.Gathered.{AreAllReached, AreGathered, AreReached, GatheringsReach, Hold, IsSavedOver, after_gathering, begun, held, united}
+use Rattle.audit_laws.specs.Gathered.{AreAllReached, AreGathered, AreReached, CutGatheringsReach, GatheringsReach, Hold, IsSavedOver, after_gathering, begun, held, united}
 
 -- ---- what slots give and what they hold
 
@@ -51,51 +53,53 @@ module _ (job : Job) where
 
   -- ---- what is found in one folder
 
-  same_gathered : (before after : List Outcome) → AreGathered job before → after ≡ before → AreGathered job after
-  same_gathered before after b same = subst (AreGathered job) (sym same) b
+  -- what was gathered is the same after a folder that added nothing
+  same_gathered : (before after : Collected) → AreGathered job before.outcomes → after ≡ passed_over before → AreGathered job after.outcomes
+  same_gathered before after b same = subst (λ (c : Collected). AreGathered job c.outcomes) (sym same) b
 
-  found_so : (given : Gives) (bad : Bool) (what : Finding) (before after : List Outcome) → AreGathered job before
-      → ((os : List Outcome) → given ≡ outcomes os → AreGathered job os) → Finds before given bad what after → AreGathered job after
-  found_so (outcomes os) bad (finding.Added count new beside) before after b of f = united before os after b (of os refl) f.0.union
-  found_so (outcomes os) bad (finding.Differs id) before after b of f = same_gathered before after b f.same
+  found_so : (given : Gives) (bad : Bool) (what : Finding) (before after : Collected) → AreGathered job before.outcomes
+      → ((os : List Outcome) → given ≡ outcomes os → AreGathered job os) → Finds before given bad what after → AreGathered job after.outcomes
+  found_so (outcomes os) bad (finding.Added count new beside) before after b of f = united before.outcomes os after.outcomes b (of os refl) f.0.union
+  found_so (outcomes os) bad (finding.Differs id number) before after b of f = same_gathered before after b f.same
   found_so nothing bad finding.Nothing before after b of f = same_gathered before after b f
   found_so other_job bad finding.OtherJob before after b of f = same_gathered before after b f
   found_so damaged bad finding.Damaged before after b of f = same_gathered before after b f
   found_so given bad what before after b of f = absurd f
 
-  seen_so : (p : Pair) (bad : Bool) (what : Finding) (before after : List Outcome) → AreReached job p → AreGathered job before
-      → Finds before (gives job digest p) bad what after → AreGathered job after
+  seen_so : (p : Pair) (bad : Bool) (what : Finding) (before after : Collected) → AreReached job p → AreGathered job before.outcomes
+      → Finds before (gives job digest p) bad what after → AreGathered job after.outcomes
   seen_so p bad what before after reached b f = found_so (gives job digest p) bad what before after b (λ os e. held p os reached (given_is_held p os e)) f
 
   seen_is : (told : Option Pair) (p seen : Pair) → told ≡ Some p → IfTold told (λ x. seen ≡ x) → seen ≡ p
   seen_is None p seen e same = cc
   seen_is (Some x) p seen e same = (let is : x ≡ p = cc in same ∙ is)
 
-  from_seen : (told : Option Pair) (p : Pair) (what : Finding) (before after : List Outcome) → told ≡ Some p → AreReached job p → AreGathered job before
-      → HasSeen job digest told before what after → AreGathered job after
+  from_seen : (told : Option Pair) (p : Pair) (what : Finding) (before after : Collected) → told ≡ Some p → AreReached job p → AreGathered job before.outcomes
+      → HasSeen job digest told before what after → AreGathered job after.outcomes
   from_seen told p what before after is reached b s =
       seen_so s.pair (has_broken job digest s.pair) what before after (subst (AreReached job) (sym (seen_is told p s.pair is s.same)) reached) b s.finds
 
-  from_found : (told : Option Pair) (p : Pair) (what : Finding) (before after : List Outcome) → told ≡ Some p → AreReached job p → AreGathered job before
-      → IsFound job digest told before what after → AreGathered job after
-  from_found told p finding.Unread before after is reached b f = same_gathered before after b f
-  from_found told p what before after is reached b f = from_seen told p what before after is reached b f
+  from_found : (folder folder_now : Kept) (p : Pair) (what : Finding) (before after : Collected) → folder.slots ≡ Some p → AreReached job p → AreGathered job before.outcomes
+      → IsFound job digest folder folder_now before what after → AreGathered job after.outcomes
+  from_found folder folder_now p finding.Unread before after is reached b f = same_gathered before after b f.0
+  from_found folder folder_now p finding.Taken before after is reached b f = same_gathered before after b f.0
+  from_found folder folder_now p what before after is reached b f = from_seen folder.slots p what before after is reached b f
 
   -- ---- what is found in all
 
-  from_all : (folders : List (Option Pair)) (found : List Finding) (before after : List Outcome) → AreAllReached job folders → AreGathered job before
-      → AreFound job digest folders before found after → AreGathered job after
-  from_all [] [] before after all b f = same_gathered before after b f
-  from_all (told ∷ folders) (what ∷ found) before after all b f =
-      let first = All-head (λ (x : Option Pair). (p : Pair) × (x ≡ Some p) × AreReached job p) told folders all in
-      from_all folders found f.0 after (All-tail (λ (x : Option Pair). (p : Pair) × (x ≡ Some p) × AreReached job p) told folders all)
-      (from_found told first.0 what before f.0 first.1 first.2 b f.1) f.2
-  from_all folders found before after all b f = absurd f
+  from_all : (folders folders_now : List Kept) (found : List Finding) (before after : Collected) → AreAllReached job folders → AreGathered job before.outcomes
+      → AreFound job digest folders folders_now before found after → AreGathered job after.outcomes
+  from_all [] [] [] before after all b f = subst (λ (c : Collected). AreGathered job c.outcomes) (sym f) b
+  from_all (folder ∷ folders) (folder_now ∷ folders_now) (what ∷ found) before after all b f =
+      let first = All-head (λ (k : Kept). (p : Pair) × (k.slots ≡ Some p) × AreReached job p) folder folders all in
+      from_all folders folders_now found f.0 after (All-tail (λ (k : Kept). (p : Pair) × (k.slots ≡ Some p) × AreReached job p) folder folders all)
+      (from_found folder folder_now first.0 what before f.0 first.1 first.2 b f.1) f.2
+  from_all folders folders_now found before after all b f = absurd f
 
-  from_begun : (told : Option Pair) (p : Pair) (place : ℕ × ℕ) (own : Finding) (start : List Outcome) → told ≡ Some p → AreReached job p
-      → HasBegun job digest told place own start → AreGathered job start
+  from_begun : (told : Option Pair) (p : Pair) (place : ℕ × ℕ) (own : Finding) (start : Collected) → told ≡ Some p → AreReached job p
+      → HasBegun job digest told place own start → AreGathered job start.outcomes
   from_begun told p place own start is reached h =
-      seen_so h.pair (has_broken job digest h.pair) own [] start (subst (AreReached job) (sym (seen_is told p h.pair is h.same)) reached) nothing_gathered h.finds
+      seen_so h.pair (has_broken job digest h.pair) own (no_collected (total job)) start (subst (AreReached job) (sym (seen_is told p h.pair is h.same)) reached) nothing_gathered h.finds
 
   -- ---- the save
 
@@ -139,11 +143,19 @@ module _ (job : Job) where
 
 -- what a gathering leaves of folders that were reached was reached
 pub gatherings_reach : GatheringsReach
-gatherings_reach job saves before after folders told p q g was is reached all =
+gatherings_reach job saves before after folders folders_now told p q g was is reached all =
     let below : g.place.0 < 2 =
     subst (λ (x : ℕ × ℕ). x.0 < 2) (sym g.own.place_is)
     (place_below job (slot_of job (job_digest job) g.own.pair.zero_slot) (slot_of job (job_digest job) g.own.pair.one_slot)
     (newest (slot_of job (job_digest job) g.own.pair.zero_slot) (slot_of job (job_digest job) g.own.pair.one_slot))) in
-    saved_if job told.saved g.place g.all before after p q below was is reached
-    (from_all job folders told.folders g.start g.all all (from_begun job before.slots p g.place told.own g.start was reached g.own) g.each)
+    saved_if job told.saved g.place g.all.outcomes before after p q below was is reached
+    (from_all job folders folders_now told.folders g.start g.all all (from_begun job before.slots p g.place told.own g.start was reached g.own) g.each)
     g.saved
+
+-- and what one leaves whose save failed, or was cut off
+pub cut_gatherings_reach : CutGatheringsReach
+cut_gatherings_reach job told folders folders_now place all p q may sound is carried reached all_reached =
+    after_gathering p q all reached
+    (subst (AreGathered job) may.union
+    (from_all job folders folders_now may.found may.start may.collected all_reached (from_begun job told p place may.own may.start is reached may.begun) may.each))
+    (record { save = record { slot = place.0; bytes = checkpoint 2 (job_digest job) place.1 all; succeeded = false }; generation = place.1; sound = sound; carried = carried })

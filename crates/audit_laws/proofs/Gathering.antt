@@ -16,7 +16,7 @@ use Rattle.ckpt_format.proofs.Made.{none-from_checkpoint}
 use Rattle.ckpt_format.proofs.Stated.{checkpoints_are_read, checkpoints_have_length}
 use Rattle.ckpt_store.specs.Fitting.{is_unfit, slot_judged_digest, slot_judged_ours}
 use Rattle.audit_statement.specs.Histories.{IsEnded}
-use Rattle.ckpt_store.specs.Laws.{SavesLeaveHonestSlots, StopsLeaveHonestSlots}
+use Rattle.ckpt_store.specs.Laws.{HonestSlotsOpenRight, RightIsHonest, SavesLeaveHonestSlots, StopsLeaveHonestSlots}
 use Rattle.ckpt_store.proofs.Judged.{slot_of_read}
 use Rattle.ckpt_store.proofs.Prefixes.{cut_is_broken}
 use Rattle.audit_statement.specs.Draw.{draw}
@@ -24,46 +24,8 @@ use Rattle.ckpt_store.specs.GatheredLaws.{HonestSlotsGiveHonestOutcomes}
 use Rattle.outcome_book.specs.Laws.{UnionsAreHonest}
 use Rattle.audit_statement.specs.Chain.{AreHonestOf}
 use Rattle.audit_laws.specs.Gathered.{AreGathered, AreReached, GatheredRunsWriteOneReport, IsSavedOver, after_gathering, after_run, begun, held, united}
+use Rattle.audit_laws.proofs.Halted.{ended_leave}
 use Rattle.audit_laws.proofs.Reruns.{chains_write_one_report, event_stays}
-
--- ---- a save of honest outcomes
-
-module _ (job : Job) (draws : Draws) (digest : List ℕ) (generation : ℕ) (outcomes : List Outcome) (honest : IsHonest job draws outcomes) where
-  abbrev IsHonestHere : Stored → Type 0
-  IsHonestHere s = IsHonestSlot job draws (slot_of job digest s)
-
-  abbrev kept : Checkpoint
-  kept = record { version = 2; digest = digest; generation = generation; outcomes = record { items = outcomes; spare = 0 } }
-
-  judged_honest : (unfit : Option ℕ) → IsHonestSlot job draws (slot_judged_ours kept unfit)
-  judged_honest None = honest
-  judged_honest (Some place) = tt
-
-  whole_is_honest : (bytes : List ℕ) → IsCheckpoint bytes 2 digest generation outcomes → IsHonestHere (Some bytes)
-  whole_is_honest bytes is =
-      let size = (checkpoints_have_length bytes 2 digest generation outcomes is).1 in
-      let read = slot_of_read job digest bytes kept size (none-from_checkpoint bytes 2 digest generation outcomes is) (checkpoints_are_read bytes 2 digest generation outcomes is) in
-      subst (IsHonestSlot job draws) (sym (ap (slot_judged_digest job kept) ((bytes_eq-Decides digest digest).1 refl)) ∙ read)
-      (judged_honest (first_below (length outcomes) (is_unfit job outcomes)))
-
-  -- what a save of them may leave in its slot
-  abbrev Leaves : Stored → Stored → Type 0
-  Leaves before after = (after ≡ before) ⊎ IsNotOurs (slot_of job digest after) ⊎ IsHonestHere after
-
-  first_leave : (bytes : List ℕ) (before after : Stored) (n : ℕ) → IsCheckpoint bytes 2 digest generation outcomes → after ≡ Some (take n bytes) → Leaves before after
-  first_leave bytes before after n sound is = elim (cases_lt n (length bytes)) [
-    | inl short ↦
-        let cut = cut_is_broken job bytes 2 digest generation outcomes n sound short in
-        inr (inl (subst IsNotOurs (sym (ap (slot_of job digest) is ∙ cut.1)) tt))
-    | inr long ↦ inr (inr (subst IsHonestHere (sym (is ∙ ap (λ (xs : List ℕ). Some xs) (take_all n bytes long))) (whole_is_honest bytes sound)))
-  ]
-
-  ended_leave : (succeeded : Bool) (bytes : List ℕ) (before after : Stored) → IsCheckpoint bytes 2 digest generation outcomes
-      → IsEnded IsNotOurs job digest succeeded before bytes after → Leaves before after
-  ended_leave true bytes before after sound is = inr (inr (subst IsHonestHere (sym is) (whole_is_honest bytes sound)))
-  ended_leave false bytes before after sound (inl same) = inl same
-  ended_leave false bytes before after sound (inr (inl first)) = first_leave bytes before after first.0 sound first.1
-  ended_leave false bytes before after sound (inr (inr none)) = inr (inl none)
 
 -- a gathering of honest outcomes leaves honest slots
 gathering_stays : StopsLeaveHonestSlots → (job : Job) (outcomes : List Outcome) (p q : Pair) → IsHonest job (draw job.setting.key) outcomes → IsSavedOver job outcomes p q
@@ -75,11 +37,12 @@ gathering_stays law job outcomes p q honest s slots =
 
 -- ---- folders
 
-module _ (gives : HonestSlotsGiveHonestOutcomes) (unite : UnionsAreHonest) (saves : SavesLeaveHonestSlots) (stops : StopsLeaveHonestSlots) (job : Job) where
+module _ (opens : HonestSlotsOpenRight) (rights : RightIsHonest) (gives : HonestSlotsGiveHonestOutcomes) (unite : UnionsAreHonest) (saves : SavesLeaveHonestSlots) (stops : StopsLeaveHonestSlots)
+    (job : Job) where
   mutual
     reached_is_honest : (p : Pair) → AreReached job p → AreHonestOf job p
     reached_is_honest p (begun _ honest) = honest
-    reached_is_honest q (after_run p e reached is) = event_stays saves job p e (reached_is_honest p reached) is
+    reached_is_honest q (after_run p e reached is) = event_stays opens rights stops saves job p e (reached_is_honest p reached) is
     reached_is_honest q (after_gathering p _ outcomes reached gathered saved) =
         gathering_stays stops job outcomes p q (gathered_is_honest outcomes gathered) saved (reached_is_honest p reached)
 
@@ -91,7 +54,7 @@ module _ (gives : HonestSlotsGiveHonestOutcomes) (unite : UnionsAreHonest) (save
         unite job (draw job.setting.key) some others outcomes (gathered_is_honest some one) (gathered_is_honest others other) is
 
 -- over any number of folders and gatherings, each run that ends well has written one thread's report
-pub gathered_runs_write_one_report : HonestSlotsGiveHonestOutcomes → UnionsAreHonest → SavesLeaveHonestSlots → StopsLeaveHonestSlots → GatheredRunsWriteOneReport
-gathered_runs_write_one_report gives unite saves stops job p reached =
-    let honest = reached_is_honest gives unite saves stops job p reached in
-    (honest, λ events chain. chains_write_one_report saves job p events honest chain)
+pub gathered_runs_write_one_report : HonestSlotsOpenRight → RightIsHonest → HonestSlotsGiveHonestOutcomes → UnionsAreHonest → SavesLeaveHonestSlots → StopsLeaveHonestSlots → GatheredRunsWriteOneReport
+gathered_runs_write_one_report opens rights gives unite saves stops job p reached =
+    let honest = reached_is_honest opens rights gives unite saves stops job p reached in
+    (honest, λ events chain. chains_write_one_report opens rights stops saves job p events honest chain)

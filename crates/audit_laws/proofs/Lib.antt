@@ -5,6 +5,7 @@ mod Ending
 mod Folders
 mod Following
 mod Gathering
+mod Halted
 mod Held
 mod Judged
 mod Labels
@@ -20,6 +21,7 @@ mod Reported
 mod Reruns
 mod Saying
 mod Statuses
+mod Tracing
 mod Visited
 pub mod Counting
 pub mod Determining

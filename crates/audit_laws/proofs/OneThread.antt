@@ -3,7 +3,7 @@ use Rattle.std.proofs.Common.{◌≡◌, ℕ, Bool, true, false, List, Option, S
 use Rattle.std.specs.Io.KnownBytes.{Appends}
 use Rattle.audit_model.specs.declared.outcome.Outcome.{Outcome}
 use Rattle.audit_model.specs.declared.setting.Command.{Command}
-use Rattle.audit_model.specs.declared.setting.Command.TheVariants.{Check}
+use Rattle.audit_model.specs.declared.setting.Command.TheVariants.{Check, Trace}
 use Rattle.audit_model.specs.Job.{Job}
 use Rattle.audit_model.specs.Run.{IsRight}
 use Rattle.audit_model.specs.Trajectory.{sequence}
@@ -11,6 +11,7 @@ use Rattle.audit_model.proofs.Resumed.{full_is_sequence}
 use Rattle.audit_statement.specs.Draw.{draw}
 use Rattle.audit_statement.specs.Note.{Ending, save_fault}
 use Rattle.audit_statement.specs.Report.{full_report, thread_report, check_text}
+use Rattle.audit_statement.specs.Trace.{trace_text}
 use Rattle.audit_statement.specs.Causes.{IsTheJob}
 use Rattle.audit_statement.specs.Status.{status_of}
 use Rattle.audit_statement.specs.Endings.{Cause, EndsFor, WritesReport, WritesText, WritesOrStops, leaves_work, full_of}
@@ -53,6 +54,14 @@ module _ (words : List (List ℕ)) (before after : World) where
       subst (λ (j : Job). WritesText j.setting.command true j before after) (job_is words before after job d.job t d.prepared) d.written in
       subst (λ (k : Command). WritesText k true job before after) check text
 
+  pub done_trace : (job : Job) → IsTheJob words before job → job.setting.command ≡ Trace → (r : Option Ending) → Cause words before after r → status_of r ≡ 0
+      → Appends before.out.bytes after.out.bytes (trace_text job (draw job.setting.key) job.setting.first_id job.setting.last_id job.setting.thin)
+  done_trace job t trace r c z =
+      let d = zero_only words before after r c z in
+      let text : WritesText job.setting.command true job before after =
+      subst (λ (j : Job). WritesText j.setting.command true j before after) (job_is words before after job d.job t d.prepared) d.written in
+      subst (λ (k : Command). WritesText k true job before after) trace text
+
   pub whole_report : (whole : Bool) (job other : Job) (outcomes : List Outcome) → StartsWith words before job outcomes → other ≡ job
       → leaves_work job outcomes ≡ false → WritesOrStops whole other before after → WritesReport true job before after
   whole_report true job other outcomes s same none w = subst (λ (j : Job). WritesReport true j before after) same w
@@ -72,6 +81,7 @@ pub writes_whole : (words : List (List ℕ)) (before after : World) (n m : Strea
 writes_whole words before after n m status e =
     subst (λ (s : ℕ). WritesWhole words before after s) (sym e.status_is) (record {
       check = λ job t check z. done_check words before after job t check e.reason e.cause z;
+      trace = λ job t trace z. done_trace words before after job t trace e.reason e.cause z;
       run = λ job outcomes s z. whole_text words before after job outcomes s (done_report words before after job outcomes s e.reason e.cause z);
       one_thread = λ job outcomes s right z. one_report words before after job outcomes s right (done_report words before after job outcomes s e.reason e.cause z);
       save_failed = λ job outcomes s right z none. one_report words before after job outcomes s right (nine_report words before after job outcomes s none e.reason e.cause z);

@@ -25,7 +25,7 @@ use Rattle.audit_model.specs.Trajectory.{Draws, bare, bin_of, four_values, in_ta
 use Rattle.audit_statement.specs.Checkpoint.{checkpoint_fault, job_digest, stated_count}
 use Rattle.audit_statement.specs.Slots.{IsHonestSlot, Slot, absent, broken, checkpoint_limit, other, ours, outcome_in, slot_of, slot_of_bytes, slot_of_checkpoint, slot_of_digest, slot_of_ours, IsNotOurs}
 use Rattle.audit_statement.specs.Histories.{AreCarriedOut, stopped_in}
-use Rattle.ckpt_store.specs.Laws.{SavesKeepTheNewest, SavesLeaveHonestSlots}
+use Rattle.ckpt_store.specs.Laws.{HonestSlotsOpenRight, RightIsHonest, SavesKeepTheNewest, SavesLeaveHonestSlots, StopsLeaveHonestSlots}
 use Rattle.audit_statement.specs.Draw.{draw}
 use Rattle.hex.specs.Hex.{encode_lower}
 use Rattle.audit_statement.specs.Report.{ends_lines, graph_line, line, origin_lines, population_line, report, rule_lines, serial_lines, setting_line, shift_line, stop_line, test_lines, thread_report, title_line, walk_lines}
@@ -34,6 +34,7 @@ use Rattle.audit_model.specs.Told.{IfBothTold, IfTold}
 use Rattle.audit_statement.specs.Endings.{WritesReport, place_of}
 use Rattle.audit_statement.specs.Headline.{StartsWith, WritesOneThreads}
 use Rattle.audit_statement.specs.Rerun.{FindTheSame, ChainsWriteOneReport, Event, HasWritten, IsEvent, IsLink, IsRunOver, Link, Manner, RerunsAreAlike, StopsKeepTheNewest, WroteOneThreads, asking, job_in, ran, rerun, slots_after, stopped}
+use Rattle.audit_laws.proofs.Halted.{stop_stays}
 use Rattle.audit_laws.proofs.Starting.{opening_told}
 use Rattle.audit_laws.proofs.Chained.{rises_or_not}
 use Rattle.audit_laws.proofs.Statuses.{job_is, report_of}
@@ -299,6 +300,9 @@ own job shift serial origin = record {
   parts = job.setting.parts;
   part = job.setting.part;
   source = job.setting.source;
+  first_id = job.setting.first_id;
+  last_id = job.setting.last_id;
+  thin = job.setting.thin;
   origin = origin;
 }
 
@@ -318,6 +322,9 @@ stops_keep_the_newest law job before after p status told now t n q out =
 -- ---- chains
 
 -- the job is a rerun of its rerun
+back_from : (job : Job) (manner : Manner) → FindTheSame (rerun job manner) job
+back_from job manner = reruns_are_alike (rerun job manner) (own job job.setting.shift job.setting.serial job.origin)
+
 back_again : (job : Job) (l : Link) → FindTheSame (job_in job l) job
 back_again job l = reruns_are_alike (job_in job l) (own job job.setting.shift job.setting.serial job.origin)
 
@@ -384,19 +391,21 @@ module _ (law : SavesLeaveHonestSlots) (job : Job) (p : Pair) (l : Link) (honest
   }
 
 -- each event leaves honest slots honest
-pub event_stays : SavesLeaveHonestSlots → (job : Job) (p : Pair) (e : Event) → AreHonestOf job p → IsEvent job p e → AreHonestOf job (slots_after e)
-event_stays law job p (ran l) honest is = link_stays law job p l honest is
-event_stays law job p (stopped l n q) honest is = stays_where law job p l honest is.over n q (is.carried (tries_of law job p l honest is.over))
+pub event_stays : HonestSlotsOpenRight → RightIsHonest → StopsLeaveHonestSlots → SavesLeaveHonestSlots → (job : Job) (p : Pair) (e : Event) → AreHonestOf job p → IsEvent job p e
+    → AreHonestOf job (slots_after e)
+event_stays opens rights stops law job p (ran l) honest is = link_stays law job p l honest is
+event_stays opens rights stops law job p (stopped manner tries q) honest is =
+    (back_from job manner).same_honest q (stop_stays opens rights stops (rerun job manner) p q tries is.so_far is.carried (honest_same job manner p honest))
 
 -- a run that ends well, from honest slots, has written one thread's report
-event_wrote : SavesLeaveHonestSlots → (job : Job) (p : Pair) (e : Event) → AreHonestOf job p → IsEvent job p e → HasWritten job e
+pub event_wrote : SavesLeaveHonestSlots → (job : Job) (p : Pair) (e : Event) → AreHonestOf job p → IsEvent job p e → HasWritten job e
 event_wrote law job p (ran l) honest is = link_wrote law job p l honest is
-event_wrote law job p (stopped l n q) honest is = tt
+event_wrote law job p (stopped manner tries q) honest is = tt
 
 -- so has each run of any chain
-pub chains_write_one_report : SavesLeaveHonestSlots → ChainsWriteOneReport
-chains_write_one_report law job p [] honest chain = tt
-chains_write_one_report law job p (e ∷ events) honest chain = (
+pub chains_write_one_report : HonestSlotsOpenRight → RightIsHonest → StopsLeaveHonestSlots → SavesLeaveHonestSlots → ChainsWriteOneReport
+chains_write_one_report opens rights stops law job p [] honest chain = tt
+chains_write_one_report opens rights stops law job p (e ∷ events) honest chain = (
   event_wrote law job p e honest chain.0,
-  chains_write_one_report law job (slots_after e) events (event_stays law job p e honest chain.0) chain.1,
+  chains_write_one_report opens rights stops law job (slots_after e) events (event_stays opens rights stops law job p e honest chain.0) chain.1,
 )

@@ -10,7 +10,7 @@ use Rattle.audit_model.specs.Apart.{AllApart}
 use Rattle.audit_model.specs.Below.{filter_below, map_below}
 use Rattle.audit_model.specs.declared.outcome.Outcome.{Outcome}
 use Rattle.audit_model.specs.declared.setting.Command.{Command}
-use Rattle.audit_model.specs.declared.setting.Command.TheVariants.{Check, Run, Make, Plans}
+use Rattle.audit_model.specs.declared.setting.Command.TheVariants.{Check, Run, Make, Plans, Trace}
 use Rattle.audit_model.specs.declared.setting.Setting.{Setting}
 use Rattle.audit_model.specs.Graph.{has}
 use Rattle.audit_model.specs.Job.{Job}
@@ -39,6 +39,7 @@ run_setting_by Check setting walking within = cc
 run_setting_by Run setting walking within = within
 run_setting_by Make setting walking within = within
 run_setting_by Plans setting walking within = within
+run_setting_by Trace setting walking within = cc
 
 -- the setting of a run is within the limits of a run
 pub run_setting : (job : Job) → IsRunJob job → IsRunSetting job.setting

@@ -5,7 +5,7 @@ use Rattle.audit_model.specs.declared.fault.WordFault.{WordFault}
 use Rattle.audit_model.specs.declared.setting.Setting.{Setting}
 use Rattle.audit_model.specs.declared.outcome.Outcome.{Outcome}
 use Rattle.audit_model.specs.declared.setting.Command.{Command}
-use Rattle.audit_model.specs.declared.setting.Command.TheVariants.{Check, Run, Make, Plans}
+use Rattle.audit_model.specs.declared.setting.Command.TheVariants.{Check, Run, Make, Plans, Trace}
 use Rattle.audit_model.specs.Pair.{Pair}
 use Rattle.audit_model.specs.Job.{Job}
 use Rattle.audit_model.proofs.Results.{err_is_err, ok_is_no_err}
@@ -165,6 +165,7 @@ module _ (words : List (List ℕ)) (before after : World) where
   text_report Run whole job w t = t
   text_report Make whole job w t = t
   text_report Plans whole job w t = t
+  text_report Trace whole job w t = cc
 
   pub report_of : (whole : Bool) (job other : Job) → IsTrue (is_walking job.setting.command) → other ≡ job → WritesText other.setting.command whole other before after → WritesReport whole job before after
   report_of whole job other w same t =

@@ -8,12 +8,14 @@ use Rattle.audit_model.specs.declared.fault.Name.TheVariants.{Walks, Steps, Ends
 use Rattle.audit_model.specs.declared.fault.WordFault.{WordFault}
 use Rattle.audit_model.specs.declared.fault.WordFault.TheVariants.{BadValue}
 use Rattle.audit_model.specs.declared.setting.Command.{Command}
-use Rattle.audit_model.specs.declared.setting.Command.TheVariants.{Check, Run, Make, Plans}
+use Rattle.audit_model.specs.declared.setting.Command.TheVariants.{Check, Run, Make, Plans, Trace}
 use Rattle.audit_model.specs.declared.setting.Setting.{Setting}
 use Rattle.audit_model.specs.Power.{is_power_of_two}
 use Rattle.audit_model.proofs.Options.{option_or_none, option_map_none}
 use Rattle.audit_statement.specs.Words.{NameAndValue, pairs, text_of, number_of, number_named, is_number, as_run, covers_walks, divides_draws, stops_alone, is_good, is_yes, is_yes_or_no, names_of, command_of, of_command, fault_of, setting_for, setting_or, setting_of}
-use Rattle.audit_words.proofs.Unnamed.{good_budget, good_save}
+use Rattle.std.specs.Fmt.{digits}
+use Rattle.audit_words.specs.Judged.{fault_of_pairs}
+use Rattle.audit_words.proofs.Unnamed.{good_budget, good_save, plans_lack, serial_is, stop_is, trace_lacks_tests}
 use Rattle.audit_statement.specs.Endings.{is_walking}
 use Rattle.audit_laws.specs.Runs.{StopsAlone}
 
@@ -25,6 +27,7 @@ IsBuilt Check = ⊤
 IsBuilt Run = ⊤
 IsBuilt Make = ⊤
 IsBuilt Plans = ⊤
+IsBuilt Trace = ⊤
 
 -- accepted words are a command and pairs with no fault, of which the setting is made
 pub record IsSpoken (setting : Setting) : Type 0 where
@@ -46,14 +49,17 @@ IsBuiltCommand (Some command) = IsBuilt command
 
 -- each command that a word spells is built
 spelled_is_built : (word : List ℕ) → IsBuiltCommand (command_of word)
-spelled_is_built word = by (bytes_eq word (codes "check")) (bytes_eq word (codes "run")) (bytes_eq word (codes "make")) (bytes_eq word (codes "plans"))
+spelled_is_built word =
+    by (bytes_eq word (codes "check")) (bytes_eq word (codes "run")) (bytes_eq word (codes "make")) (bytes_eq word (codes "plans")) (bytes_eq word (codes "trace"))
   where
-    by : (check run make plans : Bool) → IsBuiltCommand (cond check (Some Check) (cond run (Some Run) (cond make (Some Make) (cond plans (Some Plans) None))))
-    by true run make plans = tt
-    by false true make plans = tt
-    by false false true plans = tt
-    by false false false true = tt
-    by false false false false = tt
+    by : (check run make plans trace : Bool)
+        → IsBuiltCommand (cond check (Some Check) (cond run (Some Run) (cond make (Some Make) (cond plans (Some Plans) (cond trace (Some Trace) None)))))
+    by true run make plans trace = tt
+    by false true make plans trace = tt
+    by false false true plans trace = tt
+    by false false false true trace = tt
+    by false false false false true = tt
+    by false false false false false = tt
 
 -- words of a command that give a setting give one that words can give
 spoken_by : (word : List ℕ) (words : List NameAndValue) (command : Option Command) (setting : Setting) → IsBuiltCommand command → of_command word words command ≡ Ok setting → IsSpoken setting
@@ -116,13 +122,15 @@ covers_by : (command : Command) (words : List NameAndValue) (setting : Setting) 
     → is_walking setting.command ≡ true → setting.save_every ≡ 0 → setting.walks + setting.ends ≤ setting.budget
 covers_by Check words setting built faultless same walking none =
     let check : false ≡ is_walking setting.command = ap (λ (s : Setting). is_walking s.command) same in cc
+covers_by Trace words setting built faultless same walking none =
+    let trace : false ≡ is_walking setting.command = ap (λ (s : Setting). is_walking s.command) same in cc
 covers_by Run words setting built faultless same walking none =
     subst (λ (s : Setting). s.walks + s.ends ≤ s.budget) same
     (covers_all Run words (good Run words 12 Budget faultless refl) (good Run words 13 Save faultless refl) (ap (λ (s : Setting). s.save_every) same ∙ none))
 covers_by Plans words setting built faultless same walking none =
     let pairs = (option_or_none _ _ faultless).0 in
     subst (λ (s : Setting). s.walks + s.ends ≤ s.budget) same
-    (covers_all Plans words (good_budget words pairs (good Plans words 8 Ends faultless refl)) (good_save words pairs) (ap (λ (s : Setting). s.save_every) same ∙ none))
+    (covers_all Plans words (good_budget Plans words pairs (plans_lack words) (good Plans words 8 Ends faultless refl)) (good_save Plans words pairs (plans_lack words)) (ap (λ (s : Setting). s.save_every) same ∙ none))
 covers_by Make words setting built faultless same walking none =
     subst (λ (s : Setting). s.walks + s.ends ≤ s.budget) same
     (covers_all Make words (good Make words 9 Budget faultless refl) (good Make words 10 Save faultless refl) (ap (λ (s : Setting). s.save_every) same ∙ none))
@@ -205,6 +213,10 @@ even_by : (command : Command) (words : List NameAndValue) (setting : Setting) �
     → setting.serial ≡ true → is_power_of_two (setting.steps + 1) ≡ true
 even_by Check words setting built faultless same asked =
     let check : false ≡ setting.serial = ap (λ (s : Setting). s.serial) same in cc
+even_by Trace words setting built faultless same asked =
+    let none : bytes_eq (text_of Check words Serial) (codes "yes") ≡ false =
+    ap (λ (t : List ℕ). bytes_eq t (codes "yes")) (serial_is Trace words (option_or_none _ _ faultless).0 (trace_lacks_tests words)) in
+    let asks : bytes_eq (text_of Check words Serial) (codes "yes") ≡ setting.serial = ap (λ (s : Setting). s.serial) same in cc
 even_by Plans words setting built faultless same asked =
     subst (λ (s : Setting). is_power_of_two (s.steps + 1) ≡ true) same (even_words Plans words faultless refl (ap (λ (s : Setting). s.serial) same ∙ asked))
 even_by Run words setting built faultless same asked =
@@ -239,11 +251,19 @@ alone_words command words walking good some =
       fresh = not-true (is_yes command words Resume) both.1;
     }
 
+-- no test of a trace stops early
+no_stop : (words : List NameAndValue) → fault_of_pairs Trace words ≡ None → unwrap_or (number_of (text_of Check words Stop)) 0 ≡ 0
+unfolding digits
+no_stop words faultless = ap (λ (t : List ℕ). unwrap_or (number_of t) 0) (stop_is Trace words faultless (trace_lacks_tests words))
+
 -- accepted words with early stopping give a setting that stops alone
 alone_by : (command : Command) (words : List NameAndValue) (setting : Setting) → IsBuilt command → fault_of command words ≡ None → setting_for command words ≡ setting
     → 1 ≤ setting.stop → StopsAlone setting
 alone_by Check words setting built faultless same some =
     let none : 0 ≡ setting.stop = ap (λ (s : Setting). s.stop) same in absurd (omega (arith, none, some))
+alone_by Trace words setting built faultless same some =
+    let none = no_stop words (option_or_none _ _ faultless).0 in
+    let stops : unwrap_or (number_of (text_of Check words Stop)) 0 ≡ setting.stop = ap (λ (s : Setting). s.stop) same in absurd (omega (arith, some, none, stops))
 alone_by Plans words setting built faultless same some =
     subst StopsAlone same (alone_words Plans words refl (good_stop Plans words faultless refl) (subst (λ (n : ℕ). 1 ≤ n) (sym (ap (λ (s : Setting). s.stop) same)) some))
 alone_by Run words setting built faultless same some =

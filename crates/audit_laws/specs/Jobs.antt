@@ -41,6 +41,9 @@ run_of slack walks steps ends hub_steps asks = record {
   max_split_regions = 5000;
   group_districts = 0;
   source = false;
+  first_id = 0;
+  last_id = 0;
+  thin = 1;
 }
 
 -- no group

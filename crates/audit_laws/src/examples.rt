@@ -7,3 +7,4 @@ pub mod model;
 pub mod origins;
 pub mod rules;
 pub mod tables;
+pub mod traces;

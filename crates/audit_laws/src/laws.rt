@@ -2,7 +2,8 @@
 
 ghost use Rattle.audit_laws.specs.Ended.{EndedCallsKeepTheirPromise};
 ghost use Rattle.audit_laws.specs.Lost.{StopsLoseNothing};
-ghost use Rattle.audit_laws.specs.Gathered.{GatheredRunsWriteOneReport, GatheringsReach};
+ghost use Rattle.audit_laws.specs.Gathered.{CutGatheringsReach, GatheredRunsWriteOneReport, GatheringsReach};
+ghost use Rattle.audit_statement.specs.Along.{TracesEndAsFound};
 ghost use Rattle.audit_statement.specs.Rerun.{ChainsWriteOneReport, RerunsAreAlike, StopsKeepTheNewest};
 
 use ckpt_store::gathered_laws::honest_slots_give_honest_outcomes;
@@ -49,6 +50,9 @@ pub fn stops_lose_nothing()
 pub fn chains_write_one_report()
     ensures { ChainsWriteOneReport }
 {
+    honest_slots_open_right();
+    right_outcomes_are_honest();
+    a_stop_in_a_save_leaves_honest_slots();
     saves_leave_honest_slots();
 }
 
@@ -58,6 +62,8 @@ pub fn chains_write_one_report()
 pub fn gathered_runs_write_one_report()
     ensures { GatheredRunsWriteOneReport }
 {
+    honest_slots_open_right();
+    right_outcomes_are_honest();
     honest_slots_give_honest_outcomes();
     unions_are_right();
     saves_leave_honest_slots();
@@ -67,4 +73,14 @@ pub fn gathered_runs_write_one_report()
 /// What one call of `ckpt_store::whole::gather` leaves in slots that were reached, of folders that were, was reached.
 pub fn gatherings_reach()
     ensures { GatheringsReach }
+{}
+
+/// What one gathering leaves whose save failed or was cut off was reached.
+pub fn cut_gatherings_reach()
+    ensures { CutGatheringsReach }
+{}
+
+/// The plans of a trajectory give what the report tells of it: its moves, the counts of a walk, and the scores of an endpoint trajectory.
+pub fn traces_end_as_found()
+    ensures { TracesEndAsFound }
 {}

@@ -4,7 +4,7 @@ use Rattle.std.specs.List.{All, AllPairs}
 use Rattle.audit_model.specs.declared.outcome.Counts.{Counts}
 use Rattle.audit_model.specs.declared.rules.Group.{Group}
 use Rattle.audit_model.specs.declared.setting.Command.{Command}
-use Rattle.audit_model.specs.declared.setting.Command.TheVariants.{Check, Run, Make, Plans}
+use Rattle.audit_model.specs.declared.setting.Command.TheVariants.{Check, Run, Make, Plans, Trace}
 use Rattle.audit_model.specs.declared.setting.Setting.{Setting}
 use Rattle.audit_model.specs.Graph.{Graph, IsGraph, count_edges}
 use Rattle.audit_model.specs.Job.{Job}
@@ -86,11 +86,20 @@ pub record IsCheckSetting (s : Setting) : Type 0 where
   pub no_budget : s.budget ≡ 0
   pub no_saves : s.save_every ≡ 0
 
+-- the limits of a trace: those of a run, and a range of its trajectories, shown at every `thin`-th step
+pub record IsTraceSetting (s : Setting) : Type 0 where
+  pub run : IsRunSetting s
+  pub in_order : s.first_id ≤ s.last_id
+  pub within : s.last_id < s.walks + s.ends
+  pub some_thin : 1 ≤ s.thin
+  pub few_thin : s.thin ≤ most_steps
+
 abbrev pub IsSettingOf : Command → Setting → Type 0
 IsSettingOf Check s = IsCheckSetting s
 IsSettingOf Run s = IsRunSetting s
 IsSettingOf Make s = IsRunSetting s
 IsSettingOf Plans s = IsRunSetting s
+IsSettingOf Trace s = IsTraceSetting s
 
 -- a part is one of the parts, and where there are several, what is walked of one is saved
 pub record HasPart (s : Setting) : Type 0 where

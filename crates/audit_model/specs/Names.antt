@@ -1,7 +1,7 @@
 -- How the names that the words may set are spelled.
 use Rattle.std.specs.Prelude.{ℕ, List, codes}
 use Rattle.audit_model.specs.declared.fault.Name.{Name}
-use Rattle.audit_model.specs.declared.fault.Name.TheVariants.{Pop, First, Second, District, Size, Slack, Key, Walks, Steps, Ends, HubSteps, Ask, Workers, Budget, Save, Resume, MaxCut, Shift, Stop, Serial, Region, MaxSplit, Parts, Part, MaxSplits, MaxSplitRegions, Group, GroupOf, GroupDistricts, Source}
+use Rattle.audit_model.specs.declared.fault.Name.TheVariants.{Pop, First, Second, District, Size, Slack, Key, Walks, Steps, Ends, HubSteps, Ask, Workers, Budget, Save, Resume, MaxCut, Shift, Stop, Serial, Region, MaxSplit, Parts, Part, MaxSplits, MaxSplitRegions, Group, GroupOf, GroupDistricts, Source, Ids, Thin}
 
 -- the spelling of a name
 abbrev pub name_text : Name → List ℕ
@@ -35,3 +35,5 @@ name_text Group = codes "--group"
 name_text GroupOf = codes "--group-of"
 name_text GroupDistricts = codes "--group-districts"
 name_text Source = codes "--source"
+name_text Ids = codes "--ids"
+name_text Thin = codes "--thin"

@@ -5,5 +5,6 @@ mod Pairing
 mod Placing
 mod Preparing
 mod Surely
+mod Tracing
 mod Visiting
 mod Words

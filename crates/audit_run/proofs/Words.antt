@@ -13,7 +13,7 @@ use Rattle.audit_statement.specs.Words.{NameAndValue, command_of, fault_of, numb
 use Rattle.audit_statement.specs.Endings.{is_walking}
 use Rattle.audit_statement.specs.Several.{names_plans}
 use Rattle.audit_model.specs.State.{Stream}
-use Rattle.audit_words.proofs.Unnamed.{resume_is, save_is}
+use Rattle.audit_words.proofs.Unnamed.{plans_lack, resume_is, save_is}
 use Rattle.audit_laws.specs.Runs.{AcceptedJobsAreRuns}
 use Rattle.audit_run.specs.Stages.{ArePlansReady}
 use Rattle.audit_saving.specs.Plans.{RunsAlone}
@@ -37,8 +37,8 @@ with_fault words None setting faultless e =
     let pairs = first_none _ _ faultless in
     subst IsPlansSetting same (record {
       command = refl;
-      unsaved = ap (λ t. unwrap_or (number_of t) 0) (save_is words pairs);
-      fresh = ap (λ t. bytes_eq t (codes "yes")) (resume_is words pairs);
+      unsaved = ap (λ t. unwrap_or (number_of t) 0) (save_is Plans words pairs (plans_lack words));
+      fresh = ap (λ t. bytes_eq t (codes "yes")) (resume_is Plans words pairs (plans_lack words));
     })
 with_fault words (Some f) setting faultless e = cc
 

@@ -1,6 +1,7 @@
 //! The call that does all that the program does.
 
 ghost use Rattle.std.specs.Prelude.{◌≡◌};
+ghost use Rattle.audit_statement.specs.Due.{LetsDueSaves};
 ghost use Rattle.audit_statement.specs.Several.{names_plans as are_of_plans};
 ghost use Rattle.audit_statement.specs.Whole.{KeepsEachPromise};
 ghost use Rattle.audit_statement.specs.World.{world};
@@ -49,6 +50,7 @@ pub fn audit<
     note: &mut N,
     keeper: C,
 ) -> (u8, C)
+    requires lets { LetsDueSaves C.lets (spoken words.now) (world (S.state graph.old) (K.state out.old) (C.state keeper)) }
     ensures { let before = world (S.state graph.old) (K.state out.old) (C.state keeper) in
         let after = world (S.state graph.new) (K.state out.new) (C.state result.1) in
         KeepsEachPromise (spoken words.now) before after (N.state note.old) (N.state note.new) result.0 }

@@ -14,6 +14,7 @@ pub mod run;
 pub mod several;
 pub mod single;
 pub mod sure;
+pub mod trace;
 
 pub use claim_counter::runtime::Runtime;
 pub use plain::audit_plainly;

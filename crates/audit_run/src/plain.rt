@@ -1,5 +1,6 @@
 //! The audit, and what a run with none of the features that may be left out has done.
 
+ghost use Rattle.audit_statement.specs.Due.{LetsDueSaves};
 ghost use Rattle.audit_statement.specs.Whole.{KeepsEachPromise};
 ghost use Rattle.audit_statement.specs.World.{world};
 ghost use Rattle.audit_words.specs.Spoken.{spoken};
@@ -33,6 +34,7 @@ pub fn audit_plainly<
     note: &mut N,
     keeper: C,
 ) -> (u8, C)
+    requires lets { LetsDueSaves C.lets (spoken words.now) (world (S.state graph.old) (K.state out.old) (C.state keeper)) }
     ensures plain { AuditsPlainly (spoken words.now) (S.state graph.old).bytes (K.state out.old).bytes (K.state out.new).bytes result.0 }
     ensures ends { let before = world (S.state graph.old) (K.state out.old) (C.state keeper) in
         let after = world (S.state graph.new) (K.state out.new) (C.state result.1) in

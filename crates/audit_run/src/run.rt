@@ -3,6 +3,7 @@
 ghost use Rattle.std.specs.Prelude.{◌≡◌, [], false};
 ghost use Rattle.audit_model.specs.State.{Kept};
 ghost use Rattle.audit_statement.specs.Endings.{IsOpening, saves};
+ghost use Rattle.audit_statement.specs.Due.{LetsSavesOf};
 ghost use Rattle.audit_laws.specs.Calls.{Finishes};
 ghost use Rattle.audit_laws.specs.Runs.{IsRunJob};
 ghost use Rattle.audit_input.specs.Opening.{IsOpened};
@@ -62,6 +63,7 @@ fn finish_judged<
 ) -> (Ended, C)
     requires opened { IsOpened job.now (C.state keeper).slots opening }
     requires judges { IsBench J.judging job.now judges }
+    requires lets { LetsSavesOf C.lets job.now (C.state keeper) }
     ensures { Finishes job.now (K.state out.old) (K.state out.new)
         (C.state keeper) (C.state result.1) result.0 }
 {
@@ -89,6 +91,7 @@ fn finish_cut<R: Threads + Wait + Sync, K: Sink, C: Keeper + Send, G: Gate + Syn
     requires opened { IsOpened job.now (C.state keeper).slots opening }
     requires no_regions { job.now.regions ≡ [] }
     requires no_group { job.now.setting.group_districts ≡ 0 }
+    requires lets { LetsSavesOf C.lets job.now (C.state keeper) }
     ensures { Finishes job.now (K.state out.old) (K.state out.new)
         (C.state keeper) (C.state result.1) result.0 }
 {
@@ -114,7 +117,8 @@ fn finish_ruled<R: Threads + Wait + Sync, K: Sink, C: Keeper + Send, G: Gate + S
     out: &mut K,
     keeper: C,
 ) -> (Ended, C)
-    requires { IsOpened job.now (C.state keeper).slots opening }
+    requires opened { IsOpened job.now (C.state keeper).slots opening }
+    requires lets { LetsSavesOf C.lets job.now (C.state keeper) }
     ensures { Finishes job.now (K.state out.old) (K.state out.new)
         (C.state keeper) (C.state result.1) result.0 }
 {
@@ -143,7 +147,8 @@ pub fn finish_run<R: Threads + Wait + Sync, K: Sink, C: Keeper + Send, G: Gate +
     out: &mut K,
     mut keeper: C,
 ) -> (Ended, C)
-    requires { IsRunJob job.now }
+    requires run { IsRunJob job.now }
+    requires lets { LetsSavesOf C.lets job.now (C.state keeper) }
     ensures { Finishes job.now (K.state out.old) (K.state out.new)
         (C.state keeper) (C.state result.1) result.0 }
 {

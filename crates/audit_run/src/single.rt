@@ -4,6 +4,7 @@ ghost use Rattle.std.specs.Prelude.{◌≡◌, IsTrue};
 ghost use Rattle.audit_model.specs.declared.setting.Command.TheVariants.{Check};
 ghost use Rattle.audit_statement.specs.Endings.{is_walking};
 ghost use Rattle.audit_statement.specs.Promise.{KeepsItsPromise};
+ghost use Rattle.audit_statement.specs.Due.{LetsDueSaves, LetsSavesOf};
 ghost use Rattle.audit_laws.specs.Calls.{Finishes};
 ghost use Rattle.audit_laws.specs.Runs.{IsRunJob};
 ghost use Rattle.audit_model.specs.State.{Kept};
@@ -11,6 +12,7 @@ ghost use Rattle.audit_statement.specs.World.{world};
 ghost use Rattle.audit_words.specs.Spoken.{spoken};
 
 use crate::run::finish_run;
+use crate::trace::finish_trace;
 use audit_input::prepare::prepare;
 use audit_io::gate::Gate;
 use audit_io::keeper::Keeper;
@@ -53,11 +55,13 @@ fn finish<R: Threads + Wait + Sync, K: Sink, C: Keeper + Send, G: Gate + Sync>(
     keeper: C,
 ) -> (Ended, C)
     requires run { IsTrue (is_walking job.now.setting.command) → IsRunJob job.now }
+    requires lets { LetsSavesOf C.lets job.now (C.state keeper) }
     ensures { Finishes job.now (K.state out.old) (K.state out.new)
         (C.state keeper) (C.state result.1) result.0 }
 {
     match job.setting().command {
         Command::Check => (finish_check(rt.alloc, job, out), keeper),
+        Command::Trace => (finish_trace(rt.alloc, job, out), keeper),
         Command::Run | Command::Make | Command::Plans => finish_run(rt, job, out, keeper),
     }
 }
@@ -82,6 +86,7 @@ pub fn audit_single<
     note: &mut N,
     keeper: C,
 ) -> (u8, C)
+    requires lets { LetsDueSaves C.lets (spoken words.now) (world (S.state graph.old) (K.state out.old) (C.state keeper)) }
     ensures { let before = world (S.state graph.old) (K.state out.old) (C.state keeper) in
         let after = world (S.state graph.new) (K.state out.new) (C.state result.1) in
         KeepsItsPromise (spoken words.now) before after (N.state note.old) (N.state note.new) result.0 }

@@ -4,7 +4,8 @@ use Rattle.audit_model.specs.Told.{IfTold}
 use Rattle.audit_model.specs.Pair.{Pair}
 use Rattle.audit_model.specs.Job.{Job}
 use Rattle.audit_input.specs.declared.opening.Target.{Target}
-use Rattle.audit_statement.specs.Endings.{place_of, saves}
+use Rattle.audit_statement.specs.Endings.{first_place, place_of, saves}
+use Rattle.audit_statement.specs.Due.{IsFirstPlace}
 use Rattle.audit_input.specs.Opening.{IsTargetFor}
 use Rattle.audit_laws.specs.Runs.{IsRunJob}
 use Rattle.audit_laws.proofs.Starting.{saves_not}
@@ -25,6 +26,14 @@ saves_every job is = by job.setting.save_every refl
 pub place_told_for : (job : Job) (slots : Option Pair) (t : Target) → IsTargetFor job slots t → IfTold slots (λ p. place_of job p ≡ (t.place.slot, t.place.generation))
 place_told_for job None t placed = tt
 place_told_for job (Some p) t placed = sym placed.told
+
+-- the run's first save goes there
+pub first_place_for : (job : Job) (slots : Option Pair) (t : Target) → IsTargetFor job slots t → IsFirstPlace job slots t.place
+first_place_for job slots t placed = record { slot = placed.slot_below; generation = placed.generation_below; told = by slots placed.told }
+  where
+    by : (slots : Option Pair) → IfTold slots (λ p. (t.place.slot, t.place.generation) ≡ place_of job p) → IfTold slots (λ p. t.place ≡ first_place job p)
+    by None told = tt
+    by (Some p) told = λ i. record { slot = (told i).0; generation = (told i).1 }
 
 -- the place is the one that the keeper tells
 pub placed_known : (job : Job) (slots : Option Pair) (t : Target) → IsTargetFor job slots t → IfTold slots (λ p. (t.place.slot, t.place.generation) ≡ place_of job p)

@@ -3,6 +3,7 @@
 ghost use Rattle.std.specs.Prelude.{◌≡◌, ◌+◌, ◌*◌, ◌≤◌, length, IfOk, true};
 ghost use Rattle.audit_model.specs.Run.{total};
 ghost use Rattle.audit_statement.specs.Endings.{IsOpening, saves};
+ghost use Rattle.audit_statement.specs.Due.{LetsSavesOf};
 ghost use Rattle.audit_laws.specs.Calls.{Finishes};
 ghost use Rattle.audit_input.specs.Opening.{IsTargetFor};
 ghost use Rattle.audit_walks.specs.Means.{IsBench};
@@ -118,6 +119,7 @@ pub fn finish_saved<
     requires placed { IsTargetFor job.now (C.state keeper).slots means.target }
     requires opened { IsOpening job.now (C.state keeper).slots means.ready.book.outcomes }
     requires means { IsSavedMeansFor job.now means }
+    requires lets { LetsSavesOf C.lets job.now (C.state keeper) }
     ensures { Finishes job.now (K.state out.old) (K.state out.new)
         (C.state keeper) (C.state result.1) result.0 }
 {

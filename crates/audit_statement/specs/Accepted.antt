@@ -7,7 +7,7 @@ use Rattle.audit_model.specs.declared.fault.WordFault.{WordFault}
 use Rattle.audit_model.specs.declared.origin.Origin.{Origin}
 use Rattle.audit_model.specs.declared.setting.Columns.{Columns}
 use Rattle.audit_model.specs.declared.setting.Command.{Command}
-use Rattle.audit_model.specs.declared.setting.Command.TheVariants.{Check, Run, Make, Plans}
+use Rattle.audit_model.specs.declared.setting.Command.TheVariants.{Check, Run, Make, Plans, Trace}
 use Rattle.audit_model.specs.declared.setting.Setting.{Setting}
 use Rattle.audit_model.specs.Job.{Job}
 use Rattle.audit_model.specs.JobOf.{job_of}
@@ -30,6 +30,7 @@ input_by Check setting left = left
 input_by Run setting left = left
 input_by Make setting left = Some (grid setting.size setting.key)
 input_by Plans setting left = left
+input_by Trace setting left = left
 
 -- the same for the command of a setting
 abbrev pub input_of : Setting → Option (List ℕ) → Option (List ℕ)

@@ -6,7 +6,7 @@ use Rattle.audit_model.specs.declared.fault.WordFault.{WordFault}
 use Rattle.audit_model.specs.declared.outcome.Outcome.{Outcome}
 use Rattle.audit_model.specs.declared.setting.Columns.{Columns}
 use Rattle.audit_model.specs.declared.setting.Command.{Command}
-use Rattle.audit_model.specs.declared.setting.Command.TheVariants.{Check, Run, Make, Plans}
+use Rattle.audit_model.specs.declared.setting.Command.TheVariants.{Check, Run, Make, Plans, Trace}
 use Rattle.audit_model.specs.declared.setting.Setting.{Setting}
 use Rattle.audit_model.specs.Job.{Job}
 use Rattle.audit_model.specs.JobOf.{IsJob}
@@ -20,6 +20,7 @@ use Rattle.audit_statement.specs.InOrder.{AreSavesOf, failed_of, moved, saves_of
 use Rattle.audit_statement.specs.Draw.{draw}
 use Rattle.audit_statement.specs.Note.{Ending, bad_words, too_many_bytes, bad_graph, bad_regions, bad_table, bad_plan, bad_plan_named, no_memory, read_fault, write_fault, load_fault, folder_taken, stopped, damaged, other_job, save_fault, note}
 use Rattle.audit_statement.specs.Report.{full_report, check_text}
+use Rattle.audit_statement.specs.Trace.{trace_text}
 use Rattle.audit_statement.specs.Slots.{Slot, other, ours, slot_of, opening, newest, save_place, slot_at}
 use Rattle.audit_statement.specs.Words.{setting_of}
 use Rattle.audit_model.specs.Faults.{Rose}
@@ -39,13 +40,15 @@ is_reading Check = true
 is_reading Run = true
 is_reading Make = false
 is_reading Plans = true
+is_reading Trace = true
 
--- the command walks
+-- whether the command walks the trajectories that are left to it; a trace walks a range of them, and keeps no outcome
 abbrev pub is_walking : Command → Bool
 is_walking Check = false
 is_walking Run = true
 is_walking Make = true
 is_walking Plans = true
+is_walking Trace = false
 
 -- a run of this setting saves, and loads
 abbrev pub saves : Setting → Bool
@@ -143,6 +146,8 @@ WritesText Check whole job before after = Writes whole before.out.bytes after.ou
 WritesText Run whole job before after = WritesReport whole job before after
 WritesText Make whole job before after = WritesReport whole job before after
 WritesText Plans whole job before after = WritesReport whole job before after
+WritesText Trace whole job before after =
+    Writes whole before.out.bytes after.out.bytes (trace_text job (draw job.setting.key) job.setting.first_id job.setting.last_id job.setting.thin)
 
 -- work is left, and nothing was written
 pub record StopsEarly (job : Job) (before after : World) : Type 0 where

@@ -2,11 +2,12 @@
 use Rattle.std.specs.Prelude.{◌≡◌, ℕ, List, IsTrue, IsFalse, Some}
 use Rattle.std.specs.Io.KnownBytes.{Appends}
 use Rattle.audit_model.specs.declared.outcome.Outcome.{Outcome}
-use Rattle.audit_model.specs.declared.setting.Command.TheVariants.{Check}
+use Rattle.audit_model.specs.declared.setting.Command.TheVariants.{Check, Trace}
 use Rattle.audit_model.specs.Job.{Job}
 use Rattle.audit_model.specs.Run.{IsRight}
 use Rattle.audit_statement.specs.Draw.{draw}
 use Rattle.audit_statement.specs.Report.{full_report, thread_report, check_text}
+use Rattle.audit_statement.specs.Trace.{trace_text}
 use Rattle.audit_statement.specs.Causes.{IsTheJob}
 use Rattle.audit_statement.specs.Endings.{is_walking, TellsOpening, leaves_work, full_of}
 use Rattle.audit_statement.specs.World.{World}
@@ -21,10 +22,12 @@ pub record StartsWith (words : List (List ℕ)) (before : World) (job : Job) (ou
   pub walking : IsTrue (is_walking job.setting.command)
   pub opened : TellsOpening job before.keeper.slots (Some outcomes)
 
--- a check writes its text; a run writes the report on the opening and on what the opening lacks, and where the opening is right,
+-- a check writes its text; a trace writes the text of its range; a run writes the report on the opening and on what the opening lacks, and where the opening is right,
 -- that is the report that one thread gives; a failed save changes nothing of it
 pub record WritesWhole (words : List (List ℕ)) (before after : World) (status : ℕ) : Type 0 where
   pub check : (job : Job) → IsTheJob words before job → job.setting.command ≡ Check → status ≡ 0 → Appends before.out.bytes after.out.bytes (check_text job)
+  pub trace : (job : Job) → IsTheJob words before job → job.setting.command ≡ Trace → status ≡ 0
+      → Appends before.out.bytes after.out.bytes (trace_text job (draw job.setting.key) job.setting.first_id job.setting.last_id job.setting.thin)
   pub run : (job : Job) (outcomes : List Outcome) → StartsWith words before job outcomes → status ≡ 0
       → Appends before.out.bytes after.out.bytes (full_report job (draw job.setting.key) (full_of job outcomes))
   pub one_thread : (job : Job) (outcomes : List Outcome) → StartsWith words before job outcomes → IsRight job (draw job.setting.key) outcomes → status ≡ 0

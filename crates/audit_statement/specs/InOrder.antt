@@ -1,5 +1,5 @@
 -- Exactly which saves a run tries, by the order in which the outcomes of its ids were taken in.
-use Rattle.std.specs.Prelude.{◌≡◌, ℕ, suc, ◌+◌, ◌*◌, ◌/◌, ◌%◌, ◌==◌, ◌&&◌, Bool, false, cond, List, [], ◌∷◌, ◌++◌, length, map, take, ⊤, IsPermutation, zero, ◌-◌, ◌||◌, not, count_by}
+use Rattle.std.specs.Prelude.{◌≡◌, ℕ, suc, ◌+◌, ◌*◌, ◌/◌, ◌%◌, ◌≤◌, ◌==◌, ◌&&◌, Bool, false, cond, List, [], ◌∷◌, ◌++◌, length, map, take, ⊤, IsPermutation, zero, ◌-◌, ◌||◌, not, count_by}
 use Rattle.audit_model.specs.Tries.{Try}
 use Rattle.audit_model.specs.declared.outcome.Outcome.{Outcome}
 use Rattle.audit_model.specs.Job.{Job}
@@ -68,3 +68,14 @@ count_of_tries every ids tries =
 pub record AreSavesOf (job : Job) (opening : List Outcome) (every : ℕ) (place : Place) (walked : List ℕ) (tries : List Try) : Type 0 where
   pub each : AreSavesFrom job opening every walked 1 place tries
   pub counted : length tries ≡ count_of_tries every (length walked) tries
+
+-- the first of these saves: all of them, or fewer
+pub record AreFirstSavesOf (job : Job) (opening : List Outcome) (every : ℕ) (place : Place) (walked : List ℕ) (tries : List Try) : Type 0 where
+  pub each : AreSavesFrom job opening every walked 1 place tries
+  pub few : length tries ≤ count_of_tries every (length walked) tries
+
+-- the saves so far of a run that takes in these ids, each once, in any order
+pub record AreSavesSoFar (job : Job) (opening : List Outcome) (every : ℕ) (place : Place) (ids : List ℕ) (tries : List Try) : Type 0 where
+  pub walked : List ℕ
+  pub all_walked : IsPermutation walked ids
+  pub first : AreFirstSavesOf job opening every place walked tries

@@ -1,9 +1,11 @@
 pub mod Accepted
+pub mod Along
 pub mod Audited
 pub mod Causes
 pub mod Chain
 pub mod Checkpoint
 pub mod Draw
+pub mod Due
 pub mod Early
 pub mod Endings
 pub mod Given
@@ -29,6 +31,7 @@ pub mod Slots
 pub mod Status
 pub mod Sure
 pub mod Table
+pub mod Trace
 pub mod Valid
 pub mod Visits
 pub mod Whole

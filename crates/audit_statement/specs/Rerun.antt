@@ -1,5 +1,5 @@
 -- Runs of one job, and chains of them over the same slots.
-use Rattle.std.specs.Prelude.{◌≡◌, ℕ, Bool, IsTrue, IsFalse, List, [], ◌∷◌, ⊤, Option, Some}
+use Rattle.std.specs.Prelude.{◌≡◌, ◌⊎◌, ℕ, Bool, IsTrue, IsFalse, List, [], ◌∷◌, ⊤, Option, Some}
 use Rattle.std.specs.Io.KnownBytes.{Appends}
 use Rattle.audit_model.specs.Faults.{Rose}
 use Rattle.audit_model.specs.Pair.{Pair}
@@ -8,7 +8,7 @@ use Rattle.audit_model.specs.declared.origin.Origin.{Origin}
 use Rattle.audit_model.specs.declared.outcome.Outcome.{Outcome}
 use Rattle.audit_model.specs.declared.setting.Command.{Command}
 use Rattle.audit_model.specs.Job.{Job}
-use Rattle.audit_model.specs.Run.{fits}
+use Rattle.audit_model.specs.Run.{fits, run_ids}
 use Rattle.audit_model.specs.Serially.{serial_of}
 use Rattle.audit_model.specs.Stopping.{stops_of}
 use Rattle.audit_model.specs.Trajectory.{Draws, outcome, sequence, whole}
@@ -19,7 +19,8 @@ use Rattle.audit_statement.specs.Draw.{draw}
 use Rattle.audit_statement.specs.Report.{report, thread_report}
 use Rattle.audit_statement.specs.Causes.{IsTheJob}
 use Rattle.audit_statement.specs.Chain.{AreHonestOf, TriedRightly, TriesOver}
-use Rattle.audit_statement.specs.Endings.{is_walking, leaves_work}
+use Rattle.audit_statement.specs.Endings.{first_place, is_walking, leaves_work, opening_from}
+use Rattle.audit_statement.specs.InOrder.{AreSavesSoFar}
 use Rattle.audit_statement.specs.Headline.{StartsWith}
 use Rattle.audit_statement.specs.Promise.{KeepsItsPromise}
 use Rattle.audit_model.specs.State.{Stream}
@@ -31,7 +32,7 @@ asking job shift serial origin = record job { setting = record job.setting { shi
 
 -- How a job is run: by which command, as `run` of one plan in place of `plans` of several; by how many workers; how many trajectories it walks at most;
 -- after how many it saves, and whether it resumes; whether it asks for bins and for the serial test; into how many parts the trajectories are
--- divided, of which it walks which; and whether it asks for its origin, and which that is.
+-- divided, of which it walks which; of a trace, which range of trajectories it shows, and at which steps; and whether it asks for its origin, and which that is.
 pub record Manner : Type 0 where
   pub command : Command
   pub workers : ℕ
@@ -43,6 +44,9 @@ pub record Manner : Type 0 where
   pub parts : ℕ
   pub part : ℕ
   pub source : Bool
+  pub first_id : ℕ
+  pub last_id : ℕ
+  pub thin : ℕ
   pub origin : Option Origin
 
 -- the same job in another run
@@ -59,6 +63,9 @@ rerun job manner = record job {
     parts = manner.parts;
     part = manner.part;
     source = manner.source;
+    first_id = manner.first_id;
+    last_id = manner.last_id;
+    thin = manner.thin;
   };
   origin = manner.origin;
 }
@@ -128,26 +135,33 @@ pub record IsLink (job : Job) (p : Pair) (l : Link) : Type 0 where
   pub carried : Rose l.before.keeper.save_faults l.after.keeper.save_faults → (t : TriesOver (job_in job l) l.before l.after p l.status over.told over.now)
       → AreCarriedOut IsNotOurs (job_in job l) (job_digest (job_in job l)) p t.tries l.slots
 
--- the run was stopped, when so many of its saves had ended, within the next one or before it, and left these slots
-pub record IsStop (job : Job) (p : Pair) (l : Link) (n : ℕ) (q : Pair) : Type 0 where
-  pub over : IsRunOver job p l
-  pub carried : (t : TriesOver (job_in job l) l.before l.after p l.status over.told over.now)
-      → AreCarriedOut IsNotOurs (job_in job l) (job_digest (job_in job l)) p (stopped_in n t.tries) q
+-- the saves that a run of the job over these slots may have attempted by some moment (Due): none, or the saves so far of a run that starts with the outcomes in these slots, at
+-- their place
+abbrev pub AreTriesSoFar : Job → Pair → List Try → Type 0
+AreTriesSoFar job p tries =
+    (tries ≡ []) ⊎ ((outcomes : List Outcome) × (opening_from job.setting.resume job p ≡ Some outcomes)
+    × AreSavesSoFar job outcomes job.setting.save_every (first_place job p) (run_ids job outcomes job.setting.budget) tries)
 
--- a run as it ended, or one that was stopped when so many of its saves had ended, and the slots that it left
+-- The run was stopped, or never ended. It had attempted these saves, of which the last may have been cut off, and they left these slots. This is required of the keeper alone;
+-- the run need not have been one that ends.
+pub record IsStop (job : Job) (p : Pair) (manner : Manner) (tries : List Try) (q : Pair) : Type 0 where
+  pub so_far : AreTriesSoFar (rerun job manner) p tries
+  pub carried : AreCarriedOut IsNotOurs (rerun job manner) (job_digest (rerun job manner)) p tries q
+
+-- a run that ended, or one that was stopped after these save attempts, and the slots that it left
 pub data Event : Type 0 where
   ran : Link → Event
-  stopped : Link → ℕ → Pair → Event
+  stopped : Manner → List Try → Pair → Event
 
 -- the slots that it left
 abbrev pub slots_after : Event → Pair
 slots_after (ran l) = l.slots
-slots_after (stopped l n q) = q
+slots_after (stopped manner tries q) = q
 
 -- it is a run of the job over these slots, to its end or not
 abbrev pub IsEvent : Job → Pair → Event → Type 0
 IsEvent job p (ran l) = IsLink job p l
-IsEvent job p (stopped l n q) = IsStop job p l n q
+IsEvent job p (stopped manner tries q) = IsStop job p manner tries q
 
 -- runs of the job, of any of its parts, one after the other, each over the slots that the one before left
 abbrev pub IsChain : Job → Pair → List Event → Type 0
@@ -169,7 +183,7 @@ pub record WroteWhereDue (job : Job) (l : Link) : Type 0 where
 -- a run as it ended has written its report, where it was due
 abbrev pub HasWritten : Job → Event → Type 0
 HasWritten job (ran l) = WroteWhereDue job l
-HasWritten job (stopped l n q) = ⊤
+HasWritten job (stopped manner tries q) = ⊤
 
 -- so have all
 abbrev pub AllHaveWritten : Job → List Event → Type 0

@@ -2,17 +2,17 @@
 -- This project's grammar. The definition looks at the whole list; the code reads from left to right.
 use Rattle.std.specs.Prelude.{ℕ, ◌+◌, ◌-◌, ◌*◌, ◌==◌, ◌&&◌, ◌||◌, Bool, true, false, not, cond, nat_le, nat_lt, List, [], ◌∷◌, ◌++◌, length, find, fold, replicate, codes, decimal, bytes_eq, Option, Some, None, is_some, is_none, unwrap_or, option_map, option_and_then, Result, Ok, Err}
 use Rattle.std.specs.Result.{result_ok}
-use Rattle.std.specs.List.{list_any, slice_index_or}
+use Rattle.std.specs.List.{list_any, slice_index_or, before_first, after_first}
 use Rattle.std.specs.Option.{option_or}
 use Rattle.hex.specs.Hex.{decode_sized}
 use Rattle.audit_model.specs.declared.fault.Name.{Name}
-use Rattle.audit_model.specs.declared.fault.Name.TheVariants.{Pop, First, Second, District, Size, Slack, Key, Walks, Steps, Ends, HubSteps, Ask, Workers, Budget, Save, Resume, MaxCut, Shift, Stop, Serial, Region, MaxSplit, Parts, Part, MaxSplits, MaxSplitRegions, Group, GroupOf, GroupDistricts, Source}
+use Rattle.audit_model.specs.declared.fault.Name.TheVariants.{Pop, First, Second, District, Size, Slack, Key, Walks, Steps, Ends, HubSteps, Ask, Workers, Budget, Save, Resume, MaxCut, Shift, Stop, Serial, Region, MaxSplit, Parts, Part, MaxSplits, MaxSplitRegions, Group, GroupOf, GroupDistricts, Source, Ids, Thin}
 use Rattle.audit_model.specs.declared.fault.WordFault.{WordFault}
 use Rattle.audit_model.specs.declared.fault.WordFault.TheVariants.{NoCommand, UnknownCommand, UnknownName, Twice, NoValue, MissingName, BadValue}
 use Rattle.audit_model.specs.declared.setting.Ask.{Ask as AskOf}
 use Rattle.audit_model.specs.declared.setting.Columns.{Columns}
 use Rattle.audit_model.specs.declared.setting.Command.{Command}
-use Rattle.audit_model.specs.declared.setting.Command.TheVariants.{Check, Run, Make, Plans}
+use Rattle.audit_model.specs.declared.setting.Command.TheVariants.{Check, Run, Make, Plans, Trace}
 use Rattle.audit_model.specs.declared.setting.Score.TheVariants.{Seats, MeanMedian, Gap, CutEdges}
 use Rattle.audit_model.specs.declared.setting.Setting.{Setting}
 use Rattle.audit_model.specs.declared.setting.Tail.TheVariants.{Low, High}
@@ -38,6 +38,9 @@ names_of Make = Size ∷ Slack ∷ Key ∷ Walks ∷ Steps ∷ Ends ∷ HubSteps
 names_of Plans =
     Pop ∷ First ∷ Second ∷ District ∷ Slack ∷ Key ∷ Walks ∷ Steps ∷ Ends ∷ HubSteps ∷ Ask ∷ Workers ∷ MaxCut ∷ Shift ∷ Stop ∷ Serial ∷ Region ∷ MaxSplit
     ∷ MaxSplits ∷ MaxSplitRegions ∷ Group ∷ GroupOf ∷ GroupDistricts ∷ Source ∷ []
+names_of Trace =
+    Pop ∷ First ∷ Second ∷ District ∷ Slack ∷ Key ∷ Walks ∷ Steps ∷ Ends ∷ HubSteps ∷ Ask ∷ MaxCut ∷ Region ∷ MaxSplit
+    ∷ MaxSplits ∷ MaxSplitRegions ∷ Group ∷ GroupOf ∷ GroupDistricts ∷ Source ∷ Ids ∷ Thin ∷ []
 
 -- the value of a name that is not given, where it may be left out
 abbrev pub default_of : Name → Option (List ℕ)
@@ -71,6 +74,8 @@ default_of Group = Some []
 default_of GroupOf = Some []
 default_of GroupDistricts = Some (codes "0")
 default_of Source = Some (codes "no")
+default_of Ids = Some (codes "0")
+default_of Thin = Some (codes "1000")
 
 -- ---- values
 
@@ -85,6 +90,14 @@ number_of text = cond (bytes_eq (decimal (digits_value text)) text) (Some (digit
 -- whether the text is a number within these bounds
 abbrev pub is_number : ℕ → ℕ → List ℕ → Bool
 is_number low high text = unwrap_or (option_map (λ n. nat_le low n && nat_le n high) (number_of text)) false
+
+-- the text of the first id of a range: what stands before the first dash, or the whole text
+abbrev pub first_of_range : List ℕ → List ℕ
+first_of_range text = before_first (λ c. c == 45) text
+
+-- the text of the last id of a range: what stands after the first dash, or the whole text if it has none
+abbrev pub last_of_range : List ℕ → List ℕ
+last_of_range text = cond (has text 45) (after_first (λ c. c == 45) text) text
 
 -- the first of these parts with a byte before it
 abbrev pub starts_with_byte : ℕ → List (List ℕ) → List (List ℕ)
@@ -149,7 +162,8 @@ abbrev pub command_of : List ℕ → Option Command
 command_of word =
     cond (bytes_eq word (codes "check")) (Some Check)
     (cond (bytes_eq word (codes "run")) (Some Run)
-    (cond (bytes_eq word (codes "make")) (Some Make) (cond (bytes_eq word (codes "plans")) (Some Plans) None)))
+    (cond (bytes_eq word (codes "make")) (Some Make)
+    (cond (bytes_eq word (codes "plans")) (Some Plans) (cond (bytes_eq word (codes "trace")) (Some Trace) None))))
 
 -- the name of the district column is a line of the report of several plans
 abbrev pub is_one_line : Command → List ℕ → Bool
@@ -157,6 +171,7 @@ is_one_line Check text = true
 is_one_line Run text = true
 is_one_line Make text = true
 is_one_line Plans text = not (has text 10)
+is_one_line Trace text = true
 
 -- the column of those among whom a group may be a majority: that which is named, or the population's; and none where there is no group
 abbrev pub whole_column : List ℕ → List ℕ → List ℕ → List ℕ
@@ -254,6 +269,20 @@ module _ (command : Command) (words : List NameAndValue) where
   abbrev pub saves_parts : Bool
   saves_parts = (number_named Parts == 1) || nat_le 1 (number_named Save)
 
+  -- the first id of the range that a trace shows
+  abbrev pub first_id : ℕ
+  first_id = unwrap_or (number_of (first_of_range (text_of Ids))) 0
+
+  -- the last id of that range
+  abbrev pub last_id : ℕ
+  last_id = unwrap_or (number_of (last_of_range (text_of Ids))) 0
+
+  -- both are numbers, the first is not above the last, and the last is the id of a trajectory
+  abbrev pub has_ids : Bool
+  has_ids =
+      is_number 0 most_trajectories (first_of_range (text_of Ids)) && is_number 0 most_trajectories (last_of_range (text_of Ids))
+      && nat_le first_id last_id && nat_lt last_id (number_named Walks + number_named Ends)
+
   -- whether the value of a name is one that it may have
   abbrev pub is_good : Name → Bool
   is_good Pop = true
@@ -286,6 +315,8 @@ module _ (command : Command) (words : List NameAndValue) where
   is_good GroupOf = has_group_of
   is_good GroupDistricts = is_number 0 most_districts (text_of GroupDistricts) && has_majority_group
   is_good Source = is_yes_or_no Source
+  is_good Ids = has_ids
+  is_good Thin = is_number 1 most_steps (text_of Thin)
 
   -- the first fault, in the order of the refusals
   abbrev pub fault_of : Option WordFault
@@ -335,6 +366,9 @@ module _ (command : Command) (words : List NameAndValue) where
     max_split_regions = number_named MaxSplitRegions;
     group_districts = number_named GroupDistricts;
     source = is_yes Source;
+    first_id = 0;
+    last_id = 0;
+    thin = 1;
   }
 
 -- with what a command fixes
@@ -366,6 +400,9 @@ setting_for Check words = record {
   max_split_regions = number_named Check words MaxSplitRegions;
   group_districts = number_named Check words GroupDistricts;
   source = is_yes Check words Source;
+  first_id = 0;
+  last_id = 0;
+  thin = 1;
 }
 setting_for Run words = as_run Run words
 setting_for Make words = record (as_run Make words) {
@@ -386,6 +423,11 @@ setting_for Make words = record (as_run Make words) {
   source = false;
 }
 setting_for Plans words = as_run Plans words
+setting_for Trace words = record (as_run Trace words) {
+  first_id = first_id Trace words;
+  last_id = last_id Trace words;
+  thin = number_named Trace words Thin;
+}
 
 -- the setting, where there is no fault
 abbrev pub setting_or : Command → List NameAndValue → Option WordFault → Result Setting WordFault

@@ -7,15 +7,16 @@ use Rattle.std.specs.Result.{result_ok}
 use Rattle.hex.specs.Hex.{decode_sized}
 use Rattle.hex.proofs.HexLemmas.{decode_sized-ok, decode_sized-twice, decode_of-ok}
 use Rattle.audit_model.specs.Limits.{HasPart, IsSetting, IsSettingOf, IsRunSetting}
-use Rattle.audit_model.specs.declared.fault.Name.TheVariants.{Slack, Key, Walks, Steps, Ends, HubSteps, Ask, Workers, MaxCut, Parts, Part, Save}
+use Rattle.audit_model.specs.declared.fault.Name.TheVariants.{Slack, Key, Walks, Steps, Ends, HubSteps, Ask, Workers, MaxCut, Parts, Part, Save, Thin}
 use Rattle.audit_model.specs.declared.setting.Ask.{Ask as AskOf}
 use Rattle.audit_model.specs.declared.setting.Command.{Command}
-use Rattle.audit_model.specs.declared.setting.Command.TheVariants.{Check, Run, Make, Plans}
+use Rattle.audit_model.specs.declared.setting.Command.TheVariants.{Check, Run, Make, Plans, Trace}
 use Rattle.audit_statement.specs.Words.{NameAndValue, are_asks, as_run, asks_of, has_walks, is_number, number_named, parts_between, saves_parts, setting_for, text_of}
 use Rattle.audit_words.specs.Judged.{AreGood, AreReadable}
 use Rattle.audit_words.proofs.Asking.{length-asks_of, AllPairs-asks_of}
 use Rattle.audit_words.proofs.Goodness.{AreBounded, AreBounded-good, asks_of-some, number-bounds}
 use Rattle.audit_words.proofs.Parting.{parts_between-some}
+use Rattle.audit_words.proofs.Ranges.{good_range}
 
 -- a result that tests as a success is one
 value_of_ok : {A E : Type 0} (r : Result A E) → is_some (result_ok r) ≡ true → (x : A) × (r ≡ Ok x)
@@ -158,3 +159,39 @@ IsSetting-good Make words good = record {
   command = IsRunSetting-made words (IsRunSetting-good Make words good.0);
 }
 IsSetting-good Plans words good = IsSetting-run Plans words good.0 (AreBounded-good words good.1) (IsRunSetting-good Plans words good.0)
+IsSetting-good Trace words good =
+    let bounds = AreBounded-good words good.1 in
+    let run = IsRunSetting-good Trace words good.0 in
+    let part = HasPart-good Trace words good.0 in
+    let range = good_range words good.2 in
+    let thin = number-bounds 1 1000000000 (text_of Check words Thin) good.3 in
+    record {
+      slack = (number-bounds 0 10000 (text_of Check words Slack) good.0.slack).1;
+      key = length-key (text_of Check words Key) good.0.key;
+      max_cut = (number-bounds 0 400000 (text_of Check words MaxCut) good.0.max_cut).1;
+      some_splits = bounds.max_split.0;
+      few_splits = bounds.max_split.1;
+      few_in_all = bounds.max_splits;
+      few_split_regions = bounds.max_split_regions;
+      few_group_districts = bounds.group_districts;
+      part = record { some = part.some; few = part.few; one_of = part.one_of; saves = part.saves };
+      command = record {
+        run = record {
+          some = run.some;
+          few = run.few;
+          some_steps = run.some_steps;
+          few_steps = run.few_steps;
+          some_hub_steps = run.some_hub_steps;
+          few_hub_steps = run.few_hub_steps;
+          some_asks = run.some_asks;
+          few_asks = run.few_asks;
+          apart = run.apart;
+          some_workers = run.some_workers;
+          few_workers = run.few_workers;
+        };
+        in_order = range.in_order;
+        within = range.within;
+        some_thin = thin.0;
+        few_thin = thin.1;
+      };
+    }

@@ -7,12 +7,12 @@ use Rattle.audit_model.specs.declared.fault.Name.{Name}
 use Rattle.audit_model.specs.declared.fault.Name.TheVariants.{Pop, Size, Slack, Key, Walks, Steps, Ends, HubSteps, Ask, Workers, Budget, Save, Resume, MaxCut, Shift, Stop, Serial, Region, MaxSplit, Parts, Part, MaxSplits, MaxSplitRegions, Group, GroupOf, GroupDistricts, Source}
 use Rattle.audit_model.specs.declared.fault.WordFault.TheVariants.{BadValue}
 use Rattle.audit_model.specs.declared.setting.Ask.{Ask as AskOf}
-use Rattle.audit_model.specs.declared.setting.Command.TheVariants.{Check, Run, Make, Plans}
+use Rattle.audit_model.specs.declared.setting.Command.TheVariants.{Check, Run, Make, Plans, Trace}
 use Rattle.audit_model.specs.declared.setting.Command.{Command}
 use Rattle.audit_model.proofs.Options.{some_from}
 use Rattle.audit_statement.specs.Words.{NameAndValue, all_different, are_asks, ask_of, asks_of, command_of, has_majority_group, has_split, has_split_regions, has_splits, is_good, is_number, names_of, number_named, number_of, parts_between, text_of}
 use Rattle.audit_words.specs.Judged.{AreGood, AreGoodLimits, AreReadable, fault_of_pairs, fault_of_values}
-use Rattle.audit_words.proofs.Unnamed.{good_budget, good_part, good_parts, good_resume, good_save}
+use Rattle.audit_words.proofs.Unnamed.{good_budget, good_part, good_parts, good_resume, good_save, good_serial, good_shift, good_stop, good_workers, plans_lack, trace_lacks, trace_lacks_tests}
 use Rattle.audit_words.proofs.Asking.{filter_map-ask_of}
 
 -- a number within bounds
@@ -150,15 +150,15 @@ AreReadable-good word Plans words spells faultless h =
         hub_steps = good 9 (omega arith);
         ask = good 10 (omega arith);
         workers = good 11 (omega arith);
-        budget = good_budget words faultless (good 8 (omega arith));
-        save = good_save words faultless;
-        resume = good_resume words faultless;
+        budget = good_budget Plans words faultless (plans_lack words) (good 8 (omega arith));
+        save = good_save Plans words faultless (plans_lack words);
+        resume = good_resume Plans words faultless (plans_lack words);
         max_cut = good 12 (omega arith);
         shift = good 13 (omega arith);
         stop = good 14 (omega arith);
         serial = good 15 (omega arith);
-        parts = good_parts words faultless;
-        part = good_part words faultless;
+        parts = good_parts Plans words faultless (plans_lack words);
+        part = good_part Plans words faultless (plans_lack words);
       },
       record {
         max_split = good 17 (omega arith);
@@ -166,4 +166,36 @@ AreReadable-good word Plans words spells faultless h =
         max_split_regions = good 19 (omega arith);
         group_districts = good 22 (omega arith);
       },
+    )
+AreReadable-good word Trace words spells faultless h =
+    let good = find-all (is_good Trace words) (names_of Trace) h in
+    let lacks = trace_lacks words in
+    let lacks_tests = trace_lacks_tests words in (
+      record {
+        slack = good 4 (omega arith);
+        key = good 5 (omega arith);
+        walks = good 6 (omega arith);
+        steps = good 7 (omega arith);
+        ends = good 8 (omega arith);
+        hub_steps = good 9 (omega arith);
+        ask = good 10 (omega arith);
+        workers = good_workers Trace words faultless lacks_tests;
+        budget = good_budget Trace words faultless lacks (good 8 (omega arith));
+        save = good_save Trace words faultless lacks;
+        resume = good_resume Trace words faultless lacks;
+        max_cut = good 11 (omega arith);
+        shift = good_shift Trace words faultless lacks_tests;
+        stop = good_stop Trace words faultless lacks_tests;
+        serial = good_serial Trace words faultless lacks_tests;
+        parts = good_parts Trace words faultless lacks;
+        part = good_part Trace words faultless lacks;
+      },
+      record {
+        max_split = good 13 (omega arith);
+        max_splits = good 14 (omega arith);
+        max_split_regions = good 15 (omega arith);
+        group_districts = good 18 (omega arith);
+      },
+      good 20 (omega arith),
+      good 21 (omega arith),
     )

@@ -3,12 +3,12 @@ use Rattle.std.proofs.Common.{◌≡◌, ℕ, zero, suc, ◌<◌, Bool, true, fa
 use Rattle.std.proofs.lemmas.Bool.{and_parts, both_ways, false≢true, not-true, or_cases}
 use Rattle.std.specs.Prelude.{◌&&◌, ◌||◌}
 use Rattle.audit_model.specs.declared.fault.Name.{Name}
-use Rattle.audit_model.specs.declared.fault.Name.TheVariants.{Pop, Walks, Steps, Ends, Budget, Save, Stop, Serial, Parts, Part}
+use Rattle.audit_model.specs.declared.fault.Name.TheVariants.{Pop, Walks, Steps, Ends, Budget, Save, Stop, Serial, Parts, Part, Ids}
 use Rattle.audit_model.specs.declared.setting.Command.{Command}
-use Rattle.audit_model.specs.declared.setting.Command.TheVariants.{Check, Run, Make, Plans}
+use Rattle.audit_model.specs.declared.setting.Command.TheVariants.{Check, Run, Make, Plans, Trace}
 use Rattle.audit_statement.specs.Words.{NameAndValue, is_good, names_of}
 use Rattle.audit_words.specs.Judged.{RestsOnGood, fault_of_pairs}
-use Rattle.audit_words.proofs.Unnamed.{good_save}
+use Rattle.audit_words.proofs.Unnamed.{good_save, plans_lack, trace_lacks}
 
 -- no name of the second kind stands before one of the first
 abbrev leads : (Name → Bool) → (Name → Bool) → List Name → Bool
@@ -49,6 +49,7 @@ is_save _ = false
 abbrev on_walks : Name → Bool
 on_walks Ends = true
 on_walks Budget = true
+on_walks Ids = true
 on_walks _ = false
 
 abbrev on_steps : Name → Bool
@@ -58,6 +59,7 @@ on_steps _ = false
 abbrev on_ends : Name → Bool
 on_ends Budget = true
 on_ends Stop = true
+on_ends Ids = true
 on_ends _ = false
 
 abbrev on_save : Name → Bool
@@ -133,6 +135,7 @@ module _ (command : Command) (words : List NameAndValue) (names : List Name) (k 
   rests saved Serial is = good_steps (ap on_steps is)
   rests saved Parts is = saved (ap on_save is)
   rests saved Part is = good_parts (ap on_parts is)
+  rests saved Ids is = (good_walks (ap on_walks is), good_ends (ap on_ends is))
   rests saved _ is = tt
 
 -- among the names of each command, each stands behind those that its value rests on
@@ -141,6 +144,7 @@ is_ordered Check = record { walks = refl; steps = refl; ends = refl; parts = ref
 is_ordered Run = record { walks = refl; steps = refl; ends = refl; parts = refl }
 is_ordered Make = record { walks = refl; steps = refl; ends = refl; parts = refl }
 is_ordered Plans = record { walks = refl; steps = refl; ends = refl; parts = refl }
+is_ordered Trace = record { walks = refl; steps = refl; ends = refl; parts = refl }
 
 -- where a name rests on how often a run saves, that stands before it, or the command does not take it
 saved_by : (command : Command) (words : List NameAndValue) (k : ℕ) → k < length (names_of command) → fault_of_pairs command words ≡ None
@@ -148,7 +152,8 @@ saved_by : (command : Command) (words : List NameAndValue) (k : ℕ) → k < len
 saved_by Check words k inside faultless below on = saved_before Check words (names_of Check) k inside below (is_ordered Check) refl on
 saved_by Run words k inside faultless below on = saved_before Run words (names_of Run) k inside below (is_ordered Run) refl on
 saved_by Make words k inside faultless below on = saved_before Make words (names_of Make) k inside below (is_ordered Make) refl on
-saved_by Plans words k inside faultless below on = good_save words faultless
+saved_by Plans words k inside faultless below on = good_save Plans words faultless (plans_lack words)
+saved_by Trace words k inside faultless below on = good_save Trace words faultless (trace_lacks words)
 
 -- behind good values a name rests on good ones
 pub RestsOnGood-behind : (command : Command) (words : List NameAndValue) (k : ℕ) → k < length (names_of command) → fault_of_pairs command words ≡ None

@@ -1,17 +1,20 @@
--- Names that the command on several plans does not take have their defaults.
+-- Names that a command does not take have their defaults: those of saving, which the command on several plans and a trace do not take, and those of
+-- workers and of other tests, which a trace does not take.
 use Rattle.std.proofs.Common.{◌≡◌, ◌∙◌, ℕ, suc, ◌+◌, ◌<◌, arith, Bool, true, false, not, cond, List, [], ◌∷◌, length, find, ap, refl, subst, sym, Option, Some, None}
-use Rattle.std.proofs.lemmas.Bool.{and_parts}
+use Rattle.std.proofs.lemmas.Bool.{and_parts, false≢true}
 use Rattle.std.proofs.lemmas.Slice.Eq.{bytes_eq-Decides}
 use Rattle.std.specs.Prelude.{◌&&◌, ◌||◌, ◌==◌, nat_le, nat_lt, unwrap_or, bytes_eq, codes, option_and_then}
 use Rattle.std.specs.Fmt.{digits}
 use Rattle.std.specs.List.{slice_index_or}
 use Rattle.std.specs.Option.{option_or}
 use Rattle.audit_model.specs.declared.fault.Name.{Name}
-use Rattle.audit_model.specs.declared.fault.Name.TheVariants.{Budget, Ends, Save, Resume, Walks, Parts, Part}
-use Rattle.audit_model.specs.declared.setting.Command.TheVariants.{Check, Plans}
+use Rattle.audit_model.specs.declared.fault.Name.TheVariants.{Budget, Ends, Steps, Save, Resume, Walks, Parts, Part, Workers, Shift, Stop, Serial}
+use Rattle.audit_model.specs.declared.setting.Command.{Command}
+use Rattle.audit_model.specs.declared.setting.Command.TheVariants.{Check, Plans, Trace}
 use Rattle.audit_model.specs.Names.{name_text}
+use Rattle.audit_model.specs.Power.{is_power_of_two}
 use Rattle.audit_model.proofs.First.{first_some_below_none}
-use Rattle.audit_statement.specs.Words.{NameAndValue, default_of, has_walks, is_good, is_number, known_fault, name_of, number_named, number_of, word_pair, pair_fault, text_of}
+use Rattle.audit_statement.specs.Words.{NameAndValue, default_of, has_walks, is_good, is_number, is_yes, known_fault, name_of, number_named, number_of, word_pair, pair_fault, text_of}
 use Rattle.audit_words.specs.Judged.{fault_of_pairs}
 
 -- where no pair has the name, none is found
@@ -21,39 +24,84 @@ no_such text [] h = refl
 no_such text (p ∷ ps) h =
     ap (λ b. cond b (Some p) (find (λ (pair : NameAndValue). bytes_eq pair.0 text) ps)) (h 0 (omega arith)) ∙ no_such text ps (λ k l. h (suc k) (omega (arith, l)))
 
-module _ (words : List NameAndValue) (faultless : fault_of_pairs Plans words ≡ None) where
+-- the names of saving
+abbrev pub of_saving : Name → Bool
+of_saving Save = true
+of_saving Resume = true
+of_saving Budget = true
+of_saving Parts = true
+of_saving Part = true
+of_saving _ = false
+
+-- those of workers and of other tests
+abbrev pub of_tests : Name → Bool
+of_tests Workers = true
+of_tests Shift = true
+of_tests Stop = true
+of_tests Serial = true
+of_tests _ = false
+
+-- a command takes none of the names of a kind
+abbrev pub Lacks : Command → List NameAndValue → (Name → Bool) → Type 0
+Lacks command words kind = (name : Name) → kind name ≡ true → name_of command words (name_text name) ≡ None
+
+pub plans_lack : (words : List NameAndValue) → Lacks Plans words of_saving
+plans_lack words Save h = refl
+plans_lack words Resume h = refl
+plans_lack words Budget h = refl
+plans_lack words Parts h = refl
+plans_lack words Part h = refl
+plans_lack words _ h = absurd (false≢true h)
+
+pub trace_lacks : (words : List NameAndValue) → Lacks Trace words of_saving
+trace_lacks words Save h = refl
+trace_lacks words Resume h = refl
+trace_lacks words Budget h = refl
+trace_lacks words Parts h = refl
+trace_lacks words Part h = refl
+trace_lacks words _ h = absurd (false≢true h)
+
+pub trace_lacks_tests : (words : List NameAndValue) → Lacks Trace words of_tests
+trace_lacks_tests words Workers h = refl
+trace_lacks_tests words Shift h = refl
+trace_lacks_tests words Stop h = refl
+trace_lacks_tests words Serial h = refl
+trace_lacks_tests words _ h = absurd (false≢true h)
+
+module _ (command : Command) (words : List NameAndValue) (faultless : fault_of_pairs command words ≡ None) where
   -- a word that spells no name stands in no pair
-  not_there : (text : List ℕ) → name_of Plans words text ≡ None → (k : ℕ) → k < length words → bytes_eq (word_pair Plans words k).0 text ≡ false
-  not_there text unnamed k l = by (bytes_eq (word_pair Plans words k).0 text) refl
+  not_there : (text : List ℕ) → name_of command words text ≡ None → (k : ℕ) → k < length words → bytes_eq (word_pair command words k).0 text ≡ false
+  not_there text unnamed k l = by (bytes_eq (word_pair command words k).0 text) refl
     where
-      by : (b : Bool) → bytes_eq (word_pair Plans words k).0 text ≡ b → bytes_eq (word_pair Plans words k).0 text ≡ false
+      by : (b : Bool) → bytes_eq (word_pair command words k).0 text ≡ b → bytes_eq (word_pair command words k).0 text ≡ false
       by false e = e
       by true e =
-          let same : (word_pair Plans words k).0 ≡ text = (bytes_eq-Decides (word_pair Plans words k).0 text).0 e in
-          let fault : pair_fault Plans words k ≡ known_fault Plans words k None =
-          ap (λ t. known_fault Plans words k (name_of Plans words t)) same ∙ ap (known_fault Plans words k) unnamed in
-          let none = first_some_below_none (length words) (pair_fault Plans words) k faultless l in
-          let impossible : None ≡ known_fault Plans words k None = sym none ∙ fault in cc
+          let same : (word_pair command words k).0 ≡ text = (bytes_eq-Decides (word_pair command words k).0 text).0 e in
+          let fault : pair_fault command words k ≡ known_fault command words k None =
+          ap (λ t. known_fault command words k (name_of command words t)) same ∙ ap (known_fault command words k) unnamed in
+          let none = first_some_below_none (length words) (pair_fault command words) k faultless l in
+          let impossible : None ≡ known_fault command words k None = sym none ∙ fault in cc
 
-  defaulted : (name : Name) → name_of Plans words (name_text name) ≡ None → text_of Check words name ≡ unwrap_or (default_of name) []
+  defaulted : (name : Name) → name_of command words (name_text name) ≡ None → text_of Check words name ≡ unwrap_or (default_of name) []
   defaulted name unnamed =
       ap (λ (found : Option NameAndValue). unwrap_or (option_or (option_and_then (λ pair. pair.1) found) (default_of name)) [])
       (no_such (name_text name) words (not_there (name_text name) unnamed))
 
+module _ (command : Command) (words : List NameAndValue) (faultless : fault_of_pairs command words ≡ None) (lacks : Lacks command words of_saving) where
   pub save_is : text_of Check words Save ≡ codes "0"
-  save_is = defaulted Save refl
+  save_is = defaulted command words faultless Save (lacks Save refl)
 
   pub resume_is : text_of Check words Resume ≡ codes "no"
-  resume_is = defaulted Resume refl
+  resume_is = defaulted command words faultless Resume (lacks Resume refl)
 
   pub budget_is : text_of Check words Budget ≡ codes "100000"
-  budget_is = defaulted Budget refl
+  budget_is = defaulted command words faultless Budget (lacks Budget refl)
 
   pub parts_is : text_of Check words Parts ≡ codes "1"
-  parts_is = defaulted Parts refl
+  parts_is = defaulted command words faultless Parts (lacks Parts refl)
 
   pub part_is : text_of Check words Part ≡ codes "0"
-  part_is = defaulted Part refl
+  part_is = defaulted command words faultless Part (lacks Part refl)
 
   pub good_parts : is_good Check words Parts ≡ true
   unfolding digits
@@ -85,3 +133,29 @@ module _ (words : List NameAndValue) (faultless : fault_of_pairs Plans words ≡
       enough n few =
           subst (λ (budget : List ℕ). (is_number 0 100000 budget && (not (is_number 0 0 (text_of Check words Save)) || nat_le n (unwrap_or (number_of budget) 0))) ≡ true) (sym budget_is)
           (subst (λ (save : List ℕ). (is_number 0 100000 (codes "100000") && (not (is_number 0 0 save) || nat_le n (unwrap_or (number_of (codes "100000")) 0))) ≡ true) (sym save_is) few)
+
+-- so it is with the workers and other tests of a trace
+module _ (command : Command) (words : List NameAndValue) (faultless : fault_of_pairs command words ≡ None) (lacks : Lacks command words of_tests) where
+  pub good_workers : is_good Check words Workers ≡ true
+  unfolding digits
+  good_workers = ap (is_number 1 32) (defaulted command words faultless Workers (lacks Workers refl))
+
+  pub stop_is : text_of Check words Stop ≡ codes "0"
+  stop_is = defaulted command words faultless Stop (lacks Stop refl)
+
+  pub serial_is : text_of Check words Serial ≡ codes "no"
+  serial_is = defaulted command words faultless Serial (lacks Serial refl)
+
+  pub good_shift : is_good Check words Shift ≡ true
+  good_shift = ap (λ t. bytes_eq t (codes "yes") || bytes_eq t (codes "no")) (defaulted command words faultless Shift (lacks Shift refl))
+
+  pub good_stop : is_good Check words Stop ≡ true
+  unfolding digits
+  good_stop =
+      subst (λ (stop : List ℕ). (is_number 0 100000 stop && ((unwrap_or (number_of stop) 0 == 0) || (nat_le 1 (number_named Check words Ends) && (number_named Check words Save == 0) && not (is_yes Check words Resume)))) ≡ true)
+      (sym stop_is) refl
+
+  pub good_serial : is_good Check words Serial ≡ true
+  good_serial =
+      subst (λ (t : List ℕ). ((bytes_eq t (codes "yes") || bytes_eq t (codes "no")) && (not (bytes_eq t (codes "yes")) || is_power_of_two (number_named Check words Steps + 1))) ≡ true)
+      (sym serial_is) refl

@@ -2,11 +2,11 @@
 use Rattle.std.specs.Prelude.{◌≡◌, true, not, is_none, find, List, length, Option, option_map}
 use Rattle.audit_model.specs.First.{first_some_below}
 use Rattle.audit_model.specs.declared.fault.Name.{Name}
-use Rattle.audit_model.specs.declared.fault.Name.TheVariants.{Size, Slack, Key, Walks, Steps, Ends, HubSteps, Ask, Workers, Budget, Save, Resume, MaxCut, Shift, Stop, Serial, MaxSplit, Parts, Part, MaxSplits, MaxSplitRegions, GroupDistricts}
+use Rattle.audit_model.specs.declared.fault.Name.TheVariants.{Size, Slack, Key, Walks, Steps, Ends, HubSteps, Ask, Workers, Budget, Save, Resume, MaxCut, Shift, Stop, Serial, MaxSplit, Parts, Part, MaxSplits, MaxSplitRegions, GroupDistricts, Ids, Thin}
 use Rattle.audit_model.specs.declared.fault.WordFault.{WordFault}
 use Rattle.audit_model.specs.declared.fault.WordFault.TheVariants.{MissingName, BadValue}
 use Rattle.audit_model.specs.declared.setting.Command.{Command}
-use Rattle.audit_model.specs.declared.setting.Command.TheVariants.{Check, Run, Make, Plans}
+use Rattle.audit_model.specs.declared.setting.Command.TheVariants.{Check, Run, Make, Plans, Trace}
 use Rattle.audit_statement.specs.Words.{NameAndValue, pair_fault, given_or_default, is_good, names_of}
 
 -- the fault of the first pair that has one
@@ -29,6 +29,7 @@ RestsOnGood words Stop = (is_good Check words Ends ≡ true) × (is_good Check w
 RestsOnGood words Serial = is_good Check words Steps ≡ true
 RestsOnGood words Parts = is_good Check words Save ≡ true
 RestsOnGood words Part = is_good Check words Parts ≡ true
+RestsOnGood words Ids = (is_good Check words Walks ≡ true) × (is_good Check words Ends ≡ true)
 RestsOnGood words _ = Unit {0}
 
 -- each value that a run on any graph takes, beside the columns, is good
@@ -64,3 +65,4 @@ AreReadable Check words = (is_good Check words Slack ≡ true) × (is_good Check
 AreReadable Run words = AreGood words × AreGoodLimits words
 AreReadable Make words = AreGood words × (is_good Make words Size ≡ true)
 AreReadable Plans words = AreGood words × AreGoodLimits words
+AreReadable Trace words = AreGood words × AreGoodLimits words × (is_good Check words Ids ≡ true) × (is_good Check words Thin ≡ true)

@@ -1,6 +1,6 @@
 //! What the words give for each name, and whether it may be.
 
-ghost use Rattle.std.specs.Prelude.{◌≡◌, ◌+◌, ◌^◌, ◌<◌, ◌==◌, ◌&&◌, ◌||◌, not, nat_le};
+ghost use Rattle.std.specs.Prelude.{◌≡◌, ◌+◌, ◌^◌, ◌<◌, ◌==◌, ◌&&◌, ◌||◌, not, nat_le, nat_lt, unwrap_or};
 ghost use Rattle.audit_model.specs.Limits.{most_trajectories};
 ghost use Rattle.audit_model.specs.Power.{is_power_of_two};
 ghost use Rattle.audit_model.specs.declared.fault.Name.TheVariants as name;
@@ -11,7 +11,7 @@ ghost use Rattle.audit_statement.specs.Words as definition;
 
 use crate::asks::are_asks;
 use crate::pairs::text_of;
-use crate::values::{is_answer, is_number, is_one_line, key_of, number_within};
+use crate::values::{is_answer, is_number, is_one_line, key_of, number_in, range_of};
 use audit_model::fault::Name;
 use audit_model::setting::Command;
 
@@ -19,7 +19,7 @@ use audit_model::setting::Command;
 pub fn number_at(words: &[String], name: Name) -> u32
     ensures { definition.number_named command.Check (pairs_in words.now) name < 2 ^ 32 → result ≡ definition.number_named command.Check (pairs_in words.now) name }
 {
-    number_within(0, u32::MAX, text_of(words, name)).unwrap_or(0)
+    number_in(text_of(words, name))
 }
 
 /// Whether some trajectory is asked for, and not too many.
@@ -78,6 +78,25 @@ fn saves_parts(parts: u32, save: u32) -> bool
     ensures { result ≡ ((parts == 1) || nat_le 1 save) }
 {
     parts == 1 || 1 <= save
+}
+
+/// Whether the first id is not above the last, and the last is the id of a trajectory.
+fn are_ids(first: u32, last: u32, walks: u32, ends: u32) -> bool
+    ensures { result ≡ (nat_le first last && nat_lt last (walks + ends)) }
+{
+    first <= last && u64::from(last) < u64::from(walks) + u64::from(ends)
+}
+
+/// Whether the text is an id or a range of ids of the trajectories.
+fn is_range(text: &str, walks: u32, ends: u32) -> bool
+    ensures { result ≡ (definition.is_number 0 100000 (definition.first_of_range text.now) && definition.is_number 0 100000 (definition.last_of_range text.now)
+        && nat_le (unwrap_or (definition.number_of (definition.first_of_range text.now)) 0) (unwrap_or (definition.number_of (definition.last_of_range text.now)) 0)
+        && nat_lt (unwrap_or (definition.number_of (definition.last_of_range text.now)) 0) (walks + ends)) }
+{
+    let (first, last) = range_of(text);
+    is_number(0, 100_000, first)
+        && is_number(0, 100_000, last)
+        && are_ids(number_in(first), number_in(last), walks, ends)
 }
 
 /// Whether the value of a name, given or by default, is one that it may have.
@@ -142,5 +161,13 @@ pub fn is_good(command: Command, words: &[String], name: Name) -> bool
         Name::GroupDistricts => {
             is_number(0, 200, text) && is_set_for(words, name, 0, Name::Group)
         }
+        Name::Ids => {
+            is_range(
+                text,
+                number_at(words, Name::Walks),
+                number_at(words, Name::Ends),
+            )
+        }
+        Name::Thin => is_number(1, 1_000_000_000, text),
     }
 }

@@ -103,6 +103,31 @@ const OF_PLANS: [Name; 24] = [
     Name::Source,
 ];
 
+const OF_TRACE: [Name; 22] = [
+    Name::Pop,
+    Name::First,
+    Name::Second,
+    Name::District,
+    Name::Slack,
+    Name::Key,
+    Name::Walks,
+    Name::Steps,
+    Name::Ends,
+    Name::HubSteps,
+    Name::Ask,
+    Name::MaxCut,
+    Name::Region,
+    Name::MaxSplit,
+    Name::MaxSplits,
+    Name::MaxSplitRegions,
+    Name::Group,
+    Name::GroupOf,
+    Name::GroupDistricts,
+    Name::Source,
+    Name::Ids,
+    Name::Thin,
+];
+
 /// The value of a name that is not given, where the name may be left out.
 pub fn default_of(name: Name) -> Option<&'static str>
     ensures { option_map (λ s. s.now) result ≡ definition.default_of name }
@@ -110,9 +135,10 @@ pub fn default_of(name: Name) -> Option<&'static str>
     match name {
         Name::Slack => Some("500"),
         Name::Walks | Name::Workers | Name::Parts => Some("1"),
-        Name::Steps | Name::HubSteps => Some("1000"),
+        Name::Steps | Name::HubSteps | Name::Thin => Some("1000"),
         Name::Budget => Some("100000"),
-        Name::Ends | Name::Save | Name::Stop | Name::Part | Name::GroupDistricts => Some("0"),
+        Name::Ends | Name::Save | Name::Stop => Some("0"),
+        Name::Part | Name::GroupDistricts | Name::Ids => Some("0"),
         Name::Resume | Name::Shift | Name::Serial | Name::Source => Some("no"),
         Name::MaxCut => Some("400000"),
         Name::Region | Name::Group | Name::GroupOf => Some(""),
@@ -133,6 +159,7 @@ pub fn names_of(command: Command) -> &'static [Name]
         Command::Run => &OF_RUN,
         Command::Make => &OF_MAKE,
         Command::Plans => &OF_PLANS,
+        Command::Trace => &OF_TRACE,
     }
 }
 
@@ -148,6 +175,8 @@ pub fn command_of(word: &str) -> Option<Command>
         Some(Command::Make)
     } else if word == "plans" {
         Some(Command::Plans)
+    } else if word == "trace" {
+        Some(Command::Trace)
     } else {
         None
     }

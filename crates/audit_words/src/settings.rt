@@ -10,7 +10,7 @@ ghost use Rattle.audit_statement.specs.Words as definition;
 use crate::asks::asks_of;
 use crate::fields::number_at;
 use crate::pairs::text_of;
-use crate::values::key_of;
+use crate::values::{key_of, number_in, range_of};
 use audit_model::fault::Name;
 use audit_model::lists::AskList;
 use audit_model::memory::Memory;
@@ -129,6 +129,9 @@ fn check_setting(alloc: Global, words: &[String]) -> Result<Setting, Memory>
         max_split_regions: limits.max_split_regions,
         group_districts: limits.group_districts,
         source: text_of(words, Name::Source) == "yes",
+        first_id: 0,
+        last_id: 0,
+        thin: 1,
     })
 }
 
@@ -180,6 +183,9 @@ fn run_setting(
         max_split_regions: ground.limits.max_split_regions,
         group_districts: ground.limits.group_districts,
         source: ground.source,
+        first_id: 0,
+        last_id: 0,
+        thin: 1,
     })
 }
 
@@ -197,6 +203,27 @@ fn read_setting(alloc: Global, command: Command, words: &[String]) -> Result<Set
         source: text_of(words, Name::Source) == "yes",
     };
     run_setting(alloc, command, words, ground)
+}
+
+/// The setting of a trace.
+fn trace_setting(alloc: Global, words: &[String]) -> Result<Setting, Memory>
+    requires run { AreGood (pairs_in words.now) }
+    requires limits { AreGoodLimits (pairs_in words.now) }
+    requires ids { definition.is_good command.Check (pairs_in words.now) name.Ids ≡ true }
+    requires thin { definition.is_good command.Check (pairs_in words.now) name.Thin ≡ true }
+    ensures { IfOk result (λ setting. setting ≡ definition.setting_for command.Trace (pairs_in words.now)) }
+{
+    let (first, last) = range_of(text_of(words, Name::Ids));
+    let first_id = number_in(first);
+    let last_id = number_in(last);
+    let thin = number_at(words, Name::Thin);
+    let setting = read_setting(alloc, Command::Trace, words)?;
+    Ok(Setting {
+        first_id,
+        last_id,
+        thin,
+        ..setting
+    })
 }
 
 /// The setting of a run on a grid that is made, which has no regions, no group and no source.
@@ -229,5 +256,6 @@ pub fn setting_for(alloc: Global, command: Command, words: &[String]) -> Result<
         Command::Check => check_setting(alloc, words),
         Command::Run | Command::Plans => read_setting(alloc, command, words),
         Command::Make => made_setting(alloc, words),
+        Command::Trace => trace_setting(alloc, words),
     }
 }

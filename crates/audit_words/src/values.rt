@@ -1,6 +1,6 @@
 //! The values that a name may have.
 
-ghost use Rattle.std.specs.Prelude.{◌≡◌, ◌||◌, None, cond, codes, bytes_eq};
+ghost use Rattle.std.specs.Prelude.{◌≡◌, ◌||◌, ◌<◌, ◌^◌, None, cond, codes, bytes_eq, unwrap_or};
 ghost use Rattle.std.specs.Result.{result_ok};
 ghost use Rattle.hex.specs.Hex.{decode_sized};
 ghost use Rattle.audit_statement.specs.Words as definition;
@@ -29,6 +29,24 @@ pub fn is_number(low: u32, high: u32, text: &str) -> bool
     number_within(low, high, text).is_some()
 }
 
+/// The number that the text is, or 0 if it is none that fits.
+pub fn number_in(text: &str) -> u32
+    ensures { unwrap_or (definition.number_of text.now) 0 < 2 ^ 32 → result ≡ unwrap_or (definition.number_of text.now) 0 }
+{
+    number_within(0, u32::MAX, text).unwrap_or(0)
+}
+
+/// Splits a range `A-B` into its two texts. A text without a dash is both.
+pub fn range_of(text: &str) -> (&str, &str)
+    ensures first { result.0.now ≡ definition.first_of_range text.now }
+    ensures last { result.1.now ≡ definition.last_of_range text.now }
+{
+    match text.split_once('-') {
+        Some((first, last)) => (first, last),
+        None => (text, text),
+    }
+}
+
 /// The key, where the text is 64 hexadecimal digits.
 pub fn key_of(text: &str) -> Option<[u8; 32]>
     ensures { result ≡ result_ok (decode_sized text.now 32) }
@@ -48,7 +66,7 @@ pub fn is_one_line(command: Command, text: &str) -> bool
     ensures { result ≡ definition.is_one_line command text.now }
 {
     match command {
-        Command::Check | Command::Run | Command::Make => true,
+        Command::Check | Command::Run | Command::Make | Command::Trace => true,
         Command::Plans => !text.as_bytes().contains(&b'\n'),
     }
 }

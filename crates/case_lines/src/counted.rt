@@ -144,6 +144,8 @@ ghost use Rattle.std.specs.Prelude.{◌≡◌};
 impl<K: Keeper> Keeper for CountedKeeper<K> {
     ghost state = { λ k. K.state k.inner };
 
+    ghost lets = { λ k slot bytes. K.lets k slot bytes };
+
     fn load(&mut self, slot: u8, limit: u64, room: &mut Bytes) -> Result<bool, LoadError> {
         self.inner.load(slot, limit, room)
     }

@@ -1,6 +1,7 @@
 //! The outside that never fails, and slots in real files.
 
-ghost use Rattle.std.specs.Prelude.{◌<◌, length};
+ghost use Rattle.std.specs.Prelude.{ℕ, List, ◌<◌, length};
+ghost use Rattle.audit_model.specs.State.{Kept};
 
 use audit_io::file_keeper::FileKeeper;
 use audit_io::keeper::Keeper;
@@ -46,15 +47,19 @@ fn show_slot<C: Keeper>(
     }
 }
 
-// Saves in both slots, and in the first once more.
-fn show_saves<C: Keeper>(rt: &HostRuntime, keeper: &mut C) -> io::Result<()> {
+// Saves in both slots of a keeper that permits each save, and in the first once more.
+fn show_saves<C: Keeper>(rt: &HostRuntime, keeper: &mut C) -> io::Result<()>
+    requires { (kept : Kept) (slot : ℕ) (bytes : List ℕ) → C.lets kept slot bytes }
+{
     let saved = keeper.save(1, &[7; 9000]).is_ok() && keeper.save(0, b"longer").is_ok();
     let again = keeper.save(0, b"first").is_ok();
     println!(rt; "saved {saved} {again}")
 }
 
 // Saves in both slots, of which the first is shown before, too.
-fn show_keeper<C: Keeper>(rt: &HostRuntime, keeper: &mut C, room: &mut Bytes) -> io::Result<()> {
+fn show_keeper<C: Keeper>(rt: &HostRuntime, keeper: &mut C, room: &mut Bytes) -> io::Result<()>
+    requires { (kept : Kept) (slot : ℕ) (bytes : List ℕ) → C.lets kept slot bytes }
+{
     show_slot(rt, keeper, 0, room)?;
     show_saves(rt, keeper)?;
     show_slot(rt, keeper, 0, room)?;

@@ -1,26 +1,28 @@
 -- One folder more.
 use Rattle.std.proofs.Common.{◌≡◌, ℕ, suc, ◌+◌, ◌<◌, List, [], ◌∷◌, ◌++◌, length, map, take, drop, get_or, set, Option, refl, sym, ap, ◌∙◌, subst, arith, take-suc}
 use Rattle.std.proofs.Math.Seq.{drop-cons}
-use Rattle.std.proofs.lemmas.List.{drop-set-lt, map-append}
-use Rattle.audit_model.specs.Pair.{Pair}
-use Rattle.audit_model.specs.declared.outcome.Outcome.{Outcome}
+use Rattle.std.proofs.lemmas.List.{drop-set-lt, map-append, take_more_set}
+use Rattle.audit_model.specs.State.{Kept}
+use Rattle.ckpt_store.specs.Collected.{Collected}
 use Rattle.audit_model.specs.Job.{Job}
 use Rattle.ckpt_store.specs.declared.finding.Finding.{Finding}
 use Rattle.ckpt_store.specs.Findings.{AreFound, IsFound}
 
 -- one folder more
-pub found_more : (job : Job) (digest : List ℕ) (folders : List (Option Pair)) (told : Option Pair) (before between after : List Outcome) (findings : List Finding) (what : Finding)
-    → AreFound job digest folders before findings between → IsFound job digest told between what after
-    → AreFound job digest (folders ++ told ∷ []) before (findings ++ what ∷ []) after
-found_more job digest [] told before between after [] what e found = (after, subst (λ (os : List Outcome). IsFound job digest told os what after) e found, refl)
-found_more job digest [] told before between after (f ∷ findings) what e found = absurd e
-found_more job digest (t ∷ folders) told before between after [] what e found = absurd e
-found_more job digest (t ∷ folders) told before between after (f ∷ findings) what e found =
-    (e.0, e.1, found_more job digest folders told e.0 between after findings what e.2 found)
+pub found_more : (job : Job) (digest : List ℕ) (folders folders_now : List Kept) (folder folder_now : Kept) (before between after : Collected) (findings : List Finding) (what : Finding)
+    → AreFound job digest folders folders_now before findings between → IsFound job digest folder folder_now between what after
+    → AreFound job digest (folders ++ folder ∷ []) (folders_now ++ folder_now ∷ []) before (findings ++ what ∷ []) after
+found_more job digest [] [] folder folder_now before between after [] what e found = (after, subst (λ (os : Collected). IsFound job digest folder folder_now os what after) e found, refl)
+found_more job digest [] [] folder folder_now before between after (f ∷ findings) what e found = absurd e
+found_more job digest [] (l ∷ folders_now) folder folder_now before between after findings what e found = absurd e
+found_more job digest (k ∷ folders) [] folder folder_now before between after findings what e found = absurd e
+found_more job digest (k ∷ folders) (l ∷ folders_now) folder folder_now before between after [] what e found = absurd e
+found_more job digest (k ∷ folders) (l ∷ folders_now) folder folder_now before between after (f ∷ findings) what e found =
+    (e.0, e.1, found_more job digest folders folders_now folder folder_now e.0 between after findings what e.2 found)
 
 -- ---- the folders that were not looked at yet are as at first
 
-module _ {F : Type 0} (told : F → Option Pair) (now first : List F) (place : ℕ) (long : length now ≡ length first) (l : place < length now) (rest : drop place now ≡ drop place first) (d : F) where
+module _ {F : Type 0} (told : F → Kept) (now first : List F) (place : ℕ) (long : length now ≡ length first) (l : place < length now) (rest : drop place now ≡ drop place first) (d : F) where
   both : get_or now place d ∷ drop (suc place) now ≡ get_or first place d ∷ drop (suc place) first
   both = sym (drop-cons now place d l) ∙ rest ∙ drop-cons first place d (omega (arith, long, l))
 
@@ -42,3 +44,7 @@ module _ {F : Type 0} (told : F → Option Pair) (now first : List F) (place : �
       ∙ ap (map told) (take-suc first place d (omega (arith, long, l)))
       ∙ map-append told (take place first) (get_or first place d ∷ [])
       ∙ ap (λ x. map told (take place first) ++ told x ∷ []) (sym here)
+
+  -- and this one is as it was left
+  pub left_next : (new : F) → map told (take (place + 1) (set now place new)) ≡ map told (take place now) ++ told new ∷ []
+  left_next new = ap (map told) (take_more_set now place new l) ∙ map-append told (take place now) (new ∷ [])

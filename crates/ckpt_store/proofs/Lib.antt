@@ -1,5 +1,7 @@
+mod Covering
 mod FoundSlots
 mod Gathered
+mod Loading
 mod Rising
 mod Untouched
 pub mod Fits

@@ -1,12 +1,16 @@
 -- What the file of a slot holds, whatever the job, and which slot is the newest.
 -- This project's. A job's digest is not looked at: a checkpoint of any job is whole.
 use Rattle.std.specs.Prelude.{◌≡◌, ◌⊎◌, ℕ, ◌<◌, ◌≤◌, List, length, Option, Some, None}
+use Rattle.audit_model.specs.Pair.{Pair, stored}
+use Rattle.audit_model.specs.Told.{IfTold}
 use Rattle.audit_model.specs.declared.fault.CkptFault.TheVariants.{TooLong}
 use Rattle.audit_statement.specs.Checkpoint.{IsCheckpoint, checkpoint_fault}
 use Rattle.audit_statement.specs.Slots.{checkpoint_limit, newest_of}
 use Rattle.audit_model.specs.declared.fault.CkptFault.{CkptFault}
 use Rattle.ckpt_store.specs.declared.held.Held.{Held}
 use Rattle.ckpt_store.specs.declared.held.Held.TheVariants as held
+use Rattle.ckpt_store.specs.declared.held.Loaded.{Loaded}
+use Rattle.ckpt_store.specs.declared.held.Loaded.TheVariants as loaded
 
 -- the bytes are no checkpoint, and this is why: they are too many, or this is their first fault
 abbrev pub IsFault : List ℕ → CkptFault → Type 0
@@ -22,6 +26,18 @@ Holds bytes (held.Whole c) = (length bytes ≤ checkpoint_limit) × IsCheckpoint
 abbrev pub HoldsStored : Option (List ℕ) → Held → Type 0
 HoldsStored None h = h ≡ held.Absent
 HoldsStored (Some bytes) h = Holds bytes h
+
+-- what was loaded of a slot that holds this: of too many bytes only that there are too many
+abbrev pub IsLoadedFrom : Loaded → Option (List ℕ) → Type 0
+IsLoadedFrom loaded.Absent slot = slot ≡ None
+IsLoadedFrom loaded.Long slot = (bytes : List ℕ) × (slot ≡ Some bytes) × (checkpoint_limit < length bytes)
+IsLoadedFrom (loaded.Bytes bytes) slot = (slot ≡ Some bytes.items) × (length bytes.items ≤ checkpoint_limit)
+
+-- there is something that the slot held, what is told of it where the keeper tells, and this was loaded of it
+pub record HasLoaded (told : Option Pair) (number : ℕ) (what : Loaded) : Type 0 where
+  pub slot : Option (List ℕ)
+  pub same : IfTold told (λ p. slot ≡ stored p number)
+  pub is : IsLoadedFrom what slot
 
 -- the generation of an intact slot
 abbrev pub generation_in : Held → Option ℕ

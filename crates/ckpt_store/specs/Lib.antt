@@ -1,3 +1,4 @@
+pub mod Collected
 pub mod Findings
 pub mod Fit
 pub mod Fitting

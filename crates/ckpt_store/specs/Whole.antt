@@ -5,14 +5,17 @@ use Rattle.audit_model.specs.Faults.{Rose}
 use Rattle.audit_model.specs.Pair.{HoldsBytes, KeepsOther, Pair}
 use Rattle.audit_model.specs.State.{Kept}
 use Rattle.audit_model.specs.Told.{IfTold}
-use Rattle.audit_model.specs.Tries.{tried_too}
+use Rattle.audit_model.specs.Tries.{Try, tried_too}
 use Rattle.audit_model.specs.declared.outcome.Outcome.{Outcome}
 use Rattle.audit_model.specs.Job.{Job}
 use Rattle.audit_statement.specs.Checkpoint.{IsCheckpoint, checkpoint}
+use Rattle.audit_model.specs.Run.{total}
+use Rattle.ckpt_store.specs.Collected.{Collected, no_collected}
 use Rattle.ckpt_store.specs.declared.finding.Finding.{Finding}
 use Rattle.ckpt_store.specs.declared.told.Told.{Told}
 use Rattle.ckpt_store.specs.declared.told.Ungathered.{Ungathered}
 use Rattle.ckpt_store.specs.declared.told.Ungathered.TheVariants as ungathered
+use Rattle.audit_statement.specs.Due.{Lets, LetsCheckpoint}
 use Rattle.ckpt_store.specs.Findings.{AreFound, Finds, may_save}
 use Rattle.ckpt_store.specs.Gives.{gives, has_broken}
 use Rattle.audit_statement.specs.Slots.{place_for}
@@ -30,33 +33,67 @@ pub record IsUntouched (before after : Kept) : Type 0 where
   pub tried : after.tried ≡ before.tried
   pub saves : after.save_faults ≡ before.save_faults
 
--- what an answer that tells nothing says of the keeper
-abbrev pub IsUnsaved : Kept → Kept → Ungathered → Type 0
-IsUnsaved before after ungathered.Memory = IsUntouched before after
-IsUnsaved before after ungathered.Unread = IsUntouched before after × Rose before.load_faults.all after.load_faults.all
-IsUnsaved before after ungathered.Taken = IsUntouched before after × Rose before.load_faults.all after.load_faults.all × Rose before.load_faults.taken after.load_faults.taken
-IsUnsaved before after ungathered.Unsaved = Rose before.save_faults after.save_faults
+-- one save of this checkpoint was tried there, which failed: it may have left anything in its slot, and the other slot is as before
+pub record IsUnsavedUnion (digest : List ℕ) (place : ℕ × ℕ) (outcomes : List Outcome) (before after : Kept) : Type 0 where
+  pub sound : IsCheckpoint (checkpoint 2 digest place.1 outcomes) 2 digest place.1 outcomes
+  pub other : KeepsOther before.slots after.slots place.0
+  pub tried : after.tried ≡ tried_too before.tried place.0 (checkpoint 2 digest place.1 outcomes) false
+  pub rose : Rose before.save_faults after.save_faults
+
+-- what an answer that tells nothing says of the keeper, where the last says this
+abbrev pub IsUnsaved : Type 0 → Kept → Kept → Ungathered → Type 0
+IsUnsaved Failed before after ungathered.Memory = IsUntouched before after
+IsUnsaved Failed before after ungathered.Unread = IsUntouched before after × Rose before.load_faults.all after.load_faults.all
+IsUnsaved Failed before after ungathered.Taken = IsUntouched before after × Rose before.load_faults.all after.load_faults.all × Rose before.load_faults.taken after.load_faults.taken
+IsUnsaved Failed before after ungathered.Unsaved = Failed
 
 abbrev pub IsSavedIf : Bool → List ℕ → ℕ × ℕ → List Outcome → Kept → Kept → Type 0
 IsSavedIf true digest place outcomes before after = IsSavedUnion digest place outcomes before after
 IsSavedIf false digest place outcomes before after = IsUntouched before after
 
 -- what a gathering found in the slots of the working folder
-pub record HasBegun (job : Job) (digest : List ℕ) (told : Option Pair) (place : ℕ × ℕ) (own : Finding) (start : List Outcome) : Type 0 where
+pub record HasBegun (job : Job) (digest : List ℕ) (told : Option Pair) (place : ℕ × ℕ) (own : Finding) (start : Collected) : Type 0 where
   pub pair : Pair
   pub same : IfTold told (λ p. pair ≡ p)
-  pub finds : Finds [] (gives job digest pair) (has_broken job digest pair) own start
+  pub finds : Finds (no_collected (total job)) (gives job digest pair) (has_broken job digest pair) own start
   pub place_is : place ≡ place_for job digest pair
+
+-- The union of all that was found in the working folder and then in each folder may be saved at this place, the one for the next checkpoint of the working folder: it has no
+-- checkpoint or an intact newest one of this job, each folder has an intact newest one of this job, and no two outcomes of an id differ.
+pub record MayBeSaved (job : Job) (digest : List ℕ) (told : Option Pair) (folders folders_now : List Kept) (place : ℕ × ℕ) (all : List Outcome) : Type 0 where
+  pub own : Finding
+  pub start : Collected
+  pub found : List Finding
+  pub collected : Collected
+  pub begun : HasBegun job digest told place own start
+  pub each : AreFound job digest folders folders_now start found collected
+  pub union : collected.outcomes ≡ all
+  pub may : may_save own found ≡ true
+
+-- a gathering was to save, and its one save failed
+pub record HasFailed (job : Job) (digest : List ℕ) (saves : Bool) (before after : Kept) (folders folders_now : List Kept) : Type 0 where
+  pub place : ℕ × ℕ
+  pub all : List Outcome
+  pub asked : saves ≡ true
+  pub may : MayBeSaved job digest before.slots folders folders_now place all
+  pub unsaved : IsUnsavedUnion digest place all before after
+
+-- A keeper with these slots and tries lets the one save of a gathering through, where it is to save: of the union of all that is found, where that may be saved, at its place,
+-- and as long as no save was tried.
+abbrev pub LetsGathering : Lets → Job → List ℕ → Bool → Option Pair → Option (List Try) → List Kept → Type 0
+LetsGathering lets job digest saves told tried folders =
+    (k : Kept) (folders_now : List Kept) (place : ℕ × ℕ) (all : List Outcome) → k.tried ≡ tried → saves ≡ true → MayBeSaved job digest told folders folders_now place all
+    → LetsCheckpoint lets k digest place.0 place.1 all
 
 -- the whole: what was found in the working folder and then in each folder, one after the other. The union of it all is saved at the place for the next
 -- checkpoint of the working folder exactly where it is asked for, the working folder has no checkpoint or an intact newest one of this job, each folder
 -- has an intact newest one of this job, and no two outcomes of an id differ. Else nothing is saved
-pub record IsGathering (job : Job) (digest : List ℕ) (saves : Bool) (before after : Kept) (folders : List (Option Pair)) (told : Told) : Type 0 where
+pub record IsGathering (job : Job) (digest : List ℕ) (saves : Bool) (before after : Kept) (folders folders_now : List Kept) (told : Told) : Type 0 where
   pub place : ℕ × ℕ
-  pub start : List Outcome
-  pub all : List Outcome
+  pub start : Collected
+  pub all : Collected
   pub own : HasBegun job digest before.slots place told.own start
-  pub each : AreFound job digest folders start told.folders all
-  pub done : told.done ≡ length all
+  pub each : AreFound job digest folders folders_now start told.folders all
+  pub done : told.done ≡ length all.outcomes
   pub when : told.saved ≡ (saves && may_save told.own told.folders)
-  pub saved : IsSavedIf told.saved digest place all before after
+  pub saved : IsSavedIf told.saved digest place all.outcomes before after

@@ -2,17 +2,15 @@
 
 ghost use Rattle.std.specs.Prelude.{◌≡◌, IfOk};
 ghost use Rattle.audit_model.specs.Run.{total};
-ghost use Rattle.ckpt_store.specs.Findings.{Finds, IsFound, is_added, is_start};
-ghost use Rattle.ckpt_store.specs.Fit.{IsFitGiven};
-ghost use Rattle.ckpt_store.specs.Gives.{given_view};
+ghost use Rattle.ckpt_store.specs.Collected.{IsCovered};
+ghost use Rattle.ckpt_store.specs.Findings.{IsFound, is_added, is_start};
 
-use crate::gather::add;
-use crate::given::{Given, given_by, has_broken};
+use crate::collection::Collection;
+use crate::given::{given_by, has_broken};
 use crate::look::{LookFault, look};
 use audit_io::keeper::Keeper;
 use audit_model::buffers::Bytes;
 use audit_model::memory::Memory;
-use outcome_book::gathering::Gathering;
 use plan_core::job::Job;
 use std::alloc::Global;
 
@@ -27,10 +25,13 @@ pub enum Finding {
     OtherJob,
     /// No slot is intact, and one is not absent.
     Damaged,
-    /// Of this id it says something else than a folder before it, and of none below it.
-    Differs(u32),
+    /// Of this id it says something else than what was gathered before it, and of none below it. The first folder before it that does so has the number
+    /// `other`: 0 for the working folder, and from 1 for those behind it.
+    Differs { id: u32, other: usize },
     /// A slot could not be loaded.
     Unread,
+    /// It could not, since another process holds the folder.
+    Taken,
 }
 
 impl Finding {
@@ -43,8 +44,9 @@ impl Finding {
             Finding::Nothing
             | Finding::OtherJob
             | Finding::Damaged
-            | Finding::Differs(_)
-            | Finding::Unread => false,
+            | Finding::Differs { .. }
+            | Finding::Unread
+            | Finding::Taken => false,
         }
     }
 
@@ -54,30 +56,12 @@ impl Finding {
     {
         match self {
             Finding::Added { .. } | Finding::Nothing => true,
-            Finding::OtherJob | Finding::Damaged | Finding::Differs(_) | Finding::Unread => false,
+            Finding::OtherJob
+            | Finding::Damaged
+            | Finding::Differs { .. }
+            | Finding::Unread
+            | Finding::Taken => false,
         }
-    }
-}
-
-/// Adds what a folder gives to what was gathered, unless it differs, and says what was found.
-pub fn find(gathering: &mut Gathering, job: &Job, given: &Given, beside: bool) -> Finding
-    requires total { gathering.old.total ≡ total job.now }
-    requires fit { IsFitGiven job.now given.now }
-    ensures total { gathering.new.total ≡ gathering.old.total }
-    ensures finds { Finds gathering.old.outcomes (given_view given.now) beside result gathering.new.outcomes }
-{
-    match given {
-        Given::Outcomes(list) => match add(gathering, job, list.as_slice()) {
-            Ok(new) => Finding::Added {
-                count: list.len() as u32,
-                new,
-                beside,
-            },
-            Err(id) => Finding::Differs(id),
-        },
-        Given::Nothing => Finding::Nothing,
-        Given::OtherJob => Finding::OtherJob,
-        Given::Damaged => Finding::Damaged,
     }
 }
 
@@ -85,26 +69,35 @@ pub fn find(gathering: &mut Gathering, job: &Job, given: &Given, beside: bool) -
 ///
 /// # Errors
 ///
-/// There was no memory for its slots.
+/// There was no memory. The collection is of no more use.
 pub fn find_in<F: Keeper>(
     alloc: Global,
-    gathering: &mut Gathering,
+    collection: &mut Collection,
     folder: &mut F,
     job: &Job,
     digest: &[u8; 32],
     room: &mut Bytes,
 ) -> Result<Finding, Memory>
-    requires total { gathering.old.total ≡ total job.now }
-    ensures total { gathering.new.total ≡ gathering.old.total }
-    ensures found { IfOk result (λ f. IsFound job.now digest.now (F.state folder.old).slots gathering.old.outcomes f gathering.new.outcomes) }
+    requires total { collection.old.total ≡ total job.now }
+    requires covered { IsCovered collection.old }
+    ensures total { IfOk result (λ _. collection.new.total ≡ collection.old.total) }
+    ensures covered { IfOk result (λ _. IsCovered collection.new) }
+    ensures found { IfOk result (λ f. IsFound job.now digest.now (F.state folder.old) (F.state folder.new) collection.old f collection.new) }
 {
     match look(alloc, folder, job, digest, room) {
         Ok(slots) => {
             let beside = has_broken(&slots);
             let given = given_by(job, digest, slots);
-            Ok(find(gathering, job, &given, beside))
+            collection.add(alloc, job, given, beside)
         }
-        Err(LookFault::Failed | LookFault::Taken) => Ok(Finding::Unread),
+        Err(LookFault::Failed) => {
+            collection.pass_over(alloc)?;
+            Ok(Finding::Unread)
+        }
+        Err(LookFault::Taken) => {
+            collection.pass_over(alloc)?;
+            Ok(Finding::Taken)
+        }
         Err(LookFault::Memory) => Err(Memory),
     }
 }

@@ -5,7 +5,8 @@ ghost use Rattle.audit_model.specs.Limits.{most_trajectories};
 ghost use Rattle.audit_model.specs.Run.{has_id, total};
 ghost use Rattle.ckpt_store.specs.Fitting.{AreFit};
 ghost use Rattle.ckpt_store.specs.Places.{IsPlace};
-ghost use Rattle.ckpt_store.specs.Whole.{IsSavedUnion, IsUnsaved};
+ghost use Rattle.audit_statement.specs.Due.{LetsCheckpoint};
+ghost use Rattle.ckpt_store.specs.Whole.{IsSavedUnion, IsUnsaved, IsUnsavedUnion};
 ghost use Rattle.outcome_book.specs.Union.{AreAgreed, AreById, IsFirstDifference, IsUnion};
 
 use crate::save::save;
@@ -36,31 +37,13 @@ pub fn add(gathering: &mut Gathering, job: &Job, found: &[Outcome]) -> Result<u3
     gathering.merge(found)
 }
 
-/// Saves what was gathered in the slot of a place.
+/// Saves outcomes by rising id in the slot of a place.
 ///
 /// # Errors
 ///
-/// - `Memory`: there was no memory for the outcomes or their bytes, and no save was tried.
-/// - `Unsaved`: the keeper failed, and the slot of the place may hold anything.
-pub fn save_gathered<C: Keeper>(
-    alloc: Global,
-    keeper: &mut C,
-    place: Place,
-    digest: &[u8; 32],
-    gathering: &Gathering,
-) -> Result<(), Ungathered>
-    requires place { IsPlace place }
-    ensures saved { OnOk result (IsSavedUnion digest.now (place.slot, place.generation) gathering.now.outcomes (C.state keeper.old) (C.state keeper.new)) }
-    ensures cause { IfErr result (IsUnsaved (C.state keeper.old) (C.state keeper.new)) }
-{
-    match gathering.to_list(alloc) {
-        Ok(list) => save_list(alloc, keeper, place, digest, list.as_slice()),
-        Err(_) => Err(Ungathered::Memory),
-    }
-}
-
-// Saves outcomes by rising id in the slot of a place.
-fn save_list<C: Keeper>(
+/// - `Memory`: there was no memory for their bytes, and no save was tried.
+/// - `Unsaved`: the keeper failed, and the slot of the place may hold anything; the save was tried once.
+pub fn save_list<C: Keeper>(
     alloc: Global,
     keeper: &mut C,
     place: Place,
@@ -70,8 +53,10 @@ fn save_list<C: Keeper>(
     requires place { IsPlace place }
     requires few { length outcomes.now ≤ most_trajectories }
     requires rising { AreById outcomes.now }
+    requires lets { LetsCheckpoint C.lets (C.state keeper.old) digest.now place.slot place.generation outcomes.now }
     ensures saved { OnOk result (IsSavedUnion digest.now (place.slot, place.generation) outcomes.now (C.state keeper.old) (C.state keeper.new)) }
-    ensures cause { IfErr result (IsUnsaved (C.state keeper.old) (C.state keeper.new)) }
+    ensures cause { IfErr result (IsUnsaved (IsUnsavedUnion digest.now (place.slot, place.generation) outcomes.now (C.state keeper.old) (C.state keeper.new))
+        (C.state keeper.old) (C.state keeper.new)) }
 {
     let mut place = place;
     match Bytes::with_room(alloc, 84 + 80 * outcomes.len()) {

@@ -1,10 +1,13 @@
 //! What the file of a slot holds, whatever the job, and which slot is the newest.
 
-ghost use Rattle.std.specs.Prelude.{◌≡◌, Some, IfOk, OnOk, option_map};
+ghost use Rattle.std.specs.Prelude.{◌≡◌, ◌<◌, ℕ, List, Option, Some, IfOk, OnOk};
 ghost use Rattle.audit_model.specs.declared.fault.CkptFault.TheVariants as variant;
-ghost use Rattle.ckpt_store.specs.Holding.{Holds, HoldsStored, generation_in, newest_in};
+ghost use Rattle.ckpt_store.specs.Holding.{HasLoaded, Holds, HoldsStored, IsLoadedFrom, generation_in, newest_in};
+ghost use Rattle.ckpt_store.specs.Looked.{HasLookCause};
 
+use crate::look::LookFault;
 use crate::slots::generation_after;
+use audit_io::keeper::{Keeper, LoadError};
 use audit_model::buffers::Bytes;
 use audit_model::fault::CkptFault;
 use audit_model::memory::Memory;
@@ -25,17 +28,55 @@ pub enum Held {
     Whole(Checkpoint),
 }
 
+/// What was loaded of a slot.
+#[derive(Drop)]
+pub enum Loaded {
+    /// There is no such file.
+    Absent,
+    /// It has more bytes than a checkpoint can have.
+    Long,
+    /// It has these.
+    Bytes(Bytes),
+}
+
+/// Loads a slot.
+///
+/// # Errors
+///
+/// - `Failed`: the load failed.
+/// - `Taken`: it failed, since another process holds the slots.
+/// - `Memory`: there was no memory for its bytes.
+pub fn load_slot<C: Keeper>(alloc: Global, keeper: &mut C, slot: u8) -> Result<Loaded, LookFault>
+    requires { slot < 2 }
+    ensures loaded { IfOk result (HasLoaded (C.state keeper.old).slots slot) }
+    ensures slots { (C.state keeper.new).slots ≡ (C.state keeper.old).slots }
+    ensures cause { HasLookCause (C.state keeper.old).load_faults (C.state keeper.new).load_faults result }
+    ensures saves { (C.state keeper.new).save_faults ≡ (C.state keeper.old).save_faults }
+    ensures tried { (C.state keeper.new).tried ≡ (C.state keeper.old).tried }
+{
+    let mut room = Bytes::new(alloc);
+    match keeper.load(slot, LIMIT, &mut room) {
+        Ok(true) => Ok(Loaded::Bytes(room)),
+        Ok(false) => Ok(Loaded::Absent),
+        Err(LoadError::Long(_)) => Ok(Loaded::Long),
+        Err(LoadError::Failed) => Err(LookFault::Failed),
+        Err(LoadError::Taken) => Err(LookFault::Taken),
+        Err(LoadError::Memory) => Err(LookFault::Memory),
+    }
+}
+
 /// What a slot holds: nothing, bytes that are too many or no checkpoint, for the first of their faults, or a checkpoint.
 ///
 /// # Errors
 ///
 /// There was no memory for the outcomes of a checkpoint.
-pub fn held_of(alloc: Global, stored: &Option<Bytes>) -> Result<Held, Memory>
-    ensures { IfOk result (HoldsStored (option_map (λ b. b.items) stored.now)) }
+pub fn held_of(alloc: Global, loaded: &Loaded) -> Result<Held, Memory>
+    ensures { IfOk result (λ h. (slot : Option (List ℕ)) → IsLoadedFrom loaded.now slot → HoldsStored slot h) }
 {
-    match stored {
-        None => Ok(Held::Absent),
-        Some(bytes) => held_in(alloc, bytes.as_slice()),
+    match loaded {
+        Loaded::Absent => Ok(Held::Absent),
+        Loaded::Long => Ok(Held::Broken(CkptFault::TooLong(LIMIT))),
+        Loaded::Bytes(bytes) => held_in(alloc, bytes.as_slice()),
     }
 }
 

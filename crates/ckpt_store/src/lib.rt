@@ -1,7 +1,7 @@
 //! The two slots of a keeper: what they hold for a job, which is the newest, and where the next checkpoint goes.
 #![tactic(auto)]
 
-pub mod differing;
+pub mod collection;
 pub mod finding;
 mod fitting;
 pub mod gather;

@@ -1,14 +1,14 @@
 //! How far a job is, by its slots.
 
-ghost use Rattle.std.specs.Prelude.{◌≡◌, IfOk, option_map};
+ghost use Rattle.std.specs.Prelude.{◌≡◌, ℕ, List, Option, IfOk};
 ghost use Rattle.audit_statement.specs.Slots.{slot_of};
+ghost use Rattle.ckpt_store.specs.Holding.{IsLoadedFrom};
 ghost use Rattle.ckpt_store.specs.View.{slot_view};
 ghost use Rattle.ckpt_store.specs.Progress as definition;
 
-use crate::held::LIMIT;
+use crate::held::{LIMIT, Loaded};
 use crate::judge::judge_bytes;
 use crate::slots::{Slot, Slots, StoreFault};
-use audit_model::buffers::Bytes;
 use audit_model::fault::CkptFault;
 use audit_model::memory::Memory;
 use ckpt_format::decode::Checkpoint;
@@ -27,18 +27,15 @@ pub enum Progress {
     Damaged,
 }
 
-// What a stored slot is for the job with this digest. The only error is want of memory.
-fn slot_for(
-    alloc: Global,
-    job: &Job,
-    digest: &[u8; 32],
-    stored: &Option<Bytes>,
-) -> Result<Slot, Memory>
-    ensures { IfOk result (λ s. slot_view s ≡ slot_of job.now digest.now (option_map (λ b. b.items) stored.now)) }
+// What a loaded slot is for the job with this digest. The only error is want of memory.
+fn slot_for(alloc: Global, job: &Job, digest: &[u8; 32], loaded: &Loaded) -> Result<Slot, Memory>
+    ensures { IfOk result (λ s. (slot : Option (List ℕ)) → IsLoadedFrom loaded.now slot → slot_view s ≡ slot_of job.now digest.now slot) }
 {
-    match stored {
-        None => Ok(Slot::Absent),
-        Some(bytes) => {
+    match loaded {
+        Loaded::Absent => Ok(Slot::Absent),
+        Loaded::Long => Ok(Slot::Broken(CkptFault::TooLong(LIMIT))),
+        Loaded::Bytes(bytes) => {
+            // No more were loaded.
             if bytes.len() as u64 > LIMIT {
                 return Ok(Slot::Broken(CkptFault::TooLong(LIMIT)));
             }
@@ -59,14 +56,14 @@ fn progress_by(answer: Result<Option<Checkpoint>, StoreFault>) -> Progress
     }
 }
 
-/// How far the job is by what its two slots hold. The only error is want of memory.
+/// How far the job is by what was loaded of its two slots. The only error is want of memory.
 pub fn progress_of(
     alloc: Global,
     job: &Job,
-    zero: &Option<Bytes>,
-    one: &Option<Bytes>,
+    zero: &Loaded,
+    one: &Loaded,
 ) -> Result<Progress, Memory>
-    ensures { IfOk result (λ p. p ≡ definition.progress job.now (option_map (λ b. b.items) zero.now) (option_map (λ b. b.items) one.now)) }
+    ensures { IfOk result (λ p. (first second : Option (List ℕ)) → IsLoadedFrom zero.now first → IsLoadedFrom one.now second → p ≡ definition.progress job.now first second) }
 {
     let digest = job_digest(job);
     let first = slot_for(alloc, job, &digest, zero)?;

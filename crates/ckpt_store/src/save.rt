@@ -6,6 +6,7 @@ ghost use Rattle.audit_model.specs.Told.{IfTold};
 ghost use Rattle.audit_model.specs.Pair.{HoldsBytes, KeepsOther};
 ghost use Rattle.audit_model.specs.Tries.{tried_too};
 ghost use Rattle.audit_statement.specs.Checkpoint.{AreRising, IsCheckpoint, checkpoint, bare_length};
+ghost use Rattle.audit_statement.specs.Due.{LetsCheckpoint};
 ghost use Rattle.ckpt_store.specs.Laws.{IsNewestForFitJobs};
 ghost use Rattle.audit_model.specs.Limits.{most_trajectories};
 
@@ -18,7 +19,7 @@ use audit_model::place::Place;
 use ckpt_format::ahead::Ahead;
 use ckpt_format::encode::encode_with;
 
-/// Saves the checkpoint of outcomes, with bins or without, in the slot of a place, in the second version of the format, and moves the
+/// Saves the checkpoint of outcomes, with bins or without, which the keeper is to let through, in the slot of a place, in the second version of the format, and moves the
 /// place on to the other slot and the next generation. It takes no memory but the keeper's.
 ///
 /// # Errors
@@ -36,6 +37,7 @@ pub fn save<C: Keeper>(
     requires few { length outcomes.now ≤ most_trajectories }
     requires rising { AreRising (map (λ o. o.id) outcomes.now) }
     requires room { bare_length + 80 * length outcomes.now ≤ length room.old.items + room.old.spare }
+    requires lets { LetsCheckpoint C.lets (C.state keeper.old) digest.now place.old.slot place.old.generation outcomes.now }
     ensures saved { OnOk result (HoldsBytes (C.state keeper.new).slots place.old.slot (checkpoint 2 digest.now place.old.generation outcomes.now)) }
     ensures sound { IsCheckpoint (checkpoint 2 digest.now place.old.generation outcomes.now) 2 digest.now place.old.generation outcomes.now }
     ensures newest { OnOk result (IfTold (C.state keeper.new).slots (IsNewestForFitJobs digest.now place.old.slot place.old.generation outcomes.now)) }
@@ -68,6 +70,7 @@ pub fn save_with<C: Keeper>(
     requires few { length outcomes.now ≤ most_trajectories }
     requires rising { AreRising (map (λ o. o.id) outcomes.now) }
     requires room { bare_length + 80 * length outcomes.now ≤ length room.old.items + room.old.spare }
+    requires lets { LetsCheckpoint C.lets (C.state keeper.old) digest.now place.old.slot place.old.generation outcomes.now }
     ensures saved { OnOk result (HoldsBytes (C.state keeper.new).slots place.old.slot (checkpoint 2 digest.now place.old.generation outcomes.now)) }
     ensures sound { IsCheckpoint (checkpoint 2 digest.now place.old.generation outcomes.now) 2 digest.now place.old.generation outcomes.now }
     ensures newest { OnOk result (IfTold (C.state keeper.new).slots (IsNewestForFitJobs digest.now place.old.slot place.old.generation outcomes.now)) }

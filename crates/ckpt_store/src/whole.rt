@@ -1,25 +1,31 @@
 //! The gathering of several folders into the working folder.
 
-ghost use Rattle.std.specs.Prelude.{◌≡◌, ◌∷◌, [], ◌++◌, ◌&&◌, ◌≤◌, IfErr, IfOk, length, map};
+ghost use Rattle.std.specs.Prelude.{◌≡◌, ◌∷◌, [], ◌++◌, ◌&&◌, ◌||◌, ◌≤◌, IfErr, IfOk, length, map, true};
 ghost use Rattle.std.specs.List.{list_all};
 ghost use Rattle.audit_model.specs.Limits.{most_trajectories};
 ghost use Rattle.audit_model.specs.Run.{total};
 ghost use Rattle.audit_statement.specs.Checkpoint.{job_digest};
-ghost use Rattle.ckpt_store.specs.Findings.{AreFound, is_added, may_save};
+ghost use Rattle.ckpt_store.specs.Collected.{IsCovered, no_collected};
+ghost use Rattle.ckpt_store.specs.Findings.{AreFound, Finds, is_added, may_save};
+ghost use Rattle.ckpt_store.specs.Fitting.{HasFitOutcomes};
+ghost use Rattle.ckpt_store.specs.Gives.{is_broken, slots_give};
+ghost use Rattle.ckpt_store.specs.View.{newest_seen, place_seen, slot_view};
 ghost use Rattle.ckpt_store.specs.Places.{IsPlace};
-ghost use Rattle.ckpt_store.specs.Whole.{HasBegun, IsGathering, IsSavedIf, IsUnsaved, IsUntouched};
+ghost use Rattle.audit_statement.specs.Due.{LetsCheckpoint};
+ghost use Rattle.ckpt_store.specs.Whole.{HasBegun, HasFailed, IsGathering, IsSavedIf, IsUnsaved, IsUnsavedUnion, IsUntouched, LetsGathering};
 
-use crate::finding::{Finding, find, find_in};
-use crate::gather::save_gathered;
+use crate::collection::Collection;
+use crate::finding::{Finding, find_in};
+use crate::gather::save_list;
 use crate::given::{given_by, has_broken};
 use crate::look::{LookFault, look};
+use crate::slots::Slots;
 use crate::told::{FindingList, Told, Ungathered};
 use audit_io::keeper::Keeper;
 use audit_model::buffers::Bytes;
 use audit_model::memory::Memory;
 use audit_model::place::Place;
 use ckpt_format::digest::job_digest;
-use outcome_book::gathering::Gathering;
 use plan_core::job::Job;
 use std::alloc::Global;
 
@@ -28,7 +34,7 @@ use std::alloc::Global;
 struct Begun {
     place: Place,
     own: Finding,
-    gathering: Gathering,
+    collection: Collection,
 }
 
 /// Gathers what the working folder's slots and those of each folder hold of the job. They are looked at one after the other, the working folder's
@@ -40,7 +46,7 @@ struct Begun {
 /// - `Memory`: there was no memory; no save was tried.
 /// - `Unread`: a slot of the working folder could not be loaded; no save was tried.
 /// - `Taken`: it could not, since another process holds the folder; no save was tried.
-/// - `Unsaved`: the save failed.
+/// - `Unsaved`: the one save that was tried, of the union at its place, failed.
 pub fn gather<C: Keeper, F: Keeper>(
     alloc: Global,
     keeper: &mut C,
@@ -49,8 +55,10 @@ pub fn gather<C: Keeper, F: Keeper>(
     saves: bool,
 ) -> Result<Told, Ungathered>
     requires few { total job.now ≤ most_trajectories }
-    ensures gathered { IfOk result (IsGathering job.now (job_digest job.now) saves (C.state keeper.old) (C.state keeper.new) (map (λ k. (F.state k).slots) folders.old)) }
-    ensures cause { IfErr result (IsUnsaved (C.state keeper.old) (C.state keeper.new)) }
+    requires lets { LetsGathering C.lets job.now (job_digest job.now) saves (C.state keeper.old).slots (C.state keeper.old).tried (map (λ k. F.state k) folders.old) }
+    ensures gathered { IfOk result (IsGathering job.now (job_digest job.now) saves (C.state keeper.old) (C.state keeper.new) (map (λ k. F.state k) folders.old) (map (λ k. F.state k) folders.new)) }
+    ensures cause { IfErr result (IsUnsaved (HasFailed job.now (job_digest job.now) saves (C.state keeper.old) (C.state keeper.new) (map (λ k. F.state k) folders.old) (map (λ k. F.state k) folders.new))
+        (C.state keeper.old) (C.state keeper.new)) }
 {
     let digest = job_digest(job);
     match begin(alloc, keeper, job, &digest) {
@@ -68,22 +76,25 @@ fn gather_from<C: Keeper, F: Keeper>(
     begun: Begun,
     saves: bool,
 ) -> Result<Told, Ungathered>
-    requires total { begun.gathering.total ≡ total job.now }
+    requires total { begun.collection.total ≡ total job.now }
+    requires covered { IsCovered begun.collection }
     requires place { IsPlace begun.place }
-    requires begun { HasBegun job.now (job_digest job.now) (C.state keeper.old).slots (begun.place.slot, begun.place.generation) begun.own begun.gathering.outcomes }
-    ensures gathered { IfOk result (IsGathering job.now (job_digest job.now) saves (C.state keeper.old) (C.state keeper.new) (map (λ k. (F.state k).slots) folders.old)) }
-    ensures cause { IfErr result (IsUnsaved (C.state keeper.old) (C.state keeper.new)) }
+    requires begun { HasBegun job.now (job_digest job.now) (C.state keeper.old).slots (begun.place.slot, begun.place.generation) begun.own begun.collection }
+    requires lets { LetsGathering C.lets job.now (job_digest job.now) saves (C.state keeper.old).slots (C.state keeper.old).tried (map (λ k. F.state k) folders.old) }
+    ensures gathered { IfOk result (IsGathering job.now (job_digest job.now) saves (C.state keeper.old) (C.state keeper.new) (map (λ k. F.state k) folders.old) (map (λ k. F.state k) folders.new)) }
+    ensures cause { IfErr result (IsUnsaved (HasFailed job.now (job_digest job.now) saves (C.state keeper.old) (C.state keeper.new) (map (λ k. F.state k) folders.old) (map (λ k. F.state k) folders.new))
+        (C.state keeper.old) (C.state keeper.new)) }
 {
     let digest = job_digest(job);
     let Begun {
         place,
         own,
-        mut gathering,
+        mut collection,
     } = begun;
-    match find_each(alloc, &mut gathering, folders, job, &digest) {
+    match find_each(alloc, &mut collection, folders, job, &digest) {
         Ok(found) => {
             let saved = saves && may_save(own, found.as_slice());
-            match finish(alloc, keeper, place, &digest, &gathering, saved) {
+            match finish(alloc, keeper, place, &digest, &collection, saved) {
                 Ok(done) => Ok(Told {
                     own,
                     folders: found,
@@ -105,53 +116,71 @@ fn begin<C: Keeper>(
     digest: &[u8; 32],
 ) -> Result<Begun, Ungathered>
     requires few { total job.now ≤ most_trajectories }
-    ensures total { IfOk result (λ b. b.gathering.total ≡ total job.now) }
+    ensures total { IfOk result (λ b. b.collection.total ≡ total job.now) }
+    ensures covered { IfOk result (λ b. IsCovered b.collection) }
     ensures place { IfOk result (λ b. IsPlace b.place) }
-    ensures begun { IfOk result (λ b. HasBegun job.now digest.now (C.state keeper.old).slots (b.place.slot, b.place.generation) b.own b.gathering.outcomes) }
+    ensures begun { IfOk result (λ b. HasBegun job.now digest.now (C.state keeper.old).slots (b.place.slot, b.place.generation) b.own b.collection) }
     ensures untouched { IfOk result (λ b. IsUntouched (C.state keeper.old) (C.state keeper.new)) }
     ensures loads { IfOk result (λ b. (C.state keeper.new).load_faults ≡ (C.state keeper.old).load_faults) }
-    ensures cause { IfErr result (IsUnsaved (C.state keeper.old) (C.state keeper.new)) }
+    ensures cause { IfErr result (IsUnsaved ⊥ (C.state keeper.old) (C.state keeper.new)) }
 {
     let mut room = Bytes::new(alloc);
     match look(alloc, keeper, job, digest, &mut room) {
-        Ok(slots) => match Gathering::with_room(alloc, job.total()) {
-            Ok(mut gathering) => {
-                let place = slots.place();
-                let beside = has_broken(&slots);
-                let given = given_by(job, digest, slots);
-                let own = find(&mut gathering, job, &given, beside);
-                Ok(Begun {
-                    place,
-                    own,
-                    gathering,
-                })
-            }
-            Err(_) => Err(Ungathered::Memory),
-        },
+        Ok(slots) => begin_with(alloc, job, digest, slots),
         Err(LookFault::Failed) => Err(Ungathered::Unread),
         Err(LookFault::Taken) => Err(Ungathered::Taken),
         Err(LookFault::Memory) => Err(Ungathered::Memory),
     }
 }
 
+// Takes what the slots of the working folder give.
+fn begin_with(
+    alloc: Global,
+    job: &Job,
+    digest: &[u8; 32],
+    slots: Slots,
+) -> Result<Begun, Ungathered>
+    requires few { total job.now ≤ most_trajectories }
+    requires zero { HasFitOutcomes job.now slots.zero }
+    requires one { HasFitOutcomes job.now slots.one }
+    ensures total { IfOk result (λ b. b.collection.total ≡ total job.now) }
+    ensures covered { IfOk result (λ b. IsCovered b.collection) }
+    ensures place { IfOk result (λ b. IsPlace b.place) }
+    ensures place_is { IfOk result (λ b. (b.place.slot, b.place.generation) ≡ place_seen slots) }
+    ensures finds { IfOk result (λ b. Finds (no_collected (total job.now)) (slots_give (slot_view slots.zero) (slot_view slots.one) (newest_seen slots))
+        (is_broken (slot_view slots.zero) || is_broken (slot_view slots.one)) b.own b.collection) }
+    ensures cause { IfErr result (λ e. e ≡ Ungathered.Memory) }
+{
+    let mut collection = Collection::with_room(alloc, job.total())?;
+    let place = slots.place();
+    let beside = has_broken(&slots);
+    let given = given_by(job, digest, slots);
+    let own = collection.add(alloc, job, given, beside)?;
+    Ok(Begun {
+        place,
+        own,
+        collection,
+    })
+}
+
 // Looks at the slots of each folder, and adds what they give.
 fn find_each<F: Keeper>(
     alloc: Global,
-    gathering: &mut Gathering,
+    collection: &mut Collection,
     folders: &mut [F],
     job: &Job,
     digest: &[u8; 32],
 ) -> Result<FindingList, Memory>
-    requires total { gathering.old.total ≡ total job.now }
-    ensures total { gathering.new.total ≡ gathering.old.total }
-    ensures found { IfOk result (λ l. AreFound job.now digest.now (map (λ k. (F.state k).slots) folders.old) gathering.old.outcomes l gathering.new.outcomes) }
+    requires total { collection.old.total ≡ total job.now }
+    requires covered { IsCovered collection.old }
+    ensures found { IfOk result (λ l. AreFound job.now digest.now (map (λ k. F.state k) folders.old) (map (λ k. F.state k) folders.new) collection.old l collection.new) }
 {
     let mut room = Bytes::new(alloc);
     let mut findings = FindingList::new(alloc);
     for place in 0..folders.len() {
         let found = find_in(
             alloc,
-            gathering,
+            collection,
             &mut folders[place],
             job,
             digest,
@@ -186,32 +215,27 @@ fn finish<C: Keeper>(
     keeper: &mut C,
     place: Place,
     digest: &[u8; 32],
-    gathering: &Gathering,
+    collection: &Collection,
     saved: bool,
 ) -> Result<u32, Ungathered>
     requires place { IsPlace place }
-    ensures done { IfOk result (λ n. n ≡ length gathering.now.outcomes) }
-    ensures saved { IfOk result (λ n. IsSavedIf saved digest.now (place.slot, place.generation) gathering.now.outcomes (C.state keeper.old) (C.state keeper.new)) }
-    ensures cause { IfErr result (IsUnsaved (C.state keeper.old) (C.state keeper.new)) }
+    requires lets { saved ≡ true → LetsCheckpoint C.lets (C.state keeper.old) digest.now place.slot place.generation collection.now.outcomes }
+    ensures done { IfOk result (λ n. n ≡ length collection.now.outcomes) }
+    ensures saved { IfOk result (λ n. IsSavedIf saved digest.now (place.slot, place.generation) collection.now.outcomes (C.state keeper.old) (C.state keeper.new)) }
+    ensures cause { IfErr result (IsUnsaved ((saved ≡ true) × IsUnsavedUnion digest.now (place.slot, place.generation) collection.now.outcomes (C.state keeper.old) (C.state keeper.new))
+        (C.state keeper.old) (C.state keeper.new)) }
 {
-    match count(alloc, gathering) {
-        Ok(done) => {
+    match collection.to_list(alloc) {
+        Ok(list) => {
+            let done = list.len() as u32;
             if !saved {
                 return Ok(done);
             }
-            match save_gathered(alloc, keeper, place, digest, gathering) {
+            match save_list(alloc, keeper, place, digest, list.as_slice()) {
                 Ok(()) => Ok(done),
                 Err(why) => Err(why),
             }
         }
         Err(_) => Err(Ungathered::Memory),
     }
-}
-
-// How many outcomes were gathered.
-fn count(alloc: Global, gathering: &Gathering) -> Result<u32, Memory>
-    ensures { IfOk result (λ n. n ≡ length gathering.now.outcomes) }
-{
-    let list = gathering.to_list(alloc)?;
-    Ok(list.len() as u32)
 }

@@ -6,3 +6,4 @@ pub mod AddingUp
 pub mod ById
 pub mod Indexed
 pub mod Tallying
+pub mod Finding

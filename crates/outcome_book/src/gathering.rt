@@ -193,8 +193,8 @@ fn is_bare_of(outcome: &Outcome, other: &Outcome) -> bool
     is_same(outcome, &bare(other))
 }
 
-// Whether both say the same, but that one may lack its bins.
-fn agree(one: &Outcome, other: &Outcome) -> bool
+/// Whether both say the same, but that one may lack its bins.
+pub fn agree(one: &Outcome, other: &Outcome) -> bool
     ensures { Decides result (Agree one.now other.now) }
 {
     if is_same(one, other) {

@@ -1,6 +1,7 @@
 //! A book of outcomes, in the order of posting and by rising id.
 #![tactic(auto)]
 
+pub mod agreeing;
 pub mod book;
 pub mod gathering;
 pub mod laws;

@@ -4,7 +4,7 @@ use Rattle.std.specs.Prelude.{IfSome}
 use Rattle.std.specs.List.{slice_get}
 use Rattle.audit_model.specs.declared.setting.Ask.{Ask}
 use Rattle.audit_model.specs.declared.setting.Command.{Command}
-use Rattle.audit_model.specs.declared.setting.Command.TheVariants.{Check, Run, Make, Plans}
+use Rattle.audit_model.specs.declared.setting.Command.TheVariants.{Check, Run, Make, Plans, Trace}
 use Rattle.audit_model.specs.declared.setting.Setting.{Setting}
 use Rattle.audit_model.specs.Job.{Job}
 use Rattle.audit_model.specs.JobOf.{IsJob}
@@ -18,6 +18,7 @@ few_of Check s h = omega (arith, ap (λ (asks : List Ask). length asks) h.no_ask
 few_of Run s h = h.few_asks
 few_of Make s h = h.few_asks
 few_of Plans s h = h.few_asks
+few_of Trace s h = h.run.few_asks
 
 -- a job has at most four asks
 pub few_asks : (job : Job) → IsJob job → length job.setting.asks ≤ 4

@@ -1,5 +1,6 @@
 mod NoteLines
 pub mod Appended
+pub mod Changes
 pub mod Escapes
 pub mod Limits
 pub mod Longest

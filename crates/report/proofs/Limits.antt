@@ -2,7 +2,7 @@
 use Rattle.std.proofs.Common.{ℕ, ◌+◌, ◌*◌, ◌^◌, ◌≤◌, List, length, sum, ap, arith}
 use Rattle.std.proofs.lemmas.List.Sums.{sum_by-le}
 use Rattle.audit_model.specs.declared.setting.Command.{Command}
-use Rattle.audit_model.specs.declared.setting.Command.TheVariants.{Check, Run, Make, Plans}
+use Rattle.audit_model.specs.declared.setting.Command.TheVariants.{Check, Run, Make, Plans, Trace}
 use Rattle.audit_model.specs.declared.setting.Setting.{Setting}
 use Rattle.audit_model.specs.Job.{Job, total_votes}
 use Rattle.audit_model.specs.JobOf.{IsJob}
@@ -25,6 +25,7 @@ of_command Check s h = record { few = omega arith; few_steps = omega arith; few_
 of_command Run s h = of_run s h
 of_command Make s h = of_run s h
 of_command Plans s h = of_run s h
+of_command Trace s h = of_run s h.run
 
 -- a job's setting has small numbers
 pub small : (job : Job) → IsJob job → IsSmall job.setting

@@ -1,5 +1,5 @@
 -- A text that is written whole, and a line that is written piece by piece.
-use Rattle.std.specs.Prelude.{◌≡◌, ℕ, Bool, true, false, List, Result, Ok, Err}
+use Rattle.std.specs.Prelude.{◌≡◌, ℕ, Bool, true, false, List, ◌++◌, Result, Ok, Err}
 use Rattle.std.specs.Io.KnownBytes.{Appends}
 use Rattle.audit_io.specs.declared.source.Failed.{Failed}
 use Rattle.audit_model.specs.Faults.{Rose}
@@ -15,3 +15,7 @@ IsSaid before after text false = AppendsPart before.bytes after.bytes text × Ro
 abbrev pub WritesAllOf : Stream → Stream → List ℕ → Result (Unit {0}) Failed → Type 0
 WritesAllOf before after text (Ok done) = Appends before.bytes after.bytes text × (after.faults ≡ before.faults)
 WritesAllOf before after text (Err failed) = AppendsPart before.bytes after.bytes text × Rose before.faults after.faults
+
+-- whatever was said before, this text was said behind it, where nothing had failed; `going` and `result` say whether nothing had failed before and after
+pub record AddsText (before after : Stream) (going : Bool) (text : List ℕ) (result : Bool) : Type 0 where
+  pub adds : (start : Stream) (said : List ℕ) → IsSaid start before said going → IsSaid start after (said ++ text) result

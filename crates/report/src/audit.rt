@@ -88,14 +88,14 @@ fn push_title_line(job: &Job, out: &mut Bytes) -> Result<(), Memory>
 }
 
 /// Appends the line with the key.
-fn push_key_line(job: &Job, out: &mut Bytes) -> Result<(), Memory>
+pub fn push_key_line(job: &Job, out: &mut Bytes) -> Result<(), Memory>
     ensures { AppendsText out.old out.new (key_line job.now) result }
 {
     push_line(out, &[Word::Text("key"), Word::Key(&job.setting().key)])
 }
 
 /// Appends the line with the numbers and the lengths of the trajectories.
-fn push_setting_line(job: &Job, out: &mut Bytes) -> Result<(), Memory>
+pub fn push_setting_line(job: &Job, out: &mut Bytes) -> Result<(), Memory>
     ensures { AppendsText out.old out.new (definition.setting_line job.now) result }
 {
     let setting = job.setting();

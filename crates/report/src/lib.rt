@@ -18,6 +18,7 @@ mod rules;
 mod serial;
 mod shift;
 mod stops;
+pub mod trace;
 mod values;
 mod walks;
 pub mod writing;

@@ -70,7 +70,7 @@ pub fn push_words(out: &mut Bytes, words: &[Word]) -> Result<(), Memory>
 }
 
 /// Appends a space and the word.
-fn push_next(out: &mut Bytes, word: &Word) -> Result<(), Memory>
+pub fn push_next(out: &mut Bytes, word: &Word) -> Result<(), Memory>
     ensures { AppendsText out.old out.new (32 ∷ word_text word.now) result }
 {
     out.push(b' ')?;

@@ -5,7 +5,7 @@ ghost use Rattle.ckpt_store.specs.View.{slot_view};
 ghost use Rattle.hex.specs.Hex.{encode_lower};
 ghost use Rattle.report.specs.Ended.{ending_of, columns_kept};
 ghost use Rattle.report.specs.Pieces.{piece_text};
-ghost use Rattle.report.specs.Said.{IsSaid};
+ghost use Rattle.report.specs.Said.{AddsText, IsSaid};
 ghost use Rattle.audit_statement.specs.Endings.{AddsLine, TellsWhy};
 ghost use Rattle.audit_statement.specs.Status.{status_of};
 ghost use Rattle.audit_model.specs.Names.{name_text};
@@ -47,14 +47,21 @@ fn add_pieces<N: Sink>(note: &mut N, going: bool, pieces: &[Piece]) -> bool
     going
 }
 
+/// Goes on with the line of these pieces, where nothing before it failed. Returns whether nothing failed.
+pub fn add_line<N: Sink>(note: &mut N, going: bool, first: &[Piece], pieces: &[Piece]) -> bool
+    ensures { AddsText (N.state note.old) (N.state note.new) going (terms.as_line (map piece_text first.now ++ map piece_text pieces.now)) result }
+{
+    let going = add_pieces(note, going, first);
+    let going = add_pieces(note, going, pieces);
+    add(note, going, b"\n")
+}
+
 // Writes the line that begins with these texts and goes on with the pieces.
 fn say<N: Sink>(note: &mut N, first: &[Piece], pieces: &[Piece])
     ensures { AddsLine (N.state note.old) (N.state note.new) (terms.as_line (map piece_text first.now ++ map piece_text pieces.now)) }
 {
-    let going = add_pieces(note, true, first);
-    let going = add_pieces(note, going, pieces);
     // Nothing follows, whether the whole line was written or a front of it.
-    let _ended = add(note, going, b"\n");
+    let _ended = add_line(note, true, first, pieces);
 }
 
 // Writes the line that is this text.
@@ -147,11 +154,11 @@ fn tell_line<N: Sink>(why: &Ended, note: &mut N)
     }
 }
 
-// The pieces of what a line tells, of which there are at most eight. Behind them stand empty texts.
-type Line<'a> = [Piece<'a>; 8];
+/// The pieces of what a line tells, of which there are at most eight. Behind them stand empty texts.
+pub type Line<'a> = [Piece<'a>; 8];
 
-// The line of these pieces.
-fn line_of<'a>(pieces: &[Piece<'a>]) -> Line<'a>
+/// The line of these pieces.
+pub fn line_of<'a>(pieces: &[Piece<'a>]) -> Line<'a>
     requires { length pieces.now ≤ 8 }
     ensures { terms.as_line (map piece_text result) ≡ terms.as_line (map piece_text pieces.now) }
 {

@@ -7,7 +7,7 @@ use Rattle.std.proofs.Math.Seq.{get_or-append_seam}
 use Rattle.std.proofs.lemmas.List.{get_or_append_left}
 use Rattle.audit_model.specs.declared.outcome.Outcome.{Outcome}
 use Rattle.audit_model.specs.declared.setting.Command.{Command}
-use Rattle.audit_model.specs.declared.setting.Command.TheVariants.{Check, Run, Make, Plans}
+use Rattle.audit_model.specs.declared.setting.Command.TheVariants.{Check, Run, Make, Plans, Trace}
 use Rattle.audit_model.specs.declared.setting.Setting.{Setting}
 use Rattle.audit_model.specs.Job.{Job}
 use Rattle.audit_model.specs.JobOf.{IsJob}
@@ -128,6 +128,7 @@ few_by Check s is = (omega (arith, is.no_walks, is.no_ends), omega (arith, ap le
 few_by Run s is = (is.few, is.few_asks)
 few_by Make s is = (is.few, is.few_asks)
 few_by Plans s is = (is.few, is.few_asks)
+few_by Trace s is = (is.run.few, is.run.few_asks)
 
 -- so has that of a job
 pub few_job : (job : Job) → IsJob job → (job.setting.walks + job.setting.ends ≤ 100000) × (length job.setting.asks ≤ 4)

@@ -1,7 +1,7 @@
 -- What is known of a job that walks some steps.
 use Rattle.std.proofs.Common.{◌≤◌, arith}
 use Rattle.audit_model.specs.declared.setting.Command.{Command}
-use Rattle.audit_model.specs.declared.setting.Command.TheVariants.{Check, Run, Make, Plans}
+use Rattle.audit_model.specs.declared.setting.Command.TheVariants.{Check, Run, Make, Plans, Trace}
 use Rattle.audit_model.specs.declared.setting.Setting.{Setting}
 use Rattle.audit_model.specs.Job.{Job}
 use Rattle.audit_model.specs.JobOf.{IsJob}
@@ -13,6 +13,7 @@ run_by Check setting some within = absurd (omega (arith, some, within.no_steps))
 run_by Run setting some within = within
 run_by Make setting some within = within
 run_by Plans setting some within = within
+run_by Trace setting some within = within.run
 
 -- its setting is within the limits of a run
 pub run_setting : (job : Job) → IsJob job → 1 ≤ job.setting.steps → IsRunSetting job.setting

@@ -10,12 +10,13 @@ use Rattle.audit_model.specs.Faults.{Counts, HasCause, Rose}
 use Rattle.audit_model.specs.State.{Kept as KeeperState}
 use Rattle.audit_model.specs.Told.{IfBothTold, IfTold}
 use Rattle.audit_model.specs.Pair.{Pair, stored, HoldsBytes, KeepsOther}
-use Rattle.audit_model.specs.Tries.{tried_all, tried_too}
+use Rattle.audit_model.specs.Tries.{tried_all, tried_too, try_of}
 use Rattle.audit_model.specs.declared.outcome.Outcome.{Outcome}
 use Rattle.audit_model.specs.Run.{total, by_id}
 use Rattle.audit_model.specs.Times.{times}
 use Rattle.audit_statement.specs.Checkpoint.{IsCheckpoint, checkpoint, job_digest}
 use Rattle.audit_model.specs.declared.place.Place.{Place}
+use Rattle.audit_statement.specs.Due.{Lets}
 use Rattle.ckpt_store.specs.Laws.{IsNewestForFitJobs}
 use Rattle.outcome_book.specs.Booked.{Booked, IsBook}
 use Rattle.tally_desk.specs.declared.entry.Entry.{Entry}
@@ -24,16 +25,16 @@ use Rattle.tally_desk.specs.Entries.{posted_id, ids_of, saves_made, tickets_of, 
 use Rattle.tally_desk.specs.Homes.{IsSaveOf, SlotsAs, booked, tries}
 use Rattle.audit_statement.specs.InOrder.{moved, failed_of}
 use Rattle.tally_desk.specs.InTurn.{AreUnfailed, EndsSaves, RunSavesInTurn, SavesRest, UnfailedRunsSaveInTurn}
-use Rattle.tally_desk.specs.Parts.{Parts, IsPlaceFor}
+use Rattle.tally_desk.specs.Parts.{LetsDesk, Parts, IsPlaceFor}
 use Rattle.tally_desk.specs.Views.{PassView}
 use Rattle.tally_desk.proofs.Marking.{ids_up_to_save}
 use Rattle.tally_desk.proofs.Slotting.{other_is}
 use Rattle.tally_desk.proofs.Trying.{tried_then}
 use Rattle.tally_desk.proofs.Turning.{counts_more}
 use Rattle.tally_desk.specs.Ran.{BothSaved, HasRun, KeepsSome}
-use Rattle.tally_desk.specs.Saves.{IsClosedWith, MakesLastSave}
+use Rattle.tally_desk.specs.Saves.{IsClosedWith, LetsLastSave, MakesLastSave}
 use Rattle.tally_desk.proofs.Failing.{failed_run}
-use Rattle.tally_desk.proofs.Ordering.{are_saves}
+use Rattle.tally_desk.proofs.Ordering.{are_saves, saves_with_last}
 use Rattle.tally_desk.proofs.Tried.{are_run_tries, rest_tries, run_tries}
 
 -- ---- counts of faults
@@ -119,6 +120,20 @@ module _ {C : Type 0} (state : C → KeeperState) (parts : Parts) (v : PassView)
     due = k.closed.due;
     none_missed = sym k.closed.kept.failed_is ∙ none;
   }
+
+  -- the last save is the next of the run, so that a keeper lets it through that lets the run's saves through
+  pub lets_last : (lets : Lets) → LetsDesk lets parts → kept.last_saved ≡ false → LetsLastSave state lets kept digest
+  lets_last lets desk none sound =
+      let place = moved (saves_made posted) parts.place in
+      let all = by_id (total parts.job) (booked parts posted) in
+      let same_all : by_id kept.book.total kept.book.outcomes ≡ all = ap (λ (x : Booked). by_id x.total x.outcomes) k.closed.kept.book_is in
+      let rest_sound : IsCheckpoint (checkpoint 2 (job_digest parts.job) place.generation all) 2 (job_digest parts.job) place.generation all =
+      subst (λ (x : List ℕ × Place × List Outcome). IsCheckpoint (checkpoint 2 x.0 x.1.generation x.2) 2 x.0 x.1.generation x.2)
+      (λ i. (k.digest_is i, k.closed.kept.place_is i, same_all i)) sound in
+      subst (λ (x : Place × List ℕ × List Outcome). lets (state kept.keeper) x.0.slot (checkpoint 2 x.1 x.0.generation x.2))
+      (λ i. (sym k.closed.kept.place_is i, sym k.digest_is i, sym same_all i))
+      (desk (state kept.keeper) (tries parts posted) (try_of place.slot (checkpoint 2 (job_digest parts.job) place.generation all) true) k.closed.kept.tried_is
+      (saves_with_last parts k.closed.plan true posted of_todo in_order k.closed.kept.sound k.closed.due k.closed.all (sym none ∙ k.closed.last) rest_sound))
 
   at_moved : (a c : Pair) → SlotsAs parts a c kept.place posted → SlotsAs parts a c (moved (saves_made posted) parts.place) posted
   at_moved a c = subst (λ (p : Place). SlotsAs parts a c p posted) k.closed.kept.place_is

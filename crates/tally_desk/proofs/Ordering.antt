@@ -2,19 +2,22 @@
 use Rattle.std.proofs.Common.{◌≡◌, ℕ, suc, ◌+◌, ◌*◌, ◌/◌, ◌%◌, ◌<◌, ◌≤◌, ◌==◌, ◌&&◌, Bool, true, false, cond, List, [], ◌∷◌, ◌++◌, take, length, length-append, map, refl, sym, ap, ◌∙◌, subst, append_assoc, IsPermutation, suc-mul, div-add-mod', arith}
 use Rattle.std.specs.List.{All, range_with_len}
 use Rattle.std.proofs.lemmas.Bool.{true≢false}
-use Rattle.std.proofs.lemmas.List.{append-nil, length-map, length_push, map-append, take_all, take_at}
+use Rattle.std.proofs.lemmas.List.{append-nil, length-map, length_push, map-append, take-append-le, take_all, take_at}
 use Rattle.std.proofs.lemmas.List.Elements.{All-head, All-tail}
-use Rattle.std.proofs.lemmas.Nat.{div-mul-add}
+use Rattle.std.proofs.lemmas.Nat.{div-mul-add, le-div, mul-le}
 use Rattle.std.proofs.Math.Nat.{mod-lt}
 use mathlib.Core.Logic.{dite}
 use native.Mathlib.Decide.{ℕ_discrete}
 use Rattle.audit_model.specs.Tries.{Try}
 use Rattle.audit_model.specs.declared.outcome.Outcome.{Outcome}
+use Rattle.audit_model.specs.declared.place.Place.{Place}
 use Rattle.audit_model.specs.Run.{total, by_id}
 use Rattle.audit_model.specs.Times.{times}
+use Rattle.audit_model.proofs.Times.{cut_at, one_same, permutation_from_times, times-append, times-cons}
 use Rattle.audit_model.specs.Trajectory.{outcome}
 use Rattle.audit_statement.specs.Checkpoint.{IsCheckpoint, checkpoint, job_digest}
 use Rattle.audit_statement.specs.Draw.{draw}
+use Rattle.audit_statement.specs.InOrder.{AreSavesSoFar}
 use Rattle.tally_desk.specs.declared.entry.Entry.{Entry}
 use Rattle.tally_desk.specs.Desks.{AreDue}
 use Rattle.tally_desk.specs.Entries.{ends_saved, ends_saved_from, posted_id, ids_of, is_due, saves_made, tickets_of}
@@ -26,6 +29,16 @@ use Rattle.tally_desk.proofs.Marking.{next_turn}
 use Rattle.tally_desk.proofs.Regular.{due_later, due_next, first_ticket, next_group, next_less, other_tickets}
 use Rattle.tally_desk.proofs.Holding.{moved_all}
 use Rattle.tally_desk.proofs.Tried.{fewer, later as later_ones, rest_tries, run_tries, sound_rest}
+
+-- ids of a list, each no more often than there, and what is left of the list
+left_over : (xs ys : List ℕ) → ((id : ℕ) → times id xs ≤ times id ys) → (more : List ℕ) × ((id : ℕ) → times id (xs ++ more) ≡ times id ys)
+left_over [] ys fewer_ids = (ys, λ id. refl)
+left_over (x ∷ xs) ys fewer_ids =
+    let cut = cut_at x ys (omega (arith, fewer_ids x, times-cons x x xs, one_same x)) in
+    let whole : (id : ℕ) → times id ys ≡ times id (x ∷ []) + times id (cut.0 ++ cut.1) =
+    λ id. omega (arith, ap (times id) cut.2, times-append id cut.0 (x ∷ cut.1), times-cons id x cut.1, times-cons id x [], times-append id cut.0 cut.1) in
+    let r = left_over xs (cut.0 ++ cut.1) (λ id. omega (arith, fewer_ids id, whole id, times-cons id x xs, times-cons id x [])) in
+    (r.0, λ id. omega (arith, r.1 id, whole id, times-cons id x (xs ++ r.0), times-cons id x []))
 
 module _ (parts : Parts) (plan : IsPlan parts) where
   abbrev v : ℕ
@@ -258,3 +271,65 @@ module _ (parts : Parts) (plan : IsPlan parts) where
           length-append (tries parts posted) (rest_tries b succeeded parts posted) in
           both ∙ (λ i. groups i + rest_count b i) ∙ ap (λ (x : Bool). length posted / v + cond {A = ℕ} x 0 1) test
           ∙ ap (λ (n : ℕ). count_of_tries v n (run_tries b succeeded parts posted)) (sym long)
+
+  -- ---- the saves so far
+
+  -- more ids change nothing of saves that are of no more ids than there are
+  more_ids : (ids more : List ℕ) (n : ℕ) (place : Place) (ts : List Try) → ((k : ℕ) → k < length ts → (n + k) * v ≤ length ids)
+      → AreSavesFrom parts.job parts.opening v ids n place ts → AreSavesFrom parts.job parts.opening v (ids ++ more) n place ts
+  more_ids ids more n place [] enough goes = tt
+  more_ids ids more n place (t ∷ ts) enough goes =
+      let here : n * v ≤ length ids = subst (λ (m : ℕ). m * v ≤ length ids) (let same : n + 0 ≡ n = omega arith in same) (enough 0 (omega arith)) in (
+        subst (λ (l : List ℕ). IsSaveOfIds parts.job parts.opening place l t) (sym (take-append-le (n * v) ids more here)) goes.0,
+        more_ids ids more (suc n) (place_after place t) ts
+            (λ k less. subst (λ (m : ℕ). m * v ≤ length ids) (let same : n + suc k ≡ suc n + k = omega arith in same) (enough (suc k) (omega arith))) goes.1,
+      )
+
+  -- what was tried with these posts is the first of the saves of a run that takes in their ids first
+  pub saves_so_far : (posted : List Entry) → OfTodo posted → tickets_of posted ≡ range_with_len 0 (length posted) → All (IsSound parts.job) (made parts posted) → AreDue parts posted
+      → AreSavesSoFar parts.job parts.opening parts.save_every parts.place parts.todo (tries parts posted)
+  saves_so_far posted of_todo tickets sound due =
+      let left = left_over (ids_of posted) parts.todo of_todo in record {
+        walked = ids_of posted ++ left.0;
+        all_walked = permutation_from_times (ids_of posted ++ left.0) parts.todo left.1;
+        first = record {
+          each = more_ids (ids_of posted) left.0 1 parts.place (tries parts posted) enough goes;
+          few = omega (arith, groups, more_groups left.0);
+        };
+      }
+    where
+      none : 0 ≡ 0 * v + 0
+      none = omega arith
+
+      from : Tickets posted (0 * v + 0)
+      from = tickets ∙ ap (λ (z : ℕ). range_with_len z (length posted)) none
+
+      goes : AreSavesFrom parts.job parts.opening v (ids_of posted) 1 parts.place (tries parts posted)
+      goes = subst (From posted 1 []) (append-nil (tries parts posted)) (order posted posted [] 0 0 [] refl none (omega (arith, plan.every)) of_todo from sound due tt)
+
+      long : length (ids_of posted) ≡ length posted
+      long = length-map posted posted_id
+
+      groups : length (tries parts posted) ≡ length posted / v
+      groups =
+          (let same : length (tries parts posted) ≡ length (tries parts posted) + 0 = omega arith in same) ∙ count posted [] 0 0 (omega (arith, plan.every)) from
+          ∙ ap (λ (z : ℕ). z / v) (let same : 0 * v + 0 + length posted ≡ length posted = omega arith in same)
+
+      within : (length posted / v) * v ≤ length posted
+      within = let parted = div-add-mod' (length posted) v in omega (arith, parted)
+
+      enough : (k : ℕ) → k < length (tries parts posted) → (1 + k) * v ≤ length (ids_of posted)
+      enough k less =
+          let le : (1 + k) * v ≤ (length posted / v) * v = mul-le (1 + k) v (length posted / v) v (omega (arith, less, groups)) (omega arith) in
+          omega (arith, le, within, long)
+
+      more_groups : (more : List ℕ) → length posted / v ≤ length (ids_of posted ++ more) / v
+      more_groups more = le-div (length posted / v) (length (ids_of posted ++ more)) v (omega (arith, plan.every)) (omega (arith, within, length-append (ids_of posted) more, long))
+
+  -- and so it is with a last save, of all
+  pub saves_with_last : (succeeded : Bool) (posted : List Entry) → OfTodo posted → tickets_of posted ≡ range_with_len 0 (length posted) → All (IsSound parts.job) (made parts posted)
+      → AreDue parts posted → IsPermutation (ids_of posted) parts.todo → false ≡ ends_saved posted → IsSoundAt (moved (saves_made posted) parts.place).generation posted
+      → AreSavesSoFar parts.job parts.opening parts.save_every parts.place parts.todo (run_tries false succeeded parts posted)
+  saves_with_last succeeded posted of_todo tickets sound due all last rest_sound =
+      let saves = are_saves false succeeded posted of_todo tickets sound due last (λ _. rest_sound) in
+      record { walked = ids_of posted; all_walked = all; first = record { each = saves.each; few = omega (arith, saves.counted) } }

@@ -199,6 +199,7 @@ module _ {C : Type 0} (HomeAs : Parts → Home C → List Entry → Type 0) (par
             all_claimed x,
             sum_le (entry_sum (λ e. one x (posted_id e))) (λ (z : PassView). times x (claimed_ids parts z)) vs (λ j z e. let r = posts_within parts c posted z x (t.each j z e) in omega arith),
           );
+          due = t.due;
           to_do = omega (arith, own_post, here, claimed_to_do i);
           unposted = omega (arith, posted_times i, all_claimed i, unposted, todo_once parts t.plan i);
         }

@@ -43,7 +43,7 @@ undue_sound parts l e is sound = subst (All (IsSound parts.job)) (sym (undue_mad
 -- ---- and one with which a save was due
 
 -- a post with which one is due tries one
-due_made : (parts : Parts) (l : List Entry) (e : Entry) → is_due parts.save_every e ≡ true → made parts (l ++ e ∷ []) ≡ made parts l ++ made_with parts l e ∷ []
+pub due_made : (parts : Parts) (l : List Entry) (e : Entry) → is_due parts.save_every e ≡ true → made parts (l ++ e ∷ []) ≡ made parts l ++ made_with parts l e ∷ []
 due_made parts l e is = made_push parts [] l e ∙ ap (λ (b : Bool). made parts l ++ cond b (made_with parts l e ∷ []) []) is
 
 -- so there is one try more

@@ -1,7 +1,8 @@
 -- One turn keeps what the slot of a desk holds.
-use Rattle.std.proofs.Common.{◌≡◌, ℕ, suc, ◌+◌, ◌-◌, ◌*◌, ◌%◌, ◌^◌, ◌<◌, ◌≤◌, ◌==◌, ◌&&◌, min, not, Bool, true, false, cond, List, [], ◌∷◌, ◌++◌, length, length-append, Option, Some, None, refl, sym, ap, ◌∙◌, subst, arith, vec_capacity}
-use Rattle.std.specs.List.{All, list_all}
-use Rattle.std.proofs.lemmas.List.{length-map, map-append}
+use Rattle.std.proofs.Common.{◌≡◌, ℕ, suc, ◌+◌, ◌-◌, ◌*◌, ◌%◌, ◌^◌, ◌<◌, ◌≤◌, ◌==◌, ◌&&◌, min, not, Bool, true, false, cond, List, [], ◌∷◌, ◌++◌, length, length-append, map, Option, Some, None, refl, sym, ap, ◌∙◌, subst, arith, vec_capacity}
+use Rattle.std.specs.List.{All, list_all, range_with_len}
+use Rattle.std.proofs.lemmas.List.{length-map, length_push, map-append}
+use Rattle.std.proofs.lemmas.List.Elements.{All-push}
 use Rattle.std.proofs.lemmas.List.Sums.{count_by-le-length}
 use Rattle.std.proofs.lemmas.Bool.{true≢false}
 use Rattle.audit_model.specs.Faults.{Counts}
@@ -19,21 +20,25 @@ use Rattle.audit_model.specs.Times.{times}
 use Rattle.audit_model.proofs.Times.{length-le, one_more_id}
 use Rattle.audit_statement.specs.Checkpoint.{IsCheckpoint, checkpoint, job_digest}
 use Rattle.audit_model.specs.declared.place.Place.{Place}
+use Rattle.audit_statement.specs.Due.{Lets}
+use Rattle.audit_statement.specs.InOrder.{AreSavesSoFar}
 use Rattle.ckpt_store.specs.Laws.{CheckpointsAreOurs, IsNewestForFitJobs, SavedSlotsAreNewest}
 use Rattle.audit_statement.specs.Draw.{draw}
 use Rattle.outcome_book.specs.Booked.{Booked, HasFewVisits}
 use Rattle.tally_desk.specs.declared.entry.Entry.{Entry}
 use Rattle.tally_desk.specs.declared.home.Home.{Home}
-use Rattle.tally_desk.specs.Entries.{post_of, posted_id, ids_of, is_due, is_missed, saves_made, missed}
-use Rattle.tally_desk.specs.Homes.{HasTurned, IsSound, KeptAs, MayTurn, SlotsAs, booked, made, tries}
+use Rattle.tally_desk.specs.Entries.{post_of, posted_id, ids_of, is_due, is_missed, saves_made, missed, ticket_of, tickets_of}
+use Rattle.tally_desk.specs.Homes.{HasTurned, IsSound, KeptAs, MayTurn, SlotsAs, booked, made, made_with, tries, try_made}
 use Rattle.audit_statement.specs.InOrder.{moved, next_place}
 use Rattle.tally_desk.specs.Parts.{Parts, IsPlan, IsPlaceFor}
-use Rattle.tally_desk.specs.Saving.{SavedWhereDue, TriedSave, sorted_of}
+use Rattle.tally_desk.specs.Saving.{LetsSave, SavedWhereDue, TriedSave, bytes_of, sorted_of}
+use Rattle.tally_desk.proofs.Bounds.{range_push}
 use Rattle.tally_desk.proofs.Booking.{absent_of_book, booked-push, booked_fit, by_id_fit}
 use Rattle.claim_counter.proofs.Sharing.{found_is}
 use Rattle.tally_desk.proofs.Marking.{missed-push, saves-push}
 use Rattle.tally_desk.proofs.Slotting.{moved_slot, moved_generation, other_is, saved_slots, told_map, unsaved_slots}
-use Rattle.tally_desk.proofs.Trying.{due_sound, due_tries, undue_sound, undue_tries}
+use Rattle.tally_desk.proofs.Ordering.{saves_so_far}
+use Rattle.tally_desk.proofs.Trying.{due_made, due_sound, due_tries, undue_sound, undue_tries}
 use Rattle.tally_desk.proofs.Todo.{todo_small, todo_within}
 
 -- ---- counts of faults
@@ -109,8 +114,8 @@ module _ (newest : SavedSlotsAreNewest) (ours : CheckpointsAreOurs) where
 
 -- ---- the turn
 
-module _ {C : Type 0} (state : C → Kept) (parts : Parts) (y : Home C) (l : List Entry) (o : Outcome)
-    (may : MayTurn state parts y l o) where
+module _ {C : Type 0} (state : C → Kept) (lets : Lets) (parts : Parts) (y : Home C) (l : List Entry) (o : Outcome)
+    (may : MayTurn state lets parts y l o) where
   abbrev next : Bool → List Entry
   next saved = l ++ post_of (length l) o.id saved ∷ []
 
@@ -174,6 +179,31 @@ module _ {C : Type 0} (state : C → Kept) (parts : Parts) (y : Home C) (l : Lis
         outcomes_more ∙ ap (λ (q : Booked). q.outcomes ++ o ∷ []) may.holds.kept.book_is
         ∙ ap (λ (x : Outcome). booked parts l ++ x ∷ []) may.right ∙ sym (booked-push parts l (post_of (length l) o.id saved)) in
         λ k. record { total = totals k; outcomes = outcomes k }
+
+    -- the tickets are still the places
+    tickets_next : (saved : Bool) → tickets_of (next saved) ≡ range_with_len 0 (length (next saved))
+    tickets_next saved =
+        map-append ticket_of l (post_of (length l) o.id saved ∷ []) ∙ ap (λ (q : List ℕ). q ++ length l ∷ []) may.in_order
+        ∙ ap (λ (k : ℕ). range_with_len 0 (length l) ++ k ∷ []) (let same : length l ≡ 0 + length l = omega arith in same) ∙ sym (range_push 0 (length l))
+        ∙ ap (range_with_len 0) (let one_more : suc (length l) ≡ length l + 1 = omega arith in one_more ∙ sym (length_push l (post_of (length l) o.id saved)))
+
+    -- the save that is due is the next of the run, so that a keeper lets it through that lets the run's saves through
+    pub lets_next : is_due parts.save_every (post_of (length l) o.id true) ≡ true → LetsSave state lets m
+    lets_next due sound =
+        let e = post_of (length l) o.id true in
+        let k = may.holds.kept in
+        let digests : y.digest ≡ job_digest parts.job = may.holds.equipped.digest in
+        let sorted : sorted_of m ≡ by_id (total parts.job) (booked parts (next true)) = ap (λ (q : Booked). by_id q.total q.outcomes) (book_is true) in
+        let one_sound : IsSound parts.job (made_with parts l e) =
+        subst (λ (x : List ℕ × Place × List Outcome). IsCheckpoint (checkpoint 2 x.0 x.1.generation x.2) 2 x.0 x.1.generation x.2) (λ i. (digests i, k.place_is i, sorted i)) sound in
+        let so_far = saves_so_far parts may.plan (next true) (next_of_todo true) (tickets_next true) (due_sound parts l e due one_sound k.sound)
+        (All-push (λ (x : Entry). x.saved ≡ true → is_due parts.save_every x ≡ true) l e may.due (λ _. due)) in
+        let one_more : tries parts (next true) ≡ tries parts l ++ try_made parts.job (made_with parts l e) ∷ [] =
+        ap (map (try_made parts.job)) (due_made parts l e due) ∙ map-append (try_made parts.job) (made parts l) (made_with parts l e ∷ []) in
+        subst (λ (x : Place × List ℕ × List Outcome). lets (state y.keeper) x.0.slot (checkpoint 2 x.1 x.0.generation x.2))
+        (λ i. (sym k.place_is i, sym digests i, sym sorted i))
+        (may.holds.run_saves (state y.keeper) (tries parts l) (try_made parts.job (made_with parts l e)) k.tried_is
+        (subst (AreSavesSoFar parts.job parts.opening parts.save_every parts.place parts.todo) one_more so_far))
 
     -- nothing was saved, and nothing was due
     undone : is_due parts.save_every (post_of (length l) o.id false) ≡ false → Done m false
@@ -309,7 +339,7 @@ module _ {C : Type 0} (state : C → Kept) (parts : Parts) (y : Home C) (l : Lis
   -- the entry was appended
   pub turned : (n z : Home C) (saved : Bool) → Done n saved → z.posted.items ≡ n.posted.items ++ post_of (length l) o.id saved ∷ []
       → vec_capacity z.posted ≡ vec_capacity n.posted → z.book ≡ n.book → z.keeper ≡ n.keeper → z.place ≡ n.place → z.failed_saves ≡ n.failed_saves
-      → z.save_every ≡ n.save_every → z.digest ≡ n.digest → z.sorted ≡ n.sorted → z.room ≡ n.room → HasTurned state parts z l o saved
+      → z.save_every ≡ n.save_every → z.digest ≡ n.digest → z.sorted ≡ n.sorted → z.room ≡ n.room → HasTurned state lets parts z l o saved
   turned n z saved d items capacity book keeper place failed every digest sorted room = record {
     holds = record {
       entries = items ∙ ap (λ (q : List Entry). q ++ post_of (length l) o.id saved ∷ []) (ap (λ v. v.items) d.posted ∙ may.holds.entries);
@@ -322,6 +352,7 @@ module _ {C : Type 0} (state : C → Kept) (parts : Parts) (y : Home C) (l : Lis
         sorted_room = subst (λ (q : RoomyOutcomes). total parts.job ≤ length q.items + q.spare) (sym sorted) d.sorted_room;
         save_room = subst (λ (q : RoomyBytes). 84 + 80 * total parts.job ≤ length q.items + q.spare) (sym room) d.save_room;
       };
+      run_saves = may.holds.run_saves;
     };
     due = d.due;
   }

@@ -138,11 +138,13 @@ pub record IsWaiting (parts : Parts) (t i : ℕ) (v : PassView) : Type 0 where
   pub weighs : 0 < v.own.weight
   pub turn : v.turn ≡ waiting t i
 
--- these posts may be followed by one of the id: the tickets of these are their places, and their ids are ids to do, each once, without this one
+-- these posts may be followed by one of the id: the tickets of these are their places, their ids are ids to do, each once, without this one, and only those with
+-- which a save was due are marked
 pub record AwaitsPost (parts : Parts) (t i : ℕ) (posted : List Entry) : Type 0 where
   pub plan : IsPlan parts
   pub in_order : tickets_of posted ≡ range_with_len 0 t
   pub of_todo : (id : ℕ) → times id (ids_of posted) ≤ times id parts.todo
+  pub due : AreDue parts posted
   pub to_do : 0 < times i parts.todo
   pub unposted : times i (ids_of posted) ≡ 0
 

@@ -13,12 +13,14 @@ use Rattle.audit_model.specs.Times.{times}
 use Rattle.audit_statement.specs.Checkpoint.{IsCheckpoint, checkpoint, job_digest}
 use Rattle.audit_model.specs.declared.place.Place.{Place}
 use Rattle.audit_statement.specs.Slots.{newest_for}
+use Rattle.audit_statement.specs.Due.{Lets}
 use Rattle.outcome_book.specs.Booked.{Booked}
 use Rattle.tally_desk.specs.declared.entry.Entry.{Entry}
 use Rattle.tally_desk.specs.declared.home.Home.{Home}
 use Rattle.tally_desk.specs.Entries.{post_of, ids_of, tickets_of, saves_made, up_to_save, after_save, ends_saved, is_due, missed}
 use Rattle.claim_counter.specs.Walks.{found}
-use Rattle.tally_desk.specs.Parts.{Parts, IsPlan}
+use Rattle.tally_desk.specs.Desks.{AreDue}
+use Rattle.tally_desk.specs.Parts.{LetsDesk, Parts, IsPlan}
 use Rattle.audit_statement.specs.InOrder.{moved}
 
 -- ---- the book
@@ -120,19 +122,22 @@ module _ {C : Type 0} (state : C → Kept) where
     pub sorted_room : total parts.job ≤ length home.sorted.items + home.sorted.spare
     pub save_room : 84 + 80 * total parts.job ≤ length home.room.items + home.room.spare
 
-  -- what the slot holds after these posts
+module _ {C : Type 0} (state : C → Kept) (lets : Lets) where
+  -- what the slot holds after these posts, with a keeper that lets each save of the run through that is due next
   pub record HomeAs (parts : Parts) (home : Home C) (posted : List Entry) : Type 0 where
     pub entries : home.posted.items ≡ posted
-    pub kept : KeptAs parts home.book home.keeper home.place home.failed_saves posted
-    pub equipped : IsEquipped parts home
+    pub kept : KeptAs state parts home.book home.keeper home.place home.failed_saves posted
+    pub equipped : IsEquipped state parts home
+    pub run_saves : LetsDesk lets parts
 
-  -- The outcome may be posted after these posts: the tickets of these are their places, their ids are different ids to do, and the outcome is
-  -- what the trajectory finds of an id to do that none of them has.
+  -- The outcome may be posted after these posts: the tickets of these are their places, their ids are different ids to do, only those with which a save was
+  -- due are marked, and the outcome is what the trajectory finds of an id to do that none of them has.
   pub record MayTurn (parts : Parts) (home : Home C) (posted : List Entry) (o : Outcome) : Type 0 where
     pub plan : IsPlan parts
     pub holds : HomeAs parts home posted
     pub in_order : tickets_of posted ≡ range_with_len 0 (length posted)
     pub of_todo : (id : ℕ) → times id (ids_of posted) ≤ times id parts.todo
+    pub due : AreDue parts posted
     pub right : o ≡ found parts.job o.id
     pub to_do : 0 < times o.id parts.todo
     pub unposted : times o.id (ids_of posted) ≡ 0

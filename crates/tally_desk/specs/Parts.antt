@@ -11,6 +11,7 @@ use Rattle.audit_model.specs.Run.{total, fits, run_ids}
 use Rattle.audit_statement.specs.Checkpoint.{job_digest}
 use Rattle.audit_model.specs.declared.place.Place.{Place}
 use Rattle.audit_statement.specs.Slots.{place_for}
+use Rattle.audit_statement.specs.Due.{Lets, LetsRun}
 use Rattle.tally_desk.specs.declared.handing.DeskPlan.{DeskPlan}
 use Rattle.outcome_book.specs.Booked.{Booked, IsBook}
 
@@ -57,3 +58,7 @@ pub record IsPlan (parts : Parts) : Type 0 where
   pub slot : parts.place.slot < 2
   pub generation : parts.place.generation < 3
   pub place : IsPlaceFor parts.job parts.keeper.slots parts.place
+
+-- a keeper lets each save through that is due next at the desk
+abbrev pub LetsDesk : Lets → Parts → Type 0
+LetsDesk lets parts = LetsRun lets parts.keeper.tried parts.job parts.opening parts.save_every parts.place parts.todo

@@ -9,6 +9,8 @@ use Rattle.audit_model.specs.Tries.{tried_too}
 use Rattle.audit_model.specs.declared.outcome.Outcome.{Outcome}
 use Rattle.audit_statement.specs.Checkpoint.{IsCheckpoint, checkpoint, job_digest}
 use Rattle.audit_model.specs.declared.place.Place.{Place}
+use Rattle.audit_model.specs.Run.{by_id}
+use Rattle.audit_statement.specs.Due.{Lets}
 use Rattle.ckpt_store.specs.Laws.{IsNewestForFitJobs}
 use Rattle.tally_desk.specs.declared.handing.Kept.{Kept}
 use Rattle.tally_desk.specs.Parts.{Parts}
@@ -19,6 +21,13 @@ use Rattle.tally_desk.specs.Views.{PassView}
 pub record IsClosedWith {C : Type 0} (state : C → KeeperState) (parts : Parts) (v : PassView) (kept : Kept C) (digest : List ℕ) : Type 0 where
   pub closed : IsClosed state parts v kept.book kept.keeper kept.place kept.failed_saves kept.last_saved
   pub digest_is : digest ≡ job_digest parts.job
+
+-- the keeper lets a save of all outcomes by rising id through, which is a checkpoint
+abbrev pub LetsLastSave : {C : Type 0} → (C → KeeperState) → Lets → Kept C → List ℕ → Type 0
+LetsLastSave state lets kept digest =
+    let outcomes = by_id kept.book.total kept.book.outcomes in
+    let bytes = checkpoint 2 digest kept.place.generation outcomes in
+    IsCheckpoint bytes 2 digest kept.place.generation outcomes → lets (state kept.keeper) kept.place.slot bytes
 
 -- a checkpoint of these outcomes was saved at the place, or the save failed
 pub record SavesThese {C : Type 0} (state : C → KeeperState) (before now : C) (place : Place) (digest : List ℕ)

@@ -7,6 +7,7 @@ use Rattle.audit_model.specs.Pair.{HoldsBytes, KeepsOther}
 use Rattle.audit_model.specs.Tries.{tried_too}
 use Rattle.audit_model.specs.declared.outcome.Outcome.{Outcome}
 use Rattle.audit_statement.specs.Checkpoint.{IsCheckpoint, checkpoint}
+use Rattle.audit_statement.specs.Due.{Lets}
 use Rattle.ckpt_store.specs.Laws.{IsNewestForFitJobs}
 use Rattle.audit_model.specs.Run.{by_id}
 use Rattle.tally_desk.specs.declared.home.Home.{Home}
@@ -31,6 +32,10 @@ module _ {C : Type 0} where
     pub save_room : length now.room.items + now.room.spare ≡ length before.room.items + before.room.spare
 
   module _ (state : C → Kept) where
+    -- the keeper lets a save of the book through, which is a checkpoint
+    abbrev pub LetsSave : Lets → Home C → Type 0
+    LetsSave lets home = IsCheckpoint (bytes_of home) 2 home.digest home.place.generation (sorted_of home) → lets (state home.keeper) home.place.slot (bytes_of home)
+
     -- the save succeeded
     pub record Saved (before now : Home C) : Type 0 where
       pub place : now.place ≡ next_place before.place

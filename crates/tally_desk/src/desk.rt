@@ -44,8 +44,9 @@ impl<C: Keeper> Desk<C> {
     ghost use Rattle.tally_desk.specs.Entries.{ids_of};
     ghost use Rattle.tally_desk.specs.Founded.{parts_of};
     ghost use Rattle.tally_desk.specs.Homes.{HomeAs};
-    ghost use Rattle.tally_desk.specs.Parts.{MayFound};
+    ghost use Rattle.tally_desk.specs.Parts.{LetsDesk, MayFound};
     ghost use Rattle.tally_desk.specs.Passes.{Belongs, Claims, HasPostedAll, IsClosed, Posts, view_of};
+    ghost use Rattle.tally_desk.specs.Ran.{starts};
     ghost use Rattle.tally_desk.specs.Views.{waiting};
 
     /// A desk for the ids to do, which the book lacks, with at most `seats` passes, and the first of these.
@@ -61,6 +62,7 @@ impl<C: Keeper> Desk<C> {
     ) -> Result<(Desk<C>, DeskPass), Refused<C>>
         requires found { MayFound job.now (C.state outset.keeper).slots outset.plan outset.todo outset.book }
         requires seats { (1 ≤ seats) × (seats ≤ 33) }
+        requires lets { LetsDesk C.lets (starts C.state job.now outset.book.outcomes outset.todo outset.plan.save_every seats outset.plan.place outset.keeper) }
         ensures parts { IfOk result (λ d. parts_of C.state d.0.table.shared.key ≡ record {
           job = job.now;
           opening = outset.book.outcomes;
@@ -257,7 +259,7 @@ impl<C: Keeper> Desk<C> {
         requires empty { seat.old.me.1 ≡ [] }
         requires waits { IsWaiting (parts_of C.state self.now.table.shared.key) ticket id seat.old.me.0 }
         ensures table { seat.new.table_id ≡ seat.old.table_id }
-        ensures begins { BeginsTurn (HomeAs C.state) (parts_of C.state self.now.table.shared.key) ticket id seat.old.me seat.new.me }
+        ensures begins { BeginsTurn (HomeAs C.state C.lets) (parts_of C.state self.now.table.shared.key) ticket id seat.old.me seat.new.me }
     {
         for _ in rt.forever() {
             if self.table.shared.load::<Look>(seat, 2) == ticket {
@@ -272,7 +274,7 @@ impl<C: Keeper> Desk<C> {
     fn serve(&self, seat: &mut Seat<Home<C>, View>, ticket: u64, outcome: Outcome)
         requires table { seat.old.table_id ≡ self.now.table.shared.table_id }
         requires right { outcome ≡ found self.now.table.shared.key.job.value outcome.id }
-        requires turn { IsInTurn (HomeAs C.state) (parts_of C.state self.now.table.shared.key) ticket outcome.id seat.old.me }
+        requires turn { IsInTurn (HomeAs C.state C.lets) (parts_of C.state self.now.table.shared.key) ticket outcome.id seat.old.me }
         ensures table { seat.new.table_id ≡ seat.old.table_id }
         ensures served { HasServed ticket outcome.id seat.old.me seat.new.me }
     {

@@ -112,7 +112,7 @@ pub(crate) fn open<C: Keeper>(
     Refused<C>,
 >
     requires plan { IsPlan (parts_of C.state founding.now) }
-    requires home { HomeAs C.state (parts_of C.state founding.now) home [] }
+    requires home { HomeAs C.state C.lets (parts_of C.state founding.now) home [] }
     ensures counts { IfOk result (λ t. (t.0.shared.table_id.words ≡ 3) × (t.0.shared.table_id.slots ≡ 1)) }
     ensures key { IfOk result (λ t. t.0.shared.key ≡ founding.now) }
     ensures seat { IfOk result (λ t. (t.1.table_id ≡ t.0.shared.table_id) × (t.1.me ≡ (first_view (parts_of C.state founding.now), []))) }

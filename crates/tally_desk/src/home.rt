@@ -28,20 +28,21 @@ pub struct Home<C> {
 }
 
 impl<C: Keeper> Home<C> {
-    ghost use Rattle.std.specs.Prelude.{◌≡◌, ◌+◌, ◌^◌, ◌<◌, ◌≤◌, ◌∷◌, [], ◌++◌, List, length};
+    ghost use Rattle.std.specs.Prelude.{◌≡◌, ◌+◌, ◌%◌, ◌^◌, ◌<◌, ◌≤◌, ◌==◌, ◌∷◌, [], ◌++◌, List, length, true};
     ghost use Rattle.ckpt_store.specs.Places.{IsPlace};
     ghost use Rattle.tally_desk.specs.declared.entry.Entry as model;
     ghost use Rattle.tally_desk.specs.Entries.{post_of};
     ghost use Rattle.tally_desk.specs.Homes.{HasTurned, MayTurn};
     ghost use Rattle.tally_desk.specs.Parts.{Parts};
     ghost use Rattle.tally_desk.specs.Rooms.{HasSaveRoom};
-    ghost use Rattle.tally_desk.specs.Saving.{SavedWhereDue, TriedSave};
+    ghost use Rattle.tally_desk.specs.Saving.{LetsSave, SavedWhereDue, TriedSave};
 
     // Saves a checkpoint of the book. Whether the save succeeded.
     fn save_book(&mut self) -> bool
         requires place { IsPlace self.old.place }
         requires count { self.old.failed_saves + 1 < 2 ^ 32 }
         requires room { HasSaveRoom self.old.book.total self.old.sorted self.old.room }
+        requires lets { LetsSave C.state C.lets self.old }
         ensures { TriedSave C.state self.old self.new result }
     {
         // Called for what its contract says: the book holds no more than it has room for.
@@ -72,6 +73,7 @@ impl<C: Keeper> Home<C> {
         requires place { IsPlace self.old.place }
         requires count { self.old.failed_saves + 1 < 2 ^ 32 }
         requires room { HasSaveRoom self.old.book.total self.old.sorted self.old.room }
+        requires lets { (posts % self.old.save_every == 0) ≡ true → LetsSave C.state C.lets self.old }
         ensures { SavedWhereDue C.state posts self.old self.new result }
     {
         if posts % u64::from(self.save_every) != 0 {
@@ -83,9 +85,9 @@ impl<C: Keeper> Home<C> {
     /// Appends an outcome, and saves a checkpoint of the book where one is due: each time that the number of posts is a multiple. Whether a
     /// save was made and succeeded. `todo` are the ids of the run. It takes no memory but the keeper's.
     pub fn turn(&mut self, outcome: Outcome, todo: &[u32]) -> bool
-        requires { (parts : Parts) × ((posted : List model.Entry) × MayTurn C.state parts self.old posted outcome) }
-        ensures turned { (parts : Parts) (posted : List model.Entry) → MayTurn C.state parts self.old posted outcome
-            → HasTurned C.state parts self.new posted outcome result }
+        requires { (parts : Parts) × ((posted : List model.Entry) × MayTurn C.state C.lets parts self.old posted outcome) }
+        ensures turned { (parts : Parts) (posted : List model.Entry) → MayTurn C.state C.lets parts self.old posted outcome
+            → HasTurned C.state C.lets parts self.new posted outcome result }
         ensures entry { self.new.posted.items ≡ self.old.posted.items ++ post_of (length self.old.posted.items) outcome.id result ∷ [] }
     {
         // Laws, called for what their contracts say: what is saved is in the newest slot and is the job's, and bins add up to few enough.

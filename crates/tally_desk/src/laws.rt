@@ -18,7 +18,7 @@ use ckpt_store::laws::{
 /// Each step of a pass keeps the rule of the desk, and takes the state of the run machine for which the desk stands to the state after the
 /// events that belong to the step: a claim, a post, or a post and a save.
 pub fn steps_are_events<C: Keeper>()
-    ensures { (parts : Parts) → StepsAreEvents (HomeAs C.state) parts }
+    ensures { (parts : Parts) → StepsAreEvents (HomeAs C.state C.lets) parts }
 {
     counter_laws();
 }

@@ -6,7 +6,7 @@ ghost use Rattle.ckpt_store.specs.Places.{IsPlace};
 ghost use Rattle.claim_counter.specs.Walks.{IsWithin};
 ghost use Rattle.tally_desk.specs.Crews.{IsDeskCrew, MaySeat, WalksAtDesk};
 ghost use Rattle.tally_desk.specs.Founded.{parts_of};
-ghost use Rattle.tally_desk.specs.Parts.{MayFound, Parts};
+ghost use Rattle.tally_desk.specs.Parts.{LetsDesk, MayFound, Parts};
 ghost use Rattle.tally_desk.specs.Passes.{IsClosed, IsFirstPass};
 ghost use Rattle.tally_desk.specs.Ran.{BothSaved, HasRun, starts};
 ghost use Rattle.tally_desk.specs.Rooms.{HasSaveRoom};
@@ -59,6 +59,7 @@ pub fn run_over<R: Threads + Wait + Sync, C: Keeper + Send, J: Judge + Send, G: 
     requires crew { IsDeskCrew job.now (vec_len crew.walkers) crew }
     requires workers { (1 ≤ vec_len crew.walkers) × (vec_len crew.walkers ≤ most_workers) }
     requires room { HasSaveRoom outset.book.total sorted.old room.old }
+    requires lets { LetsDesk C.lets (starts C.state job.now outset.book.outcomes outset.todo outset.plan.save_every (vec_len crew.walkers) outset.plan.place outset.keeper) }
     ensures ran { IfOk result (λ r. HasRun
         (starts C.state job.now outset.book.outcomes outset.todo outset.plan.save_every (vec_len crew.walkers) outset.plan.place outset.keeper)
         (C.state r.keeper) sorted.new.items r.saved) }
@@ -118,6 +119,7 @@ fn walk_over<R: Threads + Wait + Sync, C: Keeper + Send, J: Judge + Send, G: Gat
     requires within { IsWithin job.now outset.todo }
     requires crew { IsDeskCrew job.now (vec_len crew.walkers) crew }
     requires workers { (1 ≤ vec_len crew.walkers) × (vec_len crew.walkers ≤ most_workers) }
+    requires lets { LetsDesk C.lets (starts C.state job.now outset.book.outcomes outset.todo outset.plan.save_every (vec_len crew.walkers) outset.plan.place outset.keeper) }
     ensures closed { IfOk result (λ k. (v : PassView) × IsClosed C.state
         (starts C.state job.now outset.book.outcomes outset.todo outset.plan.save_every (vec_len crew.walkers) outset.plan.place outset.keeper) v
         k.book k.keeper k.place k.failed_saves k.last_saved) }
@@ -144,6 +146,7 @@ fn finish<C: Keeper>(
 ) -> Ran<C>
     requires place { IsPlace kept.place }
     requires room { HasSaveRoom kept.book.total sorted.old room.old }
+    requires closed { (parts : Parts) × ((v : PassView) × (IsClosedWith C.state parts v kept digest.now × LetsDesk C.lets parts)) }
     ensures { (parts : Parts) (v : PassView) → IsClosedWith C.state parts v kept digest.now
         → HasRun parts (C.state result.keeper) sorted.new.items result.saved }
 {

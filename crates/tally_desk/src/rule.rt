@@ -18,7 +18,7 @@ impl<C: Keeper> TableRule<Home<C>, View, Founding<C>> for OneTally<C> {
     ghost use Rattle.tally_desk.specs.Founded.{parts_of};
     ghost use Rattle.tally_desk.specs.Homes.{HomeAs};
 
-    ghost holds = { λ key. Tallied (HomeAs C.state) (parts_of C.state key) };
+    ghost holds = { λ key. Tallied (HomeAs C.state C.lets) (parts_of C.state key) };
 
     ghost first = { λ key. first_view (parts_of C.state key) };
 }
@@ -59,7 +59,7 @@ impl<C: Keeper> Play<Home<C>, View> for Look {
     ghost use Rattle.tally_desk.specs.Desks.{LooksForTurn};
     ghost use Rattle.tally_desk.specs.Homes.{HomeAs};
 
-    ghost then = { LooksForTurn (HomeAs C.state) };
+    ghost then = { LooksForTurn (HomeAs C.state C.lets) };
 }
 
 /// The end of a turn.

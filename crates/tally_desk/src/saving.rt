@@ -1,11 +1,11 @@
 //! What a run does that saved while it walked, after its desk is closed.
 
-ghost use Rattle.std.specs.Prelude.{◌≡◌, ◌<◌, AllPairs, IsPermutation};
+ghost use Rattle.std.specs.Prelude.{◌≡◌, ◌<◌, AllPairs, IsPermutation, false};
 ghost use Rattle.outcome_book.specs.Booked.{IsBook};
 ghost use Rattle.audit_model.specs.Run.{by_id};
 ghost use Rattle.ckpt_store.specs.Places.{IsPlace};
 ghost use Rattle.tally_desk.specs.Rooms.{HasSaveRoom};
-ghost use Rattle.tally_desk.specs.Saves.{MakesLastSave};
+ghost use Rattle.tally_desk.specs.Saves.{LetsLastSave, MakesLastSave};
 
 use crate::handing::Kept;
 use audit_io::keeper::Keeper;
@@ -28,6 +28,7 @@ pub fn save_rest<C: Keeper>(
 ) -> Result<(), Failed>
     requires place { IsPlace kept.old.place }
     requires room { HasSaveRoom kept.old.book.total sorted.old room.old }
+    requires lets { kept.old.last_saved ≡ false → LetsLastSave C.state C.lets kept.old digest.now }
     ensures book { IsBook kept.old.book }
     ensures sorted { sorted.new.items ≡ by_id kept.old.book.total kept.old.book.outcomes }
     ensures all { IsPermutation kept.old.book.outcomes sorted.new.items }

@@ -11,7 +11,7 @@ use Rattle.walker.specs.Binned.{first_bins, plan_bin, visits_binned}
 use Rattle.walker.proofs.Asking.{each_is_four}
 
 -- the values of a plan, in four places
-values_are_four : (job : Job) (plan : List ℕ) (asks : List Ask)
+pub values_are_four : (job : Job) (plan : List ℕ) (asks : List Ask)
     → four_values (map (λ ask. plan_value job plan ask.score) asks) ≡ each (asked_value job plan) asks
 unfolding asked_value
 values_are_four job plan asks = each_is_four (asked_value job plan) asks refl

@@ -1,5 +1,5 @@
 -- What a walk has come to, one step more.
-use Rattle.std.proofs.Common.{◌≡◌, ℕ, suc, ◌+◌, ◌≤◌, Bool, true, false, cond, not, List, refl, sym, ap, ◌∙◌, arith, add-one}
+use Rattle.std.proofs.Common.{◌≡◌, ℕ, suc, ◌+◌, ◌≤◌, Bool, true, false, cond, not, List, refl, sym, ap, ◌∙◌, subst, arith, add-one}
 use Rattle.std.specs.Prelude.{bytes_eq}
 use Rattle.audit_model.specs.Below.{count_below}
 use Rattle.audit_model.specs.Job.{Job}
@@ -10,6 +10,7 @@ use Rattle.audit_statement.specs.Draw.{draw}
 use mir.Val.{bool_byte}
 use Rattle.chacha_draws.specs.DrawPlace.{DrawPlace}
 use Rattle.flip_kernel.specs.Held.{Held}
+use Rattle.walker.specs.Walked.{IsWalked}
 
 -- a count over one number more
 pub count_below_more : (n : ℕ) (test : ℕ → Bool) → count_below (n + 1) test ≡ count_below n test + cond (test n) 1 0
@@ -37,15 +38,6 @@ module _ (job : Job) (draws : ℕ → ℕ) (plan : List ℕ) where
   moves_more i =
       count_below_more i (λ k. not (bytes_eq (visit job draws plan k) (visit job draws plan (suc k))))
       ∙ ap (λ (k : ℕ). moves job draws plan i + cond {A = ℕ} (not (bytes_eq (visit job draws plan i) (visit job draws plan k))) 1 0) (sym (add-one i))
-
--- after this many steps from the plan along the stream
-pub record IsWalked (job : Job) (key : List ℕ) (stream : ℕ) (plan : List ℕ) (steps : ℕ) (state : Held) (draws : DrawPlace) (moved : ℕ) : Type 0 where
-  pub made : state.job ≡ job
-  pub visited : state.plan ≡ visit job (draw key stream) plan steps
-  pub same_key : draws.key ≡ key
-  pub same_stream : draws.stream ≡ stream
-  pub same_place : draws.place ≡ steps
-  pub counted : moved ≡ moves job (draw key stream) plan steps
 
 -- before the first step the plan is visited
 pub walked_none : (job : Job) (key : List ℕ) (stream : ℕ) (plan : List ℕ) (state : Held) (draws : DrawPlace) → state.job ≡ job → state.plan ≡ plan
@@ -111,3 +103,60 @@ module _ (job : Job) (key : List ℕ) (stream : ℕ) (plan : List ℕ) (steps : 
           ∙ ap (λ (n : ℕ). n + cond {A = ℕ} (not (bytes_eq (visit job (draw key stream) plan steps) (visit job (draw key stream) plan (steps + 1)))) 1 0) walked.counted
           ∙ sym (moves_more job (draw key stream) plan steps);
     }
+
+-- what has been walked, walked in pieces: this many steps more from any plan from which some have been made
+abbrev pub GoesOn : Job → Held → DrawPlace → ℕ → Held → DrawPlace → ℕ → Type 0
+GoesOn job state draws steps after later more =
+    (key : List ℕ) (stream : ℕ) (plan : List ℕ) (place moved : ℕ) → IsWalked job key stream plan place state draws moved
+    → IsWalked job key stream plan (place + steps) after later (moved + more)
+
+-- no step more
+pub goes_nowhere : (job : Job) (state : Held) (draws : DrawPlace) → GoesOn job state draws 0 state draws 0
+goes_nowhere job state draws key stream plan place moved walked = record {
+  made = walked.made;
+  visited = walked.visited ∙ ap (λ (n : ℕ). visit job (draw key stream) plan n) (let e : place ≡ place + 0 = omega arith in e);
+  same_key = walked.same_key;
+  same_stream = walked.same_stream;
+  same_place = omega (arith, walked.same_place);
+  counted = (let e : moved + 0 ≡ moved = omega arith in e) ∙ walked.counted ∙ ap (λ (n : ℕ). moves job (draw key stream) plan n) (let e : place ≡ place + 0 = omega arith in e);
+}
+
+-- and one more
+pub goes_farther : (job : Job) (state : Held) (draws : DrawPlace) (steps : ℕ) (now after : Held) (here later : DrawPlace) (more again : ℕ) (changed : Bool)
+    → GoesOn job state draws steps now here more
+    → after ≡ record { job = now.job; plan = next job now.plan (draw here.key here.stream here.place) }
+    → later ≡ record { key = here.key; stream = here.stream; place = here.place + 1 }
+    → changed ≡ not (bytes_eq now.plan after.plan) → again ≡ more + cond changed 1 0
+    → GoesOn job state draws (steps + 1) after later again
+goes_farther job state draws steps now after here later more again changed before stepped drawn is added key stream plan place moved walked =
+    let one = walked_more job key stream plan (place + steps) now here (moved + more) (before key stream plan place moved walked) after later stepped drawn
+    (moved + again) changed is (let e : moved + again ≡ moved + more + cond changed 1 0 = ap (λ (n : ℕ). moved + n) added ∙ sum moved more (cond changed 1 0) in e) in
+    subst (λ (n : ℕ). IsWalked job key stream plan n after later (moved + again)) (sum_back place steps) one
+  where
+    sum : (a b c : ℕ) → a + (b + c) ≡ a + b + c
+    sum a b c = omega arith
+
+    sum_back : (a b : ℕ) → a + b + 1 ≡ a + (b + 1)
+    sum_back a b = omega arith
+
+-- from the first draw of a stream, where all steps are made at once
+pub walked_all : (job : Job) (key : List ℕ) (stream steps : ℕ) (old after : Held) (first later : DrawPlace) (moved : ℕ) → old.job ≡ job
+    → first.key ≡ key → first.stream ≡ stream → first.place ≡ 0 → GoesOn job old first steps after later moved
+    → IsWalked job key stream old.plan steps after later moved
+walked_all job key stream steps old after first later moved made k s p onward =
+    let none = walked_none job key stream old.plan old first made refl k s p in
+    subst (λ (n : ℕ). IsWalked job key stream old.plan n after later moved) (none_more steps)
+    (subst (λ (n : ℕ). IsWalked job key stream old.plan (0 + steps) after later n) (none_more moved) (onward key stream old.plan 0 0 none))
+  where
+    none_more : (n : ℕ) → 0 + n ≡ n
+    none_more n = omega arith
+
+-- the draws are at their place, and one farther
+pub drawn_none : (d : DrawPlace) → d ≡ record { key = d.key; stream = d.stream; place = d.place + 0 }
+drawn_none d = ap (λ (n : ℕ). (let p : DrawPlace = record { key = d.key; stream = d.stream; place = n } in p)) (let e : d.place ≡ d.place + 0 = omega arith in e)
+
+pub drawn_more : (d here later : DrawPlace) (steps : ℕ) → here ≡ record { key = d.key; stream = d.stream; place = d.place + steps }
+    → later ≡ record { key = here.key; stream = here.stream; place = here.place + 1 } → later ≡ record { key = d.key; stream = d.stream; place = d.place + (steps + 1) }
+drawn_more d here later steps at next =
+    next ∙ ap (λ (q : DrawPlace). (let p : DrawPlace = record { key = q.key; stream = q.stream; place = q.place + 1 } in p)) at
+    ∙ ap (λ (n : ℕ). (let p : DrawPlace = record { key = d.key; stream = d.stream; place = n } in p)) (let e : d.place + steps + 1 ≡ d.place + (steps + 1) = omega arith in e)

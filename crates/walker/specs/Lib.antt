@@ -3,3 +3,4 @@ pub mod Binned
 pub mod Judges
 pub mod Track
 pub mod Trail
+pub mod Walked

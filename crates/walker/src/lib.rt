@@ -6,5 +6,7 @@ mod bins;
 mod steps;
 mod trail;
 pub mod walker;
+pub mod way;
 
 pub use walker::Walker;
+pub use way::Way;

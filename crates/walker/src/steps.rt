@@ -1,12 +1,13 @@
 //! Steps along one stream of draws.
 
-ghost use Rattle.std.specs.Prelude.{◌≡◌, ◌+◌, ◌*◌, ◌<◌, ◌≤◌, ◌^◌, ℕ, not, bytes_eq, length};
+ghost use Rattle.std.specs.Prelude.{◌≡◌, ◌+◌, ◌*◌, ◌<◌, ◌≤◌, ◌^◌, ℕ, List, not, bytes_eq, length};
 ghost use Rattle.audit_statement.specs.Draw.{draw};
 ghost use Rattle.audit_model.specs.Step.{next};
 ghost use Rattle.audit_model.specs.Trajectory.{visit, moves};
 ghost use Rattle.walker.specs.Asked.{each, visits_inside};
 ghost use Rattle.walker.specs.Binned.{first_bins};
 ghost use Rattle.walker.specs.Track.{IsOnTrack};
+ghost use Rattle.walker.specs.Walked.{IsWalked};
 
 use crate::trail::Trail;
 use audit_model::steps::Steps;
@@ -32,9 +33,29 @@ pub fn walk<J: Judge, L: Ledger>(
 {
     let setting = job.setting();
     let mut draws = Draws::new(setting.key, stream);
+    walk_on(job, state, &mut draws, steps, counter)
+}
+
+/// Makes this many more steps along a stream, each with the next draw, and counts those that change the plan. Steps in several calls come
+/// to the same as all of them in one.
+pub fn walk_on<J: Judge, L: Ledger>(
+    job: &Job,
+    state: &mut State<J>,
+    draws: &mut Draws,
+    steps: u32,
+    counter: &mut Steps<L>,
+) -> u32
+    requires made { state.old.job ≡ job.now }
+    requires few { draws.old.place + steps ≤ 2 ^ 32 }
+    ensures made { state.new.job ≡ job.now }
+    ensures few { result ≤ steps }
+    ensures draws { draws.new ≡ record draws.old { place = draws.old.place + steps } }
+    ensures walked { (key : List ℕ) (stream : ℕ) (plan : List ℕ) (place moved : ℕ) → IsWalked job.now key stream plan place state.old draws.old moved
+        → IsWalked job.now key stream plan (place + steps) state.new draws.new (moved + result) }
+{
     let mut moved = 0;
     for place in 0..steps {
-        moved += u32::from(step(job, state, &mut draws, counter));
+        moved += u32::from(step(job, state, draws, counter));
     }
     moved
 }

@@ -1,15 +1,18 @@
 //! The walker of a job.
 
-ghost use Rattle.std.specs.Prelude.{◌≡◌, ◌+◌, ◌-◌, ◌*◌, ◌<◌, ◌≤◌, ◌^◌, length, IfOk};
+ghost use Rattle.std.specs.Prelude.{◌≡◌, ◌+◌, ◌-◌, ◌*◌, ◌<◌, ◌≤◌, ◌^◌, ℕ, length, IfOk};
+ghost use Rattle.audit_statement.specs.Along.{ask_values};
 ghost use Rattle.audit_statement.specs.Draw.{draw};
 ghost use Rattle.audit_model.specs.Plan.{IsLegal};
-ghost use Rattle.audit_model.specs.Trajectory.{hub as hub_of, outcome, outcome_with, walk_outcome, end_outcome};
+ghost use Rattle.audit_model.specs.Trajectory.{four_values, hub as hub_of, outcome, outcome_with, walk_outcome, end_outcome};
 ghost use Rattle.audit_model.specs.Serially.{run_outcome};
 ghost use Rattle.flip_kernel.specs.Judged.{IsJudgeFor};
 ghost use Rattle.walker.specs.Binned.{first_bins};
+ghost use Rattle.walker.specs.Walked.{IsUnderWay};
 
 use crate::asked::{signed, values};
 use crate::steps::{Course, count_visits, walk};
+use crate::way::Way;
 use audit_model::lists::UnitList;
 use audit_model::memory::Memory;
 use audit_model::outcome::Outcome;
@@ -91,6 +94,58 @@ impl<J: Judge> Walker<J> {
     {
         self.walk_to_hub::<Brand>(job, Blank::new(1));
         hub.copy_from_slice(self.state.plan().as_slice());
+    }
+
+    /// Starts the trajectory with this id at its first plan: the start plan for a walk, and the hub for an endpoint trajectory. The hub is
+    /// read for no walk. It takes no memory.
+    pub fn set_out(&mut self, job: &Job, hub: &[u32], id: u32) -> Way
+        requires made { self.old.job ≡ job.now }
+        requires hub { job.now.setting.walks ≤ id → hub.now ≡ hub_of job.now (draw job.now.setting.key) }
+        ensures way { IsUnderWay job.now id 0 self.new result }
+    {
+        // Called for what its contract says: the job is within its limits, and its start plan is legal.
+        let _units = job.units();
+        let setting = job.setting();
+        if id < setting.walks {
+            self.state.set(job, job.start().as_slice());
+            Way::new(setting.key, 2 * u64::from(id))
+        } else {
+            self.state.set(job, hub);
+            Way::new(setting.key, 2 * u64::from(id - setting.walks) + 3)
+        }
+    }
+
+    /// Makes this many more steps of the trajectory. Steps in several calls come to the same as all of them in one. It takes no memory.
+    pub fn go_on(&mut self, job: &Job, way: &mut Way, steps: u32)
+        requires made { self.old.job ≡ job.now }
+        requires few { way.old.draws.place + steps ≤ 10 ^ 9 }
+        ensures way { (id place : ℕ) → IsUnderWay job.now id place self.old way.old → IsUnderWay job.now id (place + steps) self.new way.new }
+        ensures made { self.new.job ≡ job.now }
+    {
+        self.go_on_by::<Brand>(job, way, steps, Blank::new(1))
+    }
+
+    /// Returns the value of each ask for the current plan, in four places. Places past the asks are zeros.
+    pub fn values(&mut self, job: &Job) -> [i64; 4]
+        requires made { self.old.job ≡ job.now }
+        ensures values { result ≡ four_values (ask_values job.now self.old.plan) }
+        ensures same { self.new ≡ self.old }
+    {
+        values(&self.state, job.setting().asks.as_slice(), &mut self.room)
+    }
+
+    // More steps of a trajectory, with a step counter of their own.
+    fn go_on_by<L: Ledger>(&mut self, job: &Job, way: &mut Way, steps: u32, blank: Blank)
+        requires name { blank.name ≡ L.name }
+        requires parts { blank.parts ≡ L.parts }
+        requires some { 0 < L.parts }
+        requires made { self.old.job ≡ job.now }
+        requires few { way.old.draws.place + steps ≤ 10 ^ 9 }
+        ensures way { (id place : ℕ) → IsUnderWay job.now id place self.old way.old → IsUnderWay job.now id (place + steps) self.new way.new }
+        ensures made { self.new.job ≡ job.now }
+    {
+        let mut counter: Steps<L> = Steps::new(blank);
+        way.go_on(job, &mut self.state, steps, &mut counter);
     }
 
     // The trajectory with this id, with a step counter of its own.

@@ -13,3 +13,6 @@ returns-in-Ok-clause-shared g c =
       hub = subst (λ (ids : List ℕ). ServesEnds c.args.job.now ids []) todo
           (λ k d inside beyond. let below = c.requires.within k d inside in absurd (omega (arith, below, beyond, c.requires.no_ends)));
     }
+
+pub new-requires-clause-lets : goal.new-requires-clause-lets
+new-requires-clause-lets g c = λ kept tries t is so_far. c.requires.lets kept t.slot t.bytes

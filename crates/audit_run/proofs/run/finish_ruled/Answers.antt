@@ -9,15 +9,15 @@ use Rattle.audit_run.proofs.run.finish_ruled.Goals as goal
 pub overflow_add-workers : goal.overflow_add-workers
 overflow_add-workers g c =
     let workers = ap (λ (s : Setting). s.workers) c.setting.ensures in
-    let few = (run_setting c.args.job.now c.requires.run).few_workers in
+    let few = (run_setting c.args.job.now c.requires.opened.run).few_workers in
     omega (arith, workers, few)
 
 pub region_guards-requires-clause-group : goal.region_guards-requires-clause-group
-region_guards-requires-clause-group g c = rw c.rules-rules.ensures (own_group _ _ c.requires.run.sound.within.group).0
+region_guards-requires-clause-group g c = rw c.rules-rules.ensures (own_group _ _ c.requires.opened.run.sound.within.group).0
 
 pub region_guards-requires-clause-few_units : goal.region_guards-requires-clause-few_units
 region_guards-requires-clause-few_units g c =
-    rw c.rules-rules.ensures (omega (arith, (own_group _ _ c.requires.run.sound.within.group).1, c.requires.run.sound.within.input.units))
+    rw c.rules-rules.ensures (omega (arith, (own_group _ _ c.requires.opened.run.sound.within.group).1, c.requires.opened.run.sound.within.input.units))
 
 pub finish_judged-requires-clause-judges : goal.finish_judged-requires-clause-judges
 finish_judged-requires-clause-judges g c κs within = record {
@@ -35,7 +35,7 @@ finish_judged-requires-clause-judges g c κs within = record {
           rw (is.rules_are, is.districts_are) is.group_table,
         );
         ruled = ruled;
-        taken = takes_plans c.args.job.now _ _ c.requires.run.sound.within ruled (is.districts_are ∙ c.districts.ensures);
+        taken = takes_plans c.args.job.now _ _ c.requires.opened.run.sound.within ruled (is.districts_are ∙ c.districts.ensures);
       };
   count_is = omega (arith, c.in-Ok.ensures.count, ap (λ (s : Setting). s.workers) c.setting.ensures);
 }

@@ -4,6 +4,9 @@ use Rattle.audit_run.proofs.single.audit_single.Goals as goal
 pub finish-why-requires-clause-run : goal.finish-why-requires-clause-run
 finish-why-requires-clause-run g c κs within = c.accepted_jobs_are_runs.ensures _ _ c.in-Ok.ensures.accepted.words_are c.in-Ok.ensures.sound
 
+pub finish-why-requires-clause-lets : goal.finish-why-requires-clause-lets
+finish-why-requires-clause-lets g c κs within = c.requires.lets _ c.in-Ok.ensures.accepted
+
 pub returns-in-Ok : goal.returns-in-Ok
 returns-in-Ok g c =
     c.ended_calls_keep_their_promise.ensures _ _ _ _ _ _

@@ -1,14 +1,15 @@
-use Rattle.std.proofs.Common.{◌≤◌, ℕ, ap, arith, subst, sym}
+use Rattle.std.proofs.Common.{◌≡◌, ◌≤◌, ℕ, List, ap, arith, subst, sym}
 use Rattle.audit_model.specs.declared.setting.Setting.{Setting}
 use Rattle.tally_desk.specs.Crews.{IsDeskCrew}
 use Rattle.report.specs.declared.ended.Ended.{Ended}
 use Rattle.audit_laws.specs.Calls.{Finishes}
 use Rattle.audit_laws.proofs.Leaving.{no_memory_ends}
 use Rattle.audit_laws.proofs.Running.{run_setting}
+use Rattle.audit_statement.specs.Due.{LetsRun}
 use Rattle.audit_walks.specs.Ending.{SavedBy}
 use Rattle.audit_walks.proofs.Telling.{all_found}
 use Rattle.audit_saving.proofs.Desked.{all_outcomes, saves_last}
-use Rattle.audit_saving.proofs.Placing.{place_told_for, placed_known, saved_plain, saves_every}
+use Rattle.audit_saving.proofs.Placing.{first_place_for, place_told_for, placed_known, saved_plain, saves_every}
 use Rattle.audit_saving.proofs.saving.finish_saved.Goals as goal
 
 pub run_over-requires-clause-outset : goal.run_over-requires-clause-outset
@@ -44,6 +45,17 @@ run_over-requires-clause-room g c κs within = record {
   sorted_room = c.requires.means.ready.room;
   save_room = omega (arith, c.requires.means.room, c.requires.means.ready.total_is);
 }
+
+pub run_over-requires-clause-lets : goal.run_over-requires-clause-lets
+run_over-requires-clause-lets g c κs within =
+    let job = c.args.job.now in
+    let ready = c.requires.means.ready in
+    let told = (g.C.Keeper.state c.args.keeper).tried in
+    let opening = c.args.means.ready.book.outcomes in
+    let place = c.args.means.target.place in
+    let every : c.setting.result.now.save_every ≡ job.setting.save_every = ap (λ (s : Setting). s.save_every) c.setting.ensures in
+    subst (λ (x : ℕ × List ℕ). LetsRun g.C.Keeper.lets told job opening x.0 place x.1) (λ i. (sym every i, sym ready.ids i))
+    (c.requires.lets opening place c.requires.saved c.requires.opened (first_place_for job (g.C.Keeper.state c.args.keeper).slots c.args.means.target c.requires.placed))
 
 pub end_run-finished-requires-clause-tellable : goal.end_run-finished-requires-clause-tellable
 end_run-finished-requires-clause-tellable g c =

@@ -1,9 +1,9 @@
-use Rattle.std.proofs.Common.{◌≡◌, ◌∙◌, ap, arith, refl, subst, sym, true}
-use Rattle.std.specs.Prelude.{◌&&◌, nat_lt}
+use Rattle.std.proofs.Common.{◌≡◌, ◌+◌, Bool, List, ℕ, ◌∙◌, ap, arith, refl, subst, sym, true}
+use Rattle.std.specs.Prelude.{◌&&◌, nat_le, nat_lt, unwrap_or}
 use Rattle.std.proofs.lemmas.Bool.{and_parts}
 use Rattle.audit_model.specs.declared.fault.Name.TheVariants as name
 use Rattle.audit_model.specs.declared.setting.Command.TheVariants as command
-use Rattle.audit_statement.specs.Words.{has_walks, is_good, is_number, is_yes_or_no, divides_draws, number_named, saves_parts, stops_alone, text_of}
+use Rattle.audit_statement.specs.Words.{first_of_range, has_walks, is_good, is_number, is_yes_or_no, divides_draws, last_of_range, number_named, number_of, saves_parts, stops_alone, text_of}
 use Rattle.audit_words.specs.Judged.{RestsOnGood}
 use Rattle.audit_words.specs.Spoken.{pairs_in}
 use Rattle.audit_words.proofs.Goodness.{number-bounds}
@@ -62,4 +62,32 @@ returns-then-is_number-6 c =
     ap (λ n. nat_lt n c.number_at-then-is_number-6-2.result) part
     ∙ ap (nat_lt (number_named command.Check words name.Part)) parts
     ∙ sym (ap (λ b. b && nat_lt (number_named command.Check words name.Part) (number_named command.Check words name.Parts)) passes)
+    ∙ sym (ap (is_good c.args.command words) at)
+
+-- the test of a range of a text, for this many trajectories
+is_range : List ℕ → ℕ → Bool
+is_range text count =
+    is_number 0 100000 (first_of_range text) && is_number 0 100000 (last_of_range text)
+    && nat_le (unwrap_or (number_of (first_of_range text)) 0) (unwrap_or (number_of (last_of_range text)) 0)
+    && nat_lt (unwrap_or (number_of (last_of_range text)) 0) count
+
+pub returns-in-Ids : goal.returns-in-Ids
+unfolding is_range
+returns-in-Ids c =
+    let words = pairs_in c.args.words.now in
+    let at : c.args.name ≡ name.Ids = c.in-Ids.is in
+    let rests = subst (RestsOnGood words) at c.requires in
+    let text : c.text_of-text.result.now ≡ text_of command.Check words name.Ids = c.text_of-text.ensures ∙ ap (text_of command.Check words) at in
+    let walks : c.number_at-in-Ids.result ≡ number_named command.Check words name.Walks =
+    c.number_at-in-Ids.ensures (omega (arith, (number-bounds 0 100000 (text_of command.Check words name.Walks) rests.0).1)) in
+    let ends : c.number_at-in-Ids-2.result ≡ number_named command.Check words name.Ends =
+    c.number_at-in-Ids-2.ensures (omega (
+      arith,
+      (number-bounds 0 100000 (text_of command.Check words name.Ends)
+          (and_parts (is_number 0 100000 (text_of command.Check words name.Ends)) (has_walks command.Check words) rests.1).0).1,
+    )) in
+    c.is_range.ensures
+    ∙ ap (λ (t : List ℕ). is_range t (c.number_at-in-Ids.result + c.number_at-in-Ids-2.result)) text
+    ∙ ap (λ (n : ℕ). is_range (text_of command.Check words name.Ids) (n + c.number_at-in-Ids-2.result)) walks
+    ∙ ap (λ (n : ℕ). is_range (text_of command.Check words name.Ids) (number_named command.Check words name.Walks + n)) ends
     ∙ sym (ap (is_good c.args.command words) at)

@@ -1,7 +1,14 @@
-use Rattle.ckpt_store.proofs.Untouched.{unsaved_from}
+use Rattle.std.proofs.Common.{◌∙◌, map, sym}
+use Rattle.ckpt_store.proofs.Untouched.{may_from, unsaved_from}
 use Rattle.ckpt_store.proofs.whole.gather.Goals as goal
+
+pub gather_from-requires-clause-lets : goal.gather_from-requires-clause-lets
+gather_from-requires-clause-lets g c = λ k folders_now place all tried asked may.
+    let untouched = c.in-Ok.ensures.untouched in
+    c.requires.lets k folders_now place all (tried ∙ untouched.tried) asked (may_from _ _ _ _ _ _ _ _ untouched.slots may)
 
 pub returns-in-Ok-clause-cause : goal.returns-in-Ok-clause-cause
 returns-in-Ok-clause-cause g c =
-    unsaved_from (g.C.Keeper.state c.args.keeper.now) (g.C.Keeper.state c.begin.new.keeper) (g.C.Keeper.state c.gather_from.new.keeper)
+    unsaved_from _ _ _ (map (λ k. g.F.Keeper.state k) c.args.folders.now) (map (λ k. g.F.Keeper.state k) c.gather_from.new.folders)
+    (g.C.Keeper.state c.args.keeper.now) (g.C.Keeper.state c.begin.new.keeper) (g.C.Keeper.state c.gather_from.new.keeper)
     c.gather_from.result c.in-Ok.ensures.untouched c.in-Ok.ensures.loads c.gather_from.ensures.cause

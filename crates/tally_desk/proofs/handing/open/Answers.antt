@@ -12,5 +12,5 @@ new-requires g c =
     let parts = parts_of g.C.Keeper.state c.args.founding.now in
     let all : c.push_reserved.new.self.items ≡ c.args.home ∷ [] =
     c.push_reserved.ensures.items ∙ ap (λ (l : List (Home g.row.C.Denot)). l ++ c.args.home ∷ []) c.in-Ok.ensures.items in
-    subst (λ (l : List (Home g.row.C.Denot)). Tallied (HomeAs g.C.Keeper.state) parts (opening (0 ∷ 0 ∷ 0 ∷ []) l (first_view parts))) (sym all)
-    (opens (HomeAs g.C.Keeper.state) parts c.counter_laws.ensures c.args.home c.requires.plan c.requires.home)
+    subst (λ (l : List (Home g.row.C.Denot)). Tallied (HomeAs g.C.Keeper.state g.C.Keeper.lets) parts (opening (0 ∷ 0 ∷ 0 ∷ []) l (first_view parts))) (sym all)
+    (opens (HomeAs g.C.Keeper.state g.C.Keeper.lets) parts c.counter_laws.ensures c.args.home c.requires.plan c.requires.home)

@@ -1,7 +1,12 @@
 use Rattle.std.proofs.Common.{ℕ, subst}
 use Rattle.tally_desk.specs.Ran.{BothSaved}
-use Rattle.tally_desk.proofs.LastSave.{has_run}
+use Rattle.tally_desk.proofs.LastSave.{has_run, lets_last}
 use Rattle.tally_desk.proofs.ran.finish.Goals as goal
+
+pub save_rest-rest-requires-clause-lets : goal.save_rest-rest-requires-clause-lets
+save_rest-rest-requires-clause-lets g c = λ none.
+    let closed = c.requires.closed in
+    lets_last g.C.Keeper.state closed.0 closed.1.0 c.args.kept c.args.digest.now closed.1.1.0 g.C.Keeper.lets closed.1.1.1 none
 
 pub returns : goal.returns
 returns g c = λ parts v k.

@@ -16,7 +16,7 @@ fetch_add-drawn-requires g c =
     let live : 0 < c.take_out-seat.result.me.0.own.weight = subst (λ (n : ℕ). 0 < n) (sym (ap (λ m. m.0.own.weight) was)) c.args.pass.now.live in (
       c.take_out-seat.ensures.table ∙ c.requires.pass.of_table,
       search rules,
-      claim (HomeAs g.C.Keeper.state) _ c.counter_laws.ensures _ _ _ (ap (λ m. m.0.parts) was ∙ c.requires.pass.of_parts) live (ap (λ m. m.0.own.ended) was ∙ c.requires.before_end),
+      claim (HomeAs g.C.Keeper.state g.C.Keeper.lets) _ c.counter_laws.ensures _ _ _ (ap (λ m. m.0.parts) was ∙ c.requires.pass.of_parts) live (ap (λ m. m.0.own.ended) was ∙ c.requires.before_end),
     )
 
 pub into_badge-requires : goal.into_badge-requires

@@ -11,11 +11,11 @@ join_seat-requires g c =
       c.take_out-other.ensures.table ∙ c.requires.second.of_table,
       ap (λ m. m.1) was',
       search rules,
-      join (HomeAs g.C.Keeper.state) _ c.counter_laws.ensures _ _ _ _ (ap (λ m. m.0.parts) was ∙ c.requires.first.of_parts) (subst (λ (n : ℕ). 0 < n) (sym (ap (λ m. m.0.own.weight) was)) c.args.first.live)
+      join (HomeAs g.C.Keeper.state g.C.Keeper.lets) _ c.counter_laws.ensures _ _ _ _ (ap (λ m. m.0.parts) was ∙ c.requires.first.of_parts) (subst (λ (n : ℕ). 0 < n) (sym (ap (λ m. m.0.own.weight) was)) c.args.first.live)
           (subst (λ (n : ℕ). 0 < n) (sym (ap (λ m. m.0.own.weight) was')) c.args.second.live) (ap (λ m. m.0.turn) was ∙ c.args.first.idle) (ap (λ m. m.0.turn) was' ∙ c.args.second.idle),
     )
 
 pub load-requires : goal.load-requires
 load-requires g c =
     let was = c.take_out-seat.ensures.view in
-    (c.join_seat.ensures.0 ∙ c.take_out-seat.ensures.table ∙ c.requires.first.of_table, search rules, see (HomeAs g.C.Keeper.state) _ _ _ _ (ap (λ m. m.0.parts) c.join_seat.ensures.2 ∙ ap (λ m. m.0.parts) was ∙ c.requires.first.of_parts))
+    (c.join_seat.ensures.0 ∙ c.take_out-seat.ensures.table ∙ c.requires.first.of_table, search rules, see (HomeAs g.C.Keeper.state g.C.Keeper.lets) _ _ _ _ (ap (λ m. m.0.parts) c.join_seat.ensures.2 ∙ ap (λ m. m.0.parts) was ∙ c.requires.first.of_parts))

@@ -17,12 +17,13 @@ pub turn-requires : goal.turn-requires
 turn-requires g c =
     let turn = c.requires.turn in
     let parts = parts_of g.C.Keeper.state c.args.self.now.table.shared.key in
-    let len = posted_len (HomeAs g.C.Keeper.state) parts _ _ _ turn in
-    let may : MayTurn g.C.Keeper.state parts c.slot_mut-home.result.now turn.posted c.args.outcome = record {
+    let len = posted_len (HomeAs g.C.Keeper.state g.C.Keeper.lets) parts _ _ _ turn in
+    let may : MayTurn g.C.Keeper.state g.C.Keeper.lets parts c.slot_mut-home.result.now turn.posted c.args.outcome = record {
       plan = turn.awaits.plan;
-      holds = held_home (HomeAs g.C.Keeper.state) parts _ _ _ _ turn c.slot_mut-home.ensures.value;
+      holds = held_home (HomeAs g.C.Keeper.state g.C.Keeper.lets) parts _ _ _ _ turn c.slot_mut-home.ensures.value;
       in_order = turn.awaits.in_order ∙ ap (range_with_len 0) (sym len);
       of_todo = turn.awaits.of_todo;
+      due = turn.awaits.due;
       right = c.requires.right;
       to_do = turn.awaits.to_do;
       unposted = turn.awaits.unposted;
@@ -32,7 +33,7 @@ pub overflow_add-ticket : goal.overflow_add-ticket
 overflow_add-ticket g c =
     let turn = c.requires.turn in
     let parts = parts_of g.C.Keeper.state c.args.self.now.table.shared.key in
-    let len = posted_len (HomeAs g.C.Keeper.state) parts _ _ _ turn in
+    let len = posted_len (HomeAs g.C.Keeper.state g.C.Keeper.lets) parts _ _ _ turn in
     let left = todo_small parts turn.awaits.plan in
     omega (arith, len, left, posts_few parts _ _ turn.posted turn.awaits)
 
@@ -40,21 +41,22 @@ pub store-requires : goal.store-requires
 store-requires g c =
     let turn = c.requires.turn in
     let parts = parts_of g.C.Keeper.state c.args.self.now.table.shared.key in
-    let len = posted_len (HomeAs g.C.Keeper.state) parts _ _ _ turn in
-    let may : MayTurn g.C.Keeper.state parts c.slot_mut-home.result.now turn.posted c.args.outcome = record {
+    let len = posted_len (HomeAs g.C.Keeper.state g.C.Keeper.lets) parts _ _ _ turn in
+    let may : MayTurn g.C.Keeper.state g.C.Keeper.lets parts c.slot_mut-home.result.now turn.posted c.args.outcome = record {
       plan = turn.awaits.plan;
-      holds = held_home (HomeAs g.C.Keeper.state) parts _ _ _ _ turn c.slot_mut-home.ensures.value;
+      holds = held_home (HomeAs g.C.Keeper.state g.C.Keeper.lets) parts _ _ _ _ turn c.slot_mut-home.ensures.value;
       in_order = turn.awaits.in_order ∙ ap (range_with_len 0) (sym len);
       of_todo = turn.awaits.of_todo;
+      due = turn.awaits.due;
       right = c.requires.right;
       to_do = turn.awaits.to_do;
       unposted = turn.awaits.unposted;
     } in
-    let turned = subst (λ (t : ℕ). HomeAs g.C.Keeper.state parts c.turn.new.self (turn.posted ++ post_of t c.args.outcome.id c.turn.result ∷ []) × (c.turn.result ≡ true → is_due parts.save_every (post_of t c.args.outcome.id c.turn.result) ≡ true))
+    let turned = subst (λ (t : ℕ). HomeAs g.C.Keeper.state g.C.Keeper.lets parts c.turn.new.self (turn.posted ++ post_of t c.args.outcome.id c.turn.result ∷ []) × (c.turn.result ≡ true → is_due parts.save_every (post_of t c.args.outcome.id c.turn.result) ≡ true))
     len ((c.turn.ensures.turned parts turn.posted may).holds, (c.turn.ensures.turned parts turn.posted may).due) in (
       search rules,
       search rules,
-      serve (HomeAs g.C.Keeper.state) parts _ _ _ _ c.args.outcome.id turn.posted c.turn.new.self c.turn.result turn.fixed turn.weighs turn.turn (carried_now (HomeAs g.C.Keeper.state) parts _ _ _ c.turn.new.self turn)
+      serve (HomeAs g.C.Keeper.state g.C.Keeper.lets) parts _ _ _ _ c.args.outcome.id turn.posted c.turn.new.self c.turn.result turn.fixed turn.weighs turn.turn (carried_now (HomeAs g.C.Keeper.state g.C.Keeper.lets) parts _ _ _ c.turn.new.self turn)
           turned.0 turned.0.entries turned.1,
     )
 
@@ -62,14 +64,14 @@ pub returns-clause-served : goal.returns-clause-served
 returns-clause-served g c =
     let turn = c.requires.turn in
     let parts = parts_of g.C.Keeper.state c.args.self.now.table.shared.key in
-    let len = posted_len (HomeAs g.C.Keeper.state) parts _ _ _ turn in
-    let held = held_home (HomeAs g.C.Keeper.state) parts _ _ _ _ turn c.slot_mut-home.ensures.value in
+    let len = posted_len (HomeAs g.C.Keeper.state g.C.Keeper.lets) parts _ _ _ turn in
+    let held = held_home (HomeAs g.C.Keeper.state g.C.Keeper.lets) parts _ _ _ _ turn c.slot_mut-home.ensures.value in
     let home_len : length c.slot_mut-home.result.now.posted.items ≡ c.args.ticket = ap length held.entries ∙ len in
     let entries : c.turn.new.self.posted.items ≡ c.slot_mut-home.result.now.posted.items ++ post_of c.args.ticket c.args.outcome.id c.turn.result ∷ [] =
     c.turn.ensures.entry ∙ ap (λ (t : ℕ). c.slot_mut-home.result.now.posted.items ++ post_of t c.args.outcome.id c.turn.result ∷ []) home_len in
     let served = c.store.ensures.2 in
     record {
       saved = c.turn.result;
-      view = served.view _ _ _ _ (carried_now (HomeAs g.C.Keeper.state) parts _ _ _ c.turn.new.self turn) entries;
-      slots = served.slots _ (carried_now (HomeAs g.C.Keeper.state) parts _ _ _ c.turn.new.self turn);
+      view = served.view _ _ _ _ (carried_now (HomeAs g.C.Keeper.state g.C.Keeper.lets) parts _ _ _ c.turn.new.self turn) entries;
+      slots = served.slots _ (carried_now (HomeAs g.C.Keeper.state g.C.Keeper.lets) parts _ _ _ c.turn.new.self turn);
     }

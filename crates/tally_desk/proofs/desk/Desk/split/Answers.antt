@@ -8,6 +8,6 @@ split_seat-other-requires g c =
     let was = c.take_out-seat.ensures.view in (
       c.take_out-seat.ensures.table ∙ c.requires.pass.of_table,
       search rules,
-      split (HomeAs g.C.Keeper.state) _ c.counter_laws.ensures _ _ (ap (λ m. m.0.parts) was ∙ c.requires.pass.of_parts) (subst (λ (n : ℕ). 0 < n) (sym (ap (λ m. m.0.own.weight) was)) c.args.pass.now.live)
+      split (HomeAs g.C.Keeper.state g.C.Keeper.lets) _ c.counter_laws.ensures _ _ (ap (λ m. m.0.parts) was ∙ c.requires.pass.of_parts) (subst (λ (n : ℕ). 0 < n) (sym (ap (λ m. m.0.own.weight) was)) c.args.pass.now.live)
           (subst (λ (n : ℕ). 0 < n) (sym (ap (λ m. m.0.own.spare) was)) c.requires.spare),
     )

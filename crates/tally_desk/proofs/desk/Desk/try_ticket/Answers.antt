@@ -7,4 +7,4 @@ use Rattle.tally_desk.proofs.desk.Desk.try_ticket.Goals as goal
 
 pub compare_exchange-found-requires : goal.compare_exchange-found-requires
 compare_exchange-found-requires g c =
-    (search rules, search rules, try_ticket (HomeAs g.C.Keeper.state) _ _ _ _ g.B.Posting.id _ _ refl (subst (CanPost (parts_of g.C.Keeper.state c.args.self.now.table.shared.key) c.args.seat.now.me.0) (sym c.requires.name) c.requires.post))
+    (search rules, search rules, try_ticket (HomeAs g.C.Keeper.state g.C.Keeper.lets) _ _ _ _ g.B.Posting.id _ _ refl (subst (CanPost (parts_of g.C.Keeper.state c.args.self.now.table.shared.key) c.args.seat.now.me.0) (sym c.requires.name) c.requires.post))

@@ -1,0 +1,95 @@
+//! The rest of a trace: its constraint, and the walk that writes it.
+
+ghost use Rattle.std.specs.Prelude.{◌≡◌, ◌<◌, ◌≤◌, []};
+ghost use Rattle.audit_laws.specs.Calls.{Finishes};
+ghost use Rattle.audit_model.specs.Limits.{most_trajectories};
+ghost use Rattle.audit_model.specs.State.{Kept};
+ghost use Rattle.audit_model.specs.declared.setting.Command.TheVariants.{Trace};
+ghost use Rattle.plan_trace.specs.Tracers.{TracesJob};
+
+use audit_io::sink::Sink;
+use audit_model::outcome::SumsView;
+use audit_walks::judges::guards;
+use plan_core::job::Job;
+use plan_trace::{TraceRange, trace};
+use region_guard::judges::region_guards;
+use report::ended::Ended;
+use std::alloc::Global;
+
+// Returns the range that the words name.
+fn range_of(job: &Job) -> TraceRange
+    ensures { result ≡ record { first = job.now.setting.first_id; last = job.now.setting.last_id; thin = job.now.setting.thin } }
+{
+    let setting = job.setting();
+    TraceRange {
+        first: setting.first_id,
+        last: setting.last_id,
+        thin: setting.thin,
+    }
+}
+
+// Writes the trace of a job without regions and without a majority to be kept.
+fn trace_cut<K: Sink>(alloc: Global, job: &Job, range: TraceRange, out: &mut K) -> Ended
+    requires thin { 0 < range.thin }
+    requires order { range.first ≤ range.last }
+    requires few { range.last < most_trajectories }
+    requires no_regions { job.now.regions ≡ [] }
+    requires no_group { job.now.setting.group_districts ≡ 0 }
+    ensures { TracesJob job.now range (K.state out.old) (K.state out.new) result }
+{
+    let rules = job.rules();
+    let max_cut = rules.max_cut;
+    match guards(alloc, move |sums: &SumsView| sums.cut <= max_cut, rules, 1) {
+        Ok(mut judges) => trace(alloc, job, judges.remove(0), range, out),
+        Err(_) => Ended::NoMemory,
+    }
+}
+
+// Writes the trace of a job by all its rules.
+fn trace_ruled<K: Sink>(alloc: Global, job: &Job, range: TraceRange, out: &mut K) -> Ended
+    requires thin { 0 < range.thin }
+    requires order { range.first ≤ range.last }
+    requires few { range.last < most_trajectories }
+    ensures { TracesJob job.now range (K.state out.old) (K.state out.new) result }
+{
+    // Called for what its contract says: the job is within its limits.
+    let _units = job.units();
+    let rules = job.rules();
+    let cut_limit = rules.max_cut;
+    let split_limit = rules.max_split;
+    match region_guards(
+        alloc,
+        move |sums: &SumsView| sums.cut <= cut_limit,
+        move |width: u32| width <= split_limit,
+        rules,
+        job.districts(),
+        1,
+    ) {
+        Ok(mut judges) => trace(alloc, job, judges.remove(0), range, out),
+        Err(_) => Ended::NoMemory,
+    }
+}
+
+// Allocates all memory of a trace, walks its range, and writes the plans while it walks.
+fn trace_job<K: Sink>(alloc: Global, job: &Job, range: TraceRange, out: &mut K) -> Ended
+    requires thin { 0 < range.thin }
+    requires order { range.first ≤ range.last }
+    requires few { range.last < most_trajectories }
+    ensures { TracesJob job.now range (K.state out.old) (K.state out.new) result }
+{
+    if job.rules().regions.len() == 0 && job.rules().group_districts == 0 {
+        trace_cut(alloc, job, range, out)
+    } else {
+        trace_ruled(alloc, job, range, out)
+    }
+}
+
+/// Allocates all memory of a trace, walks the range that the words name, and writes the plans while it walks.
+pub fn finish_trace<K: Sink>(alloc: Global, job: &Job, out: &mut K) -> Ended
+    requires { job.now.setting.command ≡ Trace }
+    ensures { (keeper : Kept) → Finishes job.now (K.state out.old) (K.state out.new) keeper keeper result }
+{
+    // Called for what its contract says: the job is within its limits.
+    let _units = job.units();
+    trace_job(alloc, job, range_of(job), out)
+}

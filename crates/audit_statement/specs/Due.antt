@@ -1,0 +1,49 @@
+-- The saves that a call may ask its keeper for at any moment, whether or not the call ever returns.
+-- A keeper states which saves it permits, and `save` may be called only with a permitted one. The top call is proved for every keeper that permits the due saves. Some keepers
+-- permit no others, so the top call can never ask for a save that is not due.
+use Rattle.std.specs.Prelude.{◌≡◌, ℕ, ◌<◌, IsTrue, List, [], ◌∷◌, ◌++◌, Option}
+use Rattle.audit_model.specs.Pair.{Pair}
+use Rattle.audit_model.specs.State.{Kept}
+use Rattle.audit_model.specs.Told.{IfTold}
+use Rattle.audit_model.specs.Tries.{Try, tried_all}
+use Rattle.audit_model.specs.declared.outcome.Outcome.{Outcome}
+use Rattle.audit_model.specs.declared.place.Place.{Place}
+use Rattle.audit_model.specs.Job.{Job}
+use Rattle.audit_model.specs.Run.{run_ids}
+use Rattle.audit_statement.specs.Accepted.{IsAccepted}
+use Rattle.audit_statement.specs.Checkpoint.{IsCheckpoint, checkpoint}
+use Rattle.audit_statement.specs.Endings.{IsOpening, first_place, saves}
+use Rattle.audit_statement.specs.InOrder.{AreSavesSoFar}
+use Rattle.audit_statement.specs.World.{World}
+
+-- the saves that a keeper permits: in a state, the bytes that a slot may be asked to take
+abbrev pub Lets : Type 1
+Lets = Kept → ℕ → List ℕ → Type 0
+
+-- in this state it permits the save of this checkpoint to this slot
+abbrev pub LetsCheckpoint : Lets → Kept → List ℕ → ℕ → ℕ → List Outcome → Type 0
+LetsCheckpoint lets k digest slot generation outcomes =
+    IsCheckpoint (checkpoint 2 digest generation outcomes) 2 digest generation outcomes → lets k slot (checkpoint 2 digest generation outcomes)
+
+-- In a run that takes in these ids, a keeper permits each save that is due next. `told` are the save attempts before the run; a save is due next if the attempts since, with it at
+-- the end, are saves so far.
+abbrev pub LetsRun : Lets → Option (List Try) → Job → List Outcome → ℕ → Place → List ℕ → Type 0
+LetsRun lets told job opening every place ids =
+    (k : Kept) (tries : List Try) (t : Try) → k.tried ≡ tried_all told tries → AreSavesSoFar job opening every place ids (tries ++ t ∷ []) → lets k t.slot t.bytes
+
+-- the place of a run's first save, if the slots that it finds are known
+pub record IsFirstPlace (job : Job) (slots : Option Pair) (place : Place) : Type 0 where
+  pub slot : place.slot < 2
+  pub generation : place.generation < 3
+  pub told : IfTold slots (λ p. place ≡ first_place job p)
+
+-- for a run of the job that finds the keeper in this state, it permits the run's saves
+abbrev pub LetsSavesOf : Lets → Job → Kept → Type 0
+LetsSavesOf lets job before = (opening : List Outcome) (place : Place) → IsTrue (saves job.setting) → IsOpening job before.slots opening → IsFirstPlace job before.slots place
+    → LetsRun lets before.tried job opening job.setting.save_every place (run_ids job opening job.setting.budget)
+
+-- The keeper permits the saves that are due in the run that the words and the source give, one after the other. The slots at the start of the run determine its opening and the
+-- place of its first save. Each save is the checkpoint of the opening and of the ids taken in so far, each once, with the outcomes of their trajectories. If the words, the source
+-- or the slots give no run, no save is due.
+abbrev pub LetsDueSaves : Lets → List (List ℕ) → World → Type 0
+LetsDueSaves lets words before = (job : Job) → IsAccepted words before.source.bytes job → LetsSavesOf lets job before.keeper

@@ -1,0 +1,11 @@
+use Rattle.std.proofs.Common.{map, take}
+use Rattle.std.specs.Prelude.{string_bytes}
+use Rattle.folder_report.specs.FolderLines.{folder_line, of_each}
+use Rattle.report.specs.Said.{AddsText}
+use Rattle.folder_report.proofs.gathering.add_folders.Given as goal
+
+abbrev pub invariant-loop-place : goal.invariant-loop-place
+invariant-loop-place g l = record {
+  added : AddsText (g.O.Sink.state l.fn.out) (g.O.Sink.state l.out) l.fn.going
+      (of_each (folder_line (map string_bytes l.names)) (take l.place (map string_bytes l.names)) (take l.place l.findings)) l.going;
+}

@@ -1,0 +1,4 @@
+pub mod FolderLines
+pub mod Gatherings
+pub mod Shown
+pub mod SlotLines

@@ -1,0 +1,27 @@
+-- What is told of two slots, as it is kept until it is written.
+use Rattle.std.specs.Prelude.{◌≡◌, ℕ, List, ◌++◌, Option, option_map}
+use Rattle.audit_model.specs.Job.{Job}
+use Rattle.audit_model.specs.Pair.{Pair}
+use Rattle.audit_model.specs.Told.{IfTold}
+use Rattle.ckpt_store.specs.Holding.{HoldsStored, IsLoadedFrom}
+use Rattle.ckpt_store.specs.Progress.{progress}
+use Rattle.ckpt_store.specs.declared.held.Loaded.{Loaded}
+use Rattle.folder_report.specs.declared.slots.Shown.{Shown}
+use Rattle.folder_report.specs.SlotLines.{both_text, job_text, total_of}
+
+-- there are two slots, the told ones where the keeper tells, of which this was loaded
+pub record HasLoadedBoth (told : Option Pair) (zero one : Loaded) : Type 0 where
+  pub pair : Pair
+  pub same : IfTold told (λ p. pair ≡ p)
+  pub first : IsLoadedFrom zero pair.zero_slot
+  pub second : IsLoadedFrom one pair.one_slot
+
+-- this is to be told of these slots
+pub record IsShownOf (job : Option Job) (p : Pair) (shown : Shown) : Type 0 where
+  pub zero : HoldsStored p.zero_slot shown.first
+  pub one : HoldsStored p.one_slot shown.second
+  pub progress_is : shown.progress ≡ option_map (λ j. progress j p.zero_slot p.one_slot) job
+  pub total_is : shown.total ≡ total_of job
+
+abbrev pub shown_text : Shown → List ℕ
+shown_text shown = both_text shown.first shown.second ++ job_text shown.progress shown.total

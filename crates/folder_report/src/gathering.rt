@@ -1,0 +1,166 @@
+//! A gathering, and what is told of it.
+
+ghost use Rattle.std.specs.Prelude.{◌≡◌, ◌++◌, ◌≤◌, List, ℕ, ◌||◌, length, map, not, string_bytes, true};
+ghost use Rattle.audit_model.specs.Limits.{most_trajectories};
+ghost use Rattle.audit_model.specs.Run.{total};
+ghost use Rattle.audit_statement.specs.Accepted.{no_columns};
+ghost use Rattle.audit_statement.specs.Checkpoint.{job_digest};
+ghost use Rattle.audit_statement.specs.Endings.{AddsLine};
+ghost use Rattle.audit_statement.specs.Note as terms;
+ghost use Rattle.ckpt_store.specs.Whole.{LetsGathering};
+ghost use Rattle.folder_report.specs.FolderLines.{folder_line, folder_refusal, of_each, own_refusal, refusals, told_text};
+ghost use Rattle.folder_report.specs.Gatherings.{EndsGathering, IsCutOff, IsNoted, IsWhole, Outputs, TellsFound, TellsGathering, ending_of, failed_status, refused_status};
+ghost use Rattle.report.specs.Said.{AddsText, IsSaid};
+
+use crate::lines::{add_folder_line, add_own_line};
+use audit_io::keeper::Keeper;
+use audit_io::sink::Sink;
+use ckpt_store::finding::Finding;
+use ckpt_store::told::{Told, Ungathered};
+use ckpt_store::whole::gather;
+use plan_core::job::Job;
+use report::ended::Ended;
+use report::note::{add_line, tell};
+use report::piece::Piece::{Number, Text};
+use std::alloc::Global;
+
+/// The status where a folder cannot be gathered.
+pub const REFUSED: u8 = 10;
+
+/// Gathers folders into the slots of `keeper`, or, where `saves` is not set, only looks at them, and tells what was found. Returns the status.
+///
+/// What was found is written to `out` where the union was saved or was not to be saved. Else a line on `note` says why for each folder, and the status is
+/// `REFUSED`. Where the gathering failed, or writing what was found, the line and the status are those of a run that fails for this reason.
+pub fn gather_and_tell<C: Keeper, F: Keeper, O: Sink, N: Sink>(
+    alloc: Global,
+    job: &Job,
+    keeper: &mut C,
+    folders: &mut [F],
+    names: &[String],
+    saves: bool,
+    out: &mut O,
+    note: &mut N,
+) -> u8
+    requires few { total job.now ≤ most_trajectories }
+    requires names { length names.now ≡ length folders.old }
+    requires lets { LetsGathering C.lets job.now (job_digest job.now) saves (C.state keeper.old).slots (C.state keeper.old).tried (map (λ k. F.state k) folders.old) }
+    ensures { EndsGathering job.now saves (map string_bytes names.now) (C.state keeper.old) (C.state keeper.new) (map (λ k. F.state k) folders.old) (map (λ k. F.state k) folders.new)
+        (record { out = O.state out.old; note = N.state note.old }) (record { out = O.state out.new; note = N.state note.new }) result }
+{
+    match gather(alloc, keeper, folders, job, saves) {
+        Ok(told) => tell_found(job, names, saves, &told, out, note),
+        Err(why) => tell_failed(why, note),
+    }
+}
+
+// Tells why a gathering failed.
+fn tell_failed<N: Sink>(why: Ungathered, note: &mut N) -> u8
+    ensures status { result ≡ failed_status why }
+    ensures told { AddsLine (N.state note.old) (N.state note.new) (terms.note no_columns (ending_of why)) }
+{
+    match why {
+        Ungathered::Memory => tell(&Ended::NoMemory, note),
+        Ungathered::Unread => tell(&Ended::LoadFault, note),
+        Ungathered::Taken => tell(&Ended::FolderTaken, note),
+        Ungathered::Unsaved => tell(&Ended::SaveFault, note),
+    }
+}
+
+// Tells what was found, or why it was not saved.
+fn tell_found<O: Sink, N: Sink>(
+    job: &Job,
+    names: &[String],
+    saves: bool,
+    told: &Told,
+    out: &mut O,
+    note: &mut N,
+) -> u8
+    ensures { TellsFound (not saves || told.now.saved) (map string_bytes names.now) (total job.now) told.now
+        (record { out = O.state out.old; note = N.state note.old }) (record { out = O.state out.new; note = N.state note.new }) result }
+{
+    if saves && !told.saved {
+        write_refusals(names, told, note);
+        return REFUSED;
+    }
+    if write_told(job.total(), names, told, out) {
+        return 0;
+    }
+    tell(&Ended::WriteFault, note)
+}
+
+// Writes what was found. Returns whether nothing failed.
+fn write_told<O: Sink>(total: u32, names: &[String], told: &Told, out: &mut O) -> bool
+    ensures { IsSaid (O.state out.old) (O.state out.new) (told_text (map string_bytes names.now) told.now total) result }
+{
+    let going = add_own_line(out, true, &[], &told.own);
+    let going = add_folders(names, told.folders.as_slice(), going, out);
+    let done = Number(u64::from(told.done));
+    let total = Number(u64::from(total));
+    add_line(
+        out,
+        going,
+        &[],
+        &[Text("done: "), done, Text(" of "), total],
+    )
+}
+
+// Writes a line for each folder, where nothing before it failed.
+fn add_folders<O: Sink>(names: &[String], findings: &[Finding], going: bool, out: &mut O) -> bool
+    ensures { AddsText (O.state out.old) (O.state out.new) going (of_each (folder_line (map string_bytes names.now)) (map string_bytes names.now) findings.now) result }
+{
+    let mut going = going;
+    let count = names.len().min(findings.len());
+    for place in 0..count {
+        let name = names[place].as_str();
+        going = add_folder_line(out, going, &[], names, name, &findings[place]);
+    }
+    going
+}
+
+// Writes why nothing was saved.
+fn write_refusals<N: Sink>(names: &[String], told: &Told, note: &mut N)
+    ensures { AddsLine (N.state note.old) (N.state note.new) (refusals (map string_bytes names.now) told.now) }
+{
+    let going = add_own_refusal(&told.own, note);
+    // Nothing follows, whether all lines were written or a front of them.
+    let _ended = add_refusals(names, told.folders.as_slice(), going, note);
+}
+
+// Writes why the working folder cannot be gathered into, if it cannot.
+fn add_own_refusal<N: Sink>(own: &Finding, note: &mut N) -> bool
+    ensures { AddsText (N.state note.old) (N.state note.new) true (own_refusal own.now) result }
+{
+    if own.is_start() {
+        return true;
+    }
+    add_own_line(note, true, &[Text("gather: ")], own)
+}
+
+// Writes a line for each folder that cannot be gathered, where nothing before it failed.
+fn add_refusals<N: Sink>(names: &[String], findings: &[Finding], going: bool, note: &mut N) -> bool
+    ensures { AddsText (N.state note.old) (N.state note.new) going (of_each (folder_refusal (map string_bytes names.now)) (map string_bytes names.now) findings.now) result }
+{
+    let mut going = going;
+    let count = names.len().min(findings.len());
+    for place in 0..count {
+        let name = names[place].as_str();
+        going = add_refusal(names, name, &findings[place], going, note);
+    }
+    going
+}
+
+// Writes why a folder cannot be gathered, if it cannot.
+fn add_refusal<'x, N: Sink>(
+    names: &'x [String],
+    name: &'x str,
+    finding: &Finding,
+    going: bool,
+    note: &mut N,
+) -> bool
+    ensures { AddsText (N.state note.old) (N.state note.new) going (folder_refusal (map string_bytes names.now) name.now finding.now) result }
+{
+    if finding.is_added() {
+        return going;
+    }
+    add_folder_line(note, going, &[Text("gather: ")], names, name, finding)
+}

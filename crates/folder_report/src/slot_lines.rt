@@ -1,0 +1,120 @@
+//! The lines that tell of slots.
+
+ghost use Rattle.std.specs.Prelude.{◌≡◌, ◌++◌, ◌∷◌, [], List, ℕ};
+ghost use Rattle.audit_statement.specs.Note.{as_line, fault_name};
+ghost use Rattle.ckpt_store.specs.declared.held.Held.TheVariants as what;
+ghost use Rattle.folder_report.specs.SlotLines.{newest_texts, progress_texts, slot_line};
+ghost use Rattle.report.specs.Said.{AddsText};
+
+use audit_io::sink::Sink;
+use audit_model::fault::CkptFault;
+use ckpt_format::decode::Checkpoint;
+use ckpt_store::held::Held;
+use ckpt_store::progress::Progress;
+use report::note::add_line;
+use report::piece::Piece::{Digest, Number, Text};
+
+fn name_of(fault: &CkptFault) -> &'static str
+    ensures { result.now ≡ fault_name fault.now }
+{
+    match fault {
+        CkptFault::TooLong(_) => "too long",
+        CkptFault::TooShort(_) => "too short",
+        CkptFault::BadMagic => "bad magic",
+        CkptFault::BadVersion(_) => "bad version",
+        CkptFault::BadGeneration(_) => "bad generation",
+        CkptFault::BadCount { .. } => "bad count",
+        CkptFault::BadOrder(_) => "bad order",
+        CkptFault::BadDigest { .. } => "bad digest",
+        CkptFault::Unfit(_) => "unfit",
+        CkptFault::Memory => "memory",
+    }
+}
+
+// Goes on with the line of a slot that holds a checkpoint.
+fn add_whole_line<N: Sink>(out: &mut N, going: bool, slot: u8, checkpoint: &Checkpoint) -> bool
+    ensures { AddsText (N.state out.old) (N.state out.new) going (slot_line slot (what.Whole checkpoint.now)) result }
+{
+    let number = Number(u64::from(slot));
+    let version = Number(u64::from(checkpoint.version));
+    let generation = Number(u64::from(checkpoint.generation));
+    let count = Number(checkpoint.outcomes.len() as u64);
+    let digest = Digest(&checkpoint.digest);
+    add_line(
+        out,
+        going,
+        &[Text("slot "), number],
+        &[
+            Text(": version "),
+            version,
+            Text(" generation "),
+            generation,
+            Text(" outcomes "),
+            count,
+            Text(" digest "),
+            digest,
+        ],
+    )
+}
+
+/// Goes on with the line of a slot, where nothing before it failed. Returns whether nothing failed.
+pub(crate) fn add_slot_line<N: Sink>(out: &mut N, going: bool, slot: u8, held: &Held) -> bool
+    ensures { AddsText (N.state out.old) (N.state out.new) going (slot_line slot held.now) result }
+{
+    match held {
+        Held::Absent => {
+            let number = Number(u64::from(slot));
+            add_line(out, going, &[Text("slot "), number], &[Text(": absent")])
+        }
+        Held::Broken(fault) => {
+            let number = Number(u64::from(slot));
+            let name = Text(name_of(fault));
+            add_line(out, going, &[Text("slot "), number], &[Text(": "), name])
+        }
+        Held::Whole(checkpoint) => add_whole_line(out, going, slot, checkpoint),
+    }
+}
+
+/// Goes on with the line of the newest slot.
+pub(crate) fn add_newest_line<N: Sink>(out: &mut N, going: bool, newest: Option<u8>) -> bool
+    ensures { AddsText (N.state out.old) (N.state out.new) going (as_line (newest_texts newest)) result }
+{
+    match newest {
+        None => add_line(out, going, &[], &[Text("newest: none")]),
+        Some(slot) => {
+            let number = Number(u64::from(slot));
+            add_line(out, going, &[], &[Text("newest: slot "), number])
+        }
+    }
+}
+
+/// Goes on with the line of a job's progress.
+pub(crate) fn add_progress_line<N: Sink>(
+    out: &mut N,
+    going: bool,
+    progress: Progress,
+    total: u32,
+) -> bool
+    ensures { AddsText (N.state out.old) (N.state out.new) going (as_line (progress_texts progress total)) result }
+{
+    match progress {
+        Progress::Done(done) => {
+            let total = Number(u64::from(total));
+            add_line(
+                out,
+                going,
+                &[],
+                &[Text("done: "), Number(done), Text(" of "), total],
+            )
+        }
+        Progress::OtherJob => {
+            add_line(
+                out,
+                going,
+                &[],
+                &[Text("done: the newest is another job's")],
+            )
+        }
+        Progress::Damaged => add_line(out, going, &[], &[Text("done: no slot is intact")]),
+    }
+}

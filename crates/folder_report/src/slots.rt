@@ -1,0 +1,132 @@
+//! What is told of the slots of a folder.
+
+ghost use Rattle.std.specs.Prelude.{◌≡◌, ◌⊎◌, ◌++◌, List, ℕ, Option, Some, None, IfErr, IfOk, option_map};
+ghost use Rattle.audit_model.specs.Pair.{Pair};
+ghost use Rattle.ckpt_store.specs.Holding.{IsLoadedFrom};
+ghost use Rattle.ckpt_store.specs.Looked.{HasLookCause};
+ghost use Rattle.ckpt_store.specs.Progress as definition;
+ghost use Rattle.folder_report.specs.Gatherings.{IsCutOff, IsWhole, Outputs};
+ghost use Rattle.folder_report.specs.Shown.{HasLoadedBoth, IsShownOf, shown_text};
+ghost use Rattle.folder_report.specs.SlotLines.{EndsShowing, job_text};
+ghost use Rattle.report.specs.Said.{AddsText, IsSaid};
+
+use crate::slot_lines::{add_newest_line, add_progress_line, add_slot_line};
+use audit_io::keeper::Keeper;
+use audit_io::sink::Sink;
+use audit_model::memory::Memory;
+use ckpt_store::held::{Held, Loaded, held_of, load_slot, newest};
+use ckpt_store::look::LookFault;
+use ckpt_store::progress::{Progress, progress_of};
+use plan_core::job::Job;
+use report::ended::Ended;
+use report::note::tell;
+use std::alloc::Global;
+
+/// What was loaded of both slots.
+#[derive(Drop)]
+struct Both {
+    zero: Loaded,
+    one: Loaded,
+}
+
+/// What is told of both slots.
+#[derive(Drop)]
+struct Shown {
+    first: Held,
+    second: Held,
+    progress: Option<Progress>,
+    total: u32,
+}
+
+/// Tells what the two slots of a folder hold, which is the newest and, where there is a job, how far it is. Returns the status. It saves nothing.
+///
+/// Nothing is written to `out` where a slot cannot be loaded or there is no memory; then a line on `note` says why.
+pub fn tell_slots<C: Keeper, O: Sink, N: Sink>(
+    alloc: Global,
+    keeper: &mut C,
+    job: Option<&Job>,
+    out: &mut O,
+    note: &mut N,
+) -> u8
+    ensures { EndsShowing (option_map (λ j. j.now) job.entry) (C.state keeper.old) (C.state keeper.new)
+        (record { out = O.state out.old; note = N.state note.old }) (record { out = O.state out.new; note = N.state note.new }) result }
+{
+    match load_both(alloc, keeper) {
+        Ok(both) => match shown_of(alloc, job, &both) {
+            Ok(shown) => show(&shown, out, note),
+            Err(_) => tell(&Ended::NoMemory, note),
+        },
+        Err(LookFault::Failed) => tell(&Ended::LoadFault, note),
+        Err(LookFault::Taken) => tell(&Ended::FolderTaken, note),
+        Err(LookFault::Memory) => tell(&Ended::NoMemory, note),
+    }
+}
+
+// Loads both slots.
+fn load_both<C: Keeper>(alloc: Global, keeper: &mut C) -> Result<Both, LookFault>
+    ensures loaded { IfOk result (λ b. HasLoadedBoth (C.state keeper.old).slots b.zero b.one) }
+    ensures slots { (C.state keeper.new).slots ≡ (C.state keeper.old).slots }
+    ensures cause { HasLookCause (C.state keeper.old).load_faults (C.state keeper.new).load_faults result }
+    ensures tried { (C.state keeper.new).tried ≡ (C.state keeper.old).tried }
+{
+    let zero = load_slot(alloc, keeper, 0)?;
+    let one = load_slot(alloc, keeper, 1)?;
+    Ok(Both { zero, one })
+}
+
+// Returns what is to be told of the slots. The only error is out of memory.
+fn shown_of(alloc: Global, job: Option<&Job>, both: &Both) -> Result<Shown, Memory>
+    ensures { IfOk result (λ s. (p : Pair) → IsLoadedFrom both.now.zero p.zero_slot → IsLoadedFrom both.now.one p.one_slot → IsShownOf (option_map (λ j. j.now) job.entry) p s) }
+{
+    let first = held_of(alloc, &both.zero)?;
+    let second = held_of(alloc, &both.one)?;
+    match job {
+        None => Ok(Shown {
+            first,
+            second,
+            progress: None,
+            total: 0,
+        }),
+        Some(job) => {
+            let progress = progress_of(alloc, job, &both.zero, &both.one)?;
+            Ok(Shown {
+                first,
+                second,
+                progress: Some(progress),
+                total: job.total(),
+            })
+        }
+    }
+}
+
+// Writes what is to be told. Returns the status.
+fn show<O: Sink, N: Sink>(shown: &Shown, out: &mut O, note: &mut N) -> u8
+    ensures { IsWhole (record { out = O.state out.old; note = N.state note.old }) (record { out = O.state out.new; note = N.state note.new }) (shown_text shown.now) result
+        ⊎ IsCutOff (record { out = O.state out.old; note = N.state note.old }) (record { out = O.state out.new; note = N.state note.new }) (shown_text shown.now) result }
+{
+    if write_shown(shown, out) {
+        return 0;
+    }
+    tell(&Ended::WriteFault, note)
+}
+
+// Writes the lines. Returns whether nothing failed.
+fn write_shown<O: Sink>(shown: &Shown, out: &mut O) -> bool
+    ensures { IsSaid (O.state out.old) (O.state out.new) (shown_text shown.now) result }
+{
+    let going = add_slot_line(out, true, 0, &shown.first);
+    let going = add_slot_line(out, going, 1, &shown.second);
+    let number = newest(&shown.first, &shown.second);
+    let going = add_newest_line(out, going, number);
+    add_progress(out, going, shown)
+}
+
+// Writes how far the job is, if there is one.
+fn add_progress<O: Sink>(out: &mut O, going: bool, shown: &Shown) -> bool
+    ensures { AddsText (O.state out.old) (O.state out.new) going (job_text shown.now.progress shown.now.total) result }
+{
+    match shown.progress {
+        Some(progress) => add_progress_line(out, going, progress, shown.total),
+        None => going,
+    }
+}
