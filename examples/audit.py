@@ -8,6 +8,8 @@ import sys
 
 import networkx
 
+if "--help" in sys.argv:
+    sys.exit(print(__doc__))
 sys.path.insert(0, str(pathlib.Path(__file__).resolve().parent.parent / "python"))
 import district_audit  # noqa: E402
 

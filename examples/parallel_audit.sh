@@ -2,12 +2,13 @@
 # One audit in parts with GNU parallel, on this machine or on several: its job log says which parts ended, those that a time limit or a lost
 # machine has ended are started again, and at the end all are gathered and the report is written.
 #
+# Usage: bash parallel_audit.sh
 # Copy this file into the folder of the audit with the graph, change what stands between the two lines below, and start it there, again
 # where it was stopped:  bash parallel_audit.sh
 # With other machines the folder is on a disk that all of them see, and `machines` names them as parallel's --sshlogin does.
 
 # ---- change from here
-program=$HOME/bin/district-audit      # as examples/install.sh leaves it
+program=$HOME/bin/district-audit      # as scripts/install.sh leaves it
 gatherer=$HOME/bin/audit_gather
 graph=graph.json                      # in this folder
 parts=20                              # at most as many as there are trajectories; not to be changed midway
@@ -21,6 +22,12 @@ words=(run --pop TOTPOP --first DEM --second REP --district CD
 saving=(--save 1)                     # after each trajectory
 # ---- to here
 
+case ${1:-} in
+    --help | -h)
+        sed -n '2,/^[^#]/{/^#/s/^# \{0,1\}//p}' "$0"
+        exit 0
+        ;;
+esac
 script=$(realpath "$0")
 folder=$(dirname "$script")
 cd "$folder" || exit 1

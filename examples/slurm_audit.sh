@@ -2,13 +2,14 @@
 # One audit in parts on a Slurm cluster: an array job walks the parts, and one that depends on it gathers them and writes the report. What a
 # time limit or a lost machine has ended is queued again, until all is done.
 #
+# Usage: bash slurm_audit.sh start
 # Copy this file into the folder of the audit, on a disk that all machines see, with the graph, change what stands between the two lines
 # below, and start it there:  bash slurm_audit.sh start
 # The parts' checkpoints are in part-0, part-1 and so on, those of all in `all`, and the report is `report`, which is made only where all is done.
 # `start` prints the number of the job that gathers. To stop all, cancel that job first and then the array, since it queues the next one.
 
 # ---- change from here
-program=$HOME/bin/district-audit      # as examples/install.sh leaves it
+program=$HOME/bin/district-audit      # as scripts/install.sh leaves it
 gatherer=$HOME/bin/audit_gather
 graph=graph.json                      # in this folder
 parts=20                              # at most as many as there are trajectories; not to be changed midway
@@ -20,6 +21,12 @@ words=(run --pop TOTPOP --first DEM --second REP --district CD
 saving=(--save 1)                     # after each trajectory
 # ---- to here
 
+case ${1:-} in
+    --help | -h)
+        sed -n '2,/^[^#]/{/^#/s/^# \{0,1\}//p}' "$0"
+        exit 0
+        ;;
+esac
 # Slurm runs a copy of this file, so its own place is handed on.
 script=${2:-$(realpath "$0")}
 cd "$(dirname "$script")" || exit 1

@@ -1,0 +1,500 @@
+#!/usr/bin/env python3
+"""Re-checks a report of the district plan auditor by recomputing it.
+
+Written from docs/KERNEL.md and docs/FORMATS.md; needs Python 3.8 and no other file.
+
+  recheck.py GRAPH REPORT [--id 0,3,serial | --sample K --seed TEXT] [words of the run]
+             [--trace FILE [--segments K --seed TEXT] [--skip-hub yes]] [--checkpoints FOLDER]
+
+GRAPH is the file that the auditor read, or the word `make`. Any word of the run is compared with
+the report. Those for columns are needed if the report has no line `columns`, and --size for
+`make`. With none of --id, --sample, --trace and --checkpoints all is recomputed. The status is 0
+if all that was asked agrees, 1 if something differs, and 2 if something cannot be read.
+"""
+import hashlib
+import json
+import math
+import re
+import struct
+import sys
+from functools import lru_cache
+from itertools import chain, product, zip_longest
+from pathlib import Path
+from typing import Any, Dict, Iterable, Iterator, List, Optional, Sequence, Sized, Tuple
+
+BILLION, MASK, BATCH = 10 ** 9, 2 ** 32 - 1, 512
+SCORES, TAILS = ("seats", "mean-median", "gap", "cut-edges"), ("low", "high")
+LIMITS = {"max-cut": 400000, "max-split": 200, "max-splits": 995000, "max-split-regions": 5000,
+          "group-districts": 0}
+NUMBERS = ("slack", "walks", "steps", "ends", "hub-steps", "stop", *LIMITS)
+COLUMNS = ("--pop", "--first", "--second", "--district", "--region", "--group", "--group-of")
+LABELS = ("--district", "--region")
+WORDS = {"--id", "--sample", "--seed", "--trace", "--segments", "--skip-hub", "--checkpoints",
+         "--size", "--key", "--ask", "--shift", "--serial", "--source", "--workers", "--budget",
+         "--save", "--resume", "--parts", "--part", *COLUMNS, *(f"--{name}" for name in NUMBERS)}
+WRONG: List[str] = []
+DONE = {"comparisons": 0, "steps": 0}
+Map = Tuple[List[Tuple[int, int]], Dict[str, List[int]]]  # edges, and columns by their words
+Tally = Tuple[int, List[int], List[int]]  # moves; counts, or an endpoint's values; bins
+
+
+def same(where: str, expected: Sequence[object], found: Sequence[object]) -> None:
+    """Compares two texts or lists word by word, and notes the first word that differs."""
+    DONE["comparisons"] += 1
+    last, both = "the start", [one.split(" ") if isinstance(one, str) else [*map(str, one)]
+                               for one in (expected, found)]
+    for place, (want, word) in enumerate(zip_longest(*both, fillvalue="nothing"), 1):
+        if want != word:
+            WRONG.append(f"{where}, word {place} after {last}: expected {want}, found {word}")
+            break
+        last = want
+
+
+def sampled(what: str, some: Sized, every: Sized) -> None:
+    print(f"{what} {len(some)} of {len(every)} walked again; a single wrong one among these "
+          f"escaped with chance {1 - len(some) / max(1, len(every)):.6f}.")
+
+
+def rounded_up(name: str, top: int, of: int) -> str:
+    """The quotient as billionths, rounded up."""
+    n = -(-top * BILLION // of)
+    return f"{name} {n // BILLION}.{n % BILLION:09}"
+
+
+@lru_cache(maxsize=8)
+def batch(key: bytes, stream: int, number: int) -> List[int]:
+    """The draws of BATCH blocks of a stream, from block number * BATCH. Each number holds a word
+    of all blocks, 64 bits apart, so that a sum or a shift of one word does not reach the next."""
+    form, each = f"<{BATCH}Q", (2 ** (64 * BATCH) - 1) // (2 ** 64 - 1)
+    mask, blocks = MASK * each, range(number * BATCH, (number + 1) * BATCH)
+    counter = int.from_bytes(struct.pack(form, *blocks), "little")
+    first = [word * each for word in struct.unpack("<12I", b"expand 32-byte k" + key)] + [
+        counter & mask, counter >> 32 & mask, (stream & MASK) * each, (stream >> 32) * each]
+    x = first[:]
+    for half, a in product(range(20), range(4)):  # columns and diagonals in turn, ten times
+        b, c, d = (4 * row + (a + row * (half % 2)) % 4 for row in (1, 2, 3))
+        for p, q, r, turn in ((a, b, d, 16), (c, d, b, 12), (a, b, d, 8), (c, d, b, 7)):
+            x[p] = (x[p] + x[q]) & mask
+            turned = (x[r] ^ x[p]) << turn
+            x[r] = (turned | turned >> 32) & mask
+    x = [(u + v) & mask for u, v in zip(x, first)]
+    draws = [0] * (8 * BATCH)
+    for k in range(8):
+        both = x[2 * k] | x[2 * k + 1] << 32
+        draws[k::8] = struct.unpack(form, both.to_bytes(8 * BATCH, "little"))
+    return draws
+
+
+def draws_of(key: bytes, stream: int, begin: int, end: int) -> Iterator[int]:
+    """The draws at the places from begin to end - 1."""
+    return chain.from_iterable(
+        batch(key, stream, at // (8 * BATCH))[max(begin - at, 0):end - at]
+        for at in range(begin - begin % (8 * BATCH), end, 8 * BATCH))
+
+
+class Job:
+    """The run that a report tells of, and what is known of its trajectories."""
+    def __init__(self, data: bytes, lines: List[str], words: Dict[str, str]) -> None:
+        self.lines, self.words = lines, words
+        text = "\n".join(line for line in lines if not line.startswith(("source ", "columns ")))
+        found = {name: re.search(rf"(?:^| ){name} (\d+)", text, re.M) for name in NUMBERS}
+        self.n = n = {name: int(number[1]) if number else LIMITS.get(name, 0)
+                      for name, number in found.items()}
+        self.key = bytes.fromhex(re.findall("^key (.*)$", text, re.M)[0])
+        rows = re.findall(r"^(?:walk \d+ moved \d+|ends|stop) (\S+) (\S+) start", text, re.M)
+        count = len(rows) // (n["walks"] + (n["ends"] > 0))
+        self.asks: List[Tuple[str, str]] = rows[:count]
+        self.is_shift, self.is_serial = lines[0] == "district-audit 2", "\nserial " in text
+        self.source = [line for line in lines[1:3] if line.startswith(("source ", "columns "))]
+        names = {name: words[name] for name in COLUMNS if words.get(name)}
+        if self.source:
+            row = re.findall(r'"(?:[^"\\]|\\.)*"|[^ ]+', self.source[1])
+            which = [*COLUMNS[:4], *["--region"] * ("region" in row), *COLUMNS[5:]]
+            names = dict(zip(which, (json.loads(text) for text in row if text[0] == '"')))
+        elif "--group" in names:
+            names.setdefault("--group-of", names["--pop"])
+        told = {"--key": self.key.hex(), "--ask": ",".join(map(":".join, self.asks)),
+                "--shift": ("no", "yes")[self.is_shift], "--serial": ("no", "yes")[self.is_serial],
+                **{f"--{name}": str(number) for name, number in self.n.items()}, **names}
+        for k in sorted(told.keys() & words.keys()):
+            same(f"word {k}", words[k].lower() if k == "--key" else words[k], told[k])
+        self.origin = f"source sha256 {hashlib.sha256(data).hexdigest()} bytes {len(data)}"
+        self.edges, self.columns = (self.make_map(int(words["--size"])) if data == b"make" else
+                                    self.read_map(data, names))
+        self.start, self.regions = self.columns["--district"], len(set(self.columns["--region"]))
+        self.counts = {name: column for name, column in self.columns.items()
+                       if column and name not in LABELS}
+        self.near: List[List[int]] = [[] for _ in self.start]
+        for u, v in chain(self.edges, ((v, u) for u, v in self.edges)):
+            self.near[u].append(v)
+        self.districts, self.total = max(self.start) + 1, sum(self.columns["--pop"])
+        self.low = -(-(10000 - n["slack"]) * self.total // (10000 * self.districts))
+        self.high = (10000 + n["slack"]) * self.total // (10000 * self.districts)
+        limits_splits = n["max-splits"] < 995000 or n["max-split-regions"] < 5000
+        self.splits = self.regions > 0 and limits_splits
+        walk = Walk(self, self.start)
+        self.seats, self.values, self.there = walk.score("seats"), walk.values(), walk.majorities()
+        below = {"mean-median": 2 * self.districts * BILLION,
+                 "gap": 2 * sum(self.columns["--first"]) + 2 * sum(self.columns["--second"])}
+        self.texts = [f"{score} {tail} start {value}/{below.get(score, 1)}"
+                      for (score, tail), value in zip(self.asks, self.values)]
+        self.place = next(draws_of(self.key, 2 ** 33, 0, 1)) % (n["steps"] + 1)
+        self.known: Dict[int, Tally] = {}
+        stops = [int(place) for place in re.findall(r"^stop .* place (\d+) ", text, re.M)]
+        self.needed = n["walks"] + min(max(stops, default=n["ends"]), n["ends"])
+
+    def read_map(self, data: bytes, names: Dict[str, str]) -> Map:
+        root = json.loads(data.decode("utf-8"), parse_int=lambda text: int(text)  # of 64 bits
+                          if text != "-0" and -2 ** 63 <= int(text) < 2 ** 64 else float(text))
+        unit = {node["id"]: u for u, node in enumerate(root["nodes"])}
+        columns: Dict[str, List[Any]] = {
+            name: [node[names[name]] for node in root["nodes"]] if name in names else []
+            for name in COLUMNS}
+        if {type(n) for name in COLUMNS if name not in LABELS for n in columns[name]} - {int}:
+            raise ValueError("a column of counts has something else")
+        for name in LABELS:  # whole numbers by value, then texts
+            rising = sorted(set(columns[name]), key=lambda label: (type(label) is str, label))
+            place = {label: n for n, label in enumerate(rising)}
+            columns[name] = [place[label] for label in columns[name]]
+        pairs = [(u, unit[entry["id"]]) for u, row in enumerate(root["adjacency"]) for entry in row]
+        return sorted({(min(u, v), max(u, v)) for u, v in pairs if u != v}), columns
+
+    def make_map(self, size: int) -> Map:
+        side, units = 10 * size, 100 * size * size
+        edges = [(u, u + 1) for u in range(units) if (u + 1) % side]
+        edges += [(u, u + side) for u in range(units - side)]
+        votes = [draw % 101 for draw in draws_of(self.key, 2 ** 32, 0, units)]
+        plan = [u // side // size for u in range(units)]
+        cells: List[List[int]] = [[100] * units, votes, [100 - v for v in votes], plan, [], [], []]
+        return sorted(edges), dict(zip(COLUMNS, cells))
+
+    def pick(self, count: str, kind: str, numbers: Iterable[int]) -> List[int]:
+        """As many of the numbers as a word says, chosen by a public text; without it all."""
+        if kind == "trajectory" and "--id" in self.words:
+            return [*map(int, self.words["--id"].replace("serial", "-1").split(","))]
+        ranked = sorted(numbers, key=lambda number: hashlib.sha256(
+            f"{self.words.get('--seed', '')} {kind} {number}".encode()).digest())
+        return sorted(ranked[:int(self.words.get(count, len(ranked)))])
+
+    def in_tail(self, k: int, value: int) -> bool:
+        return value <= self.values[k] if self.asks[k][1] == "low" else value >= self.values[k]
+
+    def way(self, trajectory: int) -> Tuple[int, int]:
+        """The stream and the number of steps of a trajectory."""
+        j = trajectory - self.n["walks"]
+        return (2 * trajectory, self.n["steps"]) if j < 0 else (2 * j + 3, self.n["hub-steps"])
+
+    @lru_cache(maxsize=None)
+    def hub(self) -> List[int]:
+        walk = Walk(self, self.start)
+        walk.go(1, 0, self.n["hub-steps"], 0)
+        return walk.plan
+
+    @lru_cache(maxsize=None)
+    def find(self, trajectory: int) -> Tally:
+        """Walks a trajectory; the number -1 stands for the serial test."""
+        is_end = trajectory >= self.n["walks"]
+        walk = Walk(self, self.hub() if is_end else self.start)
+        stream, steps = (2 ** 33 + 1, self.place) if trajectory == -1 else self.way(trajectory)
+        moved, counts, bins = walk.go(stream, 0, steps, 1)
+        if trajectory == -1:
+            back = Walk(self, self.start).go(2 ** 33 + 2, 0, self.n["steps"] - self.place, 0)
+            counts = [a + b for a, b in zip(counts, back[1])]
+        return (moved, walk.values(), [0] * 9) if is_end else (moved, counts, bins)
+
+    def head_lines(self) -> List[str]:
+        """The lines between the title and the results, without that of an early stop."""
+        n = self.n
+        return [*[self.origin, *self.source[1:]][:len(self.source)], f"key {self.key.hex()}",
+                f"units {len(self.start)} edges {len(self.edges)} districts {self.districts}",
+                f"population {self.total} slack {n['slack']} low {self.low} high {self.high}",
+                *[f"max-cut {n['max-cut']}"] * (n["max-cut"] < LIMITS["max-cut"]),
+                *[f"max-split {n['max-split']} regions {self.regions}"] * (self.regions > 0),
+                *[f"max-splits {n['max-splits']} max-split-regions {n['max-split-regions']}"
+                  ] * self.splits,
+                *[f"group-districts {n['group-districts']} of {self.there}"
+                  ] * ("--group" in self.counts),
+                f"walks {n['walks']} steps {n['steps']} ends {n['ends']} "
+                f"hub-steps {n['hub-steps']}"]
+
+    def report(self) -> None:
+        """Compares each line with what it has to be. A number that is not known is taken from
+        the report if it may be right, and what follows from it is computed."""
+        n, known, out = self.n, self.known, [f"district-audit {1 + self.is_shift}"]
+        out += self.head_lines() + [f"stop {n['stop']}"] * (n["stop"] > 0)
+        visits, walks, ends, asks = n["steps"] + 1, n["walks"], n["ends"], self.texts
+
+        def told(word: int, low: int, high: int) -> int:
+            text = "".join("".join(self.lines[len(out):len(out) + 1]).split(" ")[word:word + 1])
+            return min(max(int(text) if text.isdecimal() else low, low), high)
+        for j, (k, ask) in product(range(walks), enumerate(asks)):
+            moved, counts, _ = known[j] if j in known else (told(3, 0, visits - 1), [], [])
+            count = counts[k] if counts else told(9, 1, visits)
+            root = math.isqrt((2 * count * BILLION ** 2 - 1) // visits) + 1
+            out += [f"walk {j} moved {moved} {ask} count {count} of {visits} "
+                    + rounded_up("bound", root, BILLION)]
+        if self.is_shift:
+            walked = [bins for j, (_, _, bins) in known.items() if 0 <= j < walks and bins]
+            bins = [sum(column) for column in zip([0] * 9, *walked)]
+            if len(walked) < walks:
+                bins = [told(b + 1, least, walks * visits) for b, least in enumerate(bins)]
+                same("report: the sum of the line shift", [walks * visits], [sum(bins)])
+            out += ["shift " + " ".join(map(str, bins))]
+        for k, ask in enumerate(asks if ends else []):
+            hits = [self.in_tail(k, known[i][1][k]) if i in known else None
+                    for i in range(walks, walks + ends)]
+            rank = told(6, 1 + hits.count(True), 1 + ends - hits.count(False))
+            out += [f"stop {ask} " + self.stopped(hits, self.lines[len(out)].split(" "))
+                    if n["stop"] else
+                    f"ends {ask} rank {rank} of {ends + 1} " + rounded_up("p", rank, ends + 1)]
+        for k, ask in enumerate(asks if self.is_serial else []):
+            rank = known[-1][1][k] if -1 in known else told(8, 1, visits)
+            out += [f"serial {ask} place {self.place} rank {rank} of {visits} "
+                    + rounded_up("p", rank, visits)]
+        for at, both in enumerate(zip_longest([*out, "end", ""], self.lines, fillvalue="nothing")):
+            same(f"report line {at + 1}", *both)
+
+    def stopped(self, hits: List[Optional[bool]], row: List[str]) -> str:
+        """Where a test stops; as the report says if an end before that place was not walked."""
+        place = total = 0
+        while place < len(hits) and total < self.n["stop"]:
+            total, place = total + (hits[place] is True), place + 1
+        top, of = (total, place) if total == self.n["stop"] else (total + 1, place + 1)
+        if None in hits[:place]:
+            place, top, of = map(int, [row[6], *row[8].split("/")])
+        return f"place {place} value {top}/{of} " + rounded_up("p", top, of)
+
+    def trace(self, lines: List[str]) -> None:
+        """Compares each line of a trace, and replays the chosen segments."""
+        head = ["district-trace 1", *self.head_lines(), *(f"ask {ask}" for ask in self.texts)]
+        titles = [at for at, line in enumerate(lines) if line.startswith("trace ")]
+        for at, both in enumerate(zip_longest(head, lines[:titles[0]], fillvalue="nothing")):
+            same(f"trace line {at + 1}", *both)
+        for at, end in zip(titles, [*titles[1:], len(lines) - 2]):
+            self.trajectory(at + 1, lines[at], lines[at + 1:end])
+        same("trace: its end", "end ", " ".join(lines[-2:]))
+
+    def trajectory(self, at: int, title: str, rows: List[str]) -> None:
+        number, thin = int(title.split(" ")[2]), int(title.split(" ")[6])
+        (stream, steps), is_walk = self.way(number), number < self.n["walks"]
+        most = self.n["walks"] + self.n["ends"] - 1
+        same(f"trace line {at}", f"trace id {min(number, most)} steps {steps} thin {thin}", title)
+        places, asks = [*range(0, steps, thin), steps], len(self.asks)
+        same(f"trace line {at}: number of plans", [len(places)], [len(rows)])
+        middle = range(1, len(places) - 2)
+        some = self.pick("--segments", f"segment-{number}", middle)
+        plan, moved, total = self.start, 0, [0] * (asks + 9)
+        expected = (self.start if is_walk else None if "--skip-hub" in self.words else self.hub())
+        for n, (place, line) in enumerate(zip(places, rows)):
+            row, shown, where = line.split(" "), list(plan), f"trace line {at + n + 1}"
+            for unit, district in (map(int, word.split(":")) for word in row[2 + asks:]):
+                shown[unit] = district
+            if expected is None:
+                expected, moved = shown, min(max(moved, int(row[1])), place)
+            changes = [f"{u}:{d}" for u, d in enumerate(expected) if d != plan[u]]
+            same(where, [place, moved, *Walk(self, expected).values(), *changes], line)
+            walk, plan, moved, expected = Walk(self, shown), shown, int(row[1]), None
+            same(f"{where}, the plan is legal", [True], [walk.is_legal()])
+            if n in {0, *some, len(places) - 2}:
+                more, counts, bins = walk.go(stream, place, places[n + 1], n == 0)
+                expected, moved = walk.plan, moved + more
+                total = [a + b for a, b in zip(total, counts + bins)]
+        self.known.setdefault(number, (moved, Walk(self, plan).values(), []) if not is_walk else (
+            moved, total[:asks], total[asks:]) if len(some) == len(middle) else (moved, [], []))
+        sampled(f"trace of id {number}: {len(rows)} plans, the first and the last segment, and "
+                "of those between", some, middle)
+
+    def checkpoint(self, path: Path) -> None:
+        """Compares the chosen outcomes of a checkpoint."""
+        data = path.read_bytes()
+        magic, version, job, turn, count = struct.unpack(">8sI32sII", data[:52].ljust(52))
+        form = {1: ">IQ4q", 2: ">IQ4q9I"}.get(version, "")
+        if (magic != b"DISTCKPT" or form == "" or turn > 2
+                or len(data) != 84 + struct.calcsize(form) * count
+                or hashlib.sha256(data[:-32]).digest() != data[-32:]):
+            WRONG.append(f"{path}: no intact checkpoint")
+            return
+        same(f"{path}: digest of the job", self.digest(), job.hex())
+        outcomes = {row[0]: [*row[1:], *[0] * 9][:14]
+                    for row in struct.iter_unpack(form, data[52:-32])}
+        ids = [number for number in sorted(outcomes) if number < self.n["walks"] + self.n["ends"]]
+        same(f"{path}: ids", [*ids, count], [*outcomes, len(ids)])
+        numbers = [n for n in self.pick("--sample", "trajectory", ids) if n in outcomes]
+        for number in numbers:
+            moved, values, bins = self.find(number)
+            bins = bins if any(outcomes[number][5:]) else [0] * 9
+            row = [moved, *values, *[0] * (4 - len(values)), *bins]
+            same(f"{path}: outcome {number}", row, outcomes[number])
+        sampled(f"{path}: of the outcomes", numbers, outcomes)
+
+    def digest(self) -> str:
+        """The job's digest: rows of numbers of four, eight or one byte."""
+        n, columns, asks = self.n, self.columns, self.asks
+        form = 3 if self.splits or columns["--group"] else (
+            2 if self.regions or n["max-cut"] < LIMITS["max-cut"] else 1)
+        votes = (columns["--pop"], columns["--first"], columns["--second"], self.start)
+        codes = [(SCORES.index(score), TAILS.index(tail)) for score, tail in asks]
+        rows = [("I", [len(self.start), len(self.edges), self.districts, *chain(*self.edges)]),
+                ("QQQI", [*chain(*zip(*votes))]), ("I", [n["slack"]]), ("B", [*self.key]),
+                ("I", [n["walks"], n["steps"], n["ends"], n["hub-steps"], len(asks), *chain(*codes),
+                       *[n["max-cut"]] * (form > 1),
+                       *[n["max-split"], *columns["--region"]] * (self.regions > 0),
+                       *[n["max-splits"], n["max-split-regions"]] * self.splits,
+                       *[n["group-districts"]] * ("--group" in self.counts)]),
+                ("Q", [*chain(*zip(columns["--group"], columns["--group-of"]))])]
+        data = [struct.pack(">" + kind * (len(row) // len(kind)), *row) for kind, row in rows]
+        return hashlib.sha256(b"district-job %d" % form + b"".join(data)).hexdigest()
+
+
+class Walk:
+    """A plan with its sums, and with the number of each unit's neighbors in each district."""
+    def __init__(self, job: Job, plan: Sequence[int]) -> None:
+        self.job, self.plan, d = job, list(plan), job.districts
+        self.sums = {name: [0] * d for name in COLUMNS}
+        self.touch, self.open = [0] * (len(plan) * d), bytearray(len(plan) * d)
+        self.spread, self.parts = [0] * (job.regions * d), [0] * job.regions
+        self.cut = sum(plan[u] != plan[v] for u, v in job.edges)
+        for u, district in enumerate(plan):
+            self.add(u, district, 1)
+
+    def add(self, unit: int, district: int, sign: int) -> None:
+        """Adds a unit to the sums of a district, or with sign -1 takes it away."""
+        job, d, touch, plan = self.job, self.job.districts, self.touch, self.plan
+        for name, column in job.counts.items():
+            self.sums[name][district] += sign * column[unit]
+        for v in job.near[unit]:
+            touch[v * d + district] += sign
+            self.open[v * d + district] = touch[v * d + district] > 0 and plan[v] != district
+        if job.regions:
+            region = job.columns["--region"][unit]
+            self.spread[region * d + district] += sign
+            if self.spread[region * d + district] == (sign > 0):
+                self.parts[region] += sign
+
+    def move(self, unit: int, into: int) -> None:
+        at, out = unit * self.job.districts, self.plan[unit]
+        self.cut += self.touch[at + out] - self.touch[at + into]
+        self.add(unit, out, -1)
+        self.plan[unit] = into
+        self.add(unit, into, 1)
+        self.open[at + into], self.open[at + out] = 0, self.touch[at + out] > 0
+
+    def score(self, name: str) -> int:
+        """The numerator of a score."""
+        if name == "cut-edges":
+            return self.cut
+        votes, d = [*zip(self.sums["--first"], self.sums["--second"])], self.job.districts
+        if name == "seats":
+            return sum(f > s for f, s in votes)
+        if name == "gap":
+            return sum(2 * s - (f - s) if f > s else s - f - 2 * f for f, s in votes)
+        shares = sorted(f * BILLION // (f + s) if f + s else BILLION // 2 for f, s in votes)
+        return d * (shares[(d - 1) // 2] + shares[d // 2]) - 2 * sum(shares)
+
+    def values(self) -> List[int]:
+        return [self.score(score) for score, _ in self.job.asks]
+
+    def marks(self) -> List[int]:
+        """The asks in whose tail the plan is, and behind all asks its bin."""
+        job, bin_of = self.job, min(8, max(0, self.score("seats") - self.job.seats + 4))
+        tails = [k for k, value in enumerate(self.values()) if job.in_tail(k, value)]
+        return [*tails, len(job.asks) + bin_of]
+
+    def majorities(self) -> int:
+        return sum(2 * a > b for a, b in zip(self.sums["--group"], self.sums["--group-of"]))
+
+    def keeps_rules(self) -> bool:
+        limits, parts = self.job.n, self.parts
+        return (self.cut <= limits["max-cut"] and max(parts, default=0) <= limits["max-split"]
+                and sum(parts) - len(parts) <= limits["max-splits"]
+                and sum(n > 1 for n in parts) <= limits["max-split-regions"]
+                and self.majorities() >= limits["group-districts"])
+
+    def joins(self, units: List[int], hidden: List[int], sizes: List[int]) -> bool:
+        """Whether paths through their district join these units, of which there has to be one.
+        A part that breaks off is mostly small: so searches that look at few units come first."""
+        plan, near = self.plan, self.job.near
+        for size, first in product((*sizes, len(plan)), units):
+            queue, own, missing = [first], plan[first], {*units} - {first}
+            for v in (first, *hidden):
+                plan[v] = -1  # while the search lasts: found, or not to be found
+            for u in queue:
+                if not missing or len(queue) > size:
+                    break
+                for v in near[u]:
+                    if plan[v] == own:
+                        plan[v] = -1
+                        queue.append(v)
+                        missing.discard(v)
+            for v in (*queue, *hidden):
+                plan[v] = own
+            if not missing or len(queue) <= size:
+                return not missing
+        return False
+
+    def is_legal(self) -> bool:
+        """Tests the whole plan, not a change."""
+        job = self.job
+        units = [[u for u, at in enumerate(self.plan) if at == d] for d in range(job.districts)]
+        return (all(job.low <= people <= job.high for people in self.sums["--pop"])
+                and all(self.joins(members, [], []) for members in units) and self.keeps_rules())
+
+    def makes(self, unit: int, into: int) -> bool:
+        """Makes the move of an open pair if the plan stays legal."""
+        job, plan, out, people = self.job, self.plan, self.plan[unit], self.sums["--pop"]
+        amount, mates = job.columns["--pop"][unit], [v for v in job.near[unit] if plan[v] == out]
+        if (people[out] - amount >= job.low and people[into] + amount <= job.high
+                and self.joins(mates, [unit], [8, 64])):
+            self.move(unit, into)
+            if self.keeps_rules():
+                return True
+            self.move(unit, out)
+        return False
+
+    def go(self, stream: int, begin: int, end: int, with_first: int) -> Tally:
+        """Makes the steps from begin to end - 1, and tallies the plans after each, or all."""
+        job, is_open, d, asks = self.job, self.open, self.job.districts, len(self.job.asks)
+        pairs = len(self.plan) * d
+        limit = 2 ** 64 // pairs * pairs
+        tally, moved, since, marks = [0] * (asks + 9), 0, begin - with_first, self.marks()
+        for step, draw in enumerate(draws_of(job.key, stream, begin, end), begin):
+            if is_open[draw % pairs] and draw < limit and self.makes(*divmod(draw % pairs, d)):
+                for mark in marks:
+                    tally[mark] += step - since
+                marks, moved, since = self.marks(), moved + 1, step
+        for mark in marks:
+            tally[mark] += end - since
+        DONE["steps"] += end - begin
+        return moved, tally[:asks], tally[asks:]
+
+
+def main(args: List[str]) -> int:
+    words = dict(zip(args[2::2], args[3::2]))
+    if len(args) < 2 or len(args) % 2 or words.keys() - WORDS:
+        print(__doc__)
+        return 2
+    try:
+        data = b"make" if args[0] == "make" else Path(args[0]).read_bytes()
+        job = Job(data, Path(args[1]).read_bytes().decode("utf-8").split("\n"), words)
+        if "--id" in words or {"--trace", "--checkpoints"}.isdisjoint(words):
+            every = [*[-1] * job.is_serial, *range(job.needed)]
+            for number in job.pick("--sample", "trajectory", every):
+                job.known[number] = job.find(every[every.index(number)])  # or there is none
+            sampled("report: of the trajectories", job.known, every)
+        if "--trace" in words:
+            job.trace(Path(words["--trace"]).read_bytes().decode("utf-8").split("\n"))
+        if "--checkpoints" in words:
+            folder = Path(words["--checkpoints"])
+            for path in sorted(folder.glob("audit-[01].ckpt")) or [folder / "audit-0.ckpt"]:
+                job.checkpoint(path)
+        job.report()
+    except (OSError, ValueError, LookupError, ArithmeticError) as error:
+        print(*WRONG, f"cannot be read: {error!r}", sep="\n")
+        return 2
+    print(*WRONG, f"{DONE['comparisons']} comparisons and {DONE['steps']} steps",
+          f"{len(WRONG)} disagreements" if WRONG else "all that was asked agrees", sep="\n")
+    return 1 if WRONG else 0
+
+
+if __name__ == "__main__":
+    sys.exit(main(sys.argv[1:]))

@@ -1,0 +1,1 @@
+"""The tests. `tests/run` runs them; the docstring of each says what it compares with what."""

@@ -1,0 +1,1 @@
+"""Comparisons of the real program with the plain models, on drawn inputs."""

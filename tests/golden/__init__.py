@@ -1,0 +1,1 @@
+"""Files and texts of the repository that an outside program or a plain model makes."""

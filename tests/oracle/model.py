@@ -1,0 +1,893 @@
+"""A plain model of the auditor: what it must answer for words, a graph and two slots. It imports nothing of the other tests.
+
+`audit(words, graph, slots, ...)` answers an `End`: the status, the text on standard output, the note on standard error, and both slots.
+Words, notes and standard output are bytes; a slot is bytes or None. JSON is read as serde_json reads it: by Python's json with whole
+numbers of 64 bits, at most 127 levels, and neither lone surrogates nor numbers too great for a float. One worker is assumed for the slots.
+"""
+import csv
+import functools
+import hashlib
+import io
+import json
+import math
+import re
+import struct
+from collections import Counter, namedtuple
+
+BILLION = 10 ** 9
+MOST_INPUT = 67108864
+MOST_SLOT = 84 + 80 * 100000
+MOST_CUT = 400000
+MOST_REGIONS = 5000
+MOST_SPLITS = 995000
+SCORES = ("seats", "mean-median", "gap", "cut-edges")
+TAILS = ("low", "high")
+BASE = ("--pop", "--first", "--second", "--district")
+TABLE = (*BASE, "--size", "--slack", "--key", "--walks", "--steps", "--ends", "--hub-steps", "--ask", "--workers", "--budget",
+         "--save", "--resume", "--max-cut", "--shift", "--stop", "--serial", "--region", "--max-split", "--parts", "--part",
+         "--max-splits", "--max-split-regions", "--group", "--group-of", "--group-districts", "--source", "--ids", "--thin")
+OF_TRACES = ("--ids", "--thin")
+OPTIONAL_COLUMNS = ("--region", "--group", "--group-of")
+OF_A_FILE = ("--region", "--max-split", "--max-splits", "--max-split-regions", "--group", "--group-of", "--group-districts", "--source")
+COMMANDS = {
+    "check": (*BASE, "--slack", "--max-cut", *OF_A_FILE),
+    "run": tuple(name for name in TABLE if name not in ("--size", *OF_TRACES)),
+    "make": tuple(name for name in TABLE if name not in (*BASE, *OF_A_FILE, *OF_TRACES)),
+    "plans": tuple(name for name in TABLE if name not in ("--size", "--budget", "--save", "--resume", "--parts", "--part", *OF_TRACES)),
+    "trace": tuple(name for name in TABLE if name not in ("--size", "--workers", "--budget", "--save", "--resume", "--shift", "--stop",
+                                                          "--serial", "--parts", "--part")),
+}
+DEFAULTS = {"--slack": "500", "--walks": "1", "--steps": "1000", "--ends": "0", "--hub-steps": "1000", "--workers": "1",
+            "--budget": "100000", "--save": "0", "--resume": "no", "--max-cut": "400000", "--shift": "no", "--stop": "0",
+            "--serial": "no", "--region": "", "--max-split": "200", "--parts": "1", "--part": "0", "--max-splits": "995000",
+            "--max-split-regions": "5000", "--group": "", "--group-of": "", "--group-districts": "0", "--source": "no", "--ids": "0",
+            "--thin": "1000"}
+RANGES = {"--size": (1, 30), "--slack": (0, 10000), "--walks": (0, 100000), "--steps": (1, BILLION), "--ends": (0, 100000),
+          "--hub-steps": (1, BILLION), "--workers": (1, 32), "--budget": (0, 100000), "--save": (0, 100000), "--max-cut": (0, MOST_CUT),
+          "--stop": (0, 100000), "--max-split": (1, 200), "--parts": (1, 100000), "--part": (0, 99999), "--max-splits": (0, MOST_SPLITS),
+          "--max-split-regions": (0, MOST_REGIONS), "--group-districts": (0, 200), "--thin": (1, BILLION)}
+# Which column has to be named where the value of a name is not the default.
+WITH_COLUMN = {"--max-split": "--region", "--max-splits": "--region", "--max-split-regions": "--region", "--group-of": "--group",
+               "--group-districts": "--group"}
+NO_BINS = (0,) * 9
+ALL_ASKS = {f"{score}:{tail}": (score, tail) for score in SCORES for tail in TAILS}
+
+End = namedtuple("End", "status out note slots")
+# What is read of a graph. The regions are empty where no column is named, and so is the group, which else is two lists: the group's, and the whole's.
+Read = namedtuple("Read", "edges people first second plan districts regions group")
+# The digest and the number of the bytes that were read.
+Origin = namedtuple("Origin", "sha256 bytes")
+
+
+class Refused(Exception):
+    """A refusal: its status and its note."""
+
+    def __init__(self, status, note):
+        super().__init__(note)
+        self.status, self.note = status, note
+
+
+# ---- words
+
+def number(text):
+    """The number that a text is, or None."""
+    is_plain = text.isascii() and text.isdigit() and (text == "0" or text[0] != "0")
+    return int(text) if is_plain and len(text) < 64 else None
+
+
+def ids_of(text):
+    """The first and the last id of a range `A-B`, or of `A`; None for one that is no number."""
+    first, dash, last = text.partition("-")
+    return number(first), number(last if dash else first)
+
+
+class Setting:
+    """The setting of words, or Refused."""
+
+    def __init__(self, words):
+        if not words:
+            raise Refused(1, "words: no command")
+        self.command = words[0]
+        if self.command not in COMMANDS:
+            raise Refused(1, f"words: unknown command {self.command}")
+        names = COMMANDS[self.command]
+        self.value = self.pairs(words[1:], names)
+        for name in names:
+            if name not in self.value and name not in DEFAULTS:
+                raise Refused(1, f"words: {name} is missing")
+        self.value = {**DEFAULTS, **self.value}
+        for name in names:
+            if not self.is_good(name):
+                raise Refused(1, f"words: bad value for {name}")
+        self.numbers()
+
+    @staticmethod
+    def pairs(words, names):
+        value = {}
+        for at in range(0, len(words), 2):
+            name = words[at]
+            if name not in names:
+                raise Refused(1, f"words: unknown name {name}")
+            if name in value:
+                raise Refused(1, f"words: {name} is given twice")
+            if at + 1 == len(words):
+                raise Refused(1, f"words: no value for {name}")
+            value[name] = words[at + 1]
+        return value
+
+    def of(self, name):
+        return number(self.value[name]) or 0
+
+    def is_good(self, name):
+        text = self.value[name]
+        if name == "--key":
+            return re.fullmatch("[0-9a-fA-F]{64}", text) is not None
+        if name == "--ask":
+            asks = text.split(",")
+            return all(ask in ALL_ASKS for ask in asks) and len(asks) <= 4 and len(set(asks)) == len(asks)
+        if name == "--serial" and text == "yes":
+            plans = self.of("--steps") + 1
+            return plans & plans - 1 == 0
+        if name in ("--resume", "--shift", "--serial", "--source"):
+            return text in ("yes", "no")
+        if name == "--district" and self.command == "plans":
+            return "\n" not in text
+        if name in WITH_COLUMN and text != DEFAULTS[name] and not self.value[WITH_COLUMN[name]]:
+            return False
+        if name in BASE or name in OPTIONAL_COLUMNS:
+            return True
+        if name == "--ids":
+            first, last = ids_of(text)
+            return None not in (first, last) and first <= last < self.of("--walks") + self.of("--ends")
+        low, high = RANGES[name]
+        if number(text) is None or not low <= number(text) <= high:
+            return False
+        total = self.of("--walks") + self.of("--ends")
+        if name == "--ends":
+            return 1 <= total <= 100000
+        if name == "--budget":
+            return self.value["--save"] != "0" or total <= self.of("--budget")
+        if name == "--stop" and self.of("--stop"):
+            return self.of("--ends") >= 1 and self.of("--save") == 0 and self.value["--resume"] != "yes"
+        if name == "--parts":
+            return self.of("--parts") == 1 or self.of("--save") >= 1
+        if name == "--part":
+            return self.of("--part") < self.of("--parts")
+        return True
+
+    def numbers(self):
+        value = self.value
+        self.slack, self.max_cut = self.of("--slack"), self.of("--max-cut")
+        self.columns = tuple(value[name] for name in BASE) if self.command != "make" else ("pop", "a", "b", "district")
+        self.region, self.source = value["--region"], value["--source"] == "yes"
+        self.group = (value["--group"], value["--group-of"] or self.columns[0]) if value["--group"] else ()
+        self.max_split, self.max_splits, self.max_split_regions, self.group_districts = (
+            self.of(name) for name in ("--max-split", "--max-splits", "--max-split-regions", "--group-districts"))
+        if self.command == "check":
+            self.asks, self.total, self.save, self.stop, self.resume, self.shift, self.serial = [], 0, 0, 0, False, False, False
+            return
+        self.key = bytes.fromhex(value["--key"])
+        self.walks, self.steps, self.ends, self.hub_steps = (self.of(name) for name in ("--walks", "--steps", "--ends", "--hub-steps"))
+        self.total = self.walks + self.ends
+        self.asks = [ALL_ASKS[ask] for ask in value["--ask"].split(",")]
+        self.budget, self.save, self.workers, self.stop = (self.of(name) for name in ("--budget", "--save", "--workers", "--stop"))
+        self.parts, self.part = self.of("--parts"), self.of("--part")
+        self.resume, self.shift, self.serial = (value[name] == "yes" for name in ("--resume", "--shift", "--serial"))
+        self.size = self.of("--size") if self.command == "make" else 0
+
+
+# ---- the graph
+
+class NotJson(Exception):
+    pass
+
+
+def whole(text):
+    """A whole number of 64 bits, or a float, as serde_json keeps it."""
+    if len(text) < 25 and text != "-0":
+        value = int(text)
+        if -2 ** 63 <= value < 2 ** 64:
+            return value
+    return fraction(text)
+
+
+def fraction(text):
+    value = float(text)
+    if math.isinf(value):
+        raise NotJson
+    return value
+
+
+def no_constant(_text):
+    raise NotJson
+
+
+STRING = re.compile(rb'"(?:[^"\\]|\\.)*"', re.DOTALL)
+NO_BRACKET = re.compile(rb"[^][{}]+")
+
+
+def depth(data):
+    """How deep brackets stand within brackets, outside texts."""
+    level = most = 0
+    for byte in NO_BRACKET.sub(b"", STRING.sub(b"", data)):
+        level += 1 if byte in b"[{" else -1
+        most = max(most, level)
+    return most
+
+
+def has_lone_surrogate(data):
+    return any(re.search("[\ud800-\udfff]", json.loads(text)) for text in STRING.findall(data))
+
+
+def parsed(data):
+    """The value of a JSON text, or NotJson."""
+    try:
+        value = json.loads(data.decode("utf-8"), parse_int=whole, parse_float=fraction, parse_constant=no_constant)
+    except (ValueError, RecursionError) as error:
+        raise NotJson from error
+    if depth(data) > 127 or b"\\u" in data and has_lone_surrogate(data):
+        raise NotJson
+    return value
+
+
+def is_id(value):
+    return type(value) in (int, str)
+
+
+def refuse(note):
+    raise Refused(2, "graph: " + note)
+
+
+def shape(root):
+    """The lists of nodes and of neighbours, or the refusal of the shape."""
+    def bad(part):
+        refuse("bad shape of " + part)
+
+    if type(root) is not dict:
+        bad("root")
+    nodes, adjacency = root.get("nodes"), root.get("adjacency")
+    if type(nodes) is not list:
+        bad("nodes")
+    if type(adjacency) is not list or any(type(entry) is not list for entry in adjacency):
+        bad("adjacency")
+    for part in ("directed", "multigraph"):
+        if part in root and type(root[part]) is not bool:
+            bad(part)
+    if root.get("directed"):
+        refuse("directed")
+    if len(nodes) != len(adjacency):
+        refuse(f"{len(nodes)} nodes and {len(adjacency)} adjacency entries")
+    if len(nodes) > 100000:
+        refuse(f"{len(nodes)} units, more than 100000")
+    return nodes, adjacency
+
+
+def places_of(nodes):
+    for at, node in enumerate(nodes):
+        if type(node) is not dict or not is_id(node.get("id")):
+            refuse(f"node {at} has no usable id")
+    places = {}
+    for at, node in enumerate(nodes):
+        if node["id"] in places:
+            refuse(f"nodes {places[node['id']]} and {at} have the same id")
+        places[node["id"]] = at
+    return places
+
+
+def edges_of(places, adjacency):
+    for at, entry in enumerate(adjacency):
+        for place, one in enumerate(entry):
+            if type(one) is not dict or not is_id(one.get("id")):
+                refuse(f"neighbour {place} of node {at} has no usable id")
+    for at, entry in enumerate(adjacency):
+        for place, one in enumerate(entry):
+            if one["id"] not in places:
+                refuse(f"neighbour {place} of node {at} is unknown")
+    pairs = {(min(at, places[one["id"]]), max(at, places[one["id"]])) for at, entry in enumerate(adjacency) for one in entry}
+    edges = sorted(pair for pair in pairs if pair[0] < pair[1])
+    if len(edges) > 400000:
+        refuse(f"{len(edges)} edges, more than 400000")
+    return edges
+
+
+def columns_of(nodes, columns, group):
+    """The lists of the three number columns, of the labels and of the two columns of a group, where one is named, or the first refusal."""
+    for at, node in enumerate(nodes):
+        for column in (*columns, *group):
+            if column not in node:
+                refuse(f"node {at} has no column {column}")
+    for at, node in enumerate(nodes):
+        for column in (*columns[:3], *group):
+            if type(node[column]) is not int or not 0 <= node[column] <= BILLION:
+                refuse(f"node {at} has no whole number from 0 to 1000000000 in column {column}")
+    for at, node in enumerate(nodes):
+        if not is_id(node[columns[3]]):
+            refuse(f"node {at} has no usable label")
+    return tuple([node[column] for node in nodes] for column in (*columns, *group))
+
+
+def numbered(labels):
+    """How many different labels there are, and each one's place among them in rising order, numbers before texts."""
+    different = sorted(set(labels), key=lambda label: (type(label) is str, label))
+    place = {label: at for at, label in enumerate(different)}
+    return len(different), [place[label] for label in labels]
+
+
+def regions_of(nodes, column):
+    """The region of each unit, and none where no column is named, or the first refusal."""
+    if not column:
+        return []
+    for at, node in enumerate(nodes):
+        if column not in node:
+            refuse(f"node {at} has no column {column}")
+    for at, node in enumerate(nodes):
+        if not is_id(node[column]):
+            refuse(f"node {at} has no usable label in column {column}")
+    count, regions = numbered([node[column] for node in nodes])
+    if count > MOST_REGIONS:
+        refuse(f"{count} regions, more than 5000")
+    return regions
+
+
+def reading(data, columns, region, group):
+    """The edges, the three columns, the plan, the regions and the group of a graph, or the first refusal."""
+    if len(data) > MOST_INPUT:
+        refuse(f"more than {MOST_INPUT} bytes")
+    try:
+        root = parsed(data)
+    except NotJson:
+        refuse("not JSON")
+    nodes, adjacency = shape(root)
+    edges = edges_of(places_of(nodes), adjacency)
+    people, first, second, labels, *both = columns_of(nodes, columns, group)
+    districts, plan = numbered(labels)
+    if not 2 <= districts <= 200:
+        refuse(f"{districts} districts, not 2 to 200")
+    return Read(edges, people, first, second, plan, districts, regions_of(nodes, region), both)
+
+
+# ---- tables
+
+def refuse_table(note):
+    raise Refused(2, "table: " + note)
+
+
+def records_of(data):
+    """The records of a table, each a list of fields of bytes: no empty lines, no byte order mark, and any line end."""
+    text = data.removeprefix(b"\xef\xbb\xbf").decode("latin-1")
+    rows = csv.reader(io.StringIO(text, newline=""))
+    return [[field.encode("latin-1") for field in row] for row in rows if row]
+
+
+def is_text(field):
+    try:
+        field.decode("utf-8")
+    except UnicodeDecodeError:
+        return False
+    return True
+
+
+def plans_of(data, ids):
+    """The name of each plan of a table, how many districts it has and the district of each unit, or the first refusal."""
+    records = records_of(data)
+    for at, record in enumerate(records):
+        if len(record) != len(records[0]) or not all(is_text(field) for field in record):
+            refuse_table(f"record {at} is unreadable")
+    if not records or len(records[0]) < 2:
+        refuse_table("no header")
+    names = records[0][1:]
+    if len(names) > 16:
+        refuse_table(f"{len(names)} plans, more than 16")
+    for plan, name in enumerate(names):
+        if not re.fullmatch(rb"[!-~]{1,100}", name):
+            refuse_table(f"plan {plan} has no usable name")
+    units = {}
+    for unit, one in enumerate(ids):
+        if one in units:
+            refuse_table(f"units {units[one]} and {unit} share an id")
+        units[one] = unit
+    for at, record in enumerate(records[1:]):
+        if record[0] not in units:
+            refuse_table(f"record {at + 1} names no unit")
+    rows = {}
+    for at, record in enumerate(records[1:]):
+        if record[0] in rows:
+            refuse_table(f"record {at + 1} repeats a unit")
+        rows[record[0]] = record
+    for unit, one in enumerate(ids):
+        if one not in rows:
+            refuse_table(f"unit {unit} is missing")
+    made = []
+    for plan, name in enumerate(names):
+        districts, start = numbered([rows[one][plan + 1] for one in ids])
+        if not 2 <= districts <= 200:
+            refuse_table(f"plan {plan} has {districts} districts, not 2 to 200")
+        made.append((name.decode("ascii"), districts, start))
+    return made
+
+
+# ---- draws
+
+def block(key, stream, place):
+    start = [*struct.unpack("<4I", b"expand 32-byte k"), *struct.unpack("<8I", key), place & 0xFFFFFFFF, place >> 32,
+             stream & 0xFFFFFFFF, stream >> 32]
+    x = start[:]
+    for _ in range(10):
+        for a, b, c, d in ((0, 4, 8, 12), (1, 5, 9, 13), (2, 6, 10, 14), (3, 7, 11, 15),
+                           (0, 5, 10, 15), (1, 6, 11, 12), (2, 7, 8, 13), (3, 4, 9, 14)):
+            for p, q, r, turn in ((a, b, d, 16), (c, d, b, 12), (a, b, d, 8), (c, d, b, 7)):
+                x[p] = (x[p] + x[q]) & 0xFFFFFFFF
+                mixed = x[r] ^ x[p]
+                x[r] = ((mixed << turn) | (mixed >> (32 - turn))) & 0xFFFFFFFF
+    words = [(u + v) & 0xFFFFFFFF for u, v in zip(x, start)]
+    return [words[at] | words[at + 1] << 32 for at in range(0, 16, 2)]
+
+
+@functools.lru_cache(maxsize=4096)
+def draws(key, stream, count):
+    return [draw for place in range(-(-count // 8)) for draw in block(key, stream, place)][:count]
+
+
+# ---- the job
+
+class Job:
+    """A graph, its plan and a setting, where the plan is not refused."""
+
+    def __init__(self, setting, read, origin=None):
+        self.setting, self.origin = setting, origin
+        self.edges, self.people, self.first, self.second, self.plan, self.districts, self.regions, self.group = read
+        self.units, self.population = len(self.plan), sum(self.people)
+        self.neighbours = [[] for _ in self.plan]
+        for u, v in self.edges:
+            self.neighbours[u].append(v)
+            self.neighbours[v].append(u)
+        shares = 10000 * self.districts
+        self.low = -(-(10000 - setting.slack) * self.population // shares)
+        self.high = (10000 + setting.slack) * self.population // shares
+        self.judge()
+
+    def judge(self):
+        if any(score == "gap" for score, _ in self.setting.asks) and not sum(self.first) + sum(self.second):
+            raise Refused(2, "plan: no votes")
+        sums = self.sums(self.plan, self.people)
+        for district, people in enumerate(sums):
+            if not self.low <= people <= self.high:
+                raise Refused(2, f"plan: district {district} has population {people}, outside {self.low} to {self.high}")
+        for district in range(self.districts):
+            members = {u for u, d in enumerate(self.plan) if d == district}
+            lost = members - self.reached(members)
+            if lost:
+                raise Refused(2, f"plan: district {district} has no path from unit {min(members)} to unit {min(lost)}")
+        if self.cut(self.plan) > self.setting.max_cut:
+            raise Refused(2, f"plan: {self.cut(self.plan)} cut edges, more than {self.setting.max_cut}")
+        for region, districts in enumerate(self.districts_of_regions(self.plan)):
+            if districts > self.setting.max_split:
+                raise Refused(2, f"plan: region {region} lies in {districts} districts, more than {self.setting.max_split}")
+        if self.splits(self.plan) > self.setting.max_splits:
+            raise Refused(2, f"plan: {self.splits(self.plan)} splits of regions, more than {self.setting.max_splits}")
+        if self.split_regions(self.plan) > self.setting.max_split_regions:
+            raise Refused(2, f"plan: {self.split_regions(self.plan)} regions lie in more than one district, more than {self.setting.max_split_regions}")
+        if self.majorities(self.plan) < self.setting.group_districts:
+            raise Refused(2, f"plan: the group has a majority in {self.majorities(self.plan)} districts, fewer than {self.setting.group_districts}")
+
+    def sums(self, plan, column):
+        sums = [0] * self.districts
+        for district, amount in zip(plan, column):
+            sums[district] += amount
+        return sums
+
+    def reached(self, members):
+        """The members to which paths within them lead from the least one."""
+        found, todo = {min(members)}, [min(members)]
+        while todo:
+            for v in self.neighbours[todo.pop()]:
+                if v in members and v not in found:
+                    found.add(v)
+                    todo.append(v)
+        return found
+
+    def cut(self, plan):
+        return sum(plan[u] != plan[v] for u, v in self.edges)
+
+    def districts_of_regions(self, plan):
+        """For each region, how many districts a plan gives to its units."""
+        pairs = Counter(region for region, _ in set(zip(self.regions, plan)))
+        return [pairs[region] for region in sorted(pairs)]
+
+    def splits(self, plan):
+        """How often regions are split in all: each by one less than the number of its districts."""
+        return sum(districts - 1 for districts in self.districts_of_regions(plan))
+
+    def split_regions(self, plan):
+        """How many regions lie in more than one district."""
+        return sum(districts > 1 for districts in self.districts_of_regions(plan))
+
+    def majorities(self, plan):
+        """In how many districts the group has more than half of the whole; none where there is no group."""
+        if not self.group:
+            return 0
+        members, whole = (self.sums(plan, column) for column in self.group)
+        return sum(2 * part > all_of_it for part, all_of_it in zip(members, whole))
+
+    def meets_rules(self, plan):
+        setting = self.setting
+        return (self.cut(plan) <= setting.max_cut and all(districts <= setting.max_split for districts in self.districts_of_regions(plan))
+                and self.splits(plan) <= setting.max_splits and self.split_regions(plan) <= setting.max_split_regions
+                and self.majorities(plan) >= setting.group_districts)
+
+    def is_legal(self, plan):
+        if any(not self.low <= people <= self.high for people in self.sums(plan, self.people)):
+            return False
+        for district in range(self.districts):
+            members = {u for u, d in enumerate(plan) if d == district}
+            if not members or self.reached(members) != members:
+                return False
+        return self.meets_rules(plan)
+
+    def walk(self, plan, stream, steps):
+        """The plans visited, and the moves."""
+        visited, moved, pairs = [plan], 0, self.units * self.districts
+        for draw in draws(self.setting.key, stream, steps):
+            if draw < 2 ** 64 // pairs * pairs:
+                unit, district = divmod(draw % pairs, self.districts)
+                if plan[unit] != district:
+                    changed = (*plan[:unit], district, *plan[unit + 1:])
+                    if self.is_legal(changed):
+                        plan, moved = changed, moved + 1
+            visited.append(plan)
+        return visited, moved
+
+    def value(self, plan, score):
+        pairs = list(zip(self.sums(plan, self.first), self.sums(plan, self.second)))
+        if score == "seats":
+            return sum(a > b for a, b in pairs)
+        if score == "gap":
+            return sum(3 * b - a if a > b else b - 3 * a for a, b in pairs)
+        if score == "cut-edges":
+            return self.cut(plan)
+        shares = sorted(a * BILLION // (a + b) if a + b else BILLION // 2 for a, b in pairs)
+        count = self.districts
+        return count * (shares[(count - 1) // 2] + shares[count // 2]) - 2 * sum(shares)
+
+    def denominator(self, score):
+        return {"seats": 1, "cut-edges": 1, "mean-median": 2 * self.districts * BILLION,
+                "gap": 2 * (sum(self.first) + sum(self.second))}[score]
+
+    def limits_splits(self):
+        """Whether there are regions, of which the splits or the split ones are limited."""
+        return bool(self.regions) and (self.setting.max_splits < MOST_SPLITS or self.setting.max_split_regions < MOST_REGIONS)
+
+    def digest(self):
+        setting = self.setting
+        further = self.limits_splits() or self.group
+        limited = setting.max_cut < MOST_CUT or self.regions or self.group
+        parts = [b"district-job 3" if further else b"district-job 2" if limited else b"district-job 1"]
+        parts += [struct.pack(">3I", self.units, len(self.edges), self.districts)]
+        parts += [struct.pack(">2I", *edge) for edge in self.edges]
+        parts += [struct.pack(">3QI", *unit) for unit in zip(self.people, self.first, self.second, self.plan)]
+        parts += [struct.pack(">I", setting.slack), setting.key,
+                  struct.pack(">4I", setting.walks, setting.steps, setting.ends, setting.hub_steps), struct.pack(">I", len(setting.asks))]
+        parts += [struct.pack(">2I", SCORES.index(score), TAILS.index(tail)) for score, tail in setting.asks]
+        parts += [struct.pack(">I", setting.max_cut)] if limited else []
+        parts += [struct.pack(f">{len(self.regions) + 1}I", setting.max_split, *self.regions)] if self.regions else []
+        parts += [struct.pack(">2I", setting.max_splits, setting.max_split_regions)] if self.limits_splits() else []
+        parts += [struct.pack(">I", setting.group_districts)] if self.group else []
+        parts += [struct.pack(">2Q", *both) for both in zip(*self.group)]
+        return hashlib.sha256(b"".join(parts)).digest()
+
+
+OUTCOMES = {}
+
+
+def is_inside(value, start, tail):
+    return value <= start if tail == "low" else value >= start
+
+
+def bins_of(job, visited):
+    """How many of the plans have 4 seats fewer than the start or less, 3 fewer, and so on to 4 more or above."""
+    start, bins = job.value(job.plan, "seats"), [0] * 9
+    for plan in visited:
+        bins[max(-4, min(4, job.value(plan, "seats") - start)) + 4] += 1
+    return tuple(bins)
+
+
+def outcomes(job, key):
+    """The moves, the values and the bins of each trajectory, by id; those from the hub have bins of 0."""
+    if key in OUTCOMES:
+        return OUTCOMES[key]
+    setting, plan, found = job.setting, tuple(job.plan), []
+    start = [job.value(plan, score) for score, _ in setting.asks]
+    for walk in range(setting.walks):
+        visited, moved = job.walk(plan, 2 * walk, setting.steps)
+        found.append((moved, [sum(is_inside(job.value(one, score), first, tail) for one in visited)
+                              for first, (score, tail) in zip(start, setting.asks)], bins_of(job, visited)))
+    hub = job.walk(plan, 1, setting.hub_steps)[0][-1] if setting.ends else None
+    for end in range(setting.ends):
+        visited, moved = job.walk(hub, 2 * end + 3, setting.hub_steps)
+        found.append((moved, [job.value(visited[-1], score) for score, _ in setting.asks], NO_BINS))
+    if len(OUTCOMES) > 20000:
+        OUTCOMES.clear()
+    OUTCOMES[key] = found
+    return found
+
+
+def asked(job, key):
+    """The same, with bins only where the job asks for them."""
+    return [(moved, values, bins if job.setting.shift else NO_BINS) for moved, values, bins in outcomes(job, key)]
+
+
+def stop_of(values, start, tail, enough):
+    """The least number of values of which so many are in the tail, and their part; or all values, and one more than those in the tail."""
+    count = 0
+    for place, value in enumerate(values, 1):
+        count += is_inside(value, start, tail)
+        if count == enough:
+            return place, enough, place
+    return len(values), count + 1, len(values) + 1
+
+
+def serial(job):
+    """The place of the start plan in one run through it, and for each ask how many plans of the run are in its tail."""
+    setting, plan = job.setting, tuple(job.plan)
+    place = draws(setting.key, 2 ** 33, 1)[0] % (setting.steps + 1)
+    forward, backward = job.walk(plan, 2 ** 33 + 1, place)[0], job.walk(plan, 2 ** 33 + 2, setting.steps - place)[0]
+    run = backward[:0:-1] + forward
+    return place, [sum(is_inside(job.value(one, score), job.value(plan, score), tail) for one in run) for score, tail in setting.asks]
+
+
+# ---- texts
+
+def billionths(n):
+    return f"{n // BILLION}.{n % BILLION:09d}"
+
+
+def bound(count, of):
+    least = -(-2 * count * BILLION * BILLION // of)
+    root = math.isqrt(least)
+    return root if root * root >= least else root + 1
+
+
+def head(job):
+    setting = job.setting
+    lines = [f"units {job.units} edges {len(job.edges)} districts {job.districts}",
+             f"population {job.population} slack {setting.slack} low {job.low} high {job.high}"]
+    lines += [f"max-cut {setting.max_cut}"] if setting.max_cut < MOST_CUT else []
+    lines += [f"max-split {setting.max_split} regions {len(set(job.regions))}"] if job.regions else []
+    lines += [f"max-splits {setting.max_splits} max-split-regions {setting.max_split_regions}"] if job.limits_splits() else []
+    return lines + ([f"group-districts {setting.group_districts} of {job.majorities(job.plan)}"] if job.group else [])
+
+
+def quoted(text):
+    """A text as JSON writes it, with the shortest escapes, and only where JSON wants one."""
+    return json.dumps(text, ensure_ascii=False)
+
+
+def origin_lines(job):
+    """What was read, and which columns of it, where the words ask for it."""
+    if job.origin is None:
+        return []
+    setting = job.setting
+    words = ["columns", *(quoted(column) for column in setting.columns)]
+    words += ["region", quoted(setting.region)] if setting.region else []
+    words += ["group", quoted(setting.group[0]), "of", quoted(setting.group[1])] if setting.group else []
+    return [f"source sha256 {job.origin.sha256.hex()} bytes {job.origin.bytes}", " ".join(words)]
+
+
+def check_text(job):
+    return "\n".join(["plan-check 1", *origin_lines(job), *head(job), "end", ""])
+
+
+def p_value(top, of):
+    return f"p {billionths(-(-top * BILLION // of))}"
+
+
+def part(rank, of):
+    """A rank of so many, and their fraction."""
+    return f"rank {rank} of {of} {p_value(rank, of)}"
+
+
+def report(job, found):
+    """The report on these outcomes, given by rising id as moves, values and bins."""
+    setting = job.setting
+    lines = [f"district-audit {2 if setting.shift else 1}", *origin_lines(job), "key " + setting.key.hex(), *head(job),
+             f"walks {setting.walks} steps {setting.steps} ends {setting.ends} hub-steps {setting.hub_steps}",
+             *([f"stop {setting.stop}"] if setting.stop else [])]
+    start = [job.value(job.plan, score) for score, _ in setting.asks]
+    words = [f"{score} {tail} start {first}/{job.denominator(score)}" for first, (score, tail) in zip(start, setting.asks)]
+    for walk, (moved, counts, _) in enumerate(found[:setting.walks]):
+        for ask, count in zip(words, counts):
+            lines.append(f"walk {walk} moved {moved} {ask} count {count} of {setting.steps + 1} bound {billionths(bound(count, setting.steps + 1))}")
+    if setting.shift:
+        lines.append(" ".join(["shift", *(str(sum(one[2][place] for one in found)) for place in range(9))]))
+    for place, (_, tail) in enumerate(setting.asks if setting.stop else []):
+        at, top, of = stop_of([values[place] for _, values, _ in found[setting.walks:]], start[place], tail, setting.stop)
+        lines.append(f"stop {words[place]} place {at} value {top}/{of} {p_value(top, of)}")
+    for place, (_, tail) in enumerate(setting.asks if setting.ends and not setting.stop else []):
+        rank = 1 + sum(is_inside(values[place], start[place], tail) for _, values, _ in found[setting.walks:])
+        lines.append(f"ends {words[place]} {part(rank, setting.ends + 1)}")
+    if setting.serial:
+        place, ranks = serial(job)
+        lines += [f"serial {ask} place {place} {part(rank, setting.steps + 1)}" for ask, rank in zip(words, ranks)]
+    return "\n".join([*lines, "end", ""])
+
+
+# ---- checkpoints
+
+def sealed(front):
+    return front + hashlib.sha256(front).digest()
+
+
+def checkpoint(digest, generation, found, version=2):
+    """The bytes of a checkpoint of outcomes, a map from the id to the moves, the values and the bins; in version 1 without the bins."""
+    records = []
+    for one, (moved, values, bins) in sorted(found.items()):
+        records.append(struct.pack(">IQ4q", one, moved, *values, *[0] * (4 - len(values))))
+        records += [struct.pack(">9I", *bins)] if version == 2 else []
+    return sealed(b"DISTCKPT" + struct.pack(">I", version) + digest + struct.pack(">2I", generation, len(found)) + b"".join(records))
+
+
+Slot = namedtuple("Slot", "fault job generation records")
+
+
+def decoded(data):
+    """What a slot is, whatever the job."""
+    def broken(why):
+        return Slot(why, None, None, None)
+
+    if data is None:
+        return broken("absent")
+    if len(data) > MOST_SLOT:
+        return broken("too long")
+    if len(data) < 84:
+        return broken("too short")
+    version, generation, count = (struct.unpack_from(">I", data, at)[0] for at in (8, 44, 48))
+    if data[:8] != b"DISTCKPT":
+        return broken("bad magic")
+    if version not in (1, 2):
+        return broken("bad version")
+    if generation > 2:
+        return broken("bad generation")
+    size = 44 if version == 1 else 80
+    if count > 100000 or len(data) != 84 + size * count:
+        return broken("bad count")
+    records = [(*one, *NO_BINS)[:15] for one in struct.iter_unpack(">IQ4q" if version == 1 else ">IQ4q9I", data[52:-32])]
+    if any(one[0] >= other[0] for one, other in zip(records, records[1:])):
+        return broken("bad order")
+    if sealed(data[:-32]) != data:
+        return broken("bad digest")
+    return Slot(None, data[12:44], generation, records)
+
+
+def fits(setting, one):
+    is_walk, asks = one[0] < setting.walks, len(setting.asks)
+    values, bins = one[2:6], one[6:]
+    return (one[0] < setting.total and one[1] <= (setting.steps if is_walk else setting.hub_steps) and not any(values[asks:])
+            and (not is_walk or all(1 <= count <= setting.steps + 1 for count in values[:asks]))
+            and (not any(bins) or is_walk and sum(bins) == setting.steps + 1))
+
+
+def looked(setting, digest, data):
+    slot = decoded(data)
+    if slot.fault is None and slot.job == digest and not all(fits(setting, one) for one in slot.records):
+        return Slot("unfit", None, None, None)
+    return slot
+
+
+def newest(slots):
+    intact = [at for at in (0, 1) if slots[at].fault is None]
+    if len(intact) == 2:
+        return 1 if slots[1].generation == (slots[0].generation + 1) % 3 else 0
+    return intact[0] if intact else None
+
+
+def opening(slots, digest, setting):
+    """The outcomes from which a run goes on: bare ones where it asks for no bins, and else the walks that have theirs and all ends."""
+    if all(slot.fault == "absent" for slot in slots):
+        return {}
+    at = newest(slots)
+    if at is None:
+        raise Refused(8, f"checkpoint: slot 0 {slots[0].fault}, slot 1 {slots[1].fault}")
+    if slots[at].job != digest:
+        raise Refused(8, f"checkpoint: other job {slots[at].job.hex()}, this job {digest.hex()}")
+    found = {one[0]: (one[1], list(one[2:2 + len(setting.asks)]), one[6:]) for one in slots[at].records}
+    if not setting.shift:
+        return {one: (moved, values, NO_BINS) for one, (moved, values, _) in found.items()}
+    return {one: outcome for one, outcome in found.items() if one >= setting.walks or any(outcome[2])}
+
+
+# ---- traces
+
+def trajectory_lines(job, id, thin, hub):
+    """The lines of the trajectory with this id, by the model's walk."""
+    setting, start = job.setting, tuple(job.plan)
+    if id < setting.walks:
+        first, stream, steps = start, 2 * id, setting.steps
+    else:
+        first, stream, steps = hub, 2 * (id - setting.walks) + 3, setting.hub_steps
+    visited = job.walk(first, stream, steps)[0]
+    lines, before, moved, shown = [f"trace id {id} steps {steps} thin {thin}"], start, 0, {*range(0, steps, thin), steps}
+    for step in range(steps + 1):
+        moved += step > 0 and visited[step] != visited[step - 1]
+        if step in shown:
+            values = [str(job.value(visited[step], score)) for score, _ in setting.asks]
+            changes = [f"{u}:{d}" for u, d in enumerate(visited[step]) if d != before[u]]
+            lines.append(" ".join([str(step), str(moved), *values, *changes]))
+            before = visited[step]
+    return lines
+
+
+def trace_text(job, first, last, thin):
+    """The trace of the trajectories from the first id to the last."""
+    setting, start = job.setting, tuple(job.plan)
+    hub = job.walk(start, 1, setting.hub_steps)[0][-1]
+    asks = [f"ask {score} {tail} start {job.value(start, score)}/{job.denominator(score)}" for score, tail in setting.asks]
+    lines = ["district-trace 1", *origin_lines(job), "key " + setting.key.hex(), *head(job),
+             f"walks {setting.walks} steps {setting.steps} ends {setting.ends} hub-steps {setting.hub_steps}", *asks]
+    for id in range(first, last + 1):
+        lines += trajectory_lines(job, id, thin, hub)
+    return "\n".join([*lines, "end", ""])
+
+
+# ---- the whole call
+
+def run(job, slots):
+    setting, digest = job.setting, job.digest()
+    seen = [looked(setting, digest, data) for data in slots] if setting.save or setting.resume else None
+    found = opening(seen, digest, setting) if setting.resume else {}
+    todo = [one for one in range(setting.part, setting.total, setting.parts) if one not in found][:setting.budget]
+    every = asked(job, digest) if todo else []
+    slots, counts = list(slots), []
+    if setting.save:
+        at = newest(seen)
+        slot, generation = (0, 0) if at is None else (1 - at, (seen[at].generation + 1) % 3)
+        counts = list(range(setting.save, len(todo) + 1, setting.save))
+        counts += [len(todo)] if not counts or counts[-1] != len(todo) else []
+    for count in counts:
+        slots[slot] = checkpoint(digest, generation, {**found, **{one: every[one] for one in todo[:count]}})
+        slot, generation = 1 - slot, (generation + 1) % 3
+    found = {**found, **{one: every[one] for one in todo}}
+    if len(found) < setting.total:
+        return End(7, "", f"stopped: {len(found)} of {setting.total} done\n", slots)
+    return End(0, report(job, [found[one] for one in sorted(found)]), "", slots)
+
+
+def origin_of(setting, data):
+    """The origin of a job of these bytes, where the words ask for it."""
+    return Origin(hashlib.sha256(data).digest(), len(data)) if setting.source else None
+
+
+def job_of(setting, graph):
+    return Job(setting, reading(graph, setting.columns, setting.region, setting.group), origin_of(setting, graph))
+
+
+def jobs_of(setting, data):
+    """The name and the job of each plan: of the graph's own, and of each plan of the table behind the first line feed."""
+    graph, _, table = data.partition(b"\n")
+    if len(data) > MOST_INPUT:
+        refuse(f"more than {MOST_INPUT} bytes")
+    read, origin = reading(graph, setting.columns, setting.region, setting.group), origin_of(setting, data)
+    ids = [str(node["id"]).encode("utf-8") for node in parsed(graph)["nodes"]]
+    plans = plans_of(table, ids)
+    jobs = [(setting.columns[3], Job(setting, read, origin))]
+    for name, districts, plan in plans:
+        try:
+            jobs.append((name, Job(setting, read._replace(plan=plan, districts=districts), origin)))
+        except Refused as refusal:
+            raise Refused(2, refusal.note.replace("plan:", f"plan {name}:", 1)) from refusal
+    return jobs
+
+
+def audit(words, graph, slots):
+    """How a call with ample memory, over files that do not fail, must end."""
+    try:
+        setting = Setting(words)
+        if setting.command == "plans":
+            return End(0, "".join(f"plan {name}\n" + report(job, asked(job, job.digest())) for name, job in jobs_of(setting, graph)), "", list(slots))
+        job = job_of(setting, graph)
+        if setting.command == "check":
+            return End(0, check_text(job), "", list(slots))
+        if setting.command == "trace":
+            return End(0, trace_text(job, *ids_of(setting.value["--ids"]), setting.of("--thin")), "", list(slots))
+        return run(job, slots)
+    except Refused as refusal:
+        return End(refusal.status, "", refusal.note + "\n", list(slots))

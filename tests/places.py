@@ -1,0 +1,76 @@
+"""Where the tests find files, programs and a Python with the modules that a test needs."""
+import functools
+import os
+import pathlib
+import subprocess
+import sys
+import typing
+
+TOP = pathlib.Path(__file__).resolve().parent.parent
+EXAMPLES = TOP / "examples"
+DATA = EXAMPLES / "data"
+TEST_DATA = TOP / "tests" / "data"
+CASES = TOP / "crates" / "audit_cases"
+
+# The variables that name the programs, and the crates whose folders have them where the variable
+# is not set.
+PROGRAMS = {
+    "auditor": ("DISTRICT_AUDIT", "audit_program"),
+    "folders": ("DISTRICT_AUDIT_FOLDERS", "audit_folders"),
+}
+
+
+def package_environment() -> typing.Dict[str, str]:
+    """Returns the environment in which Python finds the package of this checkout."""
+    paths = [str(TOP / "python"), os.environ.get("PYTHONPATH", "")]
+    return {**os.environ, "PYTHONPATH": os.pathsep.join(path for path in paths if path)}
+
+
+def package_command(name: str, python: str = sys.executable) -> typing.List[str]:
+    """Returns the words that call a command of the package, such as `prepare`."""
+    code = f"import sys; from district_audit.commands import {name}; sys.exit({name}())"
+    return [python, "-c", code]
+
+
+@functools.lru_cache(maxsize=None)
+def python_with(*modules: str) -> typing.Optional[str]:
+    """Returns a Python that has all of these modules, or None."""
+    words = [str(TOP / "scripts" / "needs.sh"), "python", *modules]
+    end = subprocess.run(words, capture_output=True, text=True, check=False)
+    return end.stdout.strip() if end.returncode == 0 else None
+
+
+def program(name: str) -> pathlib.Path:
+    """Returns the path of the auditor, or of the program over its folders (`folders`).
+
+    That is what its variable names, or what `rt ci` and `rt run` leave in the crate's folder;
+    it is built there where it is missing. Raises FileNotFoundError where there is none.
+    """
+    variable, crate = PROGRAMS[name]
+    path = pathlib.Path(os.environ.get(variable) or TOP / "crates" / crate / "out" / crate)
+    if not os.environ.get(variable) and not os.access(path, os.X_OK):
+        try:
+            subprocess.run(
+                ["rt", "run"],
+                cwd=TOP / "crates" / crate,
+                stdin=subprocess.DEVNULL,
+                capture_output=True,
+                check=False,
+            )
+        except FileNotFoundError:
+            pass
+    if not os.access(path, os.X_OK):
+        raise FileNotFoundError(f"there is no program {path}; the variable {variable} may name it")
+    return path.resolve()
+
+
+def linked(folder: pathlib.Path) -> typing.Tuple[pathlib.Path, pathlib.Path, pathlib.Path]:
+    """Returns links in a folder to the program over folders, by each of its names.
+
+    It does what the name says under which it is called: `audit_folders`, `audit_slots` and
+    `audit_gather`.
+    """
+    links = tuple(folder / name for name in ("audit_folders", "audit_slots", "audit_gather"))
+    for link in links:
+        link.symlink_to(program("folders"))
+    return links[0], links[1], links[2]

@@ -1,0 +1,1 @@
+"""Runs of the real program among files, processes, faults and limits."""

@@ -1,0 +1,281 @@
+"""Folders for audit_slots and audit_gather: checkpoints to put there, calls, and cases with names.
+
+`Room.check` makes a call that has to end as folder_model.py says: status, both texts, and the files
+of every folder. A case is a function of a room; `run_cases` runs those of a script.
+"""
+from __future__ import annotations
+
+import contextlib
+import fcntl
+import os
+import pathlib
+import resource
+import shutil
+import signal
+import subprocess
+import sys
+import tempfile
+from typing import Any, Callable, Dict, Iterator, List, Mapping, NamedTuple, Optional, Sequence, Set
+
+from tests.oracle import model
+from tests.places import DATA
+from tests.system import folder_model, power_cuts
+from tests.system.folder_model import Folder, Outcomes
+
+# These modules have no types.
+
+CYCLE = (DATA / "cycle.json").read_bytes()
+NAMES = ("audit-0.ckpt", "audit-1.ckpt")
+RUN = [*"run --pop pop --first a --second b --district d --slack 5000 --walks 12 --steps 8".split(),
+       "--ask", "gap:low", "--key", "0" * 64]
+LOOK = ["--look", "yes"]
+WITH_LOOK: List[List[str]] = [[], LOOK]
+WITH_RUN: List[List[str]] = [[], RUN]
+WITH_FOLDER: List[List[str]] = [[], ["../p"]]
+KINDS = ("folder", "loop", "pipe", "link to nothing", "device")
+LOAD_FAULT, SAVE_FAULT = "checkpoint load fault\n", "checkpoint save fault\n"
+
+
+def with_value(name: str, value: str) -> List[str]:
+    """Returns the words of the run with another value of a name that they have."""
+    at = RUN.index(name)
+    return [*RUN[:at + 1], value, *RUN[at + 2:]]
+
+
+# ---- checkpoints
+
+JOB = model.job_of(model.Setting(RUN), CYCLE)
+DIGEST = JOB.digest()
+OTHER = model.job_of(model.Setting(with_value("--slack", "9000")), CYCLE).digest()
+BARE: Outcomes = dict(enumerate(model.asked(JOB, DIGEST)))
+BINNED: Outcomes = dict(enumerate(model.outcomes(JOB, DIGEST)))
+
+
+def changed(outcome: Any) -> Any:
+    """Returns another outcome that the job can have: the number of moves differs."""
+    return (outcome[0] ^ 1, *outcome[1:])
+
+
+def some(ids: Sequence[int], *others: int, found: Optional[Outcomes] = None) -> Outcomes:
+    """Returns the outcomes with these ids; those of `others` are changed."""
+    found = BARE if found is None else found
+    return {one: changed(found[one]) if one in others else found[one] for one in ids}
+
+
+def saved(outcomes: Outcomes, generation: int = 0, digest: bytes = DIGEST) -> bytes:
+    return bytes(model.checkpoint(digest, generation, outcomes))
+
+
+def holding(outcomes: Outcomes, held: bool = False) -> Folder:
+    """Returns a folder whose slot 0 has these outcomes, and whose slot 1 is absent."""
+    return Folder((saved(outcomes), None), held=held)
+
+
+def damaged() -> Dict[str, bytes]:
+    """Returns slots that hold no checkpoint of this job, each with one fault."""
+    good = saved(some(range(4)), 1)
+    front = good[:-32]
+    return {
+        "empty": b"",
+        "too short": good[:83],
+        "too long": bytes(model.MOST_SLOT + 1),
+        "bad magic": model.sealed(b"DISTCKPS" + front[8:]),
+        "bad version": model.sealed(front[:8] + bytes([0, 0, 0, 3]) + front[12:]),
+        "bad generation": saved(some(range(4)), 3),
+        "bad count": good + b"x",
+        "bad digest": good[:-1] + bytes([good[-1] ^ 1]),
+        "unfit": saved({0: (9, *BARE[0][1:])}, 1),
+    }
+
+
+# ---- the room
+
+class End(NamedTuple):
+    status: int
+    out: str
+    note: str
+    files: Mapping[str, Sequence[Optional[bytes]]]
+
+
+def as_nobody_can_write() -> None:
+    """Lets the process write no byte to any file."""
+    signal.signal(signal.SIGXFSZ, signal.SIG_IGN)
+    resource.setrlimit(resource.RLIMIT_FSIZE, (0, 0))
+
+
+class Room:
+    """Folders in which calls are made, and what was wrong with those of the current case."""
+
+    def __init__(self, top: pathlib.Path, folders: str) -> None:
+        self.top, self.here = top, top / "here"
+        self.tools = {}
+        for tool in ("audit_slots", "audit_gather"):
+            self.tools[tool] = str(top / tool)
+            os.symlink(folders, top / tool)
+        self.folders_program = folders
+        self.wrong: List[str] = []
+
+    def path(self, name: str) -> pathlib.Path:
+        return self.here / name
+
+    def place(self, folders: Mapping[str, Folder], kind: str) -> None:
+        """Makes the folders; what stands in place of an unreadable slot is of this kind."""
+        for old in self.top.iterdir():
+            if old.is_dir() and not old.is_symlink():
+                shutil.rmtree(old)
+        self.here.mkdir()
+        for name, folder in folders.items():
+            self.path(name).mkdir(exist_ok=True)
+            for at, data in enumerate(folder.slots):
+                if at in folder.unreadable:
+                    self.place_unreadable(self.path(name) / NAMES[at], kind)
+                elif data is not None:
+                    (self.path(name) / NAMES[at]).write_bytes(data)
+
+    @staticmethod
+    def place_unreadable(path: pathlib.Path, kind: str) -> None:
+        if kind == "folder":
+            path.mkdir()
+        elif kind == "pipe":
+            os.mkfifo(path)
+        else:
+            targets = {"loop": path.name, "link to nothing": "elsewhere", "device": "/dev/null"}
+            path.symlink_to(targets[kind])
+
+    def files(self, name: str) -> List[Optional[bytes]]:
+        paths = [self.path(name) / one for one in NAMES]
+        return [path.read_bytes() if path.is_file() and not path.is_symlink() else None
+                for path in paths]
+
+    @contextlib.contextmanager
+    def held(self, folders: Mapping[str, Folder]) -> Iterator[None]:
+        """Holds the locks of the folders that are held, as runs do."""
+        locks = []
+        for name, folder in folders.items():
+            if folder.held:
+                locks.append(os.open(self.path(name), os.O_RDONLY))
+                fcntl.flock(locks[-1], fcntl.LOCK_EX | fcntl.LOCK_NB)
+        try:
+            yield
+        finally:
+            for lock in locks:
+                os.close(lock)
+
+    def call(self, command: Sequence[str], graph: bytes, out: Optional[str] = None,
+             prepared: Optional[Callable[[], None]] = None) -> subprocess.CompletedProcess[bytes]:
+        """Makes a call in the working folder; `out` is a file for its standard output."""
+        how: Any = {"cwd": self.here, "preexec_fn": prepared, "timeout": 60, "check": False}
+        if out is None:
+            return subprocess.run(command, input=graph, capture_output=True, **how)
+        with open(out, "wb") as stdout:
+            return subprocess.run(command, input=graph, stdout=stdout, stderr=subprocess.PIPE,
+                                  **how)
+
+    def ended(self, command: Sequence[str], folders: Mapping[str, Folder], graph: bytes = CYCLE,
+              kind: str = "folder", **how: Any) -> End:
+        self.place(folders, kind)
+        with self.held(folders):
+            try:
+                done = self.call(command, graph, **how)
+            except subprocess.TimeoutExpired:
+                return End(-1, "", "no end within a minute", {})
+        out, note = (done.stdout or b"").decode(), done.stderr.decode()
+        return End(done.returncode, out, note, {name: self.files(name) for name in folders})
+
+    def compare(self, what: str, end: End, wanted: Any, folders: Mapping[str, Folder]) -> None:
+        """Notes the first part of an end that is not as wanted."""
+        files = {name: [None if at in folder.unreadable else data
+                        for at, data in enumerate(folder.slots)]
+                 for name, folder in folders.items()}
+        for name in folders:
+            if self.path(name).resolve() == self.here.resolve():
+                files[name] = list(wanted.slots)
+        for part, came, expected in (("status", end.status, wanted.status),
+                                     ("output", end.out, wanted.out),
+                                     ("note", end.note, wanted.note),
+                                     ("files", dict(end.files), files)):
+            if came != expected:
+                self.wrong.append(f"{what}: {part}: expected {shown(expected)}, came {shown(came)}"
+                                  + (f" ({end.note.strip()})" if part == "status" else ""))
+                return
+
+    def check(self, tool: str, words: List[str], folders: Mapping[str, Folder],
+              said: Optional[str] = None, graph: bytes = CYCLE, **how: Any) -> None:
+        """Makes a call that has to end as the model says; `said` is its text or its note."""
+        folders = {".": Folder(), **folders}
+        models = {"audit_slots": folder_model.slots, "audit_gather": folder_model.gather}
+        wanted = models[tool](words, graph, folders)
+        what = named(tool, words)
+        if said is not None and said not in (wanted.out, wanted.note):
+            self.wrong.append(f"{what}: the model says {wanted.out + wanted.note!r}, not {said!r}")
+        end = self.ended([self.tools[tool], *words], folders, graph, **how)
+        self.compare(what, end, wanted, folders)
+
+    def slots(self, words: List[str], folders: Mapping[str, Folder], **how: Any) -> None:
+        self.check("audit_slots", words, folders, **how)
+
+    def gather(self, words: List[str], folders: Mapping[str, Folder], **how: Any) -> None:
+        self.check("audit_gather", words, folders, **how)
+
+    def expect(self, what: str, came: Any, expected: Any) -> None:
+        if came != expected:
+            self.wrong.append(f"{what}: expected {shown(expected)}, came {shown(came)}")
+
+
+def named(tool: str, words: Sequence[str]) -> str:
+    """Returns a call as a short text: the words of the usual run are its first one."""
+    short = [*words[:-len(RUN)], "run .."] if list(words[-len(RUN):]) == RUN else words
+    return " ".join([tool, *short])
+
+
+def shown(value: Any) -> str:
+    """Returns a value as a text that is short enough to read; files by their lengths."""
+    if isinstance(value, dict):
+        return str({name: [None if data is None else f"{len(data)} bytes, sum {sum(data)}"
+                           for data in slots] for name, slots in value.items()})
+    return repr(value)[:600]
+
+
+Case = Callable[[Room], None]
+CASES: Dict[str, Case] = {}
+TRACED: Set[str] = set()
+
+
+def case(function: Case) -> Case:
+    """Adds a case under the name of its function."""
+    CASES[function.__name__] = function
+    return function
+
+
+def traced(function: Case) -> Case:
+    """Adds a case that needs strace."""
+    TRACED.add(function.__name__)
+    return case(function)
+
+
+def run_case(room: Room, name: str) -> bool:
+    """Runs a case and prints what was wrong; whether nothing was."""
+    room.wrong = []
+    CASES[name](room)
+    for why in room.wrong[:3]:
+        print(f"FAILED {name}: {why}", flush=True)
+    return not room.wrong
+
+
+def run_cases(script: str, folders: str, names: Sequence[str]) -> int:
+    """Runs the cases with these names, or all, and prints their count; the status of the script."""
+    unknown = [name for name in names if name not in CASES]
+    if unknown:
+        print(f"no such case: {unknown[0]}; there are: {', '.join(CASES)}", file=sys.stderr)
+        return 2
+    chosen, skipped = list(names or CASES), []
+    if not power_cuts.can_trace():
+        skipped = [name for name in chosen if name in TRACED]
+        for name in skipped:
+            print(f"skipped {name}: strace is not installed, or may not trace here")
+    with tempfile.TemporaryDirectory() as top:
+        room = Room(pathlib.Path(top), os.path.abspath(folders))
+        ended = [run_case(room, name) for name in chosen if name not in skipped]
+    failed = ended.count(False)
+    print(f"{script}: {len(ended) - failed} passed, {failed} failed, {len(skipped)} skipped")
+    return 1 if failed else 0

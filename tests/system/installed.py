@@ -1,0 +1,55 @@
+"""`scripts/install.sh FOLDER slots gather built` leaves programs that run, each under its name.
+
+The script runs in a tree of its own, whose crates have the programs that are tested. What it proves
+without the word `built` is not tried.
+"""
+# RUN: {auditor}
+# QUICK
+import argparse
+import os
+import pathlib
+import shutil
+import sys
+import tempfile
+
+from tests.checks import Checks, run
+from tests.places import DATA, TOP, program
+
+CYCLE = "--pop pop --first a --second b --district d --slack 5000".split()
+CHECKED = (
+    "plan-check 1\nunits 4 edges 4 districts 2\n" "population 4 slack 5000 low 1 high 3\nend\n"
+)
+
+
+def tree(room: pathlib.Path, auditor: pathlib.Path) -> pathlib.Path:
+    """Makes a tree with the script and the programs, and returns the script."""
+    built = {"audit_program": auditor.resolve(), "audit_folders": program("folders")}
+    for crate, path in built.items():
+        out = room / "crates" / crate / "out"
+        out.mkdir(parents=True)
+        shutil.copy2(path, out / crate)
+    shutil.copytree(TOP / "scripts", room / "scripts")
+    return room / "scripts" / "install.sh"
+
+
+def main() -> int:
+    parser = argparse.ArgumentParser(description=__doc__)
+    parser.add_argument("auditor", type=pathlib.Path)
+    auditor = parser.parse_args().auditor
+    checks = Checks("installed")
+    with tempfile.TemporaryDirectory() as name:
+        room = pathlib.Path(name)
+        script, folder = tree(room / "tree", auditor), room / "bin"
+        checks.ended("installs", run([script, folder, "slots", "gather", "built"]))
+        end = run([folder / "district-audit", "check", *CYCLE], (DATA / "cycle.json").read_bytes())
+        checks.is_equal("installed_auditor_checks", end.out + end.note, CHECKED)
+        for which in ("audit_slots", "audit_gather"):
+            checks.is_true(f"leaves_{which}", os.access(folder / which, os.X_OK), "a program")
+        end = run([script, folder, "gathers", "built"])
+        checks.ended("refuses_an_unknown_word", end, 1)
+        checks.has_line("names_the_unknown_word", end.note, "the word gathers is unknown")
+    return checks.finish()
+
+
+if __name__ == "__main__":
+    sys.exit(main())

@@ -1,0 +1,351 @@
+"""Counts the instructions of fixed runs, and compares them with recorded numbers.
+
+Usage: python3 -m tests.system.instructions PROGRAM FOLDERS [NAME..]
+       python3 -m tests.system.instructions PROGRAM FOLDERS --record
+PROGRAM is the auditor and FOLDERS the program audit_folders, both proved builds as rt leaves them.
+valgrind's callgrind counts, so the numbers do not depend on what else the machine does: each run
+may take at most 1.15 of its number in instructions.json. The runs are those in which work done in
+vain, or again and again, would show: walks with each score and with rules, starts on large graphs,
+saves, a run that goes on from many outcomes, gatherings, several plans. On four maps the searches
+in a thousand steps are counted, too (calls of the function that searches); they may be 1.15 of
+their number and half a search more. In one run of four workers each thread has to work.
+--record writes the numbers of this build and its toolchain. Record anew only with a reason, and
+name it in the commit.
+Prints a line for each run, and FAILED with its name for each that takes too much. The last line
+counts; the status is 1 if one failed. Where valgrind is missing, or no numbers are recorded, what
+needs them counts as skipped. With a processor to itself it takes about two minutes.
+"""
+# RUN: {auditor} {folders}
+# NEEDS: valgrind
+from __future__ import annotations
+
+import json
+import os
+import pathlib
+import re
+import shutil
+import subprocess
+import sys
+import tempfile
+import time
+from typing import Any, Dict, Iterator, List, NamedTuple, Optional, Sequence, Tuple
+
+from tests.oracle import model
+from tests.places import DATA, TEST_DATA, package_command, package_environment
+
+
+RECORD = TEST_DATA / "instructions.json"
+MOST_TIMES, MORE_SEARCHES = 1.15, 0.5
+# What a function's name has in it that searches whether a unit may leave its district.
+SEARCHES = "searching_tells"
+THREADS = "threads_of_four_workers"
+KEY = ["--key", "5" * 64]
+SMALL = [*"run --pop pop --first a --second b --district d --slack 5000".split(), *KEY]
+GRID = [*"run --pop TOTPOP --first DEM --second REP --district CD --slack 1000".split(), *KEY]
+MADE = ["make", "--size", "3", "--slack", "1000", *KEY]
+CALLED = re.compile(r"^calls=(\d+) ")
+FUNCTION = re.compile(r"^cfn=\((\d+)\)(?: (.*))?$|^fn=\((\d+)\)(?: (.*))?$")
+
+
+class Run(NamedTuple):
+    """A run: the program's words, its input, and what lies in its folder and beside it."""
+
+    words: List[str]
+    graph: bytes = b""
+    files: Dict[str, bytes] = {}
+    tool: str = "district-audit"
+    steps: int = 0
+    """How many steps are walked, where searches are counted."""
+
+
+class Counted(NamedTuple):
+    """What a run took."""
+
+    instructions: int
+    searches: Optional[float]
+    """How many searches were made in a thousand steps; None where they cannot be seen."""
+
+
+# ---- the runs
+
+def example(name: str) -> bytes:
+    return (DATA / name).read_bytes()
+
+
+def prepared(name: str, *words: str) -> bytes:
+    """Returns an example map as prepare.py prepares it."""
+    with tempfile.TemporaryDirectory() as room:
+        out = pathlib.Path(room) / name
+        subprocess.run([*package_command("prepare"), str(DATA / name), *words, "--slack", "1000",
+                        "--out", str(out)], env=package_environment(), capture_output=True, check=True)
+        return out.read_bytes()
+
+
+def square(side: int, queen: bool) -> bytes:
+    """Returns a square of units in four bands; with `queen` corners make neighbors, too."""
+    steps = [(0, 1), (1, 0)] + ([(1, 1), (1, -1)] if queen else [])
+    nodes, adjacency = [], []
+    for unit in range(side * side):
+        row, column = divmod(unit, side)
+        first = unit * 7919 % 101
+        nodes.append({"pop": 1, "a": first, "b": 100 - first, "d": row * 4 // side, "id": unit})
+        near = [(row + down, column + right) for down, right in steps]
+        adjacency.append([{"id": one * side + other} for one, other in near
+                          if one < side and 0 <= other < side])
+    return json.dumps({"nodes": nodes, "adjacency": adjacency}).encode()
+
+
+def checkpoint(words: List[str], graph: bytes, ids: Sequence[int], steps: int) -> bytes:
+    """Returns a checkpoint with made-up outcomes that the job can have."""
+    digest = model.job_of(model.Setting(words), graph).digest()
+    outcomes = {one: (one % steps, [1 + one % steps], model.NO_BINS) for one in ids}
+    return bytes(model.checkpoint(digest, 0, outcomes))
+
+
+def several_plans(graph: bytes) -> bytes:
+    """Returns a graph as one line, and a table that has its plan eight times, by other labels."""
+    plans = range(8)
+    rows = ["id," + ",".join(f"plan{plan}" for plan in plans)]
+    for node in json.loads(graph)["nodes"]:
+        rows.append(f"{node['id']}," + ",".join(f"{plan}x{node['d']}" for plan in plans))
+    return graph.replace(b"\n", b"") + ("\n" + "\n".join(rows) + "\n").encode()
+
+
+def walks() -> Dict[str, Run]:
+    """Returns the starts and the walks."""
+    rules = [*"--region county --max-splits 30 --group a --group-of b --group-districts 0".split()]
+    cut, steps = ["--ask", "cut-edges:low"], ["--steps", "200000"]
+    stopping = "--walks 0 --ends 999 --hub-steps 100 --stop 20 --ask cut-edges:high".split()
+    return {
+        "check_a_grid": Run(["check", *GRID[1:11]], example("grid.json")),
+        "start_on_900_units": Run([*MADE, "--steps", "1", *cut]),
+        "start_on_10000_units": Run(["make", "--size", "10", *MADE[3:], "--steps", "1", *cut]),
+        "walk_cut_edges": Run([*MADE, *steps, *cut]),
+        "walk_mean_median": Run([*MADE, *steps, "--ask", "mean-median:low"]),
+        "walk_gap_and_seats": Run([*MADE, *steps, "--ask", "gap:high,seats:low", "--shift", "yes"]),
+        "walk_with_rules": Run([*SMALL, "--steps", "100000", *cut, *rules],
+                               with_counties(square(40, False))),
+        "walk_a_serial_test": Run([*MADE, "--steps", "65535", *cut, "--serial", "yes"]),
+        "parallel_test": Run([*MADE, *"--walks 0 --ends 99 --hub-steps 1000".split(),
+                              "--ask", "seats:high"]),
+        "parallel_test_that_stops": Run([*MADE, *stopping]),
+        "several_plans": Run(["plans", *SMALL[1:], "--steps", "1000", "--ask", "gap:low"],
+                             several_plans(square(40, False))),
+    }
+
+
+def savings() -> Dict[str, Run]:
+    """Returns the saves and the gatherings."""
+    cycle, short = example("cycle.json"), ["--steps", "8", "--ask", "gap:low"]
+    many = [*SMALL, "--walks", "30000", *short]
+    first = checkpoint(many, cycle, range(20000), 8)
+    second = checkpoint(many, cycle, range(10000, 30000), 8)
+    own, both = {"audit-0.ckpt": first}, {"../p/audit-0.ckpt": first, "../q/audit-0.ckpt": second}
+    on = ["--save", "20000", "--resume", "yes", "--budget", "1"]
+    return {
+        "save_after_each_trajectory": Run([*SMALL, "--walks", "150", *short, "--save", "1"], cycle),
+        "save_after_each_hundredth": Run([*SMALL, "--walks", "6000", *short, "--save", "100"],
+                                         cycle),
+        "resume_from_20000_outcomes": Run([*many, *on], cycle, own),
+        "slots_of_20000_outcomes": Run(many, cycle, own, "audit_slots"),
+        "gather_20000_and_20000_outcomes": Run(["../p", "../q", *many], cycle, both,
+                                               "audit_gather"),
+    }
+
+
+def searches() -> Dict[str, Run]:
+    """Returns the walks whose searches are counted."""
+    nc, ny8 = ("BIR74", "NWBIR74", "WBIR74", "PLAN11"), ("POP8", "OWNING", "OTHERS", "PLAN8")
+    return {
+        "searches_on_a_grid": searching(GRID, example("grid.json")),
+        "searches_on_nc": searching(named(*nc), prepared("nc.json", *named(*nc)[1:9])),
+        "searches_on_ny8": searching(named(*ny8), prepared("ny8.json", *named(*ny8)[1:9],
+                                                           "--numbers", "nearest")),
+        "searches_with_corners": searching(SMALL, square(24, True)),
+    }
+
+
+def with_counties(graph: bytes) -> bytes:
+    """Returns a graph whose units are in counties, by tens."""
+    root = json.loads(graph)
+    for node in root["nodes"]:
+        node["county"] = node["id"] // 10
+    return json.dumps(root).encode()
+
+
+def named(population: str, first: str, second: str, district: str) -> List[str]:
+    return ["run", "--pop", population, "--first", first, "--second", second,
+            "--district", district, "--slack", "1000", *KEY]
+
+
+def searching(words: List[str], graph: bytes) -> Run:
+    return Run([*words, "--steps", "100000", "--ask", "cut-edges:low"], graph, steps=100000)
+
+
+# ---- counting
+
+def calls_of(text: str, name: str) -> int:
+    """Returns how often functions with a name like this are called, by what callgrind writes."""
+    names: Dict[str, str] = {}
+    called, count = "", 0
+    for line in text.splitlines():
+        if found := FUNCTION.match(line):
+            number = found[1] or found[3]
+            names[number] = found[2] or found[4] or names.get(number, "")
+            called = names[number] if found[1] else ""
+        elif called and (calls := CALLED.match(line)):
+            count += int(calls[1]) if name in called else 0
+            called = ""
+    return count
+
+
+class Room:
+    """Where runs are made: the programs, and a folder for each run."""
+
+    def __init__(self, top: pathlib.Path, program: str, folders: str) -> None:
+        self.top, self.program = top, os.path.abspath(program)
+        (top / "district-audit").symlink_to(self.program)
+        for tool in ("audit_slots", "audit_gather"):
+            (top / tool).symlink_to(os.path.abspath(folders))
+        self.sees_searches = SEARCHES.encode() in pathlib.Path(program).read_bytes()
+
+    def folder(self, run: Run) -> pathlib.Path:
+        """Makes the run's folder anew, with its files."""
+        for name in ("here", "p", "q"):
+            shutil.rmtree(self.top / name, ignore_errors=True)
+            (self.top / name).mkdir()
+        for path, data in run.files.items():
+            (self.top / "here" / path).write_bytes(data)
+        return self.top / "here"
+
+    def count(self, name: str, run: Run) -> Counted:
+        """Makes a run under callgrind. Raises RuntimeError where it does not end well."""
+        out = self.top / "calls"
+        command = ["valgrind", "--tool=callgrind", f"--callgrind-out-file={out}",
+                   str(self.top / run.tool), *run.words]
+        done = subprocess.run(command, input=run.graph, capture_output=True, cwd=self.folder(run),
+                              check=False)
+        note = done.stderr.decode(errors="replace")
+        found = re.search(r"Collected : (\d+)", note)
+        if done.returncode not in (0, 7) or found is None:
+            raise RuntimeError(f"{name} ends with status {done.returncode}: {note[-300:]}")
+        if not run.steps or not self.sees_searches:
+            return Counted(int(found[1]), None)
+        calls = calls_of(out.read_text(errors="replace"), SEARCHES)
+        return Counted(int(found[1]), calls * 1000 / run.steps)
+
+
+def busy_threads(room: Room) -> Tuple[int, int]:
+    """Returns how many threads of a run of four workers used a processor, and their number."""
+    words = [*MADE, *"--walks 64 --steps 300000 --ask cut-edges:low --workers 4".split()]
+    seen: Dict[str, int] = {}
+    with subprocess.Popen([room.program, *words], stdin=subprocess.DEVNULL,
+                          stdout=subprocess.DEVNULL, stderr=subprocess.DEVNULL) as process:
+        while process.poll() is None:
+            for thread in pathlib.Path(f"/proc/{process.pid}/task").glob("*/stat"):
+                try:
+                    fields = thread.read_text().rpartition(")")[2].split()
+                    seen[thread.parent.name] = int(fields[11])
+                except (OSError, IndexError):
+                    continue
+            time.sleep(0.005)
+    return sum(ticks > 0 for ticks in seen.values()), len(seen)
+
+
+# ---- the comparison
+
+Result = Tuple[str, Optional[bool], str]
+
+
+def judged(name: str, came: Counted, recorded: Dict[str, Any]) -> Result:
+    """Compares what a run took with its numbers; None says that there are none."""
+    wanted = recorded.get(name)
+    said = f"{came.instructions} instructions"
+    if came.searches is not None:
+        said += f", {came.searches:.3f} searches in a thousand steps"
+    if wanted is None:
+        return name, None, f"{said}; no numbers are recorded"
+    times = came.instructions / wanted["instructions"]
+    said += f"; {times:.3f} of the recorded {wanted['instructions']}"
+    if times > MOST_TIMES:
+        return name, False, f"{said}, and at most {MOST_TIMES} is expected"
+    most = MOST_TIMES * wanted.get("searches", 0) + MORE_SEARCHES
+    if "searches" in wanted and came.searches is not None and came.searches > most:
+        return name, False, f"{said}; at most {most:.3f} searches are expected"
+    return name, True, said
+
+
+def threads(room: Room) -> Result:
+    """Sees that all four workers of a run work."""
+    busy, there = busy_threads(room)
+    said = f"{busy} of {there} threads used a processor, at least 4 are expected"
+    return THREADS, busy >= 4, said
+
+
+def identity() -> str:
+    """Returns the toolchain's line."""
+    if shutil.which("rt") is None:
+        return "unknown"
+    done = subprocess.run(["rt", "version"], capture_output=True, text=True, check=False)
+    return done.stdout.strip() or "unknown"
+
+
+def record(room: Room, chosen: Dict[str, Run]) -> int:
+    counted = {name: room.count(name, run) for name, run in chosen.items()}
+    numbers: Dict[str, Dict[str, float]] = {}
+    for name, came in counted.items():
+        numbers[name] = {"instructions": came.instructions}
+        if came.searches is not None:
+            numbers[name]["searches"] = round(came.searches, 3)
+    text = json.dumps({"toolchain": identity(), "runs": numbers}, indent=1) + "\n"
+    RECORD.write_text(text, encoding="utf-8")
+    print(f"instructions.py: {len(numbers)} runs recorded")
+    return 0
+
+
+def compared(room: Room, chosen: Dict[str, Run], names: Sequence[str]) -> Iterator[Result]:
+    """Makes the runs and compares each; without a number only those that are named are made."""
+    recorded: Dict[str, Any] = {}
+    if RECORD.exists():
+        recorded = json.loads(RECORD.read_text(encoding="utf-8"))["runs"]
+    if not names or THREADS in names:
+        yield threads(room)
+    for name, run in chosen.items():
+        if shutil.which("valgrind") is None:
+            yield name, None, "valgrind is not installed"
+        elif name not in recorded and name not in names:
+            yield name, None, "no numbers are recorded; --record writes them"
+        else:
+            yield judged(name, room.count(name, run), recorded)
+
+
+def compare(room: Room, chosen: Dict[str, Run], names: Sequence[str]) -> int:
+    """Prints a line for each run, and their count; the status of the script."""
+    results = []
+    for name, is_good, line in compared(room, chosen, names):
+        front = {None: "skipped ", True: "", False: "FAILED "}[is_good]
+        print(f"{front}{name}: {line}", flush=True)
+        results.append(is_good)
+    passed, failed, skipped = (results.count(value) for value in (True, False, None))
+    print(f"instructions.py: {passed} passed, {failed} failed, {skipped} skipped")
+    return 1 if failed else 0
+
+
+def main(program: str, folders: str, *names: str) -> int:
+    every = {**walks(), **savings(), **searches()}
+    unknown = [name for name in names if name not in (*every, "--record", THREADS)]
+    if unknown:
+        print(f"no such run: {unknown[0]}; there are: {', '.join(every)}", file=sys.stderr)
+        return 2
+    # In memory, where there is such a folder: a save does not wait for a disk there.
+    memory = "/dev/shm" if os.access("/dev/shm", os.W_OK) else None
+    with tempfile.TemporaryDirectory(dir=memory) as top:
+        room = Room(pathlib.Path(top), program, folders)
+        if "--record" in names:
+            return record(room, every)
+        chosen = {name: run for name, run in every.items() if not names or name in names}
+        return compare(room, chosen, names)
+
+
+if __name__ == "__main__":
+    sys.exit(main(*sys.argv[1:]))

@@ -1,0 +1,337 @@
+"""Cuts the power at each moment of runs that save, and sees that the next run goes on from what may then be stored, or is refused by name.
+
+Usage: python3 -m tests.system.power_cuts PROGRAM [STATES [SEED]]
+`strace` tells the calls of the program on its two files: of a run of six saves, and of runs that go on where that run was killed between two of
+its calls, whose last writes may not be stored yet. After each call the script lists what both files may hold where the power is cut then: a file's
+name is stored for sure only once its folder was synced since it was made, and its bytes only once it was synced itself. Until then each cut of
+the file to no bytes, each piece of what was written, and its length without its bytes, may be stored or not, whatever came before or after it.
+Which of these are tried: all up to each piece, each piece alone, all but each piece, and some drawn ones; of two files that are not stored, drawn pairs.
+Of all states so many are drawn (all where no number is given). In each the program is resumed: status, report, note and files have to be those
+of the plain model in model.py, and a run that ends well has to write the one report. No save that the program has taken for done may be lost,
+neither by the run that made it nor by one that goes on after it was killed.
+Prints how many states there were, and each that is not so; ends with 1 where there is one. Says so where strace cannot trace.
+"""
+# RUN: {auditor} 150 1
+# NEEDS: strace
+import argparse
+import itertools
+import os
+import pathlib
+import random
+import re
+import subprocess
+import sys
+import tempfile
+from concurrent.futures import ThreadPoolExecutor
+
+from tests.oracle import model
+from tests.places import DATA
+
+CYCLE = (DATA / "cycle.json").read_bytes()
+NAMES = ("audit-0.ckpt", "audit-1.ckpt")
+WHOLE = ["run", *"--pop pop --first a --second b --district d --slack 5000".split(), "--key", "0" * 64, "--walks", "12", "--steps", "8",
+         "--ask", "gap:low"]
+SAVED = [*WHOLE, "--save", "2"]
+RESUMED = [*SAVED, "--resume", "yes"]
+CALL = re.compile(r"^\d+\s+(\w+)\((.*)\)\s+= (-?\d+)")
+TEXT = re.compile(r'"((?:\\x[0-9a-f]{2})*)"(\.\.\.)?')
+HARMLESS = {"read", "close", "fstat", "newfstatat", "stat", "lstat", "statx", "access", "lseek", "readlink", "execve"}
+
+
+# ---- the calls of a run
+
+def bytes_in(said):
+    """The bytes of the first text of a call, which strace shows as hexadecimal digits."""
+    found = TEXT.search(said)
+    if found is None or found[2]:
+        raise ValueError(f"a text is not shown whole: {said[:100]}")
+    return bytes.fromhex(found[1].replace("\\x", ""))
+
+
+def whole_lines(text):
+    """The lines of a trace; a call that another thread's cut in two is one line again."""
+    begun = {}
+    for line in text.splitlines():
+        process = line.split(None, 1)[0]
+        if line.endswith("<unfinished ...>"):
+            begun[process] = line.removesuffix("<unfinished ...>")
+        elif "resumed>" in line and process in begun:
+            yield begun.pop(process) + line.partition("resumed>")[2]
+        else:
+            yield line
+
+
+def calls_of(text):
+    """What a run did to the two files and to their folder, in turn: what, which file, and where and which bytes."""
+    files, folders, read, at = {}, set(), {}, {}
+    for line in whole_lines(text):
+        found = CALL.match(line)
+        if not found:
+            continue
+        call, said, answer = found[1], found[2], int(found[3])
+        if call == "openat" and answer >= 0:
+            name = bytes_in(said).decode()
+            if name in NAMES and "O_RDONLY" not in said:
+                file = files[answer] = NAMES.index(name)
+                at[answer] = 0
+                yield "make" if "O_EXCL" in said else "open", file
+                if "O_TRUNC" in said:
+                    yield "cut", file, 0
+            elif name in NAMES:
+                read[answer] = NAMES.index(name)
+            elif name == ".":
+                folders.add(answer)
+            continue
+        number = re.match(r"\d+", said)
+        number = int(number[0]) if number else None
+        if call == "close" and number in files:
+            yield "close", files.pop(number)
+        elif call == "close":
+            folders.discard(number)
+            read.pop(number, None)
+        elif call in ("fsync", "fdatasync") and number in files and answer == 0:
+            yield "sync", files[number]
+        elif call in ("fsync", "fdatasync") and number in read and answer == 0:
+            yield "sync", read[number]
+        elif call == "fsync" and number in folders and answer == 0:
+            yield "sync folder", None
+        elif call == "write" and number in files and answer >= 0:
+            yield "write", files[number], at[number], bytes_in(said)[:answer]
+            at[number] += answer
+        elif call == "ftruncate" and number in files and answer == 0:
+            yield "cut", files[number], int(said.split(",")[1])
+        elif call not in HARMLESS and (number in files or any(name.encode().hex() in said.replace("\\x", "") for name in NAMES)) and answer >= 0:
+            raise ValueError(f"a call that this script cannot replay: {line[:100]}")
+
+
+def placed(folder, slots):
+    folder.mkdir()
+    for name, data in zip(NAMES, slots):
+        if data is not None:
+            (folder / name).write_bytes(data)
+
+
+def traced(program, folder, words, slots):
+    """The calls of a run over files with these bytes."""
+    placed(folder, slots)
+    trace = folder.with_suffix(".trace")
+    subprocess.run(["strace", "-f", "-qq", "-xx", "-s", "9000000", "-o", trace, "-e", "trace=%file,%desc", program, *words], input=CYCLE,
+                   cwd=folder, capture_output=True, timeout=600, check=False)
+    return list(calls_of(trace.read_text()))
+
+
+def can_trace():
+    try:
+        return subprocess.run(["strace", "-o", "/dev/null", "true"], capture_output=True, timeout=20, check=False).returncode == 0
+    except OSError:
+        return False
+
+
+# ---- what may be stored
+
+class File:
+    """What a program reads of a file now, what is stored for sure, and what may be stored beside it."""
+
+    def __init__(self):
+        self.now, self.stored, self.pending, self.is_named = None, b"", [], False
+
+    def make(self):
+        self.now = b""
+
+    def change(self, step):
+        self.pending.append(step)
+        self.now = after(self.now, [step])
+
+    def sync(self):
+        self.stored, self.pending = self.now, []
+
+    def states(self, draw, drawn):
+        """The texts that may be there where the power is cut now; None where there may be no file."""
+        if self.now is None:
+            return {None}
+        steps = [piece for step in self.pending for piece in pieces(step, draw)]
+        chosen = [steps[:count] for count in range(len(steps) + 1)]
+        chosen += [[step] for step in steps] + [steps[:place] + steps[place + 1:] for place in range(len(steps))]
+        chosen += [[step for step in steps if draw.random() < 0.5] for _ in range(drawn if len(steps) > 2 else 0)]
+        found = {after(self.stored, some) for some in chosen}
+        return found if self.is_named else found | {None}
+
+
+def after(data, steps):
+    """The bytes after these steps: cuts to a length, writes at a place, and lengths without bytes of their own."""
+    for what, place, more in steps:
+        if what == "cut":
+            data = data[:place].ljust(place, b"\0")
+        else:
+            data = data[:place].ljust(place, b"\0") + more + data[place + len(more):]
+    return data
+
+
+def pieces(step, draw):
+    """The parts of a step that may be stored each without the others: of a write its length, as zeros and as other bytes, and pieces of its bytes."""
+    what, place, data = step
+    if what == "cut" or not data:
+        return [step]
+    marks = sorted({0, 8, 12, 44, 48, 52, len(data) - 32, len(data) - 1, len(data), *(draw.randrange(len(data)) for _ in range(6))})
+    marks = [mark for mark in marks if 0 <= mark <= len(data)]
+    length = [("write", place + len(data) - 1, bytes([byte])) for byte in (0, 0xA5)]
+    return length + [("write", place + low, data[low:high]) for low, high in zip(marks, marks[1:])]
+
+
+class Disk:
+    """Both files, and how many outcomes the last save has that a program takes for done."""
+
+    def __init__(self):
+        self.files, self.done = (File(), File()), 0
+
+    def take(self, call):
+        """Takes a call as done."""
+        what, number, *rest = call
+        if what == "sync folder":
+            for file in self.files:
+                file.is_named = file.now is not None
+            return
+        file = self.files[number]
+        if what == "make":
+            file.make()
+        elif what in ("cut", "write"):
+            file.change((what, rest[0], rest[1] if what == "write" else None))
+        elif what == "sync":
+            file.sync()
+        elif what == "close":
+            self.done = outcomes(file.now)
+
+    def now(self):
+        return tuple(file.now for file in self.files)
+
+    def stored(self):
+        """Whether each file and its name is stored for sure."""
+        return tuple((not file.pending, file.is_named) for file in self.files)
+
+    def states(self, draw, drawn):
+        """What both files may hold where the power is cut now."""
+        zero, one = (sorted(file.states(draw, drawn), key=lambda data: (data is not None, data)) for file in self.files)
+        pairs = list(itertools.product(zero, one))
+        return pairs if len(pairs) <= 400 else draw.sample(pairs, 400)
+
+
+def outcomes(data):
+    """How many outcomes a file has, 0 where it is no checkpoint."""
+    slot = model.decoded(data)
+    return 0 if slot.fault else len(slot.records)
+
+
+def outcomes_in(slots):
+    """How many outcomes the newest file has."""
+    newest = model.newest([model.decoded(data) for data in slots])
+    return 0 if newest is None else outcomes(slots[newest])
+
+
+# ---- the states
+
+def listed(disk, calls, draw, drawn, found):
+    """Lists what may be stored before, between and after these calls: for each state the most outcomes that had been saved."""
+    for call in [None, *calls]:
+        if call:
+            disk.take(call)
+        for state in disk.states(draw, drawn):
+            found[state] = max(found.get(state, 0), disk.done)
+
+
+def all_states(program, folder, draw, drawn):
+    """The states of the first run, those of each run that goes on where it was killed, the first one's calls, and the number of the others."""
+    found, later, tried = {}, {}, set()
+    first = traced(program, folder / "first", SAVED, (None, None))
+    listed(Disk(), first, draw, drawn, found)
+    for count in range(1, len(first) + 1):
+        disk = Disk()
+        for call in first[:count]:
+            disk.take(call)
+        mark = disk.now(), disk.stored()
+        if mark in tried:
+            continue
+        tried.add(mark)
+        listed(disk, traced(program, folder / f"killed {count}", RESUMED, disk.now()), draw, drawn, later)
+    return found, later, len(first), len(tried)
+
+
+def drawn_states(states, count, draw):
+    """So many of the states, or all where there are no more."""
+    states = sorted(states, key=str)
+    return states if len(states) <= count else draw.sample(states, count)
+
+
+def judged(program, folder, slots, wanted):
+    """What is not as it has to be where a run goes on from this state, or None."""
+    placed(folder, slots)
+    end = subprocess.run([program, *RESUMED], input=CYCLE, cwd=folder, capture_output=True, timeout=60, check=False)
+    held = [(folder / name).read_bytes() if (folder / name).exists() else None for name in NAMES]
+    for part, one, other in (("status", end.returncode, wanted.status), ("report", end.stdout, wanted.out.encode()),
+                             ("note", end.stderr, wanted.note.encode()), ("files", held, list(wanted.slots))):
+        if one != other:
+            return f"{part} {str(one)[:200]} and not {str(other)[:200]}"
+    return None
+
+
+def named(slots):
+    return f"files of {' and '.join('no' if data is None else str(len(data)) for data in slots)} bytes"
+
+
+def lost_in(states):
+    """The states in which a save is lost."""
+    left = [(slots, outcomes_in(slots), kept) for slots, kept in states.items()]
+    return [f"{named(slots)}: {one} outcomes are left of {kept} that were saved" for slots, one, kept in left if one < kept]
+
+
+def resumed(program, folder, chosen, report):
+    """How many states ended with the report and how many were refused, and what is wrong."""
+    ends, wrong, runs = {0: 0, 8: 0}, [], []
+    for number, slots in enumerate(chosen):
+        wanted = model.audit(RESUMED, CYCLE, list(slots))
+        if wanted.status not in ends or wanted.status == 0 and wanted.out != report:
+            wrong.append(f"{named(slots)}: the model ends with status {wanted.status}")
+            continue
+        ends[wanted.status] += 1
+        runs.append((folder / f"state {number}", slots, wanted))
+    with ThreadPoolExecutor(os.cpu_count()) as pool:
+        for (_, slots, _), why in zip(runs, pool.map(lambda run: judged(program, *run), runs)):
+            if why:
+                wrong.append(f"{named(slots)}: {why}")
+    return ends, wrong
+
+
+def main(program, states="0", seed="1"):
+    if not can_trace():
+        print("SKIPPED power_cuts: strace is not installed, or may not trace here")
+        print("power_cuts: 0 passed, 0 failed, 1 skipped")
+        return 0
+    program, draw = os.path.abspath(program), random.Random(int(seed))
+    with tempfile.TemporaryDirectory() as name:
+        folder = pathlib.Path(name)
+        found, later, calls, kills = all_states(program, folder, draw, 60)
+        most = (int(states) + 1) // 2 or len(found) + len(later)
+        wrong = lost_in(found) + lost_in(later)
+        chosen = drawn_states(found, most, draw) + drawn_states(later, most, draw)
+        ends, wrongs = resumed(program, folder, chosen, model.audit(WHOLE, CYCLE, [None, None]).out)
+        wrong += wrongs
+    for one in wrong[:20]:
+        print("WRONG:", one)
+    print(f"{len(found)} states of a run of {calls} calls and {len(later)} of the {kills} runs that go on where it was killed. Of "
+          f"{len(chosen)} that were resumed {ends[0]} ended with the one report, and {ends[8]} were refused by name. "
+          f"{len(wrong)} are not as they have to be")
+    return 1 if wrong or not calls or not ends[0] or not ends[8] else 0
+
+
+def arguments() -> argparse.Namespace:
+    parser = argparse.ArgumentParser(
+        prog="python3 -m tests.system.power_cuts", description=__doc__,
+        formatter_class=argparse.RawDescriptionHelpFormatter)
+    parser.add_argument("program", help="the built auditor")
+    parser.add_argument("states", nargs="?", type=int, default=0,
+                        help="from how many states a run goes on; all, if 0")
+    parser.add_argument("seed", nargs="?", type=int, default=1, help="what they are drawn from")
+    return parser.parse_args()
+
+
+if __name__ == "__main__":
+    sys.exit(main(**vars(arguments())))

@@ -1,0 +1,554 @@
+"""Runs the program on a system that fails it at a given call, and at its limits; each must end as the plain model in model.py says.
+
+Usage: python3 -m tests.system.system_faults PROGRAM [JOBS]
+The parts, each of which says in one line where it lacks what it needs: faults that strace injects into calls on the checkpoints, standard
+input and output; reads and writes of a few bytes, half of them interrupted, by a library that gcc builds; files at the limits of size, depth,
+units, edges, districts, regions, splits and groups; checkpoints of both versions of the format at the limits of size and count; values of words at
+the ends of their ranges; a folder that cannot be written and threads that are refused, as another user; slots that are replaced by pipes while a run
+walks; and, in the bytes of each save of several workers, how many trajectories were begun before the last of them and are missing.
+The faults of calls, short reads and writes, the limit on files and the other user are tried over so many jobs (1, if not said), which differ in key
+and questions; all else over the first alone. The faults of audit_slots and audit_gather are those of folder_faults.py.
+Prints one line for each part and each run that is not so, by its name. The last line counts the runs, and as skipped the parts that lack what they
+need; ends with 1 where a run is not so.
+"""
+# RUN: {auditor}
+# NEEDS: strace
+import argparse
+import json
+import os
+import pathlib
+import re
+import resource
+import shutil
+import signal
+import stat
+import subprocess
+import sys
+import tempfile
+import time
+
+from tests.oracle import model
+from tests.system import power_cuts
+from tests.places import DATA
+
+CYCLE = (DATA / "cycle.json").read_bytes()
+BASE = "--pop pop --first a --second b --district d".split()
+CHAIN = ["run", *BASE, "--slack", "5000", "--key", "0" * 64, "--walks", "12", "--steps", "8", "--ask", "gap:low"]
+ASKS = ("gap:low", "cut-edges:low,gap:high", "seats:high,mean-median:low", "mean-median:high,gap:low,cut-edges:high,seats:low")
+CHECK = ["check", *BASE, "--slack", "5000"]
+NAMES = ("audit-0.ckpt", "audit-1.ckpt")
+NOBODY = 65534
+SHORT = r"""
+#define _GNU_SOURCE
+#include <dlfcn.h>
+#include <errno.h>
+#include <unistd.h>
+
+static __thread int turn;
+
+static int interrupted(void) {
+    turn = !turn;
+    if (turn) errno = EINTR;
+    return turn;
+}
+
+ssize_t read(int fd, void *to, size_t size) {
+    static ssize_t (*real)(int, void *, size_t);
+    if (!real) real = dlsym(RTLD_NEXT, "read");
+    return interrupted() ? -1 : real(fd, to, size < 7 ? size : 7);
+}
+
+ssize_t write(int fd, const void *from, size_t size) {
+    static ssize_t (*real)(int, const void *, size_t);
+    if (!real) real = dlsym(RTLD_NEXT, "write");
+    return interrupted() ? -1 : real(fd, from, size < 7 ? size : 7);
+}
+"""
+
+
+class Skipped(str):
+    """What a part says that was not tried, since what it needs is missing."""
+
+
+class Room:
+    """Where runs are made, and what was not as it has to be."""
+
+    def __init__(self, program, folder):
+        self.program, self.folder, self.slots, self.wrong, self.count = program, folder, folder / "slots", [], 0
+        self.chain = CHAIN
+
+    def hold(self, slots):
+        if self.slots.exists():
+            self.slots.chmod(0o755)
+            shutil.rmtree(self.slots)
+        self.slots.mkdir()
+        for name, data in zip(NAMES, slots):
+            if data is not None:
+                (self.slots / name).write_bytes(data)
+
+    def held(self):
+        return [(self.slots / name).read_bytes() if (self.slots / name).exists() else None for name in NAMES]
+
+    def run(self, words, graph, before=(), given=None, prepared=None):
+        """The status, both texts and both files."""
+        graph_file, out_file = self.folder / "graph", self.folder / "out"
+        graph_file.write_bytes(graph)
+        with open(graph_file, "rb") as source, open(out_file, "wb") as out:
+            done = subprocess.run([*before, self.program, *words], stdin=source, stdout=out, stderr=subprocess.PIPE, cwd=self.slots,
+                                  env={**os.environ, **(given or {})}, preexec_fn=prepared, timeout=120, check=False)
+        return done.returncode, out_file.read_bytes(), done.stderr, self.held()
+
+    def judge(self, name, end, status, out, note, slots):
+        self.count += 1
+        for part, found, wanted in (("status", end[0], status), ("output", end[1], out.encode()), ("note", end[2], note.encode()),
+                                    ("files", end[3], slots)):
+            if found != wanted:
+                self.wrong.append(f"{name}: {part} {str(found)[:200]} and not {str(wanted)[:200]}")
+                return
+
+    def as_model(self, name, words, graph, slots=(None, None), **run):
+        """A run that must end as one on a system that does not fail."""
+        self.hold(slots)
+        wanted = model.audit(words, graph, list(slots))
+        self.judge(name, self.run(words, graph, **run), wanted.status, wanted.out, wanted.note, wanted.slots)
+
+
+# ---- faults injected by strace
+
+def saved(words, slots, fails):
+    """The files after a run of which the saves with these numbers fail, which leave what the map says, and whether the run needed them all."""
+    setting = model.Setting(words)
+    job = model.job_of(setting, CYCLE)
+    digest = job.digest()
+    seen = [model.looked(setting, digest, data) for data in slots]
+    found = model.opening(seen, digest, setting) if setting.resume else {}
+    todo = [one for one in range(setting.total) if one not in found][:setting.budget]
+    every, slots = model.asked(job, digest), list(slots)
+    newest = model.newest(seen)
+    slot, generation = (0, 0) if newest is None else (1 - newest, (seen[newest].generation + 1) % 3)
+    number, last = 0, None
+    for count in [*range(setting.save, len(todo) + 1, setting.save), len(todo)]:
+        if count == last:
+            continue
+        number += 1
+        data = model.checkpoint(digest, generation, {**found, **{one: every[one] for one in todo[:count]}})
+        if number in fails:
+            slots[slot] = fails[number](data)
+            continue
+        slots[slot], last = data, count
+        slot, generation = 1 - slot, (generation + 1) % 3
+    return slots
+
+
+def whole(data):
+    return data
+
+
+def nothing(_data):
+    return b""
+
+
+def front(count):
+    return lambda data: data[:count]
+
+
+def injected(room):
+    if not power_cuts.can_trace():
+        return Skipped("no faults injected: strace is not installed, or may not trace here")
+    first = model.audit([*room.chain, "--save", "2", "--budget", "5"], CYCLE, [None, None]).slots
+    report = model.audit(room.chain, CYCLE, [None, None]).out
+    fresh, resumed = [*room.chain, "--save", "2"], [*room.chain, "--save", "2", "--resume", "yes"]
+
+    def run(name, words, slots, call, path, what, end, files):
+        room.hold(slots)
+        trace = ["strace", "-f", "-qq", "-o", "/dev/null", "-P", str(path), "-P", str(room.slots / path), "-e", f"trace={call}",
+                 "-e", f"inject={call}:{what}"]
+        status, out, said, held = room.run(words, CYCLE, before=trace)
+        said = b"".join(line for line in said.splitlines(True) if not line.startswith(b"strace: Requested path "))
+        wanted, note = end
+        room.judge(name, (status, out, said, held), wanted, report if wanted in (0, 9) else "", note, files)
+
+    absent, fault, done = [None, None], (9, "checkpoint save fault\n"), (0, "")
+    for number in (1, 2, 3, 4, 5, 6):
+        # save k is the (k + 1) div 2th of its slot while none fails
+        path, when = NAMES[(number + 1) % 2], (number + 1) // 2
+        run(f"save {number} is not synced", fresh, absent, "fsync", path, f"error=EIO:when={when}", fault, saved(fresh, absent, {number: whole}))
+        run(f"save {number} has no room", fresh, absent, "write", path, f"error=ENOSPC:when={when}", fault, saved(fresh, absent, {number: nothing}))
+        run(f"save {number} is interrupted", fresh, absent, "write", path, f"error=EINTR:when={when}", done, saved(fresh, absent, {}))
+        run(f"the sync of save {number} is interrupted", fresh, absent, "fsync", path, f"error=EINTR:when={when}", done, saved(fresh, absent, {}))
+    for when, number in ((1, 1), (2, 2)):
+        run(f"the folder of save {number} is not synced", fresh, absent, "fsync", room.slots, f"error=EIO:when={when}", fault,
+            saved(fresh, absent, {number: whole}))
+    for path in (*NAMES, room.slots):
+        run(f"the closing of {path} fails", fresh, absent, "close", path, "error=EIO", done, saved(fresh, absent, {}))
+    run("no save is synced", fresh, absent, "fsync", NAMES[0], "error=EIO", fault, saved(fresh, absent, dict.fromkeys(range(1, 9), whole)))
+    run("the folder is never synced", fresh, absent, "fsync", room.slots, "error=EIO", fault, saved(fresh, absent, dict.fromkeys(range(1, 9), whole)))
+    for error in ("EINVAL", "EOPNOTSUPP"):
+        run(f"the folder is never synced, and the system says why: {error}", fresh, absent, "fsync", room.slots, f"error={error}", done,
+            saved(fresh, absent, {}))
+    for error in ("EOPNOTSUPP", "ENOLCK", "EINVAL", "EIO"):
+        run(f"the folder cannot be locked: {error}", resumed, first, "flock", room.slots, f"error={error}", done, saved(resumed, first, {}))
+    for name, words, slots in (("going on", resumed, first), ("a new run", fresh, first), ("a run in an empty folder", fresh, absent)):
+        run(f"another run holds the folder: {name}", words, slots, "flock", room.slots, "error=EAGAIN",
+            (6, "checkpoint: another run holds the folder\n"), list(slots))
+    for path, what in ((NAMES[0], "newest file"), (room.slots, "folder")):
+        run(f"the {what} is not synced before the first save", resumed, first, "fsync", path, "error=EIO:when=1", fault,
+            saved(resumed, first, {1: lambda data: first[1]}))
+    # A process that cannot have the newest file stored makes no save at all: each attempt would be its first.
+    other = model.audit([*room.chain, "--save", "2", "--budget", "4"], CYCLE, [None, None]).slots
+    for slots, newest in ((first, 0), (other, 1), ([first[0], None], 0), ([None, other[1]], 1)):
+        for error in ("EIO", "ENOSPC", "EDQUOT"):
+            run(f"the newest file, in slot {newest}, is never synced: {error}", resumed, slots, "fsync", NAMES[newest], f"error={error}", fault, list(slots))
+        run(f"the folder is never synced, and the newest file is in slot {newest}", resumed, slots, "fsync", room.slots, "error=EIO", fault, list(slots))
+    for path in NAMES:
+        run(f"{path} cannot be looked at", resumed, first, "statx", path, "error=EIO", (6, "checkpoint load fault\n"), first)
+    run("a new file is refused", fresh, absent, "openat", NAMES[0], "error=EACCES:when=2", fault, saved(fresh, absent, {1: lambda data: None}))
+    run("an old file is not opened", resumed, first, "openat", NAMES[1], "error=EMFILE:when=3", fault, saved(resumed, first, {1: lambda data: first[1]}))
+    for path in NAMES:
+        for error in ("EACCES", "EIO", "EMFILE", "ELOOP", "ENOTDIR"):
+            run(f"{path} cannot be opened: {error}", resumed, first, "openat", path, f"error={error}:when=1", (6, "checkpoint load fault\n"), first)
+            run(f"{path} cannot be opened by a new run: {error}", fresh, first, "openat", path, f"error={error}:when=1", (6, "checkpoint load fault\n"), first)
+        run(f"{path} cannot be opened for want of memory", resumed, first, "openat", path, "error=ENOMEM:when=1", (3, "memory\n"), first)
+        run(f"the opening of {path} is interrupted", resumed, first, "openat", path, "error=EINTR:when=1", done, saved(resumed, first, {}))
+        for when in (1, 2):
+            run(f"read {when} of {path} fails", resumed, first, "read", path, f"error=EIO:when={when}", (6, "checkpoint load fault\n"), first)
+            run(f"read {when} of {path} is interrupted", resumed, first, "read", path, f"error=EINTR:when={when}", done, saved(resumed, first, {}))
+    graph, out = room.folder / "graph", room.folder / "out"
+    for when in (1, 2):
+        run(f"read {when} of the graph fails", resumed, first, "read", graph, f"error=EIO:when={when}", (4, "read fault\n"), first)
+        run(f"read {when} of the graph is interrupted", resumed, first, "read", graph, f"error=EINTR:when={when}", done, saved(resumed, first, {}))
+    for error in ("EIO", "ENOSPC", "EPIPE", "EFBIG"):
+        run(f"the report is not written: {error}", resumed, first, "write", out, f"error={error}:when=1", (5, "write fault\n"), saved(resumed, first, {}))
+    run("the writing of the report is interrupted", resumed, first, "write", out, "error=EINTR:when=1", done, saved(resumed, first, {}))
+    return "faults injected by strace"
+
+
+# ---- a few bytes a call
+
+def short(room):
+    if shutil.which("gcc") is None:
+        return Skipped("no short reads and writes: gcc is not installed")
+    source, library = room.folder / "short.c", room.folder / "short.so"
+    source.write_text(SHORT)
+    subprocess.run(["gcc", "-shared", "-fPIC", "-O1", "-o", library, source, "-ldl"], check=True)
+    given, slots = {"LD_PRELOAD": str(library)}, [None, None]
+    for more in ([], ["--resume", "yes"], ["--resume", "yes"]):
+        words = [*room.chain, "--save", "2", "--budget", "5", *more]
+        room.as_model("seven bytes a call", words, CYCLE, slots, given=given)
+        slots = model.audit(words, CYCLE, slots).slots
+    room.as_model("seven bytes a call", CHECK, CYCLE, given=given)
+    room.as_model("seven bytes a call", CHECK, CYCLE[:300], given=given)
+    room.as_model("seven bytes a call", ["audit"], CYCLE, given=given)
+    return "seven bytes a call, every other call interrupted"
+
+
+def file_size(room):
+    """A limit on files: a save is cut off after so many bytes, and the other slot holds what was saved before."""
+    def limited():
+        signal.signal(signal.SIGXFSZ, signal.SIG_IGN)
+        resource.setrlimit(resource.RLIMIT_FSIZE, (600, 600))
+
+    words = [*room.chain, "--save", "2", "--budget", "11"]
+    room.hold([None, None])
+    end = room.run(words, CYCLE, prepared=limited)
+    # saves of 2, 4 and 6 outcomes fit; those of 8, 10 and 11 do not
+    files = saved(words, [None, None], {number: front(600) for number in (4, 5, 6)})
+    room.judge("files of at most 600 bytes", end, 9, "", "checkpoint save fault\n", files)
+    return "saves cut off by a limit on files"
+
+
+# ---- limits
+
+def node(at, district, pop=1, a=1, b=1):
+    return {"pop": pop, "a": a, "b": b, "d": district, "id": at}
+
+
+def text(nodes, adjacency):
+    return json.dumps({"nodes": nodes, "adjacency": adjacency}, separators=(",", ":")).encode()
+
+
+def path_of(count, district):
+    return text([node(at, district(at)) for at in range(count)], [[{"id": at + 1}] if at + 1 < count else [] for at in range(count)])
+
+
+def many_edges(count):
+    units = 895
+    nodes, adjacency = [node(at, at * 2 // units) for at in range(units)], [[] for _ in range(units)]
+    pairs = ((u, v) for step in range(1, units) for u in range(units - step) for v in (u + step,))
+    for (u, v), _ in zip(pairs, range(count)):
+        adjacency[u].append({"id": v})
+    return text(nodes, adjacency)
+
+
+def limits(room):
+    room.as_model("the most bytes", CHECK, CYCLE + b" " * (model.MOST_INPUT - len(CYCLE)))
+    room.as_model("a byte too many", CHECK, CYCLE + b" " * (model.MOST_INPUT + 1 - len(CYCLE)))
+    for deep in (126, 127):
+        for one, other in ((b"[", b"]"), (b'{"a":', b"}")):
+            nested = one * deep + b"1" + other * deep
+            room.as_model(f"{deep + 1} levels", CHECK, CYCLE.replace(b'"graph": []', b'"graph": ' + nested))
+    for count in (100000, 100001):
+        room.as_model(f"{count} units", CHECK, path_of(count, lambda at: at // 50000 if at < 100000 else 1))
+    for count in (400000, 400001):
+        room.as_model(f"{count} edges", CHECK, many_edges(count))
+    for count in (1, 2, 200, 201):
+        room.as_model(f"{count} districts", CHECK, path_of(count, lambda at: at))
+    for count in (5000, 5001):
+        room.as_model(f"{count} regions", [*CHECK, "--region", "id"], path_of(count, lambda at: at * 2 // count))
+    for most in (1, 199, 200):
+        room.as_model("a region in 200 districts", [*CHECK, "--region", "pop", "--max-split", str(most)], path_of(200, lambda at: at))
+    for name, numbers in (("--max-splits", (198, 199)), ("--max-split-regions", (0, 1))):
+        for most in numbers:
+            room.as_model("a region in 200 districts", [*CHECK, "--region", "pop", name, str(most)], path_of(200, lambda at: at))
+    for count in (199, 200, 201):
+        room.as_model(f"{count} majorities", [*CHECK, "--group", "a", "--group-districts", str(count)], path_of(200, lambda at: at))
+    for low, high in ((0, 1), (10 ** 9, 10 ** 9 + 1), (10 ** 9 - 1, 10 ** 9), (-1, 0)):
+        for number in (low, high):
+            nodes = [node(0, 0, number, number, 0), node(1, 1, number, 0, number)]
+            for score in ("gap:low", "mean-median:high", "seats:low"):
+                room.as_model(f"numbers of {number}", [*CHAIN[:-1], score], text(nodes, [[{"id": 1}], []]))
+            room.as_model(f"numbers of {number}", CHECK, text(nodes, [[{"id": 1}], []]))
+            room.as_model(f"a group of {number}", [*CHECK, "--group", "a", "--group-of", "b", "--group-districts", "1"], text(nodes, [[{"id": 1}], []]))
+    for label in (2 ** 64 - 1, 2 ** 64, -2 ** 63, -2 ** 63 - 1, -0.0, "", "\u0000", "\U0001f5f3"):
+        room.as_model(f"the label and id {label!r}", CHECK, text([node(label, 0), node(7, label)], [[{"id": 7}], []]))
+    return "files at the limits"
+
+
+def checkpoints(room):
+    """Checkpoints of as many outcomes as there may be, and of one more; of both versions, for runs with the tally of seats and without."""
+    words = with_values(CHAIN, {"--walks": "100000", "--steps": "1", "--resume": "yes"})
+    own = model.job_of(model.Setting(words), CYCLE).digest()
+    most = {one: (one % 2, [1 + one % 2], (0, 0, 0, 1, 1, 0, 0, 0, 0)) for one in range(100000)}
+    for version in (1, 2):
+        for more in ([], ["--workers", "4"], ["--shift", "yes", "--save", "1", "--budget", "0"]):
+            room.as_model(f"100000 outcomes of version {version}", [*words, *more], CYCLE, (model.checkpoint(own, 1, most, version), None))
+        other = {one: outcome for one, outcome in most.items() if one > 0}
+        room.as_model(f"another job's 99999 outcomes of version {version}", words, CYCLE, (None, model.checkpoint(bytes(32), 1, other, version)))
+        room.as_model(f"100001 outcomes of version {version}", words, CYCLE, (model.checkpoint(own, 1, {**most, 100000: most[0]}, version), None))
+    chain = with_values(CHAIN, {"--steps": "7"})
+    bare, binned = (model.audit([*chain, "--save", "100", "--shift", shift], CYCLE, [None, None]).slots[0] for shift in ("no", "yes"))
+    old = model.checkpoint(bare[12:44], 0, {one[0]: (one[1], one[2:6], one[6:]) for one in model.decoded(bare).records[:5]}, 1)
+    for slots in ((old, None), (old, binned), (binned, old), (bare, None), (binned, bare)):
+        for shift in ("no", "yes"):
+            for serial in ("no", "yes"):
+                said = [*chain, "--resume", "yes", "--shift", shift, "--serial", serial]
+                room.as_model("checkpoints of both versions", said, CYCLE, slots)
+                room.as_model("checkpoints of both versions", [*said, "--save", "5", "--budget", "7"], CYCLE, slots)
+    return "checkpoints at the limits, and of both versions"
+
+
+def with_values(words, values):
+    """The words, some names of which have other values or come anew."""
+    given = dict(zip(words[1::2], words[2::2])) | values
+    return [words[0], *(word for pair in given.items() for word in pair)]
+
+
+def ranges(room):
+    """Each number word at both ends of its range and past them, and the words of yes and no; the graph of a run is no JSON, so that good words end
+    with status 2."""
+    for command in ("check", "run", "make"):
+        words = {"check": CHECK, "run": CHAIN, "make": ["make", "--size", "1", *CHAIN[11:]]}[command]
+        for name, (low, high) in model.RANGES.items():
+            if name not in model.COMMANDS[command] or command == "make" and name != "--size":
+                continue
+            for number in (low - 1, low, high, high + 1, 2 ** 32 + low, 2 ** 64 + low):
+                said = with_values(words, {name: str(number)})
+                if command == "make" and number in range(low, high + 1):
+                    continue
+                room.as_model(f"{name} {number}", said, b"")
+    for number in (0, 1, 2, 199, 200, 201, 2 ** 32 + 1):
+        for region in ("d", "b", ""):
+            room.as_model(f"--max-split {number}", with_values(CHECK, {"--max-split": str(number), "--region": region}), CYCLE)
+    for name, column in (("--max-splits", "--region"), ("--max-split-regions", "--region"), ("--group-districts", "--group")):
+        low, high = model.RANGES[name]
+        for number in (low, low + 1, high - 1, high, high + 1, 2 ** 32 + 1):
+            for value in ("d", "a", ""):
+                room.as_model(f"{name} {number}", with_values(CHECK, {name: str(number), column: value}), CYCLE)
+    for group in ("a", ""):
+        for whole in ("b", "d", ""):
+            room.as_model(f"--group {group} --group-of {whole}", with_values(CHECK, {"--group": group, "--group-of": whole}), CYCLE)
+    for name in ("--resume", "--shift", "--serial", "--source"):
+        for value in ("yes", "no", "Yes", "maybe", "", "yes ", "1"):
+            room.as_model(f"{name} {value}", with_values(CHAIN, {"--steps": "7", name: value}), b"")
+            room.as_model(f"{name} {value}", with_values(CHECK, {name: value}), CYCLE)
+    for steps in ("0", "08", "1", "2", "3", "7", "8", "9", "1023", "1024", "536870910", "536870911", "536870912", "1000000000", "1000000001"):
+        room.as_model(f"--serial yes with --steps {steps}", with_values(CHAIN, {"--steps": steps, "--serial": "yes"}), b"")
+        room.as_model(f"--serial maybe with --steps {steps}", with_values(CHAIN, {"--steps": steps, "--serial": "maybe", "--shift": "maybe"}), b"")
+    return "values of words at the ends of their ranges"
+
+
+# ---- a slot that changes while a run walks
+
+def is_walking(process):
+    """Whether the threads of a run are there: its slots were looked at, and nothing was saved yet."""
+    return len(os.listdir(f"/proc/{process.pid}/task")) > 1
+
+
+def stopped(process):
+    """Stops a run as soon as it walks; whether it did not end before."""
+    while process.poll() is None:
+        try:
+            if is_walking(process):
+                process.send_signal(signal.SIGSTOP)
+                break
+        except FileNotFoundError:
+            break
+        time.sleep(0.001)
+    while process.poll() is None and not re.search(r"^State:\s+T", pathlib.Path(f"/proc/{process.pid}/status").read_text(), re.MULTILINE):
+        time.sleep(0.001)
+    return process.poll() is None
+
+
+def walk_over(room, words, change):
+    """How a run ends under whose slots something changes while it walks; None where it had saved before."""
+    room.hold([None, None])
+    process = subprocess.Popen([room.program, *words], stdin=subprocess.PIPE, stdout=subprocess.PIPE, stderr=subprocess.PIPE, cwd=room.slots)
+    try:
+        process.stdin.write(CYCLE)
+        process.stdin.close()
+        process.stdin = None
+        if not stopped(process) or any(room.slots.iterdir()):
+            return None
+        change()
+        process.send_signal(signal.SIGCONT)
+        out, note = process.communicate(timeout=90)
+        return process.returncode, out, note
+    except subprocess.TimeoutExpired:
+        return "none within 90 seconds", b"", b""
+    finally:
+        process.kill()
+        process.wait()
+
+
+def pipes(room):
+    """No save opens a pipe, which would wait for ever for a reader; each fails, and the run goes on to its report."""
+    for place in (0, 1):
+        steps, end = 1000000, None
+        while end is None and steps <= 256000000:
+            words = with_values(room.chain, {"--walks": "4", "--steps": str(steps), "--workers": "2"})
+            end = walk_over(room, [*words, "--save", "1"], lambda: os.mkfifo(room.slots / NAMES[place]))
+            steps *= 4
+        name = f"slot {place} becomes a pipe while the run walks"
+        room.count += 1
+        report = subprocess.run([room.program, *words], input=CYCLE, capture_output=True, cwd=room.folder, check=False).stdout
+        if end != (9, report, b"checkpoint save fault\n"):
+            room.wrong.append(f"{name}: {str(end)[:300]} and not status 9, the whole report and the note of a failed save")
+        elif not (room.slots / NAMES[place]).is_fifo() or (room.slots / NAMES[1 - place]).exists():
+            room.wrong.append(f"{name}: the folder holds {sorted(one.name for one in room.slots.iterdir())}, and not the pipe alone")
+    return "slots that become pipes while a run walks"
+
+
+# ---- outcomes that workers hold
+
+# So many workers have room for 25 outcomes each between two saves. A walk takes so long that they hardly ever wait for one another, and another
+# worker has one walk under way at most. Over loaded processors a few outcomes more may be held while a save is made.
+HOLDING = {"--workers": "4", "--walks": "1010", "--steps": "60000", "--save": "101"}
+MOST_MISSING = 9
+
+
+def missing(room, words):
+    """For each save of a run: of how many ids below its greatest it has no outcome."""
+    counts, written = [], {}
+    folder = room.folder / "traced"
+    shutil.rmtree(folder, ignore_errors=True)
+    for what, file, *rest in power_cuts.traced(room.program, folder, words, [None, None]):
+        if what in ("make", "open"):
+            written[file] = b""
+        elif what == "write":
+            written[file] += rest[1]
+        elif what == "sync" and written.get(file):
+            ids = [one[0] for one in model.decoded(written.pop(file)).records]
+            counts.append(ids[-1] + 1 - len(ids))
+    return counts
+
+
+def buffered(room):
+    """What a kill after a save loses: workers hold outcomes only while another one posts, and hand them in as soon as it is done."""
+    if not power_cuts.can_trace():
+        return Skipped("no outcomes counted that workers hold: strace is not installed, or may not trace here")
+    words = with_values(room.chain, HOLDING)
+    counts = missing(room, words)
+    room.count += 1
+    middle = sorted(counts)[len(counts) // 2] if counts else None
+    if len(counts) != 10 or middle > MOST_MISSING:
+        room.wrong.append(f"outcomes that workers hold: of the ids before its last one each save lacks {counts}, whose median is {middle}; "
+                          f"10 saves and a median of at most {MOST_MISSING} are expected")
+    return "outcomes that workers hold at each save"
+
+
+# ---- another user
+
+def other_user(room):
+    if os.getuid() != 0:
+        return Skipped("no folder of another user, and threads not refused: not run as root")
+    room.folder.chmod(0o755)
+    program, room.program = room.program, str(room.folder / "program")
+    shutil.copy(program, room.program)
+
+    def nobody(limit=None):
+        def prepare():
+            if limit is not None:
+                resource.setrlimit(resource.RLIMIT_NPROC, (limit, limit))
+            os.setgroups([])
+            os.setgid(NOBODY)
+            os.setuid(NOBODY)
+        return prepare
+
+    report = model.audit(room.chain, CYCLE, [None, None]).out
+    first = model.audit([*room.chain, "--save", "2", "--budget", "5"], CYCLE, [None, None]).slots
+    for slots, more in (((None, None), []), (first, ["--resume", "yes"])):
+        room.hold(slots)
+        for name in NAMES:
+            if (room.slots / name).exists():
+                (room.slots / name).chmod(0o444)
+        end = room.run([*room.chain, "--save", "2", *more], CYCLE, prepared=nobody())
+        room.judge("a folder that cannot be written", end, 9, report, "checkpoint save fault\n", list(slots))
+    room.hold(first)
+    (room.slots / NAMES[1]).chmod(stat.S_IWUSR)
+    room.judge("a file that cannot be read", room.run([*room.chain, "--save", "2", "--resume", "yes"], CYCLE, prepared=nobody()),
+               6, "", "checkpoint load fault\n", first)
+    for more in ([], ["--save", "3"], ["--save", "1", "--budget", "7"]):
+        for workers in ("2", "32"):
+            words = [*room.chain, *more]
+            room.hold([None, None])
+            room.slots.chmod(0o777)
+            wanted = model.audit(words, CYCLE, [None, None])
+            end = room.run([*words, "--workers", workers], CYCLE, prepared=nobody(1))
+            room.judge(f"{workers} workers where threads are refused", end, wanted.status, wanted.out, wanted.note, wanted.slots)
+    room.program = program
+    return "a folder and a file of another user, and threads that are refused"
+
+
+def chain_of(number):
+    """The words of a job: those of CHAIN with another key and other questions."""
+    return with_values(CHAIN, {"--key": f"{number:x}".rjust(64, "0"), "--ask": ASKS[number % len(ASKS)]})
+
+
+def main(program, jobs="1"):
+    parts, skipped = [(part, number) for number in range(int(jobs)) for part in (injected, short, file_size, other_user)], 0
+    with tempfile.TemporaryDirectory() as name:
+        room = Room(os.path.abspath(program), pathlib.Path(name))
+        for part, number in [(limits, 0), (checkpoints, 0), (ranges, 0), (pipes, 0), (buffered, 0), *parts]:
+            room.chain = chain_of(number)
+            count, wrong = room.count, len(room.wrong)
+            said = part(room)
+            skipped += isinstance(said, Skipped)
+            print(said if isinstance(said, Skipped) else f"{said}: {room.count - count} runs, {len(room.wrong) - wrong} not as they have to be", flush=True)
+    for one in room.wrong:
+        print("WRONG:", one)
+    print(f"system_faults.py: {room.count - len(room.wrong)} passed, {len(room.wrong)} failed, {skipped} skipped")
+    return 1 if room.wrong else 0
+
+
+def arguments() -> argparse.Namespace:
+    parser = argparse.ArgumentParser(
+        prog="python3 -m tests.system.system_faults", description=__doc__,
+        formatter_class=argparse.RawDescriptionHelpFormatter)
+    parser.add_argument("program", help="the built auditor")
+    parser.add_argument("jobs", nargs="?", type=int, default=1,
+                        help="how many jobs the faults of calls are tried over")
+    return parser.parse_args()
+
+
+if __name__ == "__main__":
+    sys.exit(main(**vars(arguments())))

@@ -1,0 +1,1 @@
+"""Programs that read the repository itself: definitions, shape, and the cost of the gate."""
