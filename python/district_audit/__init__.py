@@ -1,19 +1,124 @@
-"""Prepares dual graphs for the district plan auditor, calls the installed program, and reads and draws its reports.
+"""Prepares dual graphs for the district plan auditor, calls the installed program, and reads its
+reports.
 
 It needs Python alone; networkx, pandas, matplotlib and tqdm are used where they are installed.
 """
+from . import compactness, scores, trace_pictures
 from .calls import check, make, plans, run
-from .errors import (AuditError, CheckpointRefused, CheckpointUnreadable, GraphChanged, GraphRefused, Interrupted, MemoryRefused,
-                     MissingExtra, PrepareRefused, ProgramFailed, ProgramMissing, ReadFault, ReportRefused, SaveFault, WordsRefused, WorkLeft, WriteFault)
+from .districts import District
+from .effect import Effect
+from .elections import ElectionReports
+from .errors import (
+    ArgumentRefused,
+    AuditError,
+    CheckpointRefused,
+    CheckpointUnreadable,
+    FrozenWalk,
+    GraphChanged,
+    GraphRefused,
+    Interrupted,
+    MemoryRefused,
+    MissingExtra,
+    PrepareRefused,
+    ProgramFailed,
+    ProgramMissing,
+    ReadFault,
+    ReportRefused,
+    SaveFault,
+    TypeRefused,
+    ValueRefused,
+    WordsRefused,
+    WorkLeft,
+    WriteFault,
+)
+from .exhibit import exhibit_plans
+from .manifest import Manifest, ManifestRefused, audit_to_file, verify
+from .outlier import OutlierTest, RankTest, outlier_test, rank_test
 from .preparing import Change, Prepared, prepare
-from .report import Ends, PlanCheck, Report, Rules, Serial, Setting, Shift, Source, Start, Stop, Walk
+from .report import (
+    Ends,
+    PlanCheck,
+    Report,
+    Rules,
+    Serial,
+    Setting,
+    Shift,
+    Source,
+    Start,
+    Stop,
+    Walk,
+)
+from .results import NamedReports, PlanReports
+from .trace_text import TraceHead, TraceRefused
+from .traces import Sample, StaleSample, Trace, read_trace, trace
 from .words import key_of
 
 __version__ = "0.1.0"
 
 __all__ = [
-    "AuditError", "Change", "CheckpointRefused", "CheckpointUnreadable", "Ends", "GraphChanged", "GraphRefused", "Interrupted", "MemoryRefused",
-    "MissingExtra", "PlanCheck", "PrepareRefused", "Prepared", "ProgramFailed", "ProgramMissing", "ReadFault", "Report", "ReportRefused", "Rules", "SaveFault",
-    "Serial", "Setting", "Shift", "Source", "Start", "Stop", "Walk", "WordsRefused", "WorkLeft", "WriteFault", "__version__", "check", "key_of", "make",
-    "plans", "prepare", "run",
+    "ArgumentRefused",
+    "AuditError",
+    "Change",
+    "CheckpointRefused",
+    "CheckpointUnreadable",
+    "District",
+    "Effect",
+    "ElectionReports",
+    "Ends",
+    "FrozenWalk",
+    "GraphChanged",
+    "GraphRefused",
+    "Interrupted",
+    "Manifest",
+    "ManifestRefused",
+    "MemoryRefused",
+    "MissingExtra",
+    "NamedReports",
+    "OutlierTest",
+    "PlanCheck",
+    "PlanReports",
+    "PrepareRefused",
+    "Prepared",
+    "ProgramFailed",
+    "ProgramMissing",
+    "RankTest",
+    "ReadFault",
+    "Report",
+    "ReportRefused",
+    "Rules",
+    "Sample",
+    "SaveFault",
+    "Serial",
+    "Setting",
+    "Shift",
+    "Source",
+    "StaleSample",
+    "Start",
+    "Stop",
+    "Trace",
+    "TraceHead",
+    "TraceRefused",
+    "TypeRefused",
+    "ValueRefused",
+    "Walk",
+    "WordsRefused",
+    "WorkLeft",
+    "WriteFault",
+    "__version__",
+    "audit_to_file",
+    "check",
+    "compactness",
+    "exhibit_plans",
+    "key_of",
+    "make",
+    "outlier_test",
+    "plans",
+    "prepare",
+    "rank_test",
+    "read_trace",
+    "run",
+    "scores",
+    "trace",
+    "trace_pictures",
+    "verify",
 ]

@@ -1,14 +1,18 @@
-"""`python -m district_audit --version` tells the package's version, and which programs it calls."""
+"""`python -m district_audit --version` tells the package's version, and which programs it calls; `verify MANIFEST` checks a manifest."""
 import argparse
 import sys
 
 from . import __version__
 from .errors import ProgramMissing
+from .manifest import verify_command
 from .program import found
 
 
 def main() -> int:
-    parser = argparse.ArgumentParser(prog="python -m district_audit", description="Tells which programs the package calls.")
+    if sys.argv[1:2] == ["verify"]:
+        return verify_command(sys.argv[2:])
+    parser = argparse.ArgumentParser(prog="python -m district_audit", description="Tells which programs the package calls. With `verify MANIFEST` it"
+                                     " compares the files of a manifest with its hashes; `verify --help` says more.")
     parser.add_argument("--version", action="version", version="district_audit " + __version__)
     parser.parse_args()
     status = 0

@@ -1,28 +1,56 @@
 """The calls of the program: check, run, plans and make."""
 from __future__ import annotations
 
-import csv
-import io
 import os
+import pathlib
 import typing
 import warnings
 
+from . import checkpoints
 from . import labels as naming
 from . import progress as bars
-from .errors import GraphChanged, Interrupted, SaveFault, error_of
-from .graphs import as_text
+from .arguments import ALL, TABLE, documented, plain_words, refuse, tested, tested_elections
+from .districts import Plan, plan_of
+from .elections import ElectionReports, folder_of
+from .errors import (
+    CheckpointRefused,
+    FrozenWalk,
+    GraphChanged,
+    GraphRefused,
+    Interrupted,
+    PrepareRefused,
+    SaveFault,
+    TypeRefused,
+    error_of,
+)
 from .preparing import Prepared, prepare
 from .program import Ended, PathLike, call, found
-from .report import PlanCheck, Report
+from .report import PlanCheck, Report, Rules
+from .results import PlanReports
+from .tables import Known, table_of
+from .values import test_labels_of
 from .words import words_of
 
 if typing.TYPE_CHECKING:
-    from typing_extensions import Unpack
-
-    from .words import CheckWords, MakeWords, PlansWords, RunWords
+    from .words import Ask, Key
 
 # What `prepare` takes and the program does not.
 PREPARING = ("numbers", "missing", "join", "keep", "fill_region", "own_region", "assignment")
+# Arguments of calls that are neither words of the program nor of `prepare`.
+NO_WORDS = (
+    "graph",
+    "table",
+    "districts",
+    "folder",
+    "progress",
+    "program",
+    "slots",
+    "strict",
+    "elections",
+    "unknown",
+)
+
+Elections = typing.Mapping[str, typing.Tuple[str, str]]
 
 
 class Given(typing.NamedTuple):
@@ -36,20 +64,37 @@ class Given(typing.NamedTuple):
     """The table of plans, where there is one."""
 
 
+def words_in(arguments: typing.Mapping[str, typing.Any]) -> dict[str, typing.Any]:
+    """Returns the words among the arguments of a call, and what is unknown behind them."""
+    words = {name: value for name, value in arguments.items() if name not in NO_WORDS}
+    return {**words, **arguments["unknown"]}
+
+
 def given(command: str, graph: object, words: typing.Mapping[str, object]) -> Given:
-    """The bytes and the words of a call. A graph's object, and whatever an assignment or a rule comes with, is prepared; bytes, a path and
-    what `prepare` answered go to the program as they are."""
-    named: dict[str, typing.Any] = {name: value for name, value in words.items() if value is not None}
-    if "population" in named:
-        named["pop"] = named.pop("population")
+    """Returns the bytes and the words of a call, after all arguments were tested.
+
+    A graph's object, and whatever comes with an assignment or a rule, is prepared. Bytes, a path
+    and what `prepare` answered go to the program as they are.
+    """
+    named = plain_words(command, words)
     rules = {name: named.pop(name) for name in PREPARING if name in named}
+    if "assignment" in rules and "district" in named:
+        raise PrepareRefused(
+            "district and assignment are both given: each says in which districts" " the units are"
+        )
     if isinstance(graph, Prepared):
         named = {**graph.columns, **named}
         if "assignment" in rules:
-            del named["district"]
+            named.pop("district", None)
         graph = graph.data
+    if command in ALL:
+        tested(command, {**named, "district": "assignment"} if "assignment" in rules else named)
+    if named.get("first") is not None and named.get("first") == named.get("second"):
+        raise PrepareRefused(f"both parties' votes are the column {named['first']}")
+    named = {name: value for name, value in named.items() if not is_default(name, value)}
     if isinstance(graph, (bytes, bytearray, memoryview, str, os.PathLike)) and not rules:
-        data = bytes_of(graph)
+        data = bytes_of_graph(graph)
+        test_labels_of(data, named)
     else:
         ready = ready_of(graph, named, rules)
         data = ready.data
@@ -57,151 +102,523 @@ def given(command: str, graph: object, words: typing.Mapping[str, object]) -> Gi
     return Given(data, words_of(command, named), named, "")
 
 
-def bytes_of(graph: typing.Any) -> bytes:
+def is_default(name: str, value: object) -> bool:
+    """Returns whether an argument says what holds without it."""
+    row = TABLE.get(name)
+    return row is not None and isinstance(value, type(row.default)) and value == row.default
+
+
+def bytes_of_graph(graph: typing.Any) -> bytes:
+    """Returns the bytes of a graph that is a path or bytes."""
+    if isinstance(graph, str) and graph.lstrip()[:1] == "{":
+        raise PrepareRefused(
+            "the graph is a text of JSON, which is taken for a path: write" " graph.encode()"
+        )
     if isinstance(graph, (str, os.PathLike)):
         with open(graph, "rb") as file:
             return file.read()
     return bytes(graph)
 
 
-def ready_of(graph: object, named: typing.Mapping[str, typing.Any], rules: typing.Mapping[str, typing.Any]) -> Prepared:
+def ready_of(
+    graph: object, named: typing.Mapping[str, typing.Any], rules: typing.Mapping[str, typing.Any]
+) -> Prepared:
     """Prepares a graph for a call, and warns of values that are others then."""
     try:
         columns = {"population": named["pop"], "first": named["first"], "second": named["second"]}
     except KeyError as name:
-        raise TypeError("the column %s is missing" % name) from None
+        raise TypeError(f"the column {name} is missing") from None
     group = {name: named[name] for name in ("group", "group_of") if named.get(name)}
-    ready = prepare(graph, **columns, district=named.get("district"), region=named.get("region") or None, **group, **rules)
+    ready = prepare(
+        graph,
+        **columns,
+        district=named.get("district"),
+        region=named.get("region") or None,
+        **group,
+        **rules,
+    )
     changed = [str(change) for change in ready.changes if change.is_of_values] + ready.warnings
     if changed:
         warnings.warn(GraphChanged("\n".join(changed)), stacklevel=4)
     return ready
 
 
-def raised(ended: Ended, it: Given) -> Exception:
-    """The exception for a call that did not end with 0."""
-    said = naming.said_in_labels(ended.line, naming.labels_of(it.data.split(b"\n")[0] if it.table else it.data, it.named), it.table)
+def raised(ended: Ended, asked: Given) -> Exception:
+    """Returns the exception for a call that did not end with 0."""
+    graph = asked.data.split(b"\n")[0] if asked.table else asked.data
+    said = naming.said_in_labels(ended.line, naming.labels_of(graph, asked.named), asked.table)
+    if ended.line == "graph: not JSON":
+        said = naming.where_no_json(graph)
     error = error_of(ended.status, ended.line, said)
     if isinstance(error, SaveFault) and ended.text:
         error.report = Report.parse(ended.text)
     return error
 
 
-def check(graph: object, *, program: PathLike | None = None, **words: Unpack[CheckWords]) -> PlanCheck:
+def warn_of_frozen(reports: typing.Sequence[tuple[str, Report]], level: int) -> None:
+    """Warns of walks that changed the plan never, or fewer times than there are units.
+
+    `level` is the number of calls between the warning and the user.
+    """
+    said = []
+    for name, report in reports:
+        moved = {walk.number: walk.moved for walk in report.walks}
+        few = [number for number, count in moved.items() if count < report.units]
+        if few:
+            number = min(few, key=lambda one: moved[one])
+            said.append(
+                f"{name and f'plan {name}: '}walk {number} changed the plan {moved[number]} times"
+                f" in {report.setting.steps} steps ({len(few)} of {len(moved)} walks fewer times"
+                f" than there are units, {report.units})"
+            )
+    if said:
+        said.append(
+            "such walks say little about other plans, and nothing where they changed none: walk"
+            " more steps, or loosen slack or the rules"
+        )
+        warnings.warn(FrozenWalk("\n".join(said)), stacklevel=level)
+
+
+# ---- check
+
+
+@documented
+def check(
+    graph: object,
+    *,
+    population: str | None = None,
+    first: str | None = None,
+    second: str | None = None,
+    district: str | None = None,
+    assignment: object = None,
+    slack: int | None = None,
+    tolerance: float | None = None,
+    max_cut: int = 400_000,
+    region: str | None = None,
+    max_split: int = 200,
+    max_splits: int = 995_000,
+    max_split_regions: int = 5000,
+    group: str | None = None,
+    group_of: str | None = None,
+    group_districts: int = 0,
+    source: bool = False,
+    numbers: str | None = None,
+    missing: str | None = None,
+    join: object = None,
+    keep: object = None,
+    fill_region: object = None,
+    own_region: bool | None = None,
+    strict: bool = True,
+    program: PathLike | None = None,
+    pop: str | None = None,
+    **unknown: object,
+) -> PlanCheck:
     """Judges a plan: is every district contiguous, and every population within the bounds?
 
-    `graph` is an object of networkx or GerryChain, which is prepared as `prepare` does it, or bytes, the path of a file, or what `prepare`
-    answered, which go to the program as they are. The other arguments are named as the program's words are (`CheckWords`); beside them
-    `assignment` may stand for a column of districts, and `numbers`, `missing`, `join`, `keep`, `fill_region` and `own_region` are those of
-    `prepare`. `program` is the path of the program, where it is not in the folders of PATH.
+    PARAMETERS
 
-    WordsRefused, GraphRefused, MemoryRefused, ReadFault, WriteFault; PrepareRefused; ProgramMissing.
+    Returns
+    -------
+    PlanCheck
+        What the program wrote, and the package's table of the districts: populations, deviations,
+        votes and shares, group shares and regions (`.table`, `.to_frame()`).
+
+    Raises
+    ------
+    ValueRefused, TypeRefused
+        An argument is refused; these are also a ValueError and a TypeError.
+    GraphRefused
+        The graph or the plan is refused. `faults` has every fault of the plan, in your labels, and
+        `check` the table of its districts. With strict=False the answer has them.
+    PrepareRefused
+        A value of the graph or of the assignment is refused, by the id of its unit.
+    MemoryRefused, ReadFault, WriteFault, ProgramMissing
     """
-    it = given("check", graph, words)
-    ended = call(found("audit", program), it.words, it.data)
-    if ended.status:
-        raise raised(ended, it)
-    return PlanCheck.parse(ended.text)
+    asked = given("check", graph, words_in(locals()))
+    ended = call(found("audit", program), asked.words, asked.data)
+    plan = plan_of(asked.data, asked.named) if ended.status in (0, 2) else None
+    if ended.status == 0:
+        answer = PlanCheck.parse(ended.text)
+        return answer if plan is None else answer.with_plan(plan)
+    error = raised(ended, asked)
+    if plan is None or not isinstance(error, GraphRefused) or not plan.faults:
+        raise error
+    if not ended.line.startswith("plan: "):
+        raise error
+    answer = PlanCheck.of_plan(plan, plan.edges, rules_of(plan, asked.named))
+    if not strict:
+        return answer
+    error.faults, error.check = list(plan.faults), answer
+    raise error
 
 
-def run(graph: object, *, folder: PathLike | None = None, progress: bool = False, program: PathLike | None = None,
-        slots: PathLike | None = None, **words: Unpack[RunWords]) -> Report:
-    """Audits a plan, and answers the report.
+def rules_of(plan: Plan, named: typing.Mapping[str, typing.Any]) -> Rules:
+    """Returns the rules of a plan that the program refused."""
+    slack, count = int(named.get("slack", 500)), 10_000 * max(len(plan.districts), 1)
+    people = sum(one.population for one in plan.districts)
+    return Rules(slack, -(-(10_000 - slack) * people // count), (10_000 + slack) * people // count)
 
-    `graph`, `program` and the words are as for `check` (`RunWords` has them all). Checkpoints lie in `folder`, the current one where it is
-    left out. With progress=True, which needs `save`, it shows how far the run is, by the program `audit_slots` (`slots` is its path).
-    Ctrl-C ends the program, and then Interrupted tells how many trajectories are saved and how to go on.
 
-    The exceptions are those of `check`, and WorkLeft, CheckpointRefused, CheckpointUnreadable and SaveFault.
+# ---- run and make
+
+
+@typing.overload
+def run(graph: object, *, elections: None = None, **words: typing.Any) -> Report:
+    ...
+
+
+@typing.overload
+def run(graph: object, *, elections: Elections, **words: typing.Any) -> ElectionReports:
+    ...
+
+
+@documented
+def run(
+    graph: object,
+    *,
+    population: str | None = None,
+    first: str | None = None,
+    second: str | None = None,
+    elections: Elections | None = None,
+    district: str | None = None,
+    assignment: object = None,
+    key: Key | None = None,
+    ask: Ask | None = None,
+    scores: object = None,
+    walks: int = 1,
+    steps: int = 1000,
+    ends: int = 0,
+    hub_steps: int = 1000,
+    stop: int = 0,
+    serial: bool = False,
+    shift: bool = False,
+    slack: int | None = None,
+    tolerance: float | None = None,
+    max_cut: int = 400_000,
+    region: str | None = None,
+    max_split: int = 200,
+    max_splits: int = 995_000,
+    max_split_regions: int = 5000,
+    group: str | None = None,
+    group_of: str | None = None,
+    group_districts: int = 0,
+    source: bool = False,
+    workers: int = 1,
+    save: int = 0,
+    resume: bool = False,
+    budget: int = 100_000,
+    parts: int = 1,
+    part: int = 0,
+    folder: PathLike | None = None,
+    progress: bool = False,
+    numbers: str | None = None,
+    missing: str | None = None,
+    join: object = None,
+    keep: object = None,
+    fill_region: object = None,
+    own_region: bool | None = None,
+    program: PathLike | None = None,
+    slots: PathLike | None = None,
+    pop: str | None = None,
+    **unknown: object,
+) -> Report | ElectionReports:
+    """Audits a plan.
+
+    PARAMETERS
+
+    Returns
+    -------
+    Report
+        The report; `str` of it is the program's text, byte for byte.
+    ElectionReports
+        With `elections`: a report for each, by its name. The same key repeats the same walk of
+        plans for each election; see `ElectionReports` for what several tests let one say.
+
+    Raises
+    ------
+    WorkLeft
+        The budget is used up, and trajectories are left.
+    CheckpointRefused, CheckpointUnreadable, SaveFault
+        Of the checkpoints in `folder`. CheckpointRefused names the arguments that differ from those
+        of the run that saved them.
+    Interrupted
+        Ctrl-C stopped the program. It tells what is saved and how to go on.
+    ValueRefused, TypeRefused, GraphRefused, PrepareRefused, MemoryRefused, ReadFault, WriteFault,
+    ProgramMissing
+        As for `check`.
+
+    Warns
+    -----
+    FrozenWalk
+        A trajectory changed the plan never, or fewer times than there are units.
+    GraphChanged
+        Values of a graph were changed where it was prepared.
     """
-    return walked(given("run", graph, words), folder, progress, program, slots)
+    words = words_in(locals())
+    if elections is None:
+        return walked(given("run", graph, words), folder, progress, program, slots)
+    if first is not None or second is not None:
+        refuse(
+            TypeRefused,
+            "run",
+            "elections",
+            elections,
+            "first and second are given too: each election has its own columns",
+        )
+    reports = []
+    saves = str(save) != "0" or resume not in (False, None, "no")
+    for name, columns in tested_elections(elections, saves).items():
+        asked = given("run", graph, {**words, "first": columns[0], "second": columns[1]})
+        place = folder_of(folder, name) if saves else folder
+        reports.append((name, walked(asked, place, progress, program, slots)))
+    return ElectionReports(reports)
 
 
-def make(*, folder: PathLike | None = None, progress: bool = False, program: PathLike | None = None, slots: PathLike | None = None,
-         **words: Unpack[MakeWords]) -> Report:
-    """Audits a grid that the program makes itself; `size` is 1 to 30. All else is as for `run`."""
-    named = {name: value for name, value in words.items() if value is not None}
+@documented
+def make(
+    *,
+    size: int | None = None,
+    key: Key | None = None,
+    ask: Ask | None = None,
+    scores: object = None,
+    walks: int = 1,
+    steps: int = 1000,
+    ends: int = 0,
+    hub_steps: int = 1000,
+    stop: int = 0,
+    serial: bool = False,
+    shift: bool = False,
+    slack: int | None = None,
+    tolerance: float | None = None,
+    max_cut: int = 400_000,
+    workers: int = 1,
+    save: int = 0,
+    resume: bool = False,
+    budget: int = 100_000,
+    parts: int = 1,
+    part: int = 0,
+    folder: PathLike | None = None,
+    progress: bool = False,
+    program: PathLike | None = None,
+    slots: PathLike | None = None,
+    **unknown: object,
+) -> Report:
+    """Audits a grid that the program makes itself, as a trial of sizes and times.
+
+    PARAMETERS
+
+    Returns
+    -------
+    Report
+
+    Raises
+    ------
+    As `run`.
+    """
+    named = plain_words("make", words_in(locals()))
+    tested("make", named)
+    named = {name: value for name, value in named.items() if not is_default(name, value)}
     return walked(Given(b"", words_of("make", named), named, ""), folder, progress, program, slots)
 
 
-def walked(it: Given, folder: PathLike | None, progress: bool, program: PathLike | None, slots: PathLike | None) -> Report:
+def walked(
+    asked: Given,
+    folder: PathLike | None,
+    progress: bool,
+    program: PathLike | None,
+    slots: PathLike | None,
+) -> Report:
+    """Calls the program for a report, with its checkpoints in a folder."""
     path = found("audit", program)
-    saves = str(it.named.get("save", 0)) != "0"
-    watch = watch_of(it, folder, slots) if progress else None
+    place = pathlib.Path(folder) if folder is not None else pathlib.Path()
+    if not place.is_dir():
+        raise FileNotFoundError(f"folder={str(place)!r}: there is no such folder")
+    saves = str(asked.named.get("save", 0)) != "0"
+    resumes = asked.named.get("resume") in (True, "yes")
+    job = Job(asked, place, saves, resumes)
+    watch = watch_of(asked, place, saves, resumes, slots) if progress else None
+    job.begin()
     try:
-        ended = call(path, it.words, it.data, folder, watch)
+        ended = call(path, asked.words, asked.data, folder, watch)
     except KeyboardInterrupt:
-        raise Interrupted(how_to_resume(saves, watch)) from None
+        raise job.interrupted() from None
     finally:
         if watch is not None:
             watch.end()
+    job.end(ended.status)
     if ended.status:
-        raise raised(ended, it)
-    return Report.parse(ended.text)
+        error = raised(ended, asked)
+        raise job.explained(error) if isinstance(error, CheckpointRefused) else error
+    report = Report.parse(ended.text)
+    warn_of_frozen([("", report)], 4)
+    return report
 
 
-def watch_of(it: Given, folder: PathLike | None, slots: PathLike | None) -> bars.Watch:
-    if str(it.named.get("save", 0)) == "0":
-        raise ValueError("progress=True needs save=1 or more: how far a run is, is seen by what it saved")
-    path = found("slots", slots)
-    total = int(it.named.get("walks", 1)) + int(it.named.get("ends", 0))
-    return bars.Watch(lambda: bars.look(path, it.words, it.data, folder), total, it.named.get("resume") is True, bars.new_bar())
-
-
-def how_to_resume(saves: bool, watch: bars.Watch | None) -> str:
+def watch_of(
+    asked: Given, place: pathlib.Path, saves: bool, resumes: bool, slots: PathLike | None
+) -> bars.Watch | bars.Clock:
+    """Returns what shows how far a run is."""
+    total = total_of(asked)
     if not saves:
-        return "stopped; nothing was saved (save=1 saves after each trajectory)"
-    done = "" if watch is None else "%d of %d done; " % (watch.done, watch.total)
-    return "stopped: %sthe same call with resume=True goes on in the same folder" % done
+        return bars.Clock(total)
+    if slots is None:
+        return bars.Watch(lambda: checkpoints.look_in(place, total), total, resumes, bars.new_bar())
+    path = found("slots", slots)
+    return bars.Watch(
+        lambda: bars.look(path, asked.words, asked.data, place), total, resumes, bars.new_bar()
+    )
+
+
+def total_of(asked: Given) -> int:
+    """Returns the number of trajectories of a run."""
+    return int(asked.named.get("walks", 1)) + int(asked.named.get("ends", 0))
+
+
+class Job:
+    """What the package keeps and tells of a run beside its checkpoints."""
+
+    def __init__(self, asked: Given, place: pathlib.Path, saves: bool, resumes: bool) -> None:
+        self.asked, self.place, self.saves, self.resumes = asked, place, saves, resumes
+        self.slots = checkpoints.slots_in(place) if saves or resumes else []
+        self.before = checkpoints.read_record(place) if saves or resumes else None
+        self.record: dict[str, typing.Any] = {}
+
+    def begin(self) -> None:
+        """Keeps the arguments of a run that saves, so that they are there if it is killed."""
+        if self.saves or self.resumes:
+            self.record = checkpoints.record_of(
+                self.asked.words[0], self.asked.data, self.asked.named, self.asked.words
+            )
+        if self.saves and (not self.resumes or self.before is None):
+            checkpoints.write_record(self.place, self.record)
+
+    def end(self, status: int) -> None:
+        """Keeps the arguments of the job whose checkpoints lie there now."""
+        if not self.saves:
+            return
+        has_saved = status in (0, 7) or status == 9 and self.has_new_slots()
+        if has_saved:
+            checkpoints.write_record(self.place, self.record)
+        elif not self.has_new_slots():
+            checkpoints.write_record(self.place, self.before)
+
+    def has_new_slots(self) -> bool:
+        return checkpoints.slots_in(self.place) != self.slots
+
+    def interrupted(self) -> Interrupted:
+        """Returns what is raised where Ctrl-C stopped the run: it tells what is saved."""
+        total = total_of(self.asked)
+        if not self.saves:
+            return Interrupted(
+                "stopped; nothing was saved (save=1 saves after each trajectory)", 0, total
+            )
+        newest = checkpoints.newest_of(checkpoints.slots_in(self.place))
+        is_own = self.resumes or self.has_new_slots()
+        if not is_own:
+            self.end(1)
+        done = newest.done if newest is not None and is_own else 0
+        if done == 0:
+            return Interrupted(
+                f"stopped: 0 of {total} done, and nothing was saved yet", 0, total, str(self.place)
+            )
+        return Interrupted(
+            f"stopped: {done} of {total} done; the same call with resume=True goes on in the same"
+            f" folder, {str(self.place.absolute())!r}; of trajectories under way nothing is kept",
+            done,
+            total,
+            str(self.place),
+        )
+
+    def explained(self, error: CheckpointRefused) -> CheckpointRefused:
+        """Names the arguments in which another job differs, as far as they were kept."""
+        if not error.line.startswith("checkpoint: other job"):
+            return error
+        if self.before is None:
+            said = f"no arguments of that job are kept in {str(self.place.absolute())!r}"
+            return CheckpointRefused(error.line, said)
+        differs = checkpoints.differences(self.before, self.record)
+        told = "; ".join(differs) or "it differs in nothing that was kept"
+        other = CheckpointRefused(error.line, f"{told}; another folder keeps both jobs")
+        other.differs = differs
+        return other
 
 
 # ---- several plans
 
-def plans(graph: object, table: object, *, program: PathLike | None = None, **words: Unpack[PlansWords]) -> list[tuple[str, Report]]:
-    """Audits the graph's own plan, and then each plan of a table: for each its name and its report, in order.
 
-    `table` is a dict from plans' names to assignments, a pandas DataFrame with the units' ids as its index and a plan in each column, or
-    the text, bytes or path of the CSV file that docs/FORMATS.md describes. `graph`, `program` and the words are as for `check`
-    (`PlansWords` has them all). With an `assignment` the own plan's name is `assignment`.
+@documented
+def plans(
+    graph: object,
+    table: object,
+    *,
+    districts: str = "same",
+    population: str | None = None,
+    first: str | None = None,
+    second: str | None = None,
+    district: str | None = None,
+    assignment: object = None,
+    key: Key | None = None,
+    ask: Ask | None = None,
+    scores: object = None,
+    walks: int = 1,
+    steps: int = 1000,
+    ends: int = 0,
+    hub_steps: int = 1000,
+    stop: int = 0,
+    serial: bool = False,
+    shift: bool = False,
+    slack: int | None = None,
+    tolerance: float | None = None,
+    max_cut: int = 400_000,
+    region: str | None = None,
+    max_split: int = 200,
+    max_splits: int = 995_000,
+    max_split_regions: int = 5000,
+    group: str | None = None,
+    group_of: str | None = None,
+    group_districts: int = 0,
+    source: bool = False,
+    workers: int = 1,
+    numbers: str | None = None,
+    missing: str | None = None,
+    join: object = None,
+    keep: object = None,
+    fill_region: object = None,
+    own_region: bool | None = None,
+    program: PathLike | None = None,
+    pop: str | None = None,
+    **unknown: object,
+) -> PlanReports:
+    """Audits the graph's own plan, and then each plan of a table.
 
-    The exceptions are those of `check`; where the table or one of its plans is refused, GraphRefused.
+    A label that is missing (None, NaN, pandas.NA, an empty text, a text as "nan" or "NA"), that is
+    no text or whole number, or that would be mistaken for another one (`1`, `1.0` and `"1"`, `"A"`
+    and `"A "`), is refused with the id of its unit. A float that is whole stands for its digits.
+
+    PARAMETERS
+
+    Returns
+    -------
+    PlanReports
+        A list of pairs, the name of a plan and its report. The own plan comes first; its name is
+        that of the column of districts, or `assignment`.
+
+    Raises
+    ------
+    PrepareRefused
+        The table, or a value of it, is refused, by the id of its unit.
+    ValueRefused, TypeRefused, GraphRefused, MemoryRefused, ReadFault, WriteFault, ProgramMissing
+        As for `check`.
     """
-    it = given("plans", graph, words)
-    text = table_of(table)
-    line = b"".join(it.data.split(b"\n"))
-    it = it._replace(data=line + b"\n" + text, table=text.decode("utf-8", "surrogateescape"))
-    ended = call(found("audit", program), it.words, it.data)
+    if districts not in ("same", "any"):
+        raise PrepareRefused(f'districts is "same" or "any", and not {districts!r}')
+    asked = given("plans", graph, words_in(locals()))
+    text = table_of(table, Known.of(asked.data, asked.named.get("district")), districts)
+    line = b"".join(asked.data.split(b"\n"))
+    asked = asked._replace(data=line + b"\n" + text, table=text.decode("utf-8", "surrogateescape"))
+    ended = call(found("audit", program), asked.words, asked.data)
     if ended.status:
-        raise raised(ended, it)
-    return Report.parse_plans(ended.text)
-
-
-def table_of(table: typing.Any) -> bytes:
-    """The bytes of a table of plans."""
-    if isinstance(table, (bytes, bytearray, memoryview)):
-        return bytes(table)
-    if isinstance(table, str) and "\n" in table:
-        return table.encode("utf-8")
-    if isinstance(table, (str, os.PathLike)):
-        return bytes_of(table)
-    return written({str(name): assigned(plan) for name, plan in table.items()})
-
-
-def assigned(plan: typing.Any) -> dict[str, str]:
-    """A plan of a table as texts: a dict, a GerryChain Partition or its assignment, or a column of a DataFrame."""
-    while not hasattr(plan, "items") and hasattr(plan, "assignment"):
-        plan = plan.assignment
-    return {as_text(unit): as_text(label) for unit, label in plan.items()}
-
-
-def written(by_name: dict[str, dict[str, str]]) -> bytes:
-    """A table of plans as CSV. A unit that one plan does not have gets the empty text there, so that its record says so."""
-    units = dict.fromkeys(unit for plan in by_name.values() for unit in plan)
-    lacking = {name for name, plan in by_name.items() if len(plan) != len(units)}
-    if lacking:
-        raise ValueError("the plans have not the same units: %s has %d of %d" % (min(lacking), len(by_name[min(lacking)]), len(units)))
-    room = io.StringIO()
-    rows = csv.writer(room, lineterminator="\n")
-    rows.writerow(["id", *by_name])
-    rows.writerows([unit, *(plan[unit] for plan in by_name.values())] for unit in units)
-    return room.getvalue().encode("utf-8")
+        raise raised(ended, asked)
+    reports = PlanReports(Report.parse_plans(ended.text))
+    warn_of_frozen(reports, 3)
+    return reports

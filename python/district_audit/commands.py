@@ -2,11 +2,13 @@
 from __future__ import annotations
 
 import argparse
+import pathlib
 import signal
 import subprocess
 import sys
 import typing
 
+from . import checkpoints
 from . import labels as naming
 from . import progress as bars
 from .errors import MissingExtra, PrepareRefused, ProgramMissing, ReportRefused
@@ -14,6 +16,7 @@ from .preparing import Prepared
 from .preparing import prepare as prepared_of
 from .program import found, stop
 from .report import Report
+from .values import test_labels_of
 
 PREPARE = """Turns a file that GerryChain or networkx wrote into one that the auditor accepts, and tells of everything that it changed.
 
@@ -121,7 +124,8 @@ def prepare(words: typing.Sequence[str] | None = None) -> int:
         some = faults if args.all else faults[:10]
         for fault in some:
             tell(fault)
-        tell("not written: %s%s" % (why, ", of which these are the first" if len(some) < len(faults) else ""))
+        said = why.why if isinstance(why, PrepareRefused) else str(why)
+        tell("not written: %s%s" % (said, ", of which these are the first" if len(some) < len(faults) else ""))
         return 2
     return 1 if ready.refusals else 0
 
@@ -169,7 +173,12 @@ def total_of(words: typing.Sequence[str]) -> int:
 
 def run(words: typing.Sequence[str] | None = None) -> int:
     """district-audit-run; answers the status."""
-    words = list(sys.argv[1:] if words is None else words)
+    given = list(sys.argv[1:] if words is None else words)
+    return called_with(given)
+
+
+def called_with(words: list[str]) -> int:
+    """Runs the program with these words; returns the status."""
     if words[:1] in ([], ["-h"], ["--help"]):
         print(RUN, file=sys.stderr)
         return 0 if words else 1
@@ -178,16 +187,26 @@ def run(words: typing.Sequence[str] | None = None) -> int:
     saves = value_of(words, "--save", "0") != "0"
     try:
         program = found("audit")
-        slots = found("slots") if saves and sys.stderr.isatty() else None
     except ProgramMissing as why:
         print("district-audit-run: %s" % why, file=sys.stderr)
         return 127
     data = b"" if words[0] == "make" else sys.stdin.buffer.read()
+    if words[0] != "make":
+        warn_of_labels(data, words)
     watch = None
-    if slots is not None:
-        path = slots
-        watch = bars.Watch(lambda: bars.look(path, words, data, None), total_of(words), value_of(words, "--resume", "no") == "yes", bars.PlainBar())
+    if saves and sys.stderr.isatty():
+        total, is_resumed = total_of(words), value_of(words, "--resume", "no") == "yes"
+        watch = bars.Watch(lambda: checkpoints.look_in(pathlib.Path(), total), total, is_resumed, bars.PlainBar())
     return passed_through([program, *words], data, watch, saves)
+
+
+def warn_of_labels(data: bytes, words: typing.Sequence[str]) -> None:
+    """Warns of labels that the program takes for districts or regions of their own."""
+    try:
+        test_labels_of(data, {name: value_of(words, "--" + name, "") for name in ("district", "region")})
+    except PrepareRefused as why:
+        for fault in why.faults[:10]:
+            print(f"district-audit-run: warning: {fault}", file=sys.stderr)
 
 
 def passed_through(command: list[str], data: bytes, watch: bars.Watch | None, saves: bool) -> int:

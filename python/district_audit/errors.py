@@ -5,7 +5,7 @@ import importlib
 import typing
 
 if typing.TYPE_CHECKING:
-    from .report import Report
+    from .report import PlanCheck, Report
 
 
 class AuditError(Exception):
@@ -21,6 +21,9 @@ class AuditError(Exception):
         super().__init__("%s (%s)" % (line, labels) if labels else line)
         self.line, self.labels = line, labels
 
+    def __reduce__(self) -> tuple[typing.Any, ...]:
+        return type(self), (self.line, self.labels), self.__dict__
+
 
 class WordsRefused(AuditError):
     """Status 1: the words are refused; the line names the first that is unknown, missing or bad."""
@@ -28,10 +31,46 @@ class WordsRefused(AuditError):
     status = 1
 
 
+class ArgumentRefused(WordsRefused):
+    """An argument of a call is refused before the program is called.
+
+    `argument` is its name, `given` its value, `allowed` says what is allowed, and `hint` the likely
+    mistake, or is empty. `line` is what the program itself would write.
+    """
+
+    def __init__(self, said: str, argument: str = "", given: object = None, allowed: str = "",
+                 hint: str = "", line: str = "") -> None:
+        super().__init__(said)
+        self.argument, self.given, self.allowed, self.hint = argument, given, allowed, hint
+        self.line = line
+
+    def __reduce__(self) -> tuple[typing.Any, ...]:
+        return type(self), (str(self), self.argument, self.given, self.allowed, self.hint, self.line)
+
+
+class ValueRefused(ArgumentRefused, ValueError):
+    """An argument has the right type and a value that is not allowed, alone or beside the others."""
+
+
+class TypeRefused(ArgumentRefused, TypeError):
+    """An argument is unknown, missing, given twice, or of another type."""
+
+
 class GraphRefused(AuditError):
-    """Status 2: the graph, the table of plans, or a plan is refused, by the first fault in the order of docs/FORMATS.md."""
+    """Status 2: the graph, the table of plans, or a plan is refused, by the first fault in the order
+    of docs/FORMATS.md.
+
+    From `check`, `faults` has every fault of the plan in the user's labels, and `check` the table of
+    its districts; else they are empty and None.
+    """
 
     status = 2
+    faults: typing.Sequence[str] = ()
+    check: PlanCheck | None = None
+
+    def __str__(self) -> str:
+        said = super().__str__()
+        return "\n  ".join([said + "; all faults:", *self.faults]) if len(self.faults) > 1 else said
 
 
 class MemoryRefused(AuditError, MemoryError):
@@ -72,9 +111,14 @@ class WorkLeft(AuditError):
 
 
 class CheckpointRefused(AuditError):
-    """Status 8: no checkpoint is whole, or the newest is another job's. Nothing was changed."""
+    """Status 8: no checkpoint is whole, or the newest is another job's. Nothing was changed.
+
+    Where it is another job's, `differs` has a text for each argument and part of the graph that
+    differs from the run that wrote it, as far as the package kept what that was.
+    """
 
     status = 8
+    differs: typing.Sequence[str] = ()
 
 
 class SaveFault(AuditError):
@@ -91,6 +135,9 @@ class ProgramFailed(Exception):
         super().__init__("the program ended with status %d: %s" % (status, line or "it said nothing"))
         self.status, self.line = status, line
 
+    def __reduce__(self) -> tuple[typing.Any, ...]:
+        return type(self), (self.status, self.line)
+
 
 class ProgramMissing(FileNotFoundError):
     """The installed program is not to be found."""
@@ -104,8 +151,12 @@ class MissingExtra(ImportError):
 
     def __init__(self, module: str) -> None:
         self.extra, what = EXTRAS[module]
-        super().__init__("%s is missing, which %s: it is the extra `%s` (Debian: apt-get install python3-%s; else: pip install %s)" % (
-            module, what, self.extra, module, module), name=module)
+        debian = "" if module == "gerrychain" else "Debian: apt-get install python3-%s; else: " % module
+        super().__init__("%s is missing, which %s: it is the extra `%s` (%spip install %s)" % (
+            module, what, self.extra, debian, module), name=module)
+
+    def __reduce__(self) -> tuple[typing.Any, ...]:
+        return type(self), (self.name,)
 
 
 # For each optional module without which something cannot be done: the extra that has it, and what it does.
@@ -113,6 +164,8 @@ EXTRAS = {
     "networkx": ("graphs", "reads files of GraphML and GML"),
     "pandas": ("frames", "makes tables"),
     "matplotlib": ("pictures", "draws pictures"),
+    "shapely": ("shapes", "measures compactness"),
+    "gerrychain": ("partitions", "makes partitions"),
 }
 
 
@@ -125,7 +178,17 @@ def extra(module: str) -> typing.Any:
 
 
 class Interrupted(KeyboardInterrupt):
-    """Ctrl-C stopped a run. The message says how many trajectories are saved, and how to go on."""
+    """Ctrl-C stopped a run. The message says how many trajectories are saved, and how to go on.
+
+    `done` of `total` trajectories are saved in `folder`; `done` is 0 where nothing is.
+    """
+
+    def __init__(self, said: str, done: int = 0, total: int = 0, folder: str = "") -> None:
+        super().__init__(said)
+        self.done, self.total, self.folder = done, total, folder
+
+    def __reduce__(self) -> tuple[typing.Any, ...]:
+        return type(self), (str(self), self.done, self.total, self.folder)
 
 
 class ReportRefused(ValueError):
@@ -135,13 +198,31 @@ class ReportRefused(ValueError):
         super().__init__("line %d: %s" % (number, why))
         self.number, self.why = number, why
 
+    def __reduce__(self) -> tuple[typing.Any, ...]:
+        return type(self), (self.number, self.why)
+
 
 class PrepareRefused(ValueError):
-    """A graph cannot be prepared. The message says why in one line; `faults` has a line for each value that is refused."""
+    """A graph, an assignment or a table of plans is refused before the program is called.
+
+    `why` says it in one line, and `faults` has a line for each value that is refused, with the id of
+    its unit. The message is both, with the first ten faults.
+    """
+
+    SHOWN = 10
 
     def __init__(self, why: str, faults: typing.Sequence[str] = ()) -> None:
-        super().__init__(why)
-        self.faults = list(faults)
+        self.why, self.faults = why, list(faults)
+        some = self.faults if len(self.faults) <= self.SHOWN else [
+            *self.faults[:self.SHOWN], f"and {len(self.faults) - self.SHOWN} more (see .faults)"]
+        super().__init__("\n  ".join([why + ":", *some]) if some else why)
+
+    def __reduce__(self) -> tuple[type[PrepareRefused], tuple[str, list[str]]]:
+        return type(self), (self.why, self.faults)
+
+
+class FrozenWalk(UserWarning):
+    """A trajectory changed the plan never, or fewer times than there are units: it says little."""
 
 
 class GraphChanged(UserWarning):

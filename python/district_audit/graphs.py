@@ -35,7 +35,16 @@ def shown(ids: typing.Iterable[object], everything: bool = False) -> str:
 
 def as_json(value: object) -> str:
     """A value in one line, for people."""
-    return json.dumps(value, ensure_ascii=False, default=str)
+    return json.dumps(value, ensure_ascii=False, default=of_numpy)
+
+
+def of_numpy(value: object) -> object:
+    """A number of numpy as Python's, and anything else that JSON does not have as a text."""
+    if type(value).__name__ in ("bool_", "bool"):
+        return bool(value)
+    if is_whole(value):
+        return int(typing.cast(int, value))
+    return float(value) if isinstance(value, numbers.Real) else str(value)
 
 
 # ---- reading
@@ -116,10 +125,21 @@ def hashable(value: object) -> object:
 # ---- values
 
 def is_missing(value: object) -> bool:
-    """Whether a value is absent, null, NaN, an empty text, or one of pandas' missing values."""
-    if value is None or isinstance(value, str) and value == "" or type(value).__name__ in ("NAType", "NaTType"):
+    """Returns whether a value is absent, null, NaN, a text of nothing but white space, or what pandas
+    or numpy write for a missing value."""
+    if value is None or isinstance(value, str) and not value.strip():
         return True
-    return isinstance(value, (numbers.Real, decimal.Decimal)) and not isinstance(value, numbers.Rational) and math.isnan(value)
+    if type(value).__name__ in ("NAType", "NaTType", "MaskedConstant"):
+        return True
+    if isinstance(value, decimal.Decimal):
+        return value.is_nan()
+    if isinstance(value, (numbers.Real, numbers.Rational)):
+        return not isinstance(value, numbers.Rational) and math.isnan(value)
+    # datetime64("NaT"), complex NaN, and whatever else is not equal to itself.
+    try:
+        return bool(value != value)
+    except (TypeError, ValueError):
+        return False
 
 
 def is_whole(value: object) -> bool:
@@ -142,8 +162,10 @@ def as_text(value: object) -> str:
         return str(value)
     if is_whole(value):
         return str(int(typing.cast(int, value)))
-    if isinstance(value, numbers.Real) and not isinstance(value, bool) and math.isfinite(value) and value == math.floor(value):
-        return str(math.floor(value))
+    if isinstance(value, (numbers.Real, decimal.Decimal)) and not isinstance(value, bool):
+        number = typing.cast(float, value)
+        if math.isfinite(number) and number == math.floor(number):
+            return str(math.floor(number))
     return json.dumps(value, default=str)
 
 

@@ -7,7 +7,7 @@ import json
 import re
 import typing
 
-from .graphs import Label, as_json, in_order, plain
+from .graphs import as_json, in_order, plain
 
 # The words before a number in the program's lines, and what they count.
 COUNTED = re.compile(r"\b(units?|nodes?|district|region) ([0-9]+)(?: and ([0-9]+))?")
@@ -31,9 +31,43 @@ def labels_of(data: bytes, columns: typing.Mapping[str, object]) -> Labels:
 
     def column(name: object) -> typing.Sequence[object]:
         labels = [plain(node.get(name)) for node in nodes] if name else [None]
-        return [] if None in labels else in_order(typing.cast(typing.List[Label], labels))
+        known = [label for label in labels if label is not None]
+        return in_order(known) if len(known) == len(labels) else []
 
     return Labels([node.get("id") for node in nodes], column(columns.get("district")), column(columns.get("region")))
+
+
+def where_no_json(data: bytes) -> str:
+    """Returns the line and column where bytes are no JSON to the program, and why; '' where unknown.
+
+    Python's reader takes NaN and Infinity, which are no JSON.
+    """
+    try:
+        text = data.decode("utf-8")
+    except UnicodeDecodeError as error:
+        return f"{place_in(data[:error.start].decode('utf-8'))}: this is no UTF-8"
+    if text.startswith("\ufeff"):
+        return "line 1, column 1: a byte order mark stands before the text"
+    try:
+        json.loads(text, parse_constant=refused_constant)
+    except json.JSONDecodeError as error:
+        return f"line {error.lineno}, column {error.colno}: {error.msg}"
+    except ValueError as error:
+        # A constant stands outside of all texts: each text is passed over as a whole.
+        for found in re.finditer(r'"(?:[^"\\]|\\.)*"|-?(?:NaN|Infinity)', text):
+            if found[0] == str(error):
+                return f"{place_in(text[:found.start()])}: {found[0]} is no JSON (write null)"
+    return ""
+
+
+def refused_constant(name: str) -> object:
+    raise ValueError(name)
+
+
+def place_in(before: str) -> str:
+    """Returns the line and the column behind a text, from 1."""
+    lines = before.split("\n")
+    return f"line {len(lines)}, column {len(lines[-1]) + 1}"
 
 
 def plan_labels(table: str, name: str) -> typing.Sequence[object]:
@@ -43,7 +77,9 @@ def plan_labels(table: str, name: str) -> typing.Sequence[object]:
         return []
     place = records[0].index(name, 1)
     labels = {row[place] for row in records[1:] if len(row) > place}
-    return sorted(labels, key=lambda label: label.encode("utf-8", "surrogateescape"))
+
+    in_bytes = sorted(label.encode("utf-8", "surrogateescape") for label in labels)
+    return [label.decode("utf-8", "surrogateescape") for label in in_bytes]
 
 
 def said_in_labels(line: str, labels: Labels, table: str = "") -> str:

@@ -6,10 +6,11 @@ All is black, grey and white: shapes and words tell things apart.
 """
 from __future__ import annotations
 
+import dataclasses
 import typing
 
 from .errors import extra
-from .report import SEATS, Report, Shift, Walk
+from .report import SCORES, SEATS, Line, Report, Shift, Walk
 
 if typing.TYPE_CHECKING:
     from matplotlib.axes import Axes
@@ -37,13 +38,54 @@ class Test(typing.NamedTuple):
 
 # ---- what is drawn
 
-def walk_rows(walks: typing.Sequence[Walk]) -> list[Row]:
+Parties = typing.Optional[typing.Sequence[str]]
+Scores = typing.Union[None, str, typing.Sequence[str]]
+
+
+def only(report: Report, scores: Scores) -> Report:
+    """Returns a report with the lines of some scores, or questions, alone."""
+    if scores is None:
+        return report
+    wanted = scores.split(",") if isinstance(scores, str) else list(scores)
+    known = {*SCORES, *report.asks}
+    for one in wanted:
+        if one not in known:
+            raise ValueError(f"scores={scores!r}: {one!r} is none of {', '.join(sorted(known))}")
+
+    def is_wanted(line: Line) -> bool:
+        return line.score in wanted or line.ask in wanted
+
+    found = dataclasses.replace(
+        report, walks=tuple(filter(is_wanted, report.walks)), ends=tuple(filter(is_wanted, report.ends)),
+        stops=tuple(filter(is_wanted, report.stops)), serial=tuple(filter(is_wanted, report.serial)))
+    if not found.asks:
+        raise ValueError(f"scores={scores!r}: the report has none of these; it has"
+                         f" {', '.join(report.asks)}")
+    return found
+
+
+def named_parties(parties: Parties) -> tuple[str, str] | None:
+    """Returns the names of both parties, where they are given."""
+    if parties is None:
+        return None
+    if isinstance(parties, str) or len(parties) != 2:
+        raise ValueError(f"parties={parties!r}: these are the names of the first and the second party")
+    return str(parties[0]), str(parties[1])
+
+
+def ask_label(line: Line, parties: Parties = None) -> str:
+    """Returns a question as it stands at a row; seats are those of the first party."""
+    whose = f"{parties[0]} " if parties and line.score == "seats" else ""
+    return f"{whose}{line.score} {line.tail}"
+
+
+def walk_rows(walks: typing.Sequence[Walk], parties: Parties = None, most: int = MOST_ROWS) -> list[Row]:
     by_ask: dict[str, list[Walk]] = {}
     for walk in walks:
-        by_ask.setdefault("%s %s" % (walk.score, walk.tail), []).append(walk)
+        by_ask.setdefault(ask_label(walk, parties), []).append(walk)
     rows = []
     for ask, found in by_ask.items():
-        if len(found) <= MOST_ROWS:
+        if len(found) <= most:
             rows += [Row("%s, walk %d" % (ask, walk.number), [(walk.count / walk.of, float(walk.bound))],
                          "%d of %d, bound %s" % (walk.count, walk.of, walk.bound)) for walk in found]
         else:
@@ -53,11 +95,16 @@ def walk_rows(walks: typing.Sequence[Walk]) -> list[Row]:
     return rows
 
 
-def test_rows(report: Report) -> list[Test]:
-    rows = [Test("%s %s, sequential test" % (it.score, it.tail), it.top / it.of, "value %d of %d, p %s" % (it.top, it.of, it.p)) for it in report.stops]
-    rows += [Test("%s %s, parallel test" % (it.score, it.tail), it.rank / it.of, "rank %d of %d, p %s" % (it.rank, it.of, it.p)) for it in report.ends]
-    return rows + [Test("%s %s, serial test" % (it.score, it.tail), it.rank / it.of, "rank %d of %d, p %s" % (it.rank, it.of, it.p))
-                   for it in report.serial]
+def test_rows(report: Report, parties: Parties = None) -> list[Test]:
+    def label(line: Line, test: str) -> str:
+        return f"{ask_label(line, parties)}, {test} test"
+
+    rows = [Test(label(line, "sequential"), line.top / line.of, f"value {line.top} of {line.of}, p {line.p}")
+            for line in report.stops]
+    rows += [Test(label(line, "parallel"), line.rank / line.of, f"rank {line.rank} of {line.of}, p {line.p}")
+             for line in report.ends]
+    return rows + [Test(label(line, "serial"), line.rank / line.of, f"rank {line.rank} of {line.of}, p {line.p}")
+                   for line in report.serial]
 
 
 def percent(count: int, whole: int) -> str:
@@ -74,8 +121,9 @@ def so_many(count: int, what: str) -> str:
     return "%d %s%s" % (count, what, "" if count == 1 else "s")
 
 
-def about(report: Report) -> str:
+def about(report: Report, parties: Parties = None) -> str:
     """The head of the picture: the map, its rules, what was walked, the key, and what was read."""
+    both = f"\nfirst party {parties[0]}, second party {parties[1]}" if parties else ""
     rules, setting, source = report.rules, report.setting, report.source
     limits = "".join("; " + said for said in rules.told())
     limits += "".join("\n" + said for said in ["; ".join(rules.told_further())] if said)
@@ -83,8 +131,8 @@ def about(report: Report) -> str:
     ends += ", a test stops after %d in its tail" % setting.stop if setting.stop else ""
     walks = "%s of %s" % (so_many(setting.walks, "walk"), so_many(setting.steps, "step")) if setting.walks else "no walks"
     read = "" if source is None else "\nsource sha256 %s, %d bytes" % (source.sha256, source.bytes)
-    return "%d units, %d districts, %d people; %d to %d people a district (slack %g %%)%s\n%s; %s\nkey %s%s" % (
-        report.units, report.districts, report.population, rules.low, rules.high, rules.slack / 100, limits, walks, ends, report.key, read)
+    return "%d units, %d districts, %d people; %d to %d people a district (slack %g %%)%s\n%s; %s\nkey %s%s%s" % (
+        report.units, report.districts, report.population, rules.low, rules.high, rules.slack / 100, limits, walks, ends, report.key, read, both)
 
 
 # ---- drawing
@@ -122,7 +170,8 @@ def draw_tests(axes: Axes, rows: list[Test]) -> None:
     finish(axes, [row.label for row in rows], "Rank tests (the most extreme plan is at the left)")
 
 
-def draw_shift(axes: Axes, shift: Shift) -> None:
+def draw_shift(axes: Axes, shift: Shift, parties: Parties = None) -> None:
+    whose = parties[0] if parties else "The first party"
     whole = sum(shift.counts)
     bars = axes.bar(range(9), shift.counts, color="white", edgecolor="black")
     bars[4].set_hatch("///")
@@ -134,7 +183,8 @@ def draw_shift(axes: Axes, shift: Shift) -> None:
     axes.yaxis.set_major_formatter(lambda count, _place: "%d" % count if count == int(count) else "")
     axes.set_ylabel("visited plans", fontsize=8)
     axes.tick_params(axis="y", labelsize=8)
-    axes.set_title("The first party's seats in the visited plans, against the enacted plan (hatched: as many)", fontsize=9, loc="left")
+    axes.set_title(f"{whose}'s seats in the visited plans, against the enacted plan (hatched: as many)",
+                   fontsize=9, loc="left")
     for side in ("top", "right"):
         axes.spines[side].set_visible(False)
 
@@ -150,32 +200,89 @@ def finish(axes: Axes, labels: list[str], title: str) -> None:
         axes.spines[side].set_visible(False)
 
 
-def draw(report: Report) -> Figure:
-    """The figure of a report, which has a walk or a test. MissingExtra where matplotlib is not installed."""
-    extra("matplotlib")
+class Panel(typing.NamedTuple):
+    """A part of a figure: its height and the room below it, in inches, and what draws it."""
+
+    height: float
+    below: float
+    paint: typing.Callable[[Axes], None]
+
+
+def panels_of(walks: list[Row], tests: list[Test]) -> list[Panel]:
+    """Returns the panels of walks and of rank tests, of which a report may have none."""
+    panels = []
+    if walks:
+        panels.append(Panel(0.3 * len(walks) + 0.15, 0.95, lambda axes: draw_walks(axes, walks)))
+    if tests:
+        panels.append(Panel(0.3 * len(tests) + 0.15, 0.85, lambda axes: draw_tests(axes, tests)))
+    return panels
+
+
+def composed(panels: list[Panel], head: str, title: str | None = None) -> Figure:
+    """Returns a figure of panels, one below the other, under a title and lines of words."""
     from matplotlib.backends.backend_agg import FigureCanvasAgg
     from matplotlib.figure import Figure
 
-    walks, tests = walk_rows(report.walks), test_rows(report)
-    # Each panel: how high it is in inches, how much is left below it, and what draws it.
-    panels: list[tuple[float, float, typing.Callable[[Axes], None]]] = []
-    if walks:
-        panels.append((0.3 * len(walks) + 0.15, 0.95, lambda axes: draw_walks(axes, walks)))
-    if tests:
-        panels.append((0.3 * len(tests) + 0.15, 0.85, lambda axes: draw_tests(axes, tests)))
-    shift = report.shift
-    if shift is not None and sum(shift.counts):
-        panels.append((2, 0.5, lambda axes: draw_shift(axes, typing.cast(Shift, shift))))
     # Three lines of words fit; each further one takes a little more.
-    top = 0.95 + 0.14 * (about(report).count("\n") - 2)
-    whole = top + sum(height + below for height, below, _ in panels)
+    above = 0.0 if title is None else 0.3
+    top = above + 0.95 + 0.14 * (head.count("\n") - 2)
+    whole = top + sum(panel.height + panel.below for panel in panels)
     figure = Figure(figsize=(11, whole))
     FigureCanvasAgg(figure)
     for height, below, paint in panels:
         paint(figure.add_axes((0.2, 1 - (top + height) / whole, 0.52, height / whole)))
         top += height + below
-    figure.text(0.02, 1 - 0.12 / whole, about(report), fontsize=8, va="top")
+    if title is not None:
+        figure.text(0.02, 1 - 0.1 / whole, title, fontsize=12, va="top", weight="bold")
+    figure.text(0.02, 1 - (above + 0.12) / whole, head, fontsize=8, va="top")
     return figure
+
+
+def draw(report: Report, *, ax: Axes | None = None, title: str | None = None, parties: Parties = None,
+         scores: Scores = None) -> Figure:
+    """Returns the figure of a report, or draws its first panel on given Axes; see `Report.plot`.
+
+    MissingExtra where matplotlib is not installed.
+    """
+    extra("matplotlib")
+    report, both = only(report, scores), named_parties(parties)
+    panels = panels_of(walk_rows(report.walks, both), test_rows(report, both))
+    shift = report.shift
+    if ax is not None:
+        panels[0].paint(ax)
+        if title is not None:
+            ax.set_title(title, fontsize=9, loc="left")
+        return ax.figure
+    if shift is not None and any(shift.counts):
+        histogram = shift
+        panels.append(Panel(2, 0.5, lambda axes: draw_shift(axes, histogram, both)))
+    return composed(panels, about(report, both), title)
+
+
+def draw_named(reports: typing.Sequence[tuple[str, Report]], what: str, title: str | None = None,
+               scores: Scores = None, parties: Parties = None) -> Figure:
+    """Returns a figure of several reports: a row for each name and question.
+
+    MissingExtra where matplotlib is not installed.
+    """
+    extra("matplotlib")
+    if not reports:
+        raise ValueError("there is no report to draw")
+    both = named_parties(parties)
+    walks, tests = [], []
+    for name, report in reports:
+        part = only(report, scores)
+        walks += [row._replace(label=f"{name}: {row.label.removesuffix(', walk 0')}")
+                  for row in walk_rows(part.walks, both, 1)]
+        tests += [row._replace(label=f"{name}: {row.label}") for row in test_rows(part, both)]
+    first = reports[0][1]
+    names = ", ".join(name for name, _ in reports)
+    head = (f"{so_many(len(reports), what)}: {names}\n{first.units} units,"
+            f" {so_many(first.setting.walks, 'walk')} of {so_many(first.setting.steps, 'step')},"
+            f" {so_many(first.setting.ends, 'end')} of {so_many(first.setting.hub_steps, 'step')}"
+            f" each\nkey {first.key}")
+    head += f"\nfirst party {both[0]}, second party {both[1]}" if both else ""
+    return composed(panels_of(walks, tests), head, title)
 
 
 def save(figure: Figure, name: str) -> None:

@@ -4,6 +4,7 @@ from __future__ import annotations
 import collections
 import dataclasses
 import decimal
+import html
 import json
 import math
 import numbers
@@ -11,44 +12,12 @@ import typing
 from fractions import Fraction
 
 from . import judging
-from .errors import PrepareRefused
-from .graphs import Label, Pair, Raw, as_json, as_text, hashable, is_missing, is_whole, raw_of, renamed, shown
-
-if typing.TYPE_CHECKING:
-    from typing_extensions import Unpack
+from .arguments import OTHERS, TABLE, documented, plain_words, test_count, test_names, tested_elections
+from .errors import PrepareRefused, TypeRefused
+from .graphs import Label, Pair, Raw, as_json, as_text, hashable, is_missing, is_whole, of_numpy, raw_of, renamed, shown
+from .values import alike_in, faults_in, kind_of, repeated, why_no_label
 
 MOST_BYTES, MOST_VALUE = 67_108_864, 1_000_000_000
-
-
-class More(typing.TypedDict, total=False):
-    """What else may be said to `prepare`."""
-
-    assignment: object
-    """The districts, in place of a column: a dict from units to districts, or a GerryChain Partition or its assignment."""
-    join: typing.Sequence[Pair]
-    """Pairs of units to be made neighbours."""
-    keep: typing.Sequence[str]
-    """Further columns that stay, as they are."""
-    fill_region: Label
-    """The region of each unit that has none."""
-    own_region: bool
-    """Whether each unit that has no region is one of its own."""
-    slack: int
-    """That of the audit, in hundredths of a percent of the ideal population, 500 where it is left out: for telling what would be refused."""
-    max_split: int
-    """That of the audit, 200 where it is left out: for telling what would be refused."""
-    max_splits: int
-    """The same, 995000 where it is left out."""
-    max_split_regions: int
-    """The same, 5000 where it is left out."""
-    group: str
-    """The column of a group of people, in heads."""
-    group_of: str
-    """The column of those of whom the group may be the majority; that of people where it is left out."""
-    group_districts: int
-    """In how many districts the audit asks for a majority, 0 where it is left out: for telling what would be refused."""
-    show_all: bool
-    """Whether notes and refusals have every id, where else they have the first ten."""
 
 
 @dataclasses.dataclass
@@ -75,6 +44,7 @@ class Choices:
     group_of: str | None = None
     group_districts: int = 0
     show_all: bool = False
+    elections: typing.Mapping[str, tuple[str, str]] = dataclasses.field(default_factory=dict)
 
     @property
     def whole(self) -> str:
@@ -84,7 +54,9 @@ class Choices:
     @property
     def counted(self) -> list[str]:
         """The columns of numbers, each once."""
-        return list(dict.fromkeys((self.population, self.first, self.second, *((self.group, self.whole) if self.group else ()))))
+        group = (self.group, self.whole) if self.group else ()
+        votes = [column for both in self.elections.values() for column in both]
+        return list(dict.fromkeys((self.population, self.first, self.second, *votes, *group)))
 
     @property
     def labelled(self) -> list[str]:
@@ -128,7 +100,7 @@ class Changes:
         change.moved += difference
 
 
-@dataclasses.dataclass
+@dataclasses.dataclass(repr=False)
 class Prepared:
     """What `prepare` answers. It may be taken apart as a pair: `data, changes = prepare(..)`."""
 
@@ -149,37 +121,113 @@ class Prepared:
     regions: list[Label]
     """The same of the regions; empty where no column of regions was named."""
     columns: dict[str, str]
-    """The columns that were written, by the program's words: pop, first, second, district, and region, group and group_of where they were named."""
+    """The columns that were written, by the program's words: pop, first, second, district, and region,
+    group and group_of where they were named. With elections, first and second are not among them."""
+    elections: dict[str, tuple[str, str]] = dataclasses.field(default_factory=dict)
+    """The columns of votes by the name of their election; empty where `elections` was left out."""
 
-    def __iter__(self) -> typing.Iterator[object]:
+    def __iter__(self) -> typing.Iterator[typing.Any]:
         return iter((self.data, self.changes))
 
+    def __repr__(self) -> str:
+        state = f"{len(self.refusals)} refusals" if self.refusals else "the auditor accepts it"
+        return (f"<Prepared: {len(self.units)} units, {len(self.districts)} districts,"
+                f" {len(self.changes)} changes, {len(self.warnings)} warnings; {state}>")
 
-def prepare(graph: object, *, population: str, first: str, second: str, district: str | None = None, region: str | None = None,
-            numbers: str = "error", missing: str = "error", **more: Unpack[More]) -> Prepared:
-    """The bytes of a graph that the auditor accepts, and a list of what was changed.
+    def _repr_html_(self) -> str:
+        parts = [f"<p>{html.escape(repr(self)[1:-1])}</p>"]
+        sections: list[tuple[str, typing.Sequence[object]]] = [
+            ("What the auditor would refuse", self.refusals), ("Warnings", self.warnings),
+            ("Changes", self.changes), ("Notes", self.notes)]
+        for title, lines in sections:
+            if lines:
+                items = "".join(f"<li>{html.escape(str(line))}</li>" for line in lines)
+                parts.append(f"<p>{title}</p><ul>{items}</ul>")
+        return "".join(parts)
 
-    `graph` is an object of networkx or GerryChain (anything with `nodes(data=True)` and `adjacency()`), the path of a file (JSON in
-    networkx's adjacency or node-link layout; GraphML and GML where networkx is installed), or the bytes of such a JSON file.
-    `population`, `first` and `second` name the columns of people and of both parties' votes, in heads, `district` that of districts, and
-    `region` one of regions. `group` and `group_of` in `More` name those of a group, in heads, too. `numbers` says what becomes of a number that is not whole: "error" refuses it, "nearest" takes the nearest,
-    halves to the even one, "floor" the greatest that is not above it. `missing` says what becomes of a value that is absent, None, NaN or
-    empty: "error" refuses it, "zero" makes it 0 in a column of people, votes or a group, "drop" leaves its unit out. `More` has what else
-    may be said: `assignment`, `join`, `keep`, `fill_region`, `own_region`, `slack`, the rules of the audit, `show_all`.
 
-    PrepareRefused, a ValueError, where something is refused; its `faults` has a line for each value. MissingExtra, an ImportError, where a
-    file can be read only by networkx, and that is not installed.
+@documented
+def prepare(graph: object, *, population: str, first: str | None = None, second: str | None = None,
+            elections: typing.Mapping[str, tuple[str, str]] | None = None,
+            district: str | None = None, assignment: object = None, region: str | None = None,
+            group: str | None = None, group_of: str | None = None, numbers: str = "error",
+            missing: str = "error", join: typing.Sequence[Pair] = (),
+            keep: typing.Sequence[str] = (), fill_region: Label | None = None,
+            own_region: bool = False, slack: int | None = None, tolerance: float | None = None,
+            max_split: int = 200, max_splits: int = 995_000, max_split_regions: int = 5000, group_districts: int = 0,
+            show_all: bool = False, **unknown: object) -> Prepared:
+    """Makes bytes that the auditor accepts of a graph, and tells of everything that was changed.
+
+    A file is JSON in networkx's adjacency or node-link layout; GraphML and GML are read where
+    networkx is installed. Columns of people, votes and a group are counts of heads. `slack` and the
+    limits are those of the audit, for telling what would be refused.
+
+    PARAMETERS
+
+    Returns
+    -------
+    Prepared
+        `data` goes to the program; `changes`, `warnings`, `notes` and `refusals` say what was done
+        and found.
+
+    Raises
+    ------
+    PrepareRefused
+        A ValueError: something is refused; `faults` has a line for each value, with its unit's id.
+    MissingExtra
+        An ImportError: the file can be read only by networkx, which is not installed.
     """
+    test_names("prepare", unknown, (*TABLE, *OTHERS))
     for name, value, good in (("numbers", numbers, ("error", "nearest", "floor")), ("missing", missing, ("error", "zero", "drop"))):
         if value not in good:
             raise PrepareRefused("%s is one of %s, and not %r" % (name, ", ".join(good), value))
-    if (district is None) == (more.get("assignment") is None):
+    if (district is None) == (assignment is None):
         raise PrepareRefused("either a column of districts or an assignment has to be given")
-    if more.get("group_of") and not more.get("group"):
+    if group_of and not group:
         raise PrepareRefused("group_of is given, and no group is")
-    taken = {population, first, second, region, more.get("group"), more.get("group_of")}
-    choices = Choices(population, first, second, district or free_name(taken), region, numbers, missing, **more)
+    said = plain_words("prepare", {"slack": slack, "tolerance": tolerance})
+    slack = said.get("slack", 500)
+    for name, count in (("slack", slack), ("max_split", max_split), ("max_splits", max_splits),
+                        ("max_split_regions", max_split_regions), ("group_districts", group_districts)):
+        test_count("prepare", TABLE[name], count)
+    votes = votes_of(first, second, elections)
+    fill_region = test_choices(population, votes, district, fill_region, own_region)
+    taken = {population, region, group, group_of, *(column for both in votes.values() for column in both)}
+    one, other = next(iter(votes.values()))
+    choices = Choices(
+        population, one, other, district or free_name(taken), region, numbers, missing, assignment,
+        join, keep, fill_region, own_region, int(slack or 0), max_split, max_splits, max_split_regions, group,
+        group_of, group_districts, show_all, {} if elections is None else votes)
     return prepared(raw_of(graph), choices)
+
+
+def votes_of(first: str | None, second: str | None,
+             elections: typing.Mapping[str, tuple[str, str]] | None) -> dict[str, tuple[str, str]]:
+    """Returns the columns of both parties' votes by the name of their election, '' where there is one."""
+    if elections is not None and (first is not None or second is not None):
+        raise PrepareRefused("elections is given, and first or second too: each election has its own columns")
+    if elections is not None:
+        return tested_elections(elections, False, "prepare")
+    if first is None or second is None:
+        raise TypeRefused("prepare: the argument %s is missing (or elections)" % ("first" if first is None else "second"), "first")
+    return {"": (first, second)}
+
+
+def test_choices(population: str, votes: typing.Mapping[str, tuple[str, str]], district: str | None,
+                 fill_region: Label | None, own_region: bool) -> Label | None:
+    """Refuses what would prepare another audit than the one that is meant; returns `fill_region`."""
+    for first, second in votes.values():
+        if first == second:
+            raise PrepareRefused(f"both parties' votes are the column {first}")
+        if district is not None and district in (population, first, second):
+            raise PrepareRefused(f"the column {district} is named as that of districts and of people or votes")
+    if fill_region is not None:
+        if own_region:
+            raise PrepareRefused("fill_region and own_region are both given: each says what a unit without a region has")
+        fault = "is missing" if is_missing(fill_region) else why_no_label(fill_region)
+        if fault:
+            raise PrepareRefused(f"fill_region, which is {as_json(fill_region)}, {fault}")
+    return fill_region
 
 
 def free_name(taken: typing.Collection[str | None]) -> str:
@@ -204,18 +252,43 @@ def asked_for(nodes: list[dict[str, typing.Any]], choices: Choices) -> None:
 
 def with_assignment(nodes: list[dict[str, typing.Any]], choices: Choices) -> list[dict[str, typing.Any]]:
     """The units with the districts of an assignment."""
-    given = choices.assignment
+    given: typing.Any = choices.assignment
     if given is None:
         return nodes
     while not hasattr(given, "items") and hasattr(given, "assignment"):
         given = given.assignment
     if not hasattr(given, "items"):
         raise PrepareRefused("an assignment is a dict from units to districts, or has items() as one, and this is %s" % type(given).__name__)
-    left = dict(given.items())
+    if hasattr(given, "columns"):
+        raise PrepareRefused("an assignment is one column, and this is a whole %s: name one of its columns" % type(given).__name__)
+    pairs = list(given.items())
+    test_units(pairs)
+    left = dict(pairs)
     found = [{**node, choices.district: left.pop(hashable(node.get("id")), None)} for node in nodes]
     if left:
-        raise PrepareRefused("the assignment names what is no unit: %s" % shown(left))
+        raise PrepareRefused("the assignment names what is no unit: %s%s" % (shown(left), hint_of_kind(left, nodes)))
     return found
+
+
+def test_units(pairs: typing.Sequence[tuple[object, object]]) -> None:
+    """Refuses an assignment with an id that is missing or unusable, or that stands there twice."""
+    ids = [unit for unit, _ in pairs]
+    faults = [f"the id in place {place} is missing" for place, unit in enumerate(ids) if is_missing(unit)]
+    faults += [f"{as_json(unit)} is no id of a unit" for unit in ids if not is_missing(unit) and kind_of(unit) is None]
+    if not faults:
+        faults = [f"unit {as_json(unit)} has several districts" for unit in repeated(ids)]
+    if faults:
+        raise PrepareRefused(f"{len(faults)} units of the assignment are refused", faults)
+
+
+def hint_of_kind(left: typing.Iterable[object], nodes: list[dict[str, typing.Any]]) -> str:
+    """Says which kinds the ids have, where they would be the same as texts."""
+    by_text = {as_text(node["id"]): node["id"] for node in nodes if not is_missing(node.get("id"))}
+    for one in left:
+        other = by_text.get(as_text(one))
+        if other is not None:
+            return f" ({as_json(one)} is a {kind_of(one)}, and the graph's {as_json(other)} a {kind_of(other)})"
+    return ""
 
 
 # ---- numbers
@@ -262,9 +335,20 @@ class Rows:
         stays += [self.label(name, node, column, row) for column in self.choices.labelled]
         for column in self.choices.keep:
             if column in node:
-                row[column] = node[column]
+                self.kept(name, node[column], column, row)
         if all(stays):
             self.rows[name] = row
+
+    def kept(self, name: Label, value: object, column: str, row: dict[str, typing.Any]) -> None:
+        """Writes a value that is kept and not audited; a missing one as null, which is told."""
+        if is_missing(value):
+            row[column] = None
+            self.changes.add(f"column {column}, which is kept: missing values written as null", name)
+            return
+        try:
+            row[column] = json.loads(json.dumps(value, default=of_numpy, allow_nan=False))
+        except ValueError:
+            self.faults.append(f"unit {as_json(name)}: {column}, which is {as_json(value)}, cannot be kept: JSON has no such value")
 
     def drop(self, name: Label, column: str) -> bool:
         self.changes.add("units left out, for a missing %s" % column, name, is_of_values=True)
@@ -389,9 +473,15 @@ def names_of(raw: Raw, changes: Changes) -> tuple[list[Label], typing.Callable[[
     if changed:
         changes.add("ids: some are neither texts nor whole numbers, so all are written as texts")
     names = [name_of(one) for one in ids]
+    faults = [f"node {place} has {as_json(one)}, which is no id of a unit" for place, one in enumerate(ids) if kind_of(one) is None]
+    if faults:
+        raise PrepareRefused(f"{len(faults)} ids are refused", faults)
     twice = [name for name, count in collections.Counter(names).items() if count > 1]
     if twice:
         raise PrepareRefused("several units have the same id: %s" % shown(twice))
+    twice = typing.cast(typing.List[Label], repeated(names))
+    if twice:
+        raise PrepareRefused("several units have ids that differ only in their kind, as 1 and \"1\" do: %s" % shown(twice))
     return names, name_of
 
 
@@ -399,10 +489,33 @@ def labels_in(nodes: list[dict[str, typing.Any]], choices: Choices, changes: Cha
     """How the labels of each column come from those of the graph."""
     found = {}
     for column in choices.labelled:
-        found[column], changed = renamed([node[column] for node in nodes if not is_missing(node.get(column))])
+        there = [node[column] for node in nodes if not is_missing(node.get(column))]
+        filled = [choices.fill_region] if column == choices.region and choices.fill_region is not None and len(there) < len(nodes) else []
+        found[column], changed = renamed([*there, *filled])
         if changed:
             changes.add("labels in %s: some are neither texts nor whole numbers, so all are written as texts" % column)
+        elif is_mixed_by_choice(nodes, column, there, choices):
+            found[column] = as_text
+            changes.add("labels in %s: written as texts, since those of units without a region are" % column)
     return found
+
+
+def is_mixed_by_choice(nodes: list[dict[str, typing.Any]], column: str, there: list[object], choices: Choices) -> bool:
+    """Whether a region that units without one get is of another kind than the other regions."""
+    if column != choices.region or len(there) == len(nodes):
+        return False
+    if choices.fill_region is not None:
+        return len({kind_of(value) for value in (*there, choices.fill_region)}) > 1
+    return choices.own_region and {kind_of(value) for value in there} != {"text"}
+
+
+def faults_of_labels(names: list[Label], nodes: list[dict[str, typing.Any]], choices: Choices) -> list[str]:
+    """A line for each unit whose district or region is unusable, or would be mistaken for another."""
+    faults = []
+    for column in choices.labelled:
+        labels = [(name, node.get(column)) for name, node in zip(names, nodes)]
+        faults += faults_in(labels, column)
+    return faults
 
 
 def prepared(raw: Raw, choices: Choices) -> Prepared:
@@ -413,8 +526,11 @@ def prepared(raw: Raw, choices: Choices) -> Prepared:
     asked_for(nodes, choices)
     names, name_of = names_of(raw, changes)
     taken = Rows(choices, labels_in(nodes, choices, changes), changes)
+    taken.faults += faults_of_labels(names, nodes, choices)
     for name, node in zip(names, nodes):
         taken.take(name, node)
+    if not taken.faults and choices.region:
+        taken.faults += alike_in([(name, row[choices.region]) for name, row in taken.rows.items()], choices.region)
     if taken.faults:
         raise PrepareRefused("%d values are refused" % len(taken.faults), taken.faults)
     rows = taken.rows
@@ -430,9 +546,11 @@ def prepared(raw: Raw, choices: Choices) -> Prepared:
     judged = judging.Judged(rows, neighbours, choices)
     refusals = judged.refusals + (["more than %d bytes" % MOST_BYTES] if len(data) > MOST_BYTES else [])
     columns = dict(zip(("pop", "first", "second", "district", "region"), (choices.population, choices.first, choices.second, *choices.labelled)))
+    if choices.elections:
+        del columns["first"], columns["second"]
     columns.update({name: column for name, column in (("group", choices.group), ("group_of", choices.group_of)) if column})
     return Prepared(data, list(changes.by_kind.values()), judged.notes, suspicions(choices, rows, taken.before), refusals, list(rows),
-                    judged.districts, judged.regions, columns)
+                    judged.districts, judged.regions, columns, dict(choices.elections))
 
 
 def data_of(rows: dict[Label, dict[str, typing.Any]], neighbours: dict[Label, list[Label]]) -> bytes:

@@ -34,7 +34,7 @@ def found(which: str, given: PathLike | None = None) -> str:
         path = shutil.which(name)
         if path is not None:
             return str(pathlib.Path(path).absolute())
-    raise ProgramMissing("there is no %s in the folders of PATH: examples/install.sh FOLDER leaves it in a folder, and the variable %s may name it"
+    raise ProgramMissing("there is no %s in the folders of PATH: scripts/install.sh FOLDER leaves it in a folder, and the variable %s may name it"
                          % (names[0], variable))
 
 

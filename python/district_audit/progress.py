@@ -1,5 +1,9 @@
-"""How far a run is, by the second program, `audit_slots`: it tells how many trajectories are saved, and nothing of what was found, since
-whoever looks at a test before its end, and may stop it there, spoils it."""
+"""Shows how far a run is: how many trajectories are saved, and nothing of what was found.
+
+Whoever looks at a test before its end, and may stop it there, spoils it. How many are saved is read
+from the checkpoints, or asked of the program `audit_slots`. A run that saves nothing shows how long
+it has taken.
+"""
 from __future__ import annotations
 
 import re
@@ -51,7 +55,8 @@ class TqdmBar:
     """The same by tqdm, which also draws in notebooks."""
 
     def __init__(self, tqdm: typing.Any) -> None:
-        self.tqdm, self.bar = tqdm, None
+        self.tqdm = tqdm
+        self.bar: typing.Any = None
 
     def show(self, done: int, total: int) -> None:
         if self.bar is None:
@@ -90,6 +95,34 @@ def look(program: str, words: typing.Sequence[str], data: bytes, folder: PathLik
     found = re.search(r"^done: ([0-9]+) of ([0-9]+)$", text, re.MULTILINE)
     slots = "\n".join(line for line in text.splitlines() if line.startswith("slot "))
     return Look(slots, int(found[1]), int(found[2])) if found else Look(slots, None, None)
+
+
+class Clock:
+    """Shows how long a run has taken that saves nothing: in one line of a terminal, and elsewhere in a
+    line after 10 seconds, and each time that the time has doubled."""
+
+    def __init__(self, total: int, stream: typing.TextIO | None = None) -> None:
+        self.stream = stream or sys.stderr
+        self.is_terminal = self.stream.isatty()
+        self.total, self.began = total, time.monotonic()
+        self.due = 1.0 if self.is_terminal else 10.0
+        self.has_shown = False
+        self.done = 0
+
+    def __call__(self, _process: object = None) -> None:
+        seconds = time.monotonic() - self.began
+        if seconds < self.due:
+            return
+        self.due = seconds + 1 if self.is_terminal else 2 * seconds
+        text = f"walking {self.total} trajectories for {seconds:.0f} s (save=1 shows how many are done)"
+        self.stream.write(f"\r{text} " if self.is_terminal else text + "\n")
+        self.stream.flush()
+        self.has_shown = True
+
+    def end(self) -> None:
+        if self.is_terminal and self.has_shown:
+            self.stream.write("\n")
+            self.stream.flush()
 
 
 class Watch:

@@ -6,6 +6,7 @@ again, byte for byte. Counts are `int`, scores `Start` (which is never shortened
 """
 from __future__ import annotations
 
+import builtins
 import dataclasses
 import hashlib
 import html
@@ -16,11 +17,19 @@ import typing
 from decimal import Decimal
 from fractions import Fraction
 
+from .effect import Effect, Number, test_effects
 from .errors import ReportRefused, extra
 
 if typing.TYPE_CHECKING:
+    import os
+
+    import matplotlib.axes
     import matplotlib.figure
     import pandas
+
+    from .districts import District, Plan
+
+    PathLike = typing.Union[str, "os.PathLike[str]"]
 
 BILLION = 10 ** 9
 MOST_UNITS, MOST_EDGES, MOST_DISTRICTS, MOST_REGIONS, MOST_TRAJECTORIES, MOST_CUT, MOST_SLACK = 100_000, 400_000, 200, 5000, 100_000, 400_000, 10_000
@@ -71,9 +80,9 @@ class Rules:
     def told_further(self) -> list[str]:
         """Those on splits in all, on split regions and on a group's majorities."""
         is_few = self.max_splits is not None and self.max_splits < MOST_SPLITS
-        said = ["at most %d splits of regions in all" % self.max_splits] if is_few else []
+        said = [f"at most {self.max_splits} splits of regions in all"] if is_few else []
         is_few = self.max_split_regions is not None and self.max_split_regions < MOST_REGIONS
-        said += ["at most %d regions in more than one district" % self.max_split_regions] if is_few else []
+        said += [f"at most {self.max_split_regions} regions in more than one district"] if is_few else []
         return said + ([] if self.group_districts is None else ["the group has a majority in %d districts, and has to have one in %d" % (
             self.majorities or 0, self.group_districts)])
 
@@ -103,7 +112,7 @@ class Source:
         words += [] if self.group is None else ["group", quoted(self.group), "of", quoted(self.group_of or "")]
         return ["source sha256 %s bytes %d" % (self.sha256, self.bytes), " ".join(words)]
 
-    def is_of(self, data: bytes) -> bool:
+    def is_of(self, data: builtins.bytes) -> bool:
         """Whether these are the bytes that were read."""
         return len(data) == self.bytes and hashlib.sha256(data).hexdigest() == self.sha256
 
@@ -139,6 +148,11 @@ class Start:
     @property
     def fraction(self) -> Fraction:
         return Fraction(self.numerator, self.denominator)
+
+    @property
+    def decimal(self) -> float:
+        """The score as a decimal number, for people; `fraction` is exact."""
+        return self.numerator / self.denominator
 
     def __str__(self) -> str:
         return "%d/%d" % (self.numerator, self.denominator)
@@ -325,7 +339,9 @@ def source_of(lines: Reader) -> Source | None:
     lines.ask_that(words in ([], ["region"], ["group", "of"], ["region", "group", "of"]), "such columns are not told")
     found = dict(zip(words, names[4:]))
     lines.ask_that("" not in (found.get("region"), found.get("group")) and (found.get("of") != "" or names[0] == ""), "a column without a name is not told")
-    return Source(sha256, int(count), *names[:4], region=found.get("region"), group=found.get("group"), group_of=found.get("of"))
+    population, first, second, district = names[:4]
+    return Source(sha256, int(count), population, first, second, district, found.get("region"),
+                  found.get("group"), found.get("of"))
 
 
 def columns_in(lines: Reader, said: str) -> tuple[list[str], list[str]]:
@@ -478,7 +494,8 @@ class Tests:
         found: list[Walk] = []
         for ask in self.asks:
             start, words = self.line(ask, "walk N moved N A count N of N bound Z", "walk j moved v SCORE TAIL start x/y count c of q bound z")
-            walk = Walk(*ask, start, *map(int, words[:4]), bound=Decimal(words[4]))
+            of_walk, moved, count, of = map(int, words[:4])
+            walk = Walk(*ask, start, of_walk, moved, count, of, Decimal(words[4]))
             found.append(walk)
             self.lines.ask_that(walk.number == number, "it is walk %d's turn here" % number)
             self.lines.ask_that(walk.moved == found[0].moved and walk.moved <= self.setting.steps, "no such number of steps moved")
@@ -502,7 +519,8 @@ class Tests:
         found, enough, ends = [], self.setting.stop, self.setting.ends
         for ask in self.asks:
             start, words = self.line(ask, "stop A place N value N/N p Z", "stop SCORE TAIL start x/y place l value t/o p z")
-            stop = Stop(*ask, start, *map(int, words[:3]), p=Decimal(words[3]))
+            place, top, of = map(int, words[:3])
+            stop = Stop(*ask, start, place, top, of, Decimal(words[3]))
             early = stop.top == enough and stop.of == stop.place and enough <= stop.place <= ends
             late = 1 <= stop.top <= enough and stop.of == ends + 1 and stop.place == ends
             self.lines.ask_that(early or late, "no test stops so")
@@ -514,7 +532,7 @@ class Tests:
         found, of = [], self.setting.ends + 1
         for ask in self.asks:
             start, words = self.line(ask, "ends A rank N of N p Z", "ends SCORE TAIL start x/y rank g of q p z")
-            one = Ends(*ask, start, *map(int, words[:2]), p=Decimal(words[2]))
+            one = Ends(*ask, start, int(words[0]), int(words[1]), Decimal(words[2]))
             self.rank_that_is(one.rank, one.of, of, one.p)
             found.append(one)
         self.both_tails(found, [one.rank for one in found], of + 1)
@@ -524,7 +542,7 @@ class Tests:
         found, of = [], self.setting.steps + 1
         for ask in self.asks:
             start, words = self.line(ask, "serial A place N rank N of N p Z", "serial SCORE TAIL start x/y place t rank g of q p z")
-            one = Serial(*ask, start, *map(int, words[:3]), p=Decimal(words[3]))
+            one = Serial(*ask, start, int(words[0]), int(words[1]), int(words[2]), Decimal(words[3]))
             found.append(one)
             self.lines.ask_that(of & of - 1 == 0, "a serial run has a power of two of plans")
             self.lines.ask_that(one.place == found[0].place and one.place < of, "the start has no such place")
@@ -537,17 +555,32 @@ class Tests:
         self.lines.ask_that(p == rounded_up(rank, of), "p is not that of the rank")
 
 
+def asked(test: str, line: Line) -> dict[str, object]:
+    """Returns what each row of a frame has: the test, the question, and the start's score."""
+    return {"test": test, "ask": line.ask, "score": line.score, "tail": line.tail, "start": line.start}
+
+
 # ---- the texts
 
-def table(rows: typing.Sequence[typing.Sequence[object]], titles: typing.Sequence[str]) -> str:
-    """A plain table in HTML."""
-    cells = "".join("<tr>%s</tr>" % "".join("<td>%s</td>" % html.escape("" if it is None else str(it)) for it in row) for row in rows)
+def with_decimal(row: typing.Sequence[object]) -> list[object]:
+    """Returns a row whose score has its decimals beside the fraction, where it is no whole number."""
+    return [f"{cell} = {cell.decimal:.6g}" if isinstance(cell, Start) and cell.denominator != 1 else cell
+            for cell in row]
+
+
+def table(rows: typing.Iterable[typing.Sequence[object]], titles: typing.Sequence[str]) -> str:
+    """Returns a plain table in HTML."""
+    cells = "".join("<tr>%s</tr>" % "".join("<td>%s</td>" % html.escape("" if cell is None else str(cell)) for cell in row) for row in rows)
     return "<table><thead><tr>%s</tr></thead><tbody>%s</tbody></table>" % ("".join("<th>%s</th>" % html.escape(title) for title in titles), cells)
 
 
-@dataclasses.dataclass(frozen=True)
+@dataclasses.dataclass(frozen=True, repr=False)
 class PlanCheck:
-    """The text of `check`: the plan is legal. Populations are numbers of people."""
+    """The text of `check`: the plan is legal. Populations are numbers of people.
+
+    From `check` it also has the table of the districts, and with strict=False the faults of a plan
+    that the program refused.
+    """
 
     units: int
     edges: int
@@ -556,6 +589,64 @@ class PlanCheck:
     rules: Rules
     source: Source | None = None
     """What was read; None where that is not told."""
+    table: tuple[District, ...] = dataclasses.field(default=(), compare=False)
+    """The districts, by their numbers. The package computes them; a text alone has none."""
+    cut_edges: int | None = dataclasses.field(default=None, compare=False)
+    """How many edges lie between two districts; None of a text alone."""
+    faults: tuple[str, ...] = ()
+    """Every fault of the plan, in the user's labels; empty where the program found it legal."""
+
+    @property
+    def is_legal(self) -> bool:
+        """Whether the program found the plan legal."""
+        return not self.faults
+
+    def with_plan(self, plan: Plan) -> PlanCheck:
+        """Adds the districts to what the program wrote."""
+        return dataclasses.replace(self, table=plan.districts, cut_edges=plan.cut_edges)
+
+    @classmethod
+    def of_plan(cls, plan: Plan, edges: int, rules: Rules) -> PlanCheck:
+        """Returns what is known of a plan that the program refused."""
+        units, population = (sum(getattr(one, name) for one in plan.districts)
+                             for name in ("units", "population"))
+        return cls(units, edges, len(plan.districts), population, rules, None, plan.districts,
+                   plan.cut_edges, plan.faults)
+
+    def to_frame(self, exact: bool = False) -> pandas.DataFrame:
+        """Returns a pandas DataFrame with a row for each district.
+
+        `district` is its label, `number` its number to the auditor; `units`, `population`, `first`,
+        `second`, `group` and `group_of` are counts; `deviation` is in people, and `deviation_share`
+        a part of the ideal population; `first_share` is the first party's part of both parties'
+        votes, `group_share` the group's part of `group_of`; `regions` is the number of regions in
+        which the district lies, and `split_regions` how many of these lie in others, too; `parts` is
+        the number of its contiguous parts. Shares are floats; with exact=True they are Fraction.
+
+        MissingExtra, an ImportError, where pandas is not installed.
+        """
+        from . import districts
+        frame = extra("pandas").DataFrame(districts.rows_of(self.table, exact),
+                                          columns=list(districts.COLUMNS))
+        whole = [name for name in districts.COLUMNS
+                 if name not in ("district", "deviation") and not name.endswith("share")]
+        return frame.astype({name: "Int64" for name in whole})
+
+    def __repr__(self) -> str:
+        state = "legal" if self.is_legal else f"{len(self.faults)} faults"
+        return (f"<PlanCheck: {state}, {self.units} units, {self.districts} districts,"
+                f" {self.population} people>")
+
+    def _repr_html_(self) -> str:
+        from . import districts
+        rules = self.rules
+        about = (f"{self.units} units, {self.edges} edges, {self.districts} districts,"
+                 f" {self.population} people; {rules.low} to {rules.high} people a district")
+        about += "" if self.cut_edges is None else f"; {self.cut_edges} cut edges"
+        faults = "".join(f"<li>{html.escape(fault)}</li>" for fault in self.faults)
+        titles, rows = districts.shown_rows(self.table)
+        state = f"The plan is refused:<ul>{faults}</ul>" if faults else "The plan is legal."
+        return f"<p>{html.escape(about)}</p><div>{state}</div>" + (table(rows, titles) if rows else "")
 
     @classmethod
     def parse(cls, text: str) -> PlanCheck:
@@ -568,6 +659,8 @@ class PlanCheck:
         return cls(*head, source)
 
     def __str__(self) -> str:
+        if self.faults:
+            return "\n".join(["the plan is refused:", *self.faults, ""])
         head = Head(self.units, self.edges, self.districts, self.population, self.rules)
         return "\n".join(["plan-check 1", *([] if self.source is None else self.source.lines()), *head.lines(), "end", ""])
 
@@ -580,9 +673,13 @@ def finish(lines: Reader) -> None:
 
 
 COLUMNS = ("test", "walk", "ask", "start", "moved", "place", "count", "of", "bound", "p")
+# The columns of a frame, each with one meaning, and those of them that are whole numbers.
+FRAME = ("test", "walk", "ask", "score", "tail", "start", "moved", "visited", "in_tail", "share", "bound",
+         "rank", "of", "stopped_after", "start_place", "p")
+WHOLE_COLUMNS = ("walk", "moved", "visited", "in_tail", "rank", "of", "stopped_after", "start_place")
 
 
-@dataclasses.dataclass(frozen=True)
+@dataclasses.dataclass(frozen=True, repr=False)
 class Report:
     """A report. `str` of it is its text, byte for byte."""
 
@@ -668,9 +765,35 @@ class Report:
         rows += [("ends", None, it.ask, it.start, None, None, it.rank, it.of, None, it.p) for it in self.ends]
         return rows + [("serial", None, it.ask, it.start, None, it.place, it.rank, it.of, None, it.p) for it in self.serial]
 
+    def named_rows(self) -> list[dict[str, object]]:
+        """Returns a row for each line of a test, by the names in `FRAME`."""
+        rows: list[dict[str, object]] = []
+        for walk in self.walks:
+            rows.append(dict(walk=walk.number, moved=walk.moved, visited=walk.of, in_tail=walk.count,
+                             share=walk.part, bound=walk.bound, **asked("walk", walk)))
+        for stop in self.stops:
+            rows.append(dict(rank=stop.top, of=stop.of, stopped_after=stop.place, p=stop.p,
+                             **asked("stop", stop)))
+        for one in self.ends:
+            rows.append(dict(rank=one.rank, of=one.of, p=one.p, **asked("ends", one)))
+        for run in self.serial:
+            rows.append(dict(rank=run.rank, of=run.of, start_place=run.place, p=run.p,
+                             **asked("serial", run)))
+        return rows
+
     def to_frame(self, exact: bool = False) -> pandas.DataFrame:
-        """A pandas DataFrame with a row for each line of a test. `count` is the count of a walk, the rank of a parallel or serial test, and
-        the top of a sequential test's value. Starts, bounds and p-values are floats; with exact=True they are Fraction and Decimal.
+        """Returns a pandas DataFrame with a row for each line of a test.
+
+        `test` is walk, stop, ends or serial; `ask` is `score`, a colon and `tail`; `start` is the
+        enacted plan's score. Of a walk: `walk` is its number, `moved` the number of steps that changed
+        the plan, `visited` the number of plans visited, `in_tail` how many of them are as extreme as
+        the enacted plan, itself among them, `share` their part, and `bound` the report's bound. Of
+        the other tests: `rank` of `of` is the enacted plan's rank, and `p` the p-value; of a test
+        that stops early these are the two numbers of its value, and `stopped_after` the number of
+        ends that it took; `start_place` is the enacted plan's place in a serial run, from 0.
+
+        Whole numbers are nullable integers (Int64): what a test does not have is NA. Scores, bounds
+        and p-values are floats; with exact=True they are Fraction and Decimal.
 
         MissingExtra, an ImportError, where pandas is not installed.
         """
@@ -681,18 +804,119 @@ class Report:
                 value = value.fraction
             return float(value) if isinstance(value, (Fraction, Decimal)) and not exact else value
 
-        return pandas.DataFrame([[plain(value) for value in row] for row in self.rows()], columns=list(COLUMNS))
+        rows = [[plain(row.get(name)) for name in FRAME] for row in self.named_rows()]
+        return pandas.DataFrame(rows, columns=list(FRAME)).astype({name: "Int64" for name in WHOLE_COLUMNS})
 
-    def plot(self, name: str | None = None) -> matplotlib.figure.Figure:
-        """A picture of the report, as a matplotlib figure; with a name it is written to NAME.png and NAME.svg, too.
+    def effect(self, epsilon: Number, alpha: Number) -> dict[str, Effect]:
+        """Returns, for each ask, the test that separates an effect's size from its significance.
 
-        MissingExtra, an ImportError, where matplotlib is not installed.
+        A walk shows the enacted plan as an epsilon-outlier if its `count` is at most epsilon times
+        its `of`; the enacted plan itself is in the count. The result says on how many of the m
+        walks that is so, and bounds the chance of that many or more for a plan that is not among
+        the alpha most fragile legal plans: P(X >= that many), where X is binomial of m trials
+        with chance sqrt(2 epsilon / alpha) each. `p` is that tail, computed in exact arithmetic
+        and rounded up at nine places. A plan's fragility is its chance to be an epsilon-outlier
+        on a walk from it.
+
+        Parameters
+        ----------
+        epsilon : Fraction, Decimal, str or int
+            At least 1 / (steps + 1) and at most 1, as "0.0001" or "1/10000".
+        alpha : Fraction, Decimal, str or int
+            Above 0 and at most 1. At 2 epsilon and below the bound is 1 and says nothing.
+
+        Returns
+        -------
+        dict of str to Effect
+            By ask, as "cut-edges:low", in the report's order.
+
+        Conditions: fix epsilon, alpha, the asks, and the number and length of the walks before
+        the run. The enacted plan need not be random. The walks have to be, and independent of
+        each other, which rests on the key. If several asks, epsilons or alphas are tried,
+        multiply the least p by their number.
+
+        TypeError for a float (give it as a text) and other types; ValueError for a number out of
+        range and for a report without walks.
+
+        Source: Chikina, Frieze, Mattingly and Pegden, 'Separating effect from significance in
+        Markov chain tests', Statistics and Public Policy 7 (2020).
+        """
+        return test_effects(self, epsilon, alpha)
+
+    def exhibit(self, path: PathLike, *, title: str = "Outlier test of a districting plan",
+                parties: tuple[str, str] | None = None, graph: object = None,
+                columns: typing.Mapping[str, str] | None = None, command: str | None = None,
+                notes: typing.Sequence[str] = (), epsilon: Number | None = None,
+                alpha: Number | None = None) -> None:
+        """Writes the report as one self-contained page of HTML, for a court.
+
+        The page has the questions and definitions, the methods, the numbers, figures, the theorems
+        with their assumption, what the report does not say, hashes, the command, and the report in
+        full. It loads nothing and prints in black and white.
+
+        Parameters
+        ----------
+        path : path
+            The file to write, as "exhibit.html".
+        title : str
+            The heading of the page.
+        parties : tuple of two str
+            The names of the parties, in the order of the columns `first` and `second`.
+        graph : Prepared, bytes, path, or a graph of networkx or GerryChain
+            The graph of the report, for a table of the enacted plan's districts.
+        columns : dict
+            The columns by the words pop, first, second, district, region, group and group_of; if
+            left out, those of a Prepared graph or of the report's own line.
+        command : str
+            The command to print; if left out, it is written from the report.
+        notes : sequence of str
+            Paragraphs of your own below the heading: the data, the plan, how the key was chosen.
+        epsilon, alpha : Fraction, Decimal, str or int
+            With both, the page has the test of `effect` too.
+
+        ValueError if the graph or its bytes are not those of the report.
+        """
+        from . import exhibit
+        options = exhibit.Options(title, parties, graph, columns, command, notes, epsilon, alpha)
+        exhibit.write(path, [("", self)], options)
+
+    def plot(self, name: str | None = None, *, ax: matplotlib.axes.Axes | None = None, title: str | None = None,
+             parties: typing.Sequence[str] | None = None,
+             scores: typing.Sequence[str] | str | None = None) -> matplotlib.figure.Figure:
+        """Draws the report, and returns the matplotlib figure.
+
+        Parameters
+        ----------
+        name : str, optional
+            The figure is written to NAME.png and NAME.svg, too.
+        ax : matplotlib Axes, optional
+            The first panel alone, the walks or else the rank tests, is drawn there.
+        title : str, optional
+            What stands above the figure, or above the Axes.
+        parties : pair of str, optional
+            The names of the first and the second party.
+        scores : str or list of str, optional
+            The scores, as "seats", or questions, as "gap:high", that are drawn; all where left out.
+
+        Raises
+        ------
+        ValueError
+            No line of the report has one of these scores.
+        MissingExtra
+            An ImportError, where matplotlib is not installed.
         """
         from . import picture
-        figure = picture.draw(self)
+        figure = picture.draw(self, ax=ax, title=title, parties=parties, scores=scores)
         if name is not None:
             picture.save(figure, name)
         return figure
+
+    def __repr__(self) -> str:
+        setting = self.setting
+        walked = [f"{setting.walks} walks of {setting.steps} steps"] if setting.walks else []
+        walked += [f"{setting.ends} ends of {setting.hub_steps} steps"] if setting.ends else []
+        return (f"<Report: {self.units} units, {self.districts} districts, {', '.join(walked)};"
+                f" {', '.join(self.asks)}; key {self.key[:8]}..>")
 
     def _repr_html_(self) -> str:
         rules = self.rules
@@ -701,4 +925,4 @@ class Report:
             "; ".join(["%d to %d people a district" % (rules.low, rules.high), *rules.told(), *rules.told_further()]), self.key)
         about += "" if self.source is None else "; source sha256 %s, %d bytes" % (self.source.sha256, self.source.bytes)
         shift = "" if self.shift is None else table([self.shift.counts], ["seats " + word for word in SEATS])
-        return "<p>%s</p>%s%s" % (html.escape(about), table(self.rows(), COLUMNS), shift)
+        return "<p>%s</p>%s%s" % (html.escape(about), table(map(with_decimal, self.rows()), COLUMNS), shift)

@@ -41,6 +41,25 @@ class CheckWords(typing.TypedDict, total=False):
     """Whether the text tells the SHA-256 of what was read, and the columns."""
 
 
+class TraceWords(CheckWords, total=False):
+    """The words of `trace`: those of `run` that say the job. `ids` and `thin` are arguments of the
+    call itself."""
+
+    key: Key
+    """The key of all draws: 64 hexadecimal digits, or 32 bytes."""
+    ask: Ask
+    """The scores that the program computes for each plan, as "gap:low,cut-edges:high" or a list."""
+    walks: int
+    """How many outlier trajectories: 0 to 100000, 1 where it is left out."""
+    steps: int
+    """The steps of each: 1 to 1000000000, 1000 where it is left out."""
+    ends: int
+    """How many trajectories of the parallel test: 0 to 100000, 0 where it is left out."""
+    hub_steps: int
+    """The steps to the hub, and of each of these trajectories: 1 to 1000000000, 1000 where it is
+    left out."""
+
+
 class PlansWords(CheckWords, total=False):
     """The words of `plans`."""
 
@@ -95,7 +114,7 @@ def key_of(text: str) -> str:
 
 def word_of(value: object) -> str:
     """A value as the program takes it: yes or no, digits, hexadecimal digits, or parts joined by commas."""
-    if isinstance(value, bool):
+    if type(value).__name__ in ("bool", "bool_"):
         return "yes" if value else "no"
     if isinstance(value, (bytes, bytearray)):
         return bytes(value).hex()

@@ -9,9 +9,11 @@ import stat
 import sys
 import tempfile
 import unittest
+import warnings
 
 TOP = pathlib.Path(__file__).resolve().parent.parent.parent
 sys.path.insert(0, str(TOP / "python"))
+import district_audit  # noqa: E402
 
 EXAMPLES = TOP / "examples"
 CASES = TOP / "crates" / "audit_cases"
@@ -56,6 +58,8 @@ class FolderCase(unittest.TestCase):
     """Tests that each have an empty folder."""
 
     def setUp(self):
+        # Walks of a few steps, as tests take them, change few units.
+        warnings.simplefilter("ignore", district_audit.FrozenWalk)
         room = tempfile.TemporaryDirectory()
         self.addCleanup(room.cleanup)
         self.folder = pathlib.Path(room.name)
@@ -67,6 +71,14 @@ class ProgramCase(FolderCase):
     def setUp(self):
         super().setUp()
         self.program = built("audit_program", "DISTRICT_AUDIT")
+
+    def with_little_memory(self):
+        """A program that gets too little memory; a build with the address sanitizer reserves
+        terabytes, and is refused what it asks for in another way."""
+        if b"AddressSanitizer" in pathlib.Path(self.program).read_bytes():
+            few = "allocator_may_return_null=1:max_allocation_size_mb=1:log_path=%s" % (self.folder / "log")
+            return self.wrapper("ASAN_OPTIONS=%s exec PROGRAM" % few)
+        return self.wrapper("ulimit -v 60000; exec PROGRAM")
 
     def wrapper(self, line):
         """A program that runs the real one under other circumstances; in the line, PROGRAM stands for it with its words."""
@@ -109,7 +121,7 @@ class StandInPartition:
 
 
 def example(name):
-    return json.loads((EXAMPLES / name).read_text(encoding="utf-8"))
+    return json.loads((EXAMPLES / "data" / name).read_text(encoding="utf-8"))
 
 
 def readme_report():

@@ -12,10 +12,10 @@ import warnings
 
 import common
 import district_audit
-from district_audit import commands, progress
+from district_audit import checkpoints, commands, progress
 from district_audit.words import words_of
 
-CYCLE = common.EXAMPLES / "cycle.json"
+CYCLE = common.EXAMPLES / "data" / "cycle.json"
 # A run that takes long enough to be stopped in its midst, and saves often.
 LONG = {**common.WALK, "walks": 20000, "steps": 20000}
 GRID = dict(pop="TOTPOP", first="DEM", second="REP")
@@ -63,11 +63,21 @@ class Calls(common.ProgramCase):
     def test_an_assignment_stands_for_a_column(self):
         root = common.example("grid.json")
         words = dict(slack=1000, key=common.KEY, steps=500, ask="cut-edges:low,seats:high", program=self.program)
-        report = district_audit.run(common.EXAMPLES / "grid.json", **ROUGH, **words)
+        report = district_audit.run(common.EXAMPLES / "data" / "grid.json", **ROUGH, **words)
         partition = common.StandInPartition({node["id"]: node["CD"] for node in root["nodes"]})
         self.assertEqual(district_audit.run(common.StandInGraph(root), **GRID, assignment=partition, **words), report)
-        self.assertEqual(district_audit.run(district_audit.prepare(common.EXAMPLES / "grid.json", population="TOTPOP", first="DEM", second="REP", district="CD"),
+        self.assertEqual(district_audit.run(district_audit.prepare(common.EXAMPLES / "data" / "grid.json", population="TOTPOP", first="DEM", second="REP", district="CD"),
                                             assignment=partition, **words), report)
+
+    def test_a_plan_of_a_table_is_that_of_a_column(self):
+        """With ten districts and more, too, where texts have another order than numbers."""
+        graph = common.StandInGraph(common.example("nc.json"))
+        plan = {node["id"]: int(node["PLAN11"]) for node in common.example("nc.json")["nodes"]}
+        words = dict(population="BIR74", first="NWBIR74", second="WBIR74", slack=3000, key=common.KEY, steps=300, ask="cut-edges:low",
+                     numbers="nearest", program=self.program)
+        own, other = district_audit.plans(graph, {"same": plan}, assignment=plan, **words)
+        self.assertEqual(str(own[1]), str(other[1]))
+        self.assertEqual(str(district_audit.run(graph, assignment=plan, **words)), str(own[1]))
 
     def test_make(self):
         report = district_audit.make(size=1, slack=5000, steps=100, ask="cut-edges:low", key=common.KEY, program=self.program, shift=True)
@@ -75,24 +85,24 @@ class Calls(common.ProgramCase):
 
     def test_plans_of_a_file_a_dict_and_a_frame(self):
         words = dict(ROUGH, slack=1000, key=common.KEY, steps=300, ask="cut-edges:low", program=self.program)
-        of_file = district_audit.plans(common.EXAMPLES / "grid.json", common.EXAMPLES / "plans.csv", **words)
+        of_file = district_audit.plans(common.EXAMPLES / "data" / "grid.json", common.EXAMPLES / "plans.csv", **words)
         self.assertEqual([name for name, _ in of_file], ["CD", "blocks", "columns"])
         rows = [line.split(",") for line in (common.EXAMPLES / "plans.csv").read_text(encoding="utf-8").splitlines()[1:]]
         blocks, columns = {int(row[0]): row[1] for row in rows}, {int(row[0]): row[2] for row in rows}
-        of_dict = district_audit.plans(common.EXAMPLES / "grid.json", {"blocks": blocks, "columns": common.StandInPartition(columns)}, **words)
+        of_dict = district_audit.plans(common.EXAMPLES / "data" / "grid.json", {"blocks": blocks, "columns": common.StandInPartition(columns)}, **words)
         self.assertEqual(of_dict, of_file)
         pandas = common.needs("pandas")
         frame = pandas.read_csv(common.EXAMPLES / "plans.csv", index_col="id")
-        self.assertEqual(district_audit.plans(common.EXAMPLES / "grid.json", frame, **words), of_file)
+        self.assertEqual(district_audit.plans(common.EXAMPLES / "data" / "grid.json", frame, **words), of_file)
         with self.assertRaises(ValueError):
-            district_audit.plans(common.EXAMPLES / "grid.json", {"blocks": blocks, "columns": {0: 1}}, **words)
+            district_audit.plans(common.EXAMPLES / "data" / "grid.json", {"blocks": blocks, "columns": {0: 1}}, **words)
 
     def test_rules_on_counties_and_a_group(self):
         """The report of examples/README.md from the file, and the same numbers from what was prepared."""
         words = dict(max_splits=3, max_split_regions=3, group_districts=2, slack=1000, walks=1, steps=2047, ends=9, hub_steps=500,
                      ask="mean-median:high,cut-edges:low", key=district_audit.key_of("groups"), source=True, program=self.program)
         columns = dict(pop="pop", first="a", second="b", district="d", region="county", group="bvap", group_of="vap")
-        path = common.EXAMPLES / "groups.json"
+        path = common.EXAMPLES / "data" / "groups.json"
         report = district_audit.run(path, **columns, **words)
         self.assertEqual(str(report), common.groups_report())
         self.assertTrue(report.source.is_of(path.read_bytes()))
@@ -139,13 +149,15 @@ class Exceptions(common.ProgramCase):
         with self.assertRaises(kind) as caught:
             call(graph, program=program or self.program, **words)
         error = caught.exception
-        self.assertIs(type(error), kind)
+        self.assertIsInstance(error, kind)
+        if kind is not district_audit.WordsRefused:
+            self.assertIs(type(error), kind)
         self.assertEqual(error.line, line)
         return error
 
     def test_1_words(self):
         error = self.refused(district_audit.WordsRefused, "words: bad value for --slack", **{**common.WORDS, "slack": 10001})
-        self.assertEqual((error.status, str(error)), (1, "words: bad value for --slack"))
+        self.assertEqual((error.status, str(error)), (1, "check(slack=10001): slack is a whole number from 0 to 10000, in hundredths of a percent"))
         self.refused(district_audit.WordsRefused, "words: unknown name --hub-stops", hub_stops=3, **common.WORDS)
         self.refused(district_audit.WordsRefused, "words: --key is missing", call=district_audit.run, ask="gap:low", **common.WORDS)
 
@@ -193,7 +205,7 @@ class Exceptions(common.ProgramCase):
         self.assertEqual((plan.units, plan.districts, plan.rules.regions, plan.population), (len(nodes), 8, len(split), sum(int(node["POP8"]) for node in nodes)))
 
     def test_1_and_2_further_rules(self):
-        words = dict(common.WORDS, graph=common.EXAMPLES / "groups.json", slack=1000)
+        words = dict(common.WORDS, graph=common.EXAMPLES / "data" / "groups.json", slack=1000)
         for said, why in ((dict(max_splits=2), "--max-splits"), (dict(max_split_regions=2), "--max-split-regions"), (dict(group_of="vap"), "--group-of"),
                           (dict(group_districts=1), "--group-districts"), (dict(region="county", max_splits=995001), "--max-splits"),
                           (dict(source="maybe"), "--source")):
@@ -214,7 +226,7 @@ class Exceptions(common.ProgramCase):
 
     def test_3_memory(self):
         graph = {"nodes": [{"id": place, "pop": 1, "a": 1, "b": 1, "d": place % 2} for place in range(100000)], "adjacency": [[] for _ in range(100000)]}
-        error = self.refused(district_audit.MemoryRefused, "memory", graph=json.dumps(graph).encode(), program=self.wrapper("ulimit -v 60000; exec PROGRAM"), **common.WORDS)
+        error = self.refused(district_audit.MemoryRefused, "memory", graph=json.dumps(graph).encode(), program=self.with_little_memory(), **common.WORDS)
         self.assertIsInstance(error, MemoryError)
 
     def test_4_and_5_reading_and_writing(self):
@@ -308,9 +320,32 @@ class Progress(common.ProgramCase):
         seen = progress.look(self.slots, words_of("run", common.WALK), CYCLE.read_bytes(), self.folder)
         self.assertEqual(seen, progress.Look("slot 0: absent\nslot 1: absent", 0, 12))
 
-    def test_it_needs_save(self):
-        with self.assertRaises(ValueError):
-            district_audit.run(CYCLE, program=self.program, progress=True, **common.WALK)
+    def test_without_save_it_shows_the_time(self):
+        stream = io.StringIO()
+        clock = progress.Clock(12, stream)
+        clock()
+        self.assertEqual(stream.getvalue(), "")
+        clock.began -= 11
+        clock()
+        clock()
+        clock.began -= 5
+        clock()
+        clock.end()
+        self.assertEqual(stream.getvalue(), "walking 12 trajectories for 11 s (save=1 shows how many are done)\n")
+        report = district_audit.run(CYCLE, program=self.program, progress=True, **common.WALK)
+        self.assertEqual(report, district_audit.run(CYCLE, program=self.program, **common.WALK))
+
+    def test_without_a_second_program(self):
+        """How many are done is read from the checkpoints, and is what audit_slots tells."""
+        with self.assertRaises(district_audit.WorkLeft):
+            district_audit.run(CYCLE, program=self.program, folder=self.folder, save=1, budget=5, **common.WALK)
+        seen = progress.look(self.slots, words_of("run", common.WALK), CYCLE.read_bytes(), self.folder)
+        own = checkpoints.look_in(self.folder, 12)
+        self.assertEqual((own.done, own.total), (seen.done, seen.total))
+        self.slots = None
+        report, bar = self.run_with(**common.WALK, save=1, resume=True)
+        self.assertEqual((bar.shown[-1], bar.ended), ((12, 12), True))
+        self.assertEqual(report, district_audit.run(CYCLE, program=self.program, **common.WALK))
 
     def test_bars(self):
         stream = io.StringIO()
@@ -349,13 +384,107 @@ class Progress(common.ProgramCase):
             process.send_signal(signal.SIGINT)
             said = process.communicate(timeout=60)[1]
         self.assertIn("Interrupted: stopped: ", said)
-        self.assertIn(" of 20000 done; the same call with resume=True goes on in the same folder", said)
+        self.assertIn(" of 20000 done; the same call with resume=True goes on in the same folder, %r" % str(self.folder), said)
         saved = sorted((path.name, path.stat().st_mtime_ns) for path in self.folder.glob("*.ckpt"))
         time.sleep(0.3)
         self.assertEqual(saved, sorted((path.name, path.stat().st_mtime_ns) for path in self.folder.glob("*.ckpt")), "the program runs on")
         with self.assertRaises(district_audit.WorkLeft) as caught:
             district_audit.run(CYCLE, program=self.program, folder=self.folder, save=1, resume=True, budget=1, **LONG)
         self.assertGreaterEqual(caught.exception.done, 2)
+
+
+class Kept(common.ProgramCase):
+    """What the package keeps beside checkpoints, and what it tells of them."""
+
+    WORDS = dict(common.WALK, save=1)
+
+    def left(self, **words):
+        with self.assertRaises(district_audit.WorkLeft):
+            district_audit.run(CYCLE, program=self.program, folder=self.folder, budget=5, **{**self.WORDS, **words})
+
+    def refused(self, graph=CYCLE, **words):
+        with self.assertRaises(district_audit.CheckpointRefused) as caught:
+            district_audit.run(graph, program=self.program, folder=self.folder, resume=True, **{**self.WORDS, **words})
+        return caught.exception
+
+    def test_another_job_is_explained_by_what_differs(self):
+        self.left()
+        for words, differs in ((dict(steps=9), ["steps was 8 and is 9"]),
+                               (dict(walks=11, ends=2), ["walks was 12 and is 11", "ends was 0 and is 2"]),
+                               (dict(key="1" * 64), ["key was %s and is %s" % (common.KEY, "1" * 64)]),
+                               (dict(ask=["gap:high", "gap:low"]), ["ask was gap:low and is gap:high,gap:low"]),
+                               (dict(slack=4999), ["slack was 5000 and is 4999"]),
+                               (dict(max_cut=3), ["max_cut was 400000 and is 3"])):
+            with self.subTest(words=words):
+                error = self.refused(**words)
+                self.assertEqual(error.differs, differs)
+                self.assertIn("; ".join(differs) + "; another folder keeps both jobs", str(error))
+                self.assertTrue(error.line.startswith("checkpoint: other job "))
+        # What was kept is that of the job whose checkpoints lie there, after each refusal.
+        report = district_audit.run(CYCLE, program=self.program, folder=self.folder, resume=True, **self.WORDS)
+        self.assertEqual(report, district_audit.run(CYCLE, program=self.program, **common.WALK))
+
+    def test_another_graph_is_explained_by_its_part(self):
+        self.left()
+        for column, what in (("pop", "the populations differ"), ("a", "the votes of the first party differ"),
+                             ("b", "the votes of the second party differ")):
+            root = common.example("cycle.json")
+            root["nodes"][0][column] += 1
+            self.assertEqual(self.refused(json.dumps(root).encode()).differs, [what])
+        root = common.example("cycle.json")
+        labels = [node["d"] for node in root["nodes"]]
+        for place, node in enumerate(root["nodes"]):
+            node["d"] = labels[place - 1]
+        self.assertEqual(self.refused(json.dumps(root).encode()).differs, ["the districts differ"])
+        root = common.example("cycle.json")
+        root["adjacency"][0].append({"id": root["nodes"][2]["id"]})
+        self.assertEqual(self.refused(json.dumps(root).encode()).differs, ["the neighbors differ"])
+
+    def test_where_nothing_was_kept(self):
+        self.left()
+        (self.folder / checkpoints.RECORD).unlink()
+        error = self.refused(steps=9)
+        self.assertEqual(error.differs, ())
+        self.assertIn("no arguments of that job are kept in", str(error))
+
+    def test_slots_are_read_as_the_program_reads_them(self):
+        self.left()
+        slots = checkpoints.slots_in(self.folder)
+        self.assertEqual(checkpoints.newest_of(slots).done, 5)
+        for name in checkpoints.SLOTS:
+            data = (self.folder / name).read_bytes()
+            slot = checkpoints.slot_of(data)
+            told = progress.look(common.slots(self.folder), [], b"", self.folder).slots
+            self.assertIn("generation %d outcomes %d digest %s" % (slot.generation, slot.done, slot.digest), told)
+            for place in range(0, len(data), 7):
+                self.assertIsNone(checkpoints.slot_of(data[:place] + bytes([data[place] ^ 1]) + data[place + 1:]))
+            self.assertIsNone(checkpoints.slot_of(data[:-1]))
+            self.assertIsNone(checkpoints.slot_of(b""))
+
+    def test_a_frozen_walk_warns(self):
+        with warnings.catch_warnings():
+            warnings.simplefilter("always")
+            with self.assertWarns(district_audit.FrozenWalk) as caught:
+                district_audit.run(CYCLE, program=self.program, **{**common.WALK, "walks": 1, "steps": 1})
+            self.assertIn("in 1 steps (1 of 1 walks fewer times than there are units, 4)", str(caught.warning))
+        with warnings.catch_warnings():
+            warnings.simplefilter("error")
+            district_audit.run(CYCLE, program=self.program, **{**common.WALK, "walks": 1, "steps": 1000})
+
+    def test_a_folder_that_is_not_there(self):
+        with self.assertRaises(FileNotFoundError) as caught:
+            district_audit.run(CYCLE, program=self.program, folder=self.folder / "none", **self.WORDS)
+        self.assertIn("there is no such folder", str(caught.exception))
+
+    def test_no_json_is_told_with_its_line_and_column(self):
+        for data, said in ((b"[", "line 1, column 2: Expecting value"), (b'{"a":\n 1,\n b}', "line 3, column 2: Expecting property name"),
+                           (b'{"nodes": "NaN",\n "b": NaN}', "line 2, column 7: NaN is no JSON (write null)"),
+                           (b'{"a": [1, -Infinity]}', "line 1, column 11: -Infinity is no JSON (write null)"),
+                           (b'{"a":\n"\xff"}', "line 2, column 2: this is no UTF-8"), (b"\xef\xbb\xbf{}", "line 1, column 1: a byte order mark")):
+            with self.subTest(data=data), self.assertRaises(district_audit.GraphRefused) as caught:
+                district_audit.check(data, program=self.program, **common.WORDS)
+            self.assertEqual(caught.exception.line, "graph: not JSON")
+            self.assertEqual(caught.exception.labels[:len(said)], said)
 
 
 class Commands(common.ProgramCase):

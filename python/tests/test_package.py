@@ -14,7 +14,7 @@ PYTHON = common.TOP / "python"
 # The first lines of a script to which every optional module is refused.
 HIDDEN = """
 import sys
-for name in ("networkx", "pandas", "matplotlib", "tqdm", "numpy"):
+for name in ("networkx", "pandas", "matplotlib", "tqdm", "numpy", "shapely", "gerrychain"):
     sys.modules[name] = None
 """
 
@@ -127,7 +127,7 @@ assert ready.refusals == []
 from district_audit.progress import PlainBar, new_bar
 assert isinstance(new_bar(), PlainBar)
 assert "<table>" in district_audit.Report.parse(%r)._repr_html_()
-""" % (str(common.EXAMPLES / "cycle.json"), common.readme_report())
+""" % (str(common.EXAMPLES / "data" / "cycle.json"), common.readme_report())
         subprocess.run([sys.executable, "-c", script], env={**os.environ, "PYTHONPATH": str(PYTHON)}, check=True)
 
     def test_what_is_missing_is_told_with_its_extra_and_how_to_install_it(self):
@@ -162,7 +162,7 @@ for call in (report.to_frame, report.plot, lambda: district_audit.prepare("x.gml
 
     def test_python_3_9_reads_all_of_it(self):
         """The grammar is that of 3.9, and nothing of the standard library is newer, as far as the lists above know it."""
-        files = [*PYTHON.rglob("*.py"), *(common.EXAMPLES / name for name in ("prepare.py", "picture.py", "audit.py", "real_maps.py"))]
+        files = [*PYTHON.rglob("*.py"), common.EXAMPLES / "audit.py", common.TOP / "tests" / "system" / "real_maps.py"]
         self.assertGreater(len(files), 15)
         for path in files:
             with self.subTest(path=path.name):

@@ -39,10 +39,10 @@ class Changes(unittest.TestCase):
         self.assertNotIn(b"\n", data)
 
     def test_rough_numbers_by_each_rule(self):
-        rough = common.EXAMPLES / "rough.json"
+        rough = common.EXAMPLES / "data" / "rough.json"
         with self.assertRaises(PrepareRefused) as caught:
             prepare(rough, **ROUGH)
-        self.assertEqual((str(caught.exception), len(caught.exception.faults)), ("16 values are refused", 16))
+        self.assertEqual((caught.exception.why, len(caught.exception.faults)), ("16 values are refused", 16))
         ready = prepare(rough, **ROUGH, numbers="nearest", missing="zero")
         told = [str(change) for change in ready.changes]
         self.assertIn("column TOTPOP: fractions made whole by `nearest`: 14 units, which changes the column's sum by -7: "
@@ -112,7 +112,7 @@ class Changes(unittest.TestCase):
 
     def test_real_maps(self):
         """Counties of North Carolina with whole floats, and tracts of upstate New York with fractions; what is changed is counted here."""
-        ready = prepare(common.EXAMPLES / "nc.json", population="BIR74", first="NWBIR74", second="WBIR74", district="PLAN11", slack=1000)
+        ready = prepare(common.EXAMPLES / "data" / "nc.json", population="BIR74", first="NWBIR74", second="WBIR74", district="PLAN11", slack=1000)
         self.assertEqual((ready.refusals, ready.warnings, ready.notes), ([], [], ["100 units, 231 edges, 11 districts, 329962 people"]))
         self.assertEqual({change.what for change in ready.changes if change.units},
                          {"column %s: whole floats written as whole numbers" % column for column in ("BIR74", "NWBIR74", "WBIR74")})
@@ -120,20 +120,20 @@ class Changes(unittest.TestCase):
         said = dict(population="POP8", first="OWNING", second="OTHERS", district="PLAN8", region="COUNTY", slack=1000)
         broken = {column: [node["id"] for node in nodes if node[column] % 1] for column in ("OWNING", "OTHERS")}
         with self.assertRaises(PrepareRefused) as caught:
-            prepare(common.EXAMPLES / "ny8.json", **said)
+            prepare(common.EXAMPLES / "data" / "ny8.json", **said)
         self.assertEqual(len(caught.exception.faults), sum(map(len, broken.values())))
-        ready = prepare(common.EXAMPLES / "ny8.json", numbers="nearest", **said)
+        ready = prepare(common.EXAMPLES / "data" / "ny8.json", numbers="nearest", **said)
         self.assertEqual((ready.refusals, ready.warnings), ([], []))
         for column, units in broken.items():
             change = next(change for change in ready.changes if change.what == "column %s: fractions made whole by `nearest`" % column)
             self.assertEqual(change.units, units)
             self.assertAlmostEqual(change.moved, sum(round(node[column]) - node[column] for node in nodes), places=6)
         with self.assertRaises(PrepareRefused) as caught:
-            prepare(common.EXAMPLES / "ny8.json", **{**said, "first": "OWNNING"}, numbers="nearest", missing="zero")
+            prepare(common.EXAMPLES / "data" / "ny8.json", **{**said, "first": "OWNNING"}, numbers="nearest", missing="zero")
         self.assertIn("no unit has a column OWNNING", str(caught.exception))
 
     def test_what_the_auditor_would_refuse_has_its_number(self):
-        ready = prepare(common.EXAMPLES / "apart.json", **common.COLUMNS)
+        ready = prepare(common.EXAMPLES / "data" / "apart.json", **common.COLUMNS)
         self.assertIn("district 1 is in several parts; 1 of its 2 units lie apart: \"w\" (the auditor's district 0)", ready.refusals)
         split = prepared(square(county=["k", "l", "k", "l"]), region="county", max_split=1)
         self.assertEqual(split.refusals, ["regions that lie in more than 1 districts: 2: \"k\", \"l\" (the auditor's numbers: 0, 1)"])
@@ -194,7 +194,7 @@ class Changes(unittest.TestCase):
         nodes = common.example("groups.json")["nodes"]
         sums = {label: [sum(node[column] for node in nodes if node["d"] == label) for column in ("bvap", "vap")] for label in (1, 2, 3, 4)}
         most = [label for label, (part, whole) in sums.items() if part > whole - part]
-        ready = prepare(common.EXAMPLES / "groups.json", **common.COLUMNS, region="county", group="bvap", group_of="vap", group_districts=2, max_splits=2,
+        ready = prepare(common.EXAMPLES / "data" / "groups.json", **common.COLUMNS, region="county", group="bvap", group_of="vap", group_districts=2, max_splits=2,
                         max_split_regions=2)
         self.assertEqual((ready.refusals, ready.changes), ([], []))
         self.assertEqual([note.split(" (")[0] for note in ready.notes if note.startswith("bvap")], ["bvap has a majority of vap in 2 of 4 districts: 1"])
@@ -276,13 +276,13 @@ class Objects(unittest.TestCase):
         graph = common.StandInGraph(common.example("grid.json"))
         ready = prepare(graph, **ROUGH)
         self.assertEqual(ready.notes, ["300 units, 563 edges, 6 districts, 30000 people"])
-        self.assertEqual(ready.data, prepare(common.EXAMPLES / "grid.json", **ROUGH).data)
+        self.assertEqual(ready.data, prepare(common.EXAMPLES / "data" / "grid.json", **ROUGH).data)
 
     def test_assignments(self):
         columns = {name: column for name, column in ROUGH.items() if name != "district"}
         root = common.example("grid.json")
         districts = {node["id"]: node["CD"] for node in root["nodes"]}
-        wanted = prepare(common.EXAMPLES / "grid.json", **ROUGH).data.replace(b'"CD"', b'"assignment"')
+        wanted = prepare(common.EXAMPLES / "data" / "grid.json", **ROUGH).data.replace(b'"CD"', b'"assignment"')
         for assignment in (districts, common.StandInAssignment(districts), common.StandInPartition(districts)):
             self.assertEqual(prepare(common.StandInGraph(root), **columns, assignment=assignment).data, wanted)
         with self.assertRaises(PrepareRefused) as caught:
@@ -290,7 +290,7 @@ class Objects(unittest.TestCase):
         self.assertEqual(str(caught.exception), 'the assignment names what is no unit: "none"')
         with self.assertRaises(PrepareRefused) as caught:
             prepare(common.StandInGraph(root), **columns, assignment={0: 1})
-        self.assertEqual(str(caught.exception), "299 values are refused")
+        self.assertEqual(caught.exception.why, "299 values are refused")
         with self.assertRaises(PrepareRefused):
             prepare(common.StandInGraph(root), **ROUGH, assignment=districts)
         with self.assertRaises(PrepareRefused):

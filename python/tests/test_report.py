@@ -26,10 +26,14 @@ def texts():
 
 class RoundTrip(unittest.TestCase):
     def test_all_texts_of_audit_cases_are_read_and_written_again(self):
-        """Each line `end` of the cases closes one of these texts, so none is passed over."""
+        """Each line `end` of the cases closes one of these texts or a trace, so none is passed over."""
         found = texts()
-        ends = (common.CASES / "stdout").read_text(encoding="utf-8").split("\n").count("end")
-        self.assertEqual(len(found), ends)
+        whole = (common.CASES / "stdout").read_text(encoding="utf-8")
+        ends, traces = whole.split("\n").count("end"), 0
+        for after in whole.split("\ndistrict-trace 1\n")[1:]:
+            traces += re.split("\n(end|plan-check 1|district-audit [12])\n", after)[1:2] == ["end"]
+        self.assertGreater(traces, 5)
+        self.assertEqual(len(found), ends - traces)
         self.assertGreater(ends, 100)
         for number, _, text in found:
             kind = PlanCheck if text.startswith("plan-check") else Report
@@ -105,7 +109,7 @@ class Values(unittest.TestCase):
         self.assertEqual(report.rules, Rules(1000, 27142, 33172, None, 200, 6, 3, 3, 2, 2))
         self.assertEqual((report.source.population, report.source.district, report.source.region, report.source.group, report.source.group_of),
                          ("pop", "d", "county", "bvap", "vap"))
-        data = (common.EXAMPLES / "groups.json").read_bytes()
+        data = (common.EXAMPLES / "data" / "groups.json").read_bytes()
         self.assertTrue(report.source.is_of(data))
         self.assertFalse(report.source.is_of(data + b"\n"))
         self.assertFalse(report.source.is_of(data[:-1] + b" "))
@@ -127,7 +131,8 @@ class Values(unittest.TestCase):
     def test_frame(self):
         common.needs("pandas")
         frame = self.report.to_frame()
-        self.assertEqual(list(frame.columns), ["test", "walk", "ask", "start", "moved", "place", "count", "of", "bound", "p"])
+        self.assertEqual(list(frame.columns), ["test", "walk", "ask", "score", "tail", "start", "moved", "visited", "in_tail", "share", "bound", "rank", "of",
+                                               "stopped_after", "start_place", "p"])
         self.assertEqual(list(frame["test"]), ["walk"] * 6 + ["ends"] * 3)
         self.assertAlmostEqual(frame["bound"].min(), 0.006324524, places=12)
         self.assertAlmostEqual(frame[frame.test == "ends"]["p"].min(), 0.01, places=12)

@@ -1,0 +1,831 @@
+"""The arguments of calls: what each means, what is allowed, and tests of both before any call.
+
+One table, `TABLE`, has the words of the program with their ranges and defaults, in the order in
+which the program judges them. It makes the docstrings, and each refusal: which argument, what was
+given, what is allowed, and the likely mistake. `line` of a refusal is what the program itself would
+write.
+"""
+from __future__ import annotations
+
+import dataclasses
+import difflib
+import inspect
+import re
+import typing
+
+from .errors import TypeRefused, ValueRefused
+from .graphs import is_whole
+
+Words = typing.Mapping[str, typing.Any]
+Call = typing.TypeVar("Call", bound=typing.Callable[..., object])
+
+MAPS, WALKS = ("check", "run", "plans"), ("run", "make", "plans")
+ALL, SAVES = ("check", "run", "make", "plans"), ("run", "make")
+MOST_ASKS, MOST_TRAJECTORIES = 4, 100_000
+SCORES, TAILS = ("seats", "mean-median", "gap", "cut-edges"), ("low", "high")
+DIGITS = re.compile("0|[1-9][0-9]*")
+
+
+@dataclasses.dataclass(frozen=True)
+class Argument:
+    """A word of the program as an argument."""
+
+    name: str
+    kind: str
+    """column, count, flag, key or ask."""
+    commands: tuple[str, ...]
+    text: str
+    least: int = 0
+    most: int = 0
+    default: object = None
+    is_needed: bool = False
+
+    @property
+    def word(self) -> str:
+        return "--" + self.name.replace("_", "-")
+
+    @property
+    def allowed(self) -> str:
+        """What is allowed, in words."""
+        if self.kind == "count":
+            unit = ", in hundredths of a percent" if self.name == "slack" else ""
+            return f"{self.name} is a whole number from {self.least} to {self.most}{unit}"
+        return (
+            f"{self.name} is "
+            + {
+                "column": "the name of a column, a text",
+                "flag": "True or False",
+                "key": "64 hexadecimal digits, or 32 bytes",
+                "ask": f"1 to {MOST_ASKS} different questions, each a score ({', '.join(SCORES)}),"
+                f" a colon and a tail ({', '.join(TAILS)})",
+            }[self.kind]
+        )
+
+    @property
+    def type(self) -> str:
+        """Its type, and its default where there is one, as a docstring has them."""
+        kind = {
+            "column": "str",
+            "count": "int",
+            "flag": "bool",
+            "key": "str or bytes",
+            "ask": "str or list of str",
+        }[self.kind]
+        shown = "" if self.default in (None, "") else f", default {self.default}"
+        return kind + ("" if self.is_needed else shown or ", optional")
+
+
+def count(
+    name: str, commands: tuple[str, ...], least: int, most: int, default: int, text: str
+) -> Argument:
+    return Argument(name, "count", commands, text, least, most, default)
+
+
+TABLE = {
+    argument.name: argument
+    for argument in (
+        Argument("pop", "column", MAPS, "The same as `population`.", is_needed=True),
+        Argument("first", "column", MAPS, "The column of the first party's votes.", is_needed=True),
+        Argument(
+            "second", "column", MAPS, "The column of the second party's votes.", is_needed=True
+        ),
+        Argument(
+            "district",
+            "column",
+            MAPS,
+            "The column of the enacted plan's districts. Left out where" " `assignment` is given.",
+            is_needed=True,
+        ),
+        Argument(
+            "size",
+            "count",
+            ("make",),
+            "The size of the grid: 10 times as many rows and columns." " 1 to 30.",
+            1,
+            30,
+            is_needed=True,
+        ),
+        count(
+            "slack",
+            ALL,
+            0,
+            10_000,
+            500,
+            "How far a district may be from the ideal population, in"
+            " hundredths of a percent: 0 to 10000. 500 is 5 percent.",
+        ),
+        Argument(
+            "key",
+            "key",
+            WALKS,
+            "The key of all draws: 64 hexadecimal digits or 32 bytes, as"
+            " `key_of(text)` makes it. The same key makes the same report.",
+            is_needed=True,
+        ),
+        count(
+            "walks",
+            WALKS,
+            0,
+            MOST_TRAJECTORIES,
+            1,
+            "The number of outlier trajectories: 0 to 100000.",
+        ),
+        count("steps", WALKS, 1, 10**9, 1000, "The steps of each outlier trajectory: 1 to 10^9."),
+        count(
+            "ends",
+            WALKS,
+            0,
+            MOST_TRAJECTORIES,
+            0,
+            "The number of endpoint trajectories of the" " parallel test: 0 to 100000.",
+        ),
+        count(
+            "hub_steps",
+            WALKS,
+            1,
+            10**9,
+            1000,
+            "The steps from the enacted plan to the hub, and of"
+            " each endpoint trajectory: 1 to 10^9.",
+        ),
+        Argument(
+            "ask",
+            "ask",
+            WALKS,
+            "The test statistics, each with its tail: 1 to 4, as"
+            ' `["seats:low", "cut-edges:high"]`.',
+            is_needed=True,
+        ),
+        count(
+            "workers",
+            WALKS,
+            1,
+            32,
+            1,
+            "The number of threads: 1 to 32. The report does not depend on" " it.",
+        ),
+        count(
+            "budget",
+            SAVES,
+            0,
+            MOST_TRAJECTORIES,
+            MOST_TRAJECTORIES,
+            "The most trajectories that this" " run walks: 0 to 100000. Needs `save`.",
+        ),
+        count(
+            "save",
+            SAVES,
+            0,
+            MOST_TRAJECTORIES,
+            0,
+            "A checkpoint is saved each time that so many more"
+            " trajectories are done: 0 to 100000. 0 saves nothing.",
+        ),
+        Argument(
+            "resume",
+            "flag",
+            SAVES,
+            "Whether the run goes on from the newest checkpoint of its" " folder.",
+            default=False,
+        ),
+        count(
+            "max_cut",
+            ALL,
+            0,
+            400_000,
+            400_000,
+            "The most edges between districts that a plan may" " have: 0 to 400000.",
+        ),
+        Argument(
+            "shift", "flag", WALKS, "Whether the report has the histogram of seats.", default=False
+        ),
+        count(
+            "stop",
+            WALKS,
+            0,
+            MOST_TRAJECTORIES,
+            0,
+            "The number of ends in the tail after which the"
+            " parallel test stops early: 0 to 100000. 0 stops none.",
+        ),
+        Argument(
+            "serial",
+            "flag",
+            WALKS,
+            "Whether the serial test is made; `steps` plus 1 has to be a" " power of two.",
+            default=False,
+        ),
+        Argument("region", "column", MAPS, "The column of regions, as counties.", default=""),
+        count(
+            "max_split",
+            MAPS,
+            1,
+            200,
+            200,
+            "The most districts among which a region may be split: 1 to" " 200. Needs `region`.",
+        ),
+        count(
+            "parts",
+            SAVES,
+            1,
+            MOST_TRAJECTORIES,
+            1,
+            "The number of parts into which the trajectories"
+            " are dealt, as for several machines: 1 to 100000. Needs `save`.",
+        ),
+        count(
+            "part",
+            SAVES,
+            0,
+            MOST_TRAJECTORIES,
+            0,
+            "The part that this run walks: 0 to `parts` - 1.",
+        ),
+        count(
+            "max_splits",
+            MAPS,
+            0,
+            995_000,
+            995_000,
+            "The most splits of regions in all; a region in k"
+            " districts counts k - 1. 0 to 995000, which limits nothing. Needs `region`.",
+        ),
+        count(
+            "max_split_regions",
+            MAPS,
+            0,
+            5000,
+            5000,
+            "The most regions that may lie in more than one"
+            " district: 0 to 5000, which limits nothing. Needs `region`.",
+        ),
+        Argument("group", "column", MAPS, "The column of a group of people, in heads.", default=""),
+        Argument(
+            "group_of",
+            "column",
+            MAPS,
+            "The column of those of whom the group may be the majority,"
+            " as all of voting age. The column of populations where it is left out.",
+            default="",
+        ),
+        count(
+            "group_districts",
+            MAPS,
+            0,
+            200,
+            0,
+            "The least number of districts in which the group has a"
+            " majority: 0 to 200. Needs `group`.",
+        ),
+        Argument(
+            "source",
+            "flag",
+            MAPS,
+            "Whether the text has the SHA-256 of what was read, and the names" " of the columns.",
+            default=False,
+        ),
+    )
+}
+
+# Arguments that the program does not have, with their types.
+OTHERS = {
+    "graph": (
+        "object",
+        "A graph of networkx or GerryChain, or anything with `nodes(data=True)` and"
+        " `adjacency()`, which is prepared as `prepare` does it. Or bytes, a path, or the answer"
+        " of `prepare`, which go to the program as they are.",
+    ),
+    "table": (
+        "dict, DataFrame, str, bytes or path",
+        "The plans: a dict from names to assignments, a"
+        " DataFrame with the units' ids as its index and a plan in each column, or the text,"
+        " bytes or path of a CSV file with the ids in its first column. Units are matched by"
+        " their ids, never by their place.",
+    ),
+    "districts": (
+        '{"same", "any"}, default "same"',
+        "Whether a plan may have another number of" " districts than the enacted plan.",
+    ),
+    "population": ("str", "The column of populations, in people."),
+    "tolerance": (
+        "float, optional",
+        "How far a district may be from the ideal population, as a part"
+        " of it: 0.05 is 5 percent. In place of `slack`.",
+    ),
+    "scores": (
+        "str, list or dict, optional",
+        "The same as `ask`, or a dict from scores to tails:"
+        ' `{"seats": "low", "gap": ("low", "high")}`.',
+    ),
+    "elections": (
+        "dict, optional",
+        "Several elections: a dict from names to pairs of columns, the"
+        " first and the second party's votes. In place of `first` and `second`.",
+    ),
+    "assignment": (
+        "dict, Series or Partition, optional",
+        "The enacted plan, in place of the column"
+        " `district`: the district of each unit by its id.",
+    ),
+    "numbers": (
+        '{"error", "nearest", "floor"}, optional',
+        "For numbers that are not whole, as" " for `prepare`.",
+    ),
+    "missing": ('{"error", "zero", "drop"}, optional', "For missing values, as for `prepare`."),
+    "join": ("list of pairs, optional", "Pairs of units to be made neighbors, as for `prepare`."),
+    "keep": ("list of str, optional", "Further columns that stay, as for `prepare`."),
+    "fill_region": (
+        "str or int, optional",
+        "The region of units that have none, as for `prepare`.",
+    ),
+    "own_region": (
+        "bool, optional",
+        "Whether each unit without a region is a region of its own, as" " for `prepare`.",
+    ),
+    "show_all": (
+        "bool, default False",
+        "Whether notes and changes have every id, where else they have the first ten.",
+    ),
+    "strict": (
+        "bool, default True",
+        "Whether an illegal plan is refused. With False the answer has" " its `faults`.",
+    ),
+    "folder": (
+        "path, optional",
+        "The folder of the checkpoints. The current one where it is left" " out.",
+    ),
+    "progress": (
+        "bool, default False",
+        "Whether a bar shows how many trajectories are done, which"
+        " needs `save`; without it, how long the run has taken.",
+    ),
+    "program": ("path, optional", "The program, where it is not in the folders of PATH."),
+    "slots": ("path, optional", "The program `audit_slots`, for a bar that asks it. Not needed."),
+}
+
+
+# What these mean to `prepare`.
+OF_PREPARE = {
+    "graph": (
+        "object",
+        "A graph of networkx or GerryChain, or anything with `nodes(data=True)` and `adjacency()`;"
+        " the path of a file; or the bytes of a JSON file.",
+    ),
+    "numbers": (
+        '{"error", "nearest", "floor"}, default "error"',
+        "For a number that is not whole: it is refused, becomes the nearest whole number (halves"
+        " the even one), or the greatest that is not above it.",
+    ),
+    "missing": (
+        '{"error", "zero", "drop"}, default "error"',
+        "For a value that is absent, None, NaN or empty: it is refused, becomes 0 in a column of"
+        " people, votes or a group, or its unit is left out.",
+    ),
+    "join": ("list of pairs, optional", "Pairs of units to be made neighbors, as an island's."),
+    "keep": ("list of str, optional", "Further columns that stay as they are, unaudited."),
+    "fill_region": ("str or int, optional", "The region of each unit that has none."),
+    "own_region": (
+        "bool, default False",
+        "Whether each unit without a region is a region of its own.",
+    ),
+}
+
+
+def documented(function: Call) -> Call:
+    """Puts a section `Parameters` in place of the line PARAMETERS of a docstring."""
+    if function.__doc__:
+        found = ["Parameters", "----------"]
+        for name in inspect.signature(function).parameters:
+            if function.__name__ == "prepare" and name in OF_PREPARE:
+                kind, text = OF_PREPARE[name]
+            elif name in TABLE:
+                kind, text = TABLE[name].type, TABLE[name].text
+            elif name in OTHERS:
+                kind, text = OTHERS[name]
+            else:
+                continue
+            found += [f"{name} : {kind}", f"    {text}"]
+        function.__doc__ = inspect.cleandoc(function.__doc__).replace(
+            "PARAMETERS", "\n".join(found)
+        )
+    return function
+
+
+# ---- refusing
+
+
+def shown(value: object) -> str:
+    """Returns a value as it was written, cut where it is long."""
+    text = repr(value)
+    return text if len(text) <= 60 else text[:57] + "..."
+
+
+def refuse(
+    kind: type[TypeRefused] | type[ValueRefused],
+    command: str,
+    name: str,
+    given: object,
+    allowed: str,
+    hint: str = "",
+    line: str = "",
+) -> typing.NoReturn:
+    """Raises a refusal in Python's terms, with the line that the program would write."""
+    said = f"{command}({name}={shown(given)}): {allowed}" + (f"; {hint}" if hint else "")
+    raise kind(said, name, given, allowed, hint, line or f"words: bad value for {word(name)}")
+
+
+def word(name: str) -> str:
+    return "--" + name.replace("_", "-")
+
+
+def close_to(name: str, names: typing.Iterable[str]) -> str:
+    """Returns the name that was most likely meant; '' where none is like it."""
+    found = difflib.get_close_matches(name, list(names), 1, 0.6)
+    return found[0] if found else ""
+
+
+def test_names(
+    command: str, unknown: typing.Mapping[str, object], names: typing.Iterable[str]
+) -> None:
+    """Refuses an argument that a call does not have."""
+    for name, value in unknown.items():
+        near = close_to(name, names)
+        if name in TABLE:
+            where = ", ".join(TABLE[name].commands)
+            allowed = f"{command} has no argument {name} (only {where})"
+        else:
+            allowed = f"{command} has no argument {name}"
+        hint = f"did you mean {near}?" if near and name not in TABLE else ""
+        refuse(
+            TypeRefused, command, name, value, allowed, hint, f"words: unknown name {word(name)}"
+        )
+
+
+# ---- what stands in place of other arguments
+
+
+def plain_words(command: str, given: Words) -> dict[str, typing.Any]:
+    """Returns the arguments that were given, with the names that the program has.
+
+    `population`, `tolerance` and `scores` become `pop`, `slack` and `ask`.
+    """
+    named = {name: value for name, value in given.items() if value is not None}
+    for other, name, change in (
+        ("population", "pop", None),
+        ("tolerance", "slack", slack_of),
+        ("scores", "ask", ask_of),
+    ):
+        if other not in named:
+            continue
+        value = named.pop(other)
+        if name in named:
+            refuse(TypeRefused, command, other, value, f"{name} is given too, and says the same")
+        named[name] = value if change is None else change(command, value)
+    return named
+
+
+def slack_of(command: str, tolerance: object) -> int:
+    """Returns a part of the ideal population in hundredths of a percent."""
+    allowed = "tolerance is a number from 0 to 1, as 0.05 for 5 percent"
+    try:
+        part = float(typing.cast(float, tolerance))
+    except (TypeError, ValueError):
+        refuse(TypeRefused, command, "tolerance", tolerance, allowed)
+    if isinstance(tolerance, (bool, str)):
+        refuse(TypeRefused, command, "tolerance", tolerance, allowed)
+    if not 0 <= part <= 1:
+        hint = f"for {part:g} percent write tolerance={part / 100:g}" if 1 < part <= 100 else ""
+        refuse(ValueRefused, command, "tolerance", tolerance, allowed, hint)
+    slack = round(10_000 * part)
+    if abs(10_000 * part - slack) > 1e-6:
+        refuse(
+            ValueRefused,
+            command,
+            "tolerance",
+            tolerance,
+            "tolerance is a whole number of" " hundredths of a percent",
+            f"write tolerance={slack / 10_000:g}",
+        )
+    return slack
+
+
+def ask_of(command: str, scores: object) -> object:
+    """Returns questions, which may be a dict from scores to tails, as a list."""
+    if not isinstance(scores, typing.Mapping):
+        return scores
+    found = []
+    for score, tails in scores.items():
+        found += [
+            f"{score}:{tail}" for tail in (tails if isinstance(tails, (list, tuple)) else (tails,))
+        ]
+    return found
+
+
+def tested_elections(
+    elections: object, saves: bool, command: str = "run"
+) -> dict[str, tuple[str, str]]:
+    """Returns elections by name; refuses what is no dict from names to pairs of columns.
+
+    Where checkpoints are saved, each election has a folder of its name.
+    """
+    allowed = 'elections is a dict from names to pairs of columns, as {"GOV18": ("G18D", "G18R")}'
+    if not isinstance(elections, typing.Mapping) or not elections:
+        refuse(TypeRefused, command, "elections", elections, allowed)
+    found = {}
+    for name, columns in elections.items():
+        is_pair = isinstance(columns, (tuple, list)) and len(columns) == 2
+        if not isinstance(name, str) or not name or not is_pair:
+            refuse(TypeRefused, command, "elections", elections, allowed)
+        if not all(isinstance(column, str) for column in columns):
+            refuse(TypeRefused, command, "elections", elections, allowed)
+        if saves and (name in (".", "..") or set(name) & set("/\\\0")):
+            refuse(
+                ValueRefused,
+                "run",
+                "elections",
+                elections,
+                f"with save, each election has a folder of its name, and {name!r} is none",
+            )
+        found[name] = (columns[0], columns[1])
+    return found
+
+
+# ---- testing
+
+
+def tested(command: str, named: Words) -> None:
+    """Refuses what the program would refuse, in its order: unknown, missing, then bad arguments."""
+    there = {name: row for name, row in TABLE.items() if command in row.commands}
+    test_names(command, {name: named[name] for name in named if name not in there}, there)
+    for name, row in there.items():
+        if row.is_needed and name not in named:
+            shown_name = "population" if name == "pop" else name
+            hint = {
+                "key": ' (key_of("the announced text") makes one)',
+                "district": " (or assignment)",
+                "ask": " (or scores)",
+                "first": " (or elections)" if command == "run" else "",
+                "second": " (or elections)" if command == "run" else "",
+            }.get(name, "")
+            raise TypeRefused(
+                f"{command}: the argument {shown_name} is missing{hint}",
+                shown_name,
+                None,
+                row.allowed,
+                hint,
+                f"words: {row.word} is missing",
+            )
+    for name, row in there.items():
+        if name in named:
+            test_value(command, row, named)
+        elif name == "ends":
+            test_sum(command, row, named)
+
+
+def test_value(command: str, row: Argument, named: Words) -> None:
+    """Refuses a value that is of no use, alone or beside the others."""
+    value = named[row.name]
+    {
+        "column": test_column,
+        "count": test_count,
+        "flag": test_flag,
+        "key": test_key,
+        "ask": test_ask,
+    }[row.kind](command, row, value)
+    why = beside_others(command, row.name, named)
+    if why and row.name == "ends" and number(named, "ends") == 0:
+        test_sum(command, row, named)
+    if why:
+        refuse(ValueRefused, command, row.name, value, *why)
+
+
+def test_column(command: str, row: Argument, value: object) -> None:
+    if not isinstance(value, str):
+        refuse(TypeRefused, command, row.name, value, row.allowed)
+    if command == "plans" and row.name == "district" and "\n" in value:
+        refuse(
+            ValueRefused,
+            command,
+            row.name,
+            value,
+            "its name has no line feed, since it is" " written on a line of its own",
+        )
+
+
+def test_count(command: str, row: Argument, value: object) -> None:
+    if isinstance(value, str) and DIGITS.fullmatch(value):
+        value = int(value)
+    if not is_whole(value):
+        refuse(TypeRefused, command, row.name, value, row.allowed, hint_of_count(row, value))
+    if not row.least <= int(typing.cast(int, value)) <= row.most:
+        refuse(ValueRefused, command, row.name, value, row.allowed)
+
+
+def hint_of_count(row: Argument, value: object) -> str:
+    """Returns the likely mistake where a value is no whole number."""
+    if isinstance(value, float) and row.name == "slack" and 0 < value < 1:
+        whole = f"slack={round(10_000 * value)} or " if round(10_000 * value) >= 1 else ""
+        return f"for {100 * value:g} percent write {whole}tolerance={value:g}"
+    if isinstance(value, float) and value.is_integer():
+        return f"write {row.name}={int(value)}"
+    return ""
+
+
+def test_flag(command: str, row: Argument, value: object) -> None:
+    if type(value).__name__ in ("bool", "bool_"):
+        return
+    if isinstance(value, str) and value in ("yes", "no"):
+        return
+    is_number = isinstance(value, int) and value in (0, 1)
+    hint = f"write {row.name}={bool(value)}" if is_number else ""
+    refuse(TypeRefused, command, row.name, value, row.allowed, hint)
+
+
+def test_key(command: str, row: Argument, value: object) -> None:
+    if isinstance(value, (bytes, bytearray)):
+        if len(value) != 32:
+            refuse(
+                ValueRefused, command, row.name, value, row.allowed, f"these are {len(value)} bytes"
+            )
+    elif not isinstance(value, str):
+        refuse(TypeRefused, command, row.name, value, row.allowed)
+    elif not re.fullmatch("[0-9a-fA-F]{64}", value):
+        hint = f"key=key_of({shown(value)}) makes a key of any text"
+        refuse(ValueRefused, command, row.name, value, row.allowed, hint)
+
+
+def test_ask(command: str, row: Argument, value: object) -> None:
+    if not isinstance(value, (str, list, tuple)):
+        refuse(TypeRefused, command, row.name, value, row.allowed)
+    asks = value.split(",") if isinstance(value, str) else value
+    for ask in asks:
+        if not isinstance(ask, str):
+            refuse(TypeRefused, command, row.name, value, row.allowed)
+        if "," in ask:
+            refuse(
+                ValueRefused,
+                command,
+                row.name,
+                value,
+                row.allowed,
+                f"{ask!r} is several: make a list of them",
+            )
+        score, _, tail = ask.partition(":")
+        if score not in SCORES or tail not in TAILS:
+            refuse(ValueRefused, command, row.name, value, row.allowed, hint_of_ask(ask))
+    twice = sorted({ask for ask in asks if list(asks).count(ask) > 1})
+    if twice:
+        refuse(ValueRefused, command, row.name, value, row.allowed, f"{twice[0]!r} is there twice")
+    if len(asks) > MOST_ASKS:
+        refuse(
+            ValueRefused,
+            command,
+            row.name,
+            value,
+            row.allowed,
+            f"these are {len(asks)}: ask"
+            f" {MOST_ASKS} in each of several calls with the same key, which walk the same plans",
+        )
+    if not asks:
+        refuse(ValueRefused, command, row.name, value, row.allowed)
+
+
+def hint_of_ask(ask: str) -> str:
+    score, _, tail = ask.partition(":")
+    near = score if score in SCORES else close_to(score.replace("_", "-"), SCORES)
+    if not near:
+        return f"there is no score {score!r}"
+    tails = [tail] if tail in TAILS else TAILS
+    return f"{ask!r}: did you mean " + " or ".join(f"{near}:{one}" for one in tails) + "?"
+
+
+# ---- what rests on other arguments
+
+
+def number(named: Words, name: str) -> int | None:
+    """Returns a count that is given or by default; None where it is no number."""
+    value = named.get(name, TABLE[name].default)
+    if isinstance(value, str):
+        return int(value) if DIGITS.fullmatch(value) else None
+    return int(typing.cast(int, value)) if is_whole(value) else None
+
+
+def flag(named: Words, name: str) -> bool:
+    return named.get(name) in (True, "yes")
+
+
+def test_sum(command: str, row: Argument, named: Words) -> None:
+    """Refuses too few or too many trajectories where `ends` is left out."""
+    why = beside_others(command, "ends", named)
+    if why:
+        refuse(
+            ValueRefused,
+            command,
+            "walks",
+            named.get("walks", 1),
+            *why,
+            line="words: bad value for --ends",
+        )
+
+
+def beside_others(command: str, name: str, named: Words) -> tuple[str, str] | None:
+    """Returns what is asked of a value beside the others, and a hint, where it is not met."""
+    test = BESIDE.get(name)
+    return test(named) if test is not None and command in TABLE[name].commands else None
+
+
+Why = typing.Optional[typing.Tuple[str, str]]
+
+
+def ends_beside(named: Words) -> Why:
+    walks, ends = number(named, "walks"), number(named, "ends")
+    if walks is None or ends is None or 1 <= walks + ends <= MOST_TRAJECTORIES:
+        return None
+    hint = "walks=1 walks one outlier trajectory" if walks + ends == 0 else ""
+    return f"walks and ends together are 1 to {MOST_TRAJECTORIES}", hint
+
+
+def budget_beside(named: Words) -> Why:
+    budget, walks, ends = (number(named, name) for name in ("budget", "walks", "ends"))
+    if budget is None or walks is None or ends is None or number(named, "save") != 0:
+        return None
+    if budget >= walks + ends:
+        return None
+    return (
+        f"without save, a budget below the {walks + ends} trajectories would lose its work",
+        "save=1 saves after each trajectory",
+    )
+
+
+def stop_beside(named: Words) -> Why:
+    if number(named, "stop") in (None, 0):
+        return None
+    if number(named, "ends") == 0:
+        return "stop needs a parallel test", "ends=99 makes one of 99 endpoint trajectories"
+    if number(named, "save") != 0 or flag(named, "resume"):
+        return "a test that stops early saves nothing", "leave out save and resume"
+    return None
+
+
+def serial_beside(named: Words) -> Why:
+    steps = number(named, "steps")
+    if not flag(named, "serial") or steps is None or (steps + 1) & steps == 0:
+        return None
+    less = (1 << (steps + 1).bit_length() - 1) - 1
+    return (
+        "the serial test needs steps plus 1 to be a power of two",
+        f"write steps={max(less, 1)} or steps={2 * less + 1}",
+    )
+
+
+def regions_beside(name: str) -> typing.Callable[[Words], Why]:
+    def test(named: Words) -> Why:
+        if named.get("region") or number(named, name) in (None, TABLE[name].default):
+            return None
+        return (
+            f"{name} limits regions, and region is not given",
+            'region="COUNTY" names their column',
+        )
+
+    return test
+
+
+def parts_beside(named: Words) -> Why:
+    parts = number(named, "parts")
+    if parts is None or parts <= 1 or number(named, "save") != 0:
+        return None
+    return "parts above 1 needs save, since what a part finds is gathered later", "write save=1"
+
+
+def part_beside(named: Words) -> Why:
+    part, parts = number(named, "part"), number(named, "parts")
+    if part is None or parts is None or part < parts:
+        return None
+    return f"part is from 0 to parts - 1, which is {parts - 1}", ""
+
+
+def group_of_beside(named: Words) -> Why:
+    if named.get("group") or not named.get("group_of"):
+        return None
+    return "group_of says of whom the group is a part, and group is not given", ""
+
+
+def group_districts_beside(named: Words) -> Why:
+    if named.get("group") or number(named, "group_districts") in (None, 0):
+        return None
+    return "group_districts counts districts of a group, and group is not given", ""
+
+
+BESIDE: dict[str, typing.Callable[[Words], Why]] = {
+    "ends": ends_beside,
+    "budget": budget_beside,
+    "stop": stop_beside,
+    "serial": serial_beside,
+    "max_split": regions_beside("max_split"),
+    "parts": parts_beside,
+    "part": part_beside,
+    "max_splits": regions_beside("max_splits"),
+    "max_split_regions": regions_beside("max_split_regions"),
+    "group_of": group_of_beside,
+    "group_districts": group_districts_beside,
+}

@@ -1,0 +1,255 @@
+"""The districts of a plan: a table of each, and every fault of the plan, in the user's labels.
+
+The package computes this for people. Whether a plan is legal, the program says, which names the
+first fault alone.
+"""
+from __future__ import annotations
+
+import dataclasses
+import json
+import typing
+from fractions import Fraction
+
+from .graphs import Label
+from .judging import Judged, parts_of
+from .preparing import Choices
+
+
+@dataclasses.dataclass(frozen=True)
+class District:
+    """One district of a plan. People and votes are heads; shares are parts of 1."""
+
+    label: Label
+    """Its label in the graph."""
+    number: int
+    """Its number to the auditor, from 0."""
+    units: int
+    population: int
+    deviation: Fraction
+    """By how many people its population differs from the ideal one."""
+    deviation_share: Fraction | None
+    """The same as a part of the ideal population; None where nobody lives anywhere."""
+    first: int
+    second: int
+    """The votes of both parties."""
+    first_share: Fraction | None
+    """The first party's part of both parties' votes; None without votes."""
+    group: int | None
+    """The people of the group; None where no group was named."""
+    group_of: int | None
+    group_share: Fraction | None
+    """The group's part of its whole; None without a group, or where the whole is nobody."""
+    regions: tuple[Label, ...] | None
+    """The regions in which it lies; None where no column of regions was named."""
+    split_regions: int | None
+    """How many of these lie in other districts, too."""
+    parts: int
+    """The number of its contiguous parts: 1 in a legal plan."""
+
+
+class Plan(typing.NamedTuple):
+    """What is known of a plan."""
+
+    districts: tuple[District, ...]
+    """By their numbers."""
+    edges: int
+    cut_edges: int
+    faults: tuple[str, ...]
+    """Every fault, in the user's labels; empty where the plan is legal."""
+
+
+class Table(typing.NamedTuple):
+    """A graph that the program reads, as it stands in its JSON."""
+
+    rows: dict[Label, dict[str, typing.Any]]
+    neighbors: dict[Label, list[Label]]
+
+
+def table_of(data: bytes) -> Table | None:
+    """Reads the program's graph; None where its shape is one that the program refuses."""
+    try:
+        root = json.loads(data.decode("utf-8"))
+        nodes, adjacency = root["nodes"], root["adjacency"]
+        rows = {node["id"]: node for node in nodes}
+        found: dict[Label, set[Label]] = {unit: set() for unit in rows}
+        for node, entries in zip(nodes, adjacency):
+            for entry in entries:
+                if entry["id"] != node["id"]:
+                    found[node["id"]].add(entry["id"])
+                    found[entry["id"]].add(node["id"])
+    except (ValueError, KeyError, TypeError):
+        return None
+    place = {unit: number for number, unit in enumerate(rows)}
+    return Table(
+        rows, {unit: sorted(others, key=place.__getitem__) for unit, others in found.items()}
+    )
+
+
+def plan_of(data: bytes, named: typing.Mapping[str, typing.Any]) -> Plan | None:
+    """Returns the districts and the faults of a plan; None where the graph itself is refused.
+
+    `named` has the columns and the limits by the program's words.
+    """
+    table = table_of(data)
+    if table is None or not table.rows:
+        return None
+    choices = Choices(
+        named["pop"],
+        named["first"],
+        named["second"],
+        named["district"],
+        region=named.get("region") or None,
+        slack=int(named.get("slack", 500)),
+        max_split=int(named.get("max_split", 200)),
+        max_splits=int(named.get("max_splits", 995_000)),
+        max_split_regions=int(named.get("max_split_regions", 5000)),
+        group=named.get("group") or None,
+        group_of=named.get("group_of") or None,
+        group_districts=int(named.get("group_districts", 0)),
+        show_all=True,
+    )
+    try:
+        judged = Judged(table.rows, table.neighbors, choices)
+        cut = cut_edges_of(table, choices.district)
+        faults = list(judged.refusals)
+        if not any(row[choices.first] + row[choices.second] for row in table.rows.values()):
+            faults.append("no votes: both parties have none in any unit")
+        if cut > int(named.get("max_cut", 400_000)):
+            faults.append(f"{cut} cut edges, more than {named['max_cut']}")
+        edges = sum(map(len, table.neighbors.values())) // 2
+        return Plan(districts_of(judged, table), edges, cut, tuple(faults))
+    except (KeyError, TypeError, ValueError):
+        return None
+
+
+def cut_edges_of(table: Table, column: str) -> int:
+    """Returns the number of edges between two districts."""
+    both = sum(
+        table.rows[unit][column] != table.rows[other][column]
+        for unit, others in table.neighbors.items()
+        for other in others
+    )
+    return int(both) // 2
+
+
+def districts_of(judged: Judged, table: Table) -> tuple[District, ...]:
+    """Returns the districts of a plan, by their numbers."""
+    choices = judged.choices
+    total = sum(row[choices.population] for row in table.rows.values())
+    ideal = Fraction(total, len(judged.districts))
+    lies_in: dict[Label, set[Label]] = {}
+    if choices.region:
+        for row in table.rows.values():
+            lies_in.setdefault(row[choices.region], set()).add(row[choices.district])
+    found = []
+    for number, label in enumerate(judged.districts):
+        members = judged.members[label]
+        rows = [table.rows[unit] for unit in members]
+        sums = {column: sum(row[column] for row in rows) for column in choices.counted}
+        first, second = sums[choices.first], sums[choices.second]
+        group, whole = (sums[choices.group], sums[choices.whole]) if choices.group else (None, None)
+        regions = (
+            tuple(dict.fromkeys(row[choices.region] for row in rows)) if choices.region else None
+        )
+        found.append(
+            District(
+                label,
+                number,
+                len(members),
+                sums[choices.population],
+                sums[choices.population] - ideal,
+                part(sums[choices.population] - ideal, ideal),
+                first,
+                second,
+                part(first, first + second),
+                group,
+                whole,
+                part(group, whole),
+                regions,
+                None if regions is None else sum(len(lies_in[region]) > 1 for region in regions),
+                len(parts_of(members, judged.neighbours)),
+            )
+        )
+    return tuple(found)
+
+
+def part(count: Fraction | int | None, whole: Fraction | int | None) -> Fraction | None:
+    """Returns a part of a whole; None where there is none."""
+    return None if count is None or not whole else Fraction(count) / Fraction(whole)
+
+
+# ---- as a table
+
+COLUMNS = (
+    "district",
+    "number",
+    "units",
+    "population",
+    "deviation",
+    "deviation_share",
+    "first",
+    "second",
+    "first_share",
+    "group",
+    "group_of",
+    "group_share",
+    "regions",
+    "split_regions",
+    "parts",
+)
+
+
+def rows_of(districts: typing.Sequence[District], exact: bool = False) -> list[list[object]]:
+    """Returns a row for each district, with the columns `COLUMNS`; `regions` is their number."""
+
+    def plain_of(value: object) -> object:
+        return float(value) if isinstance(value, Fraction) and not exact else value
+
+    return [
+        [
+            plain_of(value)
+            for value in (
+                one.label,
+                one.number,
+                one.units,
+                one.population,
+                one.deviation,
+                one.deviation_share,
+                one.first,
+                one.second,
+                one.first_share,
+                one.group,
+                one.group_of,
+                one.group_share,
+                None if one.regions is None else len(one.regions),
+                one.split_regions,
+                one.parts,
+            )
+        ]
+        for one in districts
+    ]
+
+
+def shown_rows(districts: typing.Sequence[District]) -> tuple[list[str], list[list[str]]]:
+    """Returns the titles and the cells of a table for people, without its empty columns."""
+
+    def cell(name: str, value: object) -> str:
+        if value is None:
+            return ""
+        if name.endswith("share"):
+            sign = "+" if name == "deviation_share" else ""
+            return f"{100 * float(typing.cast(float, value)):{sign}.2f} %"
+        if name == "deviation":
+            return f"{float(typing.cast(float, value)):+,.1f}"
+        return (
+            f"{value:,}"
+            if isinstance(value, int) and name not in ("district", "number")
+            else (str(value))
+        )
+
+    rows = rows_of(districts)
+    kept = [at for at, name in enumerate(COLUMNS) if any(row[at] is not None for row in rows)]
+    return (
+        [COLUMNS[at].replace("_", " ") for at in kept],
+        [[cell(COLUMNS[at], row[at]) for at in kept] for row in rows],
+    )

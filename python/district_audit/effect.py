@@ -1,0 +1,161 @@
+"""The test that separates an effect's size from its significance, computed from a report's walks.
+
+Source: Chikina, Frieze, Mattingly and Pegden, 'Separating effect from significance in Markov chain
+tests', Statistics and Public Policy 7 (2020). docs/READING_A_REPORT.md derives the bound.
+
+Every number here is a whole number or a fraction. Nothing is computed in floating point.
+"""
+from __future__ import annotations
+
+import dataclasses
+import math
+import numbers
+import typing
+from decimal import Decimal
+from fractions import Fraction
+
+if typing.TYPE_CHECKING:
+    from .report import Report
+
+BILLION = 1_000_000_000
+
+Number = typing.Union[Fraction, Decimal, str, int]
+
+
+@dataclasses.dataclass(frozen=True)
+class Effect:
+    """The test of one ask at one epsilon and alpha."""
+
+    ask: str
+    """The score and the tail, as `cut-edges:low`."""
+    epsilon: Fraction
+    """The fraction of a walk's plans among which the enacted plan has to be, itself included."""
+    alpha: Fraction
+    """The fraction of all legal plans to which the claim limits the enacted plan."""
+    walks: int
+    """The number of walks, m."""
+    plans: int
+    """The number of plans that each walk visits: its steps and one."""
+    most: int
+    """The greatest count of a `walk` line that is at most `epsilon * plans`."""
+    outliers: int
+    """The number of walks whose count is at most `most`."""
+    p: Decimal
+    """The p-value, rounded up at nine places."""
+
+    def __str__(self) -> str:
+        """Returns the result in one sentence."""
+        return ("%s: on %d of %d walks the enacted plan is among the most extreme %s of the plans "
+                "visited (count at most %d of %d); if it were not among the most fragile %s of all "
+                "legal plans, that many walks would show so with probability at most %s" % (
+                    self.ask, self.outliers, self.walks, self.epsilon, self.most, self.plans,
+                    self.alpha, self.p))
+
+
+def test_effects(report: Report, epsilon: Number, alpha: Number) -> dict[str, Effect]:
+    """Returns the test of each ask of a report, by ask. `Report.effect` documents it."""
+    part, share = exact(epsilon, "epsilon"), exact(alpha, "alpha")
+    walks, plans = report.setting.walks, report.setting.steps + 1
+    if walks == 0:
+        raise ValueError("the report has no outlier walks (walks=0), and the test counts these")
+    most = math.floor(part * plans)
+    if most == 0:
+        raise ValueError(
+            "epsilon is %s, and a walk of %d plans cannot show less than 1/%d: take a greater "
+            "epsilon or longer walks" % (part, plans, plans))
+    found = {}
+    for ask in report.asks:
+        outliers = sum(walk.ask == ask and walk.count <= most for walk in report.walks)
+        p = nine_places(tail_billionths(walks, outliers, 2 * part / share))
+        found[ask] = Effect(ask, part, share, walks, plans, most, outliers, p)
+    return found
+
+
+def exact(value: object, name: str) -> Fraction:
+    """Returns a number above 0 and at most 1 as a fraction, without rounding.
+
+    TypeError for a float, which is seldom the decimal that was typed, and for other types.
+    ValueError for a text that is no number, and for a number out of range.
+    """
+    if isinstance(value, bool) or not isinstance(value, (numbers.Rational, Decimal, str)):
+        hint = ": give it as the text %r, or as a Fraction" % str(value)
+        raise TypeError("%s is a %s, and has to be exact%s" % (
+            name, type(value).__name__, hint if isinstance(value, float) else ""))
+    try:
+        found = Fraction(value)
+    except (ValueError, ZeroDivisionError, OverflowError):
+        raise ValueError("%s is %r, which is no number as '0.01' or '1/100'" % (
+            name, value)) from None
+    if not 0 < found <= 1:
+        raise ValueError("%s is %s, and has to be above 0 and at most 1" % (name, found))
+    return found
+
+
+def nine_places(billionths: int) -> Decimal:
+    """Returns a number of billionths as a decimal with nine places."""
+    return Decimal("%d.%09d" % divmod(billionths, BILLION))
+
+
+# ---- the binomial tail
+
+def tail_billionths(walks: int, least: int, square: Fraction) -> int:
+    """Returns P(X >= least) in billionths, rounded up, for X binomial of `walks` trials.
+
+    Each trial succeeds with chance q, the square root of `square`, or 1 where that is above 1.
+
+    The result is the exact ceiling. If q is rational, the tail is computed exactly. Otherwise it is
+    enclosed between the tails at two rationals around q, by rounding down and up, until both have
+    the same ceiling. That ends, because the tail is irrational then: as a polynomial in q it has an
+    odd part, which is 0 only if least = walks is even, and that case is computed on its own.
+    """
+    if least == 0 or square >= 1:
+        return BILLION
+    if least == walks:
+        return ceiling_of_root(BILLION ** 2 * Fraction(square ** walks))
+    top, of = math.isqrt(square.numerator), math.isqrt(square.denominator)
+    if Fraction(top, of) ** 2 == square:
+        scale: int = of ** walks
+        return -(-tail_at(walks, least, top, of, scale, True) * BILLION // scale)
+    digits = 20
+    while True:
+        of, scale = 10 ** digits, 2 ** walks * 10 ** (2 * digits)
+        root = math.isqrt(square.numerator * of ** 2 // square.denominator)
+        low = tail_at(walks, least, root, of, scale, False)
+        high = tail_at(walks, least, root + 1, of, scale, True)
+        # The tail is above 0 and below 1. The bounds, being rounded, may reach beyond.
+        low_billionths = max(1, -(-low * BILLION // scale))
+        high_billionths = min(BILLION, -(-high * BILLION // scale))
+        if low_billionths == high_billionths:
+            return high_billionths
+        digits *= 2
+
+
+def ceiling_of_root(square: Fraction) -> int:
+    """Returns the least whole number whose square is at least `square`, which is above 0."""
+    return math.isqrt(math.ceil(square) - 1) + 1
+
+
+def tail_at(walks: int, least: int, top: int, of: int, scale: int, up: bool) -> int:
+    """Returns `scale * P(X >= least)` for the chance top/of, rounded up or down."""
+    if 2 * top <= of:
+        return scale - head_at(walks, least - 1, top, of, scale, not up)
+    return head_at(walks, walks - least, of - top, of, scale, up)
+
+
+def head_at(walks: int, most: int, top: int, of: int, scale: int, up: bool) -> int:
+    """Returns `scale * P(X <= most)` for the chance top/of, rounded up or down.
+
+    The chance is at most one half, so that the first term, (1 - chance)^walks, is at least
+    2^-walks and keeps its leading digits. If the scale is of^walks, every division is exact.
+    """
+    term = divided(scale * (of - top) ** walks, of ** walks, up)
+    total = term
+    for count in range(1, most + 1):
+        term = divided(term * (walks - count + 1) * top, count * (of - top), up)
+        total += term
+    return total
+
+
+def divided(top: int, of: int, up: bool) -> int:
+    """Returns top/of, rounded up or down."""
+    return -(-top // of) if up else top // of

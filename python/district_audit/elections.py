@@ -1,0 +1,32 @@
+"""Several elections on one map: the same walk of plans, scored with other votes."""
+from __future__ import annotations
+
+import pathlib
+
+from .program import PathLike
+from .results import NamedReports
+
+
+class ElectionReports(NamedReports):
+    """The reports of one plan under several elections: a list of pairs, a name and a report.
+
+    All have the same key, so all visit the same plans, walk by walk: proposals and rules do not
+    depend on votes. `["GOV18"]` is the report of an election, and `to_frame()` one table of all.
+
+    Multiplicity: each bound or p-value covers one test, that is one election, one score and, for
+    the outlier test, one walk. If m tests were computed, a claim that rests on the smallest value
+    at level alpha needs m times that value to be below alpha (Bonferroni's rule). The rule asks for
+    no independence, so it holds although the elections share their walks. Count every test that was
+    computed, not those that are reported, and choose elections and scores before any report is
+    seen. Lines on cut edges do not depend on votes: they are equal in all reports, and count once.
+    """
+
+    what = "election"
+
+
+def folder_of(folder: PathLike | None, name: str) -> pathlib.Path:
+    """Returns the folder of an election's checkpoints, which is made where it is not there."""
+    place = pathlib.Path(folder if folder is not None else ".") / name
+    if place.parent.is_dir():
+        place.mkdir(exist_ok=True)
+    return place

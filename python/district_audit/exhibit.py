@@ -1,0 +1,378 @@
+"""An exhibit: one self-contained page that says what a report shows, for a court.
+
+The page is HTML with inline style and inline SVG. It loads nothing, runs no script, and refers to
+no other file. It is black, gray and white, and made to be printed.
+"""
+from __future__ import annotations
+
+import dataclasses
+import hashlib
+import os
+import shlex
+import typing
+from fractions import Fraction
+
+from . import exhibit_figures as figures
+from . import exhibit_text as texts
+from .effect import Effect, Number
+from .exhibit_districts import Columns, District, columns_of, districts_of
+from .exhibit_figures import escaped
+from .preparing import Prepared
+from .report import MOST_REGIONS, MOST_SPLITS, Report
+
+PathLike = typing.Union[str, "os.PathLike[str]"]
+# A report with more lines than this is shown in part; its hash is of all of it.
+MOST_LINES = 2000
+Named = typing.Sequence[typing.Tuple[str, Report]]
+
+STYLE = """
+@page { size: A4; margin: 18mm 16mm; }
+body { font: 15px/1.45 Georgia, 'Times New Roman', serif; color: #000; background: #fff;
+  max-width: 60em; margin: 2em auto; padding: 0 1em; }
+h1 { font-size: 1.6em; margin-bottom: 0; } h2 { font-size: 1.2em; margin-top: 1.8em;
+  border-bottom: 1px solid #000; } h3 { font-size: 1.05em; }
+table { border-collapse: collapse; margin: 0.8em 0; font-size: 0.9em; }
+th, td { border: 1px solid #888; padding: 0.2em 0.5em; text-align: left; vertical-align: top; }
+.results td:nth-child(2) { white-space: nowrap; }
+td.n, th.n { text-align: right; font-variant-numeric: tabular-nums; }
+thead { display: table-header-group; } tr, figure, pre { break-inside: avoid; }
+h2, h3, .title { break-after: avoid; }
+figure { margin: 1.2em 0; } figcaption { font-size: 0.9em; }
+figure svg { width: 100%; height: auto; }
+svg text { font: 13px Arial, Helvetica, sans-serif; fill: #000; }
+pre, code { font: 12px/1.4 'DejaVu Sans Mono', 'Courier New', monospace; }
+pre { white-space: pre-wrap; overflow-wrap: anywhere; border: 1px solid #888; padding: 0.6em; }
+code { overflow-wrap: anywhere; }
+@media print { body { font-size: 10.5pt; max-width: none; margin: 0; padding: 0; } }
+"""
+
+
+@dataclasses.dataclass(frozen=True)
+class Options:
+    """What an exhibit may be given beside the reports. `Report.exhibit` documents each."""
+
+    title: str = "Outlier test of a districting plan"
+    parties: tuple[str, str] | None = None
+    graph: object = None
+    columns: Columns | None = None
+    command: str | None = None
+    notes: typing.Sequence[str] = ()
+    epsilon: Number | None = None
+    alpha: Number | None = None
+
+
+def write(path: PathLike, plans: Named, options: Options) -> None:
+    """Writes the page on one report, or on several plans of one call, as UTF-8."""
+    data = page(plans, options).encode("utf-8")
+    with open(path, "wb") as file:
+        file.write(data)
+
+
+def exhibit_plans(path: PathLike, plans: Named, **options: typing.Any) -> None:
+    """Writes one page on several plans: what `district_audit.plans` returns, names and reports.
+
+    The options are those of `Report.exhibit`. The district table is of the graph's own plan, the
+    first. ValueError if the reports are not of one call.
+    """
+    write(path, plans, Options(**options))
+
+
+def page(plans: Named, options: Options) -> str:
+    """Returns the page. ValueError if the reports or the options do not belong together."""
+    reports = [report for _, report in plans]
+    if not reports:
+        raise ValueError("an exhibit needs a report")
+    first = reports[0]
+    refuse_other_jobs(reports)
+    refuse_half_an_effect(options)
+    columns = columns_of(first, options.graph, options.columns)
+    parties = parties_of(options, columns)
+    scores = list(dict.fromkeys(ask.split(":")[0] for ask in first.asks))
+    parts = [
+        "<h1>%s</h1>" % escaped(options.title),
+        "<p>%s</p>" % escaped(texts.subject(first, parties, [name for name, _ in plans])),
+        *("<p>%s</p>" % escaped(note) for note in options.notes),
+        heading("What was asked"), asked(first, parties, scores),
+        heading("How it was done"), *paragraphs(texts.methods(first)),
+        heading("Results"), *results(plans, options, parties),
+        heading("What the numbers mean"), *paragraphs(texts.theorems(first, options.alpha)),
+        heading("What this exhibit does not say"), items(texts.LIMITS),
+        heading("How to repeat it"), *provenance(plans, options, columns),
+    ]
+    return ('<!DOCTYPE html>\n<html lang="en"><head><meta charset="utf-8">'
+            '<meta http-equiv="Content-Security-Policy" content="default-src \'none\'; '
+            'style-src \'unsafe-inline\'"><title>%s</title><style>%s</style></head>'
+            '<body>\n%s\n</body></html>\n' % (escaped(options.title), STYLE, "\n".join(parts)))
+
+
+def refuse_other_jobs(reports: typing.Sequence[Report]) -> None:
+    """ValueError unless the reports are of one call: the same key, map, rules and setting."""
+    def job(report: Report) -> tuple[object, ...]:
+        rules = dataclasses.replace(report.rules, majorities=None)
+        return (report.key, report.units, report.edges, report.population, rules, report.setting,
+                report.asks, report.source, report.shift is None, bool(report.serial))
+
+    if any(job(report) != job(reports[0]) for report in reports):
+        raise ValueError("the reports are not of one call of `plans`: make an exhibit of each")
+
+
+def refuse_half_an_effect(options: Options) -> None:
+    if (options.epsilon is None) != (options.alpha is None):
+        raise ValueError("epsilon and alpha belong together: give both or neither")
+
+
+def parties_of(options: Options, columns: typing.Mapping[str, str]) -> tuple[str, str]:
+    """Returns the names of both parties, or words that stand for them."""
+    if options.parties is not None:
+        if isinstance(options.parties, str) or len(options.parties) != 2:
+            raise ValueError("parties has to be two names, those of the first and second column")
+        return options.parties[0], options.parties[1]
+    if "first" in columns and "second" in columns:
+        return ("the first party (column %s)" % columns["first"],
+                "the second party (column %s)" % columns["second"])
+    return "the first party", "the second party"
+
+
+# ---- pieces of HTML
+
+def heading(words: str) -> str:
+    return "<h2>%s</h2>" % escaped(words)
+
+
+def paragraphs(found: typing.Iterable[str]) -> list[str]:
+    return ["<p>%s</p>" % escaped(words) for words in found]
+
+
+def items(found: typing.Iterable[str]) -> str:
+    return "<ul>%s</ul>" % "".join("<li>%s</li>" % escaped(words) for words in found)
+
+
+def table(titles: typing.Sequence[str], rows: typing.Iterable[typing.Sequence[object]],
+          plain: int = 1, kind: str = "") -> str:
+    """Returns a table; all columns behind the first `plain` ones hold numbers."""
+    def cells(tag: str, row: typing.Sequence[object]) -> str:
+        return "".join("<%s%s>%s</%s>" % (tag, "" if place < plain else ' class="n"', escaped(cell),
+                                          tag) for place, cell in enumerate(row))
+
+    body = "".join("<tr>%s</tr>" % cells("td", row) for row in rows)
+    return "<table%s><thead><tr>%s</tr></thead><tbody>%s</tbody></table>" % (
+        kind and ' class="%s"' % kind, cells("th", titles), body)
+
+
+# ---- sections
+
+def asked(report: Report, parties: tuple[str, str], scores: typing.Sequence[str]) -> str:
+    """Returns the definitions of the scores and the questions."""
+    rows = [(ask, texts.question(ask, parties)) for ask in report.asks]
+    defined = "".join("<dt><b>%s</b></dt><dd>%s</dd>" % (escaped(score), escaped(
+        texts.definition(score, parties))) for score in scores)
+    return "<dl>%s</dl>%s" % (defined, table(("ask", "question"), rows, plain=2))
+
+
+def starts_of(report: Report) -> dict[str, Fraction]:
+    """Returns the enacted plan's value of each score that is asked for."""
+    lines = (*report.walks, *report.stops, *report.ends, *report.serial)
+    return {line.score: line.start.fraction for line in lines}
+
+
+def results(plans: Named, options: Options, parties: tuple[str, str]) -> list[str]:
+    """Returns the tables and figures of each plan."""
+    parts: list[str] = []
+    number = 1
+    for place, (name, report) in enumerate(plans):
+        enacted = {score: texts.shown(score, value) for score, value in starts_of(report).items()}
+        parts += ["<h3>Plan %s</h3>" % escaped(name)] if len(plans) > 1 else []
+        if options.graph is not None and place == 0:
+            columns = columns_of(report, options.graph, options.columns)
+            parts += district_table(report, districts_of(report, options.graph, columns), parties)
+        parts += paragraphs(texts.findings(report, enacted, parties))
+        parts += [result_table(report), *paragraphs([texts.together(report)])]
+        if options.epsilon is not None and options.alpha is not None and report.walks:
+            parts += effect_table(report.effect(options.epsilon, options.alpha))
+        drawn = drawings(report, enacted, parties, number, name if len(plans) > 1 else "")
+        number += len(drawn)
+        parts += drawn
+    return parts
+
+
+def result_table(report: Report) -> str:
+    """Returns a row for each line of a test, with the enacted value as written and as a decimal."""
+    rows: list[tuple[object, ...]] = []
+
+    def value(score: str, start: object, fraction: Fraction) -> tuple[str, str]:
+        return str(start), texts.shown(score, fraction)
+
+    is_long = report.setting.walks > figures.MOST_ROWS
+    for walk in () if is_long else report.walks:
+        rows.append(("outlier walk %d" % walk.number, walk.ask,
+                     *value(walk.score, walk.start, walk.start.fraction),
+                     "%d of %d" % (walk.count, walk.of), "bound %s" % walk.bound))
+    for ask in report.asks if is_long else ():
+        walks = sorted((one for one in report.walks if one.ask == ask), key=lambda one: one.count)
+        least, most = walks[0], walks[-1]
+        rows.append(("%d outlier walks" % len(walks), ask,
+                     *value(least.score, least.start, least.start.fraction),
+                     "%d to %d of %d" % (least.count, most.count, least.of),
+                     "bounds %s to %s" % (least.bound, most.bound)))
+    for stop in report.stops:
+        rows.append(("sequential test", stop.ask,
+                     *value(stop.score, stop.start, stop.start.fraction),
+                     "%d of %d" % (stop.top, stop.of), "p %s" % stop.p))
+    for test in report.ends:
+        rows.append(("parallel test", test.ask,
+                     *value(test.score, test.start, test.start.fraction),
+                     "rank %d of %d" % (test.rank, test.of), "p %s" % test.p))
+    for one in report.serial:
+        rows.append(("serial test", one.ask,
+                     *value(one.score, one.start, one.start.fraction),
+                     "rank %d of %d" % (one.rank, one.of), "p %s" % one.p))
+    return table(("test", "ask", "enacted value", "in decimals", "at least as extreme", "result"),
+                 rows, plain=2, kind="results")
+
+
+def effect_table(found: typing.Mapping[str, Effect]) -> list[str]:
+    rows = [(one.ask, "%d of %d" % (one.outliers, one.walks), one.most, one.plans, one.p)
+            for one in found.values()]
+    any_one = next(iter(found.values()))
+    said = ("Effect apart from significance: epsilon %s, alpha %s. The test counts the walks on "
+            "which at most the given number of visited plans is at least as extreme as the "
+            "enacted plan." % (any_one.epsilon, any_one.alpha))
+    return [*paragraphs([said]), table(("ask", "walks that show it", "count at most", "of", "p"),
+                                       rows)]
+
+
+def drawings(report: Report, enacted: typing.Mapping[str, str], parties: tuple[str, str],
+             number: int, name: str) -> list[str]:
+    """Returns the figures of one report, numbered from `number`."""
+    of_plan = ", plan %s" % name if name else ""
+    found: list[str] = []
+    walks, ranks, shift = (figures.walk_rows(report, enacted), figures.rank_rows(report, enacted),
+                           report.shift)
+    if walks:
+        found.append(figures.walks_figure(
+            number, "Outlier walks from the enacted plan" + of_plan, walks))
+    if ranks:
+        found.append(figures.ranks_figure(
+            number + len(found), "Rank of the enacted plan" + of_plan, ranks))
+    if shift is not None and max(shift.counts) > 0:
+        seats = starts_of(report).get("seats")
+        title = "Districts won by %s in the visited plans%s" % (parties[0], of_plan)
+        found.append(figures.seats_figure(number + len(found), title, shift,
+                                          None if seats is None else int(seats), report.districts))
+    return found
+
+
+def district_table(report: Report, districts: typing.Sequence[District],
+                   parties: tuple[str, str]) -> list[str]:
+    """Returns the table of the districts of the enacted plan, and its total deviation."""
+    ideal = Fraction(report.population, len(districts))
+    has_group = any(one.group is not None for one in districts)
+    titles = ["district", "units", "people", "from ideal", "in %", "votes of " + parties[0],
+              "votes of " + parties[1], "share of %s, %%" % parties[0], "won by"]
+    titles += ["group, %"] if has_group else []
+    rows = []
+    for one in districts:
+        off = one.population - ideal
+        winner = parties[0] if one.is_won_by_first else parties[1]
+        winner += " (tie)" if one.first == one.second else ""
+        row = [one.label, one.units, one.population, texts.decimal(off, 1, True), texts.decimal(
+            100 * off / ideal, 3, True) if ideal else "", one.first, one.second,
+            texts.ratio(one.first, one.first + one.second), winner]
+        rows.append(row + ([texts.ratio(one.group or 0, one.whole or 0)] if has_group else []))
+    people = [one.population for one in districts]
+    said = "Ideal population %s. Total deviation %d people" % (
+        texts.decimal(ideal, 1), max(people) - min(people))
+    said += ", %s percent of the ideal." % texts.decimal(
+        100 * (max(people) - min(people)) / ideal, 3) if ideal else "."
+    return ['<p class="title"><b>Table 1.</b> The districts of the enacted plan, from the graph. '
+            "These sums are the package's and not part of the proved report. Compared with the "
+            "report were the numbers of units, edges, districts and people, the scores that were "
+            "asked for, and, if the report names its source and the graph was given as it was "
+            "read, its bytes.</p>", table(titles, rows), *paragraphs([said])]
+
+
+# ---- how to repeat it
+
+def provenance(plans: Named, options: Options, columns: typing.Mapping[str, str]) -> list[str]:
+    """Returns the hashes, the command, and the reports in full."""
+    report = plans[0][1]
+    text = "".join(("plan %s\n%s" % (name, one)) if len(plans) > 1 else str(one)
+                   for name, one in plans)
+    hashes = [("key of all draws", report.key),
+              ("SHA-256 of the report", hashlib.sha256(encoded(text)).hexdigest())]
+    if report.source is not None:
+        what = "graph and table" if len(plans) > 1 else "graph"
+        hashes.append(("SHA-256 of the %s, %d bytes" % (what, report.source.bytes),
+                       report.source.sha256))
+    data = graph_bytes(options.graph)
+    if data is not None:
+        if report.source is not None and len(plans) == 1 and not report.source.is_of(data):
+            raise ValueError("the graph has other bytes than those that the report was made of")
+        hashes.append(("SHA-256 of the graph of Table 1, %d bytes" % len(data),
+                       hashlib.sha256(data).hexdigest()))
+    command = options.command or command_of(report, columns, len(plans) > 1)
+    rows = ["<tr><td>%s</td><td><code>%s</code></td></tr>" % (escaped(what), escaped(value))
+            for what, value in hashes]
+    return ["<p>Whoever runs this command over the same bytes gets the same report, byte for byte, "
+            "on any machine and with any number of workers.</p>", "<pre>%s</pre>" % lines(command),
+            "<table><tbody>%s</tbody></table>" % "".join(rows),
+            *reports_in_full(text)]
+
+
+def reports_in_full(text: str) -> list[str]:
+    """Returns the text of the reports, or its first lines if it is very long."""
+    found = text.split("\n")
+    if len(found) <= MOST_LINES:
+        return ["<p>The report in full:</p>", "<pre>%s</pre>" % lines(text)]
+    return ["<p>The first %d of the report's %d lines:</p>" % (MOST_LINES, len(found) - 1),
+            "<pre>%s</pre>" % lines("\n".join(found[:MOST_LINES]))]
+
+
+def encoded(words: str) -> bytes:
+    """Returns the bytes of a text of the program, which may have been read with surrogates."""
+    return words.encode("utf-8", "surrogateescape")
+
+
+def lines(words: str) -> str:
+    return "\n".join(escaped(line) for line in words.split("\n"))
+
+
+def graph_bytes(graph: object) -> bytes | None:
+    """Returns the bytes that the program reads, if the graph is given as such."""
+    if isinstance(graph, Prepared):
+        return graph.data
+    if isinstance(graph, (bytes, bytearray, memoryview)):
+        return bytes(graph)
+    if isinstance(graph, (str, os.PathLike)):
+        with open(graph, "rb") as file:
+            return file.read()
+    return None
+
+
+def command_of(report: Report, columns: typing.Mapping[str, str], is_several: bool) -> str:
+    """Returns the command that makes this report; names in capitals stand for unknown columns."""
+    rules, setting = report.rules, report.setting
+    words: dict[str, object] = {name: columns.get(name, "COLUMN_OF_" + name.upper())
+                                for name in ("pop", "first", "second", "district")}
+    words.update(slack=rules.slack, key=report.key, walks=setting.walks, steps=setting.steps,
+                 ends=setting.ends, hub_steps=setting.hub_steps, ask=",".join(report.asks))
+    if rules.max_cut is not None:
+        words["max_cut"] = rules.max_cut
+    if rules.regions is not None:
+        words.update(region=columns.get("region", "COLUMN_OF_REGION"), max_split=rules.max_split)
+        words.update(max_splits=MOST_SPLITS if rules.max_splits is None else rules.max_splits)
+        words.update(max_split_regions=MOST_REGIONS if rules.max_split_regions is None
+                     else rules.max_split_regions)
+    if rules.group_districts is not None:
+        words.update(group=columns.get("group", "COLUMN_OF_GROUP"),
+                     group_districts=rules.group_districts)
+        words.update({"group_of": columns["group_of"]} if columns.get("group_of") else {})
+    words.update({"stop": setting.stop} if setting.stop else {})
+    words.update({"shift": "yes"} if report.shift is not None else {})
+    words.update({"serial": "yes"} if report.serial else {})
+    words.update({"source": "yes"} if report.source is not None else {})
+    # One option a line, so that no printed line breaks at a hyphen.
+    said = ["--%s %s" % (name.replace("_", "-"), shlex.quote(str(value)))
+            for name, value in words.items()]
+    return " \\\n  ".join(["district-audit plans" if is_several else "district-audit run", *said,
+                          "< graph_and_table" if is_several else "< graph.json"])

@@ -1,0 +1,151 @@
+"""Significance tests on scores computed from the plans of a trace.
+
+Both tests take values in the order of the plans, the enacted plan's first, and use only their
+order. Counts and ranks are exact; bounds and p-values are rounded up at nine places by whole
+numbers, as in the program's report.
+"""
+from __future__ import annotations
+
+import dataclasses
+import typing
+from decimal import Decimal
+from fractions import Fraction
+
+from .graphs import is_missing
+from .report import TAILS, bound_of, rounded_up
+
+
+@dataclasses.dataclass(frozen=True)
+class OutlierTest:
+    """The result of `outlier_test`."""
+
+    tail: str
+    """low or high."""
+    count: int
+    """The number of plans in the tail, the enacted plan among them."""
+    of: int
+    """The number of plans."""
+    bound: Decimal
+    """The square root of 2 count/of, rounded up at nine places; 1 or more says nothing."""
+
+    @property
+    def part(self) -> Fraction:
+        """The part of the plans that is in the tail."""
+        return Fraction(self.count, self.of)
+
+    def __str__(self) -> str:
+        return f"{self.tail} count {self.count} of {self.of} bound {self.bound}"
+
+
+@dataclasses.dataclass(frozen=True)
+class RankTest:
+    """The result of `rank_test`."""
+
+    tail: str
+    """low or high."""
+    rank: int
+    """One more than the number of endpoint plans in the tail."""
+    of: int
+    """One more than the number of endpoint plans."""
+    p: Decimal
+    """rank/of, rounded up at nine places."""
+
+    def __str__(self) -> str:
+        return f"{self.tail} rank {self.rank} of {self.of} p {self.p}"
+
+
+def count_tail(values: typing.Iterable[typing.Any], tail: str) -> tuple[int, int]:
+    """Returns how many values are at most (`low`) or at least (`high`) the first, and how many
+    there are. ValueError for another tail, a missing value, or fewer than two values. TypeError
+    for texts, which compare by their letters, and for a mapping or a table in place of values."""
+    if tail not in TAILS:
+        raise ValueError(f"tail is 'low' or 'high', and not {tail!r}")
+    if isinstance(values, (str, bytes, typing.Mapping)) or hasattr(values, "columns"):
+        raise TypeError(f"values is a sequence of numbers, and not a {type(values).__name__}: of a "
+                        "table give one column")
+    first: typing.Any = None
+    count = total = 0
+    for place, value in enumerate(values):
+        if is_missing(value) or value != value:
+            raise ValueError(f"value {place} is missing ({value!r}): a plan for which the score is "
+                             "not defined cannot be compared")
+        if isinstance(value, (str, bytes)):
+            raise TypeError(f"value {place} is the text {value!r}, and texts compare by their "
+                            "letters: make numbers of them")
+        if place == 0:
+            first = value
+        count += bool(value <= first if tail == "low" else value >= first)
+        total += 1
+    if total < 2:
+        raise ValueError(f"a test needs the enacted plan's value and at least one more: {total}")
+    return count, total
+
+
+def outlier_test(values: typing.Iterable[typing.Any], tail: str) -> OutlierTest:
+    """Applies the outlier theorem of Chikina, Frieze and Pegden to the values of one walk.
+
+    Parameters
+    ----------
+    values
+        The score of each plan of one walk in order, the enacted plan's first: any values that
+        compare, as `int`, `Fraction` or `float`. They are read once and not stored.
+    tail
+        "low" counts the plans whose score is at most the enacted plan's, "high" those whose score
+        is at least that. Equal scores count against the finding.
+
+    Returns an `OutlierTest`: the exact count c of q plans, and the square root of 2c/q, rounded up
+    at nine places. ValueError for a missing value or fewer than two values.
+
+    Theorem 1.1 of M. Chikina, A. Frieze, W. Pegden, "Assessing significance in a Markov chain
+    without mixing", PNAS 114 (2017): let X0, X1, .. be a reversible Markov chain with a stationary
+    distribution, and let X0 be drawn from it. Then for any fixed k and any labels of the states,
+    X0's label is among the least fraction epsilon of those of X0, .., Xk with probability at most
+    the square root of 2 epsilon. Its conditions, and where they come from:
+
+    - **Reversible chain.** Proved of the program's step is symmetry: as many draws lead from one
+      plan to another as back. So with random draws its walk is reversible, and all plans are
+      equally likely in the stationary distribution. The chain that takes N steps at a time is as
+      reversible (detailed balance of P gives that of its powers), and the plans after 0, N, 2N,
+      .. steps of a trace with `thin=N` are a walk of that chain. A last plan after fewer than N
+      further steps is none of them; `trace` leaves it out unless told otherwise.
+    - **Stationary start.** This is the null hypothesis: the enacted plan was drawn at random from
+      the legal plans that the walk can reach, all equally likely. The walk has to begin at the
+      enacted plan, so the samples are those of one walk, and not of an endpoint trajectory.
+    - **A fixed label.** The score is a function of the plan alone, and the score, the tail, the
+      number of steps and N were fixed before anybody looked. For m tests multiply the least bound
+      by m, or fix in advance which one counts.
+
+    A `float` has to be the same whenever the plan is the same. Floats that were rounded from exact
+    values can only make equal what was not, which makes the count greater and never smaller.
+    """
+    count, total = count_tail(values, tail)
+    return OutlierTest(tail, count, total, bound_of(count, total))
+
+
+def rank_test(values: typing.Iterable[typing.Any], tail: str) -> RankTest:
+    """Applies the parallel test of Besag and Clifford to the values of endpoint plans.
+
+    Parameters
+    ----------
+    values
+        The enacted plan's score, and then that of each endpoint plan: any values that compare. With
+        a trace of all endpoint trajectories (`ids="ends"`), the endpoints are the samples with
+        `is_last`, and the enacted plan is `trace.enacted`.
+    tail
+        "low" counts the endpoints whose score is at most the enacted plan's, "high" those whose
+        score is at least that. Equal scores count against the finding.
+
+    Returns a `RankTest`: the enacted plan's exact rank among all these plans, 1 for the most
+    extreme, and rank/of, rounded up at nine places. ValueError for a missing value or fewer than
+    two values.
+
+    J. Besag, P. Clifford, "Generalized Monte Carlo significance tests", Biometrika 76 (1989): the
+    hub lies some number of steps from the enacted plan, and each endpoint lies as many steps from
+    the hub, on walks with draws of their own. If the chain is reversible and the enacted plan was
+    drawn from its stationary distribution (the null hypothesis), then the enacted plan and the
+    endpoints are exchangeable, and a rank of g or less has probability at most g/of. The number of
+    endpoints, the steps, the score and the tail have to be fixed before anybody looked, all
+    endpoints have to be used, and the score has to be a function of the plan alone.
+    """
+    rank, total = count_tail(values, tail)
+    return RankTest(tail, rank, total, rounded_up(rank, total))

@@ -1,0 +1,91 @@
+"""The reports of several plans, or of several elections, by their names."""
+from __future__ import annotations
+
+import html
+import typing
+
+from .errors import extra
+from .report import Report
+
+if typing.TYPE_CHECKING:
+    import matplotlib.figure
+    import pandas
+
+Pair = typing.Tuple[str, Report]
+
+
+class NamedReports(typing.List[Pair]):
+    """A list of pairs, a name and a report, which also finds a report by its name."""
+
+    what = "report"
+    """What the names stand for: the title of their column."""
+
+    @property
+    def names(self) -> list[str]:
+        """The names, in order."""
+        return [name for name, _ in self]
+
+    def __getitem__(self, name: typing.Any) -> typing.Any:
+        """Returns the report of a name, or the pair in a place, as of a list.
+
+        KeyError where there is no report of this name, or several.
+        """
+        if not isinstance(name, str):
+            found = super().__getitem__(name)
+            return type(self)(found) if isinstance(name, slice) else found
+        reports = [report for other, report in self if other == name]
+        if len(reports) != 1:
+            many = "several have the name" if reports else "there is none of the name"
+            raise KeyError(f"{many} {name!r}; the names are {', '.join(map(repr, self.names))}")
+        return reports[0]
+
+    def to_frame(self, exact: bool = False) -> pandas.DataFrame:
+        """Returns one pandas DataFrame of all reports: the name, and then the columns of
+        `Report.to_frame`.
+
+        MissingExtra, an ImportError, where pandas is not installed.
+        """
+        pandas = extra("pandas")
+        frames = []
+        for name, report in self:
+            frame = report.to_frame(exact)
+            frame.insert(0, self.what, name)
+            frames.append(frame)
+        return pandas.concat(frames, ignore_index=True) if frames else pandas.DataFrame()
+
+    def plot(
+        self,
+        name: str | None = None,
+        *,
+        title: str | None = None,
+        scores: typing.Sequence[str] | None = None,
+        parties: typing.Sequence[str] | None = None,
+    ) -> matplotlib.figure.Figure:
+        """Draws the walks and tests of all reports, a row for each; see `Report.plot`."""
+        from . import picture
+
+        figure = picture.draw_named(self, self.what, title, scores, parties)
+        if name is not None:
+            picture.save(figure, name)
+        return figure
+
+    def __repr__(self) -> str:
+        return f"<{type(self).__name__} of {len(self)}: {', '.join(self.names)}>"
+
+    def _repr_html_(self) -> str:
+        parts = [
+            f"<h4>{self.what} {html.escape(name)}</h4>{report._repr_html_()}"
+            for name, report in self
+        ]
+        return "".join(parts)
+
+
+class PlanReports(NamedReports):
+    """The reports of several plans on one map, the graph's own plan first.
+
+    All have the same key, so each plan is walked from with the same draws. Plans are judged one by
+    one: whoever tells of the most extreme of m plans has m chances, and multiplies its bound or
+    p-value by m (Bonferroni's rule).
+    """
+
+    what = "plan"

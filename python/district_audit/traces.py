@@ -1,0 +1,542 @@
+"""Traces: the plans that a run's trajectories visit, one sample after the other.
+
+The program's `trace` writes a plan after every N-th step of a trajectory. `trace` calls it and
+`read_trace` reads a text that it wrote before. Both return a `Trace`, an iterator of samples that
+holds one plan at a time, whatever the length of the text.
+"""
+from __future__ import annotations
+
+import collections.abc
+import operator
+import os
+import re
+import time
+import typing
+from fractions import Fraction
+
+from . import progress as bars
+from . import scores as score_functions
+from .calls import Given, given
+from .errors import extra
+from .program import PathLike, found
+from .trace_plan import Plan, UnitTable, places_of
+from .trace_text import FileLines, Lines, ProgramLines, Shown, Text, Trajectory, plan_line
+
+if typing.TYPE_CHECKING:
+    import pandas
+    from typing_extensions import Unpack
+
+    from .words import CheckWords, TraceWords
+
+Words = typing.Mapping[str, typing.Any]
+Ids = typing.Union[int, str, range, typing.Tuple[int, int]]
+Elections = typing.Mapping[str, typing.Tuple[str, str]]
+Score = typing.Callable[["Sample"], object]
+Scores = typing.Union[typing.Mapping[str, Score], typing.Sequence[typing.Union[str, Score]]]
+
+
+class StaleSample(RuntimeError):
+    """A sample was asked for its plan after the trace went on to the next."""
+
+
+# ---- samples
+
+class Assignment(typing.Mapping[typing.Any, typing.Any]):
+    """A sample's plan: a mapping from the graph's own node ids to the plan's own district labels.
+
+    It reads the trace's current plan and copies nothing. `dict(assignment)` copies it.
+    """
+
+    def __init__(self, sample: Sample) -> None:
+        self.sample = sample
+
+    def __repr__(self) -> str:
+        return f"<Assignment of {self.sample!r}>"
+
+    def __getitem__(self, unit: typing.Any) -> typing.Any:
+        plan = self.sample.plan
+        return plan.table.labels[plan.districts[plan.table.unit_of[unit]]]
+
+    def __iter__(self) -> typing.Iterator[typing.Any]:
+        return iter(self.sample.plan.table.ids)
+
+    def __len__(self) -> int:
+        return len(self.sample.plan.table.ids)
+
+    def items(self) -> typing.ItemsView[typing.Any, typing.Any]:
+        """Returns the pairs of id and label, as a view of a copy."""
+        plan = self.sample.plan
+        labels = plan.table.labels
+        return {unit: labels[district]
+                for unit, district in zip(plan.table.ids, plan.districts)}.items()
+
+
+class Sample:
+    """A plan that a trajectory visits.
+
+    `id`, `step`, `moves` and `scores` stay as they are. The plan itself (`assignment`, `totals` and
+    every score computed of it) is the trace's current one, which is changed in place: once the
+    trace has gone on, asking for it raises `StaleSample`. `frozen()` returns a sample that keeps a
+    copy of the plan.
+    """
+
+    def __init__(self, trace: Trace, plan: Plan, trajectory: Trajectory, shown: Shown) -> None:
+        self.trace = trace
+        self.id: int = trajectory.id
+        """The trajectory: 0 to walks - 1 for the walks, then those of the endpoints."""
+        self.step = shown.step
+        """The number of steps from the first plan of the trajectory."""
+        self.moves = shown.moves
+        """How many of these steps changed the plan."""
+        self.numerators = shown.numerators
+        """The numerator of each ask's score, in the order of the asks."""
+        self.is_last = shown.step == trajectory.steps
+        """Whether it is the trajectory's last plan."""
+        self._plan, self._turn = plan, plan.turn
+
+    def __repr__(self) -> str:
+        return f"<Sample id={self.id} step={self.step} moves={self.moves}>"
+
+    @property
+    def plan(self) -> Plan:
+        """The plan by the auditor's numbers. StaleSample once the trace has gone on."""
+        if self._turn != self._plan.turn:
+            raise StaleSample(f"the trace has gone on from step {self.step} of trajectory "
+                              f"{self.id}: call frozen() on a sample to keep its plan")
+        return self._plan
+
+    @property
+    def scores(self) -> dict[str, Fraction]:
+        """The value of each score that was asked, as the program computed it, by its name."""
+        return {ask.score: Fraction(top, ask.start.denominator)
+                for ask, top in zip(self.trace.head.asks, self.numerators)}
+
+    @property
+    def assignment(self) -> Assignment:
+        """The district label of each node, as a mapping that copies nothing."""
+        return Assignment(self)
+
+    def totals(self, column: str) -> dict[typing.Any, int]:
+        """Returns the total of a column of people or votes in each district, by its label.
+
+        Any column of whole numbers of the graph. KeyError where no unit has it, ValueError with the
+        unit's id where a value is missing, negative or not whole. Costs what the moves since the
+        last sample cost, and not a look at each unit.
+        """
+        plan = self.plan
+        return dict(zip(plan.table.labels, plan.totals(column)))
+
+    def frozen(self) -> Sample:
+        """Returns the same sample with a copy of its plan, which stays when the trace goes on."""
+        copied = Sample.__new__(Sample)
+        copied.__dict__.update(self.__dict__)
+        copied._plan = Plan(self.plan.table, self.plan.districts)
+        copied._turn = copied._plan.turn
+        return copied
+
+    def partition(self, graph: typing.Any, **more: typing.Any) -> typing.Any:
+        """Returns a GerryChain Partition of a graph with this plan.
+
+        `graph` is a GerryChain Graph with the same nodes, and the other arguments are those of
+        `gerrychain.Partition`, as `updaters`. ValueError where a node is no unit of the trace, and
+        MissingExtra where GerryChain is not installed.
+        """
+        gerrychain = extra("gerrychain")
+        table, districts = self.plan.table, self.plan.districts
+        nodes = list(graph.nodes)
+        written = [row["id"] for row in table.rows]
+        if len(nodes) != len(written):
+            raise ValueError(f"the graph has {len(nodes)} nodes, and the plan {len(written)} units")
+        assignment = {nodes[place]: table.labels[district]
+                      for place, district in zip(places_of(nodes, written), districts)}
+        return gerrychain.Partition(graph, assignment=assignment, **more)
+
+
+# ---- the iterator of samples
+
+class Trace(typing.Iterator[Sample]):
+    """An iterator of the samples of a trace. It may be walked once.
+
+    A `with` block, or `close()`, ends the program where not all samples are wanted. Where the text
+    ends too early, is none that the program writes, or the program ends with a status other than 0,
+    the iterator raises `TraceRefused` or the status's exception.
+    """
+
+    def __init__(self, lines: Lines, sent: Given, graph: object, words: Words,
+                 **wanted: typing.Any) -> None:
+        """`graph` and `words` are those of the call, and `sent` what they came to. `wanted` has
+        ids, elections, last and progress, as `trace` and `read_trace` give them."""
+        self.lines = lines
+        self.text = Text(lines)
+        try:
+            # The program's own refusal of a graph comes before whatever this finds in it.
+            self.head, line = self.text.head()
+            self.trajectory = self.text.trajectory(line, self.head, None)
+            if "district" not in sent.named:
+                raise TypeError("the column district is missing")
+            self.table = UnitTable(sent.data, graph, sent.named["district"], words)
+            self.check(sent.data, wanted.get("ids"))
+            self.elections: dict[str, tuple[str, str]] = dict(wanted.get("elections") or {})
+            """The columns of both parties' votes in each election, by its name."""
+            for columns in self.elections.values():
+                # A missing column or value is told now, and not after a walk of hours.
+                for column in columns:
+                    self.table.column(column)
+        except BaseException:
+            lines.close()
+            raise
+        self.election = (str(sent.named.get("first", "")), str(sent.named.get("second", "")))
+        """The columns of both parties' votes that the program read."""
+        self.last: bool = wanted.get("last", False)
+        self.final_id: int | None = wanted["ids"][1] if wanted.get("ids") else None
+        self.form = plan_line(len(self.head.asks))
+        self.bar = Bar(self.steps_in_all()) if wanted.get("progress") else None
+        self.hub: Shown | None = None
+        self.done = 0
+        """The steps of the trajectories that were read to their ends."""
+        self.is_closed = False
+        self.plan = Plan(self.table, self.table.start)
+        self.begin(self.trajectory)
+
+    def check(self, data: bytes, ids: tuple[int, int] | None) -> None:
+        """Refuses a head that is not one of this graph, or not of the ids that were asked for."""
+        head, table = self.head, self.table
+        if (head.units, head.districts) != (len(table.ids), len(table.labels)):
+            self.text.refuse(f"it is of {head.units} units and {head.districts} districts, and the "
+                             f"graph has {len(table.ids)} and {len(table.labels)}")
+        if head.source is not None and not head.source.is_of(data):
+            self.text.refuse("it is the trace of another file, by its SHA-256")
+        if ids is not None and self.trajectory.id != ids[0]:
+            self.text.refuse("it begins with another trajectory than was asked for")
+
+    def steps_in_all(self) -> int:
+        """Returns the number of steps of all trajectories that were asked for."""
+        first = self.trajectory.id
+        final = first if self.final_id is None else self.final_id
+        setting = self.head.setting
+        return sum(setting.steps if one < setting.walks else setting.hub_steps
+                   for one in range(first, final + 1))
+
+    def __repr__(self) -> str:
+        head, one = self.head, self.trajectory
+        state = "closed" if self.is_closed else f"at step {self.before.step} of {one.steps}"
+        return (f"<Trace of {head.units} units, {head.districts} districts: trajectory {one.id} "
+                f"{state}, thin {one.thin}>")
+
+    def __iter__(self) -> Trace:
+        return self
+
+    def __next__(self) -> Sample:
+        try:
+            sample = self.sample()
+        except BaseException:
+            self.close()
+            raise
+        if sample is None:
+            self.close()
+            raise StopIteration
+        return sample
+
+    def __enter__(self) -> Trace:
+        return self
+
+    def __exit__(self, *_error: object) -> None:
+        self.close()
+
+    def __del__(self) -> None:
+        if "lines" in self.__dict__:
+            self.lines.close()
+
+    def close(self) -> None:
+        """Ends the program, or closes the file. No further sample comes."""
+        self.is_closed = True
+        self.lines.close()
+        if self.bar is not None:
+            self.bar.end()
+            self.bar = None
+
+    def begin(self, one: Trajectory) -> None:
+        """Stands before the first line of a trajectory."""
+        self.trajectory, self.place = one, 0
+        self.before = Shown(0, 0, tuple(ask.start.numerator for ask in self.head.asks), [], [])
+        if self.plan.districts != self.table.start:
+            self.plan.reset(self.table.start)
+
+    def sample(self) -> Sample | None:
+        """Reads on to the next sample; None at the end of the text."""
+        while not self.is_closed:
+            if self.place < self.trajectory.line_count:
+                shown = self.shown()
+                if self.last or shown.step % self.trajectory.thin == 0:
+                    self.plan.move(shown.units, shown.districts)
+                    return Sample(self, self.plan, self.trajectory, shown)
+                continue
+            self.done += self.trajectory.steps
+            line = self.text.line("the line `end`")
+            if line == "end":
+                self.text.ask_that(self.final_id in (None, self.trajectory.id),
+                                   f"not all trajectories up to {self.final_id} are there")
+                self.text.end()
+                return None
+            self.begin(self.text.trajectory(line, self.head, self.trajectory))
+        return None
+
+    def shown(self) -> Shown:
+        """Reads the next line of a plan."""
+        one = self.trajectory
+        shown = self.text.shown(self.form, one.due(self.place))
+        self.judge(one, self.before, shown)
+        self.before, self.place = shown, self.place + 1
+        if self.bar is not None:
+            self.bar.show(self.done + shown.step)
+        return shown
+
+    def judge(self, one: Trajectory, before: Shown, shown: Shown) -> None:
+        """Refuses a line that cannot come behind the line before, or be the first."""
+        ask_that, units, plan = self.text.ask_that, shown.units, self.plan.districts
+        ask_that(units == sorted(set(units)), "its units do not rise")
+        ask_that(not units or units[-1] < self.head.units, "there is no such unit")
+        ask_that(max(shown.districts, default=0) < self.head.districts, "there is no such district")
+        ask_that(not any(map(operator.eq, map(plan.__getitem__, units), shown.districts)),
+                 "a unit is in that district already")
+        made = shown.moves - before.moves
+        ask_that(0 <= made <= shown.step - before.step, "no such number of steps changed the plan")
+        most = made
+        if self.place == 0 and one.id >= self.head.setting.walks:
+            self.hub = self.hub or shown
+            ask_that(shown == self.hub, "all endpoint trajectories begin at one hub")
+            most = one.steps
+        ask_that(len(units) <= most, "more units changed than steps changed the plan")
+        ask_that(bool(units) or bool(made) or shown.numerators == before.numerators,
+                 "nothing changed, and the scores are others")
+
+    # ---- what may be made of it
+
+    @property
+    def enacted(self) -> Sample:
+        """The enacted plan, as a frozen sample at step 0 with the scores of the lines `ask`."""
+        start = tuple(ask.start.numerator for ask in self.head.asks)
+        first = Trajectory(0, self.head.setting.steps, 1)
+        return Sample(self, Plan(self.table, self.table.start), first, Shown(0, 0, start, [], []))
+
+    def columns_of(self, election: str | tuple[str, str] | None) -> tuple[str, str]:
+        """Returns the columns of an election: those of a name, a pair of columns as it is, or
+        where it is None those that the program read. KeyError for an unknown name."""
+        if election is None:
+            return self.election
+        if isinstance(election, str):
+            if election not in self.elections:
+                raise KeyError(f"there is no election {election}; the elections are "
+                               f"{', '.join(self.elections) or 'none: pass elections=...'}")
+            return self.elections[election]
+        first, second = election
+        return first, second
+
+    def rows(self, scores: Scores, exact: bool = True) -> typing.Iterator[dict[str, object]]:
+        """Walks the rest of the trace, and yields a dict for each sample: id, step, moves, and each
+        score.
+
+        `scores` is a mapping from names to functions of a sample, or a sequence of such functions
+        and of names of functions in `district_audit.scores`. A named score of votes is computed for
+        each of the trace's elections, as `seats GOV18`; without elections for the columns that the
+        program read. A score that is a list or a mapping gives a column for each of its values, as
+        `ordered_shares 1`. With exact=False a Fraction becomes the nearest float, which
+        can make equal what was not and never turns an order around.
+        """
+        functions = functions_of(scores, self.elections)
+        for sample in self:
+            row: dict[str, object] = {"id": sample.id, "step": sample.step, "moves": sample.moves}
+            for name, function in functions.items():
+                row.update(cells(name, function(sample), exact))
+            yield row
+
+    def to_frame(self, scores: Scores, exact: bool = False) -> pandas.DataFrame:
+        """Walks the rest of the trace, and returns a pandas DataFrame with a row for each sample.
+
+        Its columns are those of `rows`. Fractions are floats, or with exact=True Fractions, as
+        `outlier_test` compares them exactly. MissingExtra where pandas is not installed.
+        """
+        pandas = extra("pandas")
+        return pandas.DataFrame(list(self.rows(scores, exact)))
+
+
+def functions_of(scores: Scores, elections: Elections) -> dict[str, Score]:
+    """Returns a function for each column of scores."""
+    if isinstance(scores, str) or callable(scores):
+        scores = [scores]
+    if isinstance(scores, collections.abc.Mapping):
+        return dict(scores)
+    chosen: dict[str, Score] = {}
+    for score in scores:
+        if not isinstance(score, str):
+            chosen[getattr(score, "__name__", repr(score))] = score
+        elif score in score_functions.OF_PLANS:
+            chosen[score] = score_functions.OF_PLANS[score]
+        elif score not in score_functions.OF_VOTES:
+            known = (*score_functions.OF_PLANS, *score_functions.OF_VOTES)
+            raise ValueError(f"there is no score {score}; by name there are {', '.join(known)}")
+        elif not elections:
+            chosen[score] = score_functions.OF_VOTES[score]
+        else:
+            chosen.update((f"{score} {name}", of_election(score, name)) for name in elections)
+    return chosen
+
+
+def of_election(score: str, election: str) -> Score:
+    """Returns a score of votes for one election."""
+    function = score_functions.OF_VOTES[score]
+    return lambda sample: function(sample, election)
+
+
+def cells(name: str, value: object, exact: bool) -> dict[str, object]:
+    """Returns the columns of one score of one sample."""
+    if isinstance(value, collections.abc.Mapping):
+        return {f"{name} {key}": plain(one, exact) for key, one in value.items()}
+    if isinstance(value, (list, tuple)):
+        return {f"{name} {place}": plain(one, exact) for place, one in enumerate(value, 1)}
+    return {name: plain(value, exact)}
+
+
+def plain(value: object, exact: bool) -> object:
+    """Returns a value, a Fraction as a float unless exact ones are wanted."""
+    return float(value) if isinstance(value, Fraction) and not exact else value
+
+
+class StepBar(bars.TqdmBar):
+    """tqdm's bar, which counts steps."""
+
+    def show(self, done: int, total: int) -> None:
+        """Draws how many of all steps are done."""
+        if self.bar is None:
+            self.bar = self.tqdm(total=total, unit="step", unit_scale=True, desc="walked")
+        super().show(done, total)
+
+
+class Bar:
+    """A progress bar over the steps of a trace, drawn at most twice a second and a hundred times in
+    all, since each time is a line where it is no terminal's."""
+
+    def __init__(self, total: int) -> None:
+        self.total, self.due, self.percent = total, 0.0, -1
+        plain_or_tqdm = bars.new_bar()
+        self.bar = (StepBar(plain_or_tqdm.tqdm) if isinstance(plain_or_tqdm, bars.TqdmBar)
+                    else plain_or_tqdm)
+
+    def show(self, done: int) -> None:
+        """Draws how many steps are done."""
+        percent = 100 * done // max(1, self.total)
+        if done < self.total and (time.monotonic() < self.due or percent == self.percent):
+            return
+        self.due, self.percent = time.monotonic() + 0.5, percent
+        self.bar.show(done, self.total)
+
+    def end(self) -> None:
+        """Leaves the bar as it is."""
+        self.bar.end()
+
+
+# ---- the calls
+
+def ids_of(ids: Ids, walks: int, ends: int) -> tuple[int, int]:
+    """Returns the first and the last id."""
+    named = {"walks": (0, walks - 1), "ends": (walks, walks + ends - 1)}
+    if isinstance(ids, str):
+        found_ids = re.fullmatch("([0-9]+)(?:-([0-9]+))?", ids)
+        if ids not in named and found_ids is None:
+            raise ValueError(f"ids is a number, a range, 'A-B', 'walks' or 'ends', and not {ids!r}")
+        first, last = named[ids] if found_ids is None else (
+            int(found_ids[1]), int(found_ids[2] or found_ids[1]))
+    elif isinstance(ids, range):
+        if ids.step != 1 or not ids:
+            raise ValueError(f"a range of ids has at least one id and leaves none out, not {ids}")
+        first, last = ids[0], ids[-1]
+    else:
+        first, last = ids if isinstance(ids, tuple) else (ids, ids)
+    if not 0 <= first <= last < walks + ends:
+        raise ValueError(f"the ids {ids!r} are not within those of {walks} walks (0 to {walks - 1})"
+                         f" and {ends} endpoint trajectories ({walks} to {walks + ends - 1})")
+    return first, last
+
+
+def trace(graph: object, *, ids: Ids = 0, thin: int | None = None,
+          elections: Elections | None = None, last: bool = False, progress: bool = False,
+          program: PathLike | None = None, **words: Unpack[TraceWords]) -> Trace:
+    """Walks trajectories of a run and returns an iterator of the plans at every N-th step.
+
+    Parameters
+    ----------
+    graph, words
+        As for `run`: the columns, the rules, `key`, `walks`, `steps`, `ends`, `hub_steps` and
+        `ask`. Of the words of `run` those that do not say the job are not taken (`workers`,
+        `budget`, `save`, `resume`, `shift`, `stop`, `serial`, `parts`, `part`). `ask` may be left
+        out: the program computes cut edges then, since it has to be asked for something.
+    ids
+        The trajectories of that run, one after the other: an id, a tuple of the first and the last,
+        a range, a text as "0-3", "walks" or "ends". The walks have the ids from 0, the endpoint
+        trajectories those behind.
+    thin
+        N: 1 to 10^9. The plans after 0, N, 2N, .. steps are shown. Left out it is 1000, and with
+        ids="ends" `hub_steps`, so that each endpoint trajectory shows its hub and its endpoint.
+    elections
+        The columns of both parties' votes by an election's name, as
+        {"GOV18": ("G18D", "G18R")}. One walk serves all of them. Where `first` and `second` are
+        left out, the program reads those of the first. KeyError where no unit has a column, and
+        ValueError with the unit's id where a value is missing, negative or not whole.
+    last
+        Whether the last plan is shown, too, where N does not divide the steps. It is no plan of the
+        N-step chain, and has no place in `outlier_test`.
+    progress
+        Whether a bar shows how far the trace is.
+    program
+        The path of the program, where it is not in the folders of PATH.
+
+    Returns a `Trace`, which yields a `Sample` for each plan and holds no more than one plan. An
+    object of networkx or GerryChain is prepared as for `run`. The program walks as fast as it is
+    read: it waits while the samples are not taken.
+
+    The exceptions are those of `check`, at the call or, where the program ends with another status
+    than 0 or its text is not whole, at the sample at which this shows; TraceRefused, too.
+    """
+    said = with_elections(words, elections)
+    if said.get("ask") is None:
+        said["ask"] = "cut-edges:low"
+    walks, ends = (1 if said.get("walks") is None else said["walks"]), said.get("ends") or 0
+    first, final = ids_of(ids, int(walks), int(ends))
+    if thin is None:
+        thin = int(said.get("hub_steps") or 1000) if ids == "ends" else 1000
+    said["ids"] = str(first) if first == final else f"{first}-{final}"
+    said["thin"] = thin
+    sent = given("trace", graph, said)
+    return Trace(ProgramLines(found("audit", program), sent), sent, graph, said,
+                 ids=(first, final), elections=elections, last=last, progress=progress)
+
+
+def with_elections(words: typing.Mapping[str, typing.Any], elections: Elections | None
+                   ) -> dict[str, typing.Any]:
+    """Returns the words, with the columns of the first election where none are named."""
+    said = dict(words)
+    if elections and said.get("first") is None and said.get("second") is None:
+        said["first"], said["second"] = next(iter(elections.values()))
+    return said
+
+
+def read_trace(text: PathLike, graph: object, *, elections: Elections | None = None,
+               last: bool = False, **words: Unpack[CheckWords]) -> Trace:
+    """Reads a trace that the program wrote to a file, and returns an iterator as `trace` does.
+
+    Parameters
+    ----------
+    text
+        The path of the file.
+    graph, words
+        The graph that was traced, and the columns `first`, `second` and `district`, as for `trace`.
+        Where the trace tells its source, another graph is refused by its SHA-256.
+    elections, last
+        As for `trace`.
+
+    TraceRefused where it is no whole trace of this graph, OSError where it cannot be read.
+    """
+    said = with_elections(words, elections)
+    sent = given("trace", graph, said)
+    return Trace(FileLines(open(os.fspath(text), "rb")), sent, graph, said, elections=elections,
+                 last=last)

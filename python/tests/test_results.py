@@ -1,0 +1,292 @@
+"""Several elections, several plans, frames, and pictures of them."""
+import json
+import unittest
+import xml.dom.minidom
+from decimal import Decimal
+from fractions import Fraction
+
+import common
+import district_audit
+from district_audit import ElectionReports, NamedReports, PlanReports, Report, checkpoints
+
+WORDS = dict(
+    population="TOTPOP",
+    district="CD",
+    slack=1000,
+    key=common.KEY,
+    steps=300,
+    walks=2,
+    ends=3,
+    hub_steps=50,
+)
+ELECTIONS = {"GOV18": ("DEM", "REP"), "SEN20": ("D2", "R2")}
+
+
+def root():
+    """The grid with a second election, in which every other unit votes the other way round."""
+    found = common.example("grid.json")
+    for place, node in enumerate(found["nodes"]):
+        votes = (node["DEM"], node["REP"])
+        node["D2"], node["R2"] = votes if place % 2 else votes[::-1]
+    return found
+
+
+class Elections(common.ProgramCase):
+    def run_with(self, graph, **words):
+        return district_audit.run(
+            graph, program=self.program, **{**WORDS, "ask": "gap:high,cut-edges:low", **words}
+        )
+
+    def test_each_is_the_run_of_its_columns(self):
+        data = json.dumps(root()).encode()
+        found = self.run_with(data, elections=ELECTIONS)
+        self.assertIsInstance(found, ElectionReports)
+        self.assertEqual(found.names, ["GOV18", "SEN20"])
+        for name, (first, second) in ELECTIONS.items():
+            self.assertEqual(found[name], self.run_with(data, first=first, second=second))
+        self.assertNotEqual(found["GOV18"], found["SEN20"])
+        # The same plans are visited: each walk moved as often, and cut edges have the same lines.
+        for one, other in zip(found["GOV18"].walks, found["SEN20"].walks):
+            self.assertEqual(one.moved, other.moved)
+            if one.score == "cut-edges":
+                self.assertEqual(one, other)
+
+    def test_graphs_of_each_kind(self):
+        wanted = self.run_with(json.dumps(root()).encode(), elections=ELECTIONS)
+        self.assertEqual(self.run_with(common.StandInGraph(root()), elections=ELECTIONS), wanted)
+        columns = {name: WORDS[name] for name in ("population", "district")}
+        ready = district_audit.prepare(root(), **columns, elections=ELECTIONS)
+        self.assertEqual(ready.elections, ELECTIONS)
+        self.assertEqual(self.run_with(ready, elections=ready.elections), wanted)
+        self.assertEqual(self.run_with(ready, first="D2", second="R2"), wanted["SEN20"])
+        with self.assertRaises(TypeError) as caught:
+            self.run_with(ready)
+        self.assertIn("the argument first is missing (or elections)", str(caught.exception))
+
+    def test_votes_of_each_election_are_tested(self):
+        bad = root()
+        bad["nodes"][7]["R2"] = None
+        with self.assertRaises(district_audit.PrepareRefused) as caught:
+            district_audit.prepare(bad, population="TOTPOP", district="CD", elections=ELECTIONS)
+        self.assertEqual(
+            caught.exception.faults, ["unit 7 has no R2 (choose --missing zero or drop)"]
+        )
+        with self.assertRaises(district_audit.PrepareRefused):
+            self.run_with(common.StandInGraph(bad), elections=ELECTIONS)
+
+    def test_checkpoints_have_a_folder_each(self):
+        data = json.dumps(root()).encode()
+        with self.assertRaises(district_audit.WorkLeft):
+            self.run_with(data, elections=ELECTIONS, save=1, budget=2, folder=self.folder)
+        self.assertTrue((self.folder / "GOV18" / checkpoints.RECORD).exists())
+        found = self.run_with(data, elections=ELECTIONS, save=1, resume=True, folder=self.folder)
+        self.assertEqual(found, self.run_with(data, elections=ELECTIONS))
+        for name in ("GOV18", "SEN20"):
+            self.assertEqual(checkpoints.look_in(self.folder / name, 5).done, 5)
+
+    def test_what_is_no_election(self):
+        data = json.dumps(root()).encode()
+        for elections in (
+            {},
+            [],
+            "GOV18",
+            {"GOV18": "DEM"},
+            {"GOV18": ("DEM",)},
+            {1: ("DEM", "REP")},
+            {"": ("DEM", "REP")},
+            {"x": (1, 2)},
+        ):
+            with self.subTest(elections=elections), self.assertRaises(TypeError) as caught:
+                self.run_with(data, elections=elections)
+            self.assertIn('as {"GOV18": ("G18D", "G18R")}', str(caught.exception))
+        for name in ("a/b", "..", "a\\b"):
+            with self.assertRaises(ValueError):
+                self.run_with(data, elections={name: ("DEM", "REP")}, save=1, folder=self.folder)
+        with self.assertRaises(TypeError):
+            self.run_with(data, elections=ELECTIONS, first="DEM")
+        with self.assertRaises(ValueError):
+            self.run_with(data, elections=ELECTIONS, save=1, folder=self.folder, steps=0)
+        self.assertEqual(list(self.folder.glob("*")), [])
+        with self.assertRaises(district_audit.PrepareRefused):
+            district_audit.prepare(
+                root(), population="TOTPOP", district="CD", elections=ELECTIONS, first="DEM"
+            )
+
+    def test_one_table(self):
+        common.needs("pandas")
+        found = self.run_with(json.dumps(root()).encode(), elections=ELECTIONS)
+        frame = found.to_frame()
+        self.assertEqual(list(frame.columns)[:2], ["election", "test"])
+        self.assertEqual(list(frame["election"]), ["GOV18"] * 6 + ["SEN20"] * 6)
+        self.assertIn("Bonferroni", ElectionReports.__doc__)
+
+
+class Named(unittest.TestCase):
+    def setUp(self):
+        self.report = Report.parse(common.readme_report())
+        self.other = Report.parse(common.groups_report())
+
+    def test_names_and_places(self):
+        found = PlanReports([("CD", self.report), ("new", self.other)])
+        self.assertEqual(found["new"], self.other)
+        self.assertEqual(found[0], ("CD", self.report))
+        self.assertEqual(found[1:], [("new", self.other)])
+        self.assertIsInstance(found[1:], PlanReports)
+        self.assertEqual(found, [("CD", self.report), ("new", self.other)])
+        self.assertEqual(dict(found), {"CD": self.report, "new": self.other})
+        with self.assertRaises(KeyError) as caught:
+            found["old"]
+        self.assertIn(
+            "there is none of the name 'old'; the names are 'CD', 'new'", str(caught.exception)
+        )
+        with self.assertRaises(KeyError):
+            PlanReports([("CD", self.report), ("CD", self.other)])["CD"]
+        self.assertEqual(repr(found), "<PlanReports of 2: CD, new>")
+        xml.dom.minidom.parseString("<page>%s</page>" % found._repr_html_())
+
+    def test_frames(self):
+        """Each column has one meaning, and what a test does not have is NA."""
+        pandas = common.needs("pandas")
+        frame = NamedReports([("one", self.report), ("two", self.other)]).to_frame()
+        self.assertEqual(
+            list(frame.columns),
+            [
+                "report",
+                "test",
+                "walk",
+                "ask",
+                "score",
+                "tail",
+                "start",
+                "moved",
+                "visited",
+                "in_tail",
+                "share",
+                "bound",
+                "rank",
+                "of",
+                "stopped_after",
+                "start_place",
+                "p",
+            ],
+        )
+        for name in (
+            "walk",
+            "moved",
+            "visited",
+            "in_tail",
+            "rank",
+            "of",
+            "stopped_after",
+            "start_place",
+        ):
+            self.assertEqual(str(frame[name].dtype), "Int64", name)
+        one = self.report.to_frame()
+        walk, ends = one.iloc[2], one.iloc[8]
+        self.assertEqual(
+            (walk.test, walk.walk, walk.ask, walk.score, walk["tail"], walk.start),
+            ("walk", 0, "cut-edges:low", "cut-edges", "low", 125.0),
+        )
+        self.assertEqual((walk.moved, walk.visited, walk.in_tail), (5820, 100001, 2))
+        self.assertTrue(pandas.isna(walk["rank"]) and pandas.isna(walk.of) and pandas.isna(walk.p))
+        self.assertEqual((ends["rank"], ends.of, ends.p), (1, 100, 0.01))
+        self.assertTrue(
+            pandas.isna(ends.moved) and pandas.isna(ends.visited) and pandas.isna(ends.bound)
+        )
+        exact = self.report.to_frame(exact=True)
+        self.assertEqual(
+            (exact["start"][1], exact["share"][2], exact["bound"][2]),
+            (Fraction(-1, 100), Fraction(2, 100001), Decimal("0.006324524")),
+        )
+        self.assertEqual(self.report.walks[1].start.decimal, -0.01)
+
+
+class Pictures(common.FolderCase):
+    def setUp(self):
+        super().setUp()
+        self.matplotlib = common.needs("matplotlib")
+        self.report = Report.parse(common.readme_report())
+
+    def words(self, figure):
+        """All words of a figure: those on it, the titles and the names of rows."""
+        found = [text.get_text() for text in figure.texts]
+        for axes in figure.axes:
+            found += [
+                axes.get_title(loc="left"),
+                *(label.get_text() for label in axes.get_yticklabels()),
+            ]
+            found += [text.get_text() for text in axes.texts]
+        return "\n".join(found)
+
+    def test_title_parties_and_scores(self):
+        said = self.words(
+            self.report.plot(
+                title="Exhibit A",
+                parties=("Democrats", "Republicans"),
+                scores=["seats", "cut-edges:low"],
+            )
+        )
+        for words in (
+            "Exhibit A",
+            "first party Democrats, second party Republicans",
+            "Democrats seats low, walk 0",
+            "cut-edges low, parallel test",
+        ):
+            self.assertIn(words, said)
+        self.assertNotIn("gap", said)
+        self.assertIn("gap high, walk 1", self.words(self.report.plot()))
+
+    def test_title_leaves_the_head_alone(self):
+        figure = self.report.plot(title="Exhibit A", parties=("A", "B"))
+        drawn = figure.canvas.get_renderer()
+        title, head = (text.get_window_extent(drawn) for text in figure.texts)
+        self.assertGreater(title.y0, head.y1)
+        self.assertGreater(head.y0, figure.axes[0]._left_title.get_window_extent(drawn).y1)
+        self.assertLess(title.y1, figure.bbox.y1)
+
+    def test_axes_that_are_given(self):
+        from matplotlib.figure import Figure
+
+        figure = Figure()
+        axes = figure.add_subplot()
+        self.assertIs(self.report.plot(ax=axes, title="Here", scores="gap"), figure)
+        self.assertEqual(
+            [label.get_text() for label in axes.get_yticklabels()],
+            ["gap high, walk 0", "gap high, walk 1"],
+        )
+        self.assertEqual(axes.get_title(loc="left"), "Here")
+
+    def test_what_is_no_score_or_party(self):
+        for words, why in (
+            (dict(scores=["sets"]), "'sets' is none of"),
+            (dict(scores="mean-median"), "the report has none of these"),
+            (dict(parties="DR"), "the first and the second party"),
+            (dict(parties=("D",)), "the first and the second party"),
+        ):
+            with self.subTest(words=words), self.assertRaises(ValueError) as caught:
+                self.report.plot(**words)
+            self.assertIn(why, str(caught.exception))
+
+    def test_several_plans(self):
+        name = str(self.folder / "plans")
+        found = PlanReports([("CD", self.report), ("new", Report.parse(common.groups_report()))])
+        said = self.words(
+            found.plot(name, title="Two plans", scores="cut-edges", parties=("D", "R"))
+        )
+        for words in (
+            "Two plans",
+            "2 plans: CD, new",
+            "CD: cut-edges low, 2 walks",
+            "new: cut-edges low",
+            "CD: cut-edges low, parallel test",
+        ):
+            self.assertIn(words, said)
+        self.assertTrue(
+            (self.folder / "plans.png").exists() and (self.folder / "plans.svg").exists()
+        )
+        with self.assertRaises(ValueError):
+            PlanReports([]).plot()
+
+
+if __name__ == "__main__":
+    unittest.main()

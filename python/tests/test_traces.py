@@ -1,0 +1,401 @@
+"""Reading traces: samples, refused texts, and programs that fail."""
+import json
+import os
+import sys
+import time
+import tracemalloc
+import unittest
+from fractions import Fraction
+
+import common
+import district_audit
+import trace_model
+from district_audit import scores
+from trace_model import PATH, TEXT, TextCase
+
+# Changes of TEXT, each of which is refused at the line where it stands; \n is a line end,
+# and each change ends at its |.
+WRONG = r"""
+district-trace 1 => district-trace 2|
+district-trace 1 => district-audit 1|
+key 0 => key g|
+units 4 => units 1|
+low 1  => low 2 |
+ends 2  => ends 2 stop 1 |
+ask gap high => ask gap up|
+ask gap high => ask seats low|
+start 0/1 => start 0/2|
+start -2/32 => start -2/33|
+trace id 0 steps 5 => trace id 0 steps 4|
+trace id 0 steps 5 => trace id 9 steps 5|
+trace id 1 steps 2 thin 2 => trace id 1 steps 2 thin 1|
+trace id 1 steps 2 => trace id 2 steps 2|
+trace id 2 steps 2 => trace id 1 steps 2|
+0 0 0 -2\n => 0 1 0 -2\n|
+0 0 0 -2\n => 0 0 0 -1\n|
+0 0 0 -2\n => 0 0 0 -2 0:1\n|
+2 1 1 6 1:1 => 3 1 1 6 1:1|
+2 1 1 6 1:1 => 2 3 1 6 1:1|
+2 1 1 6 1:1 => 2 1 1 6 1:0|
+2 1 1 6 1:1 => 2 1 1 6 1:2|
+2 1 1 6 1:1 => 2 1 1 6 4:1|
+2 1 1 6 1:1 => 2 1 1 1:1|
+2 1 1 6 1:1 => 2 1 1 6 6 1:1|
+2 1 1 6 1:1 => 2 1 1 6 1:1 1:0|
+2 1 1 6 1:1 => 2 1 1 6  1:1|
+2 1 1 6 1:1 => 2 1 1 6 1:1 |
+2 1 1 6 1:1 => 2 1 1 1:1 6|
+2 1 1 6 1:1 => 2 1 01 6 1:1|
+2 1 1 6 1:1 => 2 1 -0 6 1:1|
+2 1 1 6 1:1 => 2 0 1 6 1:1|
+2 1 1 6 1:1 => 2 1 1 6 0:1 1:1|
+2 1 1 6 1:1 => 2 2 1 6 1:1 0:1|
+4 2 0 -2 1:0 => 4 0 0 -2 1:0|
+5 3 1 6 1:1 => 6 3 1 6 1:1|
+2 0 0 -2\nend => 2 0 1 -2\nend|
+trace id 2 steps 2 thin 2\n0 0 0 -2 2:0 => trace id 2 steps 2 thin 2\n0 0 0 -2 1:1|
+\nend\n => \n3 0 0 -2\nend\n|
+5 3 1 6 1:1\n => |
+"""
+
+
+class Reading(TextCase):
+    """What is read of a text, and which texts are refused, at which line."""
+
+    def refused(self, number, text, **more):
+        with self.assertRaises(district_audit.TraceRefused) as caught:
+            for _ in self.read(text, **more):
+                pass
+        self.assertEqual(caught.exception.number, number, str(caught.exception))
+        return str(caught.exception)
+
+    def test_each_sample(self):
+        trace = self.read(TEXT, last=True)
+        plans = [
+            (
+                sample.id,
+                sample.step,
+                sample.moves,
+                "".join(sample.assignment.values()),
+                sample.numerators,
+                sample.is_last,
+            )
+            for sample in trace
+        ]
+        self.assertEqual(
+            plans,
+            [
+                (0, 0, 0, "ppqq", (0, -2), False),
+                (0, 2, 1, "pqqq", (1, 6), False),
+                (0, 4, 2, "ppqq", (0, -2), False),
+                (0, 5, 3, "pqqq", (1, 6), True),
+                (1, 0, 0, "pppq", (0, -2), False),
+                (1, 2, 1, "ppqq", (0, -2), True),
+                (2, 0, 0, "pppq", (0, -2), False),
+                (2, 2, 0, "pppq", (0, -2), True),
+            ],
+        )
+        self.assertEqual([ask.ask for ask in trace.head.asks], ["seats:low", "gap:high"])
+        self.assertEqual(
+            (trace.head.setting.steps, trace.head.rules.high, trace.head.source), (5, 3, None)
+        )
+        self.assertEqual(dict(trace.enacted.assignment), dict(zip("wxyz", "ppqq")))
+
+    def test_the_odd_last_plan_is_left_out(self):
+        """It is no plan of the N-step chain; a trajectory that ends on a multiple has its last."""
+        self.assertEqual(
+            [(sample.id, sample.step) for sample in self.read(TEXT)],
+            [(0, 0), (0, 2), (0, 4), (1, 0), (1, 2), (2, 0), (2, 2)],
+        )
+
+    def test_samples_are_of_the_current_plan(self):
+        trace = self.read(TEXT)
+        first = next(trace)
+        kept = first.frozen()
+        assignment = first.assignment
+        self.assertEqual(assignment["x"], "p")
+        next(trace)
+        for call in (
+            lambda: assignment["x"],
+            lambda: dict(first.assignment),
+            lambda: first.totals("a"),
+            first.frozen,
+            lambda: scores.seats(first),
+            lambda: len(assignment),
+        ):
+            with self.assertRaises(district_audit.StaleSample):
+                call()
+        self.assertEqual(
+            (first.step, first.moves, first.scores), (0, 0, {"seats": 0, "gap": Fraction(-1, 16)})
+        )
+        self.assertEqual(
+            (kept.assignment["x"], kept.totals("a"), scores.seats(kept)), ("p", {"p": 4, "q": 4}, 0)
+        )
+        for _ in trace:
+            pass
+        self.assertEqual(dict(kept.assignment), dict(zip("wxyz", "ppqq")))
+
+    def test_a_text_without_its_end(self):
+        """Wherever the text is cut off, it is refused, at the line that is missing or not whole."""
+        for place in range(len(TEXT)):
+            with self.subTest(place=place):
+                self.refused(TEXT[:place].count("\n") + 1, TEXT[:place])
+
+    def test_what_stands_behind_the_end(self):
+        self.refused(TEXT.count("\n") + 1, TEXT + "\n")
+        self.refused(TEXT.count("\n") + 1, TEXT + "end\n")
+        self.refused(TEXT.count("\n") + 1, TEXT + "x")
+
+    def test_wrong_lines(self):
+        """Each change is refused at its line, and not at a later one."""
+        for change in WRONG.strip().split("\n"):
+            old, new = change[:-1].replace("\\n", "\n").split(" => ")
+            with self.subTest(old=old, new=new):
+                self.assertEqual(TEXT.count(old) >= 1, True)
+                changed = TEXT.replace(old, new, 1)
+                same = os.path.commonprefix([TEXT, changed])
+                number = same.count("\n") + 1
+                self.refused(number, changed)
+
+    def test_a_trace_of_another_graph(self):
+        other = json.loads(json.dumps(PATH))
+        other["nodes"].append({"id": "v", "pop": 1, "a": 1, "b": 1, "d": "q"})
+        other["adjacency"].append([{"id": "z"}])
+        self.assertIn("5", self.refused(8, TEXT, graph=other))
+        data = trace_model.written(PATH)
+        setting = dict(
+            trace_model.COLUMNS, slack=5000, key=common.KEY, steps=4, ask="gap:low", source="yes"
+        )
+        text = trace_model.text_of(trace_model.job_of(setting, data), 0, 0, 1)
+        self.assertTrue(self.read(text).head.source.is_of(data))
+        self.assertIn(
+            "SHA-256",
+            self.refused(
+                text.split("\n").index("trace id 0 steps 4 thin 1") + 1,
+                text,
+                graph={**PATH, "graph": [0]},
+            ),
+        )
+
+    def test_it_holds_no_text(self):
+        """A text of 200 kB is read within half of that, the modules that are loaded meanwhile counted."""
+        steps = 12_000
+        head = TEXT.split("trace id")[0].replace("steps 5", "steps %d" % steps)
+        path = self.folder / "long"
+        with open(path, "w", encoding="ascii") as file:
+            file.write("%strace id 0 steps %d thin 1\n" % (head, steps))
+            file.writelines(
+                "%d %d 0 -2 1:%d\n" % (step, step, step % 2) if step else "0 0 0 -2\n"
+                for step in range(steps + 1)
+            )
+            file.write("end\n")
+        self.assertGreater(path.stat().st_size, 200_000)
+        trace = district_audit.read_trace(path, trace_model.written(PATH), **trace_model.COLUMNS)
+        tracemalloc.start()
+        try:
+            count = sum(1 for sample in trace if sample.moves == sample.step)
+            peak = tracemalloc.get_traced_memory()[1]
+        finally:
+            tracemalloc.stop()
+        self.assertEqual(count, steps + 1)
+        self.assertLess(peak, 100_000)
+
+    def test_missing_and_odd_values_are_told_by_the_units_id(self):
+        for value, why in (
+            (None, "has no more"),
+            (float("nan"), "has no more"),
+            ("", "has no more"),
+            (0.5, "is not whole"),
+            (-1, "is negative"),
+            ("7", "is no number"),
+            (True, "is no number"),
+        ):
+            root = json.loads(json.dumps(PATH))
+            for node in root["nodes"]:
+                node["more"] = 1
+            root["nodes"][2]["more"] = value
+            path = self.folder / "trace"
+            path.write_text(TEXT, encoding="ascii")
+            columns = dict(trace_model.COLUMNS)
+            trace = district_audit.read_trace(path, common.StandInGraph(root), **columns)
+            with self.subTest(value=value), self.assertRaisesRegex(ValueError, 'unit "y".*' + why):
+                next(trace).totals("more")
+
+    def test_columns_of_elections_are_looked_at_at_the_call(self):
+        root = json.loads(json.dumps(PATH))
+        with self.assertRaisesRegex(KeyError, "no unit has a column c"):
+            self.read(TEXT, elections={"now": ("a", "b"), "then": ("c", "b")})
+        for node, votes in zip(root["nodes"], (1, 2, 3, None)):
+            node["c"] = votes
+        with self.assertRaisesRegex(ValueError, 'unit "z" has no c'):
+            self.read(TEXT, root, elections={"then": ("c", "b")})
+
+    def test_columns_that_prepare_left_out(self):
+        root = json.loads(json.dumps(PATH))
+        for node in root["nodes"]:
+            node["c"] = 1
+        path = self.folder / "trace"
+        path.write_text(TEXT, encoding="ascii")
+        columns = {"population": "pop", "first": "a", "second": "b", "district": "d"}
+        for keep in ([], ["c"]):
+            ready = district_audit.prepare(common.StandInGraph(root), keep=keep, **columns)
+            sample = next(district_audit.read_trace(path, ready))
+            if keep:
+                self.assertEqual(sample.totals("c"), {"p": 2, "q": 2})
+            else:
+                with self.assertRaisesRegex(KeyError, "keep="):
+                    sample.totals("c")
+
+    def test_a_gerrychain_partition(self):
+        """GerryChain is not installed here: a stand-in has what it documents of Partition and
+        Graph."""
+        made = []
+
+        class Module:
+            @staticmethod
+            def Partition(graph, assignment=None, **more):
+                made.append((graph, assignment, more))
+                return "partition"
+
+        class Graph:
+            nodes = ("z", "y", "x", "w")
+
+        sample = next(self.read(TEXT))
+        sys.modules["gerrychain"] = Module
+        try:
+            self.assertEqual(sample.partition(Graph, updaters={}), "partition")
+            self.assertEqual(made, [(Graph, dict(zip("wxyz", "ppqq")), {"updaters": {}})])
+            with self.assertRaises(ValueError):
+                sample.partition(type("Other", (), {"nodes": ("w", "x", "y", "v")}))
+            with self.assertRaises(ValueError):
+                sample.partition(type("Other", (), {"nodes": ("w", "x", "y", "z", "v")}))
+        finally:
+            del sys.modules["gerrychain"]
+        sys.modules["gerrychain"] = None
+        try:
+            with self.assertRaisesRegex(district_audit.MissingExtra, "pip install gerrychain"):
+                sample.partition(Graph)
+        finally:
+            del sys.modules["gerrychain"]
+
+
+class Programs(TextCase):
+    """Faults of the program, by stand-ins that write TEXT or a part of it."""
+
+    def program(self, line):
+        path = self.folder / "program"
+        (self.folder / "text").write_text(TEXT, encoding="ascii")
+        path.write_text("#!/bin/sh\ncd '%s'\n%s\n" % (self.folder, line), encoding="ascii")
+        path.chmod(0o755)
+        return str(path)
+
+    def trace(self, line, **more):
+        words = dict(
+            trace_model.COLUMNS,
+            key=common.KEY,
+            slack=5000,
+            walks=1,
+            steps=5,
+            ends=2,
+            hub_steps=2,
+            ids=(0, 2),
+            thin=2,
+        )
+        return district_audit.trace(
+            trace_model.written(PATH), program=self.program(line), **{**words, **more}
+        )
+
+    def test_a_whole_text_and_status_0(self):
+        trace = self.trace('cat > graph; echo "$@" > words; cat text')
+        self.assertEqual(sum(1 for _ in trace), 7)
+        self.assertEqual((self.folder / "graph").read_bytes(), trace_model.written(PATH))
+        self.assertIn("--ids 0-2 --thin 2", (self.folder / "words").read_text(encoding="ascii"))
+
+    def test_a_whole_text_and_another_status(self):
+        with self.assertRaises(district_audit.WriteFault) as caught:
+            list(self.trace("cat text; echo write fault >&2; exit 5"))
+        self.assertEqual(caught.exception.line, "write fault")
+
+    def test_half_a_text(self):
+        for line, kind in (
+            ("head -n 10 text", district_audit.TraceRefused),
+            ("head -c 300 text", district_audit.TraceRefused),
+            ("head -n 10 text; echo write fault >&2; exit 5", district_audit.WriteFault),
+            ("head -c 300 text; kill -9 $$", district_audit.ProgramFailed),
+            ("echo memory >&2; exit 3", district_audit.MemoryRefused),
+            ("true", district_audit.TraceRefused),
+            ("head -n 20 text | sed 's/^trace id 2.*/end/'", district_audit.TraceRefused),
+        ):
+            with self.subTest(line=line), self.assertRaises(kind):
+                list(self.trace(line))
+
+    def test_another_trajectory_than_was_asked_for(self):
+        for ids in (1, (0, 1), (1, 2)):
+            with self.subTest(ids=ids), self.assertRaises(district_audit.TraceRefused):
+                list(self.trace("cat text", ids=ids))
+
+    def test_a_refused_text_ends_the_program(self):
+        trace = self.trace("sed 's/^4 2/4 9/' text; exec sleep 600")
+        process = trace.lines.process
+        with self.assertRaises(district_audit.TraceRefused):
+            list(trace)
+        self.assertIsNotNone(process.poll())
+
+    def test_a_sample_comes_before_the_text_ends(self):
+        started = time.monotonic()
+        with self.trace("head -n 9 text; exec sleep 600") as trace:
+            self.assertEqual(next(trace).step, 0)
+        self.assertLess(time.monotonic() - started, 60)
+
+    def test_ids(self):
+        for ids, wanted in (
+            (0, "0"),
+            ("1", "1"),
+            ("0-2", "0-2"),
+            ((1, 2), "1-2"),
+            (range(1, 3), "1-2"),
+            ("walks", "0"),
+            ("ends", "1-2"),
+        ):
+            with self.subTest(ids=ids):
+                with self.assertRaises(district_audit.TraceRefused):
+                    list(self.trace('echo "$@" > words', ids=ids))
+                self.assertIn(
+                    "--ids %s --thin" % wanted, (self.folder / "words").read_text(encoding="ascii")
+                )
+        for ids in (3, "0-3", (2, 1), range(0), range(0, 3, 2), -1, "all", "1-"):
+            with self.subTest(ids=ids), self.assertRaises(ValueError):
+                self.trace("cat text", ids=ids)
+
+    def test_thin_where_it_is_left_out(self):
+        for ids, wanted in (("walks", "1000"), ("ends", "2"), (1, "1000")):
+            with self.assertRaises(district_audit.TraceRefused):
+                self.trace('echo "$@" > words', ids=ids, thin=None)
+            self.assertTrue(
+                (self.folder / "words").read_text(encoding="ascii").endswith("--thin %s\n" % wanted)
+            )
+
+    def test_progress(self):
+        from district_audit import progress
+
+        shown = []
+
+        class Bar:
+            def show(self, done, total):
+                shown.append((done, total))
+
+            def end(self):
+                shown.append("end")
+
+        before = progress.new_bar
+        progress.new_bar = Bar
+        try:
+            list(self.trace("cat text", progress=True))
+        finally:
+            progress.new_bar = before
+        self.assertEqual((shown[-2:], {pair[1] for pair in shown[:-1]}), ([(9, 9), "end"], {9}))
+        self.assertEqual(sorted(shown[:-1]), shown[:-1])
+
+
+if __name__ == "__main__":
+    unittest.main()

@@ -1,0 +1,286 @@
+"""What tests of traces share: a text, drawn jobs, and traces and scores by the plain model."""
+import json
+import pathlib
+import random
+import statistics
+import subprocess
+import sys
+from fractions import Fraction
+
+import common
+import district_audit
+
+sys.path.insert(0, str(common.TOP / "tests" / "oracle"))
+import model  # noqa: E402
+
+SCORES = ["seats", "mean-median", "gap", "cut-edges"]
+COLUMNS = dict(pop="pop", first="a", second="b", district="d")
+
+# A path of four units in two districts: a walk of five steps, in two of which unit 1 moves there
+# and
+# back, and two endpoint trajectories, whose hub has unit 2 moved.
+PATH = {
+    "directed": False,
+    "multigraph": False,
+    "graph": [],
+    "nodes": [
+        {"id": name, "pop": 1, "a": a, "b": 2, "d": label}
+        for name, a, label in zip("wxyz", (3, 1, 0, 4), ("p", "p", "q", "q"))
+    ],
+    "adjacency": [
+        [{"id": "x"}],
+        [{"id": "w"}, {"id": "y"}],
+        [{"id": "x"}, {"id": "z"}],
+        [{"id": "y"}],
+    ],
+}
+TEXT = """district-trace 1
+key 0000000000000000000000000000000000000000000000000000000000000000
+units 4 edges 3 districts 2
+population 4 slack 5000 low 1 high 3
+walks 1 steps 5 ends 2 hub-steps 2
+ask seats low start 0/1
+ask gap high start -2/32
+trace id 0 steps 5 thin 2
+0 0 0 -2
+2 1 1 6 1:1
+4 2 0 -2 1:0
+5 3 1 6 1:1
+trace id 1 steps 2 thin 2
+0 0 0 -2 2:0
+2 1 0 -2 2:1
+trace id 2 steps 2 thin 2
+0 0 0 -2 2:0
+2 0 0 -2
+end
+"""
+
+
+def drawn_graph(dice):
+    """A connected graph with a legal plan of contiguous districts, columns of counties, a group and
+    a second election, ids of both kinds, and the root object of its JSON."""
+    rows, columns = dice.randint(2, 5), dice.randint(3, 6)
+    places = [(row, column) for row in range(rows) for column in range(columns)]
+    pairs = [
+        (one, other)
+        for one in places
+        for other in places
+        if one < other and abs(one[0] - other[0]) + abs(one[1] - other[1]) == 1
+    ]
+    count = dice.randint(2, min(4, columns))
+    is_named = dice.random() < 0.5
+    ids = {
+        place: f"u{row}.{column}" if is_named else 10 * row + column
+        for place, (row, column) in zip(places, places)
+    }
+    dice.shuffle(places)
+    nodes = []
+    for row, column in places:
+        votes = [dice.randint(0, 60) for _ in range(4)]
+        nodes.append(
+            {
+                "id": ids[row, column],
+                "pop": dice.randint(8, 12),
+                "a": votes[0],
+                "b": votes[1],
+                "c": votes[2],
+                "e": votes[3],
+                "d": f"D{column * count // columns}",
+                "county": f"county {row // 2}.{column // 2}",
+                "vap": dice.randint(5, 9),
+                "bvap": dice.randint(0, 9),
+            }
+        )
+    entries = {place: [] for place in places}
+    for one, other in pairs:
+        entries[one].append({"id": ids[other]})
+        entries[other].append({"id": ids[one]})
+    return {
+        "directed": False,
+        "multigraph": False,
+        "graph": [],
+        "nodes": nodes,
+        "adjacency": [entries[place] for place in places],
+    }
+
+
+def drawn_words(dice, steps=120):
+    """The words of a run, as keyword arguments of the package."""
+    asks = [
+        f"{score}:{dice.choice(['low', 'high'])}"
+        for score in dice.sample(SCORES, dice.randint(1, 4))
+    ]
+    words = dict(
+        COLUMNS,
+        slack=dice.choice([3000, 5000, 9000]),
+        key=dice.randbytes(32).hex(),
+        walks=dice.randint(1, 3),
+        steps=dice.randint(1, steps),
+        ends=dice.randint(0, 3),
+        hub_steps=dice.randint(1, steps),
+        ask=",".join(asks),
+        max_cut=dice.choice([400000, 30]),
+    )
+    if dice.random() < 0.5:
+        words.update(
+            region="county", max_split=dice.choice([2, 200]), max_splits=dice.choice([9, 995000])
+        )
+    if dice.random() < 0.5:
+        words.update(group="bvap", group_of="vap")
+    return words
+
+
+def job_of(words, data):
+    """The model's job; model.Refused where the plan or the words are refused."""
+    given = [
+        part
+        for name, value in words.items()
+        for part in ("--" + name.replace("_", "-"), str(value))
+    ]
+    return model.job_of(model.Setting(["run", *given]), data)
+
+
+def visited(job, number):
+    """The plans and the moves of a trajectory: a list of both after each step, and how many
+    steps."""
+    setting, plan = job.setting, tuple(job.plan)
+    if number < setting.walks:
+        plans = job.walk(plan, 2 * number, setting.steps)[0]
+    else:
+        hub = job.walk(plan, 1, setting.hub_steps)[0][-1]
+        plans = job.walk(hub, 2 * (number - setting.walks) + 3, setting.hub_steps)[0]
+    moves = [0]
+    for before, after in zip(plans, plans[1:]):
+        moves.append(moves[-1] + (before != after))
+    return list(zip(plans, moves))
+
+
+def shown_steps(steps, thin):
+    return [*range(0, steps, thin), steps]
+
+
+def text_of(job, first, last, thin):
+    """The trace of some trajectories."""
+    setting, start = job.setting, tuple(job.plan)
+    lines = [
+        "district-trace 1",
+        *model.origin_lines(job),
+        "key " + setting.key.hex(),
+        *model.head(job),
+        f"walks {setting.walks} steps {setting.steps} ends {setting.ends} "
+        f"hub-steps {setting.hub_steps}",
+    ]
+    lines += [
+        f"ask {score} {tail} start {job.value(start, score)}/{job.denominator(score)}"
+        for score, tail in setting.asks
+    ]
+    for number in range(first, last + 1):
+        plans = visited(job, number)
+        lines.append(f"trace id {number} steps {len(plans) - 1} thin {thin}")
+        before = start
+        for step in shown_steps(len(plans) - 1, thin):
+            plan, moved = plans[step]
+            words = [
+                step,
+                moved,
+                *(job.value(plan, score) for score, _ in setting.asks),
+                *(
+                    f"{unit}:{district}"
+                    for unit, district in enumerate(plan)
+                    if district != before[unit]
+                ),
+            ]
+            lines.append(" ".join(map(str, words)))
+            before = plan
+    return "\n".join([*lines, "end", ""])
+
+
+def scores_by_hand(root, assignment):
+    """Scores of a plan from its graph, each by its plain definition, by the names of the tests."""
+    nodes = root["nodes"]
+    labels = sorted(set(assignment.values()))
+    by_label = {
+        label: [node for node in nodes if assignment[node["id"]] == label] for label in labels
+    }
+
+    def total(column):
+        return [sum(node[column] for node in by_label[label]) for label in labels]
+
+    found = {}
+    for name, (first, second) in {"ab": ("a", "b"), "ce": ("c", "e")}.items():
+        pairs = list(zip(total(first), total(second)))
+        shares = sorted(Fraction(a, a + b) if a + b else Fraction(1, 2) for a, b in pairs)
+        wasted = [
+            (a, max(0, b - Fraction(a + b, 2))) if b >= a else (a - Fraction(a + b, 2), b)
+            for a, b in pairs
+        ]
+        found["seats " + name] = sum(a > b for a, b in pairs)
+        found["efficiency_gap " + name] = sum(b - a for a, b in wasted) / sum(
+            a + b for a, b in pairs
+        )
+        found["ordered_shares " + name] = shares
+        found["partisan_bias " + name] = Fraction(
+            sum(share > statistics.mean(shares) for share in shares), len(shares)
+        ) - Fraction(1, 2)
+        found["competitive " + name] = sum(
+            abs(2 * share - 1) <= Fraction(1, 10) for share in shares
+        )
+    of = {node["id"]: assignment[node["id"]] for node in nodes}
+    edges = {
+        frozenset((node["id"], other["id"]))
+        for node, others in zip(nodes, root["adjacency"])
+        for other in others
+    }
+    found["cut_edges"] = sum(len({of[unit] for unit in edge}) == 2 for edge in edges)
+    counties = {}
+    for node in nodes:
+        counties.setdefault(node["county"], set()).add(of[node["id"]])
+    found["splits"] = sum(len(those) - 1 for those in counties.values())
+    found["split_regions"] = sum(len(those) > 1 for those in counties.values())
+    found["majorities"] = sum(2 * part > whole for part, whole in zip(total("bvap"), total("vap")))
+    return found
+
+
+def written(root):
+    return json.dumps(root).encode("utf-8")
+
+
+def drawn_jobs(seed, count):
+    """Drawn graphs with words that the model takes, the model's job, and ids and a thinning."""
+    dice = random.Random(seed)
+    while count:
+        root, words = drawn_graph(dice), drawn_words(dice)
+        try:
+            job = job_of(words, written(root))
+        except model.Refused:
+            continue
+        first = dice.randrange(words["walks"] + words["ends"])
+        last = dice.randrange(first, words["walks"] + words["ends"])
+        count -= 1
+        yield root, words, job, first, last, dice.choice([1, 2, 7, 50, 1000])
+
+
+def tracing_program():
+    """The real program, which has to know `trace` with `--ids`."""
+    program = common.built("audit_program", "DISTRICT_AUDIT")
+    told = subprocess.run(
+        [program, "trace", "--ids", "0"],
+        stdin=subprocess.DEVNULL,
+        stdout=subprocess.DEVNULL,
+        stderr=subprocess.PIPE,
+        text=True,
+        check=False,
+    )
+    if "unknown" in told.stderr:
+        common.lacking("the command `trace --ids` of the program")
+    return program
+
+
+class TextCase(common.FolderCase):
+    """Tests that read traces from files."""
+
+    def read(self, text, graph=None, words=None, **more):
+        path = self.folder / "trace"
+        path.write_bytes(text if isinstance(text, bytes) else text.encode("utf-8"))
+        data = written(PATH if graph is None else graph)
+        return district_audit.read_trace(path, data, **(words or COLUMNS), **more)
