@@ -1,1 +1,1 @@
-"""Measurements of time and memory; docs/GUIDE.md has the tables that they print."""
+"""Measurements of time and memory; docs/user/GUIDE.md has the tables that they print."""

@@ -1,7 +1,7 @@
 #!/usr/bin/env python3
 """Re-checks a report of the district plan auditor by recomputing it.
 
-Written from docs/KERNEL.md and docs/FORMATS.md; needs Python 3.8 and no other file.
+Written from docs/claims/KERNEL.md and docs/user/FORMATS.md; needs Python 3.8 and no other file.
 
   recheck.py GRAPH REPORT [--id 0,3,serial | --sample K --seed TEXT] [words of the run]
              [--trace FILE [--segments K --seed TEXT] [--skip-hub yes]] [--checkpoints FOLDER]

@@ -3,11 +3,11 @@
 Usage: python3 definitions.py [path CRATE.MODULE.NAME | count | page | check]
 With no word it prints each module of definitions of this repository that the names in the contract of `audit`, and in the traits of its
 arguments, come to by imports. `path CRATE.MODULE.NAME` prints each definition that a name comes to, `count` how many definitions and lines
-each clause takes. `page` writes the quotes in docs/THE_CLAIM.md and the counts in docs/CLAIMS.md and docs/DEFINITIONS.md anew, behind their
+each clause takes. `page` writes the quotes in docs/claims/THE_CLAIM.md and the counts in docs/claims/CLAIMS.md and docs/claims/DEFINITIONS.md anew, behind their
 marks.
 
-`check` prints nothing where docs/DEFINITIONS.md lists exactly those modules, no crate of code stands below the statement, the plain statement
-takes at most 130 definitions of 600 lines, without the words of the command line, docs/THE_CLAIM.md quotes each definition that it comes to,
+`check` prints nothing where docs/claims/DEFINITIONS.md lists exactly those modules, no crate of code stands below the statement, the plain statement
+takes at most 130 definitions of 600 lines, without the words of the command line, docs/claims/THE_CLAIM.md quotes each definition that it comes to,
 and all quotes and counts are as `page` writes them. Else it prints what is not so, and ends with status 1.
 """
 import argparse
@@ -72,7 +72,7 @@ def reached():
 def listed():
     """The modules that the document names, in the last column of a table or in a sentence, as `crate` Module, Module."""
     found = set()
-    with open(os.path.join(TOP, "docs", "DEFINITIONS.md"), encoding="utf-8") as file:
+    with open(os.path.join(TOP, "docs", "claims", "DEFINITIONS.md"), encoding="utf-8") as file:
         for line in file:
             text = line.rstrip().rstrip("|").split("|")[-1] if line.startswith("|") else line
             for crate, modules in re.findall(r"`(\w+)` ((?:[A-Z]\w*(?:, )?)+)", text):
@@ -126,7 +126,7 @@ def crate_table():
 
 # ---- what the documents quote
 
-QUOTING = [os.path.join(TOP, "docs", name) for name in ("THE_CLAIM.md", "CLAIMS.md", "DEFINITIONS.md")]
+QUOTING = [os.path.join(TOP, "docs", "claims", name) for name in ("THE_CLAIM.md", "CLAIMS.md", "DEFINITIONS.md")]
 MARK = re.compile(r"<!-- (quote|counts|crates|contract)(?: (.*?))? -->$")
 TABLES = {"counts": count_table, "crates": crate_table}
 
@@ -199,7 +199,7 @@ def stale():
         if path == QUOTING[0]:
             shown = {(c, "declared" if m.startswith("declared") else m, n) for c, m, n in quotes_in(text)}
             for key in sorted(set(Path([PLAIN]).found) - shown):
-                yield "docs/THE_CLAIM.md does not quote " + ".".join(key)
+                yield "docs/claims/THE_CLAIM.md does not quote " + ".".join(key)
 
 
 def write_page():
@@ -214,12 +214,12 @@ def write_page():
 
 
 def unlisted():
-    """What docs/DEFINITIONS.md does not list, or lists in vain."""
+    """What docs/claims/DEFINITIONS.md does not list, or lists in vain."""
     modules, documented = reached(), listed()
     for crate, module in sorted(modules - documented):
-        yield "docs/DEFINITIONS.md does not list %s %s" % (crate, module)
+        yield "docs/claims/DEFINITIONS.md does not list %s %s" % (crate, module)
     for crate, module in sorted(m for m in documented if not is_own(*m)):
-        yield "docs/DEFINITIONS.md lists what is not there: %s %s" % (crate, module)
+        yield "docs/claims/DEFINITIONS.md lists what is not there: %s %s" % (crate, module)
 
 
 def code_below():

@@ -1,6 +1,6 @@
 """What lies in a folder of checkpoints: how many trajectories are saved, and which job they are of.
 
-The checkpoints are the program's; they are read here by docs/FORMATS.md and never written. Beside
+The checkpoints are the program's; they are read here by docs/user/FORMATS.md and never written. Beside
 them the package keeps `audit-job.json`, which has the arguments of the run, so that a refused
 checkpoint can be explained.
 """

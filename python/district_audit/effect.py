@@ -1,7 +1,7 @@
 """The test that separates an effect's size from its significance, computed from a report's walks.
 
 Source: Chikina, Frieze, Mattingly and Pegden, 'Separating effect from significance in Markov chain
-tests', Statistics and Public Policy 7 (2020). docs/READING_A_REPORT.md derives the bound.
+tests', Statistics and Public Policy 7 (2020). docs/user/READING_A_REPORT.md derives the bound.
 
 Every number here is a whole number or a fraction. Nothing is computed in floating point.
 """

@@ -58,7 +58,7 @@ class TypeRefused(ArgumentRefused, TypeError):
 
 class GraphRefused(AuditError):
     """Status 2: the graph, the table of plans, or a plan is refused, by the first fault in the order
-    of docs/FORMATS.md.
+    of docs/user/FORMATS.md.
 
     From `check`, `faults` has every fault of the plan in the user's labels, and `check` the table of
     its districts; else they are empty and None.

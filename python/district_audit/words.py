@@ -9,7 +9,7 @@ Key = typing.Union[str, bytes]
 
 
 class CheckWords(typing.TypedDict, total=False):
-    """The words of `check`. Each is named as the program's word is, with `_` for `-`; docs/FORMATS.md has their ranges and defaults."""
+    """The words of `check`. Each is named as the program's word is, with `_` for `-`; docs/user/FORMATS.md has their ranges and defaults."""
 
     pop: str
     """The column of populations. `population` may be said for it."""

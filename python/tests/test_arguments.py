@@ -390,8 +390,8 @@ class Signatures(unittest.TestCase):
                         )
 
     def test_the_table_is_that_of_the_formats(self):
-        """The ranges and defaults are those of docs/FORMATS.md."""
-        text = (common.TOP / "docs" / "FORMATS.md").read_text(encoding="utf-8")
+        """The ranges and defaults are those of docs/user/FORMATS.md."""
+        text = (common.TOP / "docs" / "user" / "FORMATS.md").read_text(encoding="utf-8")
         rows = re.findall(
             r"^\| `--([a-z-]+)` \| ([a-z, ]+) \| (.*) \| (.*) \|$", text, re.MULTILINE
         )

@@ -52,7 +52,7 @@ class Page(html.parser.HTMLParser):
 
 def guide_report(word):
     """The report of the guide with a line that begins so."""
-    text = (TOP / "docs" / "GUIDE.md").read_text(encoding="utf-8")
+    text = (TOP / "docs" / "user" / "GUIDE.md").read_text(encoding="utf-8")
     blocks = re.findall("^```\\w*\n(.*?)^```$", text, re.DOTALL | re.MULTILINE)
     return next(block for block in blocks
                 if block.startswith("district-audit") and "\n" + word in block)
@@ -312,7 +312,7 @@ class ProgramTests(ProgramCase):
                      max_split=3, group_districts=1, source=True)
 
     def test_the_worked_example_of_signs(self):
-        """The values of docs/READING_A_REPORT.md, by hand: 90, 45 and 45 votes of 100 each."""
+        """The values of docs/user/READING_A_REPORT.md, by hand: 90, 45 and 45 votes of 100 each."""
         votes = [(90, 10), (45, 55), (45, 55)]
         graph = {"directed": False, "multigraph": False, "graph": [],
                  "nodes": [dict(id=i, pop=100, a=a, b=b, d=i) for i, (a, b) in enumerate(votes)],

@@ -1,4 +1,4 @@
-"""Pictures of traces, and the code of docs/TRACES.md."""
+"""Pictures of traces, and the code of docs/user/TRACES.md."""
 import contextlib
 import io
 import os
@@ -12,7 +12,7 @@ import district_audit
 from district_audit import trace_pictures
 from trace_model import tracing_program
 
-GUIDE = common.TOP / "docs" / "TRACES.md"
+GUIDE = common.TOP / "docs" / "user" / "TRACES.md"
 
 
 class Pictures(common.FolderCase):
