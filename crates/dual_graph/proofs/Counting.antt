@@ -1,4 +1,4 @@
--- How many edges a graph has whose edges are the pairs of a list.
+-- A graph built from pairs has one edge per pair.
 use Rattle.std.proofs.Common.{◌≡◌, ℕ, zero, suc, ◌+◌, ◌<◌, ◌≤◌, Bool, true, false, cond, ◌&&◌, ◌||◌, List, [], ◌∷◌, length, map, get_or, refl, sym, ap, ◌∙◌, subst, inl, inr, arith}
 use Rattle.std.specs.Prelude.{◌==◌, ◌↔◌}
 use Rattle.std.proofs.lemmas.Bool.{and_parts, and_from, and_left, and_right, cases_eq, cond-true, cond-false, eq-eqb, eqb-true, ne_eqb, false≢true}
@@ -12,7 +12,7 @@ use Rattle.dual_graph.proofs.Ordered.{is_one, pair_is, pair_found, found_pair, b
 
 -- ---- sums and counts
 
--- two sums of the same parts are the same
+-- sums of equal terms are equal
 pub sum_below_same : (n : ℕ) (f g : ℕ → ℕ) → ((k : ℕ) → k < n → f k ≡ g k) → sum_below n f ≡ sum_below n g
 sum_below_same zero f g same = refl
 sum_below_same (suc n) f g same = omega (arith, sum_below_same n f g (λ k l. same k (omega arith)), same n (omega arith))
@@ -22,7 +22,7 @@ sum_below_none : (n : ℕ) (f : ℕ → ℕ) → ((k : ℕ) → k < n → f k �
 sum_below_none zero f none = refl
 sum_below_none (suc n) f none = omega (arith, sum_below_none n f (λ k l. none k (omega arith)), none n (omega arith))
 
--- a sum of one 1 and zeros is 1
+-- a sum of a single 1 and zeros is 1
 sum_below_one : (n b : ℕ) (f : ℕ → ℕ) → b < n → f b ≡ 1 → ((k : ℕ) → k < n → (k ≡ b → ⊥) → f k ≡ 0) → sum_below n f ≡ 1
 sum_below_one zero b f l one none = absurd (omega arith)
 sum_below_one (suc n) b f l one none = elim (cases_eq n b) [
@@ -32,12 +32,12 @@ sum_below_one (suc n) b f l one none = elim (cases_eq n b) [
   | inr off ↦ omega (arith, none n (omega arith) off, sum_below_one n b f (omega arith) one (λ k under. none k (omega arith)))
 ]
 
--- the sum of sums is the sum of both
+-- a sum of sums splits into two sums
 sum_below_plus : (n : ℕ) (f g : ℕ → ℕ) → sum_below n (λ k. f k + g k) ≡ sum_below n f + sum_below n g
 sum_below_plus zero f g = refl
 sum_below_plus (suc n) f g = omega (arith, sum_below_plus n f g)
 
--- where one number alone passes, the count is 1
+-- a count is 1 if exactly one number passes
 pub count_below_one : (n a : ℕ) (test : ℕ → Bool) → a < n → test a ≡ true → ((k : ℕ) → k < n → (k ≡ a → ⊥) → test k ≡ false) → count_below n test ≡ 1
 unfolding count_below
 count_below_one zero a test l one none = absurd (omega arith)
@@ -50,14 +50,14 @@ count_below_one (suc n) a test l one none = elim (cases_eq n a) [
       omega (arith, last, count_below_one n a test (omega arith) one (λ k under. none k (omega arith)))
 ]
 
--- of two tests that never both hold, either counts once
+-- a disjunction of two exclusive tests counts as their sum
 one_or_other : (p q : Bool) → (p ≡ true → q ≡ true → ⊥) → cond {A = ℕ} (p || q) 1 0 ≡ cond {A = ℕ} p 1 0 + cond {A = ℕ} q 1 0
 one_or_other true true apart = absurd (apart refl refl)
 one_or_other true false apart = refl
 one_or_other false true apart = refl
 one_or_other false false apart = refl
 
--- what passes one of two tests that nothing passes both of
+-- counts of two exclusive tests add up
 pub count_below_or : (n : ℕ) (p q : ℕ → Bool) → ((k : ℕ) → k < n → p k ≡ true → q k ≡ true → ⊥) → count_below n (λ k. p k || q k) ≡ count_below n p + count_below n q
 unfolding count_below
 count_below_or zero p q apart = refl
@@ -67,7 +67,7 @@ count_below_or (suc n) p q apart =
 
 -- ---- pairs
 
--- the first pair is before each later one
+-- the first of rising pairs is before each later one
 first_before : (p : ℕ × ℕ) (pairs : List (ℕ × ℕ)) → ((k : ℕ) → k + 1 < length (p ∷ pairs) → IsBefore (pair_at (p ∷ pairs) k) (pair_at (p ∷ pairs) (k + 1)))
     → (k : ℕ) → k < length pairs → IsBefore p (pair_at pairs k)
 first_before p pairs rising zero l = rising 0 (omega arith)
@@ -76,7 +76,7 @@ first_before p pairs rising (suc k) l =
     let next : IsBefore (pair_at pairs k) (pair_at pairs (suc k)) = subst (λ (j : ℕ). IsBefore (pair_at pairs k) (pair_at (p ∷ pairs) j)) at (rising (suc k) (omega arith)) in
     before_trans p (pair_at pairs k) (pair_at pairs (suc k)) (first_before p pairs rising k (omega arith)) next
 
--- rising pairs without the first are rising pairs
+-- rising pairs without their first still rise
 later_pairs : (n : ℕ) (p : ℕ × ℕ) (pairs : List (ℕ × ℕ)) → ArePairs n (p ∷ pairs) → ArePairs n pairs
 later_pairs n p pairs are = record {
   small = λ k l. are.small (suc k) (omega arith);
@@ -93,7 +93,7 @@ one_counted n p small below = sum_below_one n p.1 (λ v. count_below v (λ u. is
     (λ u l off. and_left (p.0 == u) (p.1 == p.1) (ne_eqb p.0 u (λ e. off (sym e)))))
     (λ v l off. count_below_none v (λ u. is_one p u v) (λ u under. and_right (p.0 == u) (p.1 == v) (ne_eqb p.1 v (λ e. off (sym e)))))
 
--- counted unit by unit there are as many pairs as the list has
+-- counting pairs unit by unit gives the length of the list
 pub pairs_counted : (n : ℕ) (pairs : List (ℕ × ℕ)) → ArePairs n pairs → sum_below n (λ v. count_below v (λ u. has_pair pairs u v)) ≡ length pairs
 pairs_counted n [] are = sum_below_none n (λ v. count_below v (λ u. false)) (λ v l. count_below_none v (λ u. false) (λ u under. refl))
 pairs_counted n (p ∷ pairs) are =
@@ -108,13 +108,13 @@ pairs_counted n (p ∷ pairs) are =
     let below : p.1 < n = are.below 0 (omega arith) in
     omega (arith, split, plus, one_counted n p small below, pairs_counted n pairs (later_pairs n p pairs are))
 
--- two tests of which each follows from the other are the same
+-- tests that imply each other are equal
 same_test : (a b : Bool) → (a ≡ true → b ≡ true) → (b ≡ true → a ≡ true) → (a && true) ≡ b
 same_test true b f g = sym (f refl)
 same_test false true f g = absurd (false≢true (g refl))
 same_test false false f g = refl
 
--- a graph whose edges are the pairs has as many edges
+-- a graph whose edges are the pairs has one edge per pair
 pub edges_counted : (g : Graph) (pairs : List (ℕ × ℕ)) → ArePairs g.units pairs → ((u v : ℕ) → (adjacent g u v ≡ true) ↔ Joins pairs u v)
     → count_edges g (λ u v. true) ≡ length pairs
 edges_counted g pairs are same =
@@ -135,7 +135,7 @@ edges_counted g pairs are same =
     (same u v).1 (found.0, found.1, inl (pair_is (pair_at pairs found.0) u v found.2 found.3)))))
     ∙ pairs_counted g.units pairs are
 
--- ---- what `from_pairs` builds
+-- ---- the result of `from_pairs`
 
 pub record IsBuilt (n : ℕ) (pairs : List (ℕ × ℕ)) (begins near : List ℕ) : Type 0 where
   pub rows : HasRows n begins near
@@ -143,7 +143,7 @@ pub record IsBuilt (n : ℕ) (pairs : List (ℕ × ℕ)) (begins near : List ℕ
   pub joins : (u v : ℕ) → (adjacent (graph_of n begins near) u v ≡ true) ↔ Joins pairs u v
   pub edges : HasEdges (graph_of n begins near) (length pairs)
 
--- the lists that are made of the pairs stand for the graph of these pairs
+-- the rows built from the pairs represent the graph of these pairs
 pub built_from_pairs : (n : ℕ) (pairs before arcs : List (ℕ × ℕ)) (begins near : List ℕ) (one other : List (ℕ × ℕ)) → n ≤ 100000 → length pairs ≤ 400000 → ArePairs n pairs
     → GoesBothWays pairs (length pairs) before → ((u v : ℕ) → (has_pair arcs u v ≡ true) ↔ (has_pair before u v ≡ true))
     → ArePairsRising arcs → length begins ≡ n + 1

@@ -1,4 +1,4 @@
--- Lists of different numbers, and one mark more or less.
+-- Marking a unit and clearing all marks keep `IsMarked`.
 use Rattle.std.proofs.Common.{◌≡◌, ℕ, zero, suc, ◌+◌, ◌<◌, ◌≤◌, true, false, List, [], ◌∷◌, ◌++◌, length, get_or, set, refl, sym, ◌∙◌, subst, inl, inr, arith, length-append, length-set, get_or-set_same, get_or-set_other}
 use Rattle.std.proofs.lemmas.Bool.{cases_eq, false≢true, false_from_ne_true}
 use Rattle.audit_model.specs.Apart.{AllApart}
@@ -11,24 +11,24 @@ use Rattle.dual_graph.specs.Marked.{Marked, IsMarked}
 pub absent : (m : Marked) (u : ℕ) → IsMarked m → get_or m.labels u 0 ≡ 0 → has m.items u ≡ false
 absent m u marked none = false_from_ne_true (has m.items u) (λ h. let l = marked.labelled u h in absurd (omega (arith, l, none)))
 
--- no more units are marked than there are
+-- at most all units are marked
 pub items_le : (m : Marked) → IsMarked m → length m.items ≤ m.units
 items_le m marked = apart_le m.units m.items marked.apart marked.below
 
--- with one more marked unit all marked ones are units of the graph
+-- after one more mark, all marked units are still units of the graph
 has_more : (m : Marked) (u v : ℕ) → IsMarked m → u < m.units → has (m.items ++ u ∷ []) v ≡ true → v < m.units
 has_more m u v marked l h = elim (has-append_parts m.items (u ∷ []) v h) [
   | inl e ↦ marked.below v e
   | inr e ↦ subst (λ t. t < m.units) (has_one u v e) l
 ]
 
--- there is room for one more
+-- an unmarked unit leaves capacity for one more mark
 pub has_room : (m : Marked) (u : ℕ) → IsMarked m → u < m.units → get_or m.labels u 0 ≡ 0 → length m.items < m.units
 has_room m u marked l none =
     let le = apart_le m.units (m.items ++ u ∷ []) (apart_more m.items u marked.apart (absent m u marked none)) (λ v h. has_more m u v marked l h) in
     omega (arith, le, length-append m.items (u ∷ []))
 
--- one more mark
+-- marking an unlabelled unit keeps the invariant
 pub marked_more : (m : Marked) (u l n : ℕ) (items : List ℕ) → IsMarked m → u < m.units → get_or m.labels u 0 ≡ 0 → 0 < l
     → n ≡ m.units → items ≡ m.items ++ u ∷ [] → IsMarked (record { units = n; items = items; labels = set m.labels u l })
 marked_more m u l n items marked lt none pos same grown = record {
@@ -52,7 +52,7 @@ marked_more m u l n items marked lt none pos same grown = record {
     inside : u < length m.labels
     inside = subst (λ k. u < k) (sym marked.width) lt
 
--- all labels are taken away
+-- labels that are all 0 meet the invariant with an empty list
 pub marked_none : (labels : List ℕ) → ((v : ℕ) → get_or labels v 0 ≡ 0) → IsMarked (record { units = length labels; items = []; labels = labels })
 marked_none labels none = record {
   width = refl;
@@ -62,16 +62,16 @@ marked_none labels none = record {
   listed = λ v p. absurd (omega (arith, p, none v));
 }
 
--- the labels that are left once the first k units of the list have lost theirs
+-- the labels after the first k units of the list were cleared
 pub record IsClearing (items before labels : List ℕ) (k : ℕ) : Type 0 where
   pub width : length labels ≡ length before
   pub gone : (v : ℕ) → 0 < get_or labels v 0 → (0 < get_or before v 0) × ((j : ℕ) → j < k → get_or items j 0 ≡ v → ⊥)
 
--- before the first unit is cleared the labels are as they were
+-- before the first step, the labels are unchanged
 pub clearing_none : (items labels : List ℕ) → IsClearing items labels labels 0
 clearing_none items labels = record { width = refl; gone = λ v p. (p, λ j l e. absurd (omega arith)) }
 
--- clearing one unit more takes its label away and no other
+-- clearing one more unit removes its label and no other
 pub clearing_more : (items before labels : List ℕ) (k : ℕ) → IsClearing items before labels k → IsClearing items before (set labels (get_or items k 0) 0) (k + 1)
 clearing_more items before labels k c = record {
   width = length-set labels (get_or items k 0) 0 ∙ c.width;
@@ -103,7 +103,7 @@ pub is_zero : (n : ℕ) → (0 < n → ⊥) → n ≡ 0
 is_zero zero h = refl
 is_zero (suc n) h = absurd (h (omega arith))
 
--- when all marked units are cleared no unit has a label
+-- after all marked units were cleared, no unit has a label
 pub clearing_done : (m : Marked) (labels : List ℕ) (k : ℕ) → IsMarked m → IsClearing m.items m.labels labels k → length m.items ≤ k → (v : ℕ) → get_or labels v 0 ≡ 0
 clearing_done m labels k marked c l v = is_zero (get_or labels v 0) (λ p.
     let was = c.gone v p in

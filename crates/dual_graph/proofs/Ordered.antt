@@ -1,4 +1,4 @@
--- Pairs in a list, their order, and each edge in both directions.
+-- Membership and order of pairs, and arcs in both directions.
 use Rattle.std.proofs.Common.{◌≡◌, ℕ, zero, suc, ◌+◌, ◌<◌, ◌≤◌, Bool, true, false, ◌&&◌, List, [], ◌∷◌, ◌++◌, length, get_or, Err, refl, sym, ap, ◌∙◌, subst, inl, inr, arith, length-append, nat_cmp, Ordering, Less, Equal, Greater}
 use Rattle.std.specs.Cmp.{IsTotalOrder, ranks, nat_cmp_is, tied_then, unsigned_ties}
 use Rattle.std.specs.List.{dedup, Contains}
@@ -14,16 +14,16 @@ use Rattle.std.proofs.lemmas.List.Sorted.{searchable_from_sorted}
 use Rattle.std.proofs.lemmas.Map.Keys.{Less-from_sorted}
 use Rattle.dual_graph.specs.Pairs.{pair_at, has_pair, IsBefore, ArePairsRising, GoesBothWays, BeginsAt}
 
--- a pair is made of its two parts
+-- a pair is determined by its two parts
 pub pair_is : (p : ℕ × ℕ) (u v : ℕ) → p.0 ≡ u → p.1 ≡ v → p ≡ (u, v)
 pair_is (a, b) u v e f = ap (λ (t : ℕ). let q : ℕ × ℕ = (t, b) in q) e ∙ ap (λ (t : ℕ). let q : ℕ × ℕ = (u, t) in q) f
 
--- ---- which pairs a list has
+-- ---- membership
 
 abbrev pub is_one : ℕ × ℕ → ℕ → ℕ → Bool
 is_one p u v = (p.0 == u) && (p.1 == v)
 
--- a pair that the list has stands at some place of it
+-- a member stands at some position of the list
 pub pair_found : (pairs : List (ℕ × ℕ)) (u v : ℕ) → has_pair pairs u v ≡ true → (k : ℕ) × (k < length pairs) × ((pair_at pairs k).0 ≡ u) × ((pair_at pairs k).1 ≡ v)
 pair_found [] u v h = absurd (false≢true h)
 pair_found (p ∷ pairs) u v h = elim (or_cases (is_one p u v) (has_pair pairs u v) h) [
@@ -31,26 +31,26 @@ pair_found (p ∷ pairs) u v h = elim (or_cases (is_one p u v) (has_pair pairs u
   | inr e ↦ let found = pair_found pairs u v e in (suc found.0, omega (arith, found.1), found.2, found.3)
 ]
 
--- a pair that stands at a place is one that the list has
+-- a pair at a position is a member
 pub found_pair : (pairs : List (ℕ × ℕ)) (k u v : ℕ) → k < length pairs → (pair_at pairs k).0 ≡ u → (pair_at pairs k).1 ≡ v → has_pair pairs u v ≡ true
 found_pair [] k u v l e f = absurd (omega arith)
 found_pair (p ∷ pairs) zero u v l e f = or_left (is_one p u v) (has_pair pairs u v) (and_from (p.0 == u) (p.1 == v) (eq-eqb p.0 u e) (eq-eqb p.1 v f))
 found_pair (p ∷ pairs) (suc k) u v l e f = or_right (is_one p u v) (has_pair pairs u v) (found_pair pairs k u v (omega arith) e f)
 
--- the list has the pair at each of its places
+-- the pair at each position is a member
 pub pair_there : (pairs : List (ℕ × ℕ)) (k : ℕ) → k < length pairs → has_pair pairs (pair_at pairs k).0 (pair_at pairs k).1 ≡ true
 pair_there pairs k l = found_pair pairs k (pair_at pairs k).0 (pair_at pairs k).1 l refl refl
 
--- one pair more
+-- appending keeps the members
 pub pair_pushed : (pairs : List (ℕ × ℕ)) (p : ℕ × ℕ) (u v : ℕ) → has_pair pairs u v ≡ true → has_pair (pairs ++ p ∷ []) u v ≡ true
 pair_pushed pairs p u v h = list_any-append (λ q. (q.0 == u) && (q.1 == v)) pairs (p ∷ []) ∙ or_left (has_pair pairs u v) (has_pair (p ∷ []) u v) h
 
--- a list has the pair that is appended to it
+-- the appended pair is a member
 pub pair_last : (pairs : List (ℕ × ℕ)) (a b : ℕ) → has_pair (pairs ++ (a, b) ∷ []) a b ≡ true
 pair_last pairs a b = list_any-append (λ q. (q.0 == a) && (q.1 == b)) pairs ((a, b) ∷ [])
     ∙ or_right (has_pair pairs a b) (has_pair ((a, b) ∷ []) a b) (or_left (is_one (a, b) a b) false (and_from (a == a) (b == b) (eq-eqb a a refl) (eq-eqb b b refl)))
 
--- a list with one pair more has that pair and what it had
+-- each member of a list with one pair appended is that pair or an older member
 pub pushed_pair : (pairs : List (ℕ × ℕ)) (a b u v : ℕ) → has_pair (pairs ++ (a, b) ∷ []) u v ≡ true → (has_pair pairs u v ≡ true) ⊎ ((a ≡ u) × (b ≡ v))
 pushed_pair pairs a b u v h = elim (or_cases (has_pair pairs u v) (has_pair ((a, b) ∷ []) u v) (sym (list_any-append (λ q. (q.0 == u) && (q.1 == v)) pairs ((a, b) ∷ [])) ∙ h)) [
   | inl e ↦ inl e
@@ -62,7 +62,7 @@ pushed_pair pairs a b u v h = elim (or_cases (has_pair pairs u v) (has_pair ((a,
 
 -- ---- each edge in both directions
 
--- with one edge more in both directions the arcs go both ways for one edge more
+-- appending an edge in both directions keeps `GoesBothWays`
 pub both_more : (pairs : List (ℕ × ℕ)) (i : ℕ) (arcs new : List (ℕ × ℕ)) (a b : ℕ) → GoesBothWays pairs i arcs
     → a ≡ (pair_at pairs i).0 → b ≡ (pair_at pairs i).1 → new ≡ (arcs ++ (a, b) ∷ []) ++ (b, a) ∷ [] → GoesBothWays pairs (i + 1) new
 both_more pairs i arcs new a b both ea eb is = record {
@@ -106,7 +106,7 @@ pair_eq p q = nat_eq p.0 q.0 && nat_eq p.1 q.1
 pub pair_total : IsTotalOrder pair_cmp
 pair_total = then_total (on_total (λ (t : ℕ × ℕ). t.0) nat_cmp_total) (on_total (λ (t : ℕ × ℕ). t.1) nat_cmp_total)
 
--- what the order says of two pairs: before, the same, or after
+-- the order of two pairs: before, equal or after
 pub pair_ranks : (p q : ℕ × ℕ) → MatchOrdering (pair_cmp p q) (IsBefore p q) ((p.0 ≡ q.0) × (p.1 ≡ q.1)) (IsBefore q p)
 pair_ranks p q = go (nat_cmp p.0 q.0) (nat_cmp p.1 q.1) (ranks p.0 q.0) (ranks p.1 q.1)
   where
@@ -129,7 +129,7 @@ before_less p q before = elim before [
 pub less_before : (p q : ℕ × ℕ) → pair_cmp p q ≡ Less → IsBefore p q
 less_before p q less = subst (λ (o : Ordering). MatchOrdering o (IsBefore p q) ((p.0 ≡ q.0) × (p.1 ≡ q.1)) (IsBefore q p)) less (pair_ranks p q)
 
--- a pair before one that is before a third is before the third
+-- the order of pairs is transitive
 pub before_trans : (p q r : ℕ × ℕ) → IsBefore p q → IsBefore q r → IsBefore p r
 before_trans p q r one two = elim one [
   | inl a ↦ elim two [ inl b ↦ inl (omega (arith, a, b)) | inr b ↦ let e = b.0 in inl (omega (arith, a, e)) ]
@@ -139,11 +139,11 @@ before_trans p q r one two = elim one [
   ]
 ]
 
--- no pair is before one with the same parts
+-- no pair is before an equal one
 pub not_before_itself : (p q : ℕ × ℕ) → IsBefore p q → p.0 ≡ q.0 → p.1 ≡ q.1 → ⊥
 not_before_itself p q before e f = elim before [ inl l ↦ omega (arith, l, e) | inr l ↦ let g = l.1 in omega (arith, g, f) ]
 
--- of rising pairs each is before all later ones
+-- each of rising pairs is before all later ones
 pub far_before : (xs : List (ℕ × ℕ)) → ArePairsRising xs → (i j : ℕ) → i < j → j < length xs → IsBefore (pair_at xs i) (pair_at xs j)
 far_before xs rising i zero l b = absurd (omega (arith, l))
 far_before xs rising i (suc j) l b = elim (cases_eq i j) [
@@ -156,34 +156,34 @@ far_before xs rising i (suc j) l b = elim (cases_eq i j) [
       (subst (λ (t : ℕ). IsBefore (pair_at xs j) (pair_at xs t)) next (rising j (omega (arith, b))))
 ]
 
--- ---- sorted and each once
+-- ---- sorted and without duplicates
 
--- two pairs are the same exactly where the order has them tied
+-- two pairs are equal exactly if the order has them tied
 tied : (p q : ℕ × ℕ) → pair_eq p q ≡ eq_by_cmp pair_cmp p q
 tied p q = ap (λ (b : Bool). b && nat_eq p.1 q.1) (unsigned_ties p.0 q.0) ∙ ap (λ (b : Bool). eq_by_cmp nat_cmp p.0 q.0 && b) (unsigned_ties p.1 q.1)
     ∙ tied_then (nat_cmp p.0 q.0) (nat_cmp p.1 q.1)
 
--- sorted pairs, each kept once, rise
+-- sorted pairs without duplicates rise strictly
 pub dedup_rises : (xs ys : List (ℕ × ℕ)) → IsSorted pair_cmp xs → ys ≡ dedup pair_eq xs → ArePairsRising ys
 dedup_rises xs ys sorted is k l =
     let strict : IsStrictlySortedBy pair_cmp ys = subst (λ (t : List (ℕ × ℕ)). IsStrictlySortedBy pair_cmp t) (sym is) (IsStrictlySortedBy-dedup pair_total tied xs sorted) in
     less_before (pair_at ys k) (pair_at ys (k + 1)) (Less-from_sorted pair_cmp ys k (k + 1) (0, 0) strict (omega arith) l)
 
--- a pair that the test finds is contained in the list
+-- a member is contained in the list
 contained : (xs : List (ℕ × ℕ)) (u v : ℕ) → has_pair xs u v ≡ true → Contains xs (u, v)
 contained xs u v h = let at = pair_found xs u v h in (at.0, at.1, get_or_default xs at.0 (u, v) (0, 0) at.1 ∙ pair_is (pair_at xs at.0) u v at.2 at.3)
 
--- the test finds a pair that is contained in the list
+-- a contained pair is a member
 has_contained : (xs : List (ℕ × ℕ)) (u v : ℕ) → Contains xs (u, v) → has_pair xs u v ≡ true
 has_contained xs u v c =
     let is : pair_at xs c.0 ≡ (u, v) = get_or_default xs c.0 (0, 0) (u, v) c.1 ∙ c.2 in
     found_pair xs c.0 u v c.1 (ap (λ (p : ℕ × ℕ). p.0) is) (ap (λ (p : ℕ × ℕ). p.1) is)
 
--- pairs that the test has for the same are the same
+-- pairs with equal parts are equal
 exact : (p q : ℕ × ℕ) → pair_eq p q ≡ true → p ≡ q
 exact p q h = let parts = and_parts (nat_eq p.0 q.0) (nat_eq p.1 q.1) h in pair_is p q.0 q.1 (eqb-true p.0 q.0 parts.0) (eqb-true p.1 q.1 parts.1)
 
--- keeping each pair once loses no pair
+-- removing duplicates keeps the members
 pub dedup_same : (xs ys : List (ℕ × ℕ)) → ys ≡ dedup pair_eq xs → (u v : ℕ) → (has_pair ys u v ≡ true) ↔ (has_pair xs u v ≡ true)
 dedup_same xs ys is u v = (
   λ h. has_contained xs u v (Contains-from_dedup pair_eq xs (u, v) (contained (dedup pair_eq xs) u v (subst (λ (t : List (ℕ × ℕ)). has_pair t u v ≡ true) is h))),
@@ -191,7 +191,7 @@ dedup_same xs ys is u v = (
       (has_contained (dedup pair_eq xs) u v (Contains-dedup (and_equiv (on_equiv (λ (t : ℕ × ℕ). t.0) nat_eq_equiv) (on_equiv (λ (t : ℕ × ℕ). t.1) nat_eq_equiv)) exact xs (u, v) (contained xs u v h))),
 )
 
--- ---- where a unit's pairs begin
+-- ---- the position where a unit's pairs begin
 
 -- rising pairs are sorted
 rising_sorted : (xs : List (ℕ × ℕ)) → ArePairsRising xs → IsSortedBy (λ p q. is_lt (pair_cmp p q)) xs
@@ -203,7 +203,7 @@ rising_sorted xs rising k d low high =
     subst (λ (p : ℕ × ℕ). is_lt (pair_cmp p (get_or xs k d)) ≡ false) (sym next)
     (subst (λ (q : ℕ × ℕ). is_lt (pair_cmp (pair_at xs (k + 1)) q) ≡ false) (sym here) (ap is_lt greater))
 
--- where the search finds the pair itself, the pairs of its unit begin there
+-- if the search finds (u, 0), the pairs of u begin there
 pub begins_there : (xs : List (ℕ × ℕ)) (u place : ℕ) → ArePairsRising xs → place < length xs → ((d : ℕ × ℕ) → pair_cmp (get_or xs place d) (u, 0) ≡ Equal) → BeginsAt xs u place
 begins_there xs u place rising inside found =
     let at : ((pair_at xs place).0 ≡ u) × ((pair_at xs place).1 ≡ 0) =
@@ -225,7 +225,7 @@ begins_there xs u place rising inside found =
       ];
     }
 
--- where the search finds the place for the pair, the pairs of its unit begin there
+-- if the search finds only the insertion point of (u, 0), the pairs of u begin there
 pub begins_between : (xs : List (ℕ × ℕ)) (u place : ℕ) → ArePairsRising xs → place ≤ length xs → IsBinarySearchResult (λ p. pair_cmp p (u, 0)) xs (Err place) → BeginsAt xs u place
 begins_between xs u place rising inside found =
     let parted = found (searchable_from_sorted pair_total (λ p. p) xs (u, 0) (rising_sorted xs rising)) in

@@ -1,4 +1,4 @@
--- The two units that show that a set is not connected, from what a search found.
+-- The two units that show that a set is not connected, from the result of the search.
 use Rattle.std.proofs.Common.{◌≡◌, ℕ, Bool, true, false, not, ◌&&◌, List, Option, Some, None, refl, sym, ap, ◌∙◌, subst}
 use Rattle.std.specs.Option.{is_some}
 use Rattle.std.specs.Prelude.{◌↔◌, unwrap_or}
@@ -12,13 +12,13 @@ use Rattle.audit_model.proofs.First.{first_below_none, none_first_below, first_b
 use Rattle.audit_model.proofs.Searching.{whole}
 use Rattle.dual_graph.specs.Parting.{least_in, parted_in, parting_of}
 
--- two tests that agree where a first one holds are the same beside it
+-- a conjunction depends on its second part only if the first holds
 and_same : (a b c : Bool) → (a ≡ true → b ≡ c) → (a && not b) ≡ (a && not c)
 and_same true b c h = ap not (h refl)
 and_same false b c h = refl
 
 module _ (g : Graph) (inside : ℕ → Bool) where
-  -- a set without a unit
+  -- the result for an empty set
   pub parting_of_none : first_below g.units inside ≡ None → parting_of g inside ≡ Some (0, 0)
   parting_of_none none =
       let off : is_connected g inside ≡ false = false_from_ne_true (is_connected g inside) (λ h.
@@ -39,7 +39,7 @@ module _ (g : Graph) (inside : ℕ → Bool) where
     missed : ℕ → Bool
     missed u = inside u && not (has found u)
 
-    -- a set all of which is found
+    -- the result if the search reached the whole set
     pub parting_of_whole : first_below g.units (λ u. inside u && not (has found u)) ≡ None → parting_of g inside ≡ None
     parting_of_whole none =
         let all : (v : ℕ) → IsIn g inside v → has found v ≡ true = λ v i. true_from_ne_false (has found v) (λ h.
@@ -48,7 +48,7 @@ module _ (g : Graph) (inside : ℕ → Bool) where
         cond-true (is_connected g inside) None (Some (least_in g inside, parted_in g inside))
         (connected_passes g inside ((whole g inside graph one found is_in search).0 all))
 
-    -- a set some unit of which is not found
+    -- the result if the search missed some unit
     pub parting_of_parted : (other : ℕ) → first_below g.units (λ u. inside u && not (has found u)) ≡ Some other → parting_of g inside ≡ Some (one, other)
     parting_of_parted other some =
         let at = first_below_some g.units (λ u. inside u && not (has found u)) other some in
@@ -65,7 +65,7 @@ module _ (g : Graph) (inside : ℕ → Bool) where
         cond-false (is_connected g inside) None (Some (least_in g inside, parted_in g inside)) off
         ∙ ap (λ (n : ℕ). Some (n, parted_in g inside)) least ∙ ap (λ (n : ℕ). Some (one, n)) parted
 
--- no two such units are there just where the set is connected
+-- no such units exist exactly if the set is connected
 pub none_is_whole : (g : Graph) (inside : ℕ → Bool) (parted : Option (ℕ × ℕ)) (none : Bool) → parted ≡ parting_of g inside → is_some parted ≡ not none
     → (none ≡ true) ↔ IsConnected g inside
 none_is_whole g inside parted none is told =

@@ -1,11 +1,11 @@
--- The neighbours of a unit are a part of the list of all.
+-- A unit's neighbors are a slice of the flat list.
 use Rattle.std.proofs.Common.{◌≡◌, ℕ, ◌+◌, ◌-◌, ◌<◌, List, [], length, get_or, take, drop, sym, ap, ◌∙◌, subst, arith}
 use Rattle.std.proofs.lemmas.List.{length-take, length-drop, get_or-take, get_or-drop, get_or_default}
 use Rattle.dual_graph.specs.Flat.{row}
 use Rattle.audit_model.specs.Below.{map_below}
 use Rattle.audit_model.proofs.Below.{get_or-map_below}
 
--- the part of the flat list between two places is the row of the unit
+-- the slice between two consecutive positions is the unit's row
 pub row_is : (n : ℕ) (begins near : List ℕ) (u a b : ℕ) (xs : List ℕ) → u < n → a ≡ get_or begins u 0 → b ≡ get_or begins (u + 1) 0 → xs ≡ near
     → take (b - a) (drop a xs) ≡ get_or (map_below n (row begins near)) u []
 row_is n begins near u a b xs l ea eb ex =
@@ -13,7 +13,7 @@ row_is n begins near u a b xs l ea eb ex =
     ∙ ap (λ t. take (get_or begins (u + 1) 0 - get_or begins u 0) (drop (get_or begins u 0) t)) ex
     ∙ sym (get_or-map_below n (row begins near) u [] l)
 
--- what is below a bound in a list is below it in each part of it
+-- a bound on all items holds in each slice
 pub part_below : (n a b : ℕ) (xs : List ℕ) → ((k : ℕ) → k < length xs → get_or xs k 0 < n)
     → (k d : ℕ) → k < length (take b (drop a xs)) → get_or (take b (drop a xs)) k d < n
 part_below n a b xs below k d l =

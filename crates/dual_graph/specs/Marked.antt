@@ -3,13 +3,13 @@ use Rattle.std.specs.Prelude.{◌≡◌, ℕ, ◌<◌, IsTrue, List, length, sli
 use Rattle.audit_model.specs.Apart.{AllApart}
 use Rattle.audit_model.specs.Graph.{has}
 
--- how many units there may be, the marked ones in order, and for each unit its label: 0 where it is not marked
+-- the number of units, the marked units in order, and a label for each unit: 0 if it is not marked
 pub record Marked : Type 0 where
   pub units : ℕ
   pub items : List ℕ
   pub labels : List ℕ
 
--- the marked units are different units below the bound, and they alone have a label
+-- the marked units are distinct and below the bound, and they alone have a label
 pub record IsMarked (m : Marked) : Type 0 where
   pub width : length m.labels ≡ m.units
   pub apart : AllApart m.items

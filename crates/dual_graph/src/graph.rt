@@ -1,4 +1,4 @@
-//! The graph.
+//! The graph of units.
 
 ghost use Rattle.std.specs.Prelude.{◌≡◌, ◌<◌, ◌≤◌, ◌↔◌, ℕ, true, [], length, slice_index, All, IfOk, IsTrue};
 ghost use Rattle.dual_graph.specs.Pairs.{ArePairs, Joins};
@@ -11,7 +11,8 @@ use audit_model::memory::Memory;
 use std::alloc::Global;
 use std::marker::Model;
 
-/// Units and their neighbours.
+/// An immutable undirected graph in compressed rows. The neighbors of unit `u` are
+/// `near[begins[u]..begins[u + 1]]`, in rising order.
 #[derive(Drop)]
 pub struct Graph {
     units: u32,
@@ -36,7 +37,10 @@ impl Model for Graph {
 impl Graph {
     ghost use Rattle.audit_model.specs.Graph.{IsGraph};
 
-    /// The graph of n units whose edges are the pairs.
+    /// Builds the graph of `units` units whose edges are `pairs`.
+    ///
+    /// Each pair has its smaller unit first, and the pairs rise strictly. Fails if there is no
+    /// memory.
     pub fn from_pairs(alloc: Global, units: u32, pairs: &[(u32, u32)]) -> Result<Graph, Memory>
         requires few { (units ≤ most_units) × (length pairs.now ≤ most_edges) }
         requires pairs { ArePairs units pairs.now }
@@ -57,30 +61,30 @@ impl Graph {
         })
     }
 
-    /// How many units there are.
+    /// Returns the number of units.
     #[inline]
     pub fn units(&self) -> u32
         ensures units { result ≡ self.now.units }
         ensures few { self.now.units ≤ most_units }
         ensures sound { IsGraph self.now }
     {
-        // Reads the fields, so that what the type says of them is known.
+        // Reading a field makes the type's invariant known to the prover.
         let _ = &self.near;
         self.units
     }
 
-    /// How many edges there are, each counted once.
+    /// Returns the number of edges, each counted once.
     #[inline]
     pub fn edges(&self) -> u32
         ensures edges { result ≡ count_edges self.now (λ u v. true) }
         ensures few { count_edges self.now (λ u v. true) ≤ most_edges }
     {
-        // Reads the fields, so that what the type says of them is known.
+        // Reading a field makes the type's invariant known to the prover.
         let _ = &self.near;
         self.edges
     }
 
-    /// The neighbours of a unit, in rising order.
+    /// Returns the neighbors of a unit, in rising order.
     #[inline]
     pub fn neighbours(&self, unit: u32) -> &[u32]
         requires { unit < self.now.units }
@@ -92,7 +96,7 @@ impl Graph {
         &self.near[begin..end]
     }
 
-    /// Whether two units are adjacent.
+    /// Returns true if two units are adjacent. It scans the neighbors of `unit`.
     pub fn adjacent(&self, unit: u32, other: u32) -> bool
         requires { unit < self.now.units }
         ensures { result ≡ adjacent self.now unit other }
@@ -100,7 +104,7 @@ impl Graph {
         self.neighbours(unit).contains(&other)
     }
 
-    /// Another graph that is the same.
+    /// Copies the graph. Fails if there is no memory.
     pub fn copy(&self) -> Result<Graph, Memory>
         ensures { IfOk result (λ g. g ≡ self.now) }
     {

@@ -1,16 +1,16 @@
-//! Which units count as inside.
+//! Sets of units to search.
 
 ghost use Rattle.std.specs.Prelude.{◌≡◌, ◌<◌, ℕ, Bool};
 
-/// A set of units, told by a test of each.
+/// A set of units, given by a membership test.
 pub trait Inside {
-    /// How many units it knows.
+    /// The number of units that the test accepts as arguments.
     ghost units: { Self → ℕ };
 
-    /// Whether a unit is in the set.
+    /// The membership of a unit, as proofs know it.
     ghost inside: { Self → ℕ → Bool };
 
-    /// Whether a unit is in the set.
+    /// Returns true if the unit is in the set.
     fn holds(&self, unit: u32) -> bool
         requires { unit < units self.now }
         ensures { result ≡ inside self.now unit };

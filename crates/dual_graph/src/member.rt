@@ -6,7 +6,7 @@ ghost use Rattle.audit_model.specs.Limits.{most_units};
 
 use crate::graph::Graph;
 
-/// A unit of a graph, with a plan that gives a district to each unit.
+/// A unit together with its graph and a plan on it: one district per unit.
 #[derive(Clone, Copy)]
 pub struct Member<'a> {
     pub graph: &'a Graph,
@@ -19,7 +19,7 @@ pub struct Member<'a> {
 }
 
 impl<'a> Member<'a> {
-    /// A unit of a plan on its graph.
+    /// Pairs a unit with its graph and plan.
     #[inline]
     pub fn of(graph: &'a Graph, plan: &'a [u32], unit: u32) -> Member<'a>
         requires plan { length plan.now ≡ graph.now.units }
@@ -28,7 +28,7 @@ impl<'a> Member<'a> {
         ensures plan { result.plan.now ≡ plan.now }
         ensures unit { result.unit ≡ unit }
     {
-        // Called for what its contract says: the graph is sound, and has at most 100,000 units.
+        // Called for its contract: the graph is sound and has at most 100,000 units.
         let _units = graph.units();
         Member { graph, plan, unit }
     }

@@ -1,20 +1,20 @@
-//! What is read of a graph.
+//! The contents of a source.
 
 use crate::graph::Graph;
 use audit_model::lists::{LabelList, UnitList};
 use audit_model::outcome::Counts;
 use audit_model::rules::Group;
 
-/// A graph with the population and the votes of each unit, the group of each where one is named, its start plan and the labels of the districts.
+/// A graph with the data of its units: counts, group, start plan and district labels.
 #[derive(Drop)]
 pub struct Parsed {
     pub graph: Graph,
-    /// One entry for each unit.
+    /// Population and votes, one entry per unit.
     pub counts: Counts,
-    /// One entry for each unit, or none.
+    /// Group counts, one entry per unit, or empty if no group was named.
     pub group: Group,
-    /// The place of each unit's label in `labels`.
+    /// The start plan: for each unit, the index of its district's label in `labels`.
     pub start: UnitList,
-    /// The different labels: whole numbers by value, then texts by bytes.
+    /// The distinct district labels: integers by value, then texts by bytes.
     pub labels: LabelList,
 }

@@ -1,4 +1,4 @@
-//! A plain search within a set of units, from its least one.
+//! A breadth-first search of a set of units, from its least unit.
 
 ghost use Rattle.std.specs.Prelude.{◌≡◌, ◌<◌, ◌↔◌, ◌&&◌, ℕ, [], not, IsTrue};
 ghost use Rattle.std.specs.List.{slice_index_or};
@@ -13,7 +13,7 @@ use crate::graph::Graph;
 use crate::inside::Inside;
 use crate::marks::Marks;
 
-/// A set of units of a graph, which knows each of them.
+/// A set of units of one graph.
 #[derive(Drop)]
 struct Within<'a, I: Inside> {
     graph: &'a Graph,
@@ -21,7 +21,7 @@ struct Within<'a, I: Inside> {
     ghost sized: { I.units set.now ≡ graph.now.units },
 }
 
-/// Marks the neighbours of a unit that are in the set.
+/// Marks the neighbors of a unit that are in the set.
 fn mark_neighbours<I: Inside>(within: &Within<I>, unit: u32, marks: &mut Marks)
     requires unit { unit < within.now.graph.now.units }
     requires units { marks.old.units ≡ within.now.graph.now.units }
@@ -38,7 +38,7 @@ fn mark_neighbours<I: Inside>(within: &Within<I>, unit: u32, marks: &mut Marks)
     }
 }
 
-/// Marks the units of the set to which a path within it leads from the start.
+/// Marks the units that a path within the set connects to `start`.
 fn reach<I: Inside>(within: &Within<I>, start: u32, marks: &mut Marks)
     requires start { IsIn within.now.graph.now (I.inside within.now.set.now) start }
     requires units { marks.old.units ≡ within.now.graph.now.units }
@@ -55,7 +55,7 @@ fn reach<I: Inside>(within: &Within<I>, start: u32, marks: &mut Marks)
     }
 }
 
-/// The least unit of the set.
+/// Returns the least unit of the set.
 fn first_unit<I: Inside>(within: &Within<I>) -> Option<u32>
     ensures { result ≡ first_below within.now.graph.now.units (I.inside within.now.set.now) }
 {
@@ -67,7 +67,7 @@ fn first_unit<I: Inside>(within: &Within<I>) -> Option<u32>
     None
 }
 
-/// The least unit of the set that is not marked.
+/// Returns the least unit of the set that is not marked.
 fn first_unmarked<I: Inside>(within: &Within<I>, marks: &Marks) -> Option<u32>
     requires units { marks.now.units ≡ within.now.graph.now.units }
     ensures { result ≡ first_below within.now.graph.now.units (λ u. I.inside within.now.set.now u && not (has marks.now.items u)) }
@@ -80,15 +80,17 @@ fn first_unmarked<I: Inside>(within: &Within<I>, marks: &Marks) -> Option<u32>
     None
 }
 
-/// The least unit of the set and the least one to which no path within it leads from there, where it
-/// is not connected; two zeros where it is empty.
+/// Returns two units that show the set is not connected, or `None` if it is.
+///
+/// They are the least unit of the set, and the least one that no path within the set connects to
+/// it. An empty set gives two zeros.
 pub fn parting<I: Inside>(graph: &Graph, set: &I, marks: &mut Marks) -> Option<(u32, u32)>
     requires set { I.units set.now ≡ graph.now.units }
     requires units { marks.old.units ≡ graph.now.units }
     ensures units { marks.new.units ≡ graph.now.units }
     ensures parting { result ≡ parting_of graph.now (I.inside set.now) }
 {
-    // Called for what its contract says: the graph is sound, and has at most 100,000 units.
+    // Called for its contract: the graph is sound and has at most 100,000 units.
     let _units = graph.units();
     let within = Within { graph, set };
     match first_unit(&within) {
@@ -101,7 +103,7 @@ pub fn parting<I: Inside>(graph: &Graph, set: &I, marks: &mut Marks) -> Option<(
     }
 }
 
-/// Whether the set has a unit and is connected.
+/// Returns true if the set is nonempty and connected.
 pub fn is_whole<I: Inside>(graph: &Graph, set: &I, marks: &mut Marks) -> bool
     requires set { I.units set.now ≡ graph.now.units }
     requires units { marks.old.units ≡ graph.now.units }
