@@ -1,4 +1,4 @@
--- Counts over the neighbours of a unit, and sums of them.
+-- Counts over the neighbors of a unit.
 use Rattle.std.proofs.Common.{◌≡◌, ℕ, Bool, ◌&&◌, [], ap, ◌∙◌}
 use Rattle.std.specs.Prelude.{nat_lt, count_by}
 use Rattle.std.specs.List.{slice_index_or}
@@ -7,7 +7,7 @@ use Rattle.audit_model.specs.Graph.{Graph, IsGraph, has, adjacent}
 use Rattle.audit_model.proofs.Below.{count_below_same}
 use Rattle.audit_model.proofs.Rows.{row_rises, count_rising}
 
--- the neighbours below a bound that pass a test are the units below it that have the unit as a neighbour and pass
+-- counting a unit's neighbors below a bound is counting the adjacent units below it
 pub count_neighbours : (g : Graph) (unit bound : ℕ) (test : ℕ → Bool) → IsGraph g
     → count_by (λ v. nat_lt v bound && test v) (slice_index_or g.neighbours unit []) ≡ count_below bound (λ v. adjacent g v unit && test v)
 count_neighbours g unit bound test sound =

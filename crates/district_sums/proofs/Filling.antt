@@ -1,4 +1,4 @@
--- Counts of neighbours elsewhere, written unit by unit.
+-- Filling in the counts of neighbors in other districts, unit by unit.
 use Rattle.std.proofs.Common.{◌≡◌, ℕ, ◌+◌, ◌<◌, not, ◌&&◌, ◌==◌, List, length, get_or, sym, ap, ◌∙◌, inl, inr, arith}
 use Rattle.std.proofs.Math.ListN.{set}
 use Rattle.std.proofs.lemmas.Bool.{cases_eq}
@@ -12,7 +12,7 @@ use Rattle.district_sums.specs.Following.{apart_of}
 pub record IsFilled (g : Graph) (plan : List ℕ) (unit : ℕ) (apart : List ℕ) : Type 0 where
   pub each : (v : ℕ) → v < unit → get_or apart v 0 ≡ apart_of g plan v
 
--- one unit more has its count
+-- filling in one more unit
 pub filled_more : (g : Graph) (plan : List ℕ) (unit count : ℕ) (apart : List ℕ) → IsGraph g → unit < length apart
     → count ≡ count_below g.units (λ v. adjacent g v unit && not (get_or plan v 0 == get_or plan unit 0))
     → IsFilled g plan unit apart → IsFilled g plan (unit + 1) (set apart unit count)
@@ -27,7 +27,7 @@ filled_more g plan unit count apart sound l is filled = record {
   ];
 }
 
--- when each unit has its count the list is that of the counts
+-- once every unit is filled in, the list holds all counts
 pub filled_all : (g : Graph) (plan apart : List ℕ) (unit : ℕ) → length apart ≡ g.units → unit ≡ g.units → IsFilled g plan unit apart
     → apart ≡ map_below g.units (apart_of g plan)
 filled_all g plan apart unit width all filled =

@@ -1,4 +1,4 @@
--- The sums, the counts of neighbours and the cut edges of a plan with one unit in another district.
+-- The sums, counts and cut edges of a plan after one unit has moved.
 use Rattle.std.proofs.Common.{◌≡◌, ℕ, ◌+◌, ◌*◌, ◌<◌, ◌≤◌, Bool, false, cond, not, ◌&&◌, ◌==◌, List, length, get_or, refl, sym, ap, ◌∙◌, inl, inr, arith}
 use Rattle.std.proofs.Math.ListN.{set, length-set}
 use Rattle.std.proofs.lemmas.Bool.{cases_eq, eq-eqb, ne_eqb, and_left, cond-true, cond-false}
@@ -12,19 +12,19 @@ use Rattle.audit_model.proofs.ColumnFacts.{part_small}
 use Rattle.district_sums.specs.Following.{apart_of}
 use Rattle.district_sums.proofs.Moving.{sum_below_but_one, count_below_but_one, pairs_but_one}
 
--- a list of the values up to a bound has as many places
+-- a list of the values below n has length n
 pub places : (n : ℕ) (f : ℕ → ℕ) (xs : List ℕ) → xs ≡ map_below n f → length xs ≡ n
 places n f xs e = ap (length {A = ℕ}) e ∙ length-map_below n f
 
--- the bound of such a list can be named by its length
+-- the bound of such a list is its length
 pub of_its_length : (n : ℕ) (f : ℕ → ℕ) (xs : List ℕ) → xs ≡ map_below n f → xs ≡ map_below (length xs) f
 of_its_length n f xs e = e ∙ ap (λ (k : ℕ). map_below k f) (sym (places n f xs e))
 
--- two lists of one length are lists up to one bound
+-- lists of equal length have equal bounds
 pub of_same_length : (n : ℕ) (f h : ℕ → ℕ) (xs ys : List ℕ) → xs ≡ map_below n f → ys ≡ map_below (length xs) h → ys ≡ map_below n h
 of_same_length n f h xs ys e is = is ∙ ap (λ (k : ℕ). map_below k h) (places n f xs e)
 
--- whether two numbers are the same does not hang on their order
+-- equality of numbers is symmetric
 eqb_turned : (a b : ℕ) → (a == b) ≡ (b == a)
 eqb_turned a b = elim (cases_eq a b) [
   | inl e ↦ eq-eqb a b e ∙ sym (eq-eqb b a (sym e))
@@ -42,7 +42,7 @@ module _ (plan : List ℕ) (u d : ℕ) (l : u < length plan) where
   elsewhere : (v : ℕ) → (v ≡ u → ⊥) → get_or after v 0 ≡ get_or plan v 0
   elsewhere v off = get_or-set_other plan u v d 0 off
 
-  -- a district's sum loses the unit's part where the unit was in it, and has it where the unit is in it
+  -- a district's sum before the move and the unit's new entry add up as after the move and its old entry
   pub shifted_sum : (column : List ℕ) (e : ℕ)
       → district_sum column after e + cond {A = ℕ} (get_or plan u 0 == e) (get_or column u 0) 0
       ≡ district_sum column plan e + cond {A = ℕ} (d == e) (get_or column u 0) 0
@@ -54,7 +54,7 @@ module _ (plan : List ℕ) (u d : ℕ) (l : u < length plan) where
       let own : part after u ≡ cond {A = ℕ} (d == e) (get_or column u 0) 0 = ap (λ (x : ℕ). cond {A = ℕ} (x == e) (get_or column u 0) 0) here in
       omega (arith, width, but_one, own)
 
-  -- a district has no less than the part of a unit of it
+  -- a district's sum is at least the entry of each of its units
   pub enough : (column sums : List ℕ) → sums ≡ map_below (length sums) (district_sum column plan) → (get_or plan u 0 ≡ d → ⊥)
       → get_or plan u 0 < length sums → get_or column u 0 ≤ get_or sums (get_or plan u 0) 0
   enough column sums added off in_home =
@@ -78,7 +78,7 @@ module _ (plan : List ℕ) (u d : ℕ) (l : u < length plan) where
       let part : district_sum column plan d ≤ bound * length plan = part_small column plan bound (length plan) d small (omega (arith, width)) in
       omega (arith, kept, old, part)
 
-  -- the districts' sums with the unit's part taken from one and added to the other
+  -- the sums with the unit's entry taken from one district and added to another
   pub shifted_list : (column sums : List ℕ) (less more : ℕ) → sums ≡ map_below (length sums) (district_sum column plan) → (get_or plan u 0 ≡ d → ⊥)
       → get_or plan u 0 < length sums → d < length sums → less + get_or column u 0 ≡ get_or sums (get_or plan u 0) 0
       → more ≡ get_or (set sums (get_or plan u 0) less) d 0 + get_or column u 0
@@ -140,7 +140,7 @@ module _ (plan : List ℕ) (u d : ℕ) (l : u < length plan) where
       ]
 
   module _ (g : Graph) (sound : IsGraph g) (inside : u < g.units) where
-    -- another unit's count of neighbours elsewhere changes by the unit that moves
+    -- another unit's count changes only through the unit that moves
     pub shifted_apart : (w : ℕ) → (w ≡ u → ⊥)
         → apart_of g after w + cond {A = ℕ} (adjacent g u w && not (get_or plan w 0 == get_or plan u 0)) 1 0
         ≡ apart_of g plan w + cond {A = ℕ} (adjacent g u w && not (get_or plan w 0 == d)) 1 0
@@ -171,7 +171,7 @@ module _ (plan : List ℕ) (u d : ℕ) (l : u < length plan) where
               ∙ ap (λ (x : ℕ). adjacent g u v && not (get_or plan v 0 == x)) here
         ])
 
-    -- the cut edges change as the unit's own count does
+    -- the cut edges change by as much as the unit's own count
     pub shifted_cut : cut_edges g after + apart_of g plan u ≡ cut_edges g plan + apart_of g after u
     shifted_cut =
         let cut : List ℕ → ℕ → ℕ → Bool = λ p a b. adjacent g a b && not (get_or p a 0 == get_or p b 0) in

@@ -1,4 +1,4 @@
--- What stands for a plan, part by part.
+-- `StandsFor`, from its parts.
 use Rattle.std.proofs.Common.{◌≡◌, ℕ, List, length, sym, ap, ◌∙◌}
 use Rattle.audit_model.specs.declared.outcome.Counts.{Counts}
 use Rattle.audit_model.specs.declared.outcome.SumsView.{SumsView}
@@ -30,11 +30,11 @@ module _ (g : Graph) (counts : Counts) (plan : List ℕ) (sums : Following) (sta
   pub cut_is : sums.view.cut ≡ cut_edges g plan
   cut_is = ap (λ (v : SumsView). v.cut) stands.view
 
--- sums of so many districts have so many places
+-- sums of n districts have n entries
 pub as_many : (g : Graph) (counts : Counts) (n : ℕ) (plan : List ℕ) (view : SumsView) → view ≡ sums_of g counts n plan → length view.population ≡ n
 as_many g counts n plan view is = places n (district_sum counts.population plan) view.population (ap (λ (v : SumsView). v.population) is)
 
--- the sums from scratch
+-- sums computed from scratch stand for their plan
 pub stand_anew : (g : Graph) (counts : Counts) (n : ℕ) (plan : List ℕ) (view : SumsView) (apart : List ℕ) → view ≡ sums_of g counts n plan
     → apart ≡ map_below g.units (apart_of g plan) → StandsFor g counts plan (record { view = view; apart = apart })
 stand_anew g counts n plan view apart is apart_is = record {
@@ -45,7 +45,7 @@ stand_anew g counts n plan view apart is apart_is = record {
 abbrev view_of : List ℕ → List ℕ → List ℕ → ℕ → SumsView
 view_of population first second cut = record { population = population; first = first; second = second; cut = cut }
 
--- the parts make the whole
+-- updated parts stand for the plan
 pub all_stand : (g : Graph) (counts : Counts) (n : ℕ) (plan : List ℕ) (view : SumsView) (cut : ℕ) (apart : List ℕ) → AreAdded counts n plan view
     → cut ≡ cut_edges g plan → apart ≡ map_below g.units (apart_of g plan)
     → StandsFor g counts plan (record { view = record view { cut = cut }; apart = apart })

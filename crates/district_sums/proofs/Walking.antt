@@ -1,4 +1,4 @@
--- A walk along the row of a unit that moves.
+-- The pass over the neighbors of a unit that moves.
 use Rattle.std.proofs.Common.{◌≡◌, ℕ, zero, suc, ◌+◌, ◌<◌, ◌≤◌, Bool, true, false, cond, not, ◌&&◌, ◌||◌, ◌==◌, List, [], ◌∷◌, ◌++◌, length, get_or, take, refl, sym, ap, ◌∙◌, subst, inl, inr, arith}
 use Rattle.std.specs.Prelude.{count_by}
 use Rattle.std.specs.List.{slice_index_or}
@@ -16,7 +16,7 @@ use Rattle.district_sums.proofs.Shifted.{shifted_apart, own_apart}
 
 -- ---- rows
 
--- in a rising list all before a place are less than what stands there
+-- items before a position of a rising list are less than the item there
 front_below : (xs : List ℕ) (k v : ℕ) → IsRising xs → k < length xs → has (take k xs) v ≡ true → v < get_or xs k 0
 front_below [] k v r l h = absurd (omega arith)
 front_below (x ∷ xs) zero v r l h = absurd (omega (arith, ap (λ b. cond {A = ℕ} b 1 0) h))
@@ -25,28 +25,28 @@ front_below (x ∷ xs) (suc k) v r l h = elim (or_cases (x == v) (has (take k xs
   | inr e ↦ front_below xs k v (tail_rises x xs r) (omega arith) e
 ]
 
--- the next number of a rising row is not among those before it
+-- the next item of a rising row is not among those before it
 pub is_new : (xs : List ℕ) (k : ℕ) → IsRising xs → k < length xs → has (take k xs) (get_or xs k 0) ≡ false
 is_new xs k r l = false_from_ne_true (has (take k xs) (get_or xs k 0)) (λ h. let under = front_below xs k (get_or xs k 0) r l h in omega (arith, under))
 
--- a list has the number that is appended to it
+-- an appended item is a member
 has_last : (xs : List ℕ) (v : ℕ) → has (xs ++ v ∷ []) v ≡ true
 has_last [] v = or_left (v == v) false (eq-eqb v v refl)
 has_last (x ∷ xs) v = or_right (x == v) (has (xs ++ v ∷ []) v) (has_last xs v)
 
--- an appended number changes nothing for other numbers
+-- appending an item adds no other member
 has_others : (xs : List ℕ) (v w : ℕ) → (v ≡ w → ⊥) → has (xs ++ v ∷ []) w ≡ has xs w
 has_others [] v w off = ap (λ b. b || false) (ne_eqb v w off)
 has_others (x ∷ xs) v w off = ap (λ b. (x == w) || b) (has_others xs v w off)
 
--- ---- the walk
+-- ---- the pass
 
--- the counts of the units of the row have lost the unit that moves where it was elsewhere, and have it where it is elsewhere now
+-- the counts of the row's units no longer have the unit as it was before the move, and have it as it is after
 pub record IsRecounted (plan : List ℕ) (home d : ℕ) (row old new : List ℕ) : Type 0 where
   pub each : (w : ℕ) → get_or new w 0 + cond {A = ℕ} (has row w && not (get_or plan w 0 == home)) 1 0
       ≡ get_or old w 0 + cond {A = ℕ} (has row w && not (get_or plan w 0 == d)) 1 0
 
--- the count of a unit that is not in the row is as it was
+-- a unit outside the row keeps its count
 pub still : (plan : List ℕ) (home d v : ℕ) (row old new : List ℕ) → IsRecounted plan home d row old new → has row v ≡ false → get_or new v 0 ≡ get_or old v 0
 still plan home d v row old new walked out =
     let is = walked.each v in
@@ -54,11 +54,11 @@ still plan home d v row old new walked out =
     let other : cond {A = ℕ} (has row v && not (get_or plan v 0 == d)) 1 0 ≡ 0 = ap (λ b. cond {A = ℕ} (b && not (get_or plan v 0 == d)) 1 0) out in
     omega (arith, is, none, other)
 
--- before the first neighbour the counts are as they were
+-- before the first neighbor, the counts are unchanged
 pub walked_none : (plan : List ℕ) (home d : ℕ) (counts : List ℕ) → IsRecounted plan home d [] counts counts
 walked_none plan home d counts = record { each = λ w. refl }
 
--- one neighbour more has its count after the move
+-- one more neighbor is updated
 pub walked_more : (plan : List ℕ) (home d v count : ℕ) (row old new : List ℕ) → IsRecounted plan home d row old new → has row v ≡ false → v < length new
     → count + cond {A = ℕ} (not (get_or plan v 0 == home)) 1 0 ≡ get_or new v 0 + cond {A = ℕ} (not (get_or plan v 0 == d)) 1 0
     → IsRecounted plan home d (row ++ v ∷ []) old (set new v count)
@@ -89,7 +89,7 @@ walked_more plan home d v count row old new walked out l is = record { each = ea
           omega (arith, kept, was, now, before)
     ]
 
--- a neighbour in another district has a count above 0
+-- a neighbor in another district has a count above 0
 pub apart_some : (g : Graph) (plan : List ℕ) (u v : ℕ) → IsGraph g → u < g.units → adjacent g u v ≡ true → not (get_or plan v 0 == get_or plan u 0) ≡ true → 0 < apart_of g plan v
 apart_some g plan u v sound l near off =
     let test : ℕ → Bool = λ w. adjacent g v w && not (get_or plan w 0 == get_or plan v 0) in
@@ -102,7 +102,7 @@ apart_some g plan u v sound l near off =
       | inr ne ↦ ap not (ne_eqb b a ne)
     ]
 
--- what is known of the next unit of the row
+-- facts about the next unit of the row
 module _ (g : Graph) (plan : List ℕ) (u d i : ℕ) (row old new : List ℕ) (sound : IsGraph g) (is_row : row ≡ slice_index_or g.neighbours u []) (lt : i < length row)
     (is_old : old ≡ map_below g.units (apart_of g plan)) (walked : IsRecounted plan (get_or plan u 0) d (take i row) old new) where
   pub near : adjacent g u (get_or row i 0) ≡ true
@@ -117,18 +117,18 @@ module _ (g : Graph) (plan : List ℕ) (u d i : ℕ) (row old new : List ℕ) (s
       ∙ ap (λ (xs : List ℕ). get_or xs (get_or row i 0) 0) is_old
       ∙ get_or-map_below g.units (apart_of g plan) (get_or row i 0) 0 (sound.below u (get_or row i 0) near)
 
--- no unit has more neighbours than there are units
+-- a unit has at most as many neighbors as there are units
 pub apart_few : (g : Graph) (plan : List ℕ) (v : ℕ) → apart_of g plan v ≤ g.units
 apart_few g plan v = count_below_le g.units (λ w. adjacent g v w && not (get_or plan w 0 == get_or plan v 0))
 
--- no more neighbours pass a test than there are units
+-- at most as many neighbors pass a test as there are units
 pub row_few : (g : Graph) (u i : ℕ) (test : ℕ → Bool) (row : List ℕ) → IsGraph g → row ≡ slice_index_or g.neighbours u [] → count_by test (take i row) ≤ g.units
 row_few g u i test row sound is_row =
     let part : count_by test (take i row) ≤ count_by test row = sum_by-take-le (λ v. cond {A = ℕ} (test v) 1 0) row i in
     let all : count_by test row ≡ count_below g.units (λ v. adjacent g u v && test v) = ap (count_by test) is_row ∙ row_counted g u test sound in
     omega (arith, part, all, count_below_le g.units (λ v. adjacent g u v && test v))
 
--- at the end of the row, with the unit's own count, the counts are those of the plan with the unit moved
+-- after the row and the unit's own count, the counts are those of the plan after the move
 pub walked_all : (g : Graph) (plan : List ℕ) (u d count : ℕ) (row old new : List ℕ) → IsGraph g → length plan ≡ g.units → u < g.units
     → row ≡ slice_index_or g.neighbours u [] → old ≡ map_below g.units (apart_of g plan) → length new ≡ length old → IsRecounted plan (get_or plan u 0) d row old new
     → count ≡ count_by (λ v. not (get_or plan v 0 == d)) row → set new u count ≡ map_below g.units (apart_of g (set plan u d))

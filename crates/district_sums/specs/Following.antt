@@ -1,4 +1,4 @@
--- Sums that follow a plan as its units move.
+-- Running sums of a plan as its units move.
 use Rattle.std.specs.Prelude.{◌≡◌, ◌≢◌, ℕ, ◌<◌, ◌==◌, ◌&&◌, not, List, length, slice_index}
 use Rattle.audit_model.specs.declared.outcome.Counts.{Counts}
 use Rattle.audit_model.specs.declared.outcome.SumsView.{SumsView}
@@ -8,37 +8,37 @@ use Rattle.audit_model.specs.Limits.{IsColumn}
 use Rattle.audit_model.specs.District.{district_sum}
 use Rattle.audit_model.specs.Score.{sums_of}
 
--- the sums of the districts, and for each unit how many of its neighbours are in other districts
+-- the sums of the districts and, for each unit, the number of its neighbors in other districts
 pub record Following : Type 0 where
   pub view : SumsView
   pub apart : List ℕ
 
--- how many of the unit's neighbours are in other districts
+-- the number of the unit's neighbors in other districts
 abbrev pub apart_of : Graph → List ℕ → ℕ → ℕ
 apart_of g plan u = count_below g.units (λ v. adjacent g u v && not (slice_index plan v == slice_index plan u))
 
--- how many districts there are
+-- the number of districts
 abbrev pub districts_in : Following → ℕ
 districts_in sums = length sums.view.population
 
--- the unit is in one of so many districts, and moves to another of them
+-- the unit moves from one of the districts to another
 pub record MovesWithin (districts : ℕ) (plan : List ℕ) (unit into : ℕ) : Type 0 where
   pub home : slice_index plan unit < districts
   pub target : into < districts
   pub elsewhere : slice_index plan unit ≢ into
 
--- the population and the votes are those of the plan
+-- the populations and votes are those of the plan
 pub record AreAdded (counts : Counts) (districts : ℕ) (plan : List ℕ) (view : SumsView) : Type 0 where
   pub population : view.population ≡ map_below districts (district_sum counts.population plan)
   pub first : view.first ≡ map_below districts (district_sum counts.first plan)
   pub second : view.second ≡ map_below districts (district_sum counts.second plan)
 
--- the sums and the counts of neighbours are those of the plan
+-- the sums and the counts of neighbors are those of the plan
 pub record StandsFor (g : Graph) (counts : Counts) (plan : List ℕ) (sums : Following) : Type 0 where
   pub view : sums.view ≡ sums_of g counts (districts_in sums) plan
   pub apart : sums.apart ≡ map_below g.units (apart_of g plan)
 
--- they are those of some plan
+-- the sums are those of some plan
 abbrev pub StandsForSome : Graph → Counts → Following → Type 0
 StandsForSome g counts sums = (plan : List ℕ) × StandsFor g counts plan sums
 

@@ -1,4 +1,4 @@
-//! The sums of a plan, kept up to date as units move from district to district.
+//! Running sums of a plan's districts, updated as units move between districts.
 #![tactic(auto)]
 
 pub mod scratch;

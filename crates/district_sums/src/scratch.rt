@@ -1,4 +1,4 @@
-//! A plan's sums, from scratch.
+//! Sums computed from scratch.
 
 ghost use Rattle.std.specs.Prelude.{◌≡◌, ℕ, ◌^◌, ◌<◌, ◌≤◌, ◌==◌, ◌&&◌, not, true, length, slice_index, All};
 ghost use Rattle.audit_model.specs.Below.{count_below, map_below};
@@ -14,12 +14,12 @@ use audit_model::outcome::{Counts, SumsView};
 use dual_graph::graph::Graph;
 use dual_graph::member::Member;
 
-/// How many edges a plan cuts. It takes no memory.
+/// Returns the number of edges whose units lie in different districts. It allocates nothing.
 pub fn count_cut(graph: &Graph, plan: &[u32]) -> u32
     requires { length plan.now ≡ graph.now.units }
     ensures { result ≡ cut_edges graph.now plan.now }
 {
-    // Called for what its contract says: the graph has at most 400,000 edges.
+    // Called for its contract: the graph has at most 400,000 edges.
     let _edges = graph.edges();
     let mut cut = 0;
     for unit in 0..graph.units() {
@@ -28,14 +28,14 @@ pub fn count_cut(graph: &Graph, plan: &[u32]) -> u32
     cut
 }
 
-/// Makes the sums of the districts those of a plan.
+/// Recomputes the sums of all districts for a plan.
 pub(crate) fn refill_view(graph: &Graph, counts: &Counts, plan: &[u32], view: &mut SumsView)
     requires inputs { AreInputs graph.now counts.now (length view.old.population) plan.now }
     requires first { length view.old.first ≡ length view.old.population }
     requires second { length view.old.second ≡ length view.old.population }
     ensures { view.new ≡ sums_of graph.now counts.now (length view.old.population) plan.now }
 {
-    // Called for what its contract says: the graph has at most 100,000 units.
+    // Called for its contract: the graph has at most 100,000 units.
     let _units = graph.units();
     refill_column(&counts.population, plan, &mut view.population);
     refill_column(&counts.first, plan, &mut view.first);
@@ -43,7 +43,7 @@ pub(crate) fn refill_view(graph: &Graph, counts: &Counts, plan: &[u32], view: &m
     view.cut = count_cut(graph, plan);
 }
 
-/// Writes the sum of a column over each district.
+/// Writes each district's sum of a column.
 fn add_up(column: &[u64], plan: &[u32], sums: &mut [u64])
     requires column { IsColumn (length plan.now) column.now }
     requires few { length plan.now ≤ most_units }
@@ -56,7 +56,7 @@ fn add_up(column: &[u64], plan: &[u32], sums: &mut [u64])
     }
 }
 
-/// The same into a list that has a place for each district.
+/// Calls [`add_up`] on the list's slice.
 fn refill_column(column: &NumList, plan: &[u32], sums: &mut NumList)
     requires column { IsColumn (length plan.now) column.now }
     requires few { length plan.now ≤ most_units }
@@ -66,7 +66,8 @@ fn refill_column(column: &NumList, plan: &[u32], sums: &mut NumList)
     add_up(column.as_slice(), plan, sums.as_mut_slice());
 }
 
-/// How many neighbours of a unit that are below a bound are in another district.
+/// Counts the neighbors of a unit that are below `bound` and in another district. A bound of the
+/// unit itself counts each edge once.
 fn others_below(member: Member, bound: u32) -> u32
     ensures { result ≡ count_below bound (λ v. adjacent member.entry.graph.now v member.entry.unit
         && not (slice_index member.entry.plan.now v == slice_index member.entry.plan.now member.entry.unit)) }
@@ -82,7 +83,7 @@ fn others_below(member: Member, bound: u32) -> u32
     others as u32
 }
 
-/// Writes for each unit how many of its neighbours are in another district.
+/// Writes, for each unit, the number of its neighbors in other districts.
 fn count_apart(graph: &Graph, plan: &[u32], apart: &mut [u32])
     requires plan { length plan.now ≡ graph.now.units }
     requires width { length apart.old ≡ graph.now.units }
@@ -94,7 +95,7 @@ fn count_apart(graph: &Graph, plan: &[u32], apart: &mut [u32])
     }
 }
 
-/// The same into a list that has a place for each unit.
+/// Calls [`count_apart`] on the list's slice.
 pub(crate) fn refill_apart(graph: &Graph, plan: &[u32], apart: &mut UnitList)
     requires plan { length plan.now ≡ graph.now.units }
     requires width { length apart.old ≡ graph.now.units }

@@ -1,4 +1,4 @@
-//! What changes where one unit moves.
+//! Changes to the sums when one unit moves.
 
 ghost use Rattle.std.specs.Prelude.{◌≡◌, ◌≢◌, ℕ, ◌+◌, ◌^◌, ◌<◌, ◌≤◌, ◌==◌, ◌&&◌, not, cond, IsTrue, length, slice_index, slice_set, All};
 ghost use Rattle.audit_model.specs.Below.{count_below, map_below};
@@ -11,7 +11,7 @@ use audit_model::lists::{NumList, UnitList};
 use audit_model::outcome::{Counts, SumsView};
 use dual_graph::member::Member;
 
-/// The population and the votes of the districts where a unit moves to another district.
+/// Moves the unit's population and votes from its district to another one.
 pub(crate) fn shift_counts(counts: &Counts, member: Member, district: u32, view: &mut SumsView)
     requires inputs { AreInputs member.graph.now counts.now (length view.old.population) member.plan.now }
     requires moves { MovesWithin (length view.old.population) member.plan.now member.unit district }
@@ -24,7 +24,7 @@ pub(crate) fn shift_counts(counts: &Counts, member: Member, district: u32, view:
     shift_list(&counts.second, member, district, &mut view.second);
 }
 
-/// How many neighbours of a unit are in other districts than this.
+/// Counts the neighbors of a unit that are not in `district`.
 #[inline]
 pub(crate) fn others_than(member: Member, district: u32) -> u32
     ensures { result ≡ count_below member.entry.graph.now.units (λ v. adjacent member.entry.graph.now member.entry.unit v && not (slice_index member.entry.plan.now v == district)) }
@@ -39,7 +39,7 @@ pub(crate) fn others_than(member: Member, district: u32) -> u32
     others as u32
 }
 
-/// Moves a unit's part of a column from its district's sum to that of another district.
+/// Moves a unit's entry of a column from its district's sum to another district's sum.
 fn shift_column(column: &[u64], member: Member, district: u32, sums: &mut [u64])
     requires column { IsColumn member.graph.now.units column.now }
     requires moves { MovesWithin (length sums.old) member.plan.now member.unit district }
@@ -51,7 +51,7 @@ fn shift_column(column: &[u64], member: Member, district: u32, sums: &mut [u64])
     sums[district as usize] += amount;
 }
 
-/// The same for the districts' sums in a list.
+/// Calls [`shift_column`] on the list's slice.
 fn shift_list(column: &NumList, member: Member, district: u32, sums: &mut NumList)
     requires column { IsColumn member.graph.now.units column.now }
     requires moves { MovesWithin (length sums.old) member.plan.now member.unit district }
@@ -61,7 +61,8 @@ fn shift_list(column: &NumList, member: Member, district: u32, sums: &mut NumLis
     shift_column(column.as_slice(), member, district, sums.as_mut_slice());
 }
 
-/// The count with one more where the neighbour counts.
+/// Adds one to the count if `counts` is true. A function of its own keeps both cases visible after
+/// the branch.
 #[inline]
 fn with_one(count: u32, counts: bool) -> u32
     requires few { count ≤ most_units }
@@ -70,7 +71,7 @@ fn with_one(count: u32, counts: bool) -> u32
     if counts { count + 1 } else { count }
 }
 
-/// The count where a neighbour counted or not, and counts or not now.
+/// Updates a count for one neighbor, which `counted` before and `counts` now.
 #[inline]
 fn recounted(count: u32, counted: bool, counts: bool) -> u32
     requires some { IsTrue counted → 0 < count }
@@ -84,7 +85,8 @@ fn recounted(count: u32, counted: bool, counts: bool) -> u32
     }
 }
 
-/// Changes the counts of neighbours elsewhere where a unit moves to another district: its neighbours' and its own.
+/// Updates the counts of neighbors in other districts, for the unit that moves and for its
+/// neighbors.
 fn recount(member: Member, into: u32, apart: &mut [u32])
     requires { apart.old ≡ map_below member.graph.now.units (apart_of member.graph.now member.plan.now) }
     ensures { apart.new ≡ map_below member.entry.graph.now.units (apart_of member.entry.graph.now (slice_set member.entry.plan.now member.entry.unit into)) }
@@ -101,7 +103,7 @@ fn recount(member: Member, into: u32, apart: &mut [u32])
     apart[member.unit as usize] = others;
 }
 
-/// The same for the counts in a list.
+/// Calls [`recount`] on the list's slice.
 pub(crate) fn shift_apart(member: Member, into: u32, apart: &mut UnitList)
     requires { apart.old ≡ map_below member.graph.now.units (apart_of member.graph.now member.plan.now) }
     ensures { apart.new ≡ map_below member.entry.graph.now.units (apart_of member.entry.graph.now (slice_set member.entry.plan.now member.entry.unit into)) }

@@ -15,7 +15,8 @@ use dual_graph::member::Member;
 use std::alloc::Global;
 use std::marker::Model;
 
-/// The sums of a plan of a graph, and for each unit how many of its neighbours are in other districts.
+/// The sums of a plan's districts and, for each unit, the number of its neighbors in other
+/// districts.
 #[derive(Drop)]
 pub struct Sums {
     view: SumsView,
@@ -31,7 +32,7 @@ impl Model for Sums {
 }
 
 impl Sums {
-    /// The sums of a plan.
+    /// Computes the sums of a plan. Fails if there is no memory.
     pub fn of(
         alloc: Global,
         graph: &Graph,
@@ -55,7 +56,9 @@ impl Sums {
         Ok(Sums { view, apart })
     }
 
-    /// Moves a unit to a district, in the plan and in the sums. It reads the unit's neighbours alone, and takes no memory.
+    /// Moves a unit to a district, in the plan and in the sums.
+    ///
+    /// It costs one pass over the unit's neighbors, and allocates nothing.
     pub fn shift(
         &mut self,
         graph: &Graph,
@@ -72,7 +75,8 @@ impl Sums {
         ensures districts { districts_in self.new ≡ districts_in self.old }
         ensures stands { StandsFor graph.now counts.now plan.new self.new }
     {
-        // Called for what their contracts say: the graph is sound, with at most 100,000 units and 400,000 edges.
+        // Called for their contracts: the graph is sound, with at most 100,000 units and 400,000
+        // edges.
         let _units = graph.units();
         let _edges = graph.edges();
         if plan[unit as usize] == district {
@@ -87,20 +91,22 @@ impl Sums {
         plan[unit as usize] = district;
     }
 
-    /// How many edges the plan cuts with a unit in this district. It reads the unit's neighbours alone.
+    /// Returns the number of cut edges after a move of the unit to `district`, in one pass over its
+    /// neighbors.
     #[inline]
     pub fn cut_after(&self, member: Member, district: u32) -> u32
         requires cut { self.now.view.cut ≡ cut_edges member.graph.now member.plan.now }
         requires apart { self.now.apart ≡ map_below member.graph.now.units (apart_of member.graph.now member.plan.now) }
         ensures { result ≡ cut_edges member.entry.graph.now (slice_set member.entry.plan.now member.entry.unit district) }
     {
-        // Called for what its contract says: the graph has at most 400,000 edges.
+        // Called for its contract: the graph has at most 400,000 edges.
         let _edges = member.graph.edges();
         let before = self.apart.as_slice()[member.unit as usize];
         self.view.cut + others_than(member, district) - before
     }
 
-    /// Writes another number of cut edges, and leaves all else as it is.
+    /// Overwrites the number of cut edges. A constraint is asked with the number after a move while
+    /// the rest still describes the plan before it.
     #[inline]
     pub fn put_cut(&mut self, cut: u32)
         ensures { self.new ≡ record self.old { view = record self.old.view { cut = cut } } }
@@ -108,7 +114,7 @@ impl Sums {
         self.view.cut = cut;
     }
 
-    /// Makes the sums those of another plan. It takes no memory.
+    /// Recomputes the sums for another plan. It allocates nothing.
     pub fn refill(&mut self, graph: &Graph, counts: &Counts, plan: &[u32])
         requires inputs { AreInputs graph.now counts.now (districts_in self.old) plan.now }
         requires stands { StandsForSome graph.now counts.now self.old }
@@ -119,7 +125,7 @@ impl Sums {
         refill_apart(graph, plan, &mut self.apart);
     }
 
-    /// The sums of the districts.
+    /// Returns the sums of the districts.
     #[inline]
     pub fn view(&self) -> &SumsView
         ensures { result.now ≡ self.now.view }

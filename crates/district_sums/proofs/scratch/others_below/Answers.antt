@@ -6,7 +6,7 @@ use Rattle.audit_model.proofs.Below.{count_below_le}
 use Rattle.district_sums.proofs.scratch.others_below.Goals as goal
 use Rattle.district_sums.proofs.Counting.{count_neighbours}
 
--- at the end of the row the count is that of the units below the bound
+-- at the end of the row, the count covers the units below the bound
 row_counted : (g : Graph) (unit bound others i : ℕ) (test : ℕ → Bool) (row : List ℕ) → IsGraph g → row ≡ get_or g.neighbours unit [] → length row ≤ i
     → others ≡ count_by (λ v. nat_lt v bound && test v) (take i row) → others ≡ count_below bound (λ v. adjacent g v unit && test v)
 row_counted g unit bound others i test row sound is end counted =

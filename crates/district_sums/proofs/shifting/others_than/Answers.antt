@@ -6,7 +6,7 @@ use Rattle.audit_model.proofs.Below.{count_below_le}
 use Rattle.audit_model.proofs.Rows.{row_counted}
 use Rattle.district_sums.proofs.shifting.others_than.Goals as goal
 
--- at the end of the row
+-- at the end of the row, the count covers all units
 all_counted : (g : Graph) (unit others i : ℕ) (test : ℕ → Bool) (row : List ℕ) → IsGraph g → row ≡ get_or g.neighbours unit [] → length row ≤ i
     → others ≡ count_by test (take i row) → others ≡ count_below g.units (λ v. adjacent g unit v && test v)
 all_counted g unit others i test row sound is end counted = counted ∙ ap (count_by test) (take_all i row end ∙ is) ∙ row_counted g unit test sound

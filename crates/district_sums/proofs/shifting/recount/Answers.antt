@@ -10,11 +10,11 @@ use Rattle.district_sums.proofs.Shifted.{places}
 use Rattle.district_sums.proofs.Walking.{IsRecounted, near, fresh, next_count, apart_some, apart_few, row_few, walked_none, walked_more, walked_all}
 use Rattle.district_sums.proofs.shifting.recount.Goals as goal
 
--- there is a count for each unit
+-- each unit has a count
 width : (g : Graph) (plan apart : List ℕ) → apart ≡ map_below g.units (apart_of g plan) → length apart ≡ g.units
 width g plan apart is = places g.units (apart_of g plan) apart is
 
--- the neighbour at a place has a count
+-- the neighbor at a position has a count
 has_count : (g : Graph) (plan : List ℕ) (u into i : ℕ) (row before now : List ℕ) → IsGraph g → row ≡ get_or g.neighbours u [] → i < length row
     → before ≡ map_below g.units (apart_of g plan) → IsRecounted plan (get_or plan u 0) into (take i row) before now → length now ≡ length before → get_or row i 0 < length now
 has_count g plan u into i row before now sound is l was walked as_long =

@@ -3,7 +3,7 @@ use Rattle.std.proofs.lemmas.List.Elements.{All-get_or}
 use Rattle.district_sums.proofs.Shifted.{enough, small_sum, shifted_list}
 use Rattle.district_sums.proofs.shifting.shift_column.Goals as goal
 
--- a number below one end is below the same end
+-- a bound may be replaced by an equal one
 inside : (u m n : ℕ) → u < n → m ≡ n → u < m
 inside u m n l e = omega (arith, l, e)
 

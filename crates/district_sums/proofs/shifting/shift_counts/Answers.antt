@@ -5,7 +5,7 @@ use Rattle.district_sums.specs.Following.{MovesWithin}
 use Rattle.district_sums.proofs.Shifted.{places, of_its_length, of_same_length}
 use Rattle.district_sums.proofs.shifting.shift_counts.Goals as goal
 
--- the same move in a list of as many sums
+-- a move within n districts is one within a list of n sums
 as_wide : (m n : ℕ) (plan : List ℕ) (unit into : ℕ) → m ≡ n → MovesWithin n plan unit into → MovesWithin m plan unit into
 as_wide m n plan unit into e moves = record { home = omega (arith, e, moves.home); target = omega (arith, e, moves.target); elsewhere = moves.elsewhere }
 
