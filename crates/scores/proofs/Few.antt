@@ -1,4 +1,4 @@
--- One share or two: their median is their mean.
+-- The median and the mean of one or two numbers are equal.
 use Rattle.std.proofs.Common.{◌≡◌, ◌∙◌, ℕ, zero, suc, ◌+◌, ◌*◌, ◌≤◌, List, [], ◌∷◌, length, sum, pos, ◌-ℤ◌, refl, arith, inl, inr}
 use Rattle.std.specs.List.Sorted.{IsNonDecreasing}
 use Rattle.std.proofs.lemmas.Bool.{cases_lt}
@@ -12,7 +12,7 @@ use Rattle.scores.specs.Votes.{AreVotes}
 use Rattle.scores.proofs.Ranked.{middle_pair}
 use Rattle.scores.proofs.Shares.{mean_median_from}
 
--- two numbers that rise are in order
+-- two rising numbers are sorted
 rising_pair : (a b : ℕ) → a ≤ b → IsNonDecreasing (a ∷ b ∷ [])
 rising_pair a b l zero zero d from within = omega arith
 rising_pair a b l zero (suc zero) d from within = l
@@ -22,11 +22,11 @@ rising_pair a b l (suc zero) (suc zero) d from within = omega arith
 rising_pair a b l (suc (suc i)) (suc zero) d from within = absurd (omega arith)
 rising_pair a b l (suc i) (suc (suc k)) d from within = absurd (omega arith)
 
--- a number is the middle of itself alone
+-- a single number is its own middle
 middle_of_one : (a : ℕ) → a + a ≡ ranked (a ∷ []) 0 + ranked (a ∷ []) 0
 middle_of_one a = middle_pair (a ∷ []) (a ∷ []) (IsPermutation-refl (a ∷ [])) (IsNonDecreasingBy-short (λ x. x) (a ∷ []) (omega arith)) (omega arith) refl
 
--- both of two numbers are in the middle
+-- both of two numbers are the middle
 middle_of_two : (a b : ℕ) → a + b ≡ ranked (a ∷ b ∷ []) 0 + ranked (a ∷ b ∷ []) 1
 middle_of_two a b = elim (cases_lt b a) [
   | inl less ↦
@@ -36,11 +36,11 @@ middle_of_two a b = elim (cases_lt b a) [
   | inr upto ↦ middle_pair (a ∷ b ∷ []) (a ∷ b ∷ []) (IsPermutation-refl (a ∷ b ∷ [])) (rising_pair a b upto) (omega arith) refl
 ]
 
--- a number less itself
+-- equal numbers have difference zero
 nothing_left : (a b : ℕ) → a ≡ b → pos 0 ≡ pos a -ℤ pos b
 nothing_left a b same = omega (arith, ints, same)
 
--- the median of one number or two is their mean
+-- the median of one or two numbers is their mean
 few_are_even : (xs : List ℕ) → 1 ≤ length xs → length xs ≤ 2 → pos 0 ≡ mean_median xs
 few_are_even [] some few = absurd (omega arith)
 few_are_even (a ∷ []) some few =
@@ -49,7 +49,7 @@ few_are_even (a ∷ b ∷ []) some few =
     nothing_left (length (a ∷ b ∷ []) * (a + b)) (2 * sum (a ∷ b ∷ [])) (omega arith) ∙ mean_median_from (a ∷ b ∷ []) (a + b) (sum (a ∷ b ∷ [])) (middle_of_two a b) refl
 few_are_even (a ∷ b ∷ c ∷ xs) some few = absurd (omega arith)
 
--- the median share of one district or two is the mean share
+-- the median share of one or two districts is the mean share
 pub even_shares : (sums : SumsView) → AreVotes sums.first sums.second → length sums.first ≤ 2 → pos 0 ≡ mean_median (shares sums)
 even_shares sums votes few =
     let as_many : length (shares sums) ≡ length sums.first = length-map_below (length sums.first) (λ d. share (slice_index sums.first d) (slice_index sums.second d)) in

@@ -1,9 +1,9 @@
--- The votes of which scores are computed.
+-- Bounds on the votes and shares that scores are computed from.
 use Rattle.std.specs.Prelude.{◌≡◌, ℕ, ◌^◌, ◌≤◌, List, length}
 use Rattle.std.specs.List.{All}
 use Rattle.audit_model.specs.Limits.{most_districts}
 
--- each party's votes in each of 1 to 200 districts, at most 10 ^ 14
+-- both parties' votes in 1 to 200 districts, at most 10 ^ 14 each
 pub record AreVotes (first second : List ℕ) : Type 0 where
   pub some : 1 ≤ length first
   pub few : length first ≤ most_districts

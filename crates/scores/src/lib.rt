@@ -1,4 +1,4 @@
-//! The four scores of a plan, from the sums of its districts.
+//! The four scores of a plan, computed from the sums of its districts.
 #![tactic(auto)]
 
 ghost use Rattle.std.specs.Prelude.{◌≡◌, ◌*◌, ◌+◌, ◌^◌, ◌-◌, ◌/◌, ◌<◌, ◌≤◌, pos, length, sum, All};
@@ -16,8 +16,10 @@ pub use room::Room;
 
 const BILLION: u64 = 1_000_000_000;
 
-/// The numerator of a score, from the votes of the districts and the number of cut edges. The room needs a place for each
-/// district; what it holds afterwards is open.
+/// Returns the numerator of a score, from the districts' votes and the number of cut edges.
+///
+/// `room` is scratch memory with at least one entry per district. Its contents afterwards are
+/// unspecified.
 pub fn value(score: Score, sums: &SumsView, room: &mut [u64]) -> i64
     requires votes { AreVotes sums.now.first sums.now.second }
     requires room { length sums.now.first ≤ length room.old }
@@ -31,7 +33,7 @@ pub fn value(score: Score, sums: &SumsView, room: &mut [u64]) -> i64
     }
 }
 
-/// The denominator of a score, from the number of districts and the votes of both parties together.
+/// Returns the denominator of a score. `votes` is the total of both parties.
 pub fn denominator(score: Score, districts: u32, votes: u64) -> u64
     requires { votes ≤ 2 * 10 ^ 14 }
     ensures value { result ≡ definition.denominator score districts votes }
@@ -45,7 +47,7 @@ pub fn denominator(score: Score, districts: u32, votes: u64) -> u64
     }
 }
 
-/// How many districts the first party wins. A tie is the second party's.
+/// Counts the districts that the first party wins. A tie goes to the second party.
 #[tactic(auto, using(crate::proofs::Below::count_below_yes, crate::proofs::Below::count_below_no, audit_model::proofs::Below::count_below_zero, audit_model::proofs::Below::count_below_le))]
 fn seats(sums: &SumsView) -> u32
     requires { AreVotes sums.now.first sums.now.second }
@@ -62,7 +64,8 @@ fn seats(sums: &SumsView) -> u32
     seats
 }
 
-/// The second party's wasted votes less the first party's, doubled.
+/// Returns twice the difference of wasted votes, the second party's minus the first party's. The
+/// doubling keeps the value an integer.
 #[tactic(auto, using(crate::proofs::Below::sum_below_more))]
 fn efficiency_gap(sums: &SumsView) -> i64
     requires { AreVotes sums.now.first sums.now.second }
@@ -84,7 +87,8 @@ fn efficiency_gap(sums: &SumsView) -> i64
     second_wasted as i64 - first_wasted as i64
 }
 
-/// The median share less the mean share, times twice the number of districts. Of one district or two it needs no share.
+/// Returns the median share minus the mean share, times twice the number of districts. With one or
+/// two districts the two are equal, and no share is computed.
 fn median_less_mean(sums: &SumsView, room: &mut [u64]) -> i64
     requires votes { AreVotes sums.now.first sums.now.second }
     requires room { length sums.now.first ≤ length room.old }
@@ -98,7 +102,7 @@ fn median_less_mean(sums: &SumsView, room: &mut [u64]) -> i64
     mean_median(shares, &mut (BILLION / 2))
 }
 
-/// Writes the first party's share in each district.
+/// Writes the first party's vote share in each district.
 #[tactic(auto, using(crate::proofs::Below::map_below_more))]
 fn write_shares(sums: &SumsView, shares: &mut [u64])
     requires votes { AreVotes sums.now.first sums.now.second }
@@ -112,7 +116,8 @@ fn write_shares(sums: &SumsView, shares: &mut [u64])
     }
 }
 
-/// The first party's share of the votes in billionths, rounded down, and one half where there are none.
+/// Returns the first party's share of the votes in billionths, rounded down. Without votes it is
+/// one half. The 64-bit division is much faster, and enough for nearly all counts.
 fn share(first: u64, second: u64) -> u64
     requires { first + second < 2 ^ 64 }
     ensures { result ≡ definition.share first second }
@@ -127,8 +132,10 @@ fn share(first: u64, second: u64) -> u64
     }
 }
 
-/// The median share less the mean share, times twice the number of districts. It looks for the median from this number on, and leaves the median
-/// there; the order of the shares is open afterwards.
+/// Returns the median share minus the mean share, times twice the number of districts.
+///
+/// The search for the median begins at `middle`, which is set to the median found. It may reorder
+/// the shares.
 fn mean_median(shares: &mut [u64], middle: &mut u64) -> i64
     requires { AreShares shares.old }
     ensures { result ≡ definition.mean_median shares.old }
@@ -138,7 +145,7 @@ fn mean_median(shares: &mut [u64], middle: &mut u64) -> i64
     (districts * twice_median(shares, middle)) as i64 - (2 * all) as i64
 }
 
-/// The sum of the shares.
+/// Adds up the shares.
 fn total(shares: &[u64]) -> u64
     requires { AreShares shares.now }
     ensures value { result ≡ sum shares.now }

@@ -1,4 +1,4 @@
-//! Room for the scores of one plan after another.
+//! Buffers for scoring one plan after another.
 
 ghost use Rattle.std.specs.Prelude.{◌≡◌, ◌+◌, ◌^◌, ◌<◌, ◌≤◌, length};
 ghost use Rattle.audit_model.specs.Score as definition;
@@ -8,7 +8,7 @@ use crate::{efficiency_gap, mean_median, seats, share};
 use audit_model::outcome::SumsView;
 use audit_model::setting::Score;
 
-/// Votes of a district, and the first party's share of them.
+/// The votes of a district, and the first party's share of them in billionths.
 #[derive(Clone, Copy)]
 struct Share {
     first: u64,
@@ -17,8 +17,9 @@ struct Share {
     ghost right: { billionths ≡ definition.share first second },
 }
 
-/// Room for scores. It remembers each district's last share, since a division takes longer than any other step, and the last median, since most
-/// plans differ in two districts from the one before.
+/// Buffers for scoring, with a cache of each district's last share and of the last median.
+///
+/// Divisions dominate the cost of a score, and most consecutive plans differ in two districts only.
 #[derive(Drop)]
 pub struct Room {
     last: [Share; 200],
@@ -27,7 +28,7 @@ pub struct Room {
 }
 
 impl Room {
-    /// Room that remembers districts without votes.
+    /// Creates buffers whose cache describes districts without votes.
     pub fn new() -> Room {
         Room {
             last: [Share::of(0, 0); 200],
@@ -36,7 +37,7 @@ impl Room {
         }
     }
 
-    /// The numerator of a score, as `value` of this crate answers it.
+    /// Returns the numerator of a score, equal to that of [`crate::value`].
     pub fn value(&mut self, score: Score, sums: &SumsView) -> i64
         requires { AreVotes sums.now.first sums.now.second }
         ensures { result ≡ definition.value score sums.now }
@@ -56,7 +57,7 @@ impl Room {
 }
 
 impl Share {
-    // The share in a district with these votes.
+    // Computes the share of a district with these votes.
     fn of(first: u64, second: u64) -> Share
         requires { first + second < 2 ^ 64 }
         ensures first { result.first ≡ first }
@@ -69,7 +70,7 @@ impl Share {
         }
     }
 
-    // The share of these votes, in billionths, which is not reckoned again where they are the last ones.
+    // Returns the share of these votes in billionths, from the cache if they are unchanged.
     fn renew(&mut self, first: u64, second: u64) -> u64
         requires { first + second < 2 ^ 64 }
         ensures { result ≡ definition.share first second }
@@ -81,7 +82,7 @@ impl Share {
     }
 }
 
-// The median share less the mean share, times twice the number of districts. Of one district or two it needs no share.
+// Returns what [`crate::median_less_mean`] returns, using the cached shares and median.
 fn median_less_mean(sums: &SumsView, last: &mut [Share], room: &mut [u64], median: &mut u64) -> i64
     requires votes { AreVotes sums.now.first sums.now.second }
     requires last { length sums.now.first ≤ length last.old }
@@ -96,7 +97,7 @@ fn median_less_mean(sums: &SumsView, last: &mut [Share], room: &mut [u64], media
     mean_median(shares, median)
 }
 
-// Writes the first party's share in each district.
+// Writes the first party's vote share in each district, using the cached shares.
 #[tactic(auto, using(crate::proofs::Below::map_below_more))]
 fn renew_shares(sums: &SumsView, last: &mut [Share], shares: &mut [u64])
     requires votes { AreVotes sums.now.first sums.now.second }
