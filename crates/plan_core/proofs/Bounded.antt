@@ -1,4 +1,4 @@
--- Sums of the districts, and which of them are outside the population bounds.
+-- Sums of the districts, and districts outside the population bounds.
 use Rattle.std.proofs.Common.{◌≡◌, ℕ, ◌+◌, ◌*◌, ◌<◌, ◌≤◌, ◌⊎◌, true, cond, not, ◌&&◌, List, length, get_or, set, Option, Some, None, refl, sym, ap, ◌∙◌, subst, inl, inr, arith, add-one, get_or-set_same, get_or-set_other}
 use Rattle.std.specs.Prelude.{◌==◌, nat_le, option_map}
 use Rattle.std.specs.List.{All, sum}
@@ -23,7 +23,7 @@ sum_small xs few small = omega (arith, sum_by-le (λ x. x) 1000000000 xs small)
 
 -- ---- the sums of the districts
 
--- one unit more
+-- adding one more unit
 pub sums_more : (plan column sums : List ℕ) (unit d : ℕ) → length sums ≡ 200 → get_or plan unit 0 < 200
     → get_or sums d 0 ≡ sum_below unit (λ u. cond (in_district plan d u) (get_or column u 0) 0)
     → get_or (set sums (get_or plan unit 0) (get_or sums (get_or plan unit 0) 0 + get_or column unit 0)) d 0
@@ -46,7 +46,7 @@ sums_more plan column sums unit d width below so_far =
           omega (arith, there, so_far, none, last)
     ]
 
--- after one unit more each district has at most 10 ^ 9 for each unit
+-- after one more unit, each sum is at most 10 ^ 9 per unit
 pub sums_stay_small : (column sums : List ℕ) (unit p d : ℕ) → length sums ≡ 200 → p < 200 → get_or column unit 0 ≤ 1000000000
     → ((e : ℕ) → e < 200 → get_or sums e 0 ≤ 1000000000 * unit) → d < 200
     → get_or (set sums p (get_or sums p 0 + get_or column unit 0)) d 0 ≤ 1000000000 * (unit + 1)
@@ -71,7 +71,7 @@ outside_passes low high p h = not_from_false (nat_le low p && nat_le p high) (fa
   | inr l ↦ omega (arith, l.1, leb-true p high (and_parts (nat_le low p) (nat_le p high) both).1)
 ]))
 
--- a population is balanced exactly from the least to the greatest that is
+-- a population is balanced exactly if it lies between the bounds
 balanced_is : (job : Job) (p : ℕ) → 0 < job.districts → is_balanced job p ≡ (nat_le (least_population job) p && nat_le p (greatest_population job))
 balanced_is job p above =
     let between = balanced_between job p above in
@@ -81,12 +81,12 @@ balanced_is job p above =
     let parts = and_parts (nat_le (least_population job) p) (nat_le p (greatest_population job)) h in
     balanced_passes job p (between.1 (leb-true (least_population job) p parts.0, leb-true p (greatest_population job) parts.1)))
 
--- functions that agree on what is there give the same
+-- mapping functions that agree on the item there gives equal options
 option_map_same : {A : Type 0} (o : Option ℕ) (f g : ℕ → A) → ((k : ℕ) → o ≡ Some k → f k ≡ g k) → option_map f o ≡ option_map g o
 option_map_same None f g each = refl
 option_map_same (Some k) f g each = ap (λ x. Some x) (each k refl)
 
--- the refusal, from the sums of the districts
+-- the fault, computed from the sums of the districts
 pub outside_is_fault : (job : Job) (populations : List ℕ) → 0 < job.districts
     → ((d : ℕ) → d < job.districts → get_or populations d 0 ≡ district_sum job.counts.population job.start d)
     → first_outside populations job.districts (least_population job) (greatest_population job) ≡ bounds_fault job

@@ -1,4 +1,4 @@
--- What the refusals of a plan say of it.
+-- The faults of a plan and its legality.
 use Rattle.std.proofs.Common.{◌≡◌, ℕ, ◌<◌, [], ◌∷◌, Bool, true, false, not, ◌&&◌, List, length, get_or, Option, Some, None, refl, sym, ap, ◌∙◌, subst, inl, inr}
 use Rattle.std.specs.Prelude.{◌↔◌, nat_lt, is_none, is_some, option_map, unwrap_or, ◌⊎◌, Result, Ok, Err, MatchResult}
 use Rattle.std.proofs.lemmas.Bool.{and_parts, and_from, cases_Bool, cond-true, cond-false, le-ltb, ltb-false, not-false, not_from_true, not_from_false, and_left}
@@ -27,9 +27,9 @@ use Rattle.audit_model.proofs.First.{first_below_here, first_below_none, none_fi
 use Rattle.plan_core.specs.Input.{with_start, shape_fault}
 use Rattle.dual_graph.specs.Parting.{least_in, parted_in, parting_of}
 
--- ---- the refusal of a parted district
+-- ---- the fault of a disconnected district
 
--- two units that part a set: it is not connected, the one is its least unit and the other the least that is parted from it
+-- the two units show that the set is not connected: its least unit, and the least one not connected to it
 pub parting_parts : (g : Graph) (inside : ℕ → Bool) (one other : ℕ) → Some (one, other) ≡ parting_of g inside
     → (is_connected g inside ≡ false) × (one ≡ least_in g inside) × (other ≡ parted_in g inside)
 parting_parts g inside one other h = elim (cases_Bool (is_connected g inside)) [
@@ -40,7 +40,7 @@ parting_parts g inside one other h = elim (cases_Bool (is_connected g inside)) [
       (off, ap (λ (o : Option (ℕ × ℕ)). (unwrap_or o (0, 0)).0) same, ap (λ (o : Option (ℕ × ℕ)). (unwrap_or o (0, 0)).1) same)
 ]
 
--- the least district that is parted is the one that the refusal names
+-- the least disconnected district is the one that the fault names
 pub parted_is_fault : (job : Job) (d one other : ℕ) → first_below d (is_parted job) ≡ None → d < job.districts
     → Some (one, other) ≡ parting_of job.graph (in_district job.start d) → Some (Disconnected d one other) ≡ path_fault job
 parted_is_fault job d one other none l h =
@@ -51,29 +51,29 @@ parted_is_fault job d one other none l h =
     ∙ ap (λ (k : ℕ). Some (Disconnected d (least_in job.graph (in_district job.start d)) k)) parts.2
     ∙ ap (option_map (disconnected job)) (sym here)
 
--- ---- a plan that is not refused is legal
+-- ---- a plan without a fault is legal
 
--- what passes the test for nothing is nothing
+-- an option that is none equals `None`
 none_passes : {A : Type 0} (o : Option A) → is_none o ≡ true → o ≡ None
 none_passes None h = refl
 none_passes (Some x) h = cc
 
--- nothing passes the test for nothing
+-- `None` is none
 passes_none : {A : Type 0} (o : Option A) → o ≡ None → is_none o ≡ true
 passes_none None h = refl
 passes_none (Some x) h = cc
 
--- a test that is the opposite of another has that one for its opposite
+-- negation is symmetric
 turned : (b r : Bool) → b ≡ not r → r ≡ not b
 turned b true h = sym (ap not h)
 turned b false h = sym (ap not h)
 
--- a first test that holds leaves the second
+-- a conjunction with a true first part is its second part
 and_second : (a b : Bool) → a ≡ true → (a && b) ≡ b
 and_second true b h = refl
 and_second false b h = cc
 
--- the refusals for how regions are split, and those from there on
+-- the faults from the region splits on
 after_splits : Job → List (Option PlanFault)
 after_splits job = split_regions_fault job ∷ group_fault job ∷ []
 
@@ -83,7 +83,7 @@ after_regions job = splits_fault job ∷ after_splits job
 after_cut : Job → List (Option PlanFault)
 after_cut job = split_fault job ∷ after_regions job
 
--- no refusal but for votes and populations is none of each kind
+-- no fault of shape means no fault of each kind
 shape_parts : (job : Job) → shape_fault job ≡ None
     → (path_fault job ≡ None) × (cut_fault job ≡ None) × (split_fault job ≡ None)
     × (splits_fault job ≡ None) × (split_regions_fault job ≡ None) × (group_fault job ≡ None)
@@ -96,7 +96,7 @@ shape_parts job h =
     let fifth = option_or_none (split_regions_fault job) (first_some (group_fault job ∷ [])) fourth.1 in
     (first.0, second.0, third.0, fourth.0, fifth.0, (option_or_none (group_fault job) (first_some []) fifth.1).0)
 
--- where none of the refusals comes, none of the shape comes
+-- no fault of each kind means no fault of shape
 parts_shape : (job : Job) → path_fault job ≡ None → cut_fault job ≡ None → split_fault job ≡ None
     → splits_fault job ≡ None → split_regions_fault job ≡ None → group_fault job ≡ None → shape_fault job ≡ None
 unfolding after_cut after_regions after_splits
@@ -182,7 +182,7 @@ module _ (job : Job) (plan : List ℕ) (complete : length plan ≡ job.graph.uni
   judged_same r is =
       same_bool r (is_legal job plan) (λ h. legal_passes job plan ((judged r is).0 h)) (λ h. (judged r is).1 (passes_legal job plan h))
 
-  -- the first refusal is there
+  -- there is a fault of bounds
   module _ (bounds : Option PlanFault) (bounds_is : bounds ≡ bounds_fault (with_start job plan)) (r : Bool) (some : is_some bounds ≡ not r) where
     module _ (off : r ≡ false) where
       refused : r ≡ (is_none (bounds_fault (with_start job plan)) && is_none (shape_fault (with_start job plan)))
@@ -196,7 +196,7 @@ module _ (job : Job) (plan : List ℕ) (complete : length plan ≡ job.graph.uni
       pub refused_same : r ≡ is_legal job plan
       refused_same = judged_same r refused
 
-    -- there is none, and the second decides
+    -- there is none, and the second check decides
     module _ (on : r ≡ true) (paths : Option PlanFault) (paths_is : paths ≡ shape_fault (with_start job plan)) (q : Bool) (other : is_some paths ≡ not q) where
       tried : q ≡ (is_none (bounds_fault (with_start job plan)) && is_none (shape_fault (with_start job plan)))
       tried =
@@ -212,7 +212,7 @@ module _ (job : Job) (plan : List ℕ) (complete : length plan ≡ job.graph.uni
 
 -- ---- the job
 
--- what is within the limits and has no refusal is a job
+-- an input within the limits and without a fault is a job
 pub accepted_is_job : (job : Job) → IsWithinLimits job → plan_fault job ≡ None → IsJob job
 accepted_is_job job within none =
     let parts = accepted_is_legal job within.input.complete within.input.in_range none in
@@ -244,7 +244,7 @@ module _ (job : Job) (start : List ℕ) (labels : List Label) (input : Job) (is 
   unfolding job_with
   job_with_some fault some = ap (job_or (restarted job start labels)) (subst (λ (j : Job). plan_fault j ≡ Some fault) is some)
 
--- what was made of an input, or why there is none, is what the definition says
+-- the result for an input is the one that the definition gives
 module _ (input : Job) (judged : Result Job PlanFault) (accepted_as : plan_fault input ≡ None → judged ≡ Ok input) (refused_as : (f : PlanFault) → plan_fault input ≡ Some f → judged ≡ Err f) where
   pub given_job : (made : Result Job PlanFault) → MatchResult made (λ given. (given ≡ input) × (plan_fault input ≡ None)) (λ fault. (fault ≡ Memory) ⊎ (plan_fault input ≡ Some fault))
       → MatchResult made (λ given. judged ≡ Ok given) (λ fault. (fault ≡ Memory) ⊎ (judged ≡ Err fault))

@@ -1,4 +1,4 @@
--- Districts in which a group has a majority, counted by the sums of the districts.
+-- Majorities of a group, counted over the districts' sums.
 use Rattle.std.proofs.Common.{◌≡◌, ℕ, zero, suc, ◌*◌, ◌<◌, ◌≤◌, Bool, true, false, cond, List, [], length, refl, ap, ◌∙◌, inl, inr, arith}
 use Rattle.std.specs.Prelude.{nat_lt, slice_index}
 use Rattle.std.proofs.lemmas.Bool.{cases_lt, cond-false, le-ltb, ltb-true, ne_eqb}
@@ -10,31 +10,31 @@ use Rattle.audit_model.proofs.Below.{count_below_into, count_below_none, count_b
 use Rattle.audit_model.proofs.Meeting.{below_above_all}
 use Rattle.plan_core.proofs.Splitting.{above_all_most}
 
--- what is nothing whether it is counted or not
+-- a choice between two zeros is zero
 nothing : (b : Bool) → ◌≡◌ {A = ℕ} (cond b 0 0) 0
 nothing true = refl
 nothing false = refl
 
--- a sum of nothing
+-- a sum of zeros is zero
 sum_of_nothing : (n : ℕ) (f : ℕ → ℕ) → ((u : ℕ) → u < n → f u ≡ 0) → sum_below n f ≡ 0
 sum_of_nothing zero f each = refl
 sum_of_nothing (suc n) f each = omega (arith, sum_of_nothing n f (λ u l. each u (omega (arith, l))), each n (omega arith))
 
--- a column of no numbers has no sum in any district
+-- an empty column has the sum 0 in each district
 no_sum : (plan : List ℕ) (d : ℕ) → district_sum [] plan d ≡ 0
 no_sum plan d = sum_of_nothing (length plan) (λ u. cond (in_district plan d u) (slice_index [] u) 0) (λ u l. nothing (in_district plan d u))
 
--- past all districts of a plan there is no sum
+-- districts beyond the plan's have the sum 0
 past_sum : (column plan : List ℕ) (d : ℕ) → above_all plan ≤ d → district_sum column plan d ≡ 0
 past_sum column plan d past = sum_of_nothing (length plan) (λ u. cond (in_district plan d u) (slice_index column u) 0) (λ u l.
     let below = below_above_all plan u l in
     cond-false (in_district plan d u) (slice_index column u) 0 (ne_eqb (slice_index plan u) d (λ e. omega (arith, e, below, past))))
 
--- a group without a member in a district has no majority there
+-- a group without members in a district has no majority there
 no_majority : (group : Group) (plan : List ℕ) (d : ℕ) → district_sum group.members plan d ≡ 0 → has_majority group plan d ≡ false
 no_majority group plan d none = le-ltb (district_sum group.whole plan d) (2 * district_sum group.members plan d) (omega (arith, none))
 
--- a group of no members has no majority
+-- a group without members has no majority
 pub none_has_majority : (group : Group) (plan : List ℕ) → group.members ≡ [] → majorities group plan ≡ 0
 none_has_majority group plan none = count_below_none (above_all plan) (has_majority group plan) (λ d l.
     no_majority group plan d (ap (λ column. district_sum column plan d) none ∙ no_sum plan d))
@@ -48,7 +48,7 @@ majority_is_within group plan d has = elim (cases_lt d (above_all plan)) [
       omega (arith, more, past_sum group.members plan d past)
 ]
 
--- counted over all districts that may be, there are as many majorities as over the plan's
+-- counting over all 200 possible districts finds the plan's majorities
 pub majorities_are : (group : Group) (plan members whole : List ℕ) → ((u : ℕ) → u < length plan → slice_index plan u < 200)
     → ((d : ℕ) → d < 200 → slice_index members d ≡ district_sum group.members plan d)
     → ((d : ℕ) → d < 200 → slice_index whole d ≡ district_sum group.whole plan d)

@@ -1,4 +1,4 @@
--- A job from another origin.
+-- A job with another origin.
 use Rattle.std.proofs.Common.{◌≡◌, ◌∷◌, [], List, Option, Some, None, ℤ, refl, sym, ap, ◌∙◌}
 use Rattle.std.proofs.Math.Path.{fun_ext}
 use Rattle.std.specs.List.{slice_get}
@@ -8,11 +8,11 @@ use Rattle.audit_model.specs.Job.{Job}
 use Rattle.audit_model.specs.JobOf.{IsJob}
 use Rattle.plan_core.specs.Valued.{value_of, IsValued}
 
--- the job from that origin
+-- the job with that origin
 abbrev moved : Job → Option Origin → Job
 moved job origin = record job { origin = origin }
 
--- whatever its origin, a job is one
+-- a job with another origin is a job
 pub moved_is_job : (job : Job) (origin : Option Origin) → IsJob job → IsJob (record job { origin = origin })
 moved_is_job job origin sound = record {
   within = record {
@@ -31,13 +31,13 @@ moved_is_job job origin sound = record {
   };
 }
 
--- the value of an ask is that of the plan, whatever the origin
+-- the value of an ask does not depend on the origin
 value_stays : (job : Job) (origin : Option Origin) (o : Option Ask) → value_of (moved job origin) o ≡ value_of job o
 unfolding value_of
 value_stays job origin None = refl
 value_stays job origin (Some ask) = refl
 
--- so the kept values stay
+-- the cached values stay valid
 pub moved_is_valued : (job : Job) (origin : Option Origin) (values : List ℤ) → IsValued job values → IsValued (record job { origin = origin }) values
 moved_is_valued job origin values valued =
     let asks = job.setting.asks in

@@ -10,7 +10,7 @@ use Rattle.audit_model.proofs.Meeting.{below_above_all}
 
 -- ---- one more than the greatest number
 
--- where all numbers are below a bound, one more than the greatest is at most the bound
+-- one more than the greatest number is at most each upper bound
 pub above_all_most : (xs : List ℕ) (n : ℕ) → ((u : ℕ) → u < length xs → slice_index xs u < n) → above_all xs ≤ n
 above_all_most [] n each = omega arith
 above_all_most (x ∷ xs) n each =
@@ -18,24 +18,24 @@ above_all_most (x ∷ xs) n each =
 
 -- ---- the districts of a region
 
--- a test beside one that holds is that test
+-- and-true on the right of an or
 or_true : (a b : Bool) → b ≡ true → (a || b && true) ≡ (a || b)
 or_true a true h = refl
 or_true a false h = cc
 
--- or what fails adds nothing
+-- or-false is the other part
 or_no : (a b : Bool) → (a || b && false) ≡ a
 or_no true true = refl
 or_no true false = refl
 or_no false true = refl
 or_no false false = refl
 
--- and what holds takes nothing away
+-- and-true is the other part
 and_on : (b : Bool) → (b && true) ≡ b
 and_on true = refl
 and_on false = refl
 
--- after one unit more a district is marked where some unit so far of the region is in it
+-- after one more unit, a district is marked if a unit of the region so far lies in it
 pub seen_more : (regions plan : List ℕ) (region unit d : ℕ) (seen : List Bool) → slice_index plan unit < length seen
     → slice_index_or seen (slice_index plan unit) false ≡ any_below unit (λ u. (slice_index regions u == region) && (slice_index plan u == slice_index plan unit))
     → slice_index_or seen d false ≡ any_below unit (λ u. (slice_index regions u == region) && (slice_index plan u == d))
@@ -61,7 +61,7 @@ seen_more regions plan region unit d seen below own so_far =
           there ∙ so_far ∙ sym (or_no (any_below unit test) b) ∙ ap (λ (t : Bool). any_below unit test || t) (sym none) ∙ sym last
     ]
 
--- ---- how many districts those are
+-- ---- the number of these districts
 
 -- a district in which a region lies is that of some unit
 in_range : (regions plan : List ℕ) (region d : ℕ) → length regions ≤ length plan → lies_in regions plan region d ≡ true
@@ -70,7 +70,7 @@ in_range regions plan region d shorter h =
     let some = any_below_some (length regions) (λ u. (slice_index regions u == region) && (slice_index plan u == d)) h in
     (some.0, omega (arith, some.1, shorter), eqb-true (slice_index plan some.0) d (and_parts (slice_index regions some.0 == region) (slice_index plan some.0 == d) some.2).1)
 
--- counted over all districts that may be, a region lies in as many as it is split among
+-- counting over all 200 possible districts finds the number of the region's districts
 pub split_is : (regions plan : List ℕ) (region : ℕ) → length regions ≤ length plan → ((u : ℕ) → u < length plan → slice_index plan u < 200)
     → count_below 200 (lies_in regions plan region) ≡ split_of regions plan region
 split_is regions plan region shorter below =

@@ -1,4 +1,4 @@
--- The votes of a job's start plan.
+-- Votes of the start plan.
 use Rattle.std.proofs.Common.{sym, ◌∙◌, arith}
 use Rattle.audit_model.specs.Job.{Job}
 use Rattle.audit_model.specs.JobOf.{IsJob}
@@ -8,7 +8,7 @@ use Rattle.audit_model.proofs.Below.{length-map_below}
 use Rattle.audit_model.proofs.ColumnFacts.{column_small}
 use Rattle.scores.specs.Votes.{AreVotes}
 
--- the sums of a job's start plan are votes of which scores can be computed
+-- the sums of the start plan are within the bounds for scores
 pub start_votes : (job : Job) → IsJob job → let sums = sums_of job.graph job.counts job.districts job.start in AreVotes sums.first sums.second
 start_votes job sound =
     let input = sound.within.input in

@@ -6,14 +6,14 @@ use Rattle.audit_model.specs.Below.{above_all}
 use Rattle.audit_model.specs.First.{first_below}
 use Rattle.audit_model.specs.Meets.{split_of}
 
--- whether a region is split among more districts than that
+-- a region lies in more than `most` districts
 abbrev pub is_split : List ℕ → List ℕ → ℕ → ℕ → Bool
 is_split regions plan most region = nat_lt most (split_of regions plan region)
 
--- the refusal of a region
+-- the fault of a region
 abbrev pub split : List ℕ → List ℕ → ℕ → ℕ → PlanFault
 split regions plan most region = TooManySplit region (split_of regions plan region) most
 
--- the refusal of the least region that is split among too many
+-- the fault of the least region that lies in too many districts
 abbrev pub first_split : List ℕ → List ℕ → ℕ → Option PlanFault
 first_split regions plan most = option_map (split regions plan most) (first_below (above_all regions) (is_split regions plan most))

@@ -1,4 +1,4 @@
-//! The population bounds.
+//! Population bounds.
 
 ghost use Rattle.std.specs.Prelude.{◌≡◌, ◌+◌, ◌-◌, ◌*◌, ◌/◌, ◌^◌, ◌<◌, ◌≤◌, length};
 ghost use Rattle.audit_model.specs.Rounded.{quotient_up};
@@ -7,7 +7,9 @@ ghost use Rattle.audit_model.specs.Limits.{most_districts};
 
 use audit_model::fault::PlanFault;
 
-/// The least and the greatest population of a district that lie within the allowed part of the ideal.
+/// Returns the least and the greatest population of a district that the slack allows.
+///
+/// `slack` is in units of 1/10,000 of the ideal population, which is `total / districts`.
 pub fn limits_of(total: u64, slack: u32, districts: u32) -> (u64, u64)
     requires total { total ≤ 10 ^ 14 }
     requires slack { slack ≤ 10000 }
@@ -21,7 +23,7 @@ pub fn limits_of(total: u64, slack: u32, districts: u32) -> (u64, u64)
     ((low + parts - 1) / parts, high / parts)
 }
 
-/// The refusal of the least district whose population is outside the bounds.
+/// Returns the fault of the least district whose population is outside the bounds.
 pub fn first_outside(populations: &[u64], districts: u32, low: u64, high: u64) -> Option<PlanFault>
     requires { districts ≤ length populations.now }
     ensures { result ≡ first_outside populations.now districts low high }

@@ -1,4 +1,4 @@
-//! In how many districts a group has a majority.
+//! Majorities of a group.
 
 ghost use Rattle.std.specs.Prelude.{◌≡◌, ◌*◌, ◌<◌, ◌≤◌, ℕ, nat_lt, length, slice_index};
 ghost use Rattle.audit_model.specs.Below.{count_below};
@@ -8,7 +8,7 @@ ghost use Rattle.audit_model.specs.Meets.{majorities};
 use crate::sums::district_sums;
 use audit_model::rules::Group;
 
-/// In how many districts the members are more than half of the whole.
+/// Counts the districts whose members are more than half of the base population.
 fn count_over_half(members: &[u64; 200], whole: &[u64; 200]) -> u32
     requires { (d : ℕ) → d < most_districts → slice_index members.now d ≤ most_people * most_units }
     ensures { result ≡ count_below most_districts (λ d. nat_lt (slice_index whole.now d) (2 * slice_index members.now d)) }
@@ -22,7 +22,7 @@ fn count_over_half(members: &[u64; 200], whole: &[u64; 200]) -> u32
     count
 }
 
-/// In how many districts of a plan the group has a majority: in none where no group is named.
+/// Returns the number of districts in which the group has a majority. Without a group it is 0.
 pub fn count_majorities(group: &Group, plan: &[u32]) -> u32
     requires group { IsGroup (length plan.now) group.now }
     requires few { length plan.now ≤ most_units }

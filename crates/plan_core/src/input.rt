@@ -1,4 +1,4 @@
-//! What a job holds, before its start plan is judged.
+//! The contents of a job before its start plan is checked.
 
 ghost use Rattle.std.specs.Prelude.{◌≡◌, ◌<◌, ◌≤◌, ℕ, length, slice_index, IfOk};
 ghost use Rattle.std.specs.List.{list_any};
@@ -28,8 +28,9 @@ use dual_graph::parsed::Parsed;
 use std::alloc::Global;
 use std::marker::Model;
 
-/// A graph with its counts, a plan to start from that need not be legal, a setting and the rules for plans,
-/// and where it comes from, where that is told.
+/// A graph with its counts, a start plan that may be illegal, a setting and the rules for plans.
+///
+/// The origin is present if the arguments asked for it. The totals of people and votes are cached.
 pub struct Input {
     graph: Graph,
     counts: Counts,
@@ -42,7 +43,7 @@ pub struct Input {
     votes: u64,
 }
 
-/// Written out, so that to let an input go is one call for the proof of whoever does so.
+/// Drops the parts one by one. Written by hand so that a caller's proof sees one call.
 impl Drop for Input {
     fn drop(self) {
         let Input {
@@ -73,7 +74,7 @@ impl Model for Input {
         i.rules i.population i.votes };
 }
 
-/// Whether the score is the gap.
+/// Returns true if the score is the efficiency gap.
 fn is_gap(score: Score) -> bool
     ensures { result ≡ is_gap score }
 {
@@ -83,7 +84,7 @@ fn is_gap(score: Score) -> bool
     }
 }
 
-/// Whether the gap is among the scores that are asked for.
+/// Returns true if one of the asks is the efficiency gap.
 fn asks_gap(asks: &[Ask]) -> bool
     ensures { result ≡ list_any (λ ask. is_gap ask.score) asks.now }
 {
@@ -93,7 +94,7 @@ fn asks_gap(asks: &[Ask]) -> bool
 impl Input {
     ghost use Rattle.plan_core.specs.Input.{GivesDistricts, with_start, many_splits, many_regions, regions_fault, shape_fault};
 
-    /// What was read of a graph, with a setting and the regions of the units. Where it comes from is not told.
+    /// Combines a parsed source with a setting and the regions of the units. It has no origin.
     pub fn new(parsed: Parsed, setting: Setting, regions: UnitList) -> Input
         requires { IsWithinLimits (job_from (parsed_of parsed) setting regions) }
         ensures { result ≡ job_from (parsed_of parsed) setting regions }
@@ -123,7 +124,7 @@ impl Input {
         }
     }
 
-    // A copy of the graph and of what is counted in its units.
+    // Copies the graph and the counts. Fails if there is no memory.
     fn copy_map(&self) -> Result<(Graph, Counts), Memory>
         ensures { IfOk result (λ m. (m.0 ≡ self.now.graph) × (m.1 ≡ self.now.counts)) }
     {
@@ -134,7 +135,7 @@ impl Input {
         }
     }
 
-    // A copy of the setting and of the rules.
+    // Copies the setting and the rules. Fails if there is no memory.
     fn copy_words(&self) -> Result<(Setting, Rules), Memory>
         ensures { IfOk result (λ w. (w.0 ≡ self.now.setting) × (w.1 ≡ rules self.now)) }
     {
@@ -145,7 +146,8 @@ impl Input {
         }
     }
 
-    /// The same with another plan to start from, of so many districts.
+    /// Copies the input with another start plan of `districts` districts. Fails if there is no
+    /// memory.
     pub fn restarted(&self, start: UnitList, districts: u32) -> Result<Input, Memory>
         requires start { GivesDistricts self.now.graph.units districts start }
         requires two { 2 ≤ districts }
@@ -167,7 +169,7 @@ impl Input {
         })
     }
 
-    /// The same from another origin.
+    /// Replaces the origin.
     pub fn with_origin(self, origin: Option<Origin>) -> Input
         ensures { result ≡ record self { origin = origin } }
     {
@@ -195,84 +197,84 @@ impl Input {
         }
     }
 
-    /// The graph.
+    /// Returns the graph.
     pub fn graph(&self) -> &Graph
         ensures { result.now ≡ self.now.graph }
     {
         &self.graph
     }
 
-    /// The population and the votes of each unit.
+    /// Returns the population and votes of each unit.
     pub fn counts(&self) -> &Counts
         ensures { result.now ≡ self.now.counts }
     {
         &self.counts
     }
 
-    /// The plan to start from.
+    /// Returns the start plan.
     pub fn start(&self) -> &UnitList
         ensures { result.now ≡ self.now.start }
     {
         &self.start
     }
 
-    /// How many districts there are.
+    /// Returns the number of districts.
     pub fn districts(&self) -> u32
         ensures { result ≡ self.now.districts }
     {
         self.districts
     }
 
-    /// The setting.
+    /// Returns the setting.
     pub fn setting(&self) -> &Setting
         ensures { result.now ≡ self.now.setting }
     {
         &self.setting
     }
 
-    /// The rules that a plan is to meet.
+    /// Returns the rules that plans must meet.
     pub fn rules(&self) -> &Rules
         ensures { result.now ≡ rules self.now }
     {
         &self.rules
     }
 
-    /// Where it comes from, where that is told.
+    /// Returns the origin, if the arguments asked for it.
     pub fn origin(&self) -> Option<Origin>
         ensures { result ≡ self.now.origin }
     {
         self.origin
     }
 
-    /// The population of all units.
+    /// Returns the population of all units.
     pub fn population(&self) -> u64
         ensures { result ≡ total_population self.now }
     {
         self.population
     }
 
-    /// The votes of both parties in all units.
+    /// Returns the votes of both parties in all units.
     pub fn votes(&self) -> u64
         ensures { result ≡ total_votes self.now }
     {
         self.votes
     }
 
-    /// The least and the greatest population of a district that is within the bounds.
+    /// Returns the least and the greatest population of a district within the bounds.
     pub fn limits(&self) -> (u64, u64)
         ensures { result ≡ (least_population self.now, greatest_population self.now) }
     {
         limits_of(self.population, self.setting.slack, self.districts)
     }
 
-    /// Whether the gap is asked for, and there are no votes.
+    /// Returns true if the efficiency gap is asked for although there are no votes.
     fn lacks_votes(&self) -> bool
         ensures { result ≡ lacks_votes self.now }
     {
         asks_gap(self.setting.asks.as_slice()) && self.votes == 0
     }
 
-    /// The refusal of a plan whose populations are not all within the bounds.
+    /// Returns the fault of a plan with a population outside the bounds.
     pub fn bounds_fault(&self, plan: &[u32]) -> Option<PlanFault>
         requires { GivesDistricts self.now.graph.units self.now.districts plan.now }
         ensures { result ≡ bounds_fault (with_start self.now plan.now) }
@@ -282,7 +284,7 @@ impl Input {
         first_outside(&populations, self.districts, low, high)
     }
 
-    /// The refusal of a plan whose districts are not all connected.
+    /// Returns the fault of a plan with a disconnected district. The least such district is named.
     fn path_fault(&self, plan: &[u32], marks: &mut Marks) -> Option<PlanFault>
         requires complete { length plan.now ≡ self.now.graph.units }
         requires marks { marks.old.units ≡ self.now.graph.units }
@@ -301,7 +303,7 @@ impl Input {
         None
     }
 
-    /// The refusal of a plan that cuts too many edges.
+    /// Returns the fault of a plan that cuts too many edges.
     fn cut_fault(&self, plan: &[u32]) -> Option<PlanFault>
         requires { length plan.now ≡ self.now.graph.units }
         ensures { result ≡ cut_fault (with_start self.now plan.now) }
@@ -316,7 +318,7 @@ impl Input {
         None
     }
 
-    /// The refusal of a plan that splits regions too often in all.
+    /// Returns the fault of a plan with too many region splits in all.
     fn splits_fault(&self, splits: u32) -> Option<PlanFault>
         ensures { result ≡ many_splits self.now.setting.max_splits splits }
     {
@@ -329,7 +331,7 @@ impl Input {
         None
     }
 
-    /// The refusal of a plan that splits too many regions.
+    /// Returns the fault of a plan that splits too many regions.
     fn split_regions_fault(&self, regions: u32) -> Option<PlanFault>
         ensures { result ≡ many_regions self.now.setting.max_split_regions regions }
     {
@@ -342,7 +344,7 @@ impl Input {
         None
     }
 
-    /// The first refusal of a plan for how it splits regions.
+    /// Returns the first fault of a plan that concerns regions.
     fn regions_fault(&self, plan: &[u32]) -> Option<PlanFault>
         requires { GivesDistricts self.now.graph.units self.now.districts plan.now }
         ensures { result ≡ regions_fault (with_start self.now plan.now) }
@@ -356,7 +358,7 @@ impl Input {
         }
     }
 
-    /// In how many districts of a plan the group has a majority.
+    /// Returns the number of districts of a plan in which the group has a majority.
     pub fn majorities(&self, plan: &[u32]) -> u32
         requires { GivesDistricts self.now.graph.units self.now.districts plan.now }
         ensures { result ≡ majorities self.now.group plan.now }
@@ -364,7 +366,7 @@ impl Input {
         count_majorities(&self.rules.group, plan)
     }
 
-    /// The refusal of a plan in which the group has a majority in too few districts.
+    /// Returns the fault of a plan with too few group majorities.
     fn group_fault(&self, plan: &[u32]) -> Option<PlanFault>
         requires { GivesDistricts self.now.graph.units self.now.districts plan.now }
         ensures { result ≡ group_fault (with_start self.now plan.now) }
@@ -379,7 +381,7 @@ impl Input {
         None
     }
 
-    /// The first refusal of a plan but for votes and populations.
+    /// Returns the first fault of a plan other than missing votes and populations.
     pub fn shape_fault(&self, plan: &[u32], marks: &mut Marks) -> Option<PlanFault>
         requires plan { GivesDistricts self.now.graph.units self.now.districts plan.now }
         requires marks { marks.old.units ≡ self.now.graph.units }
@@ -398,7 +400,7 @@ impl Input {
         self.group_fault(plan)
     }
 
-    /// The first reason to refuse the plan to start from.
+    /// Returns the first fault of the start plan. Fails if there is no memory for the search.
     pub fn plan_fault(&self, alloc: Global) -> Result<Option<PlanFault>, Memory>
         ensures { IfOk result (λ fault. fault ≡ plan_fault self.now) }
     {

@@ -26,7 +26,9 @@ use dual_graph::parsed::Parsed;
 use std::alloc::Global;
 use std::marker::Model;
 
-/// A graph with the counts of its units, a legal plan to start from, a setting and the rules for plans.
+/// A graph with the counts of its units, a legal start plan, a setting and the rules for plans.
+///
+/// It caches the start plan's values, one for each of up to four asks.
 #[derive(Drop)]
 pub struct Job {
     input: Input,
@@ -44,7 +46,7 @@ impl Model for Job {
     ghost invariant = { λ j. IsValued j.input j.values };
 }
 
-/// The value at a place.
+/// Returns the value at a place.
 fn entry(values: &[i64], place: usize) -> i64
     requires { place < length values.now }
     ensures { result ≡ slice_index_or values.now place (pos 0) }
@@ -52,7 +54,7 @@ fn entry(values: &[i64], place: usize) -> i64
     values[place]
 }
 
-// The values of the start plan of an input, or the first reason to refuse it.
+// Checks the start plan of an input and computes its values, or returns the first fault.
 fn values_of(alloc: Global, input: &Input) -> Result<[i64; 4], PlanFault>
     requires { IsWithinLimits input.now }
     ensures { MatchResult result (λ values. IsValued input.now values × (plan_fault input.now ≡ None))
@@ -65,18 +67,20 @@ fn values_of(alloc: Global, input: &Input) -> Result<[i64; 4], PlanFault>
 }
 
 impl Job {
-    /// The job of what was read of a graph and a setting. It has no regions, and its origin is not told.
+    /// Makes a job without regions from a parsed source and a setting. It has no origin.
     ///
     /// # Errors
     ///
-    /// - `NoVotes`: the gap is asked for, and no unit has a vote.
+    /// The first of these, in this order:
+    ///
+    /// - `NoVotes`: the efficiency gap is asked for, and no unit has a vote.
     /// - `OutOfBounds`: the least district whose population is outside the bounds.
-    /// - `Disconnected`: the least district that is not connected, with its least unit and the least one
-    ///   to which no path within the district leads from there.
-    /// - `TooManyCut`: how many edges the plan cuts, which are more than the setting allows.
-    /// - `TooFewMajorities`: in how many districts the group has a majority, which are fewer than the setting
-    ///   asks for.
-    /// - `Memory`: there was no memory for the search, or for the sums of the plan.
+    /// - `Disconnected`: the least district that is not connected. It names the district's least
+    /// unit, and the least one that no path within the district connects to it.
+    /// - `TooManyCut`: the plan cuts more edges than the setting allows. It gives their number.
+    /// - `TooFewMajorities`: the group has a majority in fewer districts than the setting requires.
+    /// It gives their number.
+    /// - `Memory`: there was no memory for the search or for the sums of the plan.
     pub fn new(alloc: Global, parsed: Parsed, setting: Setting) -> Result<Job, PlanFault>
         requires within { IsWithinLimits (job_from (parsed_of parsed) setting []) }
         ensures job { MatchResult result (λ job. job_of (parsed_of parsed) setting [] ≡ Ok job)
@@ -86,17 +90,18 @@ impl Job {
         Job::with_regions(alloc, parsed, setting, UnitList::new(alloc))
     }
 
-    /// The job of what was read of a graph, a setting and the regions of the units, of which there may be none.
+    /// Makes a job with the regions of the units; the list is empty if no regions are used.
     ///
     /// # Errors
     ///
     /// Those of [`Job::new`] in their order, and after `TooManyCut`:
     ///
-    /// - `TooManySplit`: the least region that lies in more districts of the plan than the setting allows,
-    ///   and in how many it lies.
-    /// - `TooManySplits`: how often the plan splits regions in all, which is more often than the setting allows.
-    /// - `TooManySplitRegions`: how many regions lie in more than one district, which are more than the setting
-    ///   allows.
+    /// - `TooManySplit`: the least region that lies in more districts than the setting allows. It
+    /// gives the number of these districts.
+    /// - `TooManySplits`: the plan has more region splits in all than the setting allows. It gives
+    /// their number.
+    /// - `TooManySplitRegions`: more regions lie in several districts than the setting allows. It
+    /// gives their number.
     pub fn with_regions(
         alloc: Global,
         parsed: Parsed,
@@ -111,8 +116,9 @@ impl Job {
         Job::of_input(alloc, Input::new(parsed, setting, regions))
     }
 
-    /// The job of the same graph, counts, setting, regions, group and origin with another plan to start from,
-    /// in which each unit has the place of its label among these.
+    /// Makes a job on the same graph, setting and rules from another start plan.
+    ///
+    /// `start` gives for each unit the index of its district's label in `labels`.
     ///
     /// # Errors
     ///
@@ -137,7 +143,7 @@ impl Job {
         }
     }
 
-    /// The same job from another origin.
+    /// Replaces the origin of the job.
     pub fn with_origin(self, origin: Option<Origin>) -> Job
         ensures job { result ≡ record self { origin = origin } }
         ensures sound { IsJob result }
@@ -149,7 +155,7 @@ impl Job {
         }
     }
 
-    // The job of an input.
+    // Makes the job of an input, or returns the first fault of its start plan.
     fn of_input(alloc: Global, input: Input) -> Result<Job, PlanFault>
         ensures job { MatchResult result (λ job. (job ≡ input) × (plan_fault input ≡ None))
             (λ fault. (fault ≡ plan.Memory) ⊎ (plan_fault input ≡ Some fault)) }
@@ -161,17 +167,20 @@ impl Job {
         }
     }
 
-    /// The least and the greatest population of a district that is within the bounds. Where none is, the
-    /// least that is large enough is above the greatest that is small enough.
+    /// Returns the least and the greatest population of a district within the bounds.
+    ///
+    /// If no integer is within the bounds, the first is above the second.
     pub fn limits(&self) -> (u64, u64)
         ensures { result ≡ (least_population self.now, greatest_population self.now) }
     {
         self.input.limits()
     }
 
-    /// Whether a plan is legal: each district has a unit, is connected and has a population within the
-    /// bounds, and the plan meets the rules. It takes no memory; the marks are left with what was marked
-    /// last. It searches every district and counts no search: no step of a walk asks it.
+    /// Returns true if a plan is legal.
+    ///
+    /// Each district must have a unit, be connected and be within the population bounds, and the
+    /// plan must meet the rules. It allocates nothing, and leaves `marks` in an unspecified state.
+    /// It searches every district, so no step of a walk calls it.
     pub fn legal(&self, plan: &[u32], marks: &mut Marks) -> bool
         requires complete { length plan.now ≡ self.now.graph.units }
         requires in_range { (u : ℕ) → u < self.now.graph.units → slice_index plan.now u < self.now.districts }
@@ -183,21 +192,21 @@ impl Job {
         self.input.bounds_fault(plan).is_none() && self.input.shape_fault(plan, marks).is_none()
     }
 
-    /// The graph.
+    /// Returns the graph.
     pub fn graph(&self) -> &Graph
         ensures { result.now ≡ self.now.graph }
     {
         self.input.graph()
     }
 
-    /// The population and the votes of each unit.
+    /// Returns the population and votes of each unit.
     pub fn counts(&self) -> &Counts
         ensures { result.now ≡ self.now.counts }
     {
         self.input.counts()
     }
 
-    /// The plan to start from.
+    /// Returns the start plan.
     pub fn start(&self) -> &UnitList
         ensures value { result.now ≡ self.now.start }
         ensures legal { IsLegal self.now result.now }
@@ -205,7 +214,7 @@ impl Job {
         self.input.start()
     }
 
-    /// The numerator of the start plan's score for the ask at a place.
+    /// Returns the numerator of the start plan's score for the ask at a place.
     pub fn start_value(&self, ask: u32) -> i64
         requires { ask < length self.now.setting.asks }
         ensures { IfSome (slice_get self.now.setting.asks ask) (λ asked. result ≡ plan_value self.now self.now.start asked.score) }
@@ -213,35 +222,35 @@ impl Job {
         entry(&self.values, ask as usize)
     }
 
-    /// The setting.
+    /// Returns the setting.
     pub fn setting(&self) -> &Setting
         ensures { result.now ≡ self.now.setting }
     {
         self.input.setting()
     }
 
-    /// The rules that a plan is to meet.
+    /// Returns the rules that plans must meet.
     pub fn rules(&self) -> &Rules
         ensures { result.now ≡ rules self.now }
     {
         self.input.rules()
     }
 
-    /// Where the job comes from, where that is told.
+    /// Returns the origin of the job, if the arguments asked for it.
     pub fn origin(&self) -> Option<Origin>
         ensures { result ≡ self.now.origin }
     {
         self.input.origin()
     }
 
-    /// In how many districts of the start plan the group has a majority.
+    /// Returns the number of districts of the start plan in which the group has a majority.
     pub fn majorities(&self) -> u32
         ensures { result ≡ majorities self.now.group self.now.start }
     {
         self.input.majorities(self.input.start().as_slice())
     }
 
-    /// How many units there are.
+    /// Returns the number of units.
     pub fn units(&self) -> u32
         ensures units { result ≡ self.now.graph.units }
         ensures sound { IsJob self.now }
@@ -249,28 +258,28 @@ impl Job {
         self.input.graph().units()
     }
 
-    /// How many districts there are.
+    /// Returns the number of districts.
     pub fn districts(&self) -> u32
         ensures { result ≡ self.now.districts }
     {
         self.input.districts()
     }
 
-    /// The population of all units.
+    /// Returns the population of all units.
     pub fn population(&self) -> u64
         ensures { result ≡ total_population self.now }
     {
         self.input.population()
     }
 
-    /// The votes of both parties in all units.
+    /// Returns the votes of both parties in all units.
     pub fn votes(&self) -> u64
         ensures { result ≡ total_votes self.now }
     {
         self.input.votes()
     }
 
-    /// How many trajectories there are.
+    /// Returns the number of trajectories: walks and endpoint trajectories.
     pub fn total(&self) -> u32
         ensures { result ≡ self.now.setting.walks + self.now.setting.ends }
     {

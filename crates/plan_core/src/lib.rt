@@ -1,4 +1,4 @@
-//! A job: a graph with its counts, a legal plan to start from, a setting and rules.
+//! Jobs: a graph with its counts, a legal start plan, a setting and the rules for plans.
 #![tactic(auto)]
 
 mod bounds;

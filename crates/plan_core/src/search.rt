@@ -1,4 +1,4 @@
-//! Two units that show that a district is not connected.
+//! A search for two units that show that a district is not connected.
 
 ghost use Rattle.std.specs.Prelude.{◌≡◌, length};
 ghost use Rattle.audit_model.specs.District.{in_district};
@@ -8,7 +8,7 @@ use dual_graph::graph::Graph;
 use dual_graph::inside::Inside;
 use dual_graph::marks::Marks;
 
-/// The units of a district.
+/// The units of one district.
 #[derive(Drop)]
 struct District<'a> {
     plan: &'a [u32],
@@ -29,8 +29,10 @@ impl Inside for District<'_> {
     }
 }
 
-/// The least unit of a district and the least one to which no path within it leads from there, where it
-/// is not connected; two zeros where it is empty.
+/// Returns two units that show that a district is not connected, or `None` if it is.
+///
+/// They are the district's least unit, and the least one that no path within it connects to that
+/// unit. An empty district gives two zeros.
 pub fn parting(graph: &Graph, plan: &[u32], district: u32, marks: &mut Marks) -> Option<(u32, u32)>
     requires plan { length plan.now ≡ graph.now.units }
     requires units { marks.old.units ≡ graph.now.units }

@@ -1,4 +1,4 @@
-//! Among how many districts a plan splits the regions.
+//! Regions that a plan splits.
 
 ghost use Rattle.std.specs.Prelude.{◌≡◌, ◌<◌, ◌≤◌, ℕ, None, Some, false, length, slice_index, All, MatchResult};
 ghost use Rattle.std.specs.List.{slice_index_or};
@@ -9,14 +9,15 @@ ghost use Rattle.audit_model.specs.Limits.{most_regions, most_districts};
 
 use audit_model::fault::PlanFault;
 
-/// How often a plan splits regions in all, and how many it splits.
+/// The counts of splits in a plan: over all regions, the sum of their districts less one, and the
+/// number of split regions.
 #[derive(Clone, Copy, Drop)]
 pub struct Splits {
     pub splits: u32,
     pub regions: u32,
 }
 
-/// One more than the greatest number, and 0 where there is none.
+/// Returns one more than the greatest number, or 0 if there is none.
 fn above_all(numbers: &[u32]) -> u32
     requires { All (λ n. n < most_regions) numbers.now }
     ensures { result ≡ above_all numbers.now }
@@ -30,7 +31,7 @@ fn above_all(numbers: &[u32]) -> u32
     above
 }
 
-/// How many of the places are marked.
+/// Counts the places that are true.
 fn count_marked(seen: &[bool; 200]) -> u32
     ensures { result ≡ count_below most_districts (λ d. slice_index_or seen.now d false) }
 {
@@ -43,7 +44,7 @@ fn count_marked(seen: &[bool; 200]) -> u32
     count
 }
 
-/// How many different districts a plan gives to the units of a region.
+/// Returns the number of districts in which a region has units.
 fn split_of(regions: &[u32], plan: &[u32], region: u32) -> u32
     requires lengths { length regions.now ≤ length plan.now }
     requires districts { (u : ℕ) → u < length plan.now → slice_index plan.now u < most_districts }
@@ -58,7 +59,8 @@ fn split_of(regions: &[u32], plan: &[u32], region: u32) -> u32
     count_marked(&seen)
 }
 
-/// How often a plan splits regions, or the refusal of the least region that is split among too many districts.
+/// Counts the splits of a plan, or returns the fault of the least region that lies in too many
+/// districts.
 pub fn count_splits(regions: &[u32], plan: &[u32], most: u32) -> Result<Splits, PlanFault>
     requires lengths { length regions.now ≤ length plan.now }
     requires few { All (λ r. r < most_regions) regions.now }

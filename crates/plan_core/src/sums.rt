@@ -4,7 +4,7 @@ ghost use Rattle.std.specs.Prelude.{◌≡◌, ◌^◌, ◌*◌, ◌<◌, ◌≤
 ghost use Rattle.audit_model.specs.District.{district_sum};
 ghost use Rattle.audit_model.specs.Limits.{IsColumn, most_units, most_people, most_districts};
 
-/// The sum of a column over all units.
+/// Returns the sum of a column over all units.
 pub fn sum_of(column: &[u64]) -> u64
     requires few { length column.now ≤ most_units }
     requires small { All (λ n. n ≤ most_people) column.now }
@@ -17,7 +17,7 @@ pub fn sum_of(column: &[u64]) -> u64
     total
 }
 
-/// The sum of a column over the units of each district.
+/// Returns the sum of a column over the units of each district.
 pub fn district_sums(column: &[u64], plan: &[u32]) -> [u64; 200]
     requires column { IsColumn (length plan.now) column.now }
     requires few { length plan.now ≤ most_units }

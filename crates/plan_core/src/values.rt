@@ -1,4 +1,4 @@
-//! The values of the start plan.
+//! Values of the start plan.
 
 ghost use Rattle.std.specs.Prelude.{◌≡◌, length, IfOk};
 ghost use Rattle.std.specs.List.{slice_get};
@@ -16,7 +16,7 @@ use district_sums::sums::Sums;
 use scores::value;
 use std::alloc::Global;
 
-/// The value of the ask at a place, and zero past the asks.
+/// Returns the value of the ask at a place, or 0 if there is no such ask.
 #[tactic(auto, unfolding(crate::specs::Valued::value_of))]
 fn value_at(
     input: &Input,
@@ -35,7 +35,8 @@ fn value_at(
     }
 }
 
-/// The values of the asks, and zeros past them. Where nothing is asked, no sums are made.
+/// Returns the values of the asks, and 0 for places without one. It computes no sums if nothing is
+/// asked. Fails if there is no memory.
 #[tactic(auto, unfolding(crate::specs::Valued::value_of))]
 pub fn start_values(alloc: Global, input: &Input) -> Result<[i64; 4], Memory>
     requires { IsJob input.now }
