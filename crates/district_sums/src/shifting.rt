@@ -61,8 +61,7 @@ fn shift_list(column: &NumList, member: Member, district: u32, sums: &mut NumLis
     shift_column(column.as_slice(), member, district, sums.as_mut_slice());
 }
 
-/// Adds one to the count if `counts` is true. A function of its own keeps both cases visible after
-/// the branch.
+/// Adds one to the count if `counts` is true.
 #[inline]
 fn with_one(count: u32, counts: bool) -> u32
     requires few { count ≤ most_units }

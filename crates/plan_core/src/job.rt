@@ -71,16 +71,17 @@ impl Job {
     ///
     /// # Errors
     ///
-    /// The first of these, in this order:
+    /// The first of these faults, in this order:
     ///
     /// - `NoVotes`: the efficiency gap is asked for, and no unit has a vote.
     /// - `OutOfBounds`: the least district whose population is outside the bounds.
     /// - `Disconnected`: the least district that is not connected. It names the district's least
-    /// unit, and the least one that no path within the district connects to it.
+    ///   unit, and the least one that no path within the district connects to it.
     /// - `TooManyCut`: the plan cuts more edges than the setting allows. It gives their number.
     /// - `TooFewMajorities`: the group has a majority in fewer districts than the setting requires.
-    /// It gives their number.
-    /// - `Memory`: there was no memory for the search or for the sums of the plan.
+    ///   It gives their number.
+    ///
+    /// `Memory` comes if there was no memory for the search or for the sums of the plan.
     pub fn new(alloc: Global, parsed: Parsed, setting: Setting) -> Result<Job, PlanFault>
         requires within { IsWithinLimits (job_from (parsed_of parsed) setting []) }
         ensures job { MatchResult result (λ job. job_of (parsed_of parsed) setting [] ≡ Ok job)
@@ -97,11 +98,11 @@ impl Job {
     /// Those of [`Job::new`] in their order, and after `TooManyCut`:
     ///
     /// - `TooManySplit`: the least region that lies in more districts than the setting allows. It
-    /// gives the number of these districts.
+    ///   gives the number of these districts.
     /// - `TooManySplits`: the plan has more region splits in all than the setting allows. It gives
-    /// their number.
+    ///   their number.
     /// - `TooManySplitRegions`: more regions lie in several districts than the setting allows. It
-    /// gives their number.
+    ///   gives their number.
     pub fn with_regions(
         alloc: Global,
         parsed: Parsed,
