@@ -1,4 +1,4 @@
--- The grid's document is accepted.
+-- The grid's document passes all checks.
 use Rattle.std.proofs.Common.{◌≡◌, ℕ, zero, suc, ◌+◌, ◌-◌, ◌*◌, ◌/◌, ◌^◌, ◌<◌, ◌≤◌, ◌⊎◌, Bool, true, false, cond, not, ◌&&◌, ◌||◌, List, [], ◌∷◌, map, length, get_or, codes, Option, Some, None, option_map, option_and_then, pos, refl, sym, ap, ap₂, ◌∙◌, subst, inl, inr, arith}
 use Rattle.std.specs.Prelude.{◌==◌, nat_le, is_none, unwrap_or}
 use Rattle.std.proofs.lemmas.Bool.{and_parts, or_cases, cases_lt, eq-eqb, ne_eqb, eqb-true, lt-ltb, le-ltb, le-leb, false≢true}
@@ -25,11 +25,11 @@ use Rattle.grid_maker.specs.Tree.{entry_tree, node_tree}
 use Rattle.grid_maker.proofs.Districts.{district_of, units_of, few_units, district_below, first_of, first_district, before_first, first_inside}
 use Rattle.grid_maker.proofs.Finding.{item_passes, get_or-map}
 
--- the units beside a unit
+-- the adjacent units of a unit
 abbrev pub units_beside : ℕ → ℕ → List ℕ
 units_beside size unit = filter_below (units_of size) (are_beside size unit)
 
--- what is read of the root of the grid
+-- the document that is parsed from the grid's root
 abbrev pub grid_document : ℕ → List ℕ → Document
 grid_document size key = record {
   nodes = map_below (units_of size) (node_tree size key);
@@ -37,7 +37,7 @@ grid_document size key = record {
   directed = false;
 }
 
--- two whole numbers are the same label exactly where they are equal
+-- integer labels are equal exactly if the integers are
 pub whole_same : (a b : ℕ) → same_label (Whole (pos a)) (Whole (pos b)) ≡ (a == b)
 whole_same a b = elim (cases_lt a b) [
   | inl l ↦ rw (lt-ltb a b l) (sym (ne_eqb a b (λ e. omega (arith, l, e))))
@@ -94,7 +94,7 @@ module _ (size : ℕ) (key : List ℕ) where
 
 -- ---- edges
 
--- the greater of two units beside each other is the next one or the one below
+-- the greater of two adjacent units is the next one or the one below
 pub near : (size u v : ℕ) → u < v → are_beside size u v ≡ true → (u + 1 ≡ v) ⊎ (u + grid_side size ≡ v)
 near size u v l h =
     elim (or_cases ((u / grid_side size == v / grid_side size) && ((u + 1 == v) || (v + 1 == u))) ((u + grid_side size == v) || (v + grid_side size == u)) h) [
@@ -108,7 +108,7 @@ near size u v l h =
       ]
     ]
 
--- the same, where the greater is asked
+-- the converse direction of `near`, asked from the greater unit
 pub near_back : (size u v : ℕ) → u < v → are_beside size v u ≡ true → (u + 1 ≡ v) ⊎ (u + grid_side size ≡ v)
 near_back size u v l h =
     elim (or_cases ((v / grid_side size == u / grid_side size) && ((v + 1 == u) || (u + 1 == v))) ((v + grid_side size == u) || (u + grid_side size == v)) h) [
@@ -122,31 +122,31 @@ near_back size u v l h =
       ]
     ]
 
--- a code of a truth value is 0 or 1
+-- the code of a Boolean is 0 or 1
 below_two : (b : Bool) → cond {A = ℕ} b 0 1 < 2
 below_two true = omega arith
 below_two false = omega arith
 
--- truth values with the same code are the same
+-- Booleans with equal codes are equal
 same_code : (a b : Bool) → cond {A = ℕ} a 0 1 ≡ cond {A = ℕ} b 0 1 → a ≡ b
 same_code true true h = refl
 same_code true false h = absurd (omega (arith, h))
 same_code false true h = absurd (omega (arith, h))
 same_code false false h = refl
 
--- a sum of n terms that are at most 2 is at most 2 * n
+-- a sum of n terms of at most 2 is at most 2 * n
 sum_small : (n : ℕ) (f : ℕ → ℕ) → ((k : ℕ) → k < n → f k ≤ 2) → sum_below n f ≤ 2 * n
 sum_small zero f h = omega arith
 sum_small (suc n) f h = omega (arith, sum_small n f (λ k l. h k (omega (arith, l))), h n (omega arith))
 
--- two numbers are below 2
+-- there are two numbers below 2
 count_two : count_below 2 (λ _. true) ≡ 2
 unfolding count_below
 count_two = refl
 
 -- ---- columns
 
--- the refusal of a node for a column that it has not
+-- the fault of a node with a missing column
 missing_in : ℕ → Data → Option GraphFault
 missing_in i d = option_map (fault.Missing i) (first_some (
     refused_if (is_none (get (codes "pop") d)) column.Population
@@ -155,7 +155,7 @@ missing_in i d = option_map (fault.Missing i) (first_some (
     ∷ refused_if (is_none (get (codes "district") d)) column.District
     ∷ []))
 
--- the refusal of a node for a number that is none
+-- the fault of a node with an invalid number
 bad_in : Document → ℕ → Data → Option GraphFault
 bad_in made i d = option_map (fault.BadNumber i) (first_some (
     refused_if (is_none (option_and_then (count_of made grid_columns) (get (codes "pop") d))) column.Population
@@ -266,7 +266,7 @@ module _ (size : ℕ) (key : List ℕ) (some : 1 ≤ size) (small : size ≤ 30)
       (λ j k lj lk hj hk e. sym (first_district size j some) ∙ ap (district_of size) e ∙ first_district size k some) in
       omega (arith, into, count_two)
 
-  -- ---- all of it
+  -- ---- the whole document
 
   pub accepted : refusal grid_made grid_columns ≡ None
   accepted =

@@ -1,4 +1,4 @@
--- What the grid's lists give is what is read of its text.
+-- The data built directly is the data parsed from the grid's text.
 use Rattle.std.proofs.Common.{◌≡◌, ℕ, ◌+◌, ◌-◌, ◌*◌, ◌/◌, ◌%◌, ◌^◌, ◌<◌, ◌≤◌, Bool, true, cond, not, ◌&&◌, ◌||◌, List, [], length, get_or, codes, Option, Some, None, Ok, pos, refl, sym, ap, ap₂, ◌∙◌, subst, inl, inr, arith}
 use Rattle.std.specs.Prelude.{◌==◌, ◌≢◌, ◌↔◌, nat_lt, unwrap_or}
 use Rattle.std.specs.declared.cmp.Ordering.TheVariants.{Less}
@@ -34,13 +34,13 @@ use Rattle.grid_maker.proofs.Graphs.{grid_gives}
 use Rattle.grid_maker.proofs.Neighbours.{beside, right_is_beside, below_is_beside}
 use Rattle.grid_maker.proofs.Paired.{IsNext, right_is, below_is, joins_next, next_joins, next_joins_back, next_inside}
 
--- ---- units beside each other
+-- ---- adjacent units
 
--- that two numbers are equal does not hang on their order
+-- equality of numbers is symmetric
 eq_turned : (a b : ℕ) → (a == b) ≡ true → (b == a) ≡ true
 eq_turned a b h = eq-eqb b a (sym (eqb-true a b h))
 
--- that two units are beside each other does not hang on their order
+-- adjacency in the grid is symmetric
 beside_turned : (size u v : ℕ) → are_beside size u v ≡ true → are_beside size v u ≡ true
 beside_turned size u v h = elim (or_cases ((u / grid_side size == v / grid_side size) && ((u + 1 == v) || (v + 1 == u))) ((u + grid_side size == v) || (v + grid_side size == u)) h) [
   | inl e ↦
@@ -55,7 +55,7 @@ beside_turned size u v h = elim (or_cases ((u / grid_side size == v / grid_side 
     turned : (a b : Bool) → (a || b) ≡ true → (b || a) ≡ true
     turned a b h = elim (or_cases a b h) [ inl e ↦ or_right b a e | inr e ↦ or_left b a e ]
 
--- the unit to the right and the one below are beside a unit
+-- the units to the right and below are adjacent
 next_beside : (size u v : ℕ) → 2 ≤ grid_side size → IsNext (grid_side size) u v → are_beside size u v ≡ true
 unfolding beside
 next_beside size u v wide next = elim next [
@@ -65,7 +65,7 @@ next_beside size u v wide next = elim next [
   | inr b ↦ below_is_beside (grid_side size) u v (sym (below_is (grid_side size) u v b).1)
 ]
 
--- of two units beside each other, the greater is to the right of the other or below it
+-- of two adjacent units, the greater one is to the right of the other or below it
 beside_next : (size u v : ℕ) → 2 ≤ grid_side size → u < v → v < units_of size → are_beside size u v ≡ true → IsNext (grid_side size) u v
 unfolding beside
 beside_next size u v wide l inside h = elim (near size u v l h) [
@@ -80,20 +80,20 @@ beside_next size u v wide l inside h = elim (near size u v l h) [
 
 -- ---- lists
 
--- functions that agree below a bound have the same list of values
+-- functions that agree below a bound have equal lists of values
 list_is : {A : Type 0} (n m : ℕ) (f g : ℕ → A) (d : A) → m ≡ n → ((i : ℕ) → i < n → f i ≡ g i) → map_below m f ≡ map_below n g
 list_is n m f g d e same = ext_get_or d (map_below m f) (map_below n g) (length-map_below m f ∙ e ∙ sym (length-map_below n g))
     (λ i l.
     let inside : i < m = omega (arith, l, length-map_below m f) in
     get_or-map_below m f i d inside ∙ same i (omega (arith, inside, e)) ∙ sym (get_or-map_below n g i d (omega (arith, inside, e))))
 
--- the numbers at a key of nodes that are made one by one are what each was made with
+-- a column of nodes built one by one holds the number of each node
 column_is : (key : List ℕ) (n : ℕ) (f : ℕ → Data) (g : ℕ → ℕ) → ((i : ℕ) → i < n → count_in key (f i) ≡ Some (g i)) → map_below n g ≡ numbers_in key (map_below n f)
 column_is key n f g same =
     sym (list_is n (length (map_below n f)) (λ i. unwrap_or (count_in key (get_or (map_below n f) i null)) 0) g 0 (length-map_below n f)
     (λ i l. ap (λ (d : Data). unwrap_or (count_in key d) 0) (get_or-map_below n f i null l) ∙ ap (λ (o : Option ℕ). unwrap_or o 0) (same i l)))
 
--- a smaller whole number is the smaller label
+-- a smaller integer is the smaller label
 whole_less : (a b : ℕ) → a < b → label_cmp (Whole (pos a)) (Whole (pos b)) ≡ Less
 whole_less a b l = rw (lt-ltb a b l) refl
 
@@ -106,7 +106,7 @@ module _ (size : ℕ) (key : List ℕ) (some : 1 ≤ size) (small : size ≤ 30)
   wide : 2 ≤ grid_side size
   wide = omega (arith, some)
 
-  -- a unit lists those beside it
+  -- the list of a unit has its adjacent units
   beside_lists : (u v : ℕ) → u < node_count made → v < node_count made → are_beside size u v ≡ true → lists made u v ≡ true
   beside_lists u v lu lv h =
       let at = has_at (units_beside size u) v (filter_below-has (units_of size) (are_beside size u) v (omega (arith, lv, count_is size key)) h) in
@@ -231,7 +231,7 @@ module _ (size : ℕ) (key : List ℕ) (some : 1 ≤ size) (small : size ≤ 30)
     few = omega (arith, ap (λ (ls : List Label). length ls) labels, ten_long);
   }
 
-  -- ---- all of it
+  -- ---- the whole grid
 
   pub made_is_read : (g : Graph) (counts : Counts) (group : Group) (start : List ℕ) (found : List Label) → graph made ≡ g → AreRows grid_columns made.nodes counts group start found
       → reading (grid size key) grid_columns ≡ Ok (record { graph = g; counts = counts; group = group; start = start; labels = found })

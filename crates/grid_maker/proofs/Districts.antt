@@ -3,15 +3,15 @@ use Rattle.std.proofs.Common.{◌≡◌, ℕ, ◌*◌, ◌/◌, ◌<◌, ◌≤�
 use Rattle.std.proofs.lemmas.Nat.{div-mul-add, mul-add-lt, mul-le, div_below}
 use Rattle.audit_statement.specs.Grid.{grid_side}
 
--- the number of a unit's district
+-- the district of a unit
 abbrev pub district_of : ℕ → ℕ → ℕ
 district_of size unit = unit / grid_side size / size
 
--- how many units there are
+-- the number of units
 abbrev pub units_of : ℕ → ℕ
 units_of size = grid_side size * grid_side size
 
--- a grid has at most 90000 units
+-- a grid has at most 90,000 units
 pub few_units : (size : ℕ) → size ≤ 30 → units_of size ≤ 90000
 few_units size few = mul-le (grid_side size) (grid_side size) 300 300 (omega (arith, few)) (omega (arith, few))
 
@@ -24,7 +24,7 @@ district_below size unit some l =
 abbrev pub first_of : ℕ → ℕ → ℕ
 first_of size district = district * size * grid_side size
 
--- a multiple that is divided is the number of times
+-- dividing a multiple gives the factor
 divided : (q w : ℕ) → 0 < w → q * w / w ≡ q
 divided q w some = ap (λ (n : ℕ). n / w) (sym (add-zero (q * w))) ∙ div-mul-add q w 0 some
 
@@ -33,7 +33,7 @@ pub first_district : (size district : ℕ) → 1 ≤ size → district_of size (
 first_district size district some =
     ap (λ (n : ℕ). n / size) (divided (district * size) (grid_side size) (omega (arith, some))) ∙ divided district size (omega (arith, some))
 
--- a unit before the first of a district lies in an earlier one
+-- a unit before the first one of a district lies in an earlier district
 pub before_first : (size district unit : ℕ) → 1 ≤ size → unit < first_of size district → district_of size unit < district
 before_first size district unit some l =
     div_below (unit / grid_side size) size district (omega (arith, some)) (div_below unit (grid_side size) (district * size) (omega (arith, some)) l)

@@ -1,4 +1,4 @@
--- The grid's text is read without a refusal.
+-- The grid's text parses without a fault.
 use Rattle.std.proofs.Common.{◌≡◌, ℕ, zero, suc, ◌≤◌, Bool, true, false, not, cond, List, [], ◌∷◌, ◌++◌, map, Option, None, Ok, refl, ap, ap₂, ◌∙◌}
 use Rattle.std.specs.Prelude.{is_ok, is_some, unwrap_or}
 use Rattle.std.specs.List.{list_all}
@@ -19,19 +19,19 @@ use Rattle.grid_maker.proofs.Compact.{map-map_below}
 use Rattle.grid_maker.proofs.Districts.{units_of}
 use Rattle.grid_maker.proofs.Readable.{grid_read, grid_utf8}
 
--- what holds of each item of two lists holds of all together
+-- a property of all items of two lists holds of the appended list
 list_all-append : (p : Data → Bool) (ds es : List Data) → list_all p ds ≡ true → list_all p es ≡ true → list_all p (ds ++ es) ≡ true
 list_all-append p [] es h k = k
 list_all-append p (d ∷ ds) es h k =
     let parts = and_parts (p d) (list_all p ds) h in
     and_from (p d) (list_all p (ds ++ es)) parts.0 (list_all-append p ds es parts.1 k)
 
--- what holds of each value below a bound holds of their list
+-- a property of all values below a bound holds of their list
 list_all_below : (p : Data → Bool) (n : ℕ) (f : ℕ → Data) → ((k : ℕ) → p (f k) ≡ true) → list_all p (map_below n f) ≡ true
 list_all_below p zero f h = refl
 list_all_below p (suc n) f h = list_all-append p (map_below n f) (f n ∷ []) (list_all_below p n f h) (and_from (p (f n)) true (h n) refl)
 
--- the document of nodes and lists of neighbours that is not directed
+-- the undirected document with these nodes and adjacency lists
 document_from : List Data → List (List Data) → Document
 document_from nodes adjacency = record { nodes = nodes; adjacency = adjacency; directed = false }
 
@@ -52,7 +52,7 @@ module _ (size : ℕ) (key : List ℕ) where
       ∙ map-map_below (λ d. unwrap_or (list_of d) []) (units_of size) (neighbours_tree size) (λ u. map entry_tree (units_beside size u))
       (λ u. elements-items_of (map entry_tree (units_beside size u))))
 
-  -- what is read of the text
+  -- the result of parsing the text
   pub grid_gives : 1 ≤ size → size ≤ 30 → reading (grid size key) grid_columns ≡ Ok (parsed (grid_document size key) grid_columns)
   unfolding reading
   grid_gives some few =

@@ -1,4 +1,4 @@
--- The units beside a unit of a grid, in rising order.
+-- The adjacent units of a unit in a grid, in rising order.
 use Rattle.std.proofs.Common.{◌≡◌, ℕ, zero, suc, ◌+◌, ◌-◌, ◌*◌, ◌/◌, ◌%◌, ◌<◌, ◌≤◌, Bool, true, false, cond, ◌&&◌, ◌||◌, List, [], ◌∷◌, ◌++◌, Some, None, refl, sym, ap, ◌∙◌, inl, inr, arith, append-nil}
 use Rattle.std.specs.Prelude.{◌==◌, nat_lt, option_to_list}
 use Rattle.std.proofs.lemmas.Bool.{cases_lt, eq-eqb, ne_eqb, lt-ltb, le-ltb, le-leb, lt-leb}
@@ -10,13 +10,13 @@ use Rattle.audit_model.proofs.Numbers.{one_more_block}
 use Rattle.audit_statement.specs.Grid.{grid_side, are_beside}
 use Rattle.grid_maker.specs.Beside.{above, left, right, below}
 
--- ---- steps over numbers of which none passes
+-- ---- filtering step by step
 
--- the numbers kept below n + 1 are those below n, and n where it passes
+-- filtering below n + 1 adds n to the numbers kept below n if n passes
 filter_at : (test : ℕ → Bool) (n : ℕ) (b : Bool) → test n ≡ b → filter_below (n + 1) test ≡ filter_below n test ++ cond b (n ∷ []) []
 filter_at test n b is = ap (λ (k : ℕ). filter_below k test) (let e : n + 1 ≡ suc n = omega arith in e) ∙ ap (λ (t : Bool). filter_below n test ++ cond t (n ∷ []) []) is
 
--- an option that hangs on a test is a list of one or none
+-- an option that depends on a test is a list of at most one item
 listed : (b : Bool) (n : ℕ) → option_to_list (cond b (Some n) None) ≡ cond b (n ∷ []) []
 listed true n = refl
 listed false n = refl
@@ -26,23 +26,23 @@ listed false n = refl
 unfoldable pub beside : ℕ → ℕ → ℕ → Bool
 beside width u v = (u / width == v / width) && ((u + 1 == v) || (v + 1 == u)) || ((u + width == v) || (v + width == u))
 
--- an 'and' with what is false is false
+-- and-false is false
 and_false : (b : Bool) → (b && false) ≡ false
 and_false true = refl
 and_false false = refl
 
--- an 'and' with what is true is its other part
+-- and-true is the other part
 and_true : (b : Bool) → (b && true || false) ≡ b
 and_true true = refl
 and_true false = refl
 
 -- ---- rows
 
--- a unit's row is how often the width goes into it
+-- a unit's row is its quotient by the width
 row_of : (width u q r : ℕ) → r < width → u ≡ q * width + r → u / width ≡ q
 row_of width u q r l e = ap (λ (n : ℕ). n / width) e ∙ div-mul-add q width r l
 
--- the next unit is in the same row exactly where the unit is not the last of it
+-- the next unit is in the unit's row exactly if the unit is not the last of it
 same_row_next : (width u : ℕ) → 0 < width → (u / width == (u + 1) / width) ≡ nat_lt (u % width + 1) width
 same_row_next width u some = elim (cases_lt (u % width + 1) width) [
   | inl l ↦
@@ -54,7 +54,7 @@ same_row_next width u some = elim (cases_lt (u % width + 1) width) [
       ne_eqb (u / width) ((u + 1) / width) (λ e. omega (arith, e, next)) ∙ sym (le-ltb (u % width + 1) width past)
 ]
 
--- the unit before is in the same row exactly where the unit is not the first of it
+-- the unit before is in the unit's row exactly if the unit is not the first of it
 same_row_before : (width w : ℕ) → 0 < width → (suc w / width == w / width) ≡ nat_lt 0 (suc w % width)
 same_row_before width w some = elim (cases_lt 0 (suc w % width)) [
   | inl l ↦
@@ -67,49 +67,49 @@ same_row_before width w some = elim (cases_lt 0 (suc w % width)) [
       ∙ sym (le-ltb 0 (suc w % width) none)
 ]
 
--- ---- one neighbour after another
+-- ---- one adjacent unit after another
 
--- an 'or' whose last part is true is true
+-- or-true in the last part is true
 last_true : (x y : Bool) → (x || (y || true)) ≡ true
 last_true true y = refl
 last_true false true = refl
 last_true false false = refl
 
--- an 'or' whose third part is true is true
+-- or-true in the third part is true
 third_true : (x y : Bool) → (x || (true || y)) ≡ true
 third_true true y = refl
 third_true false y = refl
 
--- units that differ by neither one nor the width are not beside each other
+-- units that differ by neither 1 nor the width are not adjacent
 off_beside : (width u v : ℕ) → (u + 1 ≡ v → ⊥) → (v + 1 ≡ u → ⊥) → (u + width ≡ v → ⊥) → (v + width ≡ u → ⊥) → beside width u v ≡ false
 unfolding beside
 off_beside width u v a b c d = rw (ne_eqb (u + 1) v a, ne_eqb (v + 1) u b, ne_eqb (u + width) v c, ne_eqb (v + width) u d, and_false) refl
 
--- the unit above is beside a unit
+-- the unit above is adjacent
 above_is_beside : (width u v : ℕ) → v + width ≡ u → beside width u v ≡ true
 unfolding beside
 above_is_beside width u v e = rw (eq-eqb (v + width) u e, last_true) refl
 
--- the unit below is beside a unit
+-- the unit below is adjacent
 pub below_is_beside : (width u v : ℕ) → u + width ≡ v → beside width u v ≡ true
 unfolding beside
 below_is_beside width u v e = rw (eq-eqb (u + width) v e, third_true) refl
 
--- the unit before is beside a unit exactly where this is not the first of its row
+-- the unit before is adjacent exactly if this unit is not the first of its row
 left_is_beside : (width w : ℕ) → 2 ≤ width → beside width (suc w) w ≡ nat_lt 0 (suc w % width)
 unfolding beside
 left_is_beside width w wide =
     rw (ne_eqb (suc w + 1) w (λ e. omega (arith, e)), eq-eqb (w + 1) (suc w) (omega arith), ne_eqb (suc w + width) w (λ e. omega (arith, e)), ne_eqb (w + width) (suc w) (λ e. omega (arith, e)))
     (and_true (suc w / width == w / width) ∙ same_row_before width w (omega arith))
 
--- the next unit is beside a unit exactly where this is not the last of its row
+-- the next unit is adjacent exactly if this unit is not the last of its row
 pub right_is_beside : (width u : ℕ) → 2 ≤ width → beside width u (u + 1) ≡ nat_lt (u % width + 1) width
 unfolding beside
 right_is_beside width u wide =
     rw (eq-eqb (u + 1) (u + 1) refl, ne_eqb (u + width) (u + 1) (λ e. omega (arith, e)), ne_eqb (u + 1 + width) u (λ e. omega (arith, e)))
     (and_true (u / width == (u + 1) / width) ∙ same_row_next width u (omega arith))
 
--- before the unit before it, a unit has the one above beside it
+-- up to the unit before the left one, only the unit above is adjacent
 to_above : (width u : ℕ) → 2 ≤ width → filter_below (u - 1) (beside width u) ≡ option_to_list (above width u)
 to_above width u wide = elim (cases_lt u width) [
   | inl first ↦
@@ -130,7 +130,7 @@ to_above width u wide = elim (cases_lt u width) [
       ∙ sym (ap (λ (b : Bool). option_to_list (cond b (Some d) None)) (le-leb width u l))
 ]
 
--- before itself, a unit has those beside it that come before, the left one last
+-- up to the unit itself, the left unit comes last
 to_left : (width u : ℕ) → 2 ≤ width → filter_below u (beside width u) ≡ filter_below (u - 1) (beside width u) ++ option_to_list (left width u)
 to_left width zero wide =
     let none : 0 % width ≤ 0 = omega (arith, div-add-mod' 0 width) in
@@ -141,7 +141,7 @@ to_left width (suc w) wide =
     ∙ ap (λ (xs : List ℕ). filter_below w (beside width (suc w)) ++ xs) (sym (listed (nat_lt 0 (suc w % width)) w))
     ∙ ap (λ (n : ℕ). filter_below n (beside width (suc w)) ++ option_to_list (cond (nat_lt 0 (suc w % width)) (Some n) None)) (sym back)
 
--- up to the next, a unit has those beside it that come before, and the right one
+-- up to the next unit, the right unit comes last
 to_right : (width u : ℕ) → 2 ≤ width → filter_below (u + 2) (beside width u) ≡ filter_below u (beside width u) ++ option_to_list (right width u)
 to_right width u wide =
     let same : beside width u u ≡ false = off_beside width u u (λ e. omega (arith, e)) (λ e. omega (arith, e)) (λ e. omega (arith, e)) (λ e. omega (arith, e)) in
@@ -163,7 +163,7 @@ last_ends width u some e =
     corner_of zero l = absurd (omega arith)
     corner_of (suc k) l = ap (λ (n : ℕ). n * suc k + suc k) (let e : suc k - 1 ≡ k = omega arith in e) ∙ sym (suc-mul k (suc k))
 
--- in the last row, a unit has none beside it behind the next
+-- a unit of the last row has no adjacent unit beyond the next one
 to_last : (width u : ℕ) → 2 ≤ width → u < width * width → width * width ≤ u + width
     → filter_below (width * width) (beside width u) ≡ filter_below (u + 2) (beside width u)
 to_last width u wide inside past = elim (cases_lt (u + 1) (width * width)) [
@@ -179,7 +179,7 @@ to_last width u wide inside past = elim (cases_lt (u + 1) (width * width)) [
       ∙ ap (λ (n : ℕ). filter_below n (beside width u)) (sym next)
 ]
 
--- of all units, a unit has beside it those up to the next, and the one below
+-- over all units, the unit below comes last
 to_below : (width u : ℕ) → 2 ≤ width → u < width * width
     → filter_below (width * width) (beside width u) ≡ filter_below (u + 2) (beside width u) ++ option_to_list (below width u)
 to_below width u wide inside = elim (cases_lt (u + width) (width * width)) [
@@ -200,7 +200,7 @@ to_below width u wide inside = elim (cases_lt (u + width) (width * width)) [
       ∙ sym (ap (λ (b : Bool). filter_below (u + 2) (beside width u) ++ option_to_list (cond b (Some (u + width)) None)) (le-ltb (u + width) (width * width) past))
 ]
 
--- the units beside one are the one above, the one to the left, the one to the right and the one below
+-- the adjacent units are those above, left, right and below
 pub four_beside : (size u : ℕ) → 1 ≤ size → u < grid_side size * grid_side size
     → filter_below (grid_side size * grid_side size) (are_beside size u)
     ≡ option_to_list (above (grid_side size) u) ++ option_to_list (left (grid_side size) u) ++ option_to_list (right (grid_side size) u) ++ option_to_list (below (grid_side size) u)

@@ -1,4 +1,4 @@
--- The pairs of the grid rise, and join each unit with the one to the right and the one below.
+-- The pairs of the grid rise, and join each unit to the one on its right and the one below.
 use Rattle.std.proofs.Common.{◌≡◌, ℕ, zero, suc, ◌+◌, ◌*◌, ◌%◌, ◌<◌, ◌≤◌, Bool, true, false, cond, List, [], ◌∷◌, ◌++◌, length, Option, Some, None, refl, sym, ap, ◌∙◌, subst, inl, inr, arith, length-append}
 use Rattle.std.specs.Prelude.{◌⊎◌, nat_lt, unwrap_or}
 use Rattle.std.proofs.lemmas.Bool.{cases_lt, cases_eq, ltb-true, both_ways}
@@ -11,20 +11,20 @@ use Rattle.grid_maker.proofs.Neighbours.{last_ends}
 
 -- ---- the unit to the right and the unit below
 
--- an option that hangs on a test gives its value where the test is true
+-- an option that depends on a test has a value only if the test is true
 told : (b : Bool) (a v : ℕ) → cond {A = Option ℕ} b (Some a) None ≡ Some v → (b ≡ true) × (v ≡ a)
 told true a v e = (refl, sym (ap (λ (o : Option ℕ). unwrap_or o 0) e))
 told false a v e = cc e
 
--- the unit to the right is the next, where this is not the last of its row
+-- the unit to the right is the next one, and the unit is not the last of its row
 pub right_is : (side u v : ℕ) → right side u ≡ Some v → (nat_lt (u % side + 1) side ≡ true) × (v ≡ u + 1)
 right_is side u v e = told (nat_lt (u % side + 1) side) (u + 1) v e
 
--- the unit below is one width further, where it is in the grid
+-- the unit below is one width further, and inside the grid
 pub below_is : (side u v : ℕ) → below side u ≡ Some v → (nat_lt (u + side) (side * side) ≡ true) × (v ≡ u + side)
 below_is side u v e = told (nat_lt (u + side) (side * side)) (u + side) v e
 
--- the unit to the right is greater, and in the grid
+-- the unit to the right is greater and inside the grid
 right_inside : (side u v : ℕ) → 0 < side → u < side * side → right side u ≡ Some v → (v ≡ u + 1) × (u < v) × (v < side * side)
 right_inside side u v some l e =
     let is = right_is side u v e in
@@ -34,7 +34,7 @@ right_inside side u v some l e =
       | inr off ↦ (next, omega (arith, next), omega (arith, next, l, off))
     ]
 
--- the unit below is greater, and in the grid
+-- the unit below is greater and inside the grid
 below_inside : (side u v : ℕ) → 0 < side → below side u ≡ Some v → (v ≡ u + side) × (u < v) × (v < side * side)
 below_inside side u v some e =
     let is = below_is side u v e in
@@ -42,18 +42,18 @@ below_inside side u v some e =
     let under = ltb-true (u + side) (side * side) is.0 in
     (next, omega (arith, next, some), omega (arith, next, under))
 
--- ---- pairs that rise
+-- ---- rising pairs
 
--- the pairs rise, and are before another
+-- the pairs rise, and all are before `top`
 record Rises (n : ℕ) (pairs : List (ℕ × ℕ)) (top : ℕ × ℕ) : Type 0 where
   are : ArePairs n pairs
   under : (k : ℕ) → k < length pairs → IsBefore (pair_at pairs k) top
 
--- pairs that rise below one that is before another rise below this
+-- a greater upper bound is an upper bound
 rises_on : (n : ℕ) (pairs : List (ℕ × ℕ)) (p q : ℕ × ℕ) → Rises n pairs p → IsBefore p q → Rises n pairs q
 rises_on n pairs p q r b = record { are = r.are; under = λ k l. before_trans (pair_at pairs k) p q (r.under k l) b }
 
--- what is true of each pair and of one more
+-- a property of all pairs and of one more holds of the extended list
 each_push : (P : ℕ × ℕ → Type 0) (pairs : List (ℕ × ℕ)) (p : ℕ × ℕ) → ((k : ℕ) → k < length pairs → P (pair_at pairs k)) → P p
     → (k : ℕ) → k < length (pairs ++ p ∷ []) → P (pair_at (pairs ++ p ∷ []) k)
 each_push P pairs p old new k l = elim (cases_lt k (length pairs)) [
@@ -61,7 +61,7 @@ each_push P pairs p old new k l = elim (cases_lt k (length pairs)) [
   | inr past ↦ subst P (sym (get_or_push pairs p (0, 0) k (omega (arith, past, l, length-append pairs (p ∷ []))))) new
 ]
 
--- pairs that rise still rise with one behind them that is greater
+-- appending a greater pair keeps the pairs rising
 rises_push : (n : ℕ) (pairs : List (ℕ × ℕ)) (p q : ℕ × ℕ) → Rises n pairs p → p.0 < p.1 → p.1 < n → IsBefore p q → Rises n (pairs ++ p ∷ []) q
 rises_push n pairs p q r up inside b = record {
   are = record {
@@ -80,7 +80,7 @@ rises_push n pairs p q r up inside b = record {
   under = each_push (λ (x : ℕ × ℕ). IsBefore x q) pairs p (λ k l. before_trans (pair_at pairs k) p q (r.under k l) b) b;
 }
 
--- pairs of a unit with one more neighbour still rise
+-- appending the pair of one more neighbor keeps the pairs rising
 rises_extended : (n : ℕ) (pairs : List (ℕ × ℕ)) (u : ℕ) (o : Option ℕ) (w : ℕ) (q : ℕ × ℕ) → Rises n pairs (u, w)
     → ((v : ℕ) → o ≡ Some v → (v ≡ w) × (u < v) × (v < n)) → IsBefore (u, w) q → Rises n (extended pairs u o) q
 rises_extended n pairs u None w q r inside b = rises_on n pairs (u, w) q r b
@@ -109,14 +109,14 @@ rises_until side (suc u) wide few =
 pub pairs_rise : (side : ℕ) → 2 ≤ side → ArePairs (side * side) (pairs_until side (side * side))
 pairs_rise side wide = (rises_until side (side * side) wide (omega arith)).are
 
--- ---- how many they are
+-- ---- the number of pairs
 
--- one pair is added at most
+-- at most one pair is appended
 length-extended : (pairs : List (ℕ × ℕ)) (u : ℕ) (o : Option ℕ) → length (extended pairs u o) ≤ length pairs + 1
 length-extended pairs u None = omega arith
 length-extended pairs u (Some v) = omega (arith, length-append pairs ((u, v) ∷ []))
 
--- there are at most two pairs for each unit
+-- there are at most two pairs per unit
 pub length-until : (side i : ℕ) → length (pairs_until side i) ≤ 2 * i
 length-until side zero = omega arith
 length-until side (suc u) =
@@ -124,17 +124,17 @@ length-until side (suc u) =
     let two = length-extended (extended (pairs_until side u) u (right side u)) u (below side u) in
     omega (arith, one, two, length-until side u)
 
--- ---- which pairs they are
+-- ---- membership
 
--- some pair has these ends
+-- some pair has these units
 HasPair : List (ℕ × ℕ) → ℕ → ℕ → Type 0
 HasPair pairs u v = (k : ℕ) × (k < length pairs) × (pair_at pairs k ≡ (u, v))
 
--- one unit is to the right of another or below it
+-- v is to the right of u or below it
 abbrev pub IsNext : ℕ → ℕ → ℕ → Type 0
 IsNext side u v = (right side u ≡ Some v) ⊎ (below side u ≡ Some v)
 
--- a pair that was there is there with one more
+-- appending keeps the pairs
 had : (pairs : List (ℕ × ℕ)) (w : ℕ) (o : Option ℕ) (u v : ℕ) → HasPair pairs u v → HasPair (extended pairs w o) u v
 unfolding HasPair
 had pairs w None u v h = h
@@ -142,13 +142,13 @@ had pairs w (Some x) u v h =
     let l = h.1 in
     (h.0, omega (arith, l, length-append pairs ((w, x) ∷ [])), get_or_append_left pairs ((w, x) ∷ []) (0, 0) h.0 h.1 ∙ h.2)
 
--- the pair that is added is there
+-- the appended pair is a member
 has_new : (pairs : List (ℕ × ℕ)) (u v : ℕ) (o : Option ℕ) → o ≡ Some v → HasPair (extended pairs u o) u v
 unfolding HasPair
 has_new pairs u v o e = subst (λ (p : Option ℕ). HasPair (extended pairs u p) u v) (sym e)
     (length pairs, omega (arith, length-append pairs ((u, v) ∷ [])), get_or_push pairs (u, v) (0, 0) (length pairs) refl)
 
--- a pair is there that was there before or is the one that is added
+-- each member is an older one or the appended pair
 had_or_new : (pairs : List (ℕ × ℕ)) (w : ℕ) (o : Option ℕ) (u v : ℕ) → HasPair (extended pairs w o) u v → HasPair pairs u v ⊎ ((u ≡ w) × (o ≡ Some v))
 unfolding HasPair
 had_or_new pairs w None u v h = inl h
@@ -161,7 +161,7 @@ had_or_new pairs w (Some x) u v h =
           inr (sym (ap (λ (p : ℕ × ℕ). p.0) is), ap (λ (p : ℕ × ℕ). Some p.1) is)
     ]
 
--- each pair is of a unit and its next to the right or below
+-- each pair joins a unit to the one on its right or below
 until_has : (side i u v : ℕ) → HasPair (pairs_until side i) u v → (u < i) × IsNext side u v
 unfolding HasPair
 until_has side zero u v h = let l = h.1 in absurd (omega (arith, l))
@@ -173,7 +173,7 @@ until_has side (suc w) u v h = elim (had_or_new (extended (pairs_until side w) w
   | inr new ↦ let e = new.0 in (omega (arith, e), inr (ap (below side) e ∙ new.1))
 ]
 
--- each unit has a pair with its next to the right and below
+-- each unit has a pair with the one on its right and with the one below
 has_until : (side i u v : ℕ) → u < i → IsNext side u v → HasPair (pairs_until side i) u v
 has_until side zero u v l next = absurd (omega (arith, l))
 has_until side (suc w) u v l next = elim (cases_eq u w) [
@@ -185,7 +185,7 @@ has_until side (suc w) u v l next = elim (cases_eq u w) [
       (had (pairs_until side w) w (right side w) u v (has_until side w u v (omega (arith, l, off)) next))
 ]
 
--- the pairs join the units of which one is next to the other
+-- units joined by a pair are next to each other, in one order or the other
 pub joins_next : (side n u v : ℕ) → Joins (pairs_until side n) u v → ((u < n) × IsNext side u v) ⊎ ((v < n) × IsNext side v u)
 unfolding HasPair
 joins_next side n u v j = elim j.2 [
@@ -193,17 +193,17 @@ joins_next side n u v j = elim j.2 [
   | inr e ↦ inr (until_has side n v u (j.0, j.1, e))
 ]
 
--- a unit and its next are joined by a pair
+-- a unit and the next one are joined by a pair
 pub next_joins : (side n u v : ℕ) → u < n → IsNext side u v → Joins (pairs_until side n) u v
 unfolding HasPair
 next_joins side n u v l next = let h = has_until side n u v l next in (h.0, h.1, inl h.2)
 
--- a next and its unit are joined by a pair
+-- joining is symmetric
 pub next_joins_back : (side n u v : ℕ) → v < n → IsNext side v u → Joins (pairs_until side n) u v
 unfolding HasPair
 next_joins_back side n u v l next = let h = has_until side n v u l next in (h.0, h.1, inr h.2)
 
--- the next unit is a greater one
+-- the next unit is greater and inside the grid
 pub next_inside : (side u v : ℕ) → 0 < side → u < side * side → IsNext side u v → (u < v) × (v < side * side)
 next_inside side u v some l next = elim next [
   | inl r ↦ let is = right_inside side u v some l r in (is.1, is.2)

@@ -1,4 +1,4 @@
--- Values one after another.
+-- Lists of JSON values, item by item.
 use Rattle.std.proofs.Common.{◌≡◌, ℕ, ◌+◌, List, [], ◌∷◌, ◌++◌, map, Option, refl, sym, ap, ◌∙◌, add-one}
 use Rattle.std.specs.Prelude.{option_to_list}
 use Rattle.serde_json.specs.Data.{Data}
@@ -7,12 +7,12 @@ use Rattle.serde_json.specs.declared.value.Value.{Value}
 use Rattle.audit_model.specs.Below.{map_below}
 use Rattle.std.proofs.lemmas.List.{map-append}
 
--- two lists of values are seen as what each is seen as
+-- the view of an appended list
 map_view-append : (vs ws : List Value) → map view (vs ++ ws) ≡ map view vs ++ map view ws
 map_view-append [] ws = refl
 map_view-append (v ∷ vs) ws = ap (λ (ds : List Data). view v ∷ ds) (map_view-append vs ws)
 
--- one value more
+-- appending one more value
 pub pushed : (n : ℕ) (f : ℕ → Data) (vs ws : List Value) (v : Value) → ws ≡ vs ++ v ∷ [] → map view vs ≡ map_below n f → view v ≡ f n
     → map view ws ≡ map_below (n + 1) f
 pushed n f vs ws v is before at =
@@ -21,14 +21,14 @@ pushed n f vs ws v is before at =
     ∙ ap (λ (d : Data). map_below n f ++ d ∷ []) at
     ∙ rw add-one refl
 
--- where an option's value is added to a list, what is seen of it is added to what is seen
+-- appending the value of an option, if there is one
 one_more : (f : ℕ → Data) (before after : List Data) (numbers : List ℕ) (o p : Option ℕ) → before ≡ map f numbers → o ≡ p
     → after ≡ before ++ map f (option_to_list o) → after ≡ map f (numbers ++ option_to_list p)
 one_more f before after numbers o p is same more =
     more ∙ ap (λ (q : Option ℕ). before ++ map f (option_to_list q)) same
     ∙ ap (λ (ds : List Data). ds ++ map f (option_to_list p)) is ∙ sym (map-append f numbers (option_to_list p))
 
--- what is there of four numbers, one after another
+-- appending up to four values
 pub four_more : (f : ℕ → Data) (none one two three four : List Data) (o₁ o₂ o₃ o₄ p₁ p₂ p₃ p₄ : Option ℕ) → none ≡ []
     → o₁ ≡ p₁ → one ≡ none ++ map f (option_to_list o₁)
     → o₂ ≡ p₂ → two ≡ one ++ map f (option_to_list o₂)

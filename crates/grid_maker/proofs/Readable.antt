@@ -1,4 +1,4 @@
--- The grid's text is read back as its tree.
+-- The grid's text parses back to its tree.
 use Rattle.std.proofs.Common.{◌≡◌, ℕ, zero, suc, ◌-◌, ◌/◌, ◌^◌, ◌<◌, ◌≤◌, Bool, true, false, cond, List, [], ◌∷◌, ◌++◌, map, codes, decimal, Option, Some, option_map, option_and_then, IsUtf8, refl, sym, ap, ◌∙◌, subst, arith, append-nil}
 use Rattle.std.proofs.lemmas.Fmt.{IsAscii-decimal}
 use Rattle.std.proofs.lemmas.Str.{IsUtf8-append, IsUtf8-from_ascii, is_utf8-from_IsUtf8}
@@ -24,11 +24,11 @@ use Rattle.grid_maker.specs.Tree.{entry_tree, neighbours_tree, node_tree, adjace
 use Rattle.grid_maker.proofs.Districts.{units_of, few_units, district_below}
 use Rattle.grid_maker.proofs.Compact.{entry_text, node_text, root_text, grid_text}
 
--- what is read, where no token is left
+-- the parsed value, if no token is left
 abbrev whole : Option (json.Json × List Token) → Option Data
 whole o = option_and_then of_json (option_and_then (λ p. json.if_last p.0 p.1) o)
 
--- the value's text is read back as the value, and it nests at most so deep
+-- the value's text parses back to the value, with a bounded nesting depth
 pub record IsReadable (deep : ℕ) (d : Data) : Type 0 where
   pub numbers : tree.HasNumbers (outline d)
   pub shallow : tree.depth (outline d) ≤ deep
@@ -39,18 +39,18 @@ abbrev AreReadable : ℕ → List Data → Type 0
 AreReadable deep [] = Unit {0}
 AreReadable deep (d ∷ ds) = IsReadable deep d × AreReadable deep ds
 
--- two lists of readable items are readable together
+-- appended lists of readable items are readable
 readable-append : (deep : ℕ) (ds es : List Data) → AreReadable deep ds → AreReadable deep es → AreReadable deep (ds ++ es)
 readable-append deep [] es h k = k
 readable-append deep (d ∷ ds) es h k = (h.0, readable-append deep ds es h.1 k)
 
--- values that are readable below a bound are a readable list
+-- a list built from readable values is readable
 readable_below : (deep n : ℕ) (f : ℕ → Data) → ((k : ℕ) → k < n → IsReadable deep (f k)) → AreReadable deep (map_below n f)
 readable_below deep zero f h = tt
 readable_below deep (suc n) f h =
     readable-append deep (map_below n f) (f n ∷ []) (readable_below deep n f (λ k l. h k (omega (arith, l)))) (h n (omega arith), tt)
 
--- values that are readable below a bound are readable where they are kept
+-- a filtered list of readable values is readable
 readable_filter : (deep n : ℕ) (test : ℕ → Bool) (f : ℕ → Data) → ((k : ℕ) → k < n → IsReadable deep (f k)) → AreReadable deep (map f (filter_below n test))
 readable_filter deep zero test f h = tt
 readable_filter deep (suc n) test f h =
@@ -63,38 +63,38 @@ readable_filter deep (suc n) test f h =
 
 -- ---- lists
 
--- readable items have numbers that can be read
+-- readable items have readable numbers
 items_numbers : (deep : ℕ) (ds : List Data) → AreReadable deep ds → tree.ItemsHaveNumbers (items_outline (items_of ds))
 items_numbers deep [] h = tt
 items_numbers deep (d ∷ ds) h = (h.0.numbers, items_numbers deep ds h.1)
 
--- readable items are no deeper than they may be
+-- readable items are within the nesting depth
 items_shallow : (deep : ℕ) (ds : List Data) → AreReadable deep ds → tree.items_depth (items_outline (items_of ds)) ≤ deep
 items_shallow deep [] h = omega arith
 items_shallow deep (d ∷ ds) h = omega (arith, h.0.shallow, items_shallow deep ds h.1)
 
--- readable items are read as what they are
+-- readable items parse back to themselves
 items_back : (deep : ℕ) (ds : List Data) → AreReadable deep ds → of_items (items_outline (items_of ds)) ≡ Some (items_of ds)
 items_back deep [] h = refl
 items_back deep (d ∷ ds) h = rw (h.0.back, items_back deep ds h.1) refl
 
--- a text behind a comma is text
+-- a comma before a text keeps it UTF-8
 comma_utf8 : (xs : List ℕ) → IsUtf8 xs → IsUtf8 (44 ∷ xs)
 comma_utf8 xs u = IsUtf8-append (44 ∷ []) xs (IsUtf8-are_ascii (44 ∷ []) refl) u
 
--- items behind the first are text
+-- the items after the first are UTF-8
 later_utf8 : (deep : ℕ) (ds : List Data) → AreReadable deep ds → IsUtf8 (items_text true (items_of ds))
 later_utf8 deep [] h = IsUtf8-are_ascii (93 ∷ []) refl
 later_utf8 deep (d ∷ ds) h = comma_utf8 (compact_text d ++ items_text true (items_of ds)) (IsUtf8-append (compact_text d) (items_text true (items_of ds)) h.0.utf8 (later_utf8 deep ds h.1))
 
--- a list of readable items is text
+-- an array of readable items is UTF-8
 list_utf8 : (deep : ℕ) (ds : List Data) → AreReadable deep ds → IsUtf8 (compact_text (array (items_of ds)))
 list_utf8 deep [] h = IsUtf8-are_ascii (91 ∷ 93 ∷ []) refl
 list_utf8 deep (d ∷ ds) h =
     IsUtf8-append (91 ∷ []) (compact_text d ++ items_text true (items_of ds)) (IsUtf8-are_ascii (91 ∷ []) refl)
     (IsUtf8-append (compact_text d) (items_text true (items_of ds)) h.0.utf8 (later_utf8 deep ds h.1))
 
--- a list of readable items is readable, one level deeper
+-- an array of readable items is readable, one level deeper
 list_readable : (deep : ℕ) (ds : List Data) → AreReadable deep ds → IsReadable (suc deep) (array (items_of ds))
 list_readable deep ds h = record {
   numbers = items_numbers deep ds h;
@@ -105,16 +105,16 @@ list_readable deep ds h = record {
 
 -- ---- the parts of the grid
 
--- the digits of a number are text
+-- the digits of a number are UTF-8
 decimal_utf8 : (n : ℕ) → n < 2 ^ 64 → IsUtf8 (decimal n)
 decimal_utf8 n h = IsUtf8-from_ascii (decimal n) (IsAscii-decimal n h)
 
--- a number and a text after it
+-- a number between two texts is UTF-8
 number_utf8 : (before after : List ℕ) (n : ℕ) → IsUtf8 before → n < 2 ^ 64 → are_ascii after ≡ true → IsUtf8 (before ++ decimal n ++ after)
 number_utf8 before after n u l a =
     IsUtf8-append (before ++ decimal n) after (IsUtf8-append before (decimal n) u (decimal_utf8 n l)) (IsUtf8-are_ascii after a)
 
--- a neighbour can be read
+-- an adjacency entry is readable
 entry_readable : (unit : ℕ) → unit < 2 ^ 64 → IsReadable 1 (entry_tree unit)
 entry_readable unit l = record {
   numbers = (IsNumber-decimal unit l, tt);
@@ -123,11 +123,11 @@ entry_readable unit l = record {
   utf8 = subst IsUtf8 (sym (entry_text unit)) (number_utf8 (codes "{\"id\":") (codes "}") unit (IsUtf8-are_ascii (codes "{\"id\":") refl) l refl);
 }
 
--- a text within texts
+-- a text between two texts is UTF-8
 part_utf8 : (before after part : List ℕ) → IsUtf8 before → IsUtf8 part → are_ascii after ≡ true → IsUtf8 (before ++ part ++ after)
 part_utf8 before after part u v a = IsUtf8-append (before ++ part) after (IsUtf8-append before part u v) (IsUtf8-are_ascii after a)
 
--- a root of readable nodes and lists can be read
+-- a root of readable parts is readable
 root_readable : (adjacency nodes : Data) → IsReadable 3 adjacency → IsReadable 2 nodes → IsReadable 4 (root_tree adjacency nodes)
 root_readable adjacency nodes a n = record {
   numbers = (a.numbers, (tt, (tt, (tt, (n.numbers, tt)))));

@@ -1,4 +1,4 @@
--- The grid's text is far shorter than the most that is read.
+-- The grid's text is far below the size limit of a source.
 use Rattle.std.proofs.Common.{◌≡◌, ℕ, zero, suc, ◌+◌, ◌-◌, ◌*◌, ◌<◌, ◌≤◌, List, [], ◌∷◌, ◌++◌, map, length, get_or, codes, Option, Some, None, sym, subst, arith, length-append, suc-mul}
 use Rattle.std.specs.Prelude.{decimal, option_to_list}
 use Rattle.std.specs.List.{join_with_byte}
@@ -13,23 +13,23 @@ use Rattle.grid_maker.proofs.Neighbours.{four_beside}
 
 -- ---- lists of texts
 
--- the lengths of the texts, and one for each
+-- the lengths of the texts, plus one byte each
 abbrev total : List (List ℕ) → ℕ
 total [] = 0
 total (x ∷ xs) = length x + 1 + total xs
 
--- joined parts are at most as long as all of them with a byte for each
+-- pieces joined by a byte are at most that long
 length-joined : (c : ℕ) (xs : List (List ℕ)) → length (join_with_byte c xs) ≤ total xs
 length-joined c [] = omega arith
 length-joined c (x ∷ []) = omega arith
 length-joined c (x ∷ y ∷ xs) = omega (arith, length-append x (c ∷ join_with_byte c (y ∷ xs)), length-joined c (y ∷ xs))
 
--- the total of two lists of parts is the sum of both
+-- the total of appended lists is the sum of both totals
 total-append : (xs ys : List (List ℕ)) → total (xs ++ ys) ≡ total xs + total ys
 total-append [] ys = omega arith
 total-append (x ∷ xs) ys = omega (arith, total-append xs ys)
 
--- n parts that are at most w bytes with their comma have at most n * w
+-- n pieces of at most w bytes, comma included, total at most n * w
 total-map_below : (n : ℕ) (f : ℕ → List ℕ) (w : ℕ) → ((i : ℕ) → i < n → length (f i) + 1 ≤ w) → total (map_below n f) ≤ n * w
 total-map_below zero f w h = omega arith
 total-map_below (suc n) f w h =
@@ -37,7 +37,7 @@ total-map_below (suc n) f w h =
     let here = h n (omega arith) in
     omega (arith, total-append (map_below n f) (f n ∷ []), before, here, suc-mul n w)
 
--- as many parts as items that are at most w bytes with their comma have at most w for each
+-- mapped pieces of at most w bytes, comma included, total at most w per item
 total-map : (xs : List ℕ) (f : ℕ → List ℕ) (w : ℕ) → ((i : ℕ) → i < length xs → length (f (get_or xs i 0)) + 1 ≤ w) → total (map f xs) ≤ length xs * w
 total-map [] f w h = omega arith
 total-map (x ∷ xs) f w h =
@@ -45,21 +45,21 @@ total-map (x ∷ xs) f w h =
     let after = total-map xs f w (λ i l. h (suc i) (omega (arith, l))) in
     omega (arith, here, after, suc-mul (length xs) w)
 
--- parts in brackets are at most two bytes longer than their total
+-- pieces in brackets are at most two bytes longer than their total
 length-bracketed : (parts : List (List ℕ)) → length (bracketed parts) ≤ total parts + 2
 length-bracketed parts = omega (arith, length-append (codes "[" ++ join_with_byte 44 parts) (codes "]"), length-joined 44 parts)
 
--- ---- the parts of the text, of given parts
+-- ---- bounds on the parts of the text
 
--- a number below 100000 has at most five digits
+-- a number below 100,000 has at most five digits
 length-number : (n : ℕ) → n < 100000 → length (decimal n) ≤ 5
 length-number n l = length-decimal-le 5 n (omega arith) (omega (arith, l)) (omega (arith, l))
 
--- a neighbour whose id has at most five digits is at most 12 bytes long
+-- an adjacency entry with at most five digits has at most 12 bytes
 entry_around : (v : List ℕ) → length v ≤ 5 → length (codes "{\"id\":" ++ v ++ codes "}") ≤ 12
 entry_around v short = omega (arith, short, length-append (codes "{\"id\":" ++ v) (codes "}"))
 
--- a node whose numbers have at most five digits is at most 59 bytes long
+-- a node whose numbers have at most five digits has at most 59 bytes
 node_around : (a b d u : List ℕ) → length a ≤ 5 → length b ≤ 5 → length d ≤ 5 → length u ≤ 5
     → length (codes "{\"a\":" ++ a ++ codes ",\"b\":" ++ b ++ codes ",\"district\":" ++ d ++ codes ",\"id\":" ++ u ++ codes ",\"pop\":100}") ≤ 59
 node_around a b d u la lb ld lu = omega (
@@ -77,7 +77,7 @@ node_around a b d u la lb ld lu = omega (
   length-append (codes "{\"a\":" ++ a ++ codes ",\"b\":" ++ b ++ codes ",\"district\":" ++ d ++ codes ",\"id\":" ++ u) (codes ",\"pop\":100}"),
 )
 
--- a grid whose parts are short is within the limit of a text
+-- a grid whose parts are short is within the size limit
 grid_around : (l n : List ℕ) → length l ≤ 4950002 → length n ≤ 5400002
     → length (codes "{\"adjacency\":" ++ l ++ codes ",\"directed\":false,\"graph\":[],\"multigraph\":false,\"nodes\":" ++ n ++ codes "}") ≤ 67108864
 grid_around l n ll ln = omega (

@@ -1,4 +1,4 @@
--- The units beside a unit of a grid with this many columns and as many rows.
+-- The adjacent units of a unit in a square grid with this many columns.
 use Rattle.std.specs.Prelude.{ℕ, ◌+◌, ◌-◌, ◌*◌, ◌%◌, nat_lt, nat_le, if◌then◌else◌, Option, Some, None}
 
 abbrev pub above : ℕ → ℕ → Option ℕ

@@ -1,4 +1,4 @@
--- The columns of the grid, which has no group.
+-- The columns of the grid. It has no group column.
 use Rattle.std.specs.Prelude.{codes, []}
 use Rattle.audit_model.specs.declared.setting.Columns.{Columns}
 

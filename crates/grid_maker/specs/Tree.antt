@@ -1,4 +1,4 @@
--- The grid as a JSON value.
+-- The grid as a JSON value, in networkx's adjacency format.
 use Rattle.std.specs.Prelude.{ℕ, ◌-◌, ◌*◌, ◌/◌, List, map, codes, false}
 use Rattle.serde_json.specs.Data.{Data, boolean, number, unsigned, array, object, no_items, member, no_members}
 use Rattle.serde_json.specs.View.{items_of}
@@ -11,7 +11,7 @@ entry_tree unit = object (member (codes "id") (number (unsigned unit)) no_member
 abbrev pub neighbours_tree : ℕ → ℕ → Data
 neighbours_tree size unit = array (items_of (map entry_tree (filter_below (grid_side size * grid_side size) (are_beside size unit))))
 
--- a unit with this many votes of the first party
+-- the node of a unit with this many votes for the first party
 abbrev pub unit_tree : ℕ → ℕ → ℕ → Data
 unit_tree size unit first = object (
     member (codes "a") (number (unsigned first))
@@ -29,7 +29,7 @@ adjacency_tree size = array (items_of (map_below (grid_side size * grid_side siz
 abbrev pub nodes_tree : ℕ → List ℕ → Data
 nodes_tree size key = array (items_of (map_below (grid_side size * grid_side size) (node_tree size key)))
 
--- the root, from the lists of neighbours and the nodes
+-- the root, from the adjacency lists and the nodes
 abbrev pub root_tree : Data → Data → Data
 root_tree adjacency nodes = object (
     member (codes "adjacency") adjacency

@@ -1,4 +1,4 @@
-//! The lists of neighbours.
+//! Adjacency lists of the grid.
 
 ghost use Rattle.std.specs.Prelude.{◌≡◌, ◌+◌, ◌*◌, ◌<◌, ◌≤◌, ◌^◌, ◌++◌, map, option_to_list, IfOk, OnOk};
 ghost use Rattle.serde_json.specs.View.{view};
@@ -11,7 +11,7 @@ use audit_model::memory::Memory;
 use serde_json::{Value, json};
 use std::alloc::Global;
 
-/// The unit to the right, in the same row.
+/// Returns the unit to the right in the same row.
 pub(crate) fn right(square: Square, unit: u32) -> Option<u32>
     requires { unit < grid_side square.size * grid_side square.size }
     ensures { result ≡ unit_right (grid_side square.size) unit }
@@ -24,7 +24,7 @@ pub(crate) fn right(square: Square, unit: u32) -> Option<u32>
     }
 }
 
-/// The unit below.
+/// Returns the unit below.
 pub(crate) fn below(square: Square, unit: u32) -> Option<u32>
     requires { unit < grid_side square.size * grid_side square.size }
     ensures { result ≡ unit_below (grid_side square.size) unit }
@@ -38,7 +38,7 @@ pub(crate) fn below(square: Square, unit: u32) -> Option<u32>
     }
 }
 
-/// The lists of all units.
+/// Builds the adjacency lists of all units.
 pub fn adjacency_of(alloc: Global, square: Square) -> Result<Value, Memory>
     ensures { IfOk result (λ value. view value ≡ adjacency_tree square.size) }
 {
@@ -50,14 +50,14 @@ pub fn adjacency_of(alloc: Global, square: Square) -> Result<Value, Memory>
     Ok(Value::Array(list))
 }
 
-/// The unit above.
+/// Returns the unit above.
 fn above(side: u32, unit: u32) -> Option<u32>
     ensures { result ≡ unit_above side unit }
 {
     unit.checked_sub(side)
 }
 
-/// The unit to the left, in the same row.
+/// Returns the unit to the left in the same row.
 fn left(square: Square, unit: u32) -> Option<u32>
     ensures { result ≡ unit_left (grid_side square.size) unit }
 {
@@ -69,7 +69,7 @@ fn left(square: Square, unit: u32) -> Option<u32>
     }
 }
 
-/// Appends the entry of a neighbour, where there is one.
+/// Appends the entry of a neighbor, if there is one.
 fn push_entry(alloc: Global, list: &mut Vec<Value>, neighbour: Option<u32>) -> Result<(), Memory>
     ensures { OnOk result (map view list.new.items ≡ map view list.old.items ++ map entry_tree (option_to_list neighbour)) }
 {
@@ -79,7 +79,7 @@ fn push_entry(alloc: Global, list: &mut Vec<Value>, neighbour: Option<u32>) -> R
     Ok(())
 }
 
-/// The neighbours of a unit, in rising order.
+/// Builds the adjacency list of a unit, in rising order.
 fn neighbours_of(alloc: Global, square: Square, unit: u32) -> Result<Value, Memory>
     requires { unit < grid_side square.size * grid_side square.size }
     ensures { IfOk result (λ value. view value ≡ neighbours_tree square.size unit) }

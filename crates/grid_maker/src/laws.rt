@@ -1,16 +1,16 @@
-//! Laws of the grid, each the contract of a function that does nothing.
+//! Laws of the grid. Each is the contract of a function with an empty body.
 
 ghost use Rattle.std.specs.Prelude.{ℕ, ◌≤◌, List, length, IsOk};
 ghost use Rattle.audit_statement.specs.Grid.{grid};
 ghost use Rattle.audit_statement.specs.Reading.{reading};
 ghost use Rattle.grid_maker.specs.Columns.{grid_columns};
 
-/// The grid of each size and key is read without a refusal.
+/// Shows that each grid parses without a fault.
 pub fn grids_are_graphs()
     ensures { (size : ℕ) (key : List ℕ) → 1 ≤ size → size ≤ 30 → IsOk (reading (grid size key) grid_columns) }
 {}
 
-/// The text of each grid has at most as many bytes as the text of a graph may have.
+/// Shows that the text of each grid is within the size limit of a source.
 pub fn grids_are_short()
     ensures { (size : ℕ) (key : List ℕ) → 1 ≤ size → size ≤ 30 → length (grid size key) ≤ 67108864 }
 {}

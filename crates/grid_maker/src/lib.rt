@@ -1,4 +1,4 @@
-//! The grid that the program makes, as the JSON of a graph.
+//! The grid that `make` writes, as JSON in networkx's adjacency format and as parsed data.
 #![tactic(auto)]
 
 ghost use Rattle.std.specs.Prelude.{◌≡◌, ◌≤◌, false, IfOk};
@@ -23,7 +23,8 @@ pub use made::read_made;
 use serde_json::{Value, json};
 use std::alloc::Global;
 
-/// The grid of a size, whose votes are drawn under a key: ten times the size is the number of its rows and of its columns.
+/// Writes the grid of a size as JSON. It has `10 * size` rows and columns, and its votes are drawn
+/// with `key`. Fails if there is no memory.
 pub fn make(alloc: Global, size: u32, key: [u8; 32]) -> Result<Bytes, Memory>
     requires { (1 ≤ size) × (size ≤ 30) }
     ensures { IfOk result (λ bytes. bytes.items ≡ grid size key) }
@@ -35,7 +36,7 @@ pub fn make(alloc: Global, size: u32, key: [u8; 32]) -> Result<Bytes, Memory>
     written(alloc, &root)
 }
 
-/// The root of the JSON, from the lists of neighbours and the nodes.
+/// Builds the root of the JSON from the adjacency lists and the nodes.
 fn root_of(alloc: Global, adjacency: Value, nodes: Value) -> Result<Value, Memory>
     ensures { IfOk result (λ root. view root ≡ root_tree (view adjacency) (view nodes)) }
 {
@@ -48,7 +49,7 @@ fn root_of(alloc: Global, adjacency: Value, nodes: Value) -> Result<Value, Memor
     })?)
 }
 
-/// The text of a value, with no space.
+/// Serializes a value without spaces.
 fn written(alloc: Global, value: &Value) -> Result<Bytes, Memory>
     requires { has_float (view value.now) ≡ false }
     ensures { IfOk result (λ bytes. bytes.items ≡ compact_text (view value.now)) }

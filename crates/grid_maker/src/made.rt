@@ -1,4 +1,4 @@
-//! What is read of the grid, with no text between.
+//! The grid as parsed data, without a text in between.
 
 ghost use Rattle.std.specs.Prelude.{◌≡◌, ◌-◌, ◌*◌, ◌/◌, ◌≤◌, [], Ok, pos, length, IfOk, OnOk};
 ghost use Rattle.audit_model.specs.declared.setting.Label.TheVariants.{Whole};
@@ -23,7 +23,8 @@ use dual_graph::graph::Graph;
 use dual_graph::parsed::Parsed;
 use std::alloc::Global;
 
-/// What is read of the grid of a size, whose votes are drawn under a key: what [`crate::make`] writes need not be written for it.
+/// Builds directly the data that would be parsed from the text of [`crate::make`]. Fails if there
+/// is no memory.
 pub fn read_made(alloc: Global, size: u32, key: [u8; 32]) -> Result<Parsed, Memory>
     requires { (1 ≤ size) × (size ≤ 30) }
     ensures read { IfOk result (λ p. reading (grid size key) grid_columns ≡ Ok (parsed_of p)) }
@@ -46,7 +47,7 @@ pub fn read_made(alloc: Global, size: u32, key: [u8; 32]) -> Result<Parsed, Memo
     })
 }
 
-/// Appends the pair of a unit and another, where there is another.
+/// Appends the pair of a unit and a neighbor, if there is one.
 fn push_pair(pairs: &mut Vec<(u32, u32)>, unit: u32, other: Option<u32>) -> Result<(), Memory>
     ensures { OnOk result (pairs.new.items ≡ extended pairs.old.items unit other) }
 {
@@ -56,7 +57,7 @@ fn push_pair(pairs: &mut Vec<(u32, u32)>, unit: u32, other: Option<u32>) -> Resu
     Ok(())
 }
 
-/// The pairs of units beside each other, in rising order.
+/// Lists the pairs of adjacent units, in rising order.
 fn pairs_of(alloc: Global, square: Square) -> Result<Vec<(u32, u32)>, Memory>
     ensures { IfOk result (λ pairs. pairs.items ≡ pairs_until (grid_side square.size) (grid_side square.size * grid_side square.size)) }
 {
@@ -69,7 +70,7 @@ fn pairs_of(alloc: Global, square: Square) -> Result<Vec<(u32, u32)>, Memory>
     Ok(pairs)
 }
 
-/// The population and the votes of each unit.
+/// Draws the votes of each unit. Every unit has 100 people.
 fn counts_of(alloc: Global, square: Square, key: [u8; 32]) -> Result<Counts, Memory>
     ensures population { IfOk result (λ counts. counts.population ≡ map_below (grid_side square.size * grid_side square.size) (λ u. 100)) }
     ensures first { IfOk result (λ counts. counts.first ≡ map_below (grid_side square.size * grid_side square.size) (first_votes_of key)) }
@@ -93,7 +94,7 @@ fn counts_of(alloc: Global, square: Square, key: [u8; 32]) -> Result<Counts, Mem
     })
 }
 
-/// No group, for the grid has none.
+/// Returns the empty group; the grid has no group column.
 fn no_group(alloc: Global) -> Group
     ensures { result ≡ record { members = []; whole = [] } }
 {
@@ -103,7 +104,7 @@ fn no_group(alloc: Global) -> Group
     }
 }
 
-/// The district of each unit.
+/// Assigns districts: each consists of `size` full rows.
 fn start_of(alloc: Global, square: Square) -> Result<UnitList, Memory>
     ensures { IfOk result (λ start. start ≡ map_below (grid_side square.size * grid_side square.size) (λ u. u / grid_side square.size / square.size)) }
 {
@@ -115,7 +116,7 @@ fn start_of(alloc: Global, square: Square) -> Result<UnitList, Memory>
     Ok(start)
 }
 
-/// The labels of the ten districts.
+/// Labels the ten districts 0 to 9.
 fn ten_labels(alloc: Global) -> Result<LabelList, Memory>
     ensures { IfOk result (λ labels. labels ≡ map_below 10 (λ d. Whole (pos d))) }
 {

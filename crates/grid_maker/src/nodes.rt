@@ -1,4 +1,4 @@
-//! The nodes: each unit with its votes, its district and its population.
+//! The nodes of the grid, with votes, district and population.
 
 ghost use Rattle.std.specs.Prelude.{◌≡◌, ◌*◌, ◌<◌, ◌≤◌, IfOk};
 ghost use Rattle.serde_json.specs.View.{view};
@@ -11,10 +11,10 @@ use chacha_draws::Draws;
 use serde_json::{Value, json};
 use std::alloc::Global;
 
-/// The stream of the draws of which the votes are made.
+/// The stream from which the votes are drawn. Trajectories use streams far below it.
 pub(crate) const VOTES_STREAM: u64 = 4_294_967_296;
 
-/// All units.
+/// Builds the nodes of all units.
 pub fn nodes_of(alloc: Global, square: Square, key: [u8; 32]) -> Result<Value, Memory>
     ensures { IfOk result (λ value. view value ≡ nodes_tree square.size key) }
 {
@@ -28,7 +28,8 @@ pub fn nodes_of(alloc: Global, square: Square, key: [u8; 32]) -> Result<Value, M
     Ok(Value::Array(list))
 }
 
-/// A unit of 100 people, of whom so many vote for the first party and the others for the second.
+/// Builds the node of a unit with 100 people: `first` of them vote for the first party, the others
+/// for the second.
 fn node_of(alloc: Global, square: Square, unit: u32, first: u64) -> Result<Value, Memory>
     requires { first ≤ 100 }
     ensures { IfOk result (λ value. view value ≡ unit_tree square.size unit first) }

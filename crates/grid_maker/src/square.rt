@@ -2,7 +2,7 @@
 
 ghost use Rattle.std.specs.Prelude.{◌≤◌};
 
-/// The square of the units of a grid: ten times the size is the number of its rows and of its columns.
+/// A square grid with `10 * size` rows and columns.
 #[derive(Clone, Copy)]
 pub struct Square {
     pub size: u32,
