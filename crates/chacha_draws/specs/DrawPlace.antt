@@ -1,7 +1,7 @@
--- A place among the numbered draws of a key.
+-- A position among the numbered draws of a key.
 use Rattle.std.specs.Prelude.{ℕ, List}
 
--- the key's bytes, the number of the stream, and how many draws of it were given out
+-- the key's bytes, the stream, and the number of draws already taken from it
 pub record DrawPlace : Type 0 where
   pub key : List ℕ
   pub stream : ℕ

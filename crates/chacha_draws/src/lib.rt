@@ -1,4 +1,4 @@
-//! The numbered draws of a key: 64-bit numbers from the ChaCha20 streams of RFC 8439's block function.
+//! Numbered draws of a key: 64-bit numbers from ChaCha20 (the block function of RFC 8439).
 #![tactic(auto)]
 
 ghost use Rattle.std.specs.Prelude.{◌≡◌, ◌+◌, ◌<◌, ◌^◌};
@@ -9,7 +9,7 @@ use rand_core::SeedableRng;
 use rand_core::utils::next_u64_via_u32;
 use std::marker::Model;
 
-/// A place in one stream of a key.
+/// A position in one stream of a key.
 #[derive(Drop)]
 pub struct Draws {
     key: [u8; 32],
@@ -29,7 +29,7 @@ impl Model for Draws {
 }
 
 impl Draws {
-    /// The first place of a stream.
+    /// Starts at the first draw of a stream.
     pub fn new(key: [u8; 32], stream: u64) -> Draws
         ensures key { result.key ≡ key }
         ensures stream { result.stream ≡ stream }
@@ -40,7 +40,7 @@ impl Draws {
         Draws { key, words }
     }
 
-    /// The draw at this place, which moves to the next.
+    /// Returns the next draw. Two 32-bit words make a draw, the first of them the lower half.
     #[inline]
     pub fn next(&mut self) -> u64
         requires { self.old.place < 2 ^ 32 }

@@ -6,7 +6,7 @@ use Rattle.rand_core.specs.Steps.{u64_via_u32}
 use Rattle.chacha_draws.specs.DrawPlace.{DrawPlace}
 use Rattle.chacha_draws.proofs.Draws.next.Goals as goal
 
--- two words from an even place on, the first one the lower half
+-- the two words at an even position make the draw, lower half first
 two_words : (words : ChaCha) (key : List ℕ) (place : ℕ) → words.key ≡ key_of key → words.word_pos ≡ 2 * place → place < 2 ^ 32
     → (u64_via_u32 (next_word 10) words).0 ≡ draw key words.stream place
 unfolding draw
