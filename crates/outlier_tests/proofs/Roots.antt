@@ -1,11 +1,11 @@
--- The bound from an integer root.
+-- The bound, computed from an integer square root.
 use Rattle.std.proofs.Common.{◌≡◌, ◌∙◌, ℕ, suc, ◌+◌, ◌-◌, ◌*◌, ◌/◌, ◌%◌, ◌^◌, ◌<◌, ◌≤◌, sym, arith}
 use Rattle.std.proofs.lemmas.Bool.{le-leb, lt-ltb}
 use Rattle.std.proofs.lemmas.Nat.{mul-le, div-add-mod', mod_below}
 use Rattle.audit_model.specs.Test.{bound}
 use Rattle.audit_model.proofs.Least.{bound_from}
 
--- the root of the last quotient that is too small is one less than the bound
+-- one more than the root of the greatest quotient that is too small is the bound
 pub bound_from_root : (count all part r : ℕ) → 1 ≤ count → count ≤ all
     → part ≡ (2 * count * 10 ^ 18 - 1) / all → r * r ≤ part → part < (r + 1) * (r + 1) → r + 1 ≡ bound count all
 bound_from_root count all part r some l is low high =

@@ -1,4 +1,4 @@
-//! The numbers that the outlier tests print: tails, bounds, ranks and p-values.
+//! The numbers of the outlier tests: tails, bounds, ranks and p-values.
 #![tactic(auto)]
 
 ghost use Rattle.std.specs.Prelude.{◌≡◌, ◌*◌, ◌^◌, ◌<◌, ◌≤◌, nat_le};
@@ -13,7 +13,8 @@ const BILLION: u64 = 1_000_000_000;
 
 const BILLION_SQUARED: u128 = 1_000_000_000_000_000_000;
 
-/// Whether a value is at least as extreme as the start's: at most it in the low tail, at least it in the high one.
+/// Returns true if a value is at least as extreme as the start plan's: at most `start` in the low
+/// tail, at least `start` in the high one.
 #[inline]
 pub fn in_tail(tail: Tail, value: i64, start: i64) -> bool
     ensures { result ≡ trajectory.in_tail tail value start }
@@ -24,21 +25,25 @@ pub fn in_tail(tail: Tail, value: i64, start: i64) -> bool
     }
 }
 
-/// The significance of a start where `count` of the `of` visits of a trajectory are in its tail, the start among them:
-/// the square root of twice that part, which Chikina, Frieze and Pegden prove, in billionths and rounded up.
+/// Returns the significance of a start plan with `count` of `of` visited plans in its tail, itself
+/// included.
+///
+/// It is the square root of `2 * count / of`, in billionths, rounded up (Chikina, Frieze and
+/// Pegden).
 pub fn bound(count: u64, of: u64) -> u64
     requires count { (1 ≤ count) × (count ≤ of) }
     requires few { of ≤ 1000000001 }
     ensures value { result ≡ test.bound count of }
     ensures least { IsLeast (λ r. nat_le (2 * count * 10 ^ 18) (r * r * of)) result }
 {
-    // A number is large enough exactly where its square is above this.
+    // The least r with r * r > short is the least with 2 * count * 10^18 <= r * r * of.
     let short = (2 * u128::from(count) * BILLION_SQUARED - 1) / u128::from(of);
     (short as u64).isqrt() + 1
 }
 
-/// The start's rank among the ends of the parallel test: one plus the number of ends whose value at the place `ask` is
-/// in the tail.
+/// Returns the start plan's rank among the endpoints of the parallel test (Besag and Clifford).
+///
+/// It is one plus the number of endpoints whose value at the place `ask` is in the tail.
 pub fn rank(tail: Tail, start: i64, ask: u32, ends: &[Outcome]) -> u64
     requires { ask < 4 }
     ensures { result ≡ trajectory.rank_among tail start ask ends.now }
@@ -52,8 +57,8 @@ pub fn rank(tail: Tail, start: i64, ask: u32, ends: &[Outcome]) -> u64
     rank
 }
 
-/// The p-value of Besag and Clifford's parallel test for the start's rank among `of` values, its own among them, in
-/// billionths and rounded up.
+/// Returns the p-value `rank / of` of the parallel test (Besag and Clifford), in billionths,
+/// rounded up. `of` counts the start plan too.
 pub fn p_value(rank: u64, of: u64) -> u64
     requires rank { (1 ≤ rank) × (rank ≤ of) }
     requires few { of ≤ 1000000001 }
