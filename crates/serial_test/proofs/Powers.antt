@@ -17,14 +17,14 @@ divides_draws of h =
     let rest : (64 - k) + k ≡ 64 = omega (arith, some.1) in
     (2 ^ (64 - k), ap (λ (n : ℕ). 2 ^ (64 - k) * n) (sym same) ∙ sym (pow-add 2 (64 - k) k) ∙ ap (λ (n : ℕ). 2 ^ n) rest)
 
--- a power of two of no more than a walk's plans is at most 2 ^ 29
+-- a power of two that is at most the plans of a walk is at most 2 ^ 29
 few_places : (k n : ℕ) → 2 ^ k ≡ n → n ≤ 1000000001 → n ≤ 536870912
 few_places k n same few = elim (cases_lt k 30) [
   | inl low ↦ let most : 2 ^ k ≤ 2 ^ 29 = pow_mono {i = k} {j = 29} (omega (arith, low)) in omega (arith, same, most)
   | inr high ↦ let least : 2 ^ 30 ≤ 2 ^ k = pow_mono {i = 30} {j = k} high in absurd (omega (arith, same, few, least))
 ]
 
--- a run of at most 10 ^ 9 steps that visits as many plans as a power of two visits at most 2 ^ 29
+-- a run whose number of plans is a power of two has at most 2 ^ 29 plans
 pub run_has_places : (steps : ℕ) → 1 ≤ steps → steps ≤ 1000000000 → is_power_of_two (steps + 1) ≡ true → ArePlaces (steps + 1)
 run_has_places steps some few power =
     let found = any_below_some 64 (λ k. 2 ^ k == steps + 1) power in

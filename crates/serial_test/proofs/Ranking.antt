@@ -1,4 +1,4 @@
--- The ranks that both runs give are the definition's.
+-- The ranks computed from both runs are those of the definition.
 use Rattle.std.proofs.Common.{◌≡◌, ◌∙◌, ℕ, zero, suc, ◌+◌, ◌-◌, ◌<◌, ◌≤◌, Bool, cond, List, [], ◌∷◌, ◌++◌, length, map, take, replicate, ap, refl, arith}
 use Rattle.std.specs.Prelude.{pos, slice_index}
 use Rattle.std.proofs.Math.Path.{fun_ext}
@@ -15,13 +15,13 @@ use Rattle.serial_test.specs.Ranks.{HasRanks, ranks_of}
 
 -- ---- the start plan is in its own tail
 
--- the first number beside the others
+-- a count, split off at its first number
 count_below_first : (n : ℕ) (test : ℕ → Bool) → count_below (suc n) test ≡ cond (test 0) 1 0 + count_below n (λ i. test (suc i))
 unfolding count_below
 count_below_first zero test = omega arith
 count_below_first (suc n) test = omega (arith, count_below_first n test)
 
--- the start, and the plans after it
+-- visits in the tail are the start plan and the later visits
 visits_are_later : (job : Job) (draws : ℕ → ℕ) (steps : ℕ) (ask : Ask) → visits_in_tail job draws steps ask ≡ 1 + later_visits_in_tail job draws steps ask
 unfolding visit
 visits_are_later job draws steps ask =
@@ -32,7 +32,7 @@ visits_are_later job draws steps ask =
 
 -- ---- the ranks
 
--- at each ask's place, and zeros after them
+-- the list has each ask's value at its place, and then zeros
 ranks_are : (f g : Ask → ℕ) (asks : List Ask)
     → ranks_of (four_values (map (λ ask. pos (f ask)) asks)) (four_values (map (λ ask. pos (g ask)) asks)) ≡ take 4 (map (λ ask. f ask + (g ask - 1)) asks ++ replicate 4 0)
 ranks_are f g [] = refl
@@ -41,7 +41,7 @@ ranks_are f g (a ∷ b ∷ []) = refl
 ranks_are f g (a ∷ b ∷ c ∷ []) = refl
 ranks_are f g (a ∷ b ∷ c ∷ d ∷ rest) = refl
 
--- what holds of what a function gives of any ask holds at each ask's place
+-- a property of the function's values holds at each ask's place
 each_rank : (n : ℕ) (P : ℕ → Type 0) (f : Ask → ℕ) (asks : List Ask) (zeros : List ℕ) (k : ℕ) → ((ask : Ask) → P (f ask))
     → length asks ≤ n → k < length asks → P (slice_index (take n (map f asks ++ zeros)) k)
 each_rank n P f [] zeros k each few l = absurd (omega arith)
@@ -74,20 +74,20 @@ module _ (job : Job) (draws : Draws) (place : ℕ) where
   ranks_within inside few = λ k l.
       each_rank 4 (λ r. (1 ≤ r) × (r ≤ job.setting.steps + 1)) (serial_rank job draws place) job.setting.asks (replicate 4 0) k (rank_within inside) few l
 
--- ---- what is found
+-- ---- the results of a run
 
--- no more steps change the plan than are made
+-- at most all steps change the plan
 few_moves : (job : Job) (draws : Draws) (stream steps : ℕ) → moves job (draws stream) job.start steps ≤ steps
 few_moves job draws stream steps = count_below_le steps _
 
--- no more steps of a run move than it has
+-- a run has at most as many moves as steps
 pub moves_few : (job : Job) (draws : Draws) (stream steps : ℕ) (found : Outcome) → found ≡ run_outcome job draws stream steps → found.moved ≤ steps
 moves_few job draws stream steps found is = let same = ap (λ (o : Outcome). o.moved) is in omega (arith, same, few_moves job draws stream steps)
 
 abbrev found : ℕ → ℕ → List ℕ → Serial
 found place moved ranks = record { place = place; moved = moved; ranks = ranks }
 
--- what both runs find is the serial test of the definition
+-- the results of both runs are the serial test of the definition
 pub serial_found : (job : Job) (draws : Draws) (drawn of place : ℕ) (forward backward : Outcome) (ranks : List ℕ)
     → drawn ≡ draws 8589934592 0 → of ≡ job.setting.steps + 1 → place ≡ serial_place drawn of
     → forward ≡ run_outcome job draws 8589934593 place → backward ≡ run_outcome job draws 8589934594 (job.setting.steps - place)

@@ -1,4 +1,4 @@
--- Among how many plans a draw gives a place.
+-- Numbers of positions that divide the draws evenly.
 use Rattle.std.specs.Prelude.{◌≡◌, ℕ, ◌*◌, ◌^◌, ◌≤◌, IsTrue}
 use Rattle.audit_model.specs.Power.{is_power_of_two}
 
@@ -8,6 +8,6 @@ pub record ArePlaces (of : ℕ) : Type 0 where
   pub few : of ≤ 536870912
   pub power : IsTrue (is_power_of_two of)
 
--- the draws of 64 bits are so many rounds of the places: each place is that of as many draws as another
+-- the 2 ^ 64 draws are a multiple of the positions, so each position has equally many draws
 abbrev pub DividesDraws : ℕ → Type 0
 DividesDraws of = (rounds : ℕ) × (rounds * of ≡ 2 ^ 64)

@@ -1,5 +1,7 @@
-//! The serial test of Besag and Clifford: one run of steps through the start plan, at whose drawn place the start plan stands, and the
-//! start plan's rank among all plans of the run. It needs no hub, and each step counts.
+//! The serial test of Besag and Clifford.
+//!
+//! One run of steps passes through the start plan, whose position in the run is drawn. The rank of
+//! the start plan counts all plans of the run. The test needs no hub, and uses every step.
 #![tactic(auto)]
 
 mod ranks;

@@ -1,9 +1,9 @@
-//! The ranks of the start plan.
+//! Ranks of the start plan.
 
 ghost use Rattle.std.specs.Prelude.{◌≡◌, ◌+◌, ◌-◌, ◌<◌, ◌∷◌, [], slice_index, unsigned_abs};
 ghost use Rattle.serial_test.specs.Ranks.{rank_of, ranks_of};
 
-/// The rank at each of four places.
+/// Returns the rank at each of the four places.
 pub fn ranks(forward: [i64; 4], backward: [i64; 4]) -> [u64; 4]
     ensures { result ≡ ranks_of forward backward }
 {
@@ -15,7 +15,8 @@ pub fn ranks(forward: [i64; 4], backward: [i64; 4]) -> [u64; 4]
     ]
 }
 
-/// How many plans of both runs are in the tail of an ask, where the start plan counts once. It is 0 where both numbers are, as they are past the asks.
+/// Adds the plans in the tail of both runs, counting the start plan once. Past the asks both
+/// numbers are 0, and so is the rank.
 fn rank(forward: i64, backward: i64) -> u64
     ensures { result ≡ rank_of forward backward }
 {

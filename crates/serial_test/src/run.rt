@@ -1,4 +1,4 @@
-//! Both runs from the start plan.
+//! The two runs from the start plan.
 
 ghost use Rattle.std.specs.Prelude.{◌≡◌, ◌+◌, ◌≤◌, IsTrue};
 ghost use Rattle.audit_statement.specs.Draw.{draw};
@@ -15,18 +15,20 @@ use flip_guard::judge::Judge;
 use plan_core::job::Job;
 use walker::walker::Walker;
 
-/// The stream whose first draw is the start plan's place.
+/// The stream whose first draw gives the start plan's position.
 const PLACE_STREAM: u64 = 8_589_934_592;
 
 /// The stream of the steps from the start plan to the end of the run.
 const FORWARD_STREAM: u64 = 8_589_934_593;
 
-/// The stream of the steps from the start plan to the front of the run.
+/// The stream of the steps from the start plan to the beginning of the run.
 const BACKWARD_STREAM: u64 = 8_589_934_594;
 
-/// Besag and Clifford's serial test of the job's start plan. The run has as many steps as a walk of the job: as many as the drawn place says in one
-/// direction, and the rest in the other. A rank is a number of plans of the run, and those past the asks are 0. It takes no memory, and what the
-/// walker held before is not looked at.
+/// Runs the serial test of the job's start plan (Besag and Clifford).
+///
+/// The run has as many steps as a walk. The drawn position is the number of forward steps; the rest
+/// are backward steps. A rank counts plans of the run, and is 0 past the asks. It allocates
+/// nothing, and ignores the walker's earlier state.
 pub fn serial<J: Judge>(walker: &mut Walker<J>, job: &Job) -> Serial
     requires made { walker.old.job ≡ job.now }
     requires some { 1 ≤ job.now.setting.steps }
@@ -37,9 +39,9 @@ pub fn serial<J: Judge>(walker: &mut Walker<J>, job: &Job) -> Serial
     ensures legal { RunsStayLegal job.now }
     ensures made { walker.new.job ≡ job.now }
 {
-    // A law, called for what its contract says: each plan that is visited from a legal plan is legal.
+    // Called for its contract: each plan visited from a legal plan is legal.
     visits_stay_legal();
-    // Called for what its contract says: the job is within its limits, and its start plan is legal.
+    // Called for its contract: the job is within its limits, and its start plan is legal.
     let _units = job.units();
     let setting = job.setting();
     let steps = setting.steps;
