@@ -1,4 +1,4 @@
--- Rules by which the cut edges alone decide.
+-- Rules that only limit the cut edges.
 use Rattle.std.proofs.Common.{◌≡◌, ℕ, ◌≤◌, Bool, true, false, ◌&&◌, List, [], refl, ap, ◌∙◌, arith}
 use Rattle.std.specs.Prelude.{nat_le}
 use Rattle.std.proofs.lemmas.Bool.{le-leb, and_from}
@@ -8,12 +8,12 @@ use Rattle.audit_model.specs.Meets.{are_whole, majorities, meets_rules, split_re
 use Rattle.audit_model.proofs.Below.{count_below_zero}
 use Rattle.flip_guard.specs.Limiting.{LimitNothing}
 
--- a test beside others that pass
+-- a conjunction of a test with tests that pass is that test
 beside_passed : (a b c d e : Bool) → b ≡ true → c ≡ true → d ≡ true → e ≡ true → (a && b && c && d && e) ≡ a
 beside_passed true b c d e hb hc hd he = and_from (b && c && d) e (and_from (b && c) d (and_from b c hb hc) hd) he
 beside_passed false b c d e hb hc hd he = refl
 
--- with no regions, and no majority asked for, the cut edges decide
+-- without regions and group majorities, the cut edges decide
 pub by_cut_alone : (rules : Rules) (cut : ℕ) (plan : List ℕ) → rules.regions ≡ [] → rules.group_districts ≡ 0
     → meets_rules rules cut plan ≡ nat_le cut rules.max_cut
 by_cut_alone rules cut plan none no_group =

@@ -3,7 +3,7 @@ use Rattle.std.specs.Prelude.{◌≡◌, ◌≤◌, []}
 use Rattle.audit_model.specs.declared.rules.Rules.{Rules}
 use Rattle.audit_model.specs.Limits.{most_edges}
 
--- as many edges may be cut as a graph may have, there are no regions, and no majority is asked for
+-- every edge may be cut, there are no regions, and no group majority is required
 pub record LimitNothing (rules : Rules) : Type 0 where
   pub all_cuts : most_edges ≤ rules.max_cut
   pub no_regions : rules.regions ≡ []

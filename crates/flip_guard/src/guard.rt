@@ -1,4 +1,4 @@
-//! A judge by a stored closure.
+//! A constraint by a stored closure.
 
 ghost use Rattle.std.specs.Prelude.{◌≡◌, ◌<◌, ◌≤◌, ◌↔◌, ◌^◌, [], ⊤, nat_le, Bool, IsTrue, true};
 ghost use Rattle.std.specs.Fn.{FnReturnsAt};
@@ -9,11 +9,10 @@ use crate::judge::Judge;
 use audit_model::outcome::SumsView;
 use audit_model::rules::Rules;
 
-/// The most edges that a graph may have.
+/// The maximum number of edges of a graph.
 const MOST_EDGES: u32 = 400_000;
 
-/// A closure that tests the cut edges of a plan, beside the fact that it may be called on all sums and answers whether there are no more
-/// than the rules allow.
+/// A closure that decides on the cut edges of a plan, together with the rules that it implements.
 #[derive(Drop)]
 pub struct Guard<F> {
     test: F,
@@ -21,8 +20,9 @@ pub struct Guard<F> {
 }
 
 impl<F: Fn(&SumsView) -> bool + Drop> Guard<F> {
-    /// A judge by a closure that answers whether the cut edges are no more than the rules allow. There are no regions, and no majority is
-    /// asked for.
+    /// Wraps a closure that returns true if the cut edges are at most the rules' maximum.
+    ///
+    /// The rules have no regions and require no group majority.
     pub fn new(test: F, rules: Rules) -> Guard<F>
         requires callable { F.IsAlwaysCallable test }
         requires answers { (sums : Sums) (answer : Bool) → sums.cut < 2 ^ 32 → FnReturnsAt F.Fn test sums answer → answer ≡ nat_le sums.cut rules.max_cut }
@@ -34,18 +34,18 @@ impl<F: Fn(&SumsView) -> bool + Drop> Guard<F> {
         Guard { test, rules }
     }
 
-    /// Whether the cut edges are no more than the rules allow.
+    /// Returns true if the cut edges are at most the rules' maximum.
     pub fn allows(&self, sums: &SumsView) -> bool
         requires callable { F.IsAlwaysCallable self.now.test }
         requires answers { (sums : Sums) (answer : Bool) → sums.cut < 2 ^ 32 → FnReturnsAt F.Fn self.now.test sums answer → answer ≡ nat_le sums.cut self.now.rules.max_cut }
         ensures { result ≡ nat_le sums.now.cut self.now.rules.max_cut }
     {
-        // Read for the proof alone: the number fits 32 bits.
+        // Reading the field shows the prover that the number fits in 32 bits.
         let _cut = sums.cut;
         (self.test)(sums)
     }
 
-    /// Whether the rules allow as many cut edges as a graph may have.
+    /// Returns true if the maximum is no limit, since a graph may have no more edges.
     #[inline]
     pub fn allows_all(&self) -> bool
         ensures { IsTrue result ↔ (most_edges ≤ self.now.rules.max_cut) }

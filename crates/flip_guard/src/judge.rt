@@ -1,4 +1,4 @@
-//! Who judges a plan by its rules.
+//! Constraints on proposed plans.
 
 ghost use Rattle.std.specs.Prelude.{◌≡◌, ◌≤◌, ◌↔◌, ℕ, List, IsTrue};
 ghost use Rattle.audit_model.specs.Limits.{most_edges};
@@ -8,25 +8,29 @@ ghost use Rattle.flip_guard.specs.Limiting.{LimitNothing};
 
 use audit_model::outcome::SumsView;
 
-/// Judges by rules whether a proposed plan may be taken. It may keep what it needs of the plan from which the proposal comes.
+/// A constraint: rules that decide whether a proposed plan may be taken.
+///
+/// It may keep data about the current plan, and is notified of each move.
 pub trait Judge: Drop {
-    /// What it judges by, and of which plans it may be asked.
+    /// The rules, and the plans that it accepts as arguments.
     ghost judging: { Self → Judging };
 
-    /// Whether its rules limit nothing, so that it need not be asked: each plan meets them that cuts no more edges than a graph may have.
+    /// Returns true if the rules limit nothing, so that no proposal needs to be checked.
     fn limits_nothing(&self) -> bool
         requires kept { (judging self.now).keeps }
         ensures exact { IsTrue result ↔ LimitNothing (judging self.now).rules }
         ensures meets { IsTrue result → (cut : ℕ) (plan : List ℕ) → cut ≤ most_edges → IsTrue (meets_rules (judging self.now).rules cut plan) };
 
-    /// Whether the plan after a move meets the rules, where it cuts as many edges as the sums have: the unit came from another district of a
-    /// plan for which it stands. Of the sums the cut edges alone are those of the plan after the move.
+    /// Returns true if the plan after a move meets the rules.
+    ///
+    /// Before the move, `unit` was in the district `from`, and the constraint described that plan.
+    /// Of `sums`, only the number of cut edges is that of the plan after the move.
     fn permits(&self, after: &[u32], sums: &SumsView, unit: u32, from: u32) -> bool
         requires kept { (judging self.now).keeps }
         requires after { IsAfterMove (judging self.now) after.now unit from }
         ensures { result ≡ meets_rules (judging self.now).rules sums.now.cut after.now };
 
-    /// Stands for the plan after a move from now on.
+    /// Updates the constraint after a move.
     fn moved(&mut self, after: &[u32], unit: u32, from: u32)
         requires kept { (judging self.old).keeps }
         requires after { IsAfterMove (judging self.old) after.now unit from }
@@ -35,7 +39,7 @@ pub trait Judge: Drop {
         ensures rules { (judging self.new).rules ≡ (judging self.old).rules }
         ensures takes { (judging self.new).takes ≡ (judging self.old).takes };
 
-    /// Stands for a plan from now on, whatever it stood for.
+    /// Recomputes the constraint for a plan, whatever plan it described before.
     fn reset(&mut self, plan: &[u32])
         requires kept { (judging self.old).keeps }
         requires plan { IsTaken (judging self.old) plan.now }

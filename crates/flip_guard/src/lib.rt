@@ -1,4 +1,5 @@
-//! Who judges a plan by rules beside population and connectedness: a trait, and a stored closure that meets it.
+//! Constraints on plans beyond population and contiguity: a trait, and an implementation by a
+//! stored closure.
 #![tactic(auto)]
 
 pub mod guard;
