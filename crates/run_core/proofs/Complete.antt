@@ -1,4 +1,4 @@
--- The outcomes of a run in which every id is done.
+-- The outcomes of a finished run.
 use Rattle.std.proofs.Common.{◌≡◌, ℕ, zero, suc, Bool, true, false, ◌||◌, List, [], ◌∷◌, ◌++◌, map, All, refl, sym, ap, ◌∙◌}
 use Rattle.std.specs.Prelude.{◌==◌, nat_lt}
 use Rattle.std.proofs.lemmas.List.{map-append}
@@ -29,12 +29,12 @@ module _ (job : Job) (draws : Draws) where
   has_id-outcomes (x ∷ ids) id =
       ap (λ k. (k == id) || has_id (map (outcome job draws) ids) id) (id_of_outcome x) ∙ ap (λ b. (x == id) || b) (has_id-outcomes ids id)
 
--- all ids below a bound, taken one after the other
+-- the values of all ids below a bound, in order
 map-all_below : (n : ℕ) (f : ℕ → Outcome) → map f (filter_below n (λ _. true)) ≡ map_below n f
 map-all_below zero f = refl
 map-all_below (suc n) f = map-append f (filter_below n (λ _. true)) (n ∷ []) ∙ ap (λ xs. xs ++ f n ∷ []) (map-all_below n f)
 
--- what is found of all ids of a job is what one thread finds
+-- the outcomes of all ids of a job are those of one thread
 pub mapped_is_sequence : (job : Job) (draws : Draws) → map (outcome job draws) (filter_below (total job) (λ _. true)) ≡ sequence job draws
 unfolding sequence
 mapped_is_sequence job draws = map-all_below (total job) (outcome job draws)

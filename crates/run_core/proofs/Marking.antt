@@ -1,4 +1,4 @@
--- Marks on ids, and the ids that are to do.
+-- Marks on ids, and the pending ids.
 use Rattle.std.proofs.Common.{◌≡◌, ℕ, zero, suc, ◌+◌, ◌-◌, ◌<◌, ◌≤◌, Bool, true, false, ◌||◌, List, [], ◌∷◌, ◌++◌, length, take, drop, All, get_or, set, refl, sym, ap, ◌∙◌, subst, inl, inr, arith, get_or-set_same, get_or-set_other}
 use Rattle.std.specs.Prelude.{◌==◌}
 use Rattle.std.proofs.lemmas.Bool.{or_left, or_right, cases_eq, eq-eqb, ne_eqb}
@@ -7,14 +7,14 @@ use Rattle.std.proofs.lemmas.List.Folds.{list_any-append}
 use Rattle.audit_model.specs.Graph.{has}
 use Rattle.audit_model.proofs.Bools.{or_false}
 
--- one more of the first ids is the one at the next place
+-- a prefix that is one item longer ends with the next item
 pub take_more : (k : ℕ) (xs : List ℕ) → k < length xs → take (suc k) xs ≡ take k xs ++ get_or xs k 0 ∷ []
 take_more zero [] l = absurd (omega arith)
 take_more zero (x ∷ xs) l = refl
 take_more (suc k) [] l = absurd (omega arith)
 take_more (suc k) (x ∷ xs) l = ap (λ ys. x ∷ ys) (take_more k xs (omega arith))
 
--- the first ids are fewer of the first, and some after these
+-- a prefix splits into a shorter prefix and the items after it
 pub take_split : (a b : ℕ) (xs : List ℕ) → a ≤ b → take b xs ≡ take a xs ++ take (b - a) (drop a xs)
 take_split zero b xs l = ap (λ n. take n xs) same
   where
@@ -32,33 +32,33 @@ take_split (suc a) (suc b) (x ∷ xs) l =
     same : b - a ≡ suc b - suc a
     same = omega arith
 
--- what stands in the later part of a list stands in the list
+-- a member of a suffix is a member of the list
 pub has-drop : (n : ℕ) (xs : List ℕ) (x : ℕ) → has (drop n xs) x ≡ true → has xs x ≡ true
 has-drop zero xs x h = h
 has-drop (suc n) [] x h = h
 has-drop (suc n) (y ∷ xs) x h = or_right (y == x) (has xs x) (has-drop n xs x h)
 
--- a bound on each id that is there holds of all
+-- a bound on each member holds of all items
 pub all_from_has : (n : ℕ) (xs : List ℕ) → ((id : ℕ) → has xs id ≡ true → id < n) → All (λ id. id < n) xs
 all_from_has n [] below k d l = absurd (omega arith)
 all_from_has n (x ∷ xs) below zero d l = below x (or_left (x == x) (has xs x) (eq-eqb x x refl))
 all_from_has n (x ∷ xs) below (suc k) d l = all_from_has n xs (λ id h. below id (or_right (x == id) (has xs id) h)) k d (omega arith)
 
--- what a list is once all of it was written over
+-- overwriting all of a list gives the new list
 pub written : (new old : List Bool) (n : ℕ) → length new ≡ length old → n ≡ length old → take n (new ++ drop (length new) old) ≡ new
 written new old n same all =
     ap (λ k. take n (new ++ drop k old)) same ∙ ap (λ xs. take n (new ++ xs)) (drop_all (length old) old (omega arith))
     ∙ ap (take n) (append-nil new) ∙ take_all n new (omega (arith, same, all))
 
--- the marks are those of before and of the first ids of the list
+-- the marks are the earlier ones and those of the ids
 abbrev pub AreMarked : List Bool → List Bool → List ℕ → Type 0
 AreMarked before marks ids = (id : ℕ) → id < length before → get_or marks id false ≡ (get_or before id false || has ids id)
 
--- before the first mark nothing is marked
+-- before the first id, the marks are the earlier ones
 pub marked_none : (before : List Bool) → AreMarked before before []
 marked_none before id l = sym (or_false (get_or before id false))
 
--- one id more is marked
+-- one more id is marked
 pub marked_more : (before marks : List Bool) (ids : List ℕ) (k next x : ℕ) → AreMarked before marks (take k ids) → length marks ≡ length before
     → k < length ids → next ≡ k + 1 → x ≡ get_or ids k 0 → AreMarked before (set marks x true) (take next ids)
 marked_more before marks ids k next x marked width l is_next is id inside =

@@ -1,4 +1,4 @@
--- What is kept at each event.
+-- The invariant of `Core` at each event.
 use Rattle.std.proofs.Common.{◌≡◌, ℕ, ◌+◌, ◌-◌, ◌<◌, ◌≤◌, Bool, true, false, not, ◌||◌, List, [], ◌∷◌, ◌++◌, length, take, drop, get_or, set, replicate, Option, Some, None, All, refl, sym, ap, ◌∙◌, subst, arith, length-append, length-set}
 use Rattle.std.specs.Prelude.{◌==◌, ◌%◌, ◌&&◌, slice_get}
 use Rattle.std.proofs.lemmas.Bool.{eq-eqb, false≢true}
@@ -21,9 +21,9 @@ use Rattle.run_core.specs.Kept.{machine, IsKept}
 use Rattle.run_core.specs.Opening.{IsStart}
 use Rattle.run_core.proofs.Marking.{take_split, all_from_has, has-drop, AreMarked}
 
--- ---- openings
+-- ---- initial states
 
--- a state in which a run may start is one of a run
+-- an initial state is a state of a run
 pub opening_is_run : (m : Machine) → IsStart m → IsRun m
 opening_is_run m o = record {
   apart = subst AllApart (sym o.done) o.apart;
@@ -40,32 +40,32 @@ opening_is_run m o = record {
     none_open : (w id : ℕ) → slice_get m.held w ≡ Some (Some id) → ⊥
     none_open w id h = get-replicate (length m.held) w id (subst (λ xs. slice_get xs w ≡ Some (Some id)) o.held h)
 
--- so is the state with nothing done
+-- the machine with nothing finished is a state of a run
 pub fresh_is_run : (total workers : ℕ) → IsRun (new_machine total workers)
 fresh_is_run total workers = fresh_run 1 0 total total workers [] tt (λ id h. absurd (false≢true h))
 
--- ---- answers
+-- ---- results of events
 
--- a claim, by what the worker holds
+-- a claim, by the worker's open id
 pub claim_by : (m : Machine) (w : ℕ) (o : Option (Option ℕ)) → slice_get m.held w ≡ o → claim m w o ≡ step m (Claim w)
 claim_by m w o e = ap (claim m w) (sym e)
 
--- a claim of a worker that holds nothing, by whether an id is left
+-- a claim of a worker without an open id, by whether an id is pending
 pub claim_takes : (m : Machine) (w : ℕ) (o : Option ℕ) → slice_get m.held w ≡ Some None → slice_get (todo m) m.next ≡ o → claimed m w o ≡ step m (Claim w)
 claim_takes m w o free at = ap (claimed m w) (sym at) ∙ claim_by m w (Some None) free
 
--- a post, by what the worker holds
+-- a post, by the worker's open id
 pub post_by : (m : Machine) (w : ℕ) (o : Option (Option ℕ)) → slice_get m.held w ≡ o → post m w o ≡ step m (Post w)
 post_by m w o e = ap (post m w) (sym e)
 
--- ---- what is to do
+-- ---- pending ids
 
--- a condition beside one that holds
+-- and-true is the other part
 and_true : (a b : Bool) → b ≡ true → (a && b) ≡ a
 and_true true b e = e
 and_true false b e = refl
 
--- every id lies in the one part
+-- every id lies in the single part
 todo_is : (total started saved : ℕ) (done : List ℕ) (next : ℕ) (held : List (Option ℕ))
     → todo (machine total started saved done next held) ≡ filter_below total (λ id. not (has (take started done) id))
 todo_is total started saved done next held =
@@ -73,7 +73,7 @@ todo_is total started saved done next held =
     (λ id l. and_true (not (has (take started done) id)) (is_in_part 1 0 id) (eq-eqb (id % 1) 0 (mod-one id))))
     ∙ take_all total (filter_below total (λ id. not (has (take started done) id))) (length-filter_below total (λ id. not (has (take started done) id)))
 
--- no more ids are done than there are
+-- at most all ids are finished
 pub done_le : (m : Machine) → IsRun m → length m.done ≤ m.total
 done_le m run = apart_le m.total m.done run.apart run.below
 
@@ -212,14 +212,14 @@ module _ (total started saved : ℕ) (done : List ℕ) (next : ℕ) (held : List
               ∙ sym (ap (λ xs. has xs id) (take_split started saved done kept.start_saved)
               ∙ list_any-append (λ m. m == id) (take started done) (take (saved - started) (drop started done)))
 
-  -- the ids that are newly saved are below the total
+  -- the newly saved ids are below the total
   pub newly_below : (count : ℕ) → count ≡ total → All (λ id. id < count) (take (saved - started) (drop started done))
   newly_below count same = all_from_has count (take (saved - started) (drop started done))
       (λ id h. subst (λ n. id < n) (sym same) (kept.run.below id (has-drop started done id (has-take (saved - started) (drop started done) id h))))
 
 -- ---- the first machine
 
--- what the code keeps at first
+-- the fields at first
 pub kept_new : (total : ℕ) (done : List ℕ) (held : List (Option ℕ)) (ids : List ℕ) (marks : List Bool) → total ≤ 100000 → done ≡ [] → held ≡ replicate 32 None
     → marks ≡ replicate total false → ids ≡ filter_below (length marks) (λ id. not (get_or marks id false))
     → IsKept (machine (length marks) 0 0 done 0 held) 0 0 ids marks × (machine (length marks) 0 0 done 0 held ≡ new_machine total 32)

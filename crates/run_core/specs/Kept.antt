@@ -1,16 +1,17 @@
--- What the code of the machine keeps.
+-- The machine that the fields of `Core` represent.
 use Rattle.std.specs.Prelude.{◌≡◌, ℕ, ◌<◌, ◌≤◌, Bool, false, List, length, take, Option}
 use Rattle.std.specs.List.{slice_index_or}
 use Rattle.audit_model.specs.Graph.{has}
 use Rattle.audit_model.specs.Machine.{Machine, IsRun, todo}
 use Rattle.audit_model.specs.Limits.{most_trajectories, most_workers}
 
--- the machine of these ids, all in one part: what was done at the start and what was saved are as many of the first ids that are done
+-- the machine of one part with these ids; the ids finished at the start and the saved ids are prefixes of the finished
+-- ones
 abbrev pub machine : ℕ → ℕ → ℕ → List ℕ → ℕ → List (Option ℕ) → Machine
 machine total started saved done next held =
     record { total = total; parts = 1; part = 0; budget = total; start = take started done; saved = take saved done; done = done; next = next; held = held }
 
--- the machine is one of a run of 32 workers; the ids to do are listed, and the ids that were done at the start are marked
+-- a machine of 32 workers, with its pending ids listed and the ids finished at the start marked
 pub record IsKept (m : Machine) (started saved : ℕ) (listed : List ℕ) (marked : List Bool) : Type 0 where
   pub run : IsRun m
   pub small : m.total ≤ most_trajectories
@@ -21,7 +22,7 @@ pub record IsKept (m : Machine) (started saved : ℕ) (listed : List ℕ) (marke
   pub width : length marked ≡ m.total
   pub marks : (id : ℕ) → id < m.total → slice_index_or marked id false ≡ has m.start id
 
--- there is room for all ids in both lists
+-- both lists have capacity for all ids
 pub record HasRoom (total done_room ids_room : ℕ) : Type 0 where
   pub done : total ≤ done_room
   pub ids : total ≤ ids_room

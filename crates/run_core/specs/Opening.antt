@@ -1,10 +1,11 @@
--- The states in which a run may start.
+-- States in which a run may start.
 use Rattle.std.specs.Prelude.{◌≡◌, ℕ, ◌<◌, IsTrue, length, replicate, None}
 use Rattle.audit_model.specs.Apart.{AllApart}
 use Rattle.audit_model.specs.Graph.{has}
 use Rattle.audit_model.specs.Machine.{Machine}
 
--- what was done at the start is also what was saved and what is done: different ids below the total; nothing is held, and nothing was claimed
+-- the ids finished at the start, which are distinct and below the total, are the saved and the finished ones; no id is
+-- open or claimed
 pub record IsStart (m : Machine) : Type 0 where
   pub saved : m.saved ≡ m.start
   pub done : m.done ≡ m.start

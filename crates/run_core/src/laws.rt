@@ -1,4 +1,4 @@
-//! What holds of a run after any events, halts among them.
+//! Laws of a run after any events, halts included.
 
 ghost use Rattle.std.specs.Prelude.{◌≡◌, ℕ, ◌<◌, IsTrue, List, map};
 ghost use Rattle.audit_model.specs.declared.outcome.Event.{Event};
@@ -11,8 +11,11 @@ ghost use Rattle.run_core.specs.Opening.{IsStart};
 
 use outcome_book::laws::outcomes_by_id_are_mapped;
 
-/// After any events the ids that are done differ and are below the total, what was saved and what was done at the start come first
-/// among them, and each id that was claimed is either done or open under one worker, and no other id is open.
+/// Shows that a run stays consistent after any events.
+///
+/// The finished ids differ and are below the total. Those finished at the start come first,
+/// followed by the saved ones. Each claimed id is either finished or open under one worker, and no
+/// other id is open.
 pub fn runs_stay_right()
     ensures fresh { (total workers : ℕ) (events : List Event) → IsRun (state_after (new_machine total workers) events) }
     ensures resumed { (m : Machine) (events : List Event) → IsStart m → IsRun (state_after m events) }
@@ -20,7 +23,7 @@ pub fn runs_stay_right()
     ensures events { (m : Machine) (events : List Event) → IsRun m → IsRun (state_after m events) }
 {}
 
-/// Where every id is done, the outcomes of what is done are by rising id what one thread finds.
+/// Shows that the outcomes of a finished run, by rising id, are those of one thread.
 pub fn complete_runs_add_up()
     ensures { (job : Job) (draws : Draws) (m : Machine) → IsRun m → m.total ≡ total job → ((id : ℕ) → id < m.total → IsTrue (has m.done id)) →
         by_id (total job) (map (outcome job draws) m.done) ≡ sequence job draws }

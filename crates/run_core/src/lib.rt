@@ -1,4 +1,4 @@
-//! The run of several workers as a machine: claims, posts, saves and halts, one at a time.
+//! A run of several workers as a state machine. Its events are claims, posts, saves and halts.
 #![tactic(auto)]
 
 pub mod laws;

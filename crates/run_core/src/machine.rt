@@ -37,7 +37,7 @@ impl Model for Core {
 }
 
 impl Core {
-    /// The run of the ids below `total`, with nothing done.
+    /// Allocates a run of the ids below `total`, with none finished. Fails if there is no memory.
     pub fn new(alloc: Global, total: u32) -> Result<Core, Memory>
         requires { total ≤ most_trajectories }
         ensures machine { IfOk result (λ m. m ≡ new_machine total most_workers) }
@@ -58,7 +58,7 @@ impl Core {
         })
     }
 
-    /// Takes one event, and tells what it did.
+    /// Applies one event and returns its effect.
     pub fn step(&mut self, event: Event) -> Did
         ensures answer { result ≡ (step self.old event).1 }
         ensures machine { self.new ≡ (step self.old event).0 }
@@ -72,7 +72,7 @@ impl Core {
         }
     }
 
-    // Gives the worker the next id.
+    // Assigns the next id to the worker.
     fn claim(&mut self, worker: u32) -> Did
         ensures step { (self.new, result) ≡ step self.old (Claim worker) }
         ensures sound { IsRun self.new }
@@ -92,7 +92,7 @@ impl Core {
         }
     }
 
-    // Appends the worker's open id to what is done.
+    // Appends the worker's open id to the finished ids.
     fn post(&mut self, worker: u32) -> Did
         ensures step { (self.new, result) ≡ step self.old (Post worker) }
         ensures sound { IsRun self.new }
@@ -108,7 +108,7 @@ impl Core {
         }
     }
 
-    // Saves all that is done.
+    // Saves all finished ids.
     fn save(&mut self) -> Did
         ensures step { (self.new, result) ≡ step self.old Save }
         ensures sound { IsRun self.new }
@@ -117,7 +117,7 @@ impl Core {
         Did::Saved(self.saved as u32)
     }
 
-    // Drops what was not saved, and starts again.
+    // Drops all finished ids that were not saved, and restarts.
     fn halt(&mut self) -> Did
         ensures step { (self.new, result) ≡ step self.old Halt }
         ensures sound { IsRun self.new }
@@ -131,7 +131,7 @@ impl Core {
         Did::Halted
     }
 
-    /// The ids that are done, in the order of their posts.
+    /// Returns the finished ids, in the order of their posts.
     pub fn done(&self) -> &[u32]
         ensures done { result.now ≡ self.now.done }
         ensures sound { IsRun self.now }
@@ -139,7 +139,7 @@ impl Core {
         self.done.as_slice()
     }
 
-    /// The ids that were saved, in the order of their posts.
+    /// Returns the saved ids, in the order of their posts.
     pub fn saved(&self) -> &[u32]
         ensures saved { result.now ≡ self.now.saved }
         ensures sound { IsRun self.now }
@@ -148,7 +148,7 @@ impl Core {
     }
 }
 
-// The worker's open id, if it has one, or nothing where there is no such worker.
+// Returns the worker's open id. The outer option is `None` if there is no such worker.
 fn open_id(held: &[Option<u32>], worker: u32) -> Option<Option<u32>>
     ensures { result ≡ slice_get held.now worker }
 {

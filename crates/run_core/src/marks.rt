@@ -1,4 +1,4 @@
-//! Marks on ids, and the ids without one.
+//! Marks on ids.
 
 ghost use Rattle.std.specs.Prelude.{◌≡◌, ℕ, ◌<◌, ◌≤◌, ◌||◌, false, not, length, All, vec_capacity};
 ghost use Rattle.std.specs.List.{slice_index_or};
@@ -17,7 +17,7 @@ pub(crate) fn mark(marks: &mut [bool], ids: &[u32])
     }
 }
 
-// Makes the list the ids without a mark, in rising order.
+// Lists the ids without a mark, in rising order.
 pub(crate) fn list_unmarked(ids: &mut Vec<u32>, marks: &[bool])
     requires small { length marks.now ≤ most_trajectories }
     requires room { length marks.now ≤ vec_capacity ids.old }
