@@ -1,4 +1,4 @@
--- The plans of a table, one after another, and the whole reading.
+-- The plans of a table one by one, and the whole reading.
 use Rattle.std.proofs.Common.{◌≡◌, ℕ, ◌+◌, ◌-◌, ◌<◌, ◌++◌, true, false, List, [], ◌∷◌, length, map, get_or, Some, None, Ok, Err, refl, sym, ap, ◌∙◌, subst, arith}
 use Rattle.std.specs.List.{All}
 use Rattle.std.specs.Option.{option_map}
@@ -17,7 +17,7 @@ use Rattle.audit_statement.specs.Table.{plans_or, assigned, district_in, entry_o
 use Rattle.plan_csv.specs.Fit.{IsPlanOf}
 use Rattle.plan_csv.specs.Stages.{assigned_by, refused, AreRecords}
 
--- the first plans, none of which is refused
+-- the first plans, all without a fault
 pub record AreListed (header : List (List ℕ)) (rows : List (List (List ℕ))) (records : List ℕ) (j : ℕ) (list : List Assigned) : Type 0 where
   pub none : first_below j (is_miscounted [] [] rows) ≡ None
   pub made : list ≡ map_below j (assigned_by header rows records)
@@ -41,7 +41,7 @@ module _ (header : List (List ℕ)) (rows : List (List (List ℕ))) (records : L
     before.made ∙ ap (λ n. map_below n (assigned_by header rows records)) all,
   )
 
--- where each unit's record is known, these are the plans of the definition
+-- given the record of each unit, these are the plans of the definition
 pub plans_are : (ids : List Label) (header : List (List ℕ)) (rows : List (List (List ℕ))) (records : List ℕ) (plans : ℕ) → AreRecords ids rows records → plans ≡ length header - 1
     → map_below plans (assigned_by header rows records) ≡ map_below (plan_count ids header rows) (assigned ids header rows)
 plans_are ids header rows records plans are count =

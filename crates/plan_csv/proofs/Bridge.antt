@@ -1,4 +1,4 @@
--- What the units of the records say of the records themselves.
+-- Facts about records, from the units they name.
 use Rattle.std.proofs.Common.{◌≡◌, ◌<◌, ℕ, suc, List, [], length, bytes_eq, not, Option, Some, None, sym, ap, ◌∙◌, inl, inr, arith, eq-eqb}
 use Rattle.std.specs.List.{slice_index_or}
 use Rattle.std.specs.Option.{option_map, unwrap_or, is_none}
@@ -32,7 +32,7 @@ module _ (ids : List Label) (rows : List (List (List ℕ))) (units : List ℕ) (
         (bytes_decides (id_at rows e) (unit_text ids [] [] (slice_index_or units e 0))).0
         (first_passes (length ids) (names_unit ids [] rows e) (slice_index_or units e 0) (are.each e l)).1
 
-  -- two records name one unit where their ids are one text
+  -- two records name one unit exactly if their ids are equal texts
   same_unit : (b e : ℕ) → b < length rows → e < length rows → bytes_eq (id_at rows b) (id_at rows e) ≡ is_of units (slice_index_or units e 0) b
   same_unit b e lb le =
       same_bool (bytes_eq (id_at rows b) (id_at rows e)) (is_of units (slice_index_or units e 0) b)
@@ -53,7 +53,7 @@ module _ (ids : List Label) (rows : List (List (List ℕ))) (units : List ℕ) (
       ∙ ap (λ n. first_below n (λ e. any_below e (is_of units (slice_index_or units e 0)))) (sym are.count))
 
   module _ (apart : shared_id ids [] [] ≡ None) where
-    -- a record names no unit but its own
+    -- a record names its own unit only
     names_own : (e u : ℕ) → e < length rows → u < length ids → names_unit ids [] rows e u ≡ is_of units u e
     names_own e u le lu =
         same_bool (names_unit ids [] rows e u) (is_of units u e)

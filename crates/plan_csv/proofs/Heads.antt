@@ -1,4 +1,4 @@
--- The refusals of the first record.
+-- Faults of the header record.
 use Rattle.std.proofs.Common.{◌≡◌, ◌≤◌, ◌<◌, ◌-◌, ◌∷◌, ℕ, List, [], length, Some, None, false, not, nat_lt, ap, ◌∙◌, subst}
 use Rattle.std.specs.Option.{option_map, option_or}
 use Rattle.std.proofs.lemmas.Bool.{cond-false, le-ltb}

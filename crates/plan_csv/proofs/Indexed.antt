@@ -1,4 +1,4 @@
--- An index of units by their ids as texts, one unit after another.
+-- An index of units by id text, unit by unit.
 use Rattle.std.proofs.Common.{◌≡◌, ℕ, suc, ◌+◌, ◌<◌, List, [], ◌∷◌, length, Bool, true, false, cond, Option, Some, None, refl, sym, ap, ◌∙◌, subst, inl, inr, arith, bytes_eq}
 use Rattle.std.specs.BTreeMap.{insert_entry}
 use Rattle.std.specs.Cmp.Lexicographic.{slice_cmp, texts_ties, nat_list_eq_equiv, bytes_decides}
@@ -17,7 +17,7 @@ use Rattle.audit_statement.specs.Table.{unit_text, is_shared, shared_id}
 use Rattle.plan_csv.specs.Stages.{IsUnitIndex}
 
 module _ {K : Type 0} (text : K → List ℕ) where
-  -- whether a key's text is q
+  -- a key's text is q
   abbrev is_text : List ℕ → K → Bool
   is_text q k = is_eq (slice_cmp nat_cmp q (text k))
 
@@ -48,7 +48,7 @@ module _ {K : Type 0} (text : K → List ℕ) where
   placed Greater k v e es q n apart below =
       ap (λ o. cond (is_text q e.0) (Some e.1) o) below ∙ swapped (is_text q e.0) (is_text q k) e.1 v (lookup (is_text q) es) apart
 
-  -- what is found after a new key is put in
+  -- a lookup after a new key was inserted
   found_after : (es : List (K × ℕ)) (k : K) (v : ℕ) (q : List ℕ) → lookup (is_text (text k)) es ≡ None
       → lookup (is_text q) (insert_entry (λ (a b : K). slice_cmp nat_cmp (text a) (text b)) es k v) ≡ cond (is_text q k) (Some v) (lookup (is_text q) es)
   found_after [] k v q none = refl
@@ -58,7 +58,7 @@ module _ {K : Type 0} (text : K → List ℕ) where
       (λ a b. both_ways (is_text (text k) e.0) parts.0 (is_its (text k) e.0 (sym (text_is q k b) ∙ text_is q e.0 a)))
       (found_after es k v q parts.1)
 
-  -- the units below j are in the index, and no two of them share an id
+  -- the units below j are indexed, and no two of them share an id
   pub record IsIndexed (ids : List Label) (j : ℕ) (entries : List (K × ℕ)) : Type 0 where
     pub leads : (q : List ℕ) → lookup (λ k. is_eq (slice_cmp nat_cmp q (text k))) entries ≡ first_below j (λ u. bytes_eq q (unit_text ids [] [] u))
     pub none : first_below j (λ other. any_below other (is_shared ids [] [] other)) ≡ None

@@ -1,4 +1,4 @@
--- The labels of a plan, the different ones among them, and the district of each record.
+-- The labels of a plan, the distinct ones, and the district of each record.
 use Rattle.std.proofs.Common.{◌≡◌, ℕ, ◌+◌, ◌<◌, ◌≤◌, ◌++◌, ◌&&◌, not, List, [], ◌∷◌, length, get_or, Option, Some, None, refl, sym, ap, ◌∙◌, subst, inl, inr, arith, length-append}
 use Rattle.std.specs.Prelude.{◌==◌}
 use Rattle.std.specs.List.{Contains}
@@ -26,13 +26,13 @@ use Rattle.audit_statement.specs.Table.{plan_name, is_new_label, label_count, la
 use Rattle.plan_csv.specs.Fit.{IsPlanOf}
 use Rattle.plan_csv.specs.Stages.{assigned_by, AreLabelsOf, IsAssigned}
 
--- ---- names of the first records
+-- ---- labels of the first records
 
 pub record AreNamed (rows : List (List (List ℕ))) (plan j : ℕ) (names : List Name) : Type 0 where
   pub count : length names ≡ j
   pub each : (e : ℕ) → e < j → nth (labels_from names) e ≡ label_in [] [] rows plan e
 
--- one record more, whose label is added
+-- one more record's label is appended
 pub named_more : (rows : List (List (List ℕ))) (plan j : ℕ) (names new : List Name) (name : Name) → AreNamed rows plan j names → new ≡ names ++ name ∷ []
     → label_from name ≡ label_in [] [] rows plan j → AreNamed rows plan (j + 1) new
 named_more rows plan j names new name before made is = record {
@@ -47,16 +47,16 @@ named_more rows plan j names new name before made is = record {
   ];
 }
 
--- where each record has been read, the labels are those of the plan
+-- once all records are read, the labels are those of the plan
 pub named_all : (rows : List (List (List ℕ))) (plan j : ℕ) (names : List Name) → j ≡ length rows → AreNamed rows plan j names → AreLabelsOf rows plan (labels_from names)
 named_all rows plan j names all is = record {
   count = length-map names label_from ∙ is.count ∙ all;
   each = λ e l. is.each e (omega (arith, l, all));
 }
 
--- ---- a place for each name
+-- ---- the position of each label
 
--- the label at each place is that of one of the names
+-- the label at each position is that of one of the names
 at_place : (names : List Name) (i : ℕ) → i < length names → (x : Name) × (nth (labels_from names) i ≡ label_from x) × Contains names x
 at_place [] i l = absurd (omega (arith, l))
 at_place (y ∷ ys) i l = (get_or (y ∷ ys) i y, nth_get (y ∷ ys) i y l, Contains-get_or (y ∷ ys) i y l)
@@ -93,7 +93,7 @@ module _ (names found : List Name) (are : AreDifferent names found) where
     }),
   )
 
--- ---- the definitions at the labels of the records
+-- ---- the definitions in terms of labels
 
 module _ (rows : List (List (List ℕ))) (plan : ℕ) (labels found : List Label) (districts : List ℕ) (of : AreLabelsOf rows plan labels) (are : AreDistricts labels found districts) where
   new_same : (e : ℕ) → e < length rows → is_new_label [] [] rows plan e ≡ is_new labels e

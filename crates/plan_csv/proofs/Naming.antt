@@ -1,4 +1,4 @@
--- The jobs of the plans of a table, one after another.
+-- The jobs of the table's plans, one by one.
 use Rattle.std.proofs.Common.{◌≡◌, ℕ, zero, suc, ◌+◌, ◌<◌, ◌++◌, List, [], ◌∷◌, length, drop, get_or, Option, Some, None, Result, Ok, Err, refl, sym, ap, ◌∙◌, subst, inl, inr, arith, append_assoc}
 use Rattle.std.specs.Prelude.{◌⊎◌}
 use Rattle.std.specs.List.{All}
@@ -19,29 +19,29 @@ use Rattle.plan_csv.specs.Named.{jobs_of, pair_of, IsOneOf}
 use Rattle.audit_statement.specs.Jobs.{Jobs}
 use Rattle.plan_csv.specs.JobStages.{IsNamedBy, IsNamedFault, RefusesPlan}
 
--- the jobs that are there, and then others, or their refusal
+-- the jobs made so far, followed by the others or their fault
 abbrev pub after : Jobs → Result Jobs (List ℕ × PlanFault) → Result Jobs (List ℕ × PlanFault)
 after done (Ok later) = Ok (done ++ later)
 after done (Err refused) = Err refused
 
--- behind no jobs, the later ones are all
+-- with no jobs made so far, the others are all
 after_none : (later : Result Jobs (List ℕ × PlanFault)) → later ≡ after [] later
 after_none (Ok jobs) = refl
 after_none (Err refused) = refl
 
--- a job before the later ones is one more of those that are done
+-- making one more job moves it from the others to those made
 after_one : (done : Jobs) (name : List ℕ) (job : Job) (later : Result Jobs (List ℕ × PlanFault))
     → after done (named_before name (Ok job) later) ≡ after (done ++ (name, job) ∷ []) later
 after_one done name job (Ok jobs) = ap Ok (sym (append_assoc done ((name, job) ∷ []) jobs))
 after_one done name job (Err refused) = refl
 
--- the plans from a place on are the plan there and those behind it
+-- the plans from a position on are the plan there and the later ones
 drop_here : (plans : List Assigned) (i : ℕ) (p : Assigned) → i < length plans → p ≡ get_or plans i p → drop i plans ≡ p ∷ drop (suc i) plans
 drop_here [] i p l is = absurd (omega (arith, l))
 drop_here (x ∷ xs) zero p l is = ap (λ (q : Assigned). q ∷ xs) (sym is)
 drop_here (x ∷ xs) (suc i) p l is = drop_here xs i p (omega (arith, l)) is
 
--- what a job with another plan keeps
+-- facts that a job with another plan keeps
 module _ (job : Job) (start : List ℕ) (labels : List Label) (made : Job) where
   pub kept : job_with job start labels ≡ Ok made → (made.setting ≡ job.setting) × (made.regions ≡ job.regions) × (made.group ≡ job.group)
   unfolding job_with
@@ -58,7 +58,7 @@ pub record AreNamed (job : Job) (plans : List Assigned) (i : ℕ) (named : List 
   pub rest : named_jobs job plans ≡ after (jobs_of named) (named_jobs job (drop i plans))
   pub each : All (IsOneOf job.setting job.regions job.group) named
 
--- at first no plan has been named
+-- before the first plan, no job is made
 pub named_none : (job : Job) (plans : List Assigned) → AreNamed job plans 0 []
 named_none job plans = record { rest = after_none (named_jobs job plans); each = λ k d l. absurd (omega (arith, l)) }
 
@@ -91,7 +91,7 @@ module _ (job : Job) (plans : List Assigned) (i : ℕ) (named : List Named) (bef
     by.2,
   )
 
--- where each plan has been named, the jobs are those of the plans
+-- once every plan has its job, these are the jobs of the plans
 pub named_all_of : (job : Job) (plans : List Assigned) (i : ℕ) (named : List Named) → i ≡ length plans → AreNamed job plans i named → named_jobs job plans ≡ Ok (jobs_of named)
 named_all_of job plans i named all is =
     is.rest ∙ ap (λ (ps : List Assigned). after (jobs_of named) (named_jobs job ps)) (drop_all i plans (omega (arith, all)))

@@ -1,4 +1,4 @@
--- The record of each unit, one record after another.
+-- The record of each unit, record by record.
 use Rattle.std.proofs.Common.{◌≡◌, ◌<◌, ◌+◌, ◌++◌, ℕ, zero, suc, List, [], ◌∷◌, length, Option, Some, None, true, false, refl, sym, ap, ◌∙◌, subst, inl, inr, arith, length-append, eq-eqb, get_or-set_other, get_or-set_same, length-set}
 use Rattle.std.specs.List.{slice_index_or, slice_set}
 use Rattle.std.specs.Option.{option_map, option_or, is_none, is_some}
@@ -16,7 +16,7 @@ pub record IsPlaced (units : List ℕ) (count j : ℕ) (places : List (Option �
   pub none : first_below j (λ e. any_below e (is_of units (slice_index_or units e 0))) ≡ None
   pub each : (u : ℕ) → u < count → slice_index_or places u None ≡ first_below j (is_of units u)
 
--- a list of empty places stays empty with one more
+-- appending an empty place keeps all places empty
 pub blank_more : (xs : List (Option ℕ)) → ((u : ℕ) → slice_index_or xs u None ≡ None) → (u : ℕ) → slice_index_or (xs ++ None ∷ []) u None ≡ None
 blank_more [] h zero = refl
 blank_more [] h (suc u) = refl
@@ -60,14 +60,14 @@ module _ (units : List ℕ) (count j : ℕ) (places : List (Option ℕ)) (before
         ];
       }
 
--- where each record has been placed, no unit stood twice, and each place is that of its unit
+-- once all records are placed, no unit occurs twice, and each place is that of its unit
 pub placed_all : (units : List ℕ) (count j : ℕ) (places : List (Option ℕ)) → j ≡ length units → IsPlaced units count j places → (unit_repeated units ≡ None) × AreFirstRecords units count places
 placed_all units count j places all is = (
   ap (option_map (λ e. fault.Twice (suc e))) (subst (λ (m : ℕ). first_below m (λ e. any_below e (is_of units (slice_index_or units e 0))) ≡ None) all is.none),
   record { size = is.size; each = λ u l. is.each u l ∙ ap (λ m. first_below m (is_of units u)) all },
 )
 
--- ---- each unit's record
+-- ---- the record of each unit
 
 pub record IsThere (places : List (Option ℕ)) (j : ℕ) (records : List ℕ) : Type 0 where
   pub none : first_below j (λ u. is_none (slice_index_or places u None)) ≡ None
@@ -94,7 +94,7 @@ module _ (places : List (Option ℕ)) (j : ℕ) (records : List ℕ) (before : I
     ];
   }
 
--- where each place has been looked at, no unit is missing, and each record is there
+-- once all places are read, no unit is missing, and each record is present
 pub there_all : (places : List (Option ℕ)) (j : ℕ) (records : List ℕ) → j ≡ length places → IsThere places j records → (unnamed places ≡ None) × AreThere places records
 there_all places j records all is = (
   ap (option_map fault.MissingUnit) (subst (λ (m : ℕ). first_below m (λ u. is_none (slice_index_or places u None)) ≡ None) all is.none),

@@ -1,4 +1,4 @@
--- The refusals of the input in their order, and its jobs.
+-- The faults of the input in their order, and its jobs.
 use Rattle.std.proofs.Common.{◌≡◌, ℕ, zero, suc, arith, List, ◌∷◌, Option, Some, None, Result, Ok, Err, refl, sym, ap, ◌∙◌, subst, inl, inr}
 use Rattle.std.specs.Prelude.{◌⊎◌}
 use Rattle.std.specs.List.{All}
@@ -32,40 +32,40 @@ use Rattle.audit_statement.specs.Origin.{origin_of, with_origin}
 use Rattle.plan_csv.specs.declared.named.Named.{Named}
 use Rattle.plan_csv.specs.JobStages.{IsNamedFault, IsOwn, IsOwnFault}
 
--- ---- each refusal
+-- ---- each fault
 
--- a refusal of the graph is the first of all
+-- a fault of the graph is the first of all
 pub graph_refused : (setting : Setting) (origin : Option Origin) (g t : List ℕ) (r : Result Parsed GraphFault) (f : GraphFault) → (f ≡ graph.Memory) ⊎ (r ≡ Err f)
     → (graph_end f ≡ fault.Memory) ⊎ (from_graph setting origin g t r ≡ Err (graph_end f))
 graph_refused setting origin g t r graph.Memory e = inl refl
 graph_refused setting origin g t r f (inl e) = cc e
 graph_refused setting origin g t r f (inr e) = inr (ap (from_graph setting origin g t) e)
 
--- a refusal of the regions is the first where the graph is read
+-- a fault of the regions is the first if the graph is sound
 pub regions_refused : (setting : Setting) (origin : Option Origin) (g t : List ℕ) (p : Parsed) (r : Result (List ℕ) RegionFault) (f : RegionFault)
     → (f ≡ region.Memory) ⊎ (r ≡ Err f) → (region_end f ≡ fault.Memory) ⊎ (jobs_over_regions setting origin g t p r ≡ Err (region_end f))
 regions_refused setting origin g t p r region.Memory e = inl refl
 regions_refused setting origin g t p r f (inl e) = cc e
 regions_refused setting origin g t p r f (inr e) = inr (ap (jobs_over_regions setting origin g t p) e)
 
--- a refusal of the table is the first where the graph and its regions are read
+-- a fault of the table is the first if the graph and its regions are sound
 pub table_refused : (setting : Setting) (origin : Option Origin) (p : Parsed) (regions : List ℕ) (r : Result (List Assigned) TableFault) (f : TableFault)
     → (f ≡ table.Memory) ⊎ (r ≡ Err f) → (table_end f ≡ fault.Memory) ⊎ (from_table setting origin p regions r ≡ Err (table_end f))
 table_refused setting origin p regions r table.Memory e = inl refl
 table_refused setting origin p regions r f (inl e) = cc e
 table_refused setting origin p regions r f (inr e) = inr (ap (from_table setting origin p regions) e)
 
--- a refusal of the graph's own plan is one of the plan
+-- a fault of the graph's own plan is one of the plan
 pub own_refused : (r : Result Job PlanFault) (f : PlanFault) → (f ≡ plan.Memory) ⊎ (r ≡ Err f) → (plan_end f ≡ fault.Memory) ⊎ IsOwnFault r (plan_end f)
 own_refused r plan.Memory e = inl refl
 own_refused r f (inl e) = cc e
 own_refused r f (inr e) = inr (f, e, refl)
 
--- a refusal of a plan of the table is told with the plan's name
+-- a fault of a plan of the table carries the plan's name
 pub others_refused : (name : List ℕ) (job : Job) (r : Result Jobs (List ℕ × PlanFault)) (f : PlansFault) → IsNamedFault r f → from_others name job r ≡ Err f
 others_refused name job r f is = ap (from_others name job) is.2 ∙ ap Err (sym is.3)
 
--- ---- what the graph's own job keeps
+-- ---- facts about the graph's own job
 
 module _ (p : Parsed) (setting : Setting) (regions : List ℕ) (job : Job) where
   pub own_keeps : job_of p setting regions ≡ Ok job → job_from p setting regions ≡ job
@@ -76,7 +76,7 @@ module _ (p : Parsed) (setting : Setting) (regions : List ℕ) (job : Job) where
       by None h = cc h
       by (Some f) h = cc h
 
--- the job of a graph with an origin has the units of the graph, and its setting
+-- the graph's own job with an origin has the graph's units and the setting
 module _ (p : Parsed) (setting : Setting) (origin : Option Origin) (regions : List ℕ) (n : Named) (is : IsOwn setting origin p regions n) where
   pub own_units : n.job.graph.units ≡ p.graph.units
   own_units = ap (λ (j : Job). j.graph.units) (is.told ∙ sym (ap (with_origin origin) (own_keeps p setting regions is.job is.made)))
@@ -101,7 +101,7 @@ module _ (p : Parsed) (setting : Setting) (origin : Option Origin) (regions t g 
       ∙ ap (λ (job : Job). from_others setting.columns.district job (named_jobs job plans)) (sym is.told)
       ∙ ap (λ (name : List ℕ). from_others name n.job (named_jobs n.job plans)) (sym is.named)
 
--- the jobs of the bytes are read of the graph before the line feed and of the table behind it, and come from all of them
+-- the jobs of the bytes come from the graph before the line feed and the table after it, with all bytes as origin
 pub jobs_are : (setting : Setting) (bytes : List ℕ) (origin : Option Origin) (g t : List ℕ) (r : Result Parsed GraphFault) → origin ≡ origin_of setting bytes
     → g ≡ graph_part bytes → t ≡ table_part bytes → reading g setting.columns ≡ r → jobs_reading setting bytes ≡ from_graph setting origin g t r
 unfolding jobs_reading
@@ -111,12 +111,12 @@ jobs_are setting bytes origin g t r origin_is graph_is table_is is =
     ∙ sym (ap (λ (x : List ℕ). from_graph setting origin g x (reading g setting.columns)) table_is)
     ∙ ap (from_graph setting origin g t) is
 
--- what holds of the first and of each further one
+-- a property of the first item and of the others holds of all
 pub all_first : {A : Type 0} (P : A → Type 0) → (x : A) (xs : List A) → P x → All P xs → All P (x ∷ xs)
 all_first P x xs here rest zero d l = here
 all_first P x xs here rest (suc k) d l = rest k d (omega (arith, l))
 
--- jobs that are all of one setting, one list of regions and one group share these
+-- jobs of one setting, one list of regions and one group share them
 pub shared_with : (n : Named) (ns : List Named) → IsJob n.job → All (IsOneOf n.job.setting n.job.regions n.job.group) ns → AreShared n.job.setting (n ∷ ns)
 shared_with n ns sound each = record {
   some = omega arith;

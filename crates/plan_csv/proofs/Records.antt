@@ -1,4 +1,4 @@
--- Records that were read one after another, to the end of a text, are all of its records.
+-- Records read one after another to the end are all records of a text.
 use Rattle.std.proofs.Common.{◌≡◌, ◌≤◌, ◌<◌, ◌+◌, ◌++◌, ℕ, zero, suc, List, [], ◌∷◌, length, Option, Some, None, Bool, true, false, if◌then◌else◌, refl, sym, ap, ◌∙◌, subst, arith}
 use Rattle.csv.specs.Machine.{Read, next_record, step, is_end, fields_after, field_after, ends_at_end}
 use Rattle.csv.specs.Reading.{AreRecords, Reached, records, records_from, records_next}
@@ -6,7 +6,7 @@ use Rattle.csv.specs.declared.parser.Config.{Config}
 use Rattle.csv.specs.declared.parser.State.{State}
 use Rattle.csv.specs.declared.parser.State.TheVariants as st
 
--- of two readings neither of which leaves more bytes than n, the one that is chosen does not
+-- if neither of two readings leaves more than n bytes, the chosen one does not either
 choose : (b : Bool) (a p : Read) (x : Option Read) (n : ℕ) → (if b then Some a else x) ≡ Some p → length a.2 ≤ n → (x ≡ Some p → length p.2 ≤ n) → length p.2 ≤ n
 choose true a p x n e l k = let same : a ≡ p = cc in subst (λ (q : Read). length q.2 ≤ n) same l
 choose false a p x n e l k = k e
@@ -34,12 +34,12 @@ at_end cfg n (r ∷ rs) s2 ys h = cc h.1
 at_end cfg zero [] s2 ys h = refl
 at_end cfg (suc n) [] s2 ys h = refl
 
--- where there is no other reading, the one that is there is the answer
+-- without another reading, the present one is the result
 last_one : (b : Bool) (a p : Read) → (if b then Some a else None) ≡ Some p → a ≡ p
 last_one true a p e = cc e
 last_one false a p e = cc e
 
--- enough turns give the records that were read
+-- enough fuel gives the records that were read
 turns : (cfg : Config) (n : ℕ) (rows : List (List (List ℕ))) (s : State) (xs : List ℕ) (s2 : State) (ys : List ℕ) → length xs < n → Reached cfg s xs rows s2 ys → next_record cfg s2 [] [] ys ≡ None
     → records_from cfg n s xs ≡ rows
 unfolding next_record records_from Reached
@@ -58,6 +58,6 @@ turns cfg (suc n) (r ∷ rs) s (c ∷ more) s2 ys l h none =
     ap (records_next (records_from cfg n)) h.1
     ∙ ap (λ t. p.0 ∷ t) (turns cfg n rs p.1 p.2 s2 ys (omega (arith, fewer, l)) h.3 none) ∙ ap (λ t. t ∷ rs) (sym h.2)
 
--- the records of the text are those that are read one after the other
+-- the records of the text are those read one after another
 pub all_records : (cfg : Config) (xs : List ℕ) (rows : List (List (List ℕ))) → AreRecords cfg st.StartRecord xs rows → rows ≡ records cfg xs
 all_records cfg xs rows h = sym (turns cfg (length xs + 1) rows st.StartRecord xs h.0 h.1 (omega arith) h.2 h.3)

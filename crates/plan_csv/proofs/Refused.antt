@@ -1,4 +1,4 @@
--- The refusals of the ids and of the units, in their order.
+-- The faults of the ids and units, in their order.
 use Rattle.std.proofs.Common.{◌≡◌, ℕ, List, [], length, Option, Some, None, ap, ◌∙◌}
 use Rattle.std.specs.Option.{option_or}
 use Rattle.audit_model.specs.declared.fault.TableFault.{TableFault}

@@ -1,4 +1,4 @@
--- The units that records name, one record after another.
+-- The units that records name, record by record.
 use Rattle.std.proofs.Common.{◌≡◌, ◌<◌, ◌+◌, ◌++◌, ℕ, suc, List, [], ◌∷◌, length, bytes_eq, not, Some, None, Bool, sym, ap, ◌∙◌, subst, inl, inr, arith, length-append}
 use Rattle.std.specs.List.{slice_index_or}
 use Rattle.std.specs.Map.{lookup}
@@ -51,7 +51,7 @@ module _ {K : Type 0} (text : K → List ℕ) (ids : List Label) (index : List (
     ];
   }
 
--- where each record has been looked at, none has an unknown id, and the units are those of the ids
+-- once all records are read, no id is unknown, and each record has its unit
 pub united_all : (ids : List Label) (rows : List (List (List ℕ))) (j : ℕ) (units : List ℕ) → j ≡ length rows → IsUnited ids rows j units → (unknown_id ids [] rows ≡ None) × AreUnits ids rows units
 united_all ids rows j units all is = (
   ap (option_map (λ entry. fault.UnknownId (suc entry))) (subst (λ (m : ℕ). first_below m (λ e. not (any_below (length ids) (names_unit ids [] rows e))) ≡ None) all is.none),

@@ -1,4 +1,4 @@
--- Records that are read as texts, one after another.
+-- Records read as texts, one after another.
 use Rattle.std.proofs.Common.{◌≡◌, ◌≢◌, ◌<◌, ◌+◌, ◌==◌, ◌||◌, ◌++◌, ℕ, zero, suc, List, [], ◌∷◌, length, map, not, Some, None, Bool, true, false, refl, sym, ap, ◌∙◌, subst, arith, length-append, append_assoc, eq-eqb}
 use Rattle.std.specs.List.{list_all, slice_index_or}
 use Rattle.std.specs.Option.{option_map}
@@ -12,26 +12,26 @@ use Rattle.audit_model.specs.declared.fault.TableFault.TheVariants as fault
 use Rattle.audit_model.proofs.First.{first_below_more, first_below_here}
 use Rattle.plan_csv.specs.Stages.{is_unread, unread}
 
--- a field that is not there reads as empty
+-- a missing field reads as empty
 pub none_there : (fields : List (List ℕ)) (i : ℕ) → field_at fields i ≡ None → slice_index_or fields i [] ≡ []
 unfolding field_at
 none_there [] i e = refl
 none_there (f ∷ fs) zero e = cc e
 none_there (f ∷ fs) (suc i) e = none_there fs i e
 
--- where each field is text, all pass the test of text
+-- if all fields are UTF-8, all pass the test
 all_text : (row : List (List ℕ)) → AllText row → list_all is_utf8 row ≡ true
 unfolding AllText
 all_text [] h = refl
 all_text (f ∷ fs) h = and_from (is_utf8 f) (list_all is_utf8 fs) (is_utf8-from_IsUtf8 f h.0) (all_text fs h.1)
 
--- where all fields pass the test of text, each is text
+-- if all fields pass the test, all are UTF-8
 text_all : (row : List (List ℕ)) → list_all is_utf8 row ≡ true → AllText row
 unfolding AllText
 text_all [] h = tt
 text_all (f ∷ fs) h = let parts = and_parts (is_utf8 f) (list_all is_utf8 fs) h in (IsUtf8-from_is_utf8 f parts.0, text_all fs parts.1)
 
--- a record of so many fields, all of them text, can be read
+-- a record with the right width and UTF-8 fields is readable
 pub readable : (columns : ℕ) (row : List (List ℕ)) → length row ≡ columns → AllText row → is_unread columns row ≡ false
 readable columns row l t = tests (length row == columns) (list_all is_utf8 row) (eq-eqb (length row) columns l) (all_text row t)
   where
@@ -40,7 +40,7 @@ readable columns row l t = tests (length row == columns) (list_all is_utf8 row) 
     tests true false e f = sym f
     tests false b e f = cc e
 
--- a record of another number of fields cannot be read
+-- a record with another width is unreadable
 pub uneven : (columns : ℕ) (row : List (List ℕ)) → length row ≢ columns → is_unread columns row ≡ true
 uneven columns row n = tests (length row == columns) (list_all is_utf8 row) (λ e. n (eqb-true (length row) columns e))
   where
@@ -48,7 +48,7 @@ uneven columns row n = tests (length row == columns) (list_all is_utf8 row) (λ 
     tests true b f = absurd (f refl)
     tests false b f = refl
 
--- a record with a field that is no text cannot be read
+-- a record with a field that is not UTF-8 is unreadable
 pub broken : (columns : ℕ) (row : List (List ℕ)) → (AllText row → ⊥) → is_unread columns row ≡ true
 broken columns row n = tests (length row == columns) (list_all is_utf8 row) (λ e. n (text_all row e))
   where
@@ -57,12 +57,12 @@ broken columns row n = tests (length row == columns) (list_all is_utf8 row) (λ 
     tests true false f = refl
     tests false false f = refl
 
--- what was read, and what is left
+-- the records read so far, and those left
 pub record IsRead (columns : ℕ) (rows : List (List (List ℕ))) (texts left : List Row) : Type 0 where
   pub split : map fields_of texts ++ map fields_of left ≡ rows
   pub none : first_below (length texts) (λ r. is_unread columns (slice_index_or rows r [])) ≡ None
 
--- the record behind those that are done is the next
+-- the record after those read is the next one
 at_split : (done rest : List (List (List ℕ))) (row : List (List ℕ)) → slice_index_or (done ++ row ∷ rest) (length done) [] ≡ row
 at_split [] rest row = refl
 at_split (d ∷ done) rest row = at_split done rest row
@@ -99,7 +99,7 @@ module _ (columns : ℕ) (rows : List (List (List ℕ))) (texts left after : Lis
         (first_below_more (length texts) (λ r. is_unread columns (slice_index_or rows r [])) before.none (ap (is_unread columns) here ∙ good));
   }
 
--- where none is left, the records are those that were read, and none is refused
+-- once none is left, the records are those read, and none is unreadable
 pub read_all : (columns : ℕ) (rows : List (List (List ℕ))) (texts left : List Row) → IsRead columns rows texts left → left ≡ [] → (map fields_of texts ≡ rows) × (unread columns rows ≡ None)
 read_all columns rows texts left before none =
     let all : map fields_of texts ≡ rows = sym (append-nil (map fields_of texts)) ∙ ap (λ (l : List Row). map fields_of texts ++ map fields_of l) (sym none) ∙ before.split in

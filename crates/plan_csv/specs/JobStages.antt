@@ -1,4 +1,4 @@
--- The jobs one after another.
+-- Relations between the steps that make jobs.
 use Rattle.std.specs.Prelude.{◌≡◌, ℕ, List, Option, Result, Ok, Err}
 use Rattle.audit_model.specs.declared.fault.PlanFault.{PlanFault}
 use Rattle.audit_model.specs.declared.origin.Origin.{Origin}
@@ -13,17 +13,17 @@ use Rattle.plan_csv.specs.declared.named.Named.{Named}
 use Rattle.audit_statement.specs.Jobs.{Jobs}
 use Rattle.audit_statement.specs.Origin.{with_origin}
 
--- the job of the plan, by another job
+-- the job of the plan, on the data of another job
 pub record IsNamedBy (job : Job) (plan : Assigned) (n : Named) : Type 0 where
   pub named : n.name ≡ plan.name
   pub made : job_with job plan.start plan.labels ≡ Ok n.job
   pub sound : IsJob n.job
 
--- the plan is refused so
+-- the plan is refused with this fault
 abbrev pub RefusesPlan : Job → Assigned → PlansFault → Type 0
 RefusesPlan job plan f = (p : PlanFault) × (job_with job plan.start plan.labels ≡ Err p) × (f ≡ fault.Other plan.name p)
 
--- the refusal is that of a plan of the table
+-- the fault is that of a plan of the table
 abbrev pub IsNamedFault : Result Jobs (List ℕ × PlanFault) → PlansFault → Type 0
 IsNamedFault r f = (name : List ℕ) × (p : PlanFault) × (r ≡ Err (name, p)) × (f ≡ fault.Other name p)
 
@@ -35,6 +35,6 @@ pub record IsOwn (setting : Setting) (origin : Option Origin) (parsed : Parsed) 
   pub told : n.job ≡ with_origin origin job
   pub sound : IsJob n.job
 
--- the refusal is that of the graph's own plan
+-- the fault is that of the graph's own plan
 abbrev pub IsOwnFault : Result Job PlanFault → PlansFault → Type 0
 IsOwnFault r f = (p : PlanFault) × (r ≡ Err p) × (f ≡ fault.Own p)

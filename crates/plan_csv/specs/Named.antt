@@ -1,4 +1,4 @@
--- Jobs under the names of their plans.
+-- Jobs with the names of their plans.
 use Rattle.std.specs.Prelude.{◌≡◌, ℕ, List, map}
 use Rattle.audit_model.specs.declared.rules.Group.{Group}
 use Rattle.audit_model.specs.declared.setting.Setting.{Setting}
@@ -13,7 +13,7 @@ pair_of n = (n.name, n.job)
 abbrev pub jobs_of : List Named → List (List ℕ × Job)
 jobs_of named = map pair_of named
 
--- it is a job with this setting, these regions and this group
+-- a job with this setting, these regions and this group
 pub record IsOneOf (setting : Setting) (regions : List ℕ) (group : Group) (n : Named) : Type 0 where
   pub sound : IsJob n.job
   pub set : n.job.setting ≡ setting

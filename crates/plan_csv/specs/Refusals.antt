@@ -1,4 +1,4 @@
--- A refusal of a lower layer, of which want of memory is merged with every other.
+-- Faults of lower layers. Every kind of out-of-memory becomes one variant.
 use Rattle.std.specs.Prelude.{ℕ, List}
 use Rattle.audit_model.specs.declared.fault.GraphFault.{GraphFault}
 use Rattle.audit_model.specs.declared.fault.GraphFault.TheVariants as graph

@@ -1,4 +1,4 @@
--- What the jobs of several plans share.
+-- Data shared by the jobs of several plans.
 use Rattle.std.specs.Prelude.{ℕ, ◌<◌, List, length}
 use Rattle.std.specs.List.{All}
 use Rattle.audit_model.specs.declared.rules.Group.{Group}
@@ -6,7 +6,7 @@ use Rattle.audit_model.specs.declared.setting.Setting.{Setting}
 use Rattle.plan_csv.specs.declared.named.Named.{Named}
 use Rattle.plan_csv.specs.Named.{IsOneOf}
 
--- there is one, and all are jobs with this setting and with the same regions and group
+-- there is at least one job, and all share this setting, the regions and the group
 pub record AreShared (setting : Setting) (named : List Named) : Type 0 where
   pub some : 0 < length named
   pub regions : List ℕ

@@ -1,4 +1,4 @@
--- The stages of the reading: what each of the code's steps answers of.
+-- The stages of reading a table, one definition per step of the code.
 use Rattle.std.specs.Prelude.{◌≡◌, ◌<◌, ℕ, suc, ◌==◌, ◌||◌, Bool, not, List, [], ◌∷◌, length, slice_index, bytes_eq, Option, None, Some, option_map}
 use Rattle.std.specs.Cmp.Lexicographic.{slice_cmp}
 use Rattle.std.specs.Map.{lookup}
@@ -16,30 +16,30 @@ use Rattle.audit_statement.specs.Table.{unit_text, names_unit, entry_of, shared_
 use Rattle.dual_json.specs.Districts.{AreDistricts}
 use Rattle.dual_json.specs.Places.{nth}
 
--- a record has not so many fields, or a field is no text
+-- a record has another number of fields, or a field that is not UTF-8
 abbrev pub is_unread : ℕ → List (List ℕ) → Bool
 is_unread columns row = not (length row == columns) || not (list_all is_utf8 row)
 
--- the first record that cannot be read, where all are to have so many fields
+-- the fault of the first record that is unreadable or not `columns` wide
 abbrev pub unread : ℕ → List (List (List ℕ)) → Option TableFault
 unread columns rows = option_map fault.Unreadable (first_below (length rows) (λ r. is_unread columns (slice_index_or rows r [])))
 
 -- ---- the units
 
--- the unit whose id as text is q, where keys of the entries are read as texts
+-- the index finds the unit of each id text; `text` reads a key as a text
 abbrev pub IsUnitIndex : {K : Type 0} → (K → List ℕ) → List Label → List (K × ℕ) → Type 0
 IsUnitIndex {K} text ids entries = (q : List ℕ) → lookup (λ k. is_eq (slice_cmp nat_cmp q (text k))) entries ≡ first_below (length ids) (λ u. bytes_eq q (unit_text ids [] [] u))
 
--- the first unit of each record's id
+-- the first unit with each record's id
 pub record AreUnits (ids : List Label) (entries : List (List (List ℕ))) (units : List ℕ) : Type 0 where
   pub count : length units ≡ length entries
   pub each : (e : ℕ) → e < length entries → first_below (length ids) (names_unit ids [] entries e) ≡ Some (slice_index_or units e 0)
 
--- whether a record's unit is u
+-- a record's unit is u
 abbrev pub is_of : List ℕ → ℕ → ℕ → Bool
 is_of units u e = slice_index_or units e 0 == u
 
--- the first record whose unit an earlier one has too
+-- the first record whose unit an earlier record has too
 abbrev pub unit_repeated : List ℕ → Option TableFault
 unit_repeated units = option_map (λ e. fault.Twice (suc e)) (first_below (length units) (λ e. any_below e (is_of units (slice_index_or units e 0))))
 
@@ -48,20 +48,20 @@ pub record AreFirstRecords (units : List ℕ) (count : ℕ) (places : List (Opti
   pub size : length places ≡ count
   pub each : (u : ℕ) → u < count → slice_index_or places u None ≡ first_below (length units) (is_of units u)
 
--- the first unit with no record
+-- the first unit without a record
 abbrev pub unnamed : List (Option ℕ) → Option TableFault
 unnamed places = option_map fault.MissingUnit (first_below (length places) (λ u. is_none (slice_index_or places u None)))
 
--- each unit's record
+-- the record of each unit
 pub record AreThere (places : List (Option ℕ)) (records : List ℕ) : Type 0 where
   pub size : length records ≡ length places
   pub each : (u : ℕ) → u < length places → slice_index_or places u None ≡ Some (slice_index_or records u 0)
 
--- the refusals of the ids and the units
+-- the faults of the ids and of the units
 abbrev pub refused_units : List Label → List (List (List ℕ)) → Option TableFault
 refused_units ids rows = first_some (shared_id ids [] rows ∷ unknown_id ids [] rows ∷ repeated_unit ids [] rows ∷ missing_unit ids [] rows ∷ [])
 
--- the record of each unit
+-- the record of each unit, by its id
 pub record AreRecords (ids : List Label) (rows : List (List (List ℕ))) (records : List ℕ) : Type 0 where
   pub size : length records ≡ length ids
   pub each : (u : ℕ) → u < length ids → entry_of ids [] rows u ≡ slice_index_or records u 0
@@ -69,12 +69,12 @@ pub record AreRecords (ids : List Label) (rows : List (List (List ℕ))) (record
 
 -- ---- the labels
 
--- the labels are those of a plan in the records
+-- the labels of a plan's column, record by record
 pub record AreLabelsOf (rows : List (List (List ℕ))) (plan : ℕ) (labels : List Label) : Type 0 where
   pub count : length labels ≡ length rows
   pub each : (e : ℕ) → e < length rows → nth labels e ≡ label_in [] [] rows plan e
 
--- a plan with its name and its labels, where these are the different ones among the labels of the records, and each unit's record is known
+-- a plan with this name, whose labels are the distinct ones among the records' labels
 pub record IsAssigned (name : List ℕ) (labels found : List Label) (records : List ℕ) (plan : Assigned) : Type 0 where
   pub named : plan.name ≡ name
   pub labelled : plan.labels ≡ found
@@ -82,7 +82,7 @@ pub record IsAssigned (name : List ℕ) (labels found : List Label) (records : L
   pub are : AreDistricts labels found districts
   pub start : plan.start ≡ map_below (length records) (λ u. slice_index districts (slice_index records u))
 
--- the plan of a table, where each unit's record is known
+-- the plan of a column, given the record of each unit
 abbrev pub assigned_by : List (List ℕ) → List (List (List ℕ)) → List ℕ → ℕ → Assigned
 assigned_by header rows records plan = record {
   name = plan_name [] header [] plan;
@@ -90,15 +90,15 @@ assigned_by header rows records plan = record {
   labels = map_below (label_count [] [] rows plan) (label_of_district [] [] rows plan);
 }
 
--- ---- all refusals
+-- ---- all faults
 
--- those after the first
+-- the faults after the unreadable records
 abbrev pub later : List Label → List (List ℕ) → List (List (List ℕ)) → Option TableFault
 later ids header entries = first_some (
     lacks_header ids header entries ∷ too_many ids header entries ∷ bad_name ids header entries ∷ shared_id ids header entries
     ∷ unknown_id ids header entries ∷ repeated_unit ids header entries ∷ missing_unit ids header entries ∷ refused_count ids header entries ∷ [])
 
--- the first refusal of the records
+-- the first fault of the records
 abbrev pub refused : List Label → List (List (List ℕ)) → Option TableFault
 refused ids [] = Some fault.NoHeader
 refused ids (header ∷ entries) = refusal ids header entries

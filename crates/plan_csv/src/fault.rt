@@ -1,4 +1,5 @@
-//! Why several plans of one graph are refused.
+//! Conversions of faults of lower layers to [`PlansFault`]. Every kind of out-of-memory becomes one
+//! variant.
 
 ghost use Rattle.std.specs.Prelude.{◌≡◌};
 ghost use Rattle.plan_csv.specs.Refusals.{graph_end, region_end, table_end, plan_end, named_end};
@@ -6,7 +7,7 @@ ghost use Rattle.plan_csv.specs.Refusals.{graph_end, region_end, table_end, plan
 use audit_model::fault::{GraphFault, PlanFault, PlansFault, RegionFault, TableFault};
 use audit_model::text::Text;
 
-/// The refusal of a graph.
+/// Converts a fault of the graph.
 pub fn of_graph(fault: GraphFault) -> PlansFault
     ensures { result ≡ graph_end fault }
 {
@@ -16,7 +17,7 @@ pub fn of_graph(fault: GraphFault) -> PlansFault
     }
 }
 
-/// The refusal of its regions.
+/// Converts a fault of the regions.
 pub fn of_regions(fault: RegionFault) -> PlansFault
     ensures { result ≡ region_end fault }
 {
@@ -26,7 +27,7 @@ pub fn of_regions(fault: RegionFault) -> PlansFault
     }
 }
 
-/// The refusal of a table.
+/// Converts a fault of the table.
 pub fn of_table(fault: TableFault) -> PlansFault
     ensures { result ≡ table_end fault }
 {
@@ -36,7 +37,7 @@ pub fn of_table(fault: TableFault) -> PlansFault
     }
 }
 
-/// The refusal of the graph's own plan.
+/// Converts a fault of the graph's own plan.
 pub fn of_own(fault: PlanFault) -> PlansFault
     ensures { result ≡ plan_end fault }
 {
@@ -46,7 +47,7 @@ pub fn of_own(fault: PlanFault) -> PlansFault
     }
 }
 
-/// The refusal of the plan of a name.
+/// Converts a fault of the plan with this name.
 pub fn of_other(name: Text, fault: PlanFault) -> PlansFault
     ensures { result ≡ named_end name fault }
 {

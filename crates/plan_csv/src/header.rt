@@ -1,4 +1,4 @@
-//! The first record: a title and the plans' names.
+//! The header record: a title and the plans' names.
 
 ghost use Rattle.std.specs.Prelude.{◌≡◌, ◌∷◌, ◌&&◌, nat_le, None, Some, [], MatchResult};
 ghost use Rattle.std.specs.List.{list_all};
@@ -10,10 +10,10 @@ use crate::rows::field;
 use audit_model::fault::TableFault;
 use csv::StringRecord;
 
-/// How many plans a table may have.
+/// The maximum number of plans in a table.
 pub const MOST_PLANS: usize = 16;
 
-/// Whether a text is 1 to 100 bytes that are seen.
+/// Returns true if a text is 1 to 100 visible ASCII characters.
 pub fn is_plan_name(name: &str) -> bool
     ensures { result ≡ table.is_plan_name name.now }
 {
@@ -22,7 +22,7 @@ pub fn is_plan_name(name: &str) -> bool
     1 <= bytes.len() && bytes.len() <= 100 && seen
 }
 
-/// How many plans the first record names.
+/// Returns the number of plans that the header names, or its first fault.
 pub fn plans_of(header: &StringRecord) -> Result<usize, TableFault>
     ensures { MatchResult result
         (λ plans. (plans ≡ table.plan_count [] (fields_of header.now) [])
@@ -47,14 +47,14 @@ pub fn plans_of(header: &StringRecord) -> Result<usize, TableFault>
     Ok(plans)
 }
 
-/// Whether a byte is seen.
+/// Returns true if a byte is visible ASCII.
 fn is_seen(byte: u8) -> bool
     ensures { result ≡ (nat_le 33 byte && nat_le byte 126) }
 {
     byte >= 33 && byte <= 126
 }
 
-/// Whether each byte is seen.
+/// Returns true if all bytes are visible ASCII.
 fn are_seen(bytes: &[u8]) -> bool
     ensures { result ≡ list_all (λ c. nat_le 33 c && nat_le c 126) bytes.now }
 {

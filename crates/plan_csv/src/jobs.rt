@@ -1,4 +1,4 @@
-//! From the input to the jobs.
+//! The jobs of an input.
 
 ghost use Rattle.std.specs.Prelude.{◌≡◌, ◌⊎◌, ◌∷◌, [], Ok, Err, length, All, IfOk, MatchResult};
 ghost use Rattle.audit_model.specs.declared.fault.RegionFault.TheVariants as region;
@@ -35,7 +35,7 @@ use dual_json::{read_graph, read_ids, read_regions};
 use plan_core::job::Job;
 use std::alloc::Global;
 
-/// The regions of a text that is a graph, and none where no column is named.
+/// Reads the regions of the units, or returns an empty list if no column is named.
 fn regions_of(alloc: Global, bytes: &[u8], column: &Text) -> Result<UnitList, RegionFault>
     requires graph { IsGraphText bytes.now }
     ensures read { MatchResult result (λ regions. regions_by column.now bytes.now ≡ Ok regions)
@@ -48,7 +48,7 @@ fn regions_of(alloc: Global, bytes: &[u8], column: &Text) -> Result<UnitList, Re
     read_regions(alloc, bytes, column)
 }
 
-/// The jobs, and this one before them.
+/// Inserts a job before the others.
 fn with_first(named: Vec<Named>, own: Named) -> Result<Vec<Named>, Memory>
     ensures { IfOk result (λ all. all.items ≡ own ∷ named.items) }
 {
@@ -59,7 +59,7 @@ fn with_first(named: Vec<Named>, own: Named) -> Result<Vec<Named>, Memory>
     }
 }
 
-/// The jobs of the plans of a table after that of the graph's own plan.
+/// Makes the jobs of the table's plans and puts the graph's own job first.
 fn join(alloc: Global, own: Named, plans: &[Assigned]) -> Result<Vec<Named>, PlansFault>
     requires sound { IsJob own.job }
     requires fit { All (IsPlanOf own.job.graph.units) plans.now }
@@ -76,7 +76,7 @@ fn join(alloc: Global, own: Named, plans: &[Assigned]) -> Result<Vec<Named>, Pla
     }
 }
 
-/// The job of the graph's own plan, under the name of its district column, with this origin.
+/// Makes the job of the graph's own plan, named after its district column.
 fn own_of(
     alloc: Global,
     setting: &Setting,
@@ -106,7 +106,7 @@ fn own_of(
     }
 }
 
-/// The jobs of a graph that was read, with these regions, and of a table, all with this origin.
+/// Makes all jobs from a parsed graph, its regions and the table.
 fn jobs_from(
     alloc: Global,
     setting: &Setting,
@@ -136,7 +136,7 @@ fn jobs_from(
     }
 }
 
-/// The jobs of a graph that was read, and of a table, all with this origin.
+/// Makes all jobs from a parsed graph and the table.
 fn jobs_read(
     alloc: Global,
     setting: &Setting,
@@ -158,13 +158,16 @@ fn jobs_read(
     }
 }
 
-/// The jobs of several plans of one graph: of the graph's own plan under the name of its district column, and then of each plan of the table
-/// that stands behind the first line feed. The origin of each, where the setting asks for it, is that of all bytes.
+/// Makes the jobs of several plans on one graph.
+///
+/// The bytes up to the first line feed are the graph, the rest is the table. The first job is that
+/// of the graph's own plan, named after its district column. Each origin, if the setting asks for
+/// it, covers all bytes.
 ///
 /// # Errors
 ///
-/// The first of these, want of memory excepted, which may come at any place: what refuses the graph, its regions, the table, the graph's own plan,
-/// and the plans of the table in their order, with the name of the plan.
+/// The first fault of the graph, its regions, the table, the graph's own plan, and the table's
+/// plans in their order, with their names. `Memory` may come at any point.
 pub fn read_jobs(alloc: Global, setting: &Setting, bytes: &[u8]) -> Result<Vec<Named>, PlansFault>
     requires { IsSetting setting.now }
     ensures read { MatchResult result (λ named. jobs_reading setting.now bytes.now ≡ Ok (jobs_of named.items))

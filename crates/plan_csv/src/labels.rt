@@ -1,4 +1,4 @@
-//! The labels of a plan, and the plan that they make.
+//! The labels of a plan, and the plan they make.
 
 ghost use Rattle.std.specs.Prelude.{◌≡◌, ◌≤◌, ◌<◌, ◌||◌, ◌⊎◌, ℕ, nat_lt, true, false, [], length, map, slice_index, IfOk, MatchResult};
 ghost use Rattle.csv.specs.Records.{fields_of};
@@ -22,14 +22,14 @@ use dual_json::districts::{different, labels_of, start_of};
 use dual_json::names::Name;
 use std::alloc::Global;
 
-/// Whether a plan may not have so many districts.
+/// Returns true if a plan may not have this number of districts.
 pub fn is_miscounted(districts: usize) -> bool
     ensures { result ≡ (nat_lt districts 2 || nat_lt most_districts districts) }
 {
     districts < 2 || districts > 200
 }
 
-/// The plan whose labels stand in the column after its number, where each unit's record is known; or that it has too few or too many districts.
+/// Makes the plan of a column, or returns `DistrictCount`. `records` gives the record of each unit.
 pub fn plan_of(
     alloc: Global,
     header: &StringRecord,
@@ -59,7 +59,7 @@ pub fn plan_of(
     Ok(assigned_of(alloc, field(header, plan + 1), &names, &found, records)?)
 }
 
-/// The label of each record in a plan.
+/// Returns the label of each record in a plan's column.
 fn names_of<'e>(
     alloc: Global,
     entries: &'e [StringRecord],
@@ -75,7 +75,7 @@ fn names_of<'e>(
     Ok(names)
 }
 
-/// A text of its own.
+/// Copies a text. Fails if there is no memory.
 fn text_of(alloc: Global, text: &str) -> Result<Text, Memory>
     ensures { IfOk result (λ copy. copy ≡ text.now) }
 {
@@ -84,7 +84,7 @@ fn text_of(alloc: Global, text: &str) -> Result<Text, Memory>
     Ok(copy)
 }
 
-/// The district of each unit, where that of each record and each unit's record are known.
+/// Maps the district of each record to the district of each unit.
 fn picked(alloc: Global, districts: &[u32], records: &[usize]) -> Result<UnitList, Memory>
     requires { (u : ℕ) → u < length records.now → slice_index records.now u < length districts.now }
     ensures { IfOk result (λ start. start ≡ map_below (length records.now) (λ u. slice_index districts.now (slice_index records.now u))) }
@@ -96,7 +96,8 @@ fn picked(alloc: Global, districts: &[u32], records: &[usize]) -> Result<UnitLis
     Ok(start)
 }
 
-/// The plan of a name, where the label of each record, the different ones among these and each unit's record are known.
+/// Makes a plan from its name, the label of each record, the distinct labels and the record of each
+/// unit.
 fn assigned_of(
     alloc: Global,
     name: &str,

@@ -1,4 +1,4 @@
-//! Reading the plans of a table that stands behind a graph, and the job of each plan, or the first refusal.
+//! Plans from a CSV table that follows a graph: reads the table, and makes the job of each plan.
 #![tactic(auto)]
 
 pub mod fault;

@@ -1,4 +1,4 @@
-//! The jobs of the plans of a table.
+//! The jobs of a table's plans.
 
 ghost use Rattle.std.specs.Prelude.{◌≡◌, ◌⊎◌, [], Ok, All, IfOk, MatchResult};
 ghost use Rattle.audit_model.specs.JobOf.{IsJob, job_with};
@@ -13,7 +13,7 @@ use audit_model::text::Text;
 use plan_core::job::Job;
 use std::alloc::Global;
 
-/// A job under the name of its plan.
+/// A job with the name of its plan.
 #[derive(Drop)]
 pub struct Named {
     pub name: Text,
@@ -23,7 +23,7 @@ pub struct Named {
 ghost use Rattle.plan_csv.specs.Named.{jobs_of, IsOneOf};
 ghost use Rattle.plan_csv.specs.JobStages.{IsNamedBy, IsNamedFault, RefusesPlan};
 
-/// The job of a plan of a table, by the graph, the setting, the regions, the group and the origin of another job.
+/// Makes the job of one plan of a table on the graph and setting of `job`.
 fn named_of(alloc: Global, job: &Job, plan: &Assigned) -> Result<Named, PlansFault>
     requires fit { IsPlanOf job.now.graph.units plan.now }
     ensures { MatchResult result (IsNamedBy job.now plan.now) (λ f. (f ≡ fault.Memory) ⊎ RefusesPlan job.now plan.now f) }
@@ -43,7 +43,7 @@ fn named_of(alloc: Global, job: &Job, plan: &Assigned) -> Result<Named, PlansFau
     }
 }
 
-/// Adds the jobs of the plans of a table to none.
+/// Appends the jobs of a table's plans to an empty list.
 fn add_all(
     named: &mut Vec<Named>,
     alloc: Global,
@@ -69,7 +69,7 @@ fn add_all(
     Ok(())
 }
 
-/// The jobs of the plans of a table, by the graph, the setting, the regions, the group and the origin of another job.
+/// Makes the jobs of a table's plans on the graph and setting of `job`. Stops at the first fault.
 pub fn named_all(alloc: Global, job: &Job, plans: &[Assigned]) -> Result<Vec<Named>, PlansFault>
     requires fit { All (IsPlanOf job.now.graph.units) plans.now }
     ensures read { MatchResult result (λ named. named_jobs job.now plans.now ≡ Ok (jobs_of named.items))

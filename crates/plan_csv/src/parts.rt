@@ -3,21 +3,21 @@
 ghost use Rattle.std.specs.Prelude.{◌≡◌, ◌==◌, position};
 ghost use Rattle.audit_statement.specs.Table as table;
 
-/// The two parts of the input.
+/// The bytes of the graph, and those of the table that follows it.
 #[derive(Clone, Copy)]
 pub struct Parts<'b> {
     pub graph: &'b [u8],
     pub table: &'b [u8],
 }
 
-/// Where the first line feed is.
+/// Finds the first line feed.
 fn line_feed(bytes: &[u8]) -> Option<usize>
     ensures { result ≡ position (λ c. c == 10) bytes.now }
 {
     bytes.iter().position(|c| *c == b'\n')
 }
 
-/// The bytes before the first line feed, which are the graph, and those after it, which are the table. Where there is none, all are the graph.
+/// Splits the bytes at the first line feed. Without one, all of them are the graph.
 pub fn parts_of(bytes: &[u8]) -> Parts<'_>
     ensures graph { result.graph.now ≡ table.graph_part bytes.now }
     ensures table { result.table.now ≡ table.table_part bytes.now }

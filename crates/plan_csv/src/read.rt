@@ -1,4 +1,4 @@
-//! The whole reading.
+//! Reading a whole table.
 
 ghost use Rattle.std.specs.Prelude.{◌≡◌, ◌≤◌, ◌<◌, ◌^◌, ◌⊎◌, ℕ, [], None, Some, Ok, Err, length, map, slice_index, All, IfOk, MatchResult};
 ghost use Rattle.csv.specs.Records.{fields_of};
@@ -19,24 +19,27 @@ use audit_model::plans::AssignedList;
 use csv::StringRecord;
 use std::alloc::Global;
 
-/// The plans of a table over units with these ids, or the first reason to refuse it.
+/// Reads the plans of a table over units with these ids.
 ///
-/// The table's first record is a title and the plans' names; each further one is a unit's id and its labels.
+/// The first record is a title and the plans' names. Each further record is a unit's id and its
+/// label in each plan.
 ///
 /// # Errors
 ///
-/// The refusals are tested in the order of the variants of [`TableFault`], each over the whole table and at its least place.
+/// The faults are tested in this order, each over the whole table, and reported at its first place.
 ///
-/// - `Unreadable`: a record with another number of fields than the first, or with a field that is no text.
+/// - `Unreadable`: a record with another number of fields than the first, or a field that is not
+///   UTF-8.
 /// - `NoHeader`: there is no record, or the first has fewer than two fields.
-/// - `TooManyPlans`: how many plans there are, which are more than 16.
-/// - `BadName`: a plan whose name is not 1 to 100 bytes that are seen.
-/// - `SharedId`: the least unit whose id as text is that of an earlier one.
-/// - `UnknownId`: a record whose first field is no unit's id as text.
+/// - `TooManyPlans`: more than 16 plans. It gives their number.
+/// - `BadName`: a plan name that is not 1 to 100 visible ASCII characters.
+/// - `SharedId`: two units with equal ids as text; the least such unit and the earlier one.
+/// - `UnknownId`: a record whose first field is no unit's id.
 /// - `Twice`: a record whose unit an earlier record names.
 /// - `MissingUnit`: a unit that no record names.
-/// - `DistrictCount`: a plan with fewer than 2 or more than 200 different labels.
-/// - `Memory`: there was no memory for the records, or for the plans.
+/// - `DistrictCount`: a plan with fewer than 2 or more than 200 distinct labels.
+///
+/// `Memory` comes if there was no memory for the records or the plans.
 pub fn read_plans(alloc: Global, bytes: &[u8], ids: &LabelList) -> Result<AssignedList, TableFault>
     requires { length ids.now ≤ most_units }
     ensures read { MatchResult result (λ plans. table.table_reading bytes.now ids.now ≡ Ok plans)
@@ -52,7 +55,7 @@ pub fn read_plans(alloc: Global, bytes: &[u8], ids: &LabelList) -> Result<Assign
     }
 }
 
-/// The plans whose labels stand in the columns after the first, where each unit's record is known.
+/// Makes the plans of the columns after the first. `records` gives the record of each unit.
 fn labelled(
     alloc: Global,
     header: &StringRecord,
@@ -79,7 +82,7 @@ fn labelled(
     Ok(list)
 }
 
-/// The plans of records that are texts with as many fields as the first.
+/// Makes the plans from records that are texts of equal width.
 fn plans_from(
     alloc: Global,
     header: &StringRecord,

@@ -1,4 +1,4 @@
-//! The records of a table, as texts.
+//! The records of a table as texts.
 
 ghost use Rattle.std.specs.Prelude.{◌≡◌, ◌⊎◌, None, Some, [], IfOk, MatchResult, length, map};
 ghost use Rattle.std.specs.List.{slice_index_or};
@@ -12,11 +12,11 @@ use audit_model::memory::Memory;
 use csv::{ByteRecord, ReaderBuilder, StringRecord};
 use std::alloc::Global;
 
-/// Every record of a table that has no header row of its own.
+/// Reads all records; none is skipped as a header.
 pub fn records_of(alloc: Global, bytes: &[u8]) -> Result<Vec<ByteRecord>, Memory>
     ensures { IfOk result (λ rows. map fields_of rows.items ≡ records default_config (strip_bom bytes.now)) }
 {
-    // Records may differ in length here, so that the first that does is refused by its number.
+    // Records may differ in width here, so that the first odd one is reported by its number.
     let reader = ReaderBuilder::new()
         .has_headers(false)
         .flexible(true)
@@ -31,14 +31,14 @@ pub fn records_of(alloc: Global, bytes: &[u8]) -> Result<Vec<ByteRecord>, Memory
     Ok(rows)
 }
 
-/// How many fields the first record has, or 0 where there is none.
+/// Returns the number of fields of the first record, or 0 without one.
 pub fn columns_of(rows: &[ByteRecord]) -> usize
     ensures { result ≡ length (slice_index_or (map fields_of rows.now) 0 []) }
 {
     if rows.is_empty() { 0 } else { rows[0].len() }
 }
 
-/// The records as texts, or the first that is no text or has not `columns` fields.
+/// Converts the records to texts, or returns the first one that is not UTF-8 or not `columns` wide.
 pub fn texts_of(
     alloc: Global,
     rows: Vec<ByteRecord>,
@@ -60,7 +60,7 @@ pub fn texts_of(
     Ok(texts)
 }
 
-/// The field of a record at a place, or no text where it has fewer.
+/// Returns a field of a record, or the empty text if there are fewer fields.
 pub fn field(row: &StringRecord, place: usize) -> &str
     ensures { result.now ≡ slice_index_or (fields_of row.now) place [] }
 {

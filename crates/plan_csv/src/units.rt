@@ -18,7 +18,7 @@ use itoa::Buffer;
 use std::alloc::Global;
 use std::collections::BTreeMap;
 
-/// An id as text.
+/// Returns an id as text.
 pub fn id_text(alloc: Global, id: &Label) -> Result<String, Memory>
     ensures { IfOk result (λ text. string_bytes text ≡ table.id_text id.now) }
 {
@@ -31,7 +31,7 @@ pub fn id_text(alloc: Global, id: &Label) -> Result<String, Memory>
     }
 }
 
-/// The unit of each id as text, or the first unit whose text an earlier one has too.
+/// Maps each id's text to its unit, or returns the first unit whose text an earlier unit has too.
 pub fn index_of(alloc: Global, ids: &[Label]) -> Result<BTreeMap<String, u32>, TableFault>
     requires { length ids.now ≤ most_units }
     ensures { MatchResult result (λ index. (table.shared_id ids.now [] [] ≡ None) × IsUnitIndex string_bytes ids.now index.entries)
@@ -49,7 +49,7 @@ pub fn index_of(alloc: Global, ids: &[Label]) -> Result<BTreeMap<String, u32>, T
     Ok(index)
 }
 
-/// The unit that each record names, or the first record that names none.
+/// Returns the unit that each record names, or the first record with an unknown id.
 pub fn units_of(
     alloc: Global,
     index: &BTreeMap<String, u32>,
@@ -70,7 +70,8 @@ pub fn units_of(
     Ok(units)
 }
 
-/// The record of each of `count` units where one names it, or the first record that repeats a unit.
+/// Returns the record of each of `count` units, if any names it, or the first record that repeats a
+/// unit.
 pub fn places_of(
     alloc: Global,
     units: &[u32],
@@ -93,7 +94,7 @@ pub fn places_of(
     Ok(places)
 }
 
-/// The record of each unit, or the first unit that no record names.
+/// Returns the record of each unit, or the first unit that no record names.
 pub fn records_of(alloc: Global, places: &[Option<usize>]) -> Result<Vec<usize>, TableFault>
     requires { length places.now ≤ most_units }
     ensures { MatchResult result (λ records. (unnamed places.now ≡ None) × AreThere places.now records.items)
@@ -109,7 +110,7 @@ pub fn records_of(alloc: Global, places: &[Option<usize>]) -> Result<Vec<usize>,
     Ok(records)
 }
 
-/// The record of each unit, or the first refusal of the ids and of the units that the records name.
+/// Returns the record of each unit, or the first fault of the ids and of the records' units.
 pub fn records_from(
     alloc: Global,
     entries: &[StringRecord],
@@ -126,7 +127,7 @@ pub fn records_from(
     records_of(alloc, places.as_slice())
 }
 
-/// No record for each of `count` units.
+/// Returns `count` empty places.
 fn blanks(alloc: Global, count: usize) -> Result<Vec<Option<usize>>, Memory>
     ensures { IfOk result (λ places. (length places.items ≡ count) × ((u : ℕ) → slice_index_or places.items u None ≡ None)) }
 {
