@@ -1,4 +1,4 @@
--- One outcome after the other.
+-- Adding one outcome after another.
 use Rattle.std.proofs.Common.{◌≡◌, ◌⊎◌, ℕ, zero, suc, ◌+◌, ◌<◌, ◌≤◌, Bool, true, false, cond, List, [], ◌∷◌, ◌++◌, length, take, get_or, set, Option, Some, None, All, refl, sym, ap, ◌∙◌, subst, inl, inr, arith, count_by, take-suc, get_or-set_same, get_or-set_other}
 use Rattle.std.specs.Prelude.{◌==◌, bytes_eq}
 use Rattle.std.specs.Option.{option_or}
@@ -17,12 +17,12 @@ use Rattle.outcome_book.specs.Placed.{those_there, ArePlacedById}
 use Rattle.outcome_book.specs.Union.{AgreesWith, AreById, HoldsBoth, IsFirstDifference, fuller, fuller_if}
 use Rattle.outcome_book.proofs.Tables.{found_there, placed_set}
 
--- where one list has no outcome of an id, the other one's is held
+-- combining with none changes nothing
 pub joined_none : (x : Option Outcome) → fuller_if x None ≡ x
 joined_none None = refl
 joined_none (Some o) = refl
 
--- what is kept has the id
+-- the combination keeps the id
 pub kept_id : (held : Option Outcome) (o kept : Outcome) → ((x : Outcome) → held ≡ Some x → x.id ≡ o.id) → Some kept ≡ fuller_if held (Some o) → kept.id ≡ o.id
 kept_id None o kept same e = ap (λ (x : Outcome). x.id) (same_Some kept o e)
 kept_id (Some h) o kept same e =
@@ -56,18 +56,18 @@ module _ (ps : List (Option Outcome)) (placed : ArePlacedById 0 ps) (o kept : Ou
 
 -- ---- several
 
--- a list holds what it and the empty list hold
+-- the union with the empty list is the list itself
 pub holds_none : (xs : List Outcome) → HoldsBoth xs [] xs
 holds_none xs id = sym (joined_none (with_id xs id))
 
--- two outcomes that are added in turn give what both together give, where one of the two is missing
+-- two outcomes added in turn equal their combination, if one is missing
 next_joined : (x y q : Option Outcome) → ((y ≡ None) ⊎ (q ≡ None)) → fuller_if (fuller_if x y) q ≡ fuller_if x (option_or y q)
 next_joined x None q either = ap (λ o. fuller_if o q) (joined_none x)
 next_joined x (Some y) None either = joined_none (fuller_if x (Some y))
 next_joined x (Some y) (Some q) (inl e) = absurd (none-some y (sym e))
 next_joined x (Some y) (Some q) (inr e) = absurd (none-some q (sym e))
 
--- one outcome more of an id that was not added before
+-- adding an outcome of an id that was not added before
 pub holds_more : (xs ys zs ws : List Outcome) (o : Outcome) → HoldsBoth xs ys zs → HoldsBoth zs (o ∷ []) ws → with_id ys o.id ≡ None
     → HoldsBoth xs (ys ++ o ∷ []) ws
 holds_more xs ys zs ws o before after new id =
@@ -79,15 +79,15 @@ holds_more xs ys zs ws o before after new id =
     ])
     ∙ ap (fuller_if (with_id xs id)) (sym (find-append (λ (x : Outcome). x.id == id) ys (o ∷ [])))
 
--- among outcomes by rising id none of those before a place has the id at that place
+-- with rising ids, no earlier outcome has the id at a position
 pub new_in_turn : (found : List Outcome) (k : ℕ) (d : Outcome) → AreById found → k < length found → with_id (take k found) (get_or found k d).id ≡ None
 new_in_turn found k d rising l =
     not_found (take k found) (get_or found k d).id
     (absent_of_share [] found k d l (λ i e inside. refl) (λ i j e lt within same. absurd (omega (arith, rising i j e lt within, same))))
 
--- ---- the first difference
+-- ---- the first contradiction
 
--- the first outcome that does not agree is the one of the least id that differs
+-- the first outcome that disagrees has the least such id
 pub first_difference : (xs found : List Outcome) (k : ℕ) (d : Outcome) → AreById found → k < length found → All (AgreesWith xs) (take k found)
     → (AgreesWith xs (get_or found k d) → ⊥) → IsFirstDifference xs found (get_or found k d).id
 first_difference xs found k d rising l agreed differs = record {
@@ -132,22 +132,22 @@ first_difference xs found k d rising l agreed differs = record {
 
 -- ---- loops over a list
 
--- one more of the first outcomes is the one at the next place
+-- a prefix that is one item longer ends with the next item
 pub take_next : (xs : List Outcome) (k next : ℕ) (d : Outcome) → k < length xs → next ≡ k + 1 → take next xs ≡ take k xs ++ get_or xs k d ∷ []
 take_next xs k next d l is =
     let one : next ≡ suc k = omega (arith, is) in
     ap (λ n. take n xs) one ∙ take-suc xs k d l
 
--- what holds of the first outcomes and of the next holds of one more
+-- a property of a prefix and of the next outcome holds of the longer prefix
 pub each_more : (P : Outcome → Type 0) (xs : List Outcome) (k next : ℕ) (d : Outcome) → k < length xs → next ≡ k + 1 → All P (take k xs) → P (get_or xs k d)
     → All P (take next xs)
 each_more P xs k next d l is all one = subst (All P) (sym (take_next xs k next d l is)) (All-push P (take k xs) (get_or xs k d) all one)
 
--- what holds of at least as many of the first as there are holds of all
+-- a property of a prefix of full length holds of all
 pub each_of_all : (P : Outcome → Type 0) (xs : List Outcome) (k : ℕ) → length xs ≤ k → All P (take k xs) → All P xs
 each_of_all P xs k le all = subst (All P) (take_all k xs le) all
 
--- the count of one more of the first outcomes
+-- the count over a prefix that is one item longer
 pub count_more : (p : Outcome → Bool) (xs : List Outcome) (k : ℕ) (d : Outcome) → k < length xs
     → count_by p (take (k + 1) xs) ≡ count_by p (take k xs) + cond (p (get_or xs k d)) 1 0
 count_more p xs k d l = by (p (get_or xs k d)) refl
@@ -156,7 +156,7 @@ count_more p xs k d l = by (p (get_or xs k d)) refl
     by true e = count_by_more_yes p xs k d l e
     by false e = omega (arith, count_by_more_no p xs k d l e)
 
--- what is counted of one outcome is 0 or 1
+-- the count of one outcome is 0 or 1
 pub one_at_most : (b : Bool) → cond b 1 0 ≤ 1
 one_at_most true = omega arith
 one_at_most false = omega arith

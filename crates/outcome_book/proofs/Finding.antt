@@ -1,4 +1,4 @@
--- A search for an id, one outcome after the other.
+-- Lookup of an id, outcome by outcome.
 use Rattle.std.proofs.Common.{◌≡◌, ℕ, zero, suc, ◌+◌, ◌<◌, Bool, true, false, cond, List, [], ◌∷◌, length, take, get_or, Some, None, sym, ap, ◌∙◌, arith}
 use Rattle.std.specs.Prelude.{◌==◌}
 use Rattle.std.specs.Option.{option_or}
@@ -9,7 +9,7 @@ use Rattle.audit_model.specs.declared.outcome.Outcome.{Outcome}
 use Rattle.audit_model.specs.Run.{with_id}
 use Rattle.outcome_book.proofs.Adding.{take_next}
 
--- the first with the id is the one that is found
+-- the first outcome with the id is the one found
 pub found_here : (xs : List Outcome) (id k : ℕ) (d : Outcome) → k < length xs → with_id (take k xs) id ≡ None → (get_or xs k d).id ≡ id
     → with_id xs id ≡ Some (get_or xs k d)
 found_here [] id k d l none same = absurd (omega (arith, l))
@@ -21,7 +21,7 @@ found_here (x ∷ xs) id (suc k) d l none same = by (x.id == id) none (λ e. fou
     by true e rest = absurd (none-some x (sym e))
     by false e rest = rest e
 
--- none is found of one more where the next has another id
+-- an outcome with another id keeps the lookup empty
 pub none_more : (xs : List Outcome) (id k next : ℕ) (d : Outcome) → k < length xs → next ≡ k + 1 → with_id (take k xs) id ≡ None → ((get_or xs k d).id ≡ id → ⊥)
     → with_id (take next xs) id ≡ None
 none_more xs id k next d l is none other =

@@ -1,4 +1,4 @@
--- When two outcomes are the same.
+-- Equality of outcomes, field by field.
 use Rattle.std.proofs.Common.{◌≡◌, ◌&&◌, ◌∙◌, ℕ, List, refl, ap}
 use Rattle.std.specs.Prelude.{◌==◌, ℤ, nat_eq}
 use Rattle.std.specs.Cmp.Lexicographic.{pointwise}
@@ -8,11 +8,11 @@ use Rattle.std.proofs.lemmas.Bool.Decides.{Decides-and, Decides-eqb, Decides-int
 use Rattle.std.proofs.lemmas.Slice.Eq.{slice_eq-Decides}
 use Rattle.audit_model.specs.declared.outcome.Outcome.{Outcome}
 
--- an outcome of its four parts
+-- the outcome with these four fields
 with_parts : ℕ → ℕ → List ℤ → List ℕ → Outcome
 with_parts id moved values bins = record { id = id; moved = moved; values = values; bins = bins }
 
--- two outcomes are the same where their four parts are
+-- outcomes are equal exactly if their four fields are
 pub same_decides : (a b : Outcome) → Decides ((a.id == b.id) && ((a.moved == b.moved) && (pointwise int_eq a.values b.values && pointwise nat_eq a.bins b.bins))) (a ≡ b)
 unfolding with_parts
 same_decides a b = (λ e. together (all.0 e), λ e. all.1 (parts e))

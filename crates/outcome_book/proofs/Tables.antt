@@ -11,7 +11,7 @@ use Rattle.audit_model.specs.Run.{with_id}
 use Rattle.outcome_book.specs.Placed.{those_there, ArePlacedById}
 use Rattle.outcome_book.specs.Union.{AreById, MayBeAdded}
 
--- the places after the first are those of later ids
+-- places after the first belong to later ids
 later : (f : ℕ) (p : Option Outcome) (ps : List (Option Outcome)) → ArePlacedById f (p ∷ ps) → ArePlacedById (suc f) ps
 later f p ps placed = λ k o e. omega (arith, placed (suc k) o e)
 
@@ -27,7 +27,7 @@ from_first f (Some o ∷ ps) placed =
     All-cons (λ (x : Outcome). f ≤ x.id) o (those_there ps) (omega (arith, first_id f o ps placed))
     (λ k d l. omega (arith, from_first (suc f) ps (later f (Some o) ps placed) k d l))
 
--- the outcomes there stand by rising id
+-- the outcomes of a table have rising ids
 pub rising_there : (f : ℕ) (ps : List (Option Outcome)) → ArePlacedById f ps → AreById (those_there ps)
 rising_there f [] placed = λ i j d lt within. absurd (omega arith)
 rising_there f (None ∷ ps) placed = rising_there (suc f) ps (later f None ps placed)
@@ -44,7 +44,7 @@ before_first f (Some o ∷ ps) id placed l =
     ap (λ b. cond b (Some o) (with_id (those_there ps) id)) (ne_eqb o.id id (λ e. absurd (omega (arith, first_id f o ps placed))))
     ∙ before_first (suc f) ps id (later f (Some o) ps placed) (omega arith)
 
--- an id's outcome is what stands at its place
+-- the lookup of an id finds its place
 found_from : (f : ℕ) (ps : List (Option Outcome)) (k id : ℕ) → ArePlacedById f ps → id ≡ f + k → with_id (those_there ps) id ≡ get_or ps k None
 found_from f [] k id placed e = refl
 found_from f (None ∷ ps) zero id placed e = before_first (suc f) ps id (later f None ps placed) (omega arith)
@@ -55,17 +55,17 @@ found_from f (Some o ∷ ps) (suc k) id placed e =
     ap (λ b. cond b (Some o) (with_id (those_there ps) id)) (ne_eqb o.id id (λ s. absurd (omega (arith, first_id f o ps placed))))
     ∙ found_from (suc f) ps k id (later f (Some o) ps placed) (omega arith)
 
--- the outcome of an id is the one at its place
+-- the lookup of an id finds its place, for a table from id 0
 pub found_there : (ps : List (Option Outcome)) (id : ℕ) → ArePlacedById 0 ps → with_id (those_there ps) id ≡ get_or ps id None
 found_there ps id placed = found_from 0 ps id id placed (omega arith)
 
--- there are no more of them than places
+-- there are at most as many outcomes as places
 pub few_there : (ps : List (Option Outcome)) → length (those_there ps) ≤ length ps
 few_there [] = omega arith
 few_there (None ∷ ps) = omega (arith, few_there ps)
 few_there (Some o ∷ ps) = omega (arith, few_there ps)
 
--- outcomes by rising id, from one id to below another, are at most the ids between
+-- rising ids from one bound to another are at most the ids between
 few_between : (from total : ℕ) (xs : List Outcome) → AreById xs → All (λ o. from ≤ o.id) xs → All (λ o. o.id < total) xs → from ≤ total → from + length xs ≤ total
 few_between from total [] rising above below le = omega (arith, le)
 few_between from total (x ∷ xs) rising above below le =
@@ -76,30 +76,30 @@ few_between from total (x ∷ xs) rising above below le =
     (omega (arith, first, inside)) in
     omega (arith, rest)
 
--- so what may be added is at most as much as there are ids
+-- outcomes that may be added are at most as many as ids
 pub few_added : (total : ℕ) (xs : List Outcome) → MayBeAdded total xs → length xs ≤ total
 few_added total xs may = omega (arith, few_between 0 total xs may.rising (λ k d l. omega arith) may.below (omega arith))
 
--- ---- a table with nothing in it
+-- ---- an empty table
 
 -- an empty table has no outcomes
 pub none_there : (n : ℕ) → those_there (replicate n None) ≡ []
 none_there zero = refl
 none_there (suc n) = none_there n
 
--- at none of its places
+-- each place of an empty table is empty
 none_at : (n k : ℕ) → get_or (replicate {A = Option Outcome} n None) k None ≡ None
 none_at zero k = refl
 none_at (suc n) zero = refl
 none_at (suc n) (suc k) = none_at n k
 
--- so each is at its place
+-- an empty table has each outcome at its place
 pub placed_none : (n : ℕ) → ArePlacedById 0 (replicate n None)
 placed_none n = λ k o e. absurd (none-some o (sym (none_at n k) ∙ e))
 
--- ---- one more
+-- ---- one more outcome
 
--- an outcome that is put at its own place
+-- an outcome put at its own place
 pub placed_set : (ps : List (Option Outcome)) (id : ℕ) (o : Outcome) → ArePlacedById 0 ps → id < length ps → o.id ≡ id → ArePlacedById 0 (set ps id (Some o))
 placed_set ps id o placed l is = λ k x e. elim (cases_eq k id) [
   | inl same ↦
@@ -109,9 +109,9 @@ placed_set ps id o placed l is = λ k x e. elim (cases_eq k id) [
   | inr off ↦ placed k x (sym (get_or-set_other ps id k (Some o) None off) ∙ e)
 ]
 
--- ---- the front of a table
+-- ---- the beginning of a table
 
--- the outcomes of two tables one after the other
+-- the outcomes of two appended tables
 those-append : (ps qs : List (Option Outcome)) → those_there (ps ++ qs) ≡ those_there ps ++ those_there qs
 those-append [] qs = refl
 those-append (None ∷ ps) qs = those-append ps qs

@@ -1,4 +1,4 @@
--- Unions of outcomes.
+-- Proofs of the laws of unions.
 use Rattle.std.proofs.Common.{◌≡◌, ◌⊎◌, ℕ, zero, suc, ◌<◌, Bool, true, false, cond, List, [], ◌∷◌, length, get_or, Option, Some, None, All, refl, sym, ap, ◌∙◌, subst, inl, inr, arith}
 use Rattle.std.specs.Prelude.{bytes_eq}
 use Rattle.std.proofs.lemmas.Bool.{cases_eq, eq-eqb, ne_eqb}
@@ -12,21 +12,21 @@ use Rattle.outcome_book.proofs.ById.{found_in}
 use Rattle.outcome_book.specs.Laws.{GroupingDoesNotMatter, HonestOutcomesAgree, OrderDoesNotMatter, TwiceChangesNothing, UnionsAreHonest, UnionsAreOne, UnionsAreRight, UnionsFit}
 use Rattle.outcome_book.specs.Union.{Agree, AgreeIf, AgreesWith, AreAgreed, AreById, IsUnion, fuller, fuller_if}
 
--- ---- what is found
+-- ---- lookups
 
--- ids that rise differ
+-- rising ids are distinct
 apart_of : (xs : List Outcome) → AreById xs → AreApart xs
 apart_of xs rising = λ i j d lt within e. absurd (omega (arith, rising i j d lt within, e))
 
--- ids that differ, after the first
+-- distinct ids without the first are distinct
 rest_of : (x : Outcome) (xs : List Outcome) → AreApart (x ∷ xs) → AreApart xs
 rest_of x xs apart = λ i j d lt within. apart (suc i) (suc j) d (omega arith) (omega arith)
 
--- ids that rise, after the first
+-- rising ids without the first rise
 rises : (x : Outcome) (xs : List Outcome) → AreById (x ∷ xs) → AreById xs
 rises x xs rising = λ i j d lt within. rising (suc i) (suc j) d (omega arith) (omega arith)
 
--- the outcome at a place is the one of its id
+-- the lookup of an outcome's id finds it
 found_at : (xs : List Outcome) (k : ℕ) (d : Outcome) → AreApart xs → k < length xs → with_id xs (get_or xs k d).id ≡ Some (get_or xs k d)
 found_at [] k d apart l = absurd (omega arith)
 found_at (x ∷ xs) zero d apart l = ap (λ b. cond b (Some x) (with_id xs x.id)) (eq-eqb x.id x.id refl)
@@ -34,11 +34,11 @@ found_at (x ∷ xs) (suc k) d apart l =
     ap (λ b. cond b (Some x) (with_id xs (get_or xs k d).id)) (ne_eqb x.id (get_or xs k d).id (apart 0 (suc k) d (omega arith) l))
     ∙ found_at xs k d (rest_of x xs apart) (omega arith)
 
--- what holds of all outcomes holds of one that is found
+-- a property of all outcomes holds of the one found
 of_found : (P : Outcome → Type 0) (xs : List Outcome) (id : ℕ) (o : Outcome) → All P xs → with_id xs id ≡ Some o → P o
 of_found P xs id o all e = (found_in P xs id o all e).0
 
--- what holds of both outcomes holds of the one that is kept
+-- a property of two outcomes holds of their combination
 one_of : (P : Outcome → Type 0) (a b : Outcome) → P a → P b → P (fuller a b)
 one_of P a b pa pb = by (bytes_eq a.bins no_bins)
   where
@@ -46,7 +46,7 @@ one_of P a b pa pb = by (bytes_eq a.bins no_bins)
     by true = pb
     by false = pa
 
--- what holds of all outcomes of both lists holds of all of the union
+-- a property of both lists holds of their union
 unions_add_nothing : (P : Outcome → Type 0) (xs ys both : List Outcome) → All P xs → All P ys → IsUnion xs ys both → All P both
 unions_add_nothing P xs ys both all_xs all_ys u = λ k d l. of_options (get_or both k d) (with_id xs (get_or both k d).id) (with_id ys (get_or both k d).id) refl refl
     (sym (found_at both k d (apart_of both u.rising) l) ∙ u.each (get_or both k d).id)
@@ -58,11 +58,11 @@ unions_add_nothing P xs ys both all_xs all_ys u = λ k d l. of_options (get_or b
     of_options z (Some a) (Some b) ex ey e =
         subst P (sym (same_Some z (fuller a b) e)) (one_of P a b (of_found P xs z.id a all_xs ex) (of_found P ys z.id b all_ys ey))
 
--- the union of outcomes that fit a job fits it
+-- the union of outcomes plausible for a job is plausible for it
 pub unions_fit : UnionsFit
 unions_fit job = unions_add_nothing (λ o. fits job o ≡ true)
 
--- the union of honest outcomes is honest
+-- the union of outcomes of a job's trajectories, histograms possibly missing, is of its trajectories too
 pub unions_are_honest : UnionsAreHonest
 unions_are_honest job draws xs ys both hx hy u = record {
   apart = apart_of both u.rising;
@@ -70,7 +70,7 @@ unions_are_honest job draws xs ys both hx hy u = record {
   found = unions_add_nothing (λ o. (o ≡ whole job draws o.id) ⊎ (o ≡ bare (whole job draws o.id))) xs ys both hx.found hy.found u;
 }
 
--- the union of what was found is what is found
+-- the union of outcomes of a job's trajectories is of its trajectories too
 pub unions_are_right : UnionsAreRight
 unions_are_right job draws xs ys both hx hy u = record {
   apart = apart_of both u.rising;
@@ -78,9 +78,9 @@ unions_are_right job draws xs ys both hx hy u = record {
   found = unions_add_nothing (λ o. o ≡ outcome job draws o.id) xs ys both hx.found hy.found u;
 }
 
--- ---- what agrees
+-- ---- agreement
 
--- honest outcomes of one job agree
+-- outcomes of one job's trajectories agree
 pub honest_outcomes_agree : HonestOutcomesAgree
 honest_outcomes_agree job draws xs ys hx hy = λ k d l. with_one (get_or ys k d) (hy.found k d l) (with_id xs (get_or ys k d).id) refl
   where
@@ -97,7 +97,7 @@ honest_outcomes_agree job draws xs ys hx hy = λ k d l. with_one (get_or ys k d)
         both a o (whole job draws o.id)
         (subst (λ i. (a ≡ whole job draws i) ⊎ (a ≡ bare (whole job draws i))) found.1 found.0) ho
 
--- of an outcome and the same without its bins, the first is kept, in either order
+-- an outcome and itself without its histogram combine to the first, in either order
 joined_bare : (a b : Outcome) → a ≡ bare b → (fuller a b ≡ b) × (fuller b a ≡ b)
 joined_bare a b e = (first, by (bytes_eq b.bins no_bins) refl)
   where
@@ -108,7 +108,7 @@ joined_bare a b e = (first, by (bytes_eq b.bins no_bins) refl)
     by false f = refl
     by true f = e ∙ sym (ap (λ x. record b { bins = x }) ((bytes_eq-Decides b.bins no_bins).0 f))
 
--- an outcome beside itself is itself
+-- combining an outcome with itself changes nothing
 joined_own : (a : Outcome) → fuller a a ≡ a
 joined_own a = by (bytes_eq a.bins no_bins)
   where
@@ -116,13 +116,13 @@ joined_own a = by (bytes_eq a.bins no_bins)
     by true = refl
     by false = refl
 
--- of two that agree, it does not matter which comes first
+-- combining outcomes that agree is commutative
 joined_either : (a b : Outcome) → Agree a b → fuller a b ≡ fuller b a
 joined_either a b (inl e) = subst (λ x. fuller a x ≡ fuller x a) e refl
 joined_either a b (inr (inl e)) = let h = joined_bare a b e in h.0 ∙ sym h.1
 joined_either a b (inr (inr e)) = let h = joined_bare b a e in h.1 ∙ sym h.0
 
--- nor where one may be missing
+-- combining optional outcomes is commutative
 joined_if_either : (x y : Option Outcome) → AgreeIf x y → fuller_if x y ≡ fuller_if y x
 joined_if_either None None h = refl
 joined_if_either None (Some b) h = refl
@@ -141,16 +141,16 @@ agreed_at xs ys id agreed = by (with_id ys id) refl
     by None e = none (with_id xs id)
     by (Some b) e = let found = found_in (AgreesWith xs) ys id b agreed e in subst (λ i. AgreeIf (with_id xs i) (Some b)) found.1 found.0
 
--- so the order of two lists does not matter
+-- the union of lists that agree is commutative
 pub order_does_not_matter : OrderDoesNotMatter
 order_does_not_matter xs ys both agreed u = record {
   rising = u.rising;
   each = λ id. u.each id ∙ joined_if_either (with_id xs id) (with_id ys id) (agreed_at xs ys id agreed);
 }
 
--- ---- groups
+-- ---- associativity
 
--- of three outcomes it does not matter which two are put together first
+-- combining outcomes is associative
 joined_thrice : (a b c : Outcome) → fuller (fuller a b) c ≡ fuller a (fuller b c)
 joined_thrice a b c = by (bytes_eq a.bins no_bins) refl
   where
@@ -158,14 +158,14 @@ joined_thrice a b c = by (bytes_eq a.bins no_bins) refl
     by true e = refl
     by false e = ap (λ t. cond t c a) e
 
--- nor where some may be missing
+-- combining optional outcomes is associative
 joined_if_thrice : (x y z : Option Outcome) → fuller_if (fuller_if x y) z ≡ fuller_if x (fuller_if y z)
 joined_if_thrice None y z = refl
 joined_if_thrice (Some a) None z = refl
 joined_if_thrice (Some a) (Some b) None = refl
 joined_if_thrice (Some a) (Some b) (Some c) = ap Some (joined_thrice a b c)
 
--- so it does not matter which lists are put together first
+-- the union is associative
 pub grouping_does_not_matter : GroupingDoesNotMatter
 grouping_does_not_matter xs ys zs front back all u v w = record {
   rising = w.rising;
@@ -173,12 +173,12 @@ grouping_does_not_matter xs ys zs front back all u v w = record {
       ∙ ap (fuller_if (with_id xs id)) (sym (v.each id));
 }
 
--- what is held beside itself
+-- combining an optional outcome with itself changes nothing
 joined_if_own : (y : Option Outcome) → fuller_if y y ≡ y
 joined_if_own None = refl
 joined_if_own (Some b) = ap Some (joined_own b)
 
--- so a list that is added again changes nothing
+-- adding a list again changes nothing
 pub twice_changes_nothing : TwiceChangesNothing
 twice_changes_nothing xs ys both u = record {
   rising = u.rising;
@@ -186,32 +186,32 @@ twice_changes_nothing xs ys both u = record {
       ∙ sym (joined_if_thrice (with_id xs id) (with_id ys id) (with_id ys id)) ∙ ap (λ x. fuller_if x (with_id ys id)) (sym (u.each id));
 }
 
--- ---- one union
+-- ---- uniqueness
 
--- no outcome has an id that is below all ids
+-- an id below all ids is missing
 absent_before : (xs : List Outcome) (id : ℕ) → All (λ o. id < o.id) xs → with_id xs id ≡ None
 absent_before [] id all = refl
 absent_before (x ∷ xs) id all =
     ap (λ b. cond b (Some x) (with_id xs id)) (ne_eqb x.id id (λ e. absurd (omega (arith, all 0 x (omega arith), e))))
     ∙ absent_before xs id (λ k d l. all (suc k) d (omega arith))
 
--- an id up to the first one of rising ids is below the others
+-- an id up to the first of rising ids is below the others
 greater : (x : Outcome) (xs : List Outcome) (id : ℕ) → AreById (x ∷ xs) → id < suc x.id → All (λ o. id < o.id) xs
 greater x xs id rising l = λ k d inside. omega (arith, l, rising 0 (suc k) d (omega arith) (omega arith))
 
--- the first outcome is found by its id
+-- the lookup of the first id finds the first outcome
 at_head : (x : Outcome) (xs : List Outcome) → with_id (x ∷ xs) x.id ≡ Some x
 at_head x xs = ap (λ b. cond b (Some x) (with_id xs x.id)) (eq-eqb x.id x.id refl)
 
--- another id is looked for behind it
+-- the lookup of another id continues after the first outcome
 off_head : (x : Outcome) (xs : List Outcome) (id : ℕ) → (x.id ≡ id → ⊥) → with_id (x ∷ xs) id ≡ with_id xs id
 off_head x xs id off = ap (λ b. cond b (Some x) (with_id xs id)) (ne_eqb x.id id off)
 
--- an id below the first one's is not there
+-- an id below the first of rising ids is missing
 before_head : (x : Outcome) (xs : List Outcome) (id : ℕ) → AreById (x ∷ xs) → id < x.id → with_id (x ∷ xs) id ≡ None
 before_head x xs id rising l = off_head x xs id (λ e. absurd (omega (arith, l, e))) ∙ absent_before xs id (greater x xs id rising (omega (arith, l)))
 
--- two lists by rising id that hold the same of each id are the same
+-- lists by rising id with equal lookups are equal
 one_list : (xs ys : List Outcome) → AreById xs → AreById ys → ((id : ℕ) → with_id xs id ≡ with_id ys id) → xs ≡ ys
 one_list [] [] rx ry same = refl
 one_list [] (y ∷ ys) rx ry same = absurd (none-some y (same y.id ∙ at_head y ys))
@@ -242,6 +242,6 @@ one_list (x ∷ xs) (y ∷ ys) rx ry same = elim (cases_eq x.id y.id) [
         ]) in
         ap (λ (o : Outcome). o ∷ xs) heads ∙ ap (λ (os : List Outcome). y ∷ os) rests
 
--- so there is one union of two lists
+-- the union is unique
 pub unions_are_one : UnionsAreOne
 unions_are_one xs ys both other u v = one_list both other u.rising v.rising (λ id. u.each id ∙ sym (v.each id))

@@ -1,4 +1,4 @@
--- What was gathered: outcomes by rising id, of ids below a total.
+-- The union of outcomes: outcomes by rising id, with ids below a total.
 use Rattle.std.specs.Prelude.{ℕ, List}
 use Rattle.audit_model.specs.declared.outcome.Outcome.{Outcome}
 

@@ -3,12 +3,12 @@ use Rattle.std.specs.Prelude.{◌≡◌, ℕ, ◌+◌, List, [], ◌∷◌, Opti
 use Rattle.std.specs.List.{slice_index_or}
 use Rattle.audit_model.specs.declared.outcome.Outcome.{Outcome}
 
--- the outcomes that are there
+-- the outcomes of the filled places
 abbrev pub those_there : List (Option Outcome) → List Outcome
 those_there [] = []
 those_there (None ∷ places) = those_there places
 those_there (Some o ∷ places) = o ∷ those_there places
 
--- the outcome at a place has the place's id, where the first has this one
+-- the outcome at each place has the place's id, counted from the first id
 abbrev pub ArePlacedById : ℕ → List (Option Outcome) → Type 0
 ArePlacedById first places = (k : ℕ) (o : Outcome) → slice_index_or places k None ≡ Some o → o.id ≡ first + k

@@ -1,4 +1,4 @@
-//! What a list of outcomes says of one id.
+//! Lookups by id in a list of outcomes.
 
 ghost use Rattle.std.specs.Prelude.{◌≡◌};
 ghost use Rattle.std.specs.Bool.{Decides};
@@ -20,7 +20,7 @@ pub fn outcome_with(outcomes: &[Outcome], id: u32) -> Option<Outcome>
     None
 }
 
-/// Returns whether the list says nothing else of the outcome's id.
+/// Returns true if the list has no outcome that contradicts this one.
 pub fn agrees_with(outcomes: &[Outcome], outcome: &Outcome) -> bool
     ensures { Decides result (AgreesWith outcomes.now outcome.now) }
 {

@@ -1,4 +1,4 @@
-//! The outcomes that several runs of one job have found, each id once.
+//! The union of the outcomes that several runs of one job have found.
 
 ghost use Rattle.std.specs.Prelude.{◌≡◌, ◌∷◌, [], ◌≤◌, ◌+◌, ◌<◌, ◌++◌, All, IfErr, IfOk, IfNone, IfSome, OnErr, OnOk, Some, length, replicate, count_by, not, slice_index_or};
 ghost use Rattle.std.specs.Bool.{Decides};
@@ -14,7 +14,8 @@ use audit_model::outcome::Outcome;
 use std::alloc::Global;
 use std::marker::Model;
 
-/// Outcomes with ids below a total, by rising id, to which those of other runs are added.
+/// Outcomes with ids below a total, by rising id, to which the outcomes of further runs can be
+/// added.
 #[derive(Drop)]
 pub struct Gathering {
     places: Vec<Option<Outcome>>,
@@ -34,7 +35,8 @@ impl Model for Gathering {
 }
 
 impl Gathering {
-    /// No outcomes, with room for one of each id below `total`.
+    /// Allocates an empty union with capacity for each id below `total`. Fails if there is no
+    /// memory.
     pub fn with_room(alloc: Global, total: u32) -> Result<Gathering, Memory>
         requires { total ≤ most_trajectories }
         ensures total { IfOk result (λ g. g.total ≡ total) }
@@ -45,7 +47,7 @@ impl Gathering {
         })
     }
 
-    /// The least id of which other outcomes say something else than what was gathered.
+    /// Returns the least id whose outcome in `found` contradicts the one in the union.
     pub fn difference(&self, found: &[Outcome]) -> Option<u32>
         requires { MayBeAdded self.now.total found.now }
         ensures none { IfNone result (AreAgreed self.now.outcomes found.now) }
@@ -59,7 +61,7 @@ impl Gathering {
         None
     }
 
-    /// Whether what was gathered says nothing else of the outcome's id.
+    /// Returns true if the union has no outcome that contradicts this one.
     fn agrees(&self, outcome: &Outcome) -> bool
         requires { outcome.now.id < self.now.total }
         ensures { Decides result (AgreesWith self.now.outcomes outcome.now) }
@@ -70,11 +72,11 @@ impl Gathering {
         }
     }
 
-    /// Adds outcomes, and says how many of them have ids of which none was gathered.
+    /// Adds outcomes, and returns the number of ids that were missing before.
     ///
     /// # Errors
     ///
-    /// The least id of which they say something else than what was gathered: then nothing is added.
+    /// The least id whose outcome contradicts the one in the union. Then nothing is added.
     pub fn merge(&mut self, found: &[Outcome]) -> Result<u32, u32>
         requires { MayBeAdded self.old.total found.now }
         ensures total { self.new.total ≡ self.old.total }
@@ -94,12 +96,12 @@ impl Gathering {
         }
     }
 
-    /// How many outcomes have ids of which none was gathered.
+    /// Returns the number of outcomes whose ids are missing in the union.
     pub fn count_new(&self, found: &[Outcome]) -> u32
         requires { MayBeAdded self.now.total found.now }
         ensures { result ≡ count_by (λ o. not (has_id self.now.outcomes o.id)) found.now }
     {
-        // Reads the fields, so that what the type says of them is known.
+        // Reading a field makes the type's invariant known to the prover.
         let _ = &self.places;
         let mut count = 0;
         for outcome in found {
@@ -108,7 +110,7 @@ impl Gathering {
         count
     }
 
-    /// One more, where the outcome's id is one of which none was gathered.
+    /// Adds one to the count if the outcome's id is missing in the union.
     fn count_with(&self, count: u32, outcome: &Outcome) -> u32
         requires below { outcome.now.id < self.now.total }
         requires few { count < most_trajectories }
@@ -120,7 +122,8 @@ impl Gathering {
         }
     }
 
-    /// Adds outcomes with which all that was gathered agrees: where only one of two has its bins, that one is kept.
+    /// Adds outcomes that do not contradict the union. If only one of two outcomes has its
+    /// histogram, that one is kept.
     pub fn add(&mut self, found: &[Outcome])
         requires { MayBeAdded self.old.total found.now }
         ensures total { self.new.total ≡ self.old.total }
@@ -129,11 +132,11 @@ impl Gathering {
         for outcome in found {
             self.put(outcome);
         }
-        // Reads the fields, so that what the type says of them is known.
+        // Reading a field makes the type's invariant known to the prover.
         let _ = &self.places;
     }
 
-    /// Adds one.
+    /// Adds one outcome.
     fn put(&mut self, outcome: &Outcome)
         requires { outcome.now.id < self.old.total }
         ensures total { self.new.total ≡ self.old.total }
@@ -144,7 +147,7 @@ impl Gathering {
         self.places[place] = Some(kept);
     }
 
-    /// What was gathered, by rising id. The only error is want of memory.
+    /// Copies the outcomes to a new list, by rising id. Fails only if there is no memory.
     pub fn to_list(&self, alloc: Global) -> Result<OutcomeList, Memory>
         ensures items { IfOk result (λ l. l.items ≡ self.now.outcomes) }
         ensures rising { IfOk result (λ l. AreById l.items) }
@@ -156,7 +159,7 @@ impl Gathering {
         Ok(out)
     }
 
-    /// Makes `out` what was gathered.
+    /// Replaces the contents of `out` by the outcomes, by rising id. It needs no new memory.
     pub fn copy_into(&self, out: &mut OutcomeList)
         requires { length self.now.outcomes ≤ length out.old.items + out.old.spare }
         ensures outcomes { out.new.items ≡ self.now.outcomes }
@@ -169,7 +172,7 @@ impl Gathering {
     }
 }
 
-// An outcome without its bins.
+// Returns the outcome without its histogram.
 fn bare(outcome: &Outcome) -> Outcome
     ensures { result ≡ bare outcome.now }
 {
@@ -179,21 +182,21 @@ fn bare(outcome: &Outcome) -> Outcome
     }
 }
 
-// Whether both are the same.
+// Returns true if both outcomes are equal.
 fn is_same(one: &Outcome, other: &Outcome) -> bool
     ensures { Decides result (one.now ≡ other.now) }
 {
     *one == *other
 }
 
-// Whether the outcome is the other one without its bins.
+// Returns true if the first outcome is the second without its histogram.
 fn is_bare_of(outcome: &Outcome, other: &Outcome) -> bool
     ensures { Decides result (outcome.now ≡ bare other.now) }
 {
     is_same(outcome, &bare(other))
 }
 
-/// Whether both say the same, but that one may lack its bins.
+/// Returns true if both outcomes are equal, or would be if one did not have its histogram.
 pub fn agree(one: &Outcome, other: &Outcome) -> bool
     ensures { Decides result (Agree one.now other.now) }
 {
@@ -206,14 +209,14 @@ pub fn agree(one: &Outcome, other: &Outcome) -> bool
     is_bare_of(other, one)
 }
 
-// Of two outcomes the one that has its bins, where one has.
+// Returns the outcome with a histogram, if one of two has it.
 fn fuller(one: &Outcome, other: &Outcome) -> Outcome
     ensures { result ≡ fuller one.now other.now }
 {
     if one.bins == [0; 9] { *other } else { *one }
 }
 
-// What is held of an id after one more outcome of it.
+// Combines the outcome present for an id, if any, with one more.
 fn kept_of(held: &Option<Outcome>, outcome: &Outcome) -> Outcome
     ensures { Some result ≡ fuller_if held.now (Some outcome.now) }
 {
@@ -223,7 +226,7 @@ fn kept_of(held: &Option<Outcome>, outcome: &Outcome) -> Outcome
     }
 }
 
-// Appends the outcomes that are there, for which there is room.
+// Appends the outcomes of all filled places to a list with spare capacity.
 fn append_all(out: &mut OutcomeList, places: &[Option<Outcome>])
     requires { length (those_there places.now) ≤ out.old.spare }
     ensures items { out.new.items ≡ out.old.items ++ those_there places.now }
@@ -234,14 +237,14 @@ fn append_all(out: &mut OutcomeList, places: &[Option<Outcome>])
     }
 }
 
-// Appends an outcome, if there is one, for which there is room.
+// Appends the outcome of a place, if it is filled, to a list with spare capacity.
 fn append_if(out: &mut OutcomeList, place: &Option<Outcome>)
     requires { length (those_there (place.now ∷ [])) ≤ out.old.spare }
     ensures items { out.new.items ≡ out.old.items ++ those_there (place.now ∷ []) }
     ensures spare { length out.new.items + out.new.spare ≡ length out.old.items + out.old.spare }
 {
     if let Some(outcome) = place {
-        // There is room, so it takes no memory and cannot fail.
+        // The push cannot fail: the list has spare capacity.
         let _ = out.push(*outcome);
     }
 }

@@ -1,4 +1,5 @@
-//! A book of outcomes, in the order of posting and by rising id.
+//! Outcome tables: outcomes in the order of their hand-in and by rising id, and unions of outcomes
+//! from several runs.
 #![tactic(auto)]
 
 pub mod agreeing;

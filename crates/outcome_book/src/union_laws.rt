@@ -1,22 +1,24 @@
-//! Laws of unions of outcomes, each the contract of a function that does nothing.
+//! Laws of unions of outcomes. Each is the contract of a function with an empty body.
 
 ghost use Rattle.outcome_book.specs.Laws.{GroupingDoesNotMatter, HonestOutcomesAgree, OrderDoesNotMatter, TwiceChangesNothing, UnionsAreHonest, UnionsAreOne, UnionsAreRight, UnionsFit};
 
-/// The union of outcomes that fit a job fits it.
+/// Shows that a union of plausible outcomes is plausible.
 pub fn unions_fit()
     ensures { UnionsFit }
 {}
 
-/// What the trajectories of one job found, in whichever runs, agrees, and the union of it is what they find: with bins or without, where
-/// the lists are, and as the job asks for it, where they are.
+/// Shows that the outcomes of one job's trajectories never contradict each other, and that their
+/// union is again outcomes of its trajectories.
+///
+/// `honest` allows missing histograms; `right` has them as the job asks.
 pub fn unions_are_right()
     ensures agree { HonestOutcomesAgree }
     ensures honest { UnionsAreHonest }
     ensures right { UnionsAreRight }
 {}
 
-/// There is one union; of lists that agree it is the same in any order and in whatever groups they are put together, and a list that is
-/// added twice changes nothing.
+/// Shows that the union is unique and, for lists that agree, commutative and associative. Adding a
+/// list twice changes nothing.
 pub fn unions_are_one()
     ensures one { UnionsAreOne }
     ensures order { OrderDoesNotMatter }
