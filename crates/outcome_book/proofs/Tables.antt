@@ -76,7 +76,7 @@ few_between from total (x ∷ xs) rising above below le =
     (omega (arith, first, inside)) in
     omega (arith, rest)
 
--- outcomes that may be added are at most as many as ids
+-- at most one outcome per id may be added
 pub few_added : (total : ℕ) (xs : List Outcome) → MayBeAdded total xs → length xs ≤ total
 few_added total xs may = omega (arith, few_between 0 total xs may.rising (λ k d l. omega arith) may.below (omega arith))
 
