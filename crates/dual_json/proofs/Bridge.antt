@@ -1,4 +1,4 @@
--- What is found of a document against what its definition says.
+-- The stages of reading against the definition.
 use Rattle.std.proofs.Common.{◌≡◌, ℕ, zero, suc, ◌^◌, ◌<◌, ◌≤◌, Bool, true, false, not, cond, ◌&&◌, ◌||◌, List, [], length, get_or, Option, Some, None, Err, refl, sym, ap, ◌∙◌, subst, inl, inr, arith}
 use Rattle.std.specs.Prelude.{◌==◌, nat_lt, nat_le, codes}
 use Rattle.std.specs.Str.{is_utf8}
@@ -30,12 +30,12 @@ use Rattle.dual_json.specs.Places.{object_at, nth, first_unnamed, AreLabels, pla
 use Rattle.dual_json.specs.Stages.{repeated_in, entry_fault, is_stranger, edge_count, graph_fault, labels_fault, AreRows}
 use Rattle.dual_json.proofs.Counted.{label_count_is, district_is, labels_are, start_is}
 
--- functions that agree on what an option has give the same of it
+-- mapping functions that agree on the item there gives equal options
 option_map_same : {A B : Type 0} → (o : Option A) (f g : A → B) → ((a : A) → o ≡ Some a → f a ≡ g a) → option_map f o ≡ option_map g o
 option_map_same None f g same = refl
 option_map_same (Some a) f g same = ap Some (same a refl)
 
--- which of three options comes first does not hang on how they are grouped
+-- the first of three options, in any grouping
 or_assoc : {A : Type 0} → (x y z : Option A) → option_or (option_or x y) z ≡ option_or x (option_or y z)
 or_assoc None y z = refl
 or_assoc (Some a) y z = refl
@@ -111,9 +111,9 @@ module _ (d : Document) (ids : List Label) (are : AreLabels (codes "id") d.nodes
       ap (λ o. option_or o (refused_if (nat_lt 400000 (edge_count d)) (fault.TooManyEdges (edge_count d)))) (entry_same (is_stranger d.nodes) (is_unknown ids) fault.UnknownNeighbour long (stranger_same d.nodes ids are))
       ∙ ap (λ (g : Graph). option_or (first_entry_in (is_unknown ids) fault.UnknownNeighbour d.adjacency) (refused_if (nat_lt 400000 (count_edges g (λ u v. true))) (fault.TooManyEdges (count_edges g (λ u v. true))))) graph_same
 
--- ---- all refusals
+-- ---- all faults
 
--- a chain of twelve options is the first of three groups of them
+-- a chain of twelve options splits into three groups
 regroup : {A : Type 0} (a b c e f g h i j k l m : Option A)
     → option_or a (option_or b (option_or c (option_or e (option_or f (option_or g (option_or h (option_or i (option_or j (option_or k (option_or l (option_or m None)))))))))))
     ≡ option_or (option_or (option_or a (option_or b (option_or c None))) (option_or (option_or e f) (option_or g (option_or h i)))) (option_or (option_or j (option_or k l)) m)
@@ -131,7 +131,7 @@ regroup None None None None None None None None None None (Some x) m = refl
 regroup None None None None None None None None None None None (Some x) = refl
 regroup None None None None None None None None None None None None = refl
 
--- the first refusal is that of the graph, else that of the labels, else that of the count of districts
+-- the first fault is the graph's, else the labels', else that of the number of districts
 pub refusal_is : (d : Document) (columns : Columns) → refusal d columns ≡ option_or (graph_fault d) (option_or (labels_fault columns d.nodes) (district_count_fault (label_count d columns)))
 refusal_is d columns = regroup
     (refused_if d.directed fault.Directed) (refused_if (not (length d.nodes == length d.adjacency)) (fault.LengthsDiffer (length d.nodes) (length d.adjacency)))
@@ -186,9 +186,9 @@ module _ (d : Document) (columns : Columns) (labels found : List Label) (start :
       ∙ ap (λ n. map_below n (λ k. unwrap_or (option_map (nth labels) (first_below (length labels) (λ i. district_at d columns i == k))) (Word []))) label_count_same
       ∙ labels_are labels found start is (district_at d columns) (λ i l. district_same i (omega (arith, l, are.count)))
 
--- ---- what is read
+-- ---- the result
 
--- the graph and the rows of the nodes make what is parsed of the document
+-- the graph and the columns are the parsed document
 pub parsed_is : (d : Document) (columns : Columns) (g : Graph) (counts : Counts) (group : Group) (start : List ℕ) (found : List Label) → graph d ≡ g
     → AreRows columns d.nodes counts group start found → parsed d columns ≡ record { graph = g; counts = counts; group = group; start = start; labels = found }
 parsed_is d columns g counts group start found is rows =
@@ -211,7 +211,7 @@ parsed_is d columns g counts group start found is rows =
     made : Graph → Counts → Group → List ℕ → List Label → Parsed
     made g counts group start labels = record { graph = g; counts = counts; group = group; start = start; labels = labels }
 
--- a number that is taken as a count is at most 10 ^ 9
+-- an accepted count is at most 10 ^ 9
 small_count : (o : Option ℕ) → unwrap_or (option_and_then (λ n. cond (nat_le n (10 ^ 9)) (Some n) None) o) 0 ≤ 10 ^ 9
 small_count None = omega arith
 small_count (Some n) = by (nat_le n (10 ^ 9)) refl
@@ -220,12 +220,12 @@ small_count (Some n) = by (nat_le n (10 ^ 9)) refl
     by true e = leb-true n (10 ^ 9) e
     by false e = omega arith
 
--- a number that is read is at most 10 ^ 9
+-- a count that is read is at most 10 ^ 9
 small_in : (o : Option Data) → unwrap_or (option_and_then count_from o) 0 ≤ 10 ^ 9
 small_in None = omega arith
 small_in (Some v) = small_count (option_and_then as_u64 (as_number v))
 
--- the numbers at a key of the nodes are a column
+-- the numbers at a key form a column
 column_is : (key : List ℕ) (nodes : List Data) (units : ℕ) (numbers : List ℕ) → numbers ≡ numbers_in key nodes → units ≡ length nodes → IsColumn units numbers
 column_is key nodes units numbers is long =
     let f = λ (i : ℕ). unwrap_or (count_in key (object_at nodes i)) 0 in
@@ -236,7 +236,7 @@ column_is key nodes units numbers is long =
           subst (λ (m : ℕ). m ≤ 10 ^ 9) (sym (ap (λ (xs : List ℕ). get_or xs k d) is ∙ get_or-map_below (length nodes) f k d inside)) (small_in (member key (object_at nodes k)));
     }
 
--- what is read of nodes that are few enough lies within the limits
+-- the data of few enough nodes is within the limits
 pub within_is : (nodes : List Data) (columns : Columns) (g : Graph) (counts : Counts) (group : Group) (start : List ℕ) (found : List Label) → IsGraph g → g.units ≡ length nodes → length nodes ≤ 100000
     → count_edges g (λ u v. true) ≤ 400000 → AreRows columns nodes counts group start found → AreWithin g counts start (length found)
 within_is nodes columns g counts group start found simple units few edges rows = record {
@@ -252,7 +252,7 @@ within_is nodes columns g counts group start found simple units few edges rows =
   in_range = λ u l. rows.districts.inside u (omega (arith, l, units, rows.labelled.count));
 }
 
--- the group that is read of the nodes is two columns, or none
+-- the group that is read has two columns or none
 pub group_is : (nodes : List Data) (columns : Columns) (units : ℕ) (group : Group) → AreOfGroup columns nodes group → units ≡ length nodes → IsGroup units group
 group_is nodes columns units group are long = by (names_group columns) are.members are.whole
   where
@@ -260,7 +260,7 @@ group_is nodes columns units group are long = by (names_group columns) are.membe
     by true members whole = inr (column_is columns.group nodes units group.members members long, column_is columns.whole nodes units group.whole whole long)
     by false members whole = inl (members, whole)
 
--- a count of districts that is not refused is from 2 to 200
+-- a number of districts without a fault is 2 to 200
 pub count_within : (n : ℕ) → district_count_fault n ≡ None → (2 ≤ n) × (n ≤ 200)
 count_within n none =
     let both = or_parts (nat_lt n 2) (nat_lt 200 n) (not_there (nat_lt n 2 || nat_lt 200 n) (fault.DistrictCount n) none) in
@@ -275,7 +275,7 @@ pub reading_of : (bytes : List ℕ) (columns : Columns) (root : Data) → cond (
 unfolding reading
 reading_of bytes columns root is = ap (of_json columns) is
 
--- bytes that are no JSON are refused
+-- bytes that are not JSON are refused
 pub reading_none : (bytes : List ℕ) (columns : Columns) → cond (is_utf8 bytes) (read bytes) None ≡ None → reading bytes columns ≡ Err fault.NotJson
 unfolding reading
 reading_none bytes columns is = ap (of_json columns) is

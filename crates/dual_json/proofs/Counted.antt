@@ -1,4 +1,4 @@
--- Counting the different labels, and the place of each among them.
+-- The number of distinct labels, and the index of each among them.
 use Rattle.std.proofs.Common.{◌≡◌, ℕ, zero, suc, ◌<◌, ◌≤◌, Bool, true, false, cond, ◌&&◌, List, [], length, get_or, Option, Some, None, refl, sym, ap, ◌∙◌, inl, inr, arith}
 use Rattle.std.specs.Prelude.{◌==◌}
 use Rattle.std.specs.Option.{option_map, unwrap_or}
@@ -20,7 +20,7 @@ use Rattle.dual_json.specs.Places.{nth}
 
 -- ---- counts
 
--- those below p pass, and no others
+-- the count is p if exactly the numbers below p pass
 pub count_below_front : (n p : ℕ) (test : ℕ → Bool) → p ≤ n → ((k : ℕ) → k < p → test k ≡ true) → ((k : ℕ) → p ≤ k → k < n → test k ≡ false) → count_below n test ≡ p
 unfolding count_below
 count_below_front zero p test l front back = omega (arith, l)
@@ -35,13 +35,13 @@ count_below_front (suc n) p test l front back = elim (cases_eq p (suc n)) [
       omega (arith, last, before)
 ]
 
--- a label that is new is none of the earlier ones
+-- a new label differs from all earlier ones
 new_one : (labels : List Label) (i j : ℕ) → is_new labels j ≡ true → i < j → nth labels i ≡ nth labels j → ⊥
 new_one labels i j new l same =
     both_ways (any_below j (λ k. same_label (nth labels k) (nth labels j))) (not-true (any_below j (λ k. same_label (nth labels k) (nth labels j))) new)
     (any_below_from j (λ k. same_label (nth labels k) (nth labels j)) i l (equal_same (nth labels i) (nth labels j) same))
 
--- places of new labels that are the same are one place
+-- equal new labels stand at one place
 new_apart : (labels : List Label) (i j : ℕ) → is_new labels i ≡ true → is_new labels j ≡ true → nth labels i ≡ nth labels j → i ≡ j
 new_apart labels i j a b same = elim (cases_order i j) [
   | inl e ↦ e
@@ -52,7 +52,7 @@ new_apart labels i j a b same = elim (cases_order i j) [
 ]
 
 module _ (labels found : List Label) (start : List ℕ) (are : AreDistricts labels found start) where
-  -- two places of one label are one
+  -- equal distinct labels stand at one place
   found_apart : (i j : ℕ) → i < length found → j < length found → nth found i ≡ nth found j → i ≡ j
   found_apart i j li lj same = elim (cases_order i j) [
     | inl e ↦ e
@@ -62,7 +62,7 @@ module _ (labels found : List Label) (start : List ℕ) (are : AreDistricts labe
     ]
   ]
 
-  -- the first place of a label among all
+  -- the first place of a label in the list
   abbrev first_of : ℕ → ℕ
   first_of k = unwrap_or (first_below (length labels) (λ i. same_label (nth labels i) (nth found k))) 0
 
@@ -85,7 +85,7 @@ module _ (labels found : List Label) (start : List ℕ) (are : AreDistricts labe
   first_is : (k : ℕ) → k < length found → (first_of k < length labels) × (nth labels (first_of k) ≡ nth found k) × (is_new labels (first_of k) ≡ true)
   first_is k l = first_by k l (first_below (length labels) (λ i. same_label (nth labels i) (nth found k))) refl
 
-  -- the different labels that pass a test are those of the list that pass it
+  -- counting new labels that pass a test is counting distinct ones
   pub count_different : (p : Label → Bool) → count_below (length labels) (λ j. is_new labels j && p (nth labels j)) ≡ count_below (length found) (λ k. p (nth found k))
   count_different p =
       let up = count_below_into (length labels) (length found) (λ j. is_new labels j && p (nth labels j)) (λ k. p (nth found k)) (λ j. get_or start j 0)

@@ -1,4 +1,4 @@
--- Edges, one entry and one node after another.
+-- Edges, entry by entry and node by node.
 use Rattle.std.proofs.Common.{◌≡◌, ℕ, ◌+◌, true, List, [], length, Some, sym, ap, ◌∙◌, subst, inl, inr, arith}
 use Rattle.std.proofs.lemmas.Bool.{cases_eq, false≢true}
 use Rattle.serde_json.specs.Data.{Data}
@@ -6,7 +6,7 @@ use Rattle.audit_model.specs.declared.setting.Label.{Label}
 use Rattle.dual_json.specs.Edges.{entries_at, edge, has_edge, LeadsTo, PushesEdge, AddsEdges, AreListed}
 use Rattle.dual_json.specs.Places.{object_at, place_of_entry}
 
--- no entries yet
+-- before the first entry, there are no edges of the node
 pub adds_none : (ids : List Label) (entries : List Data) (node : ℕ) (pairs : List (ℕ × ℕ)) → AddsEdges ids entries 0 node pairs pairs
 adds_none ids entries node pairs = record {
   kept = λ x h. h;
@@ -14,11 +14,11 @@ adds_none ids entries node pairs = record {
   to = λ v leads off. let under = leads.1 in absurd (omega (arith, under));
 }
 
--- an edge of the first entries is one of one entry more
+-- a node named by the first entries is named with one more
 leads_more : (ids : List Label) (entries : List Data) (count v : ℕ) → LeadsTo ids entries count v → LeadsTo ids entries (count + 1) v
 leads_more ids entries count v leads = let under = leads.1 in (leads.0, omega (arith, under), leads.2)
 
--- one entry more
+-- adding one more entry
 pub adds_more : (ids : List Label) (entries : List Data) (count node other : ℕ) (old pairs new : List (ℕ × ℕ)) (d : Data) → AddsEdges ids entries count node old pairs
     → object_at entries count ≡ d → Some other ≡ place_of_entry ids d → PushesEdge node other pairs new → AddsEdges ids entries (count + 1) node old new
 adds_more ids entries count node other old pairs new d before at leads push = record {
@@ -39,14 +39,14 @@ adds_more ids entries count node other old pairs new d before at leads push = re
   ];
 }
 
--- no nodes yet
+-- before the first node, there are no edges
 pub listed_none : (ids : List Label) (lists : List (List Data)) (pairs : List (ℕ × ℕ)) → pairs ≡ [] → AreListed ids lists 0 pairs
 listed_none ids lists pairs none = record {
   from = λ x h. absurd (false≢true (subst (λ (t : List (ℕ × ℕ)). has_edge t x ≡ true) none h));
   to = λ u v l. absurd (omega (arith, l));
 }
 
--- one node more
+-- adding one more node
 pub listed_more : (ids : List Label) (lists : List (List Data)) (count : ℕ) (pairs new : List (ℕ × ℕ)) (entries : List Data) (m : ℕ) → AreListed ids lists count pairs
     → entries ≡ entries_at lists count → m ≡ length entries → AddsEdges ids entries m count pairs new → AreListed ids lists (count + 1) new
 listed_more ids lists count pairs new entries m before at long adds = record {

@@ -1,4 +1,4 @@
--- The ids that are found of a document against what their definition says.
+-- The ids that are read against their definition.
 use Rattle.std.proofs.Common.{◌≡◌, ℕ, ◌<◌, List, [], length, Option, Some, None, sym, ap, ◌∙◌, arith}
 use Rattle.std.specs.Prelude.{cond, codes, nat_lt, unwrap_or}
 use Rattle.std.specs.Option.{option_map, option_or}
@@ -24,12 +24,12 @@ use Rattle.dual_json.specs.Stages.{edge_count, entry_fault, graph_fault, ids_fau
 use Rattle.dual_json.proofs.Bridge.{refusal_is}
 use Rattle.dual_json.proofs.Regioned.{document_is_of}
 
--- the refusals after those of the ids
+-- the faults after those of the ids
 later : Document → Option GraphFault
 later d = option_or (entry_fault d is_unnamed fault.BadNeighbour) (option_or (entry_fault d (is_stranger d.nodes) fault.UnknownNeighbour)
     (refused_if (nat_lt 400000 (edge_count d)) (fault.TooManyEdges (edge_count d))))
 
--- where nothing is refused, each node has an id
+-- without a fault, each node has an id
 pub all_named : (d : Document) (columns : Columns) → refusal d columns ≡ None → first_unnamed (codes "id") d.nodes ≡ None
 unfolding later
 all_named d columns none =
@@ -43,7 +43,7 @@ all_named d columns none =
 ids_in : Document → List Label
 ids_in d = map_below (node_count d) (λ i. unwrap_or (id_of (node d i)) (Word []))
 
--- the labels at the key of ids are the ids that are read of the bytes
+-- the labels at the key of ids are the ids of the bytes
 pub ids_are : (bytes : List ℕ) (root : Data) (d : Document) (ids : List Label) → cond (is_utf8 bytes) (read bytes) None ≡ Some root → document root ≡ d → AreLabels (codes "id") d.nodes ids → ids ≡ id_reading bytes
 unfolding id_reading ids_in
 ids_are bytes root d ids is same are =

@@ -1,4 +1,4 @@
--- A map from names to their first places, one place after another.
+-- A map from names to their first places, place by place.
 use Rattle.std.proofs.Common.{◌≡◌, ℕ, suc, ◌+◌, ◌<◌, List, length, true, false, cond, Some, None, sym, ap, ◌∙◌, subst, inl, inr, arith}
 use Rattle.std.specs.HashMap.{HashMap, get}
 use Rattle.std.specs.Cmp.{eq_by_cmp_equiv}
@@ -15,15 +15,15 @@ use Rattle.dual_json.specs.Names.{label_from, label_total, same_name}
 use Rattle.dual_json.specs.Places.{nth, repeated_label, IsLabelIndex}
 use Rattle.dual_json.specs.declared.names.Name.{Name}
 
--- that two labels are the same does not hang on their order
+-- equality of labels is symmetric
 pub same_turned : (a b : Label) → same_label a b ≡ same_label b a
 same_turned a b = (eq_by_cmp_equiv label_total).symm a b
 
--- of two labels that are the same, each is the same as a third where the other is
+-- equal labels are equal to the same labels
 pub same_alike : (a b c : Label) → same_label a b ≡ true → same_label a c ≡ same_label b c
 same_alike a b c e = (eq_by_cmp_equiv label_total).congr a b c e
 
--- the first places below j, and no label there that an earlier place has
+-- the map covers the places below j, whose labels are distinct
 pub record IsIndexed {S : Type 0} (labels : List Label) (j : ℕ) (places : HashMap Name ℕ S) : Type 0 where
   pub leads : (q : Name) → get same_name places q ≡ first_below j (λ i. same_label (label_from q) (nth labels i))
   pub none : first_below j (λ k. any_below k (λ i. same_label (nth labels i) (nth labels k))) ≡ None
@@ -70,7 +70,7 @@ module _ {S : Type 0} (labels : List Label) (j : ℕ) (places : HashMap Name ℕ
               (sym (first_below_same j (λ i. same_label (label_from key) (nth labels i)) (λ i. same_label (nth labels i) (nth labels j)) (λ i under. turned i)) ∙ sym (before.leads key) ∙ absent));
         }
 
--- where all labels have been put into the map, none stood twice, and the map leads to each
+-- once all labels are in the map, they are distinct, and it gives the place of each
 pub indexed_all : {S : Type 0} (labels : List Label) (j : ℕ) (places : HashMap Name ℕ S) → j ≡ length labels → IsIndexed labels j places → (repeated_label labels ≡ None) × IsLabelIndex labels places
 indexed_all labels j places all is = (
   ap (option_map (λ k. fault.SameId (unwrap_or (first_below k (λ i. same_label (nth labels i) (nth labels k))) 0) k))

@@ -1,4 +1,4 @@
--- The edges against the pairs of nodes that are joined.
+-- The edges against the pairs of adjacent nodes.
 use Rattle.std.proofs.Common.{◌≡◌, ℕ, zero, suc, ◌+◌, ◌<◌, ◌≤◌, Bool, true, false, not, ◌||◌, cond, List, [], ◌∷◌, ◌++◌, length, get_or, Option, Some, None, refl, sym, ap, ◌∙◌, subst, inl, inr, arith, length-append, append-nil}
 use Rattle.std.specs.Prelude.{◌==◌, ◌⊎◌, ◌↔◌, ◌≢◌, nat_lt}
 use Rattle.std.specs.Option.{option_and_then}
@@ -22,9 +22,9 @@ use Rattle.dual_json.specs.Edges.{entries_at, edge, has_edge, names_node, joined
 use Rattle.dual_json.specs.Places.{nth, object_at, place_of_label, repeated_label}
 use Rattle.dual_json.proofs.Indexed.{same_turned, same_alike}
 
--- ---- ids that all differ
+-- ---- distinct ids
 
--- where no id stands twice, ids at two places differ
+-- without a repeated id, ids at two places differ
 pub ids_apart : (ids : List Label) → repeated_label ids ≡ None → (i j : ℕ) → i < j → j < length ids → same_label (nth ids i) (nth ids j) ≡ false
 ids_apart ids none i j l inside =
     let never = first_below_none (length ids) (λ k. any_below k (λ m. same_label (nth ids m) (nth ids k))) j (option_map_none _ _ none) inside in
@@ -32,7 +32,7 @@ ids_apart ids none i j l inside =
     (any_below_from j (λ m. same_label (nth ids m) (nth ids j)) i l same))
 
 module _ (ids : List Label) (apart : repeated_label ids ≡ None) where
-  -- the only place of a label
+  -- the place of a label is unique
   one_place : (l : Label) (v w : ℕ) → v < length ids → w < length ids → same_label l (nth ids v) ≡ true → same_label l (nth ids w) ≡ true → v ≡ w
   one_place l v w lv lw sv sw =
       let back : same_label (nth ids v) (nth ids w) ≡ true = sym (same_alike l (nth ids v) (nth ids w) sv) ∙ sw in
@@ -73,20 +73,20 @@ module _ (ids : List Label) (apart : repeated_label ids ≡ None) where
 
 -- ---- edges
 
--- the edge of a unit and a greater one has the first at its first end
+-- the pair of an edge from a smaller to a greater unit
 edge_up : (u v : ℕ) → u < v → edge u v ≡ (u, v)
 edge_up u v l = cond-true {A = ℕ × ℕ} (nat_lt u v) (u, v) (v, u) (lt-ltb u v l)
 
--- the edge of a unit and one that is not greater has the second at its first end
+-- the pair of an edge to a unit that is not greater
 edge_down : (u v : ℕ) → v ≤ u → edge u v ≡ (v, u)
 edge_down u v l = cond-false {A = ℕ × ℕ} (nat_lt u v) (u, v) (v, u) (le-ltb u v l)
 
--- the smaller and the larger end
+-- the smaller and the greater unit of an edge
 pub record HasEnds (u v : ℕ) (e : ℕ × ℕ) : Type 0 where
   pub smaller : e.0 < e.1
   pub either : ((e.0 ≡ u) × (e.1 ≡ v)) ⊎ ((e.0 ≡ v) × (e.1 ≡ u))
 
--- the edge of two different units has them as its ends
+-- the pair of an edge has its two units
 pub edge_ends : (u v : ℕ) (e : ℕ × ℕ) → v ≢ u → e ≡ edge u v → HasEnds u v e
 edge_ends u v e off is = elim (cases_lt u v) [
   | inl up ↦
@@ -112,17 +112,17 @@ rises_far x xs rising v there =
     let up : x < get_or xs at.0 0 = rises (x ∷ xs) 0 (suc at.0) rising (omega arith) (omega (arith, under)) in
     omega (arith, up, is)
 
--- a rising list rises without its first number
+-- a rising list without its first number rises
 later : (x : ℕ) (xs : List ℕ) → ((i : ℕ) → i + 1 < length (x ∷ xs) → get_or (x ∷ xs) i 0 < get_or (x ∷ xs) (i + 1) 0) → (i : ℕ) → i + 1 < length xs → get_or xs i 0 < get_or xs (i + 1) 0
 later x xs rising i l =
     let next : suc i + 1 ≡ suc (i + 1) = omega arith in
     subst (λ (j : ℕ). get_or xs i 0 < get_or (x ∷ xs) j 0) next (rising (suc i) (omega arith))
 
--- a number of a list is the first or one of the others
+-- a member is the first item or one of the others
 one_of : (x : ℕ) (xs : List ℕ) (v : ℕ) → has (x ∷ xs) v ≡ true → (x ≡ v) ⊎ (has xs v ≡ true)
 one_of x xs v h = elim (or_cases (x == v) (has xs v) h) [ inl e ↦ inl (eqb-true x v e) | inr e ↦ inr e ]
 
--- rising lists with the same numbers are the same
+-- rising lists with equal members are equal
 pub rising_same : (xs ys : List ℕ) → ((i : ℕ) → i + 1 < length xs → get_or xs i 0 < get_or xs (i + 1) 0) → ((i : ℕ) → i + 1 < length ys → get_or ys i 0 < get_or ys (i + 1) 0)
     → ((v : ℕ) → has xs v ≡ true → has ys v ≡ true) → ((v : ℕ) → has ys v ≡ true → has xs v ≡ true) → xs ≡ ys
 rising_same [] [] rx ry into back = refl
@@ -147,7 +147,7 @@ rising_same (x ∷ xs) (y ∷ ys) rx ry into back =
       | inr there ↦ there
     ]))
 
--- a rising list still rises with a number behind it that is above all
+-- appending a greater number keeps a list rising
 rises_push : (xs : List ℕ) (n : ℕ) → ((i : ℕ) → i + 1 < length xs → get_or xs i 0 < get_or xs (i + 1) 0) → ((v : ℕ) → has xs v ≡ true → v < n)
     → (i : ℕ) → i + 1 < length (xs ++ n ∷ []) → get_or (xs ++ n ∷ []) i 0 < get_or (xs ++ n ∷ []) (i + 1) 0
 rises_push xs n rising below i l = elim (cases_lt (i + 1) (length xs)) [
@@ -163,18 +163,18 @@ rises_push xs n rising below i l = elim (cases_lt (i + 1) (length xs)) [
       omega (arith, a, b, under)
 ]
 
--- the numbers that are kept still rise, whether the last is kept or not
+-- filtering one more number keeps the list rising, by whether it passes
 filter_rises_by : (n : ℕ) (test : ℕ → Bool) (b : Bool) → ((i : ℕ) → i + 1 < length (filter_below n test) → get_or (filter_below n test) i 0 < get_or (filter_below n test) (i + 1) 0)
     → (i : ℕ) → i + 1 < length (filter_below n test ++ cond b (n ∷ []) []) → get_or (filter_below n test ++ cond b (n ∷ []) []) i 0 < get_or (filter_below n test ++ cond b (n ∷ []) []) (i + 1) 0
 filter_rises_by n test true before = rises_push (filter_below n test) n before (λ v h. (has-filter_below n test v h).0)
 filter_rises_by n test false before = subst (λ (xs : List ℕ). (i : ℕ) → i + 1 < length xs → get_or xs i 0 < get_or xs (i + 1) 0) (sym (append-nil (filter_below n test))) before
 
--- the numbers that are kept below a bound rise
+-- filtered numbers rise
 pub filter_rises : (n : ℕ) (test : ℕ → Bool) (i : ℕ) → i + 1 < length (filter_below n test) → get_or (filter_below n test) i 0 < get_or (filter_below n test) (i + 1) 0
 filter_rises zero test i l = absurd (omega (arith, l))
 filter_rises (suc n) test i l = filter_rises_by n test (test n) (filter_rises n test) i l
 
--- a graph is told by its units and its edges
+-- a graph is determined by its units and adjacencies
 pub graph_is : (g : Graph) (n : ℕ) (joins : ℕ → ℕ → Bool) → IsGraph g → g.units ≡ n
     → ((u v : ℕ) → adjacent g u v ≡ true → joins u v ≡ true) → ((u v : ℕ) → u < n → v < n → joins u v ≡ true → adjacent g u v ≡ true)
     → g ≡ record { units = n; neighbours = map_below n (λ u. filter_below n (joins u)) }
@@ -192,7 +192,7 @@ graph_is g n joins is units from to =
     made : g.units ≡ n → g.neighbours ≡ map_below n (λ u. filter_below n (joins u)) → g ≡ record { units = n; neighbours = map_below n (λ u. filter_below n (joins u)) }
     made a b = ap (λ (m : ℕ). record { units = m; neighbours = g.neighbours }) a ∙ ap (λ (rows : List (List ℕ)). record { units = n; neighbours = rows }) b
 
--- ---- all together
+-- ---- the graph as a whole
 
 module _ (ids : List Label) (lists : List (List Data)) (long : length lists ≡ length ids) (apart : repeated_label ids ≡ None)
     (before pairs : List (ℕ × ℕ)) (are : AreListed ids lists (length lists) before) (same : (u v : ℕ) → (has_pair pairs u v ≡ true) ↔ (has_pair before u v ≡ true))
@@ -218,7 +218,7 @@ module _ (ids : List Label) (lists : List (List Data)) (long : length lists ≡ 
     rising = rising;
   }
 
-  -- one node names another
+  -- the edge is present if one node names the other
   there : (u v : ℕ) → u < length ids → v < length ids → v ≢ u → names_node ids (entries_at lists u) v ≡ true → has_edge pairs (edge u v) ≡ true
   there u v lu lv off names = (same (edge u v).0 (edge u v).1).1 (are.to u v (omega (arith, lu, long)) (names_leads ids apart (entries_at lists u) v lv names) off)
 

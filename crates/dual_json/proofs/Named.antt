@@ -13,24 +13,24 @@ use Rattle.dual_json.specs.Names.{label_from}
 use Rattle.dual_json.specs.Places.{label_at_key, object_at, nth, labels_from, first_unnamed, AreLabels}
 use Rattle.dual_json.specs.declared.names.Name.{Name}
 
--- the label of the last name is that of the name that was added
+-- the appended name's label is the last one
 pub nth-push_same : (names : List Name) (name : Name) → nth (labels_from (names ++ name ∷ [])) (length names) ≡ label_from name
 nth-push_same [] name = refl
 nth-push_same (x ∷ names) name = nth-push_same names name
 
--- a name that is added leaves the labels before it
+-- appending keeps the earlier labels
 pub nth-push_other : (names : List Name) (name : Name) (k : ℕ) → k < length names → nth (labels_from (names ++ name ∷ [])) k ≡ nth (labels_from names) k
 nth-push_other [] name k l = absurd (omega arith)
 nth-push_other (x ∷ names) name zero l = refl
 nth-push_other (x ∷ names) name (suc k) l = nth-push_other names name k (omega arith)
 
--- the label at a place is that of the name there
+-- the label at a position is that of the name there
 pub nth_is : (names : List Name) (k : ℕ) (name : Name) → k < length names → name ≡ get_or names k name → nth (labels_from names) k ≡ label_from name
 nth_is [] k name l is = absurd (omega arith)
 nth_is (x ∷ names) zero name l is = ap label_from (sym is)
 nth_is (x ∷ names) (suc k) name l is = nth_is names k name (omega arith) is
 
--- the label at a place is that of the name that is got there
+-- the label at a position is that of the name there, for any default
 pub nth_get : (names : List Name) (k : ℕ) (d : Name) → k < length names → nth (labels_from names) k ≡ label_from (get_or names k d)
 nth_get [] k d l = absurd (omega arith)
 nth_get (x ∷ names) zero d l = refl
@@ -42,7 +42,7 @@ pub record AreNamed (key : List ℕ) (objects : List Data) (i : ℕ) (names : Li
   pub count : length names ≡ i
   pub each : (k : ℕ) → k < i → label_at_key key (object_at objects k) ≡ Some (nth (labels_from names) k)
 
--- one object more, whose name is added
+-- one more object's name is appended
 pub named_more : (key : List ℕ) (objects : List Data) (i : ℕ) (names new : List Name) (name : Name) (d : Data) → AreNamed key objects i names → object_at objects i ≡ d
     → Some (label_from name) ≡ label_at_key key d → new ≡ names ++ name ∷ [] → AreNamed key objects (i + 1) new
 named_more key objects i names new name d before at named is = record {
@@ -63,7 +63,7 @@ named_more key objects i names new name d before at named is = record {
     here : label_at_key key (object_at objects i) ≡ Some (label_from name)
     here = ap (label_at_key key) at ∙ sym named
 
--- where each object has been named, none lacks a name, and the labels are theirs
+-- once all objects are named, none is unnamed, and the labels are theirs
 pub named_all : (key : List ℕ) (objects : List Data) (i : ℕ) (names : List Name) → i ≡ length objects → AreNamed key objects i names
     → (first_unnamed key objects ≡ None) × AreLabels key objects (labels_from names)
 named_all key objects i names all before = (
@@ -71,7 +71,7 @@ named_all key objects i names all before = (
   record { count = length-map names label_from ∙ before.count ∙ all; each = λ k l. before.each k (omega (arith, l, all)) },
 )
 
--- the labels by their places are the labels of the names
+-- the labels listed by position are the labels of the names
 pub labels_listed : (names : List Name) → map_below (length names) (nth (labels_from names)) ≡ labels_from names
 labels_listed names = ext_get_or (Word []) (map_below (length names) (nth (labels_from names))) (labels_from names)
     (length-map_below (length names) (nth (labels_from names)) ∙ sym (length-map names label_from))

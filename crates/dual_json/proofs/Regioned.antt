@@ -1,4 +1,4 @@
--- The regions that are found of a document against what their definition says.
+-- The regions that are read against their definition.
 use Rattle.std.proofs.Common.{◌≡◌, ℕ, ◌<◌, ◌≤◌, Bool, true, false, not, List, length, get_or, Option, Some, None, Ok, refl, sym, ap, ◌∙◌, inr, arith}
 use Rattle.std.specs.Prelude.{nat_lt, cond, unwrap_or}
 use Rattle.std.specs.Option.{option_or, option_map, is_some, is_none}
@@ -25,22 +25,22 @@ use Rattle.dual_json.specs.Places.{first_unnamed, AreLabels}
 use Rattle.dual_json.proofs.Bridge.{different_same, start_same, reading_of}
 use Rattle.dual_json.proofs.Shapes.{is_refused, not_refused}
 
--- ---- refusals
+-- ---- faults
 
--- an option is empty exactly where what is made of it is
+-- an option is empty exactly if its image is
 pub absent_is : {A B : Type 0} → (f : A → B) (o : Option A) (found : Option B) (b : Bool) → option_map f o ≡ found → is_some o ≡ not b → is_none found ≡ b
 absent_is f None found true is e = ap is_none (sym is)
 absent_is f None found false is e = cc e
 absent_is f (Some x) found true is e = cc e
 absent_is f (Some x) found false is e = ap is_none (sym is)
 
--- where each node has the column, the first that has no label there is refused
+-- if each node has the column, the fault is the first one without a label
 pub fault_unlabelled : (d : Document) (column : List ℕ) (node : ℕ) → first_without column d.nodes ≡ None → first_unnamed column d.nodes ≡ Some node → region_fault d column ≡ Some (BadLabel node)
 fault_unlabelled d column node all bad =
     none_or (option_map Missing (first_without column d.nodes)) _ (ap (option_map Missing) all)
     ∙ or_some (option_map BadLabel (first_unnamed column d.nodes)) _ (BadLabel node) (ap (option_map BadLabel) bad)
 
--- where each node has a label, only their number is a reason
+-- if each node has a label, only their number can be a fault
 fault_counted : (d : Document) (column : List ℕ) (labels : List Label) → first_without column d.nodes ≡ None → first_unnamed column d.nodes ≡ None → AreLabels column d.nodes labels
     → region_fault d column ≡ option_or (refused_if (nat_lt 5000 (different_count labels)) (TooMany (different_count labels))) None
 fault_counted d column labels all named are =
@@ -48,14 +48,14 @@ fault_counted d column labels all named are =
     ∙ none_or (option_map BadLabel (first_unnamed column d.nodes)) _ (ap (option_map BadLabel) named)
     ∙ ap (λ n. option_or (refused_if (nat_lt 5000 n) (TooMany n)) None) (different_same d (as_districts column) labels are)
 
--- where each node has a label, more than 5000 different ones are refused
+-- more than 5,000 distinct labels are refused
 pub fault_many : (d : Document) (column : List ℕ) (labels : List Label) → first_without column d.nodes ≡ None → first_unnamed column d.nodes ≡ None → AreLabels column d.nodes labels
     → nat_lt 5000 (different_count labels) ≡ true → region_fault d column ≡ Some (TooMany (different_count labels))
 fault_many d column labels all named are many =
     fault_counted d column labels all named are
     ∙ or_some (refused_if (nat_lt 5000 (different_count labels)) (TooMany (different_count labels))) None (TooMany (different_count labels)) (is_refused (nat_lt 5000 (different_count labels)) (TooMany (different_count labels)) many)
 
--- where each node has a label, and they are at most 5000 different ones, nothing is refused
+-- at most 5,000 distinct labels are accepted
 pub fault_none : (d : Document) (column : List ℕ) (labels : List Label) → first_without column d.nodes ≡ None → first_unnamed column d.nodes ≡ None → AreLabels column d.nodes labels
     → nat_lt 5000 (different_count labels) ≡ false → region_fault d column ≡ None
 fault_none d column labels all named are few =
@@ -64,11 +64,11 @@ fault_none d column labels all named are few =
 
 -- ---- the numbers
 
--- the numbers of the labels are the regions of the document
+-- the numbers of the labels are the document's regions
 pub regions_are : (d : Document) (column : List ℕ) (labels : List Label) (numbers : List ℕ) → AreLabels column d.nodes labels → AreNumbered labels numbers → regions d column ≡ numbers
 regions_are d column labels numbers are numbered = start_same d (as_districts column) labels numbered.found numbers are numbered.districts
 
--- numbers of labels below 5000, one for each node, are within the limits
+-- the numbers of the labels are within the limits
 pub regions_within : (nodes : List Data) (column : List ℕ) (labels : List Label) (numbers : List ℕ) (units : ℕ) → units ≡ length nodes → AreLabels column nodes labels → AreNumbered labels numbers → AreRegions units numbers
 regions_within nodes column labels numbers units long are numbered = record {
   width = inr (numbered.districts.count ∙ are.count ∙ sym long);
@@ -78,19 +78,19 @@ regions_within nodes column labels numbers units long are numbered = record {
       omega (arith, inside, few));
 }
 
--- ---- a text that is a graph
+-- ---- a text accepted as a graph
 
--- what is accepted has no fault, and is what was read
+-- an accepted document has no fault, and is the result
 first_refused : (o : Option GraphFault) (p : Parsed) (r : Parsed) → accepted_or p o ≡ Ok r → (o ≡ None) × (p ≡ r)
 first_refused None p r is = (refl, cc is)
 first_refused (Some f) p r is = cc is
 
--- a root of which something is read has no part of a wrong shape
+-- an accepted root has no part of wrong shape
 pub no_bad_part : (o : Option Part) (columns : Columns) (root : Data) (r : Parsed) → of_root columns root o ≡ Ok r → o ≡ None
 no_bad_part None columns root r is = refl
 no_bad_part (Some p) columns root r is = cc is
 
--- where the first refusal is none, there are not too many nodes
+-- without a fault, there are not too many nodes
 few_by : (b : Bool) (n : ℕ) (rest : Option GraphFault) → nat_lt 100000 n ≡ b → option_or (refused_if b (fault.TooManyUnits n)) rest ≡ None → n ≤ 100000
 few_by true n rest is none = cc none
 few_by false n rest is none = ltb-false 100000 n is
@@ -117,7 +117,7 @@ module _ (bytes : List ℕ) (columns : Columns) (root : Data) (r : Parsed) (is :
 pub document_is_of : (bytes : List ℕ) (root : Data) → cond (is_utf8 bytes) (read bytes) None ≡ Some root → document_of bytes ≡ document root
 document_is_of bytes root is = ap (λ (o : Option Data). document (unwrap_or o null)) is
 
--- the regions that are read of the bytes are those of their document, or its refusal
+-- the regions of the bytes are those of their document, or its fault
 pub region_reading_of : (bytes column : List ℕ) (root : Data) (d : Document) → cond (is_utf8 bytes) (read bytes) None ≡ Some root → document root ≡ d
     → region_reading bytes column ≡ regions_or (regions d column) (region_fault d column)
 unfolding region_reading

@@ -1,4 +1,4 @@
--- The place of each name among the different ones.
+-- The index of each name among the distinct ones.
 use Rattle.std.proofs.Common.{◌≡◌, ℕ, ◌+◌, ◌<◌, List, [], ◌∷◌, ◌++◌, length, get_or, Less, Equal, Greater, sym, ap, ◌∙◌, inl, inr, arith, length-append}
 use Rattle.std.specs.Cmp.{Equal-is}
 use Rattle.std.specs.List.{Contains}
@@ -18,13 +18,13 @@ use Rattle.dual_json.specs.Places.{nth, labels_from}
 use Rattle.dual_json.specs.declared.names.Name.{Name}
 use Rattle.dual_json.proofs.Named.{nth_get}
 
--- the places of the first names
+-- the indices of the first names
 pub record AreStarted (names found : List Name) (i : ℕ) (start : List ℕ) : Type 0 where
   pub count : length start ≡ i
   pub inside : (k : ℕ) → k < i → get_or start k 0 < length found
   pub place : (k : ℕ) → k < i → nth (labels_from found) (get_or start k 0) ≡ nth (labels_from names) k
 
--- one name more, whose place among the different ones is added
+-- one more name's index is appended
 pub started_more : (names found : List Name) (i : ℕ) (start new : List ℕ) (place : ℕ) (x : Name) → AreStarted names found i start → place < length found
     → nth (labels_from names) i ≡ label_from x → name_cmp (get_or found place x) x ≡ Equal → new ≡ start ++ place ∷ [] → AreStarted names found (i + 1) new
 started_more names found i start new place x before l at tied is = record {
@@ -46,7 +46,7 @@ started_more names found i start new place x before l at tied is = record {
     there : (k : ℕ) → k < i → get_or new k 0 ≡ get_or start k 0
     there k under = ap (λ (t : List ℕ). get_or t k 0) is ∙ get_or_append_left start (place ∷ []) 0 k (omega (arith, under, before.count))
 
--- a name of the list is found
+-- each name of the list is found
 pub never_missing : (names found : List Name) (i p : ℕ) (d : Name) → AreDifferent names found → i < length names
     → (IsNonDecreasingBy (λ y. ordering_index (name_cmp y (get_or names i d))) found → IsPartitionPoint (λ y. name_cmp y (get_or names i d) ≡ Less) (λ y. name_cmp y (get_or names i d) ≡ Greater) found p) → ⊥
 never_missing names found i p d are l search_says =
@@ -62,7 +62,7 @@ never_missing names found i p d are l search_says =
       | inr over ↦ let e : Greater ≡ Equal = sym (point.1 there.0 there.1 over there.2) ∙ tied in cc e
     ]
 
--- the labels of names that rise, rise
+-- the labels of rising names rise
 rising_labels : (found : List Name) → IsStrictlySortedBy name_cmp found → (i j : ℕ) → i < j → j < length (labels_from found) → label_cmp (nth (labels_from found) i) (nth (labels_from found) j) ≡ Less
 rising_labels [] rising i j up l = absurd (omega (arith, l))
 rising_labels (y ∷ ys) rising i j up l =
@@ -71,7 +71,7 @@ rising_labels (y ∷ ys) rising i j up l =
     ∙ ap (label_cmp (label_from (get_or (y ∷ ys) i y))) (nth_get (y ∷ ys) j y inside)
     ∙ Less-from_sorted name_cmp (y ∷ ys) i j y rising up inside
 
--- each of the different labels is that of a name
+-- each distinct label is that of a name
 from_names : (names found : List Name) → ((x : Name) → Contains found x → Contains names x) → (k : ℕ) → k < length (labels_from found)
     → (i : ℕ) × (i < length (labels_from names)) × (nth (labels_from found) k ≡ nth (labels_from names) i)
 from_names names [] from k l = absurd (omega (arith, l))
@@ -85,7 +85,7 @@ from_names names (y ∷ ys) from k l =
       nth_get (y ∷ ys) k y inside ∙ sym (nth_get names there.0 x under ∙ ap label_from there.2),
     )
 
--- where each name has its place, the labels and the places are districts
+-- once all names have an index, labels and indices form districts
 pub started_all : (names found : List Name) (i : ℕ) (start : List ℕ) → AreDifferent names found → i ≡ length names → AreStarted names found i start
     → AreDistricts (labels_from names) (labels_from found) start
 started_all names found i start are all is = record {

@@ -14,7 +14,7 @@ use Rattle.audit_statement.specs.Reading.{refused_if}
 use Rattle.dual_json.specs.Places.{object_at}
 use Rattle.audit_model.specs.Limits.{most_people}
 
--- a whole number from 0 to 10 ^ 9
+-- an integer from 0 to 10 ^ 9
 abbrev pub count_from : Data → Option ℕ
 count_from d = option_and_then (λ n. cond (nat_le n most_people) (Some n) None) (option_and_then as_u64 (as_number d))
 
@@ -26,7 +26,7 @@ count_in key d = option_and_then count_from (get key d)
 abbrev pub names_group : Columns → Bool
 names_group columns = not (length columns.group == 0)
 
--- the first of the group's columns that a node has not, and the first in which it has no number from 0 to 10 ^ 9
+-- the first column of the group that a node does not have, and the first one without a valid number
 abbrev pub missing_in_group : Columns → Data → Option Column
 missing_in_group columns d = first_some (
     refused_if (names_group columns && is_none (get columns.group d)) column.Group
@@ -39,7 +39,7 @@ bad_in_group columns d = first_some (
     ∷ refused_if (names_group columns && is_none (count_in columns.whole d)) column.Whole
     ∷ [])
 
--- the first column that a node has not
+-- the first column that a node does not have
 abbrev pub missing_in : Columns → Data → Option Column
 missing_in columns d = first_some (
     refused_if (is_none (get columns.population d)) column.Population
@@ -50,7 +50,7 @@ missing_in columns d = first_some (
     ∷ refused_if (names_group columns && is_none (get columns.whole d)) column.Whole
     ∷ [])
 
--- the first column of numbers in which a node has no number from 0 to 10 ^ 9
+-- the first column of numbers in which a node has no valid number
 abbrev pub bad_in : Columns → Data → Option Column
 bad_in columns d = first_some (
     refused_if (is_none (count_in columns.population d)) column.Population
@@ -60,7 +60,7 @@ bad_in columns d = first_some (
     ∷ refused_if (names_group columns && is_none (count_in columns.whole d)) column.Whole
     ∷ [])
 
--- the first node that lacks a column, and the first that has a bad number
+-- the fault of the first node with a missing column, and that of the first node with an invalid number
 abbrev pub missing : Columns → List Data → Option GraphFault
 missing columns nodes = first_some_below (length nodes) (λ i. option_map (fault.Missing i) (missing_in columns (object_at nodes i)))
 
@@ -71,7 +71,7 @@ bad columns nodes = first_some_below (length nodes) (λ i. option_map (fault.Bad
 abbrev pub numbers_in : List ℕ → List Data → List ℕ
 numbers_in key nodes = map_below (length nodes) (λ i. unwrap_or (count_in key (object_at nodes i)) 0)
 
--- the group's numbers at both keys, and none where no group is named
+-- the group's numbers at both keys, or none if no group is named
 pub record AreOfGroup (columns : Columns) (nodes : List Data) (group : Group) : Type 0 where
   pub members : group.members ≡ cond (names_group columns) (numbers_in columns.group nodes) []
   pub whole : group.whole ≡ cond (names_group columns) (numbers_in columns.whole nodes) []

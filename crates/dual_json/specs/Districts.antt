@@ -1,4 +1,4 @@
--- The districts of the start plan.
+-- Districts of the start plan.
 use Rattle.std.specs.Prelude.{◌≡◌, ℕ, ◌<◌, ◌≤◌, ◌||◌, Bool, nat_lt, not, true, List, length, slice_index, Option}
 use Rattle.std.specs.List.{Any, Contains}
 use Rattle.std.specs.List.Sorted.{IsStrictlySortedBy}
@@ -14,14 +14,14 @@ use Rattle.dual_json.specs.Places.{nth}
 use Rattle.dual_json.specs.declared.names.Name.{Name}
 use Rattle.audit_model.specs.Limits.{most_districts}
 
--- the different names of a list, in rising order
+-- the distinct names of a list, in rising order
 pub record AreDifferent (names found : List Name) : Type 0 where
   pub rising : IsStrictlySortedBy name_cmp found
   pub from : (x : Name) → Contains found x → Contains names x
   pub to : (x : Name) → Contains names x → Any (λ y. same_name x y ≡ true) found
   pub short : length found ≤ length names
 
--- the different labels of a list in rising order, and the place of each among them
+-- the distinct labels of a list in rising order, and the index of each label among them
 pub record AreDistricts (labels found : List Label) (start : List ℕ) : Type 0 where
   pub rising : (i j : ℕ) → i < j → j < length found → label_cmp (nth found i) (nth found j) ≡ Less
   pub from : (k : ℕ) → k < length found → (i : ℕ) × (i < length labels) × (nth found k ≡ nth labels i)
@@ -29,14 +29,14 @@ pub record AreDistricts (labels found : List Label) (start : List ℕ) : Type 0 
   pub inside : (i : ℕ) → i < length labels → slice_index start i < length found
   pub place : (i : ℕ) → i < length labels → nth found (slice_index start i) ≡ nth labels i
 
--- too few or too many districts
+-- the fault of too few or too many districts
 abbrev pub district_count_fault : ℕ → Option GraphFault
 district_count_fault count = refused_if (nat_lt count 2 || nat_lt most_districts count) (fault.DistrictCount count)
 
--- no earlier label is the same
+-- no earlier label is equal
 abbrev pub is_new : List Label → ℕ → Bool
 is_new labels i = not (any_below i (λ j. same_label (nth labels j) (nth labels i)))
 
--- how many different labels there are
+-- the number of distinct labels
 abbrev pub different_count : List Label → ℕ
 different_count labels = count_below (length labels) (is_new labels)

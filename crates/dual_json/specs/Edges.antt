@@ -1,4 +1,4 @@
--- The edges that nodes list.
+-- The edges that the nodes list.
 use Rattle.std.specs.Prelude.{◌≡◌, ◌≢◌, ℕ, ◌<◌, ◌⊎◌, ◌==◌, ◌&&◌, ◌||◌, Bool, true, cond, nat_lt, not, IsTrue, List, [], length, Option, Some, is_none, option_map}
 use Rattle.std.specs.List.{slice_index_or}
 use Rattle.std.specs.Option.{option_or}
@@ -14,11 +14,11 @@ use Rattle.audit_statement.specs.Reading.{id_of, same_id, refused_if}
 use Rattle.dual_json.specs.Places.{object_at, nth, place_of_entry}
 use Rattle.audit_model.specs.Limits.{most_edges}
 
--- the list of neighbours at a place
+-- the adjacency list of a node
 abbrev pub entries_at : List (List Data) → ℕ → List Data
 entries_at lists i = slice_index_or lists i []
 
--- the first entry of a list that passes the test, and the first of all lists
+-- the first entry of a list that passes a test, and the fault of the first one in all lists
 abbrev pub first_in : (Data → Bool) → List Data → Option ℕ
 first_in test entries = first_below (length entries) (λ place. test (object_at entries place))
 
@@ -29,29 +29,29 @@ first_entry_in test f lists = first_some_below (length lists) (λ i. option_map 
 abbrev pub is_unnamed : Data → Bool
 is_unnamed d = is_none (id_of d)
 
--- an entry that names none of the nodes
+-- an entry that names no node
 abbrev pub is_unknown : List Label → Data → Bool
 is_unknown ids d = is_none (place_of_entry ids d)
 
--- an edge, the smaller end first
+-- an edge as a pair, smaller unit first
 abbrev pub edge : ℕ → ℕ → ℕ × ℕ
 edge u v = cond {A = ℕ × ℕ} (nat_lt u v) (u, v) (v, u)
 
--- whether an edge is among the pairs
+-- an edge is among the pairs
 abbrev pub has_edge : List (ℕ × ℕ) → ℕ × ℕ → Bool
 has_edge pairs e = has_pair pairs e.0 e.1
 
--- one of the first entries leads to the node
+-- one of the first entries names the node
 abbrev pub LeadsTo : List Label → List Data → ℕ → ℕ → Type 0
 LeadsTo ids entries count v = (place : ℕ) × (place < count) × (place_of_entry ids (object_at entries place) ≡ Some v)
 
--- one edge more, unless both ends are one
+-- one more edge, unless it is a loop
 pub record PushesEdge (node other : ℕ) (old new : List (ℕ × ℕ)) : Type 0 where
   pub kept : (e : ℕ × ℕ) → IsTrue (has_edge old e) → IsTrue (has_edge new e)
   pub from : (e : ℕ × ℕ) → IsTrue (has_edge new e) → IsTrue (has_edge old e) ⊎ ((other ≢ node) × (e ≡ edge node other))
   pub to : other ≢ node → IsTrue (has_edge new (edge node other))
 
--- one node's edges to those that its first entries lead to
+-- the edges from a node to those that its first entries name
 pub record AddsEdges (ids : List Label) (entries : List Data) (count node : ℕ) (old new : List (ℕ × ℕ)) : Type 0 where
   pub kept : (e : ℕ × ℕ) → IsTrue (has_edge old e) → IsTrue (has_edge new e)
   pub from : (e : ℕ × ℕ) → IsTrue (has_edge new e) → IsTrue (has_edge old e) ⊎ ((v : ℕ) × LeadsTo ids entries count v × (v ≢ node) × (e ≡ edge node v))
@@ -64,11 +64,11 @@ pub record AreListed (ids : List Label) (lists : List (List Data)) (count : ℕ)
 
 -- ---- the graph
 
--- whether the entries name the node
+-- the entries name the node
 abbrev pub names_node : List Label → List Data → ℕ → Bool
 names_node ids entries j = any_below (length entries) (λ place. same_id (id_of (object_at entries place)) (Some (nth ids j)))
 
--- whether two different nodes are joined
+-- two distinct nodes are adjacent: one of them lists the other
 abbrev pub joined_in : List Label → List (List Data) → ℕ → ℕ → Bool
 joined_in ids lists i j = not (i == j) && (names_node ids (entries_at lists i) j || names_node ids (entries_at lists j) i)
 
@@ -78,7 +78,7 @@ graph_in ids lists = record { units = length ids; neighbours = map_below (length
 abbrev pub edges_in : List Label → List (List Data) → ℕ
 edges_in ids lists = count_edges (graph_in ids lists) (λ u v. true)
 
--- the first refusal of the edges
+-- the first fault of the edges
 abbrev pub edges_fault : List Label → List (List Data) → Option GraphFault
 edges_fault ids lists = option_or (first_entry_in (is_unknown ids) fault.UnknownNeighbour lists)
     (refused_if (nat_lt most_edges (edges_in ids lists)) (fault.TooManyEdges (edges_in ids lists)))

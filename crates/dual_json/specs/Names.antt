@@ -1,4 +1,4 @@
--- The label that a name stands for, and the order of labels.
+-- Names as labels, and the order of labels.
 use Rattle.std.proofs.Common.{sym, ap, ◌∙◌}
 use Rattle.std.specs.Prelude.{◌≡◌, Bool, true, refl, Some}
 use Rattle.std.specs.Cmp.{IsTotalOrder, IsEquivalence, IsPartialEquivalence, IsPartialOrder, int_cmp_total, eq_by_cmp_equiv, partial_equiv_from_equiv, on_total, po, signed_Decides}
@@ -14,7 +14,7 @@ use Rattle.audit_model.specs.Label.{label_cmp, same_label}
 use Rattle.dual_json.specs.declared.names.Name.{Name}
 use Rattle.dual_json.specs.declared.names.Name.TheVariants as name
 
--- the label that a name stands for
+-- the label of a name
 abbrev pub label_from : Name → Label
 label_from (name.Whole n) = Whole n
 label_from (name.Word s) = Word s.now
@@ -26,7 +26,7 @@ name_cmp a b = label_cmp (label_from a) (label_from b)
 abbrev pub same_name : Name → Name → Bool
 same_name a b = same_label (label_from a) (label_from b)
 
--- what is fed to a hasher of a name: the label's number or bytes
+-- the input of a hasher: the label's number or bytes
 abbrev pub label_writes : Label → HashWrites
 label_writes (Whole n) = fed.i128 n
 label_writes (Word s) = fed.str s
@@ -77,7 +77,7 @@ name_per = partial_equiv_from_equiv name_equiv
 pub name_po : IsPartialOrder same_name (λ a b. Some (name_cmp a b))
 name_po = po name_total (λ a b. refl)
 
--- ---- equal names are fed alike
+-- ---- equal names hash equally
 
 same_is : (a b : Label) → same_label a b ≡ true → a ≡ b
 same_is (Whole a) (Whole b) e = ap Whole ((signed_Decides a b).0 e)

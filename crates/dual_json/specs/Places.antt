@@ -1,4 +1,4 @@
--- Ids and labels of a list of objects, and the place of each id.
+-- Ids and labels of a list of objects.
 use Rattle.std.specs.Prelude.{◌≡◌, ℕ, ◌<◌, List, [], length, map, Option, Some, is_none, unwrap_or, option_map, option_and_then}
 use Rattle.std.specs.List.{slice_index_or}
 use Rattle.std.specs.HashMap.{HashMap, get}
@@ -28,11 +28,11 @@ object_at objects i = slice_index_or objects i null
 abbrev pub nth : List Label → ℕ → Label
 nth labels i = slice_index_or labels i (Word [])
 
--- the labels of several names
+-- the labels of a list of names
 abbrev pub labels_from : List Name → List Label
 labels_from names = map label_from names
 
--- the first object that has no label at the key
+-- the first object without a label at the key
 abbrev pub first_unnamed : List ℕ → List Data → Option ℕ
 first_unnamed key objects = first_below (length objects) (λ i. is_none (label_at_key key (object_at objects i)))
 
@@ -41,7 +41,7 @@ pub record AreLabels (key : List ℕ) (objects : List Data) (labels : List Label
   pub count : length labels ≡ length objects
   pub each : (i : ℕ) → i < length objects → label_at_key key (object_at objects i) ≡ Some (nth labels i)
 
--- why there is none: it is the first, or memory was wanting
+-- the reason is the first object without a label, or out of memory
 abbrev pub TellsUnnamed : Unnamed → Option ℕ → Type 0
 TellsUnnamed (unnamed.At i) found = found ≡ Some i
 TellsUnnamed unnamed.Memory found = Unit {0}
@@ -50,16 +50,16 @@ TellsUnnamed unnamed.Memory found = Unit {0}
 abbrev pub place_of_label : List Label → Label → Option ℕ
 place_of_label labels l = first_below (length labels) (λ i. same_label l (nth labels i))
 
--- the least place whose label an earlier place has
+-- the fault of the least place whose label an earlier place has
 abbrev pub repeated_label : List Label → Option GraphFault
 repeated_label labels = option_map
     (λ j. fault.SameId (unwrap_or (first_below j (λ i. same_label (nth labels i) (nth labels j))) 0) j)
     (first_below (length labels) (λ j. any_below j (λ i. same_label (nth labels i) (nth labels j))))
 
--- the map leads from each name to the first place of its label
+-- the map gives the first place of each name's label
 abbrev pub IsLabelIndex : {S : Type 0} → List Label → HashMap Name ℕ S → Type 0
 IsLabelIndex labels places = (q : Name) → get same_name places q ≡ place_of_label labels (label_from q)
 
--- the place of the id of an entry
+-- the node that an entry names
 abbrev pub place_of_entry : List Label → Data → Option ℕ
 place_of_entry labels d = option_and_then (place_of_label labels) (id_of d)

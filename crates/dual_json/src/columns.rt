@@ -1,4 +1,4 @@
-//! The columns of numbers.
+//! Columns of numbers.
 
 ghost use Rattle.std.specs.Prelude.{◌≡◌, ◌≤◌, None, Some, length, IfOk, IfErr, MatchResult};
 ghost use Rattle.audit_model.specs.declared.fault.GraphFault.TheVariants.{Memory};
@@ -16,7 +16,7 @@ use audit_model::setting::Columns;
 use audit_model::text::Text;
 use std::alloc::Global;
 
-/// Whether each node has all columns, or the first that has not.
+/// Checks that each node has all columns, or returns the first fault.
 pub fn check_columns(nodes: &[Value<'_>], columns: &Columns) -> Result<(), GraphFault>
     requires { length nodes.now ≤ most_units }
     ensures { MatchResult result (λ _. missing columns.now (views nodes.now) ≡ None) (λ f. missing columns.now (views nodes.now) ≡ Some f) }
@@ -32,7 +32,7 @@ pub fn check_columns(nodes: &[Value<'_>], columns: &Columns) -> Result<(), Graph
     Ok(())
 }
 
-/// Whether each node has its numbers, or the first that has not.
+/// Checks that each node has valid numbers, or returns the first fault.
 pub fn check_numbers(nodes: &[Value<'_>], columns: &Columns) -> Result<(), GraphFault>
     requires { length nodes.now ≤ most_units }
     ensures { MatchResult result (λ _. bad columns.now (views nodes.now) ≡ None) (λ f. bad columns.now (views nodes.now) ≡ Some f) }
@@ -48,7 +48,7 @@ pub fn check_numbers(nodes: &[Value<'_>], columns: &Columns) -> Result<(), Graph
     Ok(())
 }
 
-/// The three columns.
+/// Reads the columns of population and votes.
 pub fn counts_of(
     alloc: Global,
     nodes: &[Value<'_>],
@@ -66,7 +66,7 @@ pub fn counts_of(
     })
 }
 
-/// The two columns of the group, which are empty where none is named.
+/// Reads the two columns of the group, or returns empty ones if no group is named.
 pub fn group_of(alloc: Global, nodes: &[Value<'_>], columns: &Columns) -> Result<Group, GraphFault>
     ensures { MatchResult result (AreOfGroup columns.now (views nodes.now)) (λ f. f ≡ Memory) }
 {
@@ -82,7 +82,7 @@ pub fn group_of(alloc: Global, nodes: &[Value<'_>], columns: &Columns) -> Result
     })
 }
 
-/// The first of the group's columns that a node has not, where a group is named.
+/// Returns the first column of the group that a node does not have.
 fn missing_of_group(node: &Value<'_>, columns: &Columns) -> Option<Column>
     ensures { result ≡ missing_in_group columns.now (value_data node.now) }
 {
@@ -97,7 +97,7 @@ fn missing_of_group(node: &Value<'_>, columns: &Columns) -> Option<Column>
     }
 }
 
-/// The first column that a node has not.
+/// Returns the first column that a node does not have.
 fn missing_column(node: &Value<'_>, columns: &Columns) -> Option<Column>
     ensures { result ≡ missing_in columns.now (value_data node.now) }
 {
@@ -114,7 +114,7 @@ fn missing_column(node: &Value<'_>, columns: &Columns) -> Option<Column>
     }
 }
 
-/// The whole number from 0 to 10^9 in a column.
+/// Returns the integer in a column if it is from 0 to 10^9.
 fn count_at(node: &Value<'_>, key: &Text) -> Option<u64>
     ensures { result ≡ count_in key.now (value_data node.now) }
 {
@@ -133,7 +133,7 @@ fn count_at(node: &Value<'_>, key: &Text) -> Option<u64>
     }
 }
 
-/// The first of the group's columns in which a node has no such number, where a group is named.
+/// Returns the first column of the group in which a node has no valid number.
 fn bad_of_group(node: &Value<'_>, columns: &Columns) -> Option<Column>
     ensures { result ≡ bad_in_group columns.now (value_data node.now) }
 {
@@ -148,7 +148,7 @@ fn bad_of_group(node: &Value<'_>, columns: &Columns) -> Option<Column>
     }
 }
 
-/// The first column of numbers in which a node has no such number.
+/// Returns the first column of numbers in which a node has no valid number.
 fn bad_number(node: &Value<'_>, columns: &Columns) -> Option<Column>
     ensures { result ≡ bad_in columns.now (value_data node.now) }
 {
@@ -163,7 +163,7 @@ fn bad_number(node: &Value<'_>, columns: &Columns) -> Option<Column>
     }
 }
 
-/// One column.
+/// Reads one column. The numbers were checked before; the default 0 is never used.
 fn numbers_of(alloc: Global, nodes: &[Value<'_>], key: &Text) -> Result<NumList, GraphFault>
     ensures { MatchResult result (λ numbers. numbers ≡ numbers_in key.now (views nodes.now)) (λ f. f ≡ Memory) }
 {

@@ -1,4 +1,4 @@
-//! The districts of the start plan.
+//! Districts of the start plan.
 
 ghost use Rattle.std.specs.Prelude.{◌≡◌, ◌≤◌, None, Some, length, MatchResult};
 ghost use Rattle.audit_model.specs.declared.fault.GraphFault.TheVariants.{Memory};
@@ -11,7 +11,7 @@ use audit_model::fault::GraphFault;
 use audit_model::lists::{LabelList, UnitList};
 use std::alloc::Global;
 
-/// The different names in rising order.
+/// Returns the distinct names in rising order.
 pub fn different<'v>(alloc: Global, names: &[Name<'v>]) -> Result<Vec<Name<'v>>, GraphFault>
     ensures { MatchResult result (λ found. AreDifferent names.now found.items) (λ f. f ≡ Memory) }
 {
@@ -21,7 +21,7 @@ pub fn different<'v>(alloc: Global, names: &[Name<'v>]) -> Result<Vec<Name<'v>>,
     Ok(found)
 }
 
-/// Whether there are from 2 to 200 districts.
+/// Checks that there are 2 to 200 districts.
 pub fn check_count(count: usize) -> Result<(), GraphFault>
     ensures { MatchResult result (λ _. district_count_fault count ≡ None) (λ f. district_count_fault count ≡ Some f) }
 {
@@ -31,7 +31,7 @@ pub fn check_count(count: usize) -> Result<(), GraphFault>
     Ok(())
 }
 
-/// The place of each name among the different ones.
+/// Returns the index of each name among the distinct ones.
 pub fn start_of<'v>(
     alloc: Global,
     names: &[Name<'v>],
@@ -51,7 +51,7 @@ pub fn start_of<'v>(
     Ok(start)
 }
 
-/// The labels, with texts of their own.
+/// Copies the names to labels that own their texts.
 pub fn labels_of(alloc: Global, names: &[Name<'_>]) -> Result<LabelList, GraphFault>
     ensures { MatchResult result (λ labels. labels ≡ labels_from names.now) (λ f. f ≡ Memory) }
 {

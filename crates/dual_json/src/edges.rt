@@ -1,4 +1,4 @@
-//! The edges of the graph.
+//! Edges of the graph.
 
 ghost use Rattle.std.specs.Prelude.{◌≡◌, ◌<◌, ◌≤◌, ◌⊎◌, ◌↔◌, ℕ, IsTrue, None, Some, length, option_map, MatchResult};
 ghost use Rattle.dual_json.specs.Values.{value_data};
@@ -19,7 +19,7 @@ use dual_graph::graph::Graph;
 use dual_graph::pairs::put_in_order;
 use std::alloc::Global;
 
-/// Whether each entry has an id, or the first that has none.
+/// Checks that each entry has an id, or returns the first fault.
 pub fn check_entries(adjacency: &[Value<'_>]) -> Result<(), GraphFault>
     requires { length adjacency.now ≤ most_units }
     ensures { MatchResult result (λ _. first_entry_in is_unnamed BadNeighbour (lists_in adjacency.now) ≡ None)
@@ -36,7 +36,7 @@ pub fn check_entries(adjacency: &[Value<'_>]) -> Result<(), GraphFault>
     Ok(())
 }
 
-/// The graph whose edges are the pairs of different nodes of which one lists the other.
+/// Builds the graph. Two distinct nodes are adjacent if either lists the other.
 pub fn graph_of<'v>(
     alloc: Global,
     units: u32,
@@ -60,7 +60,7 @@ pub fn graph_of<'v>(
     graph_from(alloc, units, &pairs)
 }
 
-/// The first entry that has no id.
+/// Returns the place of the first entry without an id.
 fn unnamed_entry(entries: &[Value<'_>]) -> Option<usize>
     ensures { result ≡ first_in is_unnamed (views entries.now) }
 {
@@ -72,7 +72,7 @@ fn unnamed_entry(entries: &[Value<'_>]) -> Option<usize>
     None
 }
 
-/// An edge, the smaller end first.
+/// Returns an edge as a pair, with its smaller unit first.
 fn edge_of(unit: u32, other: u32) -> (u32, u32)
     ensures { result ≡ edge unit other }
 {
@@ -83,7 +83,7 @@ fn edge_of(unit: u32, other: u32) -> (u32, u32)
     }
 }
 
-/// Appends an edge, unless both ends are one.
+/// Appends an edge unless it is a loop.
 fn push_edge(pairs: &mut Vec<(u32, u32)>, node: u32, other: u32) -> Result<(), GraphFault>
     ensures { MatchResult result (λ _. PushesEdge node other pairs.old.items pairs.new.items) (λ f. f ≡ Memory) }
 {
@@ -94,7 +94,7 @@ fn push_edge(pairs: &mut Vec<(u32, u32)>, node: u32, other: u32) -> Result<(), G
     Ok(())
 }
 
-/// Appends the edges that one node lists, or gives the first of its entries that names no node.
+/// Appends the edges that one node lists, or returns the first entry that names no node.
 fn add_edges<'v>(
     pairs: &mut Vec<(u32, u32)>,
     index: &Index<'v>,
@@ -117,7 +117,7 @@ fn add_edges<'v>(
     Ok(())
 }
 
-/// The edges that the nodes list, in any order, some of them more than once.
+/// Lists the edges of all nodes, unsorted and with repetitions.
 fn pairs_of<'v>(
     alloc: Global,
     adjacency: &[Value<'v>],
@@ -136,7 +136,7 @@ fn pairs_of<'v>(
     Ok(pairs)
 }
 
-/// The graph of the edges, which rise.
+/// Builds the graph from sorted edges without repetitions.
 fn graph_from(alloc: Global, units: u32, pairs: &[(u32, u32)]) -> Result<Graph, GraphFault>
     requires few { (units ≤ most_units) × (length pairs.now ≤ most_edges) }
     requires pairs { ArePairs units pairs.now }

@@ -1,4 +1,4 @@
-//! The place of each id.
+//! A map from ids to nodes.
 
 ghost use Rattle.std.specs.Prelude.{◌≡◌, ◌≤◌, ◌⊎◌, None, Some, length, MatchResult};
 ghost use Rattle.dual_json.specs.Values.{value_data};
@@ -13,7 +13,7 @@ use std::alloc::Global;
 use std::collections::HashMap;
 use std::marker::Model;
 
-/// The ids of all nodes, which all differ, with the place of each.
+/// The ids of all nodes, which are distinct, and a map from each to its node.
 #[derive(Drop)]
 pub struct Index<'v> {
     names: Vec<Name<'v>>,
@@ -33,7 +33,7 @@ impl<'v> Model for Index<'v> {
 }
 
 impl<'v> Index<'v> {
-    /// The index of the names, or the first name that an earlier place has too.
+    /// Indexes the names, or returns the first name that an earlier node has too.
     pub fn of(alloc: Global, names: Vec<Name<'v>>) -> Result<Index<'v>, GraphFault>
         requires { length names.items ≤ most_units }
         ensures { MatchResult result (λ index. (repeated_label (labels_from names.entry.items) ≡ None) × (index ≡ labels_from names.entry.items))
@@ -43,11 +43,11 @@ impl<'v> Index<'v> {
         Ok(Index { names, places })
     }
 
-    /// The node that an entry names.
+    /// Returns the node that an adjacency entry names.
     pub fn node_of(&self, entry: &Value<'v>) -> Option<u32>
         ensures { result ≡ place_of_entry self.now (value_data entry.now) }
     {
-        // Reads the fields, so that what the type says of them is known.
+        // Reading a field makes the type's invariant known to the prover.
         let _ = &self.names;
         match name_at(entry, "id") {
             Some(name) => self.places.get(&name).copied(),
@@ -56,7 +56,7 @@ impl<'v> Index<'v> {
     }
 }
 
-/// The place of each name, or the first name that an earlier place has too.
+/// Maps each name to its place, or returns the first name that an earlier place has too.
 fn places_of<'v>(alloc: Global, names: &[Name<'v>]) -> Result<HashMap<Name<'v>, u32>, GraphFault>
     requires { length names.now ≤ most_units }
     ensures { MatchResult result (λ places. (repeated_label (labels_from names.now) ≡ None) × IsLabelIndex (labels_from names.now) places)

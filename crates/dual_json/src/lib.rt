@@ -1,4 +1,5 @@
-//! Reading a dual graph from networkx's adjacency data.
+//! Reads a dual graph in networkx's adjacency format
+//! (`networkx.readwrite.json_graph.adjacency_data`).
 #![tactic(auto)]
 
 mod columns;

@@ -1,4 +1,4 @@
-//! Ids and labels as a text has them.
+//! Ids and labels, borrowed from a text.
 
 ghost use Rattle.std.specs.Prelude.{◌≡◌, ◌≤◌, refl, None, Some, length, IfOk, MatchResult, option_map, option_and_then};
 ghost use Rattle.audit_model.specs.Label.{label_cmp, same_label};
@@ -17,7 +17,7 @@ use std::alloc::Global;
 use std::cmp::Ordering;
 use std::hash::{Hash, Hasher};
 
-/// An id or a label: a whole number or a text.
+/// An id or a label: an integer or a text.
 #[derive(Clone, Copy)]
 pub enum Name<'v> {
     Whole(i128),
@@ -25,7 +25,7 @@ pub enum Name<'v> {
 }
 
 impl Name<'_> {
-    /// The label, with a text of its own.
+    /// Copies the name to a label that owns its text. Fails if there is no memory.
     pub fn to_label(&self, alloc: Global) -> Result<Label, Memory>
         ensures { IfOk result (λ l. l ≡ label_from self.now) }
     {
@@ -96,7 +96,7 @@ impl Hash for Name<'_> {
     }
 }
 
-/// The name that a value is, where it is a whole number or a text.
+/// Returns the name that a value is, if it is an integer or a text.
 pub fn name_of<'v>(value: &Value<'v>) -> Option<Name<'v>>
     ensures { option_map label_from result ≡ label_of (value_data value.now) }
 {
@@ -110,7 +110,7 @@ pub fn name_of<'v>(value: &Value<'v>) -> Option<Name<'v>>
     }
 }
 
-/// The name at a key of an object.
+/// Returns the name at a key of an object.
 pub fn name_at<'v>(object: &Value<'v>, key: &str) -> Option<Name<'v>>
     ensures { option_map label_from result ≡ label_at_key key.now (value_data object.now) }
 {
@@ -120,14 +120,14 @@ pub fn name_at<'v>(object: &Value<'v>, key: &str) -> Option<Name<'v>>
     }
 }
 
-/// Why there is no name for each of several objects.
+/// The reason why some object has no name: its place, or out of memory.
 #[derive(Clone, Copy, Debug, PartialEq, Eq)]
 pub enum Unnamed {
     At(u32),
     Memory,
 }
 
-/// The names at a key of each of the objects, or the place of the first that has none.
+/// Returns the names at a key of all objects, or the place of the first one without a name.
 pub fn names_at<'v>(
     alloc: Global,
     objects: &[Value<'v>],

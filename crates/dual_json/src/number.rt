@@ -1,4 +1,4 @@
-//! Numbers as a JSON text has them.
+//! Numbers of a JSON text.
 
 ghost use Rattle.std.specs.Prelude.{◌≡◌, ◌==◌, ◌<◌, IsTrue, length, option_map, slice_index, true, false};
 ghost use Rattle.serde_json.specs.Read.{number_of, number_from, float_of};
@@ -7,7 +7,8 @@ ghost use Rattle.serde_json.specs.View.{number_view};
 use fast_float::Numeral;
 use serde_json::Number;
 
-/// The number that a token writes: a whole number that fits 64 bits is one, and any other is a float. None where it is too large for a float.
+/// Returns the number that a token writes, as `serde_json` does: an integer if it fits in 64 bits,
+/// else a float. `None` means that it is too large for a float.
 pub fn number_of(text: &str) -> Option<Number>
     ensures { option_map number_view result ≡ number_of text.now }
 {
@@ -19,7 +20,7 @@ pub fn number_of(text: &str) -> Option<Number>
     }
 }
 
-/// The number without a sign.
+/// Converts a numeral without a minus sign.
 fn from_zero(numeral: &Numeral<'_>) -> Option<Number>
     ensures { option_map number_view result ≡ number_from false numeral.now }
 {
@@ -29,7 +30,7 @@ fn from_zero(numeral: &Numeral<'_>) -> Option<Number>
     }
 }
 
-/// The number behind a minus.
+/// Converts a numeral that follows a minus sign.
 fn below_zero(numeral: &Numeral<'_>) -> Option<Number>
     ensures { option_map number_view result ≡ number_from true numeral.now }
 {
@@ -41,14 +42,14 @@ fn below_zero(numeral: &Numeral<'_>) -> Option<Number>
     nearest(true, numeral)
 }
 
-/// The nearest float.
+/// Returns the nearest float.
 fn nearest(negative: bool, numeral: &Numeral<'_>) -> Option<Number>
     ensures { option_map number_view result ≡ float_of negative numeral.now }
 {
     Number::from_f64(numeral.to_float::<f64>(negative))
 }
 
-/// Whether a minus comes first.
+/// Returns true if the first byte is a minus sign.
 fn has_minus(bytes: &[u8]) -> bool
     ensures value { result ≡ (slice_index bytes.now 0 == 45) }
     ensures some { IsTrue result → 0 < length bytes.now }

@@ -1,4 +1,4 @@
-//! From a text to its value, in one pass over its tokens.
+//! A JSON parser that makes borrowed values in one pass over the tokens.
 
 ghost use Rattle.std.specs.Prelude.{◌≡◌, ◌<◌, ◌++◌, ◌∷◌, [], length, Some, None, Err, IfOk, OnOk, OnErr};
 ghost use Rattle.json.specs.Json.{value, items, members};
@@ -11,10 +11,10 @@ use crate::value::Value;
 use json::{Error, Reader, Scratch, Token};
 use std::alloc::Global;
 
-/// How deep lists and objects may nest, as in `serde_json`.
+/// The nesting limit of arrays and objects, as in `serde_json`.
 const MAX_DEPTH: usize = 127;
 
-/// The value of a text. Texts with escapes go into the scratch.
+/// Parses a text. Texts with escapes are decoded into the scratch buffer.
 pub fn parse<'t>(alloc: Global, text: &'t str, scratch: &'t mut Scratch) -> Result<Value<'t>, Error>
     ensures ok { IfOk result (λ v. read_text text.now ≡ Some (value_data v)) }
     ensures err { result ≡ Err Error.Invalid → read_text text.now ≡ None }
@@ -32,7 +32,7 @@ pub fn parse<'t>(alloc: Global, text: &'t str, scratch: &'t mut Scratch) -> Resu
     Ok(value)
 }
 
-/// The next value, with lists and objects nested no deeper than this.
+/// Reads the next value. `depth` is the nesting depth that is left.
 #[cycle(read)]
 #[inline(always)]
 fn read<'t>(alloc: Global, reader: &mut Reader<'t>, depth: usize) -> Result<Value<'t>, Error>
@@ -66,7 +66,7 @@ fn read<'t>(alloc: Global, reader: &mut Reader<'t>, depth: usize) -> Result<Valu
     }
 }
 
-/// The items of a list, to its end.
+/// Reads the items of an array, up to and including its end.
 #[cycle(read)]
 #[inline(never)]
 fn read_items<'t>(
@@ -89,7 +89,8 @@ fn read_items<'t>(
     Ok(found)
 }
 
-/// The members of an object, to its end. Most objects, the entries of a list of neighbours, have one or two: so there is room for one at first.
+/// Reads the members of an object, up to and including its end. Most objects are adjacency entries
+/// with one or two members, so the list starts with capacity for one.
 #[cycle(read)]
 #[inline(never)]
 fn read_members<'t>(

@@ -1,4 +1,4 @@
-//! Reading a graph.
+//! Reading of a whole graph.
 
 ghost use Rattle.std.specs.Prelude.{◌≡◌, ◌≤◌, ◌⊎◌, true, None, Some, Ok, Err, cond, length, codes, IfOk, MatchResult};
 ghost use Rattle.std.specs.Str.{is_utf8};
@@ -33,7 +33,7 @@ use json::{Error, Scratch};
 use std::alloc::Global;
 use std::str::from_utf8;
 
-/// The value of a text.
+/// Parses the value of a text.
 pub(crate) fn value_of<'t>(
     alloc: Global,
     bytes: &'t [u8],
@@ -52,7 +52,7 @@ pub(crate) fn value_of<'t>(
     }
 }
 
-/// What is read of the columns.
+/// The data of the columns.
 #[derive(Drop)]
 struct Rows {
     counts: Counts,
@@ -61,9 +61,14 @@ struct Rows {
     labels: LabelList,
 }
 
-/// The graph of a text, its counts, the group where one is named, its start plan and its labels, or the first reason to refuse it.
+/// Reads the graph, its counts, the group if one is named, the start plan and the district labels.
 ///
-/// The text is networkx's adjacency data. The refusals are tested in the order of the variants of [`GraphFault`], each over the whole text, and the least place is given.
+/// The text is in networkx's adjacency format.
+///
+/// # Errors
+///
+/// The faults are tested in the order of the variants of [`GraphFault`], each over the whole text,
+/// and reported at the least node.
 pub fn read_graph(alloc: Global, bytes: &[u8], cols: &Columns) -> Result<Parsed, GraphFault>
     ensures read { MatchResult result (λ p. reading bytes.now cols.now ≡ Ok (parsed_of p))
         (λ f. (f ≡ fault.Memory) ⊎ (reading bytes.now cols.now ≡ Err f)) }
@@ -74,7 +79,7 @@ pub fn read_graph(alloc: Global, bytes: &[u8], cols: &Columns) -> Result<Parsed,
     read_beside(alloc, bytes, cols, &mut scratch)
 }
 
-/// The same, with the room for texts that have escapes.
+/// Does the work of [`read_graph`], with a buffer for texts that have escapes.
 fn read_beside<'t>(
     alloc: Global,
     bytes: &'t [u8],
@@ -93,7 +98,7 @@ fn read_beside<'t>(
     }
 }
 
-/// The ids of the nodes.
+/// Indexes the ids of the nodes.
 fn ids_of<'v>(alloc: Global, nodes: &[Value<'v>]) -> Result<Index<'v>, GraphFault>
     requires { length nodes.now ≤ most_units }
     ensures { MatchResult result (λ index. (ids_fault (views nodes.now) ≡ None) × AreLabels (codes "id") (views nodes.now) index × (repeated_label index ≡ None))
@@ -106,7 +111,7 @@ fn ids_of<'v>(alloc: Global, nodes: &[Value<'v>]) -> Result<Index<'v>, GraphFaul
     }
 }
 
-/// The graph of the parts.
+/// Reads the graph from the parts of the root.
 fn graph_in(alloc: Global, parts: &Parts<'_, '_>) -> Result<Graph, GraphFault>
     ensures { MatchResult result
         (λ g. (graph_fault (document_of_parts parts.now) ≡ None) × (graph (document_of_parts parts.now) ≡ g) × (length parts.now.nodes.now ≤ most_units) × IsGraph g × (count_edges g (λ u v. true) ≤ most_edges))
@@ -118,7 +123,7 @@ fn graph_in(alloc: Global, parts: &Parts<'_, '_>) -> Result<Graph, GraphFault>
     graph_of(alloc, parts.nodes.len() as u32, parts.adjacency, &index)
 }
 
-/// The label of each node's district, where all columns are there and all numbers are good.
+/// Returns each node's district label, after the columns and numbers were checked.
 fn names_in<'v>(
     alloc: Global,
     nodes: &[Value<'v>],
@@ -138,7 +143,7 @@ fn names_in<'v>(
     }
 }
 
-/// The districts of the nodes with these labels.
+/// Reads the columns of nodes with these district labels.
 fn rows_of<'v>(
     alloc: Global,
     nodes: &[Value<'_>],
@@ -165,7 +170,7 @@ fn rows_of<'v>(
     })
 }
 
-/// What is read of the parts.
+/// Reads everything from the parts of the root.
 fn read_parts(alloc: Global, parts: &Parts<'_, '_>, columns: &Columns) -> Result<Parsed, GraphFault>
     ensures read { MatchResult result
         (λ p. (refusal (document_of_parts parts.now) columns.now ≡ None) × (parsed (document_of_parts parts.now) columns.now ≡ parsed_of p))

@@ -1,4 +1,4 @@
-//! The regions of the units.
+//! Regions of the units.
 
 ghost use Rattle.std.specs.Prelude.{◌≡◌, ◌<◌, ◌≤◌, ◌⊎◌, true, false, None, Some, Ok, Err, nat_lt, length, All, IfOk, MatchResult};
 ghost use Rattle.dual_json.specs.Values.{value_data};
@@ -24,16 +24,17 @@ use audit_model::text::Text;
 use json::Scratch;
 use std::alloc::Global;
 
-/// The region of each unit of a text that is a graph, or the first reason to refuse them.
+/// Reads the region of each unit from a text that was accepted as a graph.
 ///
-/// A region is a county or the like. Regions are the labels of one more column and are numbered as districts are: by the order of their labels, from 0.
+/// A region is, for instance, a county: the units with one label in the given column. Regions are
+/// numbered from 0 in the order of their labels, as districts are.
 ///
 /// # Errors
 ///
-/// - `Missing`: the least node that has not the column.
-/// - `BadLabel`: the least node whose label is neither a text nor a whole number.
-/// - `TooMany`: how many different labels there are, which are more than 5,000.
-/// - `Memory`: there was no memory to read the text again, or for the numbers.
+/// - `Missing`: the least node without the column.
+/// - `BadLabel`: the least node whose label is neither a text nor an integer.
+/// - `TooMany`: more than 5,000 distinct labels. It gives their number.
+/// - `Memory`: there was no memory to parse the text again, or for the numbers.
 pub fn read_regions(alloc: Global, bytes: &[u8], column: &Text) -> Result<UnitList, RegionFault>
     requires graph { IsGraphText bytes.now }
     ensures read { MatchResult result (λ numbers. region_reading bytes.now column.now ≡ Ok numbers)
@@ -44,7 +45,7 @@ pub fn read_regions(alloc: Global, bytes: &[u8], column: &Text) -> Result<UnitLi
     regions_beside(alloc, bytes, column, &mut scratch)
 }
 
-/// The same, with the room for texts that have escapes.
+/// Does the work of [`read_regions`], with a buffer for texts that have escapes.
 fn regions_beside<'t>(
     alloc: Global,
     bytes: &'t [u8],
@@ -65,7 +66,7 @@ fn regions_beside<'t>(
     }
 }
 
-/// The first node that has not the column.
+/// Returns the first node without the column.
 fn first_missing(nodes: &[Value<'_>], column: &Text) -> Option<u32>
     requires { length nodes.now ≤ most_units }
     ensures { result ≡ first_without column.now (views nodes.now) }
@@ -78,7 +79,7 @@ fn first_missing(nodes: &[Value<'_>], column: &Text) -> Option<u32>
     None
 }
 
-/// The place of each name among the different ones in rising order, or how many different ones there are, where these are more than 5,000.
+/// Returns the index of each name among the distinct names in rising order, or `TooMany`.
 fn numbers_of(alloc: Global, names: &[Name<'_>]) -> Result<UnitList, RegionFault>
     requires { length names.now ≤ most_units }
     ensures { MatchResult result
@@ -98,7 +99,7 @@ fn numbers_of(alloc: Global, names: &[Name<'_>]) -> Result<UnitList, RegionFault
     Ok(numbers)
 }
 
-/// The regions of the nodes.
+/// Reads the regions of the nodes.
 fn regions_in(alloc: Global, parts: &Parts<'_, '_>, column: &Text) -> Result<UnitList, RegionFault>
     requires { length parts.now.nodes.now ≤ most_units }
     ensures read { MatchResult result

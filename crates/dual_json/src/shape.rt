@@ -1,4 +1,4 @@
-//! The parts of the root of a graph's text.
+//! The parts of the root object.
 
 ghost use Rattle.std.specs.Prelude.{◌≡◌, ◌<◌, ◌≤◌, true, false, None, Some, [], length, map, codes, is_some, option_map, option_and_then, unwrap_or, MatchOption, MatchResult};
 ghost use Rattle.std.specs.List.{list_all, slice_index_or};
@@ -11,7 +11,7 @@ ghost use Rattle.audit_model.specs.Limits.{most_units};
 use crate::value::Value;
 use audit_model::fault::{GraphFault, Part};
 
-/// What is read of the root: its nodes, the list of neighbours of each, and whether the graph is directed.
+/// The parts of the root object: its nodes, the adjacency list of each, and its `directed` flag.
 #[derive(Clone, Copy)]
 pub struct Parts<'v, 't> {
     pub nodes: &'v [Value<'t>],
@@ -19,7 +19,7 @@ pub struct Parts<'v, 't> {
     pub directed: bool,
 }
 
-/// The parts, or the first of them that has not its shape.
+/// Returns the parts, or the first one that has the wrong shape.
 pub fn parts_of<'v, 't>(root: &'v Value<'t>) -> Result<Parts<'v, 't>, Part>
     ensures { MatchResult result (λ parts. (bad_part (value_data root.now) ≡ None) × (document (value_data root.now) ≡ document_of_parts parts))
         (λ part. bad_part (value_data root.now) ≡ Some part) }
@@ -49,7 +49,8 @@ pub fn parts_of<'v, 't>(root: &'v Value<'t>) -> Result<Parts<'v, 't>, Part>
     })
 }
 
-/// Whether the graph is directed, its two lists differ in length, or there are too many units.
+/// Checks that the graph is undirected, that its two lists have equal lengths, and that there are
+/// at most 100,000 units.
 pub fn check_frame(parts: &Parts<'_, '_>) -> Result<(), GraphFault>
     ensures { MatchResult result (λ _. (frame_fault parts.now.directed (length parts.now.nodes.now) (length parts.now.adjacency.now) ≡ None)
         × (length parts.now.nodes.now ≡ length parts.now.adjacency.now) × (length parts.now.nodes.now ≤ most_units))
@@ -69,7 +70,7 @@ pub fn check_frame(parts: &Parts<'_, '_>) -> Result<(), GraphFault>
     Ok(())
 }
 
-/// The entries of the neighbours of a node.
+/// Returns the adjacency list of a node.
 pub fn entries_of<'v, 't>(adjacency: &'v [Value<'t>], node: usize) -> &'v [Value<'t>]
     requires { node < length adjacency.now }
     ensures { views result.now ≡ slice_index_or (lists_in adjacency.now) node [] }
@@ -80,7 +81,7 @@ pub fn entries_of<'v, 't>(adjacency: &'v [Value<'t>], node: usize) -> &'v [Value
     }
 }
 
-/// The elements of the list at a key.
+/// Returns the items of the array at a key.
 fn list_at<'v, 't>(root: &'v Value<'t>, key: &str) -> Option<&'v [Value<'t>]>
     ensures { option_map (λ s. views s.now) result ≡ list_in key.now (value_data root.now) }
 {
@@ -93,7 +94,7 @@ fn list_at<'v, 't>(root: &'v Value<'t>, key: &str) -> Option<&'v [Value<'t>]>
     }
 }
 
-/// Whether each value is a list.
+/// Returns true if each value is an array.
 fn are_lists(values: &[Value<'_>]) -> bool
     ensures { result ≡ list_all (λ d. is_some (list_of d)) (views values.now) }
 {
@@ -105,7 +106,8 @@ fn are_lists(values: &[Value<'_>]) -> bool
     true
 }
 
-/// The truth value at a key, false where there is no such key; none where there is another value.
+/// Returns the Boolean at a key, or false if the key is missing. `None` means another type of
+/// value.
 fn flag_at(root: &Value<'_>, key: &str) -> Option<bool>
     ensures { MatchOption result (is_no_flag key.now (value_data root.now) ≡ true)
         (λ flag. (is_no_flag key.now (value_data root.now) ≡ false) × (unwrap_or (option_and_then as_bool (get key.now (value_data root.now))) false ≡ flag)) }

@@ -1,4 +1,4 @@
-//! The values of a JSON text.
+//! Values of a JSON text.
 
 ghost use Rattle.std.specs.Prelude.{◌≡◌, is_some, option_map, option_and_then};
 ghost use Rattle.serde_json.specs.Find.{as_array, as_bool, as_number, as_object, as_u64, get, get_member};
@@ -6,10 +6,10 @@ ghost use Rattle.dual_json.specs.Values.{value_data, items_data, members_data};
 
 use serde_json::Number;
 
-/// A value of a text.
+/// A JSON value whose texts are borrowed.
 ///
-/// A text in it is a piece of the whole text, or lies beside it where it has escapes. An object has its members in the order of the text; of equal keys
-/// the last counts.
+/// A text is a slice of the source or, if it has escapes, of the scratch buffer. An object keeps
+/// its members in the order of the source; of equal keys, the last one counts.
 #[derive(Drop)]
 pub enum Value<'t> {
     Null,
@@ -21,7 +21,7 @@ pub enum Value<'t> {
 }
 
 impl<'t> Value<'t> {
-    /// The value at a key, where this is an object.
+    /// Returns the value at a key, if this is an object.
     pub fn get(&self, key: &str) -> Option<&Value<'t>>
         ensures { option_map (λ v. value_data v.now) result ≡ get key.now (value_data self.now) }
     {
@@ -31,21 +31,21 @@ impl<'t> Value<'t> {
         }
     }
 
-    /// Whether it is an object.
+    /// Returns true if it is an object.
     pub fn is_object(&self) -> bool
         ensures { result ≡ is_some (as_object (value_data self.now)) }
     {
         matches!(self, Value::Object(_))
     }
 
-    /// Whether it is a list.
+    /// Returns true if it is an array.
     pub fn is_array(&self) -> bool
         ensures { result ≡ is_some (as_array (value_data self.now)) }
     {
         matches!(self, Value::Array(_))
     }
 
-    /// The items, where it is a list.
+    /// Returns the items, if it is an array.
     pub fn as_array(&self) -> Option<&Vec<Value<'t>>>
         ensures { option_map (λ v. items_data v.now.items) result ≡ as_array (value_data self.now) }
     {
@@ -55,7 +55,7 @@ impl<'t> Value<'t> {
         }
     }
 
-    /// The truth value that it is.
+    /// Returns the Boolean, if it is one.
     pub fn as_bool(&self) -> Option<bool>
         ensures { result ≡ as_bool (value_data self.now) }
     {
@@ -65,7 +65,7 @@ impl<'t> Value<'t> {
         }
     }
 
-    /// The whole number from 0 to 2^64 - 1 that it is.
+    /// Returns the integer, if it is one from 0 to 2^64 - 1.
     pub fn as_u64(&self) -> Option<u64>
         ensures { result ≡ option_and_then as_u64 (as_number (value_data self.now)) }
     {
@@ -76,7 +76,7 @@ impl<'t> Value<'t> {
     }
 }
 
-/// The value at the last of the members with this key.
+/// Returns the value of the last member with this key.
 fn last_at<'v, 't>(members: &'v Vec<(&'t str, Value<'t>)>, key: &str) -> Option<&'v Value<'t>>
     ensures { option_map (λ v. value_data v.now) result ≡ get_member key.now (members_data members.now.items) }
 {
