@@ -1,4 +1,4 @@
--- What is kept for each ask of a job.
+-- Values and counts of a job's asks.
 use Rattle.std.proofs.Common.{◌≡◌, ℕ, ◌≤◌, List, [], ◌∷◌, map, Option, Some, None, pos, ℤ, refl, sym, ap, ◌∙◌, arith}
 use Rattle.std.specs.List.{slice_get}
 use Rattle.audit_model.specs.declared.setting.Ask.{Ask}
@@ -14,7 +14,7 @@ use Rattle.flip_kernel.specs.Held.{sums_in}
 use Rattle.scores.specs.Votes.{AreVotes}
 use Rattle.walker.specs.Asked.{each, is_inside, visits_inside}
 
--- four values are those at the four places
+-- four values of a list are those at the four places
 pub each_is_four : (f : Option Ask → ℤ) (asks : List Ask) → f None ≡ pos 0 → four_values (map (λ ask. f (Some ask)) asks) ≡ each f asks
 each_is_four f [] none = rw none refl
 each_is_four f (a ∷ []) none = rw none refl
@@ -33,7 +33,7 @@ module _ (job : Job) (draws : ℕ → ℕ) where
   visits_inside_none None = refl
   visits_inside_none (Some ask) = refl
 
--- functions that agree give the same at each of four places
+-- functions that agree have equal values at the four places
 pub each_same : (f g : Option Ask → ℕ) (asks : List Ask) → ((o : Option Ask) → f o ≡ g o) → each f asks ≡ each g asks
 each_same f g asks same =
     ap (λ (n : ℕ). n ∷ f (slice_get asks 1) ∷ f (slice_get asks 2) ∷ f (slice_get asks 3) ∷ []) (same (slice_get asks 0))
@@ -41,7 +41,7 @@ each_same f g asks same =
     ∙ ap (λ (n : ℕ). g (slice_get asks 0) ∷ g (slice_get asks 1) ∷ n ∷ f (slice_get asks 3) ∷ []) (same (slice_get asks 2))
     ∙ ap (λ (n : ℕ). g (slice_get asks 0) ∷ g (slice_get asks 1) ∷ g (slice_get asks 2) ∷ n ∷ []) (same (slice_get asks 3))
 
--- the votes of a legal plan's districts
+-- the sums of a legal plan are within the bounds for scores
 pub legal_votes : (job : Job) (plan : List ℕ) → IsJob job → IsLegal job plan → AreVotes (sums_in job plan).first (sums_in job plan).second
 legal_votes job plan sound legal =
     let first = length-map_below job.districts (district_sum job.counts.first plan) in

@@ -1,4 +1,4 @@
--- A walker may go to another thread, where its judge may.
+-- A walker may be sent to another thread if its constraint may.
 use denote.Param.Send.{IsSend, sendable}
 use denote.RattleType.{RattleType}
 use Rattle.std.proofs.Crossing.{crosses}
@@ -14,39 +14,39 @@ use Rattle.flip_kernel.specs.contracts.state.State as State
 use Rattle.scores.specs.contracts.room.Room as Room
 use Rattle.walker.specs.contracts.walker.Walker as Walker
 
--- lists of 32 bits may go to another thread
+-- lists of 32-bit numbers may be sent
 units_send : IsSend (PlainList.the_row u32)
 units_send = search (crosses, sendable) depth 20
 
--- lists of 64 bits may
+-- lists of 64-bit numbers may be sent
 numbers_send : IsSend (PlainList.the_row u64)
 numbers_send = search (crosses, sendable) depth 20
 
--- marks may
+-- marks may be sent
 marks_send : IsSend Marks.the_row
 marks_send = search (crosses, sendable) depth 20
 
--- corners of faces may
+-- lists of corners may be sent
 corners_send : IsSend CornerList.the_row
 corners_send = search (crosses, sendable) depth 20
 
--- a table of faces may
+-- face tables may be sent
 table_send : IsSend FaceTable.the_row
 table_send = search (corners_send, crosses, sendable) depth 20
 
--- counts of faces may
+-- face counts may be sent
 counts_send : IsSend FaceCounts.the_row
 counts_send = search (numbers_send, crosses, sendable) depth 20
 
--- a board may
+-- boards may be sent
 board_send : IsSend Board.the_row
 board_send = search (table_send, counts_send, units_send, numbers_send, marks_send, crosses, sendable) depth 20
 
--- a board in a state may
+-- the board field of a state may be sent
 board_field_send : IsSend Board.the_field.row
 board_field_send = search (board_send, table_send, counts_send, units_send, numbers_send, marks_send, crosses, sendable) depth 20
 
--- room for scores may
+-- the buffers for scores may be sent
 room_send : IsSend Room.the_field.row
 room_send = search (crosses, sendable) depth 20
 
@@ -54,6 +54,6 @@ module _ (J : RattleType) (g : Ghosts J.Denot) where
   state_send : IsSend J → IsSend (State.the_field J g).row
   state_send judge = search (board_field_send, crosses, sendable) depth 20
 
-  -- a walker may, by what it holds
+  -- a walker may be sent if its fields may
   pub walker_send : IsSend J → IsSend (Walker.the_field J g).row
   walker_send judge = let a = state_send judge in search (room_send, sendable) depth 20

@@ -9,7 +9,7 @@ use Rattle.flip_kernel.specs.Held.{Held}
 use Rattle.walker.specs.Walked.{IsUnderWay, IsWalked, Under}
 use Rattle.walker.proofs.Stepping.{walked_none}
 
--- before the first draw of a stream
+-- the next draw is the first of a stream
 pub record IsFresh (key : List ℕ) (stream : ℕ) (way : Under) : Type 0 where
   pub key_is : way.draws.key ≡ key
   pub stream_is : way.draws.stream ≡ stream
@@ -24,10 +24,10 @@ module _ (job : Job) (id : ℕ) (held : Held) (way : Under) (made : held.job ≡
         (at ∙ ap (λ (c : Bool). first_by c job (draw job.setting.key)) (sym is)) fresh.key_is (fresh.stream_is ∙ ap (λ (c : Bool). stream_by c job id) (sym is)) fresh.first);
   }
 
-  -- from the start plan
+  -- a walk starts from the start plan
   pub departed_walk : id < job.setting.walks → held.plan ≡ job.start → IsFresh job.setting.key (2 * id) way → IsUnderWay job id 0 held way
   departed_walk below at fresh = departed true (lt-ltb id job.setting.walks below) at fresh
 
-  -- from the hub
+  -- an endpoint trajectory starts from the hub
   pub departed_end : job.setting.walks ≤ id → held.plan ≡ hub job (draw job.setting.key) → IsFresh job.setting.key (2 * (id - job.setting.walks) + 3) way → IsUnderWay job id 0 held way
   departed_end above at fresh = departed false (le-ltb id job.setting.walks above) at fresh

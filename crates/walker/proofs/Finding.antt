@@ -1,4 +1,4 @@
--- What a walk found is the outcome of its id.
+-- The results of a walk are the outcome of its id.
 use Rattle.std.proofs.Common.{◌≡◌, ℕ, ◌+◌, ◌-◌, ◌*◌, List, [], ◌∷◌, get_or, map, Bool, true, false, pos, ℤ, refl, sym, ap, ◌∙◌}
 use Rattle.audit_model.specs.declared.outcome.Outcome.{Outcome}
 use Rattle.audit_model.specs.declared.setting.Ask.{Ask}
@@ -10,31 +10,31 @@ use Rattle.walker.specs.Asked.{each, asked_value, is_inside, visits_inside}
 use Rattle.walker.specs.Binned.{first_bins, plan_bin, visits_binned}
 use Rattle.walker.proofs.Asking.{each_is_four}
 
--- the values of a plan, in four places
+-- the values of a plan, in the four places
 pub values_are_four : (job : Job) (plan : List ℕ) (asks : List Ask)
     → four_values (map (λ ask. plan_value job plan ask.score) asks) ≡ each (asked_value job plan) asks
 unfolding asked_value
 values_are_four job plan asks = each_is_four (asked_value job plan) asks refl
 
--- the tail counts of a walk, in four places
+-- the tail counts of a walk, in the four places
 counts_are_four : (job : Job) (draws : ℕ → ℕ) (steps : ℕ) (asks : List Ask)
     → four_values (map (λ ask. pos (visits_in_tail job draws steps ask)) asks) ≡ each (λ o. pos (visits_inside job draws (steps + 1) o)) asks
 unfolding visits_inside is_inside
 counts_are_four job draws steps asks = each_is_four (λ o. pos (visits_inside job draws (steps + 1) o)) asks refl
 
--- the outcome of these parts, with no bins
+-- an outcome with these fields and no histogram
 abbrev found : ℕ → ℕ → List ℤ → Outcome
 found id moved values = record { id = id; moved = moved; values = values; bins = no_bins }
 
--- the counts with a sign
+-- counts as signed numbers
 abbrev four_signed : List ℕ → List ℤ
 four_signed counts = pos (get_or counts 0 0) ∷ pos (get_or counts 1 0) ∷ pos (get_or counts 2 0) ∷ pos (get_or counts 3 0) ∷ []
 
--- an outcome with other bins
+-- an outcome with another histogram
 abbrev with_bins : Outcome → List ℕ → Outcome
 with_bins o bins = record o { bins = bins }
 
--- what a walk along a stream counts is its outcome
+-- the counts of a walk along a stream are its outcome
 pub run_found : (job : Job) (draws : Draws) (stream steps moved : ℕ) (counts bins its : List ℕ) (values : List ℤ)
     → moved ≡ moves job (draws stream) job.start steps
     → counts ≡ each (visits_inside job (draws stream) (steps + 1)) job.setting.asks → values ≡ four_signed counts → bins ≡ its
@@ -45,11 +45,11 @@ run_found job draws stream steps moved counts bins its values m c v b =
     (v ∙ ap four_signed c ∙ sym (counts_are_four job (draws stream) steps job.setting.asks))
     ∙ ap (λ (xs : List ℕ). with_bins (run_outcome job draws stream steps) xs) b
 
--- what a walk from the start finds, with these bins
+-- the outcome of a walk from the start plan, with a histogram if `Bool` is true
 abbrev run_with : Bool → Job → Draws → ℕ → ℕ → Outcome
 run_with shift job draws stream steps = with_bins (run_outcome job draws stream steps) (first_bins shift job (draws stream) (steps + 1))
 
--- the bins of the visited plans are those of the definition
+-- the histogram of the visited plans is that of the definition
 bins_are_those : (shift : Bool) (job : Job) (draws : ℕ → ℕ) → first_bins shift job draws (job.setting.steps + 1) ≡ bins_by shift job draws
 unfolding visits_binned plan_bin
 bins_are_those true job draws = refl
@@ -58,7 +58,7 @@ bins_are_those false job draws = refl
 abbrev under : ℕ → Outcome → Outcome
 under id o = record o { id = id }
 
--- what such a walk finds, under the id of its stream
+-- the result of such a walk, under the id of its stream
 pub walk_found : (job : Job) (draws : Draws) (id stream steps : ℕ) (shift : Bool) (walk : Outcome) → stream ≡ 2 * id → steps ≡ job.setting.steps
     → shift ≡ job.setting.shift → walk ≡ run_with shift job draws stream steps → under id walk ≡ walk_outcome job.setting.shift job draws id
 walk_found job draws id stream steps shift walk s t b w =
@@ -66,7 +66,7 @@ walk_found job draws id stream steps shift walk s t b w =
     ∙ ap (λ (c : Bool). run_with c job draws (2 * id) job.setting.steps) b)
     ∙ ap (λ (xs : List ℕ). under id (with_bins (run_outcome job draws (2 * id) job.setting.steps) xs)) (bins_are_those job.setting.shift job (draws (2 * id)))
 
--- what a walk from the hub ends with is the outcome of its id
+-- the result of a walk from the hub is the outcome of its id
 pub end_found : (job : Job) (draws : Draws) (id stream moved : ℕ) (from : List ℕ) (state : Held) (asks : List Ask) (values : List ℤ)
     → stream ≡ 2 * (id - job.setting.walks) + 3 → from ≡ hub job draws
     → moved ≡ moves job (draws stream) from job.setting.hub_steps → state.job ≡ job

@@ -1,4 +1,4 @@
--- What a trail counts, and a trail after one step more.
+-- Counting visits, and a trail after one more step.
 use Rattle.std.proofs.Common.{◌≡◌, ℕ, zero, suc, ◌+◌, ◌-◌, ◌*◌, ◌<◌, ◌≤◌, ◌^◌, Bool, true, false, cond, eqb, not, List, [], ◌∷◌, length, get_or, Option, refl, sym, ap, ◌∙◌, subst, inl, inr, arith}
 use Rattle.std.specs.Prelude.{bytes_eq, IsTrue, IsFalse}
 use Rattle.std.specs.List.{slice_get}
@@ -22,7 +22,7 @@ use Rattle.walker.proofs.Asking.{each_same, visits_inside_le, visits_inside_none
 use Rattle.walker.proofs.Stepping.{moves_le, moves_more, moves_none, visit_more, visit_none}
 use Rattle.walker.proofs.Still.{inside_still, binned_still}
 
--- no more plans are in a bin than are visited
+-- at most all visited plans are in a bin
 visits_binned_le : (job : Job) (draws : ℕ → ℕ) (visits bin : ℕ) → visits_binned job draws visits bin ≤ visits
 unfolding visits_binned
 visits_binned_le job draws visits bin = count_below_le visits (λ i. eqb (plan_bin job (visit job draws job.start i)) bin)
@@ -64,7 +64,7 @@ module _ (job : Job) (draws : ℕ → ℕ) (place : ℕ) (t : Trail) (trail : Is
       let at = bins_at asked t.bins.bin trail.tested.small in
       omega (arith, at, visits_binned_le job draws t.visits t.bins.bin, trail.still.order, few)
 
-  -- the held plan is counted for its visits up to this number
+  -- the current plan is counted for its visits up to a number
   module _ (later : Trail) (visits times : ℕ) (upto : visits ≡ place + 1) (all : times ≡ visits - t.visits)
       (counts : later.tally.counts ≡ four_more t.tally.counts times t.tally.inside) (same : later.bins.asked ≡ t.bins.asked)
       (nine : length later.bins.counts ≡ 9)
@@ -108,7 +108,7 @@ module _ (job : Job) (draws : ℕ → ℕ) (place : ℕ) (t : Trail) (trail : Is
   pub moved_le : t.moved ≤ place
   moved_le = omega (arith, trail.moved, moves_le job draws job.start place)
 
-  -- a step that left the plan as it was
+  -- after a step without a move, the trail is as before
   pub stayed : not (bytes_eq (visit job draws job.start place) (visit job draws job.start (place + 1))) ≡ false → IsTrail job draws (place + 1) t
   stayed test =
       let one = ap (λ (b : Bool). cond {A = ℕ} b 1 0) test in
@@ -127,7 +127,7 @@ module _ (job : Job) (draws : ℕ → ℕ) (place : ℕ) (t : Trail) (trail : Is
         counted = trail.counted;
       }
 
-  -- a step that changed it, before which its visits were counted
+  -- after a move, the trail counts the visits before it
   pub went : (later : Trail) → not (bytes_eq (visit job draws job.start place) (visit job draws job.start (place + 1))) ≡ true
       → later.moved ≡ t.moved + 1 → later.visits ≡ place + 1 → IsTested job (visit job draws job.start (place + 1)) later
       → IsCounted job draws (place + 1) later → IsTrail job draws (place + 1) later
@@ -152,7 +152,7 @@ module _ (job : Job) (draws : ℕ → ℕ) where
   bins_none true = refl
   bins_none false = refl
 
-  -- at the start plan nothing is counted
+  -- at the start plan, nothing is counted
   pub trail_none : (t : Trail) → t.moved ≡ 0 → t.visits ≡ 0 → IsTested job job.start t → t.tally.counts ≡ 0 ∷ 0 ∷ 0 ∷ 0 ∷ [] → t.bins.counts ≡ no_bins
       → IsTrail job draws 0 t
   trail_none t moved visits tested counts bins = record {
@@ -168,7 +168,7 @@ module _ (job : Job) (draws : ℕ → ℕ) where
     });
   }
 
-  -- the plan after one step more, and whether the step changed it
+  -- the plan after one more step, and the test for a move
   module _ (place at : ℕ) (before after : List ℕ) (here : at ≡ place) (visited : before ≡ visit job draws job.start place)
       (stepped : after ≡ next job before (draws at)) where
     pub visited_after : after ≡ visit job draws job.start (place + 1)
@@ -182,7 +182,7 @@ module _ (job : Job) (draws : ℕ → ℕ) where
         sym (ap (λ (p : List ℕ). not (bytes_eq p after)) visited ∙ ap (λ (p : List ℕ). not (bytes_eq (visit job draws job.start place) p)) visited_after)
         ∙ sym is ∙ told
 
--- a plan that was tested by what the state holds
+-- a plan scored through the state is scored
 pub tested_of : (job held : Job) (plan : List ℕ) (asks : List Ask) (t : Trail) → held ≡ job → asks ≡ job.setting.asks
     → t.tally.start ≡ each (asked_value job job.start) job.setting.asks → t.tally.inside ≡ each (inside held plan) asks
     → (IsTrue t.bins.asked → t.bins.start ≡ plan_seats job job.start) → (IsTrue t.bins.asked → t.bins.bin ≡ plan_bin held plan) → t.bins.bin < 9
@@ -195,7 +195,7 @@ tested_of job held plan asks t same these start tests seats bin small = record {
   small = small;
 }
 
--- and the start plan so
+-- the start plan scored through the state is scored
 pub tested_first : (job held : Job) (plan : List ℕ) (asks : List Ask) (t : Trail) → held ≡ job → plan ≡ job.start → asks ≡ job.setting.asks
     → t.tally.start ≡ each (asked_value held held.start) asks → t.tally.inside ≡ each (inside held plan) asks
     → (IsTrue t.bins.asked → t.bins.start ≡ plan_seats held held.start) → (IsTrue t.bins.asked → t.bins.bin ≡ plan_bin held plan) → t.bins.bin < 9
@@ -213,7 +213,7 @@ arrived job key stream place steps d t k s e trail =
     subst (λ (n : ℕ). IsTrail job (draw key stream) n t) e
     (subst (λ (n : ℕ). IsTrail job (draw key n) place t) s (subst (λ (n : List ℕ). IsTrail job (draw n d.stream) place t) k trail))
 
--- one step on, by the draw after
+-- a walk in progress after one more draw
 pub on_track : (job : Job) (plan : List ℕ) (place : ℕ) (before after : DrawPlace) (t : Trail) → before.place ≡ place
     → after ≡ record { key = before.key; stream = before.stream; place = before.place + 1 }
     → plan ≡ visit job (draw before.key before.stream) job.start (place + 1) → IsTrail job (draw before.key before.stream) (place + 1) t

@@ -1,4 +1,4 @@
--- What a walk has come to, one step more.
+-- A trajectory after one more step.
 use Rattle.std.proofs.Common.{◌≡◌, ℕ, suc, ◌+◌, ◌≤◌, Bool, true, false, cond, not, List, refl, sym, ap, ◌∙◌, subst, arith, add-one}
 use Rattle.std.specs.Prelude.{bytes_eq}
 use Rattle.audit_model.specs.Below.{count_below}
@@ -12,7 +12,7 @@ use Rattle.chacha_draws.specs.DrawPlace.{DrawPlace}
 use Rattle.flip_kernel.specs.Held.{Held}
 use Rattle.walker.specs.Walked.{IsWalked}
 
--- a count over one number more
+-- a count over one more number
 pub count_below_more : (n : ℕ) (test : ℕ → Bool) → count_below (n + 1) test ≡ count_below n test + cond (test n) 1 0
 unfolding count_below
 count_below_more n test = rw (add-one n) refl
@@ -39,7 +39,7 @@ module _ (job : Job) (draws : ℕ → ℕ) (plan : List ℕ) where
       count_below_more i (λ k. not (bytes_eq (visit job draws plan k) (visit job draws plan (suc k))))
       ∙ ap (λ (k : ℕ). moves job draws plan i + cond {A = ℕ} (not (bytes_eq (visit job draws plan i) (visit job draws plan k))) 1 0) (sym (add-one i))
 
--- before the first step the plan is visited
+-- before the first step, the plan is the first one
 pub walked_none : (job : Job) (key : List ℕ) (stream : ℕ) (plan : List ℕ) (state : Held) (draws : DrawPlace) → state.job ≡ job → state.plan ≡ plan
     → draws.key ≡ key → draws.stream ≡ stream → draws.place ≡ 0 → IsWalked job key stream plan 0 state draws 0
 walked_none job key stream plan state draws made at k s first = record {
@@ -51,12 +51,12 @@ walked_none job key stream plan state draws made at k s first = record {
   counted = sym (moves_none job (draw key stream) plan);
 }
 
--- a truth value as a number
+-- a Boolean as a number
 pub byte_cond : (b : Bool) → bool_byte b ≡ cond b 1 0
 byte_cond true = refl
 byte_cond false = refl
 
--- and it is at most one
+-- a Boolean as a number is at most 1
 pub byte_le : (b : Bool) → bool_byte b ≤ 1
 byte_le true = omega arith
 byte_le false = omega arith
@@ -66,7 +66,7 @@ module _ (job : Job) (key : List ℕ) (stream : ℕ) (plan : List ℕ) (steps : 
   pub walked_small : moved ≤ steps
   walked_small = omega (arith, walked.counted, moves_le job (draw key stream) plan steps)
 
-  -- where these were all steps
+  -- facts for the moment at which all steps are taken
   module _ (all : ℕ) (e : steps ≡ all) where
     pub walked_state : (old : Held) → old.job ≡ job → state ≡ record { job = old.job; plan = visit job (draw key stream) plan all }
     walked_state old same =
@@ -104,13 +104,13 @@ module _ (job : Job) (key : List ℕ) (stream : ℕ) (plan : List ℕ) (steps : 
           ∙ sym (moves_more job (draw key stream) plan steps);
     }
 
--- what has been walked, walked in pieces: this many steps more from any plan from which some have been made
+-- continuing any trajectory in progress by some steps gives the same trajectory farther on
 abbrev pub GoesOn : Job → Held → DrawPlace → ℕ → Held → DrawPlace → ℕ → Type 0
 GoesOn job state draws steps after later more =
     (key : List ℕ) (stream : ℕ) (plan : List ℕ) (place moved : ℕ) → IsWalked job key stream plan place state draws moved
     → IsWalked job key stream plan (place + steps) after later (moved + more)
 
--- no step more
+-- continuing by no step
 pub goes_nowhere : (job : Job) (state : Held) (draws : DrawPlace) → GoesOn job state draws 0 state draws 0
 goes_nowhere job state draws key stream plan place moved walked = record {
   made = walked.made;
@@ -121,7 +121,7 @@ goes_nowhere job state draws key stream plan place moved walked = record {
   counted = (let e : moved + 0 ≡ moved = omega arith in e) ∙ walked.counted ∙ ap (λ (n : ℕ). moves job (draw key stream) plan n) (let e : place ≡ place + 0 = omega arith in e);
 }
 
--- and one more
+-- continuing by one more step
 pub goes_farther : (job : Job) (state : Held) (draws : DrawPlace) (steps : ℕ) (now after : Held) (here later : DrawPlace) (more again : ℕ) (changed : Bool)
     → GoesOn job state draws steps now here more
     → after ≡ record { job = now.job; plan = next job now.plan (draw here.key here.stream here.place) }
@@ -139,7 +139,7 @@ goes_farther job state draws steps now after here later more again changed befor
     sum_back : (a b : ℕ) → a + b + 1 ≡ a + (b + 1)
     sum_back a b = omega arith
 
--- from the first draw of a stream, where all steps are made at once
+-- a whole trajectory, continued from its first draw
 pub walked_all : (job : Job) (key : List ℕ) (stream steps : ℕ) (old after : Held) (first later : DrawPlace) (moved : ℕ) → old.job ≡ job
     → first.key ≡ key → first.stream ≡ stream → first.place ≡ 0 → GoesOn job old first steps after later moved
     → IsWalked job key stream old.plan steps after later moved
@@ -151,7 +151,7 @@ walked_all job key stream steps old after first later moved made k s p onward =
     none_more : (n : ℕ) → 0 + n ≡ n
     none_more n = omega arith
 
--- the draws are at their place, and one farther
+-- the next draw's place, before and after a step
 pub drawn_none : (d : DrawPlace) → d ≡ record { key = d.key; stream = d.stream; place = d.place + 0 }
 drawn_none d = ap (λ (n : ℕ). (let p : DrawPlace = record { key = d.key; stream = d.stream; place = n } in p)) (let e : d.place ≡ d.place + 0 = omega arith in e)
 

@@ -1,4 +1,4 @@
--- Counts over the visits of a plan that stands still.
+-- Counts over the visits of one plan that stays.
 use Rattle.std.proofs.Common.{◌≡◌, ℕ, zero, suc, ◌+◌, ◌-◌, ◌*◌, ◌<◌, ◌≤◌, Bool, true, false, cond, eqb, List, Option, Some, None, sym, ap, ◌∙◌, arith}
 use Rattle.std.proofs.lemmas.Bool.{cond-true, cond-false}
 use Rattle.audit_model.specs.declared.setting.Ask.{Ask}
@@ -34,7 +34,7 @@ module _ (test : ℕ → Bool) (from : ℕ) where
   count_still false k same = omega (arith, count_no k same)
 
 module _ (job : Job) (draws : ℕ → ℕ) (from to : ℕ) (still : IsStill job draws from to) where
-  -- a test of the plan at each of these visits is the test of the last
+  -- a test of the plan at each of these visits is the test of the last one
   count_to : (test : List ℕ → Bool) → count_below (to + 1) (λ i. test (visit job draws job.start i))
       ≡ count_below from (λ i. test (visit job draws job.start i)) + (to + 1 - from) * cond (test (visit job draws job.start to)) 1 0
   count_to test =

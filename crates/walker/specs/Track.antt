@@ -1,4 +1,4 @@
--- Where a walk from the start plan is.
+-- A walk in progress.
 use Rattle.std.specs.Prelude.{◌≡◌, ℕ, List}
 use Rattle.audit_model.specs.Job.{Job}
 use Rattle.audit_model.specs.Trajectory.{visit}
@@ -6,7 +6,7 @@ use Rattle.audit_statement.specs.Draw.{draw}
 use Rattle.walker.specs.declared.steps.Track.{Track}
 use Rattle.walker.specs.Trail.{IsTrail}
 
--- after so many steps the next draw is that of the place, the plan is the one visited there, and the trail is that of the plans before
+-- after `place` steps, the next draw and the plan are those at that place, and the trail covers the plans before
 pub record IsOnTrack (job : Job) (plan : List ℕ) (place : ℕ) (t : Track) : Type 0 where
   pub at : t.draws.place ≡ place
   pub visited : plan ≡ visit job (draw t.draws.key t.draws.stream) job.start place

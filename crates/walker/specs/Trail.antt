@@ -1,4 +1,4 @@
--- What a walk from the start plan has found after so many steps.
+-- The results of a walk in progress.
 use Rattle.std.specs.Prelude.{◌≡◌, ℕ, ◌<◌, ◌≤◌, IsTrue, List}
 use Rattle.audit_model.specs.Job.{Job}
 use Rattle.audit_model.specs.Trajectory.{moves, plan_seats, visit}
@@ -6,7 +6,7 @@ use Rattle.walker.specs.declared.trail.Trail.{Trail}
 use Rattle.walker.specs.Asked.{each, asked_value, inside, visits_inside}
 use Rattle.walker.specs.Binned.{first_bins, plan_bin}
 
--- the start's values are the start's, and the tests are those of the plan
+-- the start values are those of the start plan, and the current scores are those of the plan
 pub record IsTested (job : Job) (plan : List ℕ) (t : Trail) : Type 0 where
   pub start : t.tally.start ≡ each (asked_value job job.start) job.setting.asks
   pub inside : t.tally.inside ≡ each (inside job plan) job.setting.asks
@@ -14,17 +14,17 @@ pub record IsTested (job : Job) (plan : List ℕ) (t : Trail) : Type 0 where
   pub bin : IsTrue t.bins.asked → t.bins.bin ≡ plan_bin job plan
   pub small : t.bins.bin < 9
 
--- the counts are those of the first visited plans
+-- the counts cover exactly the first visited plans
 pub record IsCounted (job : Job) (draws : ℕ → ℕ) (visits : ℕ) (t : Trail) : Type 0 where
   pub counts : t.tally.counts ≡ each (visits_inside job draws visits) job.setting.asks
   pub bins : t.bins.counts ≡ first_bins t.bins.asked job draws visits
 
--- the plans visited from one place to another are the last of them
+-- all plans visited from one place to another are equal
 pub record IsStill (job : Job) (draws : ℕ → ℕ) (from to : ℕ) : Type 0 where
   pub order : from ≤ to
   pub same : (i : ℕ) → from ≤ i → i ≤ to → visit job draws job.start i ≡ visit job draws job.start to
 
--- after so many steps all visits are counted but those of the plan that was reached, and this plan is tested
+-- after `place` steps, the plan reached is scored, and all visits are counted except its own
 pub record IsTrail (job : Job) (draws : ℕ → ℕ) (place : ℕ) (t : Trail) : Type 0 where
   pub moved : t.moved ≡ moves job draws job.start place
   pub still : IsStill job draws t.visits place

@@ -1,4 +1,4 @@
-//! What is kept for each ask of a job, in four places, of which those past the asks are zeros.
+//! Values and counts of a job's asks, in four places. Places past the asks are zeros.
 
 ghost use Rattle.std.specs.Prelude.{◌≡◌, ◌+◌, ◌*◌, ◌<◌, ◌^◌, ◌∷◌, [], length, slice_index, ℕ, pos};
 ghost use Rattle.std.specs.List.{slice_get};
@@ -11,7 +11,8 @@ use flip_kernel::state::State;
 use outlier_tests::in_tail;
 use scores::Room;
 
-/// For each ask the start plan's value, one where the held plan is in its tail, and how many of the counted plans are.
+/// For each ask: the start plan's value, 1 or 0 for the current plan in its tail or not, and the
+/// number of counted plans in its tail.
 #[derive(Drop)]
 pub struct Tally {
     pub start: [i64; 4],
@@ -19,7 +20,7 @@ pub struct Tally {
     pub counts: [u32; 4],
 }
 
-/// The value of each ask for the held plan.
+/// Returns the value of each ask for the current plan.
 pub fn values<J: Judge>(state: &State<J>, asks: &[Ask], room: &mut Room) -> [i64; 4]
     ensures { result ≡ each (asked_value state.now.job state.now.plan) asks.now }
 {
@@ -31,7 +32,7 @@ pub fn values<J: Judge>(state: &State<J>, asks: &[Ask], room: &mut Room) -> [i64
     ]
 }
 
-/// The same numbers with a sign.
+/// Converts the counts to signed numbers.
 pub fn signed(counts: [u32; 4]) -> [i64; 4]
     ensures { result ≡ (pos (slice_index counts 0) ∷ pos (slice_index counts 1) ∷ pos (slice_index counts 2) ∷ pos (slice_index counts 3) ∷ []) }
 {
@@ -44,7 +45,7 @@ pub fn signed(counts: [u32; 4]) -> [i64; 4]
 }
 
 impl Tally {
-    /// A tally that has tested the start plan, which is held, and counted none.
+    /// Scores the start plan, which is the current one, and counts nothing yet.
     pub fn new<J: Judge>(state: &State<J>, asks: &[Ask], room: &mut Room) -> Tally
         requires start { state.now.plan ≡ state.now.job.start }
         ensures start { result.start ≡ each (asked_value state.now.job state.now.job.start) asks.now }
@@ -61,7 +62,7 @@ impl Tally {
         tally
     }
 
-    /// Tests the plan that is held now.
+    /// Scores the current plan after a move.
     pub fn renew<J: Judge>(&mut self, state: &State<J>, asks: &[Ask], room: &mut Room)
         requires start { self.old.start ≡ each (asked_value state.now.job state.now.job.start) asks.now }
         ensures start { self.new.start ≡ self.old.start }
@@ -76,7 +77,7 @@ impl Tally {
         ];
     }
 
-    /// Counts the plan that was tested last so many times.
+    /// Counts the plan scored last, `times` times.
     pub fn count(&mut self, times: u32)
         requires { (k : ℕ) → k < 4 → slice_index self.old.counts k + times * slice_index self.old.inside k < 2 ^ 32 }
         ensures start { self.new.start ≡ self.old.start }
@@ -92,16 +93,16 @@ impl Tally {
     }
 }
 
-/// The numerator of a score of the held plan.
+/// Returns the numerator of a score of the current plan.
 fn held_value<J: Judge>(state: &State<J>, score: Score, room: &mut Room) -> i64
     ensures { result ≡ plan_value state.now.job state.now.plan score }
 {
-    // Called for what its contract says: the job is within its limits, and the plan is legal.
+    // Called for its contract: the job is within its limits, and the plan is legal.
     let _plan = state.plan();
     room.value(score, state.view())
 }
 
-/// The value of the ask at a place for the held plan.
+/// Returns the value of the ask at a place for the current plan.
 #[tactic(auto, unfolding(crate::specs::Asked::asked_value))]
 fn value_at<J: Judge>(state: &State<J>, asks: &[Ask], place: usize, room: &mut Room) -> i64
     ensures { result ≡ asked_value state.now.job state.now.plan (slice_get asks.now place) }
@@ -112,7 +113,7 @@ fn value_at<J: Judge>(state: &State<J>, asks: &[Ask], place: usize, room: &mut R
     }
 }
 
-/// One where the held plan is in the tail of the ask at a place, by the start plan's value.
+/// Returns 1 if the current plan is in the tail of the ask at a place, else 0.
 #[tactic(auto, unfolding(crate::specs::Asked::asked_value, crate::specs::Asked::inside, crate::specs::Asked::is_inside))]
 fn inside_at<J: Judge>(
     state: &State<J>,

@@ -1,4 +1,4 @@
-//! How many of the visited plans are in each bin, by their seats against the start plan's.
+//! Histograms of visited plans by seats, relative to the start plan.
 
 ghost use Rattle.std.specs.Prelude.{◌≡◌, ℕ, ◌+◌, ◌*◌, ◌<◌, ◌^◌, ◌==◌, cond, length, slice_index, IsTrue, IsFalse};
 ghost use Rattle.audit_model.specs.Trajectory.{no_bins, plan_seats};
@@ -10,8 +10,10 @@ use flip_guard::judge::Judge;
 use flip_kernel::state::State;
 use scores::Room;
 
-/// Where bins are asked for, the start plan's seats, the bin of the held plan, and how many of the counted plans are in each bin.
-/// Elsewhere the counts are zeros, and no seats are computed.
+/// The start plan's seats, the bin of the current plan, and the number of counted plans in each
+/// bin.
+///
+/// Without a histogram (`asked` is false), the counts stay zero and no seats are computed.
 #[derive(Drop)]
 pub struct Bins {
     pub asked: bool,
@@ -21,7 +23,7 @@ pub struct Bins {
 }
 
 impl Bins {
-    /// The bins of no plan, where the start plan is held.
+    /// Starts an empty histogram at the start plan.
     pub fn new<J: Judge>(asked: bool, state: &State<J>, room: &mut Room) -> Bins
         requires start { state.now.plan ≡ state.now.job.start }
         ensures asked { result.asked ≡ asked }
@@ -39,7 +41,7 @@ impl Bins {
         }
     }
 
-    /// Takes the bin of the plan that is held now.
+    /// Finds the bin of the current plan after a move.
     pub fn renew<J: Judge>(&mut self, state: &State<J>, room: &mut Room)
         requires start { IsTrue self.old.asked → self.old.start ≡ plan_seats state.now.job state.now.job.start }
         requires small { self.old.bin < 9 }
@@ -54,7 +56,7 @@ impl Bins {
         }
     }
 
-    /// Counts the plan whose bin was taken last so many times.
+    /// Counts the plan whose bin was found last, `times` times.
     pub fn count(&mut self, times: u32)
         requires small { self.old.bin < 9 }
         requires fits { IsTrue self.old.asked → slice_index self.old.counts self.old.bin + times < 2 ^ 32 }
@@ -72,17 +74,18 @@ impl Bins {
     }
 }
 
-/// The seats of the held plan.
+/// Returns the seats of the current plan.
 fn held_seats<J: Judge>(state: &State<J>, room: &mut Room) -> u64
     ensures seats { result ≡ plan_seats state.now.job state.now.plan }
     ensures small { result < 2 ^ 63 }
 {
-    // Called for what its contract says: the job is within its limits, and the plan is legal.
+    // Called for its contract: the job is within its limits, and the plan is legal.
     let _plan = state.plan();
     room.value(Score::Seats, state.view()) as u64
 }
 
-/// The bin of a plan with so many seats: 4 for as many as the start has, and no farther than 4 from there.
+/// Returns the bin of a plan with this number of seats. Bin 4 means as many seats as the start
+/// plan; the outer bins 0 and 8 are open.
 fn bin_of(seats: u64, start: u64) -> usize
     requires { seats < 2 ^ 63 }
     ensures bin { result ≡ definition.bin_of seats start }

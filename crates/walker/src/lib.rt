@@ -1,4 +1,5 @@
-//! Trajectories of the chain of plans: what the outlier test and the parallel test find.
+//! Trajectories of the chain of plans: the walks of the outlier test and the endpoint trajectories
+//! of the parallel test.
 #![tactic(auto)]
 
 mod asked;

@@ -1,4 +1,4 @@
-//! Steps along one stream of draws.
+//! Steps along a stream of draws.
 
 ghost use Rattle.std.specs.Prelude.{◌≡◌, ◌+◌, ◌*◌, ◌<◌, ◌≤◌, ◌^◌, ℕ, List, not, bytes_eq, length};
 ghost use Rattle.audit_statement.specs.Draw.{draw};
@@ -19,7 +19,8 @@ use plan_core::job::Job;
 use scores::Room;
 use std::sync::ledger::Ledger;
 
-/// Makes this many steps along a stream from its first draw on, and counts those that change the plan.
+/// Takes this many steps along a stream from its first draw. Returns the number of steps that
+/// changed the plan.
 pub fn walk<J: Judge, L: Ledger>(
     job: &Job,
     state: &mut State<J>,
@@ -36,8 +37,9 @@ pub fn walk<J: Judge, L: Ledger>(
     walk_on(job, state, &mut draws, steps, counter)
 }
 
-/// Makes this many more steps along a stream, each with the next draw, and counts those that change the plan. Steps in several calls come
-/// to the same as all of them in one.
+/// Takes this many more steps along a stream. Returns the number of steps that changed the plan.
+///
+/// Several calls add up to one call with all steps.
 pub fn walk_on<J: Judge, L: Ledger>(
     job: &Job,
     state: &mut State<J>,
@@ -60,7 +62,8 @@ pub fn walk_on<J: Judge, L: Ledger>(
     moved
 }
 
-/// A walk from the start plan: along which stream, how many steps, and whether it counts bins.
+/// A walk from the start plan: its stream, its number of steps, and if it needs a histogram
+/// (`shift`).
 #[derive(Clone, Copy)]
 pub struct Course {
     pub stream: u64,
@@ -68,16 +71,18 @@ pub struct Course {
     pub shift: bool,
 }
 
-/// Where a walk from the start plan is: at its next draw, with what it has found.
+/// A walk in progress: its next draw and its results so far.
 #[derive(Drop)]
 struct Track {
     draws: Draws,
     trail: Trail,
 }
 
-/// Walks from the start plan, which is held. It answers how many steps changed the plan, and of the visited plans, the start plan among
-/// them, how many are in each ask's tail and, where they are asked for, in each bin. Scores and seats are computed only where the plan
-/// changed.
+/// Walks from the start plan, which is the current one.
+///
+/// Returns the number of moves, each ask's number of visited plans in its tail, and the histogram
+/// if `course` asks for it. The start plan is a visited plan. Scores and seats are computed only
+/// after a move.
 pub fn count_visits<J: Judge, L: Ledger>(
     job: &Job,
     state: &mut State<J>,
@@ -105,7 +110,8 @@ pub fn count_visits<J: Judge, L: Ledger>(
     trail
 }
 
-/// Makes one step, and tells whether it changed the plan. Nine steps of ten end after the test of one bit, so a call would cost as much.
+/// Takes one step, and returns true if it changed the plan. It is inlined since nine of ten steps
+/// end after testing one bit, so a call would double their cost.
 #[inline(always)]
 fn step<J: Judge, L: Ledger>(
     job: &Job,
@@ -123,7 +129,8 @@ fn step<J: Judge, L: Ledger>(
     try_flip(job, state, draw, counter)
 }
 
-/// Makes the step from the place, and where it changed the plan counts the one before it and tests the one after it.
+/// Takes one step. If it changed the plan, counts the visits of the plan before and scores the plan
+/// after it.
 #[inline(always)]
 fn visit_next<J: Judge, L: Ledger>(
     job: &Job,

@@ -1,4 +1,4 @@
-//! What a walk from the start plan has found so far.
+//! The results of a walk in progress.
 
 ghost use Rattle.std.specs.Prelude.{◌≡◌, ℕ, ◌+◌, ◌-◌, ◌*◌, ◌<◌, ◌≤◌, ◌^◌, IsTrue, List, length, slice_index};
 ghost use Rattle.audit_model.specs.Job.{Job};
@@ -13,8 +13,10 @@ use flip_kernel::state::State;
 use plan_core::job::Job;
 use scores::Room;
 
-/// How many steps changed the plan, how many visits are counted, and what was found of the visited plans. The held plan was tested when
-/// it came, and is counted for all its visits at once when it goes.
+/// The results of a walk so far.
+///
+/// A plan is scored once, when it becomes current. It is counted when it is left, for all its
+/// visits at once.
 #[derive(Drop)]
 pub struct Trail {
     pub moved: u32,
@@ -24,7 +26,7 @@ pub struct Trail {
 }
 
 impl Trail {
-    /// The trail at the start plan, which is held.
+    /// Starts at the start plan, which is the current one.
     pub fn new<J: Judge>(job: &Job, state: &State<J>, shift: bool, room: &mut Room) -> Trail
         requires made { state.now.job ≡ job.now }
         requires start { state.now.plan ≡ job.now.start }
@@ -41,7 +43,7 @@ impl Trail {
         }
     }
 
-    /// Counts the plan that was tested last for its visits up to this number.
+    /// Counts the plan scored last for its visits up to the number `visits`.
     pub fn settle(&mut self, visits: u32)
         requires order { self.old.visits ≤ visits }
         requires tails { (k : ℕ) → k < 4 → slice_index self.old.tally.counts k + (visits - self.old.visits) * slice_index self.old.tally.inside k < 2 ^ 32 }
@@ -59,7 +61,7 @@ impl Trail {
         self.visits = visits;
     }
 
-    /// Tests the plan that is held now, after a step that changed it.
+    /// Scores the current plan after a move.
     pub fn renew<J: Judge>(&mut self, job: &Job, state: &State<J>, room: &mut Room)
         requires made { state.now.job ≡ job.now }
         requires few { self.old.moved < 10 ^ 9 }

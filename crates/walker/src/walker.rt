@@ -25,8 +25,8 @@ use std::alloc::Global;
 use std::marker::{Brand, Model};
 use std::sync::ledger::{Blank, Ledger};
 
-/// What walks the trajectories of a job. It holds a plan that is legal for the job, a judge that stands for it, and all memory that
-/// walking takes.
+/// The memory that walking a job's trajectories takes: a current legal plan, a constraint that
+/// describes it, and buffers for scores.
 #[derive(Drop)]
 pub struct Walker<J: Judge> {
     state: State<J>,
@@ -42,7 +42,8 @@ impl<J: Judge> Model for Walker<J> {
 }
 
 impl<J: Judge> Walker<J> {
-    /// A walker that holds the job's start plan, and a judge for the job.
+    /// Allocates a walker at the job's start plan, with a constraint for the job. Fails if there is
+    /// no memory.
     pub fn new(alloc: Global, job: &Job, judge: J) -> Result<Walker<J>, Memory>
         requires judge { IsJudgeFor job.now (J.judging judge) }
         ensures job { IfOk result (λ w. w.job ≡ job.now) }
@@ -54,7 +55,7 @@ impl<J: Judge> Walker<J> {
         })
     }
 
-    /// The plan that is held.
+    /// Returns the current plan.
     pub fn plan(&self) -> &UnitList
         ensures value { result.now ≡ self.now.plan }
         ensures legal { IsLegal self.now.job self.now.plan }
@@ -62,8 +63,10 @@ impl<J: Judge> Walker<J> {
         self.state.plan()
     }
 
-    /// Walks the trajectory with this id, and answers what it finds: one of the outlier test from the start
-    /// plan, or one of the parallel test from the hub, which is read for no other. It takes no memory.
+    /// Walks the trajectory with this id and returns its outcome. It allocates nothing.
+    ///
+    /// A walk of the outlier test begins at the start plan, an endpoint trajectory of the parallel
+    /// test at the hub. `hub` is read only for the latter.
     pub fn walk(&mut self, job: &Job, hub: &[u32], id: u32) -> Outcome
         requires made { self.old.job ≡ job.now }
         requires id { id < job.now.setting.walks + job.now.setting.ends }
@@ -74,8 +77,11 @@ impl<J: Judge> Walker<J> {
         self.walk_by::<Brand>(job, hub, id, Blank::new(1))
     }
 
-    /// Walks so many steps from the start plan along a stream, and answers what it finds, without bins: the moves, and for each ask
-    /// how many of the visited plans are in its tail, the start plan among them. The id is 0. It takes no memory.
+    /// Walks from the start plan along a stream, and returns the moves and each ask's number of
+    /// visited plans in its tail.
+    ///
+    /// The outcome has the id 0 and no histogram. The start plan is a visited plan. It allocates
+    /// nothing.
     pub fn run(&mut self, job: &Job, stream: u64, steps: u32) -> Outcome
         requires made { self.old.job ≡ job.now }
         requires few { steps ≤ 10 ^ 9 }
@@ -85,7 +91,8 @@ impl<J: Judge> Walker<J> {
         self.run_by::<Brand>(job, stream, steps, Blank::new(1))
     }
 
-    /// Writes the plan from which the trajectories of the parallel test start. It takes no memory.
+    /// Walks to the hub, from which the endpoint trajectories start, and copies its plan. It
+    /// allocates nothing.
     pub fn hub_into(&mut self, job: &Job, hub: &mut [u32])
         requires made { self.old.job ≡ job.now }
         requires units { length hub.old ≡ job.now.graph.units }
@@ -96,14 +103,16 @@ impl<J: Judge> Walker<J> {
         hub.copy_from_slice(self.state.plan().as_slice());
     }
 
-    /// Starts the trajectory with this id at its first plan: the start plan for a walk, and the hub for an endpoint trajectory. The hub is
-    /// read for no walk. It takes no memory.
+    /// Sets the current plan to the first plan of the trajectory with this id.
+    ///
+    /// This is the start plan for a walk and the hub for an endpoint trajectory; `hub` is read only
+    /// for the latter. It allocates nothing.
     pub fn set_out(&mut self, job: &Job, hub: &[u32], id: u32) -> Way
         requires made { self.old.job ≡ job.now }
         requires hub { job.now.setting.walks ≤ id → hub.now ≡ hub_of job.now (draw job.now.setting.key) }
         ensures way { IsUnderWay job.now id 0 self.new result }
     {
-        // Called for what its contract says: the job is within its limits, and its start plan is legal.
+        // Called for its contract: the job is within its limits, and its start plan is legal.
         let _units = job.units();
         let setting = job.setting();
         if id < setting.walks {
@@ -115,7 +124,8 @@ impl<J: Judge> Walker<J> {
         }
     }
 
-    /// Makes this many more steps of the trajectory. Steps in several calls come to the same as all of them in one. It takes no memory.
+    /// Takes this many more steps of a trajectory. Several calls add up to one call with all steps.
+    /// It allocates nothing.
     pub fn go_on(&mut self, job: &Job, way: &mut Way, steps: u32)
         requires made { self.old.job ≡ job.now }
         requires few { way.old.draws.place + steps ≤ 10 ^ 9 }
@@ -125,7 +135,8 @@ impl<J: Judge> Walker<J> {
         self.go_on_by::<Brand>(job, way, steps, Blank::new(1))
     }
 
-    /// Returns the value of each ask for the current plan, in four places. Places past the asks are zeros.
+    /// Returns the value of each ask for the current plan, in four places. Places past the asks are
+    /// zeros.
     pub fn values(&mut self, job: &Job) -> [i64; 4]
         requires made { self.old.job ≡ job.now }
         ensures values { result ≡ four_values (ask_values job.now self.old.plan) }
@@ -134,7 +145,7 @@ impl<J: Judge> Walker<J> {
         values(&self.state, job.setting().asks.as_slice(), &mut self.room)
     }
 
-    // More steps of a trajectory, with a step counter of their own.
+    // Does the work of `go_on`, with its own step counter.
     fn go_on_by<L: Ledger>(&mut self, job: &Job, way: &mut Way, steps: u32, blank: Blank)
         requires name { blank.name ≡ L.name }
         requires parts { blank.parts ≡ L.parts }
@@ -148,7 +159,7 @@ impl<J: Judge> Walker<J> {
         way.go_on(job, &mut self.state, steps, &mut counter);
     }
 
-    // The trajectory with this id, with a step counter of its own.
+    // Does the work of `walk`, with its own step counter.
     fn walk_by<L: Ledger>(&mut self, job: &Job, hub: &[u32], id: u32, blank: Blank) -> Outcome
         requires name { blank.name ≡ L.name }
         requires parts { blank.parts ≡ L.parts }
@@ -166,7 +177,7 @@ impl<J: Judge> Walker<J> {
         }
     }
 
-    // The walk of `run`, with a step counter of its own.
+    // Does the work of `run`, with its own step counter.
     fn run_by<L: Ledger>(&mut self, job: &Job, stream: u64, steps: u32, blank: Blank) -> Outcome
         requires name { blank.name ≡ L.name }
         requires parts { blank.parts ≡ L.parts }
@@ -185,7 +196,8 @@ impl<J: Judge> Walker<J> {
         self.walk_along(job, course, &mut counter)
     }
 
-    // A walk from the start plan, which counts bins where they are asked for. The id is 0.
+    // Walks from the start plan, with a histogram if `course` asks for it. The outcome has the id
+    // 0.
     fn walk_along<L: Ledger>(
         &mut self,
         job: &Job,
@@ -210,13 +222,13 @@ impl<J: Judge> Walker<J> {
         }
     }
 
-    // A trajectory of the outlier test.
+    // Walks a trajectory of the outlier test.
     fn walk_from_start<L: Ledger>(&mut self, job: &Job, id: u32, counter: &mut Steps<L>) -> Outcome
         requires made { self.old.job ≡ job.now }
         ensures outcome { result ≡ walk_outcome job.now.setting.shift job.now (draw job.now.setting.key) id }
         ensures made { self.new.job ≡ job.now }
     {
-        // Called for what its contract says: the job is within its limits, and its start plan is legal.
+        // Called for its contract: the job is within its limits, and its start plan is legal.
         let _units = job.units();
         let setting = job.setting();
         let stream = 2 * u64::from(id);
@@ -230,7 +242,7 @@ impl<J: Judge> Walker<J> {
         found
     }
 
-    // A trajectory of the parallel test.
+    // Walks an endpoint trajectory of the parallel test.
     fn walk_from_hub<L: Ledger>(
         &mut self,
         job: &Job,
@@ -244,7 +256,7 @@ impl<J: Judge> Walker<J> {
         ensures outcome { result ≡ end_outcome job.now (draw job.now.setting.key) id }
         ensures made { self.new.job ≡ job.now }
     {
-        // Called for what its contract says: the job is within its limits, and its start plan is legal.
+        // Called for its contract: the job is within its limits, and its start plan is legal.
         let _units = job.units();
         let setting = job.setting();
         self.state.set(job, hub);
@@ -258,7 +270,7 @@ impl<J: Judge> Walker<J> {
         }
     }
 
-    // Holds the hub afterwards.
+    // Walks from the start plan to the hub, along stream 1.
     fn walk_to_hub<L: Ledger>(&mut self, job: &Job, blank: Blank)
         requires name { blank.name ≡ L.name }
         requires parts { blank.parts ≡ L.parts }

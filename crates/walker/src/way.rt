@@ -1,4 +1,4 @@
-//! The state of a trajectory between its steps.
+//! A trajectory between its steps.
 
 ghost use Rattle.std.specs.Prelude.{◌≡◌, ◌+◌, ◌≤◌, ◌^◌, List, ℕ};
 ghost use Rattle.walker.specs.Walked.{IsWalked};
@@ -12,7 +12,7 @@ use plan_core::job::Job;
 use std::marker::Model;
 use std::sync::ledger::Ledger;
 
-/// The state of a trajectory between its steps: its next draw, and its moves so far.
+/// The progress of a trajectory: its next draw, and its number of moves so far.
 #[derive(Drop)]
 pub struct Way {
     draws: Draws,
@@ -51,7 +51,7 @@ impl Way {
         self.moved
     }
 
-    /// Makes this many more steps.
+    /// Takes this many more steps.
     pub(crate) fn go_on<J: Judge, L: Ledger>(
         &mut self,
         job: &Job,
