@@ -59,31 +59,31 @@ abbrev AllRings : Graph → List (List ℕ) → Type 0
 AllRings g [] = Unit {0}
 AllRings g (ring ∷ later) = IsRing g ring × AllRings g later
 
--- faces of a graph are rings of it, all of them
+-- faces of a graph are rings of it
 all_rings : (g : Graph) (faces : List (List ℕ)) → AreFaces g faces → AllRings g faces
 all_rings g [] are = tt
 all_rings g (face ∷ later) are = (are.0, all_rings g later are.2)
 
--- where all of a list with one more are rings, the list is, and the one more
+-- if all of an extended list are rings, so are the list and the new face
 rings_split : (g : Graph) (rest : List (List ℕ)) (ring : List ℕ) → AllRings g (rest ++ ring ∷ []) → AllRings g rest × IsRing g ring
 rings_split g [] ring h = (tt, h.0)
 rings_split g (face ∷ rest) ring h = let more = rings_split g rest ring h.1 in ((h.0, more.0), more.1)
 
--- where all are rings, the face at a place is one
+-- if all are rings, so is the face at a position
 ring_in : (g : Graph) (faces : List Face) (k : ℕ) (d : Face) → k < length faces → AllRings g (rings faces) → IsRing g (ring_of (get_or faces k d))
 ring_in g [] k d l h = absurd (omega arith)
 ring_in g (face ∷ later) zero d l h = (rings_split g (rings later) (ring_of face) h).1
 ring_in g (face ∷ later) (suc k) d l h = ring_in g later k d (omega arith) (rings_split g (rings later) (ring_of face) h).0
 
--- the face at a place of faces of a graph is a ring of it
+-- the face at a position is a ring of the graph
 pub ring_at : (g : Graph) (faces : List Face) (k : ℕ) (d : Face) → k < length faces → AreFaces g (rings faces) → IsRing g (ring_of (get_or faces k d))
 ring_at g faces k d l are = ring_in g faces k d l (all_rings g (rings faces) are)
 
--- the rings of one face more are that face before those of the faces so far
+-- taking one more face puts its ring first
 pub rings_step : (faces : List Face) (k : ℕ) (d : Face) → k < length faces → rings (take (k + 1) faces) ≡ ring_of (get_or faces k d) ∷ rings (take k faces)
 rings_step faces k d l = ap rings (take_more faces k d l) ∙ rings_more (take k faces) (get_or faces k d)
 
--- there is one ring for each face
+-- there is one ring per face
 pub rings_length : (faces : List Face) → length (rings faces) ≡ length faces
 rings_length [] = refl
 rings_length (face ∷ later) = omega (arith, length_push (rings later) (ring_of face), rings_length later)

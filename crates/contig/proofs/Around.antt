@@ -1,4 +1,4 @@
--- A way round a unit: along the faces at it, which link its mates.
+-- A path around a unit, along the faces that link its mates.
 use Rattle.std.proofs.Common.{◌≡◌, ℕ, Bool, true, not, ◌||◌, List, [], ◌∷◌, refl, sym, ◌∙◌, subst, inl, inr}
 use Rattle.std.specs.Prelude.{◌==◌, ◌⊎◌, slice_index}
 use Rattle.std.proofs.lemmas.Bool.{and_parts, and_from, or_cases, or_left, or_right, cases_eq, eq-eqb, eqb-true, both_ways, not-true, false≢true}
@@ -15,9 +15,9 @@ use Rattle.contig.proofs.RingLinks.{near_link, share_ring}
 use Rattle.contig.proofs.Rings.{pair_same, pair_is, side_in, by_five, five_1, five_2, five_3, five_4, five_5, unit_of_five, has_5}
 use Rattle.contig.specs.Faces.{is_pair, has_side, IsRing, AreFaces, share_face, link_graph, AreLinked}
 
--- ---- rings, turned so that they begin with u
+-- ---- rings, rotated to begin with u
 
--- a triangle from its second unit on has the same sides
+-- rotating a triangle keeps its sides
 pub turn_three : (a b c x y : ℕ) → has_side (a ∷ b ∷ c ∷ []) x y ≡ true → has_side (b ∷ c ∷ a ∷ []) x y ≡ true
 turn_three a b c x y h = elim (or_cases (is_pair a b x y || is_pair b c x y) (is_pair c a x y) h) [
   | inl e ↦ elim (or_cases (is_pair a b x y) (is_pair b c x y) e) [
@@ -27,7 +27,7 @@ turn_three a b c x y h = elim (or_cases (is_pair a b x y || is_pair b c x y) (is
   | inr f ↦ or_left (is_pair b c x y || is_pair c a x y) (is_pair a b x y) (or_right (is_pair b c x y) (is_pair c a x y) f)
 ]
 
--- a square from its second unit on has the same sides
+-- rotating a square keeps its sides
 pub turn_four : (a b c d x y : ℕ) → has_side (a ∷ b ∷ c ∷ d ∷ []) x y ≡ true → has_side (b ∷ c ∷ d ∷ a ∷ []) x y ≡ true
 turn_four a b c d x y h = elim (or_cases (is_pair a b x y || is_pair b c x y || is_pair c d x y) (is_pair d a x y) h) [
   | inl e ↦ elim (or_cases (is_pair a b x y || is_pair b c x y) (is_pair c d x y) e) [
@@ -40,7 +40,7 @@ turn_four a b c d x y h = elim (or_cases (is_pair a b x y || is_pair b c x y || 
   | inr f ↦ in_3 (is_pair b c x y) (is_pair c d x y) (is_pair d a x y) (is_pair a b x y) f
 ]
 
--- a pentagon from its second unit on has the same sides
+-- rotating a pentagon keeps its sides
 pub turn_five : (a b c d e x y : ℕ) → has_side (a ∷ b ∷ c ∷ d ∷ e ∷ []) x y ≡ true → has_side (b ∷ c ∷ d ∷ e ∷ a ∷ []) x y ≡ true
 turn_five a b c d e x y h =
     by_five (has_side (b ∷ c ∷ d ∷ e ∷ a ∷ []) x y ≡ true) (is_pair a b x y) (is_pair b c x y) (is_pair c d x y) (is_pair d e x y) (is_pair e a x y)
@@ -51,7 +51,7 @@ turn_five a b c d e x y h =
     (five_4 (is_pair b c x y) (is_pair c d x y) (is_pair d e x y) (is_pair e a x y) (is_pair a b x y))
     h
 
--- a side from u to p is one of two
+-- the neighbors of the first unit of a triangle are its second and its last
 beside_three : (u b c p : ℕ) → (u ≡ b → ⊥) → (u ≡ c → ⊥) → has_side (u ∷ b ∷ c ∷ []) u p ≡ true → (p ≡ b) ⊎ (p ≡ c)
 beside_three u b c p off-b off-c h = elim (or_cases (is_pair u b u p || is_pair b c u p) (is_pair c u u p) h) [
   | inl e ↦ elim (or_cases (is_pair u b u p) (is_pair b c u p) e) [
@@ -70,7 +70,7 @@ beside_three u b c p off-b off-c h = elim (or_cases (is_pair u b u p || is_pair 
   ]
 ]
 
--- the units beside the first of a square are its second and its last
+-- the neighbors of the first unit of a square are its second and its last
 beside_four : (u b c d p : ℕ) → (u ≡ b → ⊥) → (u ≡ c → ⊥) → (u ≡ d → ⊥) → has_side (u ∷ b ∷ c ∷ d ∷ []) u p ≡ true → (p ≡ b) ⊎ (p ≡ d)
 beside_four u b c d p off-b off-c off-d h = elim (or_cases (is_pair u b u p || is_pair b c u p || is_pair c d u p) (is_pair d u u p) h) [
   | inl e ↦ elim (or_cases (is_pair u b u p || is_pair b c u p) (is_pair c d u p) e) [
@@ -95,7 +95,7 @@ beside_four u b c d p off-b off-c off-d h = elim (or_cases (is_pair u b u p || i
   ]
 ]
 
--- the units beside the first of a pentagon are its second and its last
+-- the neighbors of the first unit of a pentagon are its second and its last
 beside_five : (u b c d e p : ℕ) → (u ≡ b → ⊥) → (u ≡ c → ⊥) → (u ≡ d → ⊥) → (u ≡ e → ⊥) → has_side (u ∷ b ∷ c ∷ d ∷ e ∷ []) u p ≡ true → (p ≡ b) ⊎ (p ≡ e)
 beside_five u b c d e p off-b off-c off-d off-e h =
     by_five ((p ≡ b) ⊎ (p ≡ e)) (is_pair u b u p) (is_pair b c u p) (is_pair c d u p) (is_pair d e u p) (is_pair e u u p)
@@ -110,7 +110,7 @@ module _ (g : Graph) (simple : IsSimple g) (set : ℕ → Bool) (u : ℕ) where
   turned_near : (v w : ℕ) → adjacent g v w ≡ true → adjacent g w v ≡ true
   turned_near v w h = simple.symmetric w v ∙ h
 
-  -- from p to q where each is one end of a path
+  -- a path between any two of the endpoints of a path
   between : (b d p q : ℕ) → HasPath g set b d → HasPath g set d b → IsIn g set b → IsIn g set d → (p ≡ b) ⊎ (p ≡ d) → (q ≡ b) ⊎ (q ≡ d) → HasPath g set p q
   between b d p q there back ib id ep eq = elim ep [
     | inl e ↦ elim eq [
@@ -123,7 +123,7 @@ module _ (g : Graph) (simple : IsSimple g) (set : ℕ → Bool) (u : ℕ) where
     ]
   ]
 
-  -- round a triangle and a square that begin with u
+  -- around a triangle or a square that begins with u
   past_three : (a b c p q : ℕ) → a ≡ u → (a ≡ b → ⊥) → (a ≡ c → ⊥) → IsIn g set b → IsIn g set c → adjacent g b c ≡ true
       → has_side (a ∷ b ∷ c ∷ []) u p ≡ true → has_side (a ∷ b ∷ c ∷ []) u q ≡ true → HasPath g set p q
   past_three a b c p q e off-b off-c ib ic bc hp hq =
@@ -151,7 +151,7 @@ module _ (g : Graph) (simple : IsSimple g) (set : ℕ → Bool) (u : ℕ) where
       (path_before g set e d b ie (turned_near d e de) (path_before g set d c b id (turned_near c d cd) (path_before g set c b b ic (turned_near b c bc) (path_one g set b ib))))
       ib ie (which p hp) (which q hq)
 
-  -- round any ring at u whose other units are in the set
+  -- around any ring at u whose other units are in the set
   past_ring : (ring : List ℕ) (p q : ℕ) → IsRing g ring → ((v : ℕ) → has ring v ≡ true → (v ≡ u → ⊥) → IsIn g set v)
       → has_side ring u p ≡ true → has_side ring u q ≡ true → HasPath g set p q
   past_ring [] p q is_ring others hp hq = absurd (false≢true hp)
@@ -358,7 +358,7 @@ module _ (g : Graph) (simple : IsSimple g) (set : ℕ → Bool) (u : ℕ) where
           ab bc cd (turn_five d e a b c u p (turn_five c d e a b u p (turn_five b c d e a u p (turn_five a b c d e u p hp)))) (turn_five d e a b c u q (turn_five c d e a b u q (turn_five b c d e a u q (turn_five a b c d e u q hq))))
   past_ring (a ∷ b ∷ c ∷ d ∷ e ∷ f ∷ rest) p q is_ring others hp hq = absurd (false≢true hp)
 
--- ---- round the unit
+-- ---- around the unit
 
 module _ (g : Graph) (faces : List (List ℕ)) (plan : List ℕ) (u : ℕ) (simple : IsSimple g) (are : AreFaces g faces) where
   mate_behind : (v : ℕ) → IsIn g (is_mate g plan u) v → IsIn g (stays_behind plan u) v
@@ -366,14 +366,14 @@ module _ (g : Graph) (faces : List (List ℕ)) (plan : List ℕ) (u : ℕ) (simp
       let parts = and_parts (adjacent g u v) (in_district plan (slice_index plan u) v) i.1 in
       left_behind g plan u v (i.0, parts.1) (not_beside_itself g u simple v parts.0)
 
-  -- a link is a path round u
+  -- a link gives a path around u
   link_path : (p q : ℕ) → share_face faces (in_district plan (slice_index plan u)) u p q ≡ true → HasPath g (stays_behind plan u) p q
   link_path p q h =
       let (ring, is_ring, inner, hp, hq) = share_ring g (in_district plan (slice_index plan u)) u p q faces are h in
       past_ring g simple (stays_behind plan u) u ring p q is_ring
       (λ v member off. left_behind g plan u v (is_ring.below v member, each_from_all (in_district plan (slice_index plan u)) ring v inner member) off) hp hq
 
-  -- so is a path of links
+  -- a path of links gives a path around u
   links_path : (units : List ℕ) (p q : ℕ) → IsPath (link_graph g faces (in_district plan (slice_index plan u)) u) (is_mate g plan u) units p q
       → HasPath g (stays_behind plan u) p q
   links_path [] p q path = absurd path
@@ -383,7 +383,7 @@ module _ (g : Graph) (faces : List (List ℕ)) (plan : List ℕ) (u : ℕ) (simp
       subst (λ k. HasPath g (stays_behind plan u) k q) path.0 (joined_from g (stays_behind plan u) step.0 w t q step.1 (links_path (t ∷ rest) t q path.3))
 
   module _ (linked : AreLinked g faces plan u) where
-    -- two mates have a path that leaves u out
+    -- two mates have a path that avoids u
     way_round : (a b : ℕ) → IsIn g (in_district plan (slice_index plan u)) a → IsIn g (in_district plan (slice_index plan u)) b
         → adjacent g a u ≡ true → adjacent g u b ≡ true → HasPath g (stays_behind plan u) a b
     way_round a b ia ib au ub =
@@ -391,7 +391,7 @@ module _ (g : Graph) (faces : List (List ℕ)) (plan : List ℕ) (u : ℕ) (simp
         (ib.0, and_from (adjacent g u b) (in_district plan (slice_index plan u) b) ub ib.1) in
         links_path path.0 a b path.1
 
-    -- a path of the district between units that stay behind gives one that leaves u out
+    -- a path of the district between units that stay behind gives one that avoids u
     detour : (units : List ℕ) (x y : ℕ) → IsPath g (in_district plan (slice_index plan u)) units x y → (x ≡ u → ⊥) → (y ≡ u → ⊥) → HasPath g (stays_behind plan u) x y
     detour [] x y p off-x off-y = absurd p
     detour (w ∷ []) x y p off-x off-y =

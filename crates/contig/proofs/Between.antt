@@ -1,11 +1,11 @@
--- What holds between two turns of the loops of a search.
+-- Invariants of the search's loops.
 use Rattle.std.specs.Prelude.{◌≡◌, ℕ, ◌+◌, ◌<◌, ◌≤◌, Bool, IsTrue, List, length, slice_index}
 use Rattle.audit_model.specs.Graph.{Graph, has, adjacent, IsIn}
 use Rattle.audit_model.specs.Local.{is_mate}
 use Rattle.dual_graph.specs.Marked.{Marked, IsMarked}
 use Rattle.contig.specs.Parts.{part, IsJoined, NotOne}
 
--- a search between two turns: the units before a place have had theirs, and ends tell behind which place no unit has a label
+-- between two turns: the units before a position have had theirs, and `ends` bounds the positions of each label
 pub record IsGrowing (g : Graph) (inside : ℕ → Bool) (last : ℕ) (m : Marked) (roots ends : List ℕ) (at : ℕ) : Type 0 where
   pub units : m.units ≡ g.units
   pub marked : IsMarked m
@@ -19,7 +19,7 @@ pub record IsGrowing (g : Graph) (inside : ℕ → Bool) (last : ℕ) (m : Marke
   pub widths : (length roots ≡ 17) × (length ends ≡ 17)
   pub bound : at ≤ length m.items
 
--- the same for the mates among the units of a row
+-- the mates among the first units of a row are marked
 pub record IsSeeding (g : Graph) (plan : List ℕ) (u : ℕ) (row : List ℕ) (last : ℕ) (m : Marked) : Type 0 where
   pub units : m.units ≡ g.units
   pub marked : IsMarked m
@@ -31,7 +31,7 @@ pub record IsSeeding (g : Graph) (plan : List ℕ) (u : ℕ) (row : List ℕ) (l
   pub amount : length m.items ≡ last
   pub order : (k : ℕ) → k < length m.items → slice_index m.labels (slice_index m.items k) ≡ k + 1
 
--- the first mates in the list are joined with the mates beside them
+-- the first mates in the list are joined with the adjacent mates
 pub record IsLinking (g : Graph) (plan : List ℕ) (u : ℕ) (m : Marked) (roots : List ℕ) (place : ℕ) : Type 0 where
   pub joined : IsJoined g (is_mate g plan u) m.labels roots
   pub closed : (k : ℕ) → k < place → (v : ℕ) → IsIn g (is_mate g plan u) v → IsTrue (adjacent g (slice_index m.items k) v)

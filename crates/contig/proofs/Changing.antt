@@ -1,4 +1,4 @@
--- How the counts of a set change with a unit.
+-- The change of a set's counts with one unit.
 use Rattle.std.proofs.Common.{◌≡◌, ℕ, zero, suc, ◌+◌, ◌<◌, ◌≤◌, Bool, true, false, cond, not, ◌&&◌, List, [], ◌∷◌, length, get_or, refl, sym, ap, ◌∙◌, subst, inl, inr, arith}
 use Rattle.std.specs.Prelude.{◌==◌, All, count_by}
 use Rattle.std.specs.List.{list_all}
@@ -17,16 +17,16 @@ use Rattle.contig.specs.Corners.{is_filled, corners_at}
 use Rattle.contig.specs.Counts.{filled_of}
 use Rattle.contig.proofs.Seeing.{IsOther, AreOthers, corners_other, count_corners}
 
--- ---- sets that are the same
+-- ---- equal sets
 
--- two sets that agree on the units of a ring hold all of it or not, both alike
+-- sets that agree on the units of a ring contain all of it, or neither does
 all_alike : (p q : ℕ → Bool) (ring : List ℕ) → ((v : ℕ) → has ring v ≡ true → p v ≡ q v) → list_all p ring ≡ list_all q ring
 all_alike p q [] same = refl
 all_alike p q (v ∷ rest) same =
     ap (λ b. b && list_all p rest) (same v (first_has v rest))
     ∙ ap (λ b. q v && b) (all_alike p q rest (λ w h. same w (or_right (v == w) (has rest w) h)))
 
--- two sets that agree on all units have as many inner faces
+-- sets that agree on all units have equally many inner faces
 faces_alike : (g : Graph) (p q : ℕ → Bool) (faces : List (List ℕ)) → AreFaces g faces → ((v : ℕ) → v < g.units → p v ≡ q v) → count_inner_faces p faces ≡ count_inner_faces q faces
 faces_alike g p q [] are same = refl
 faces_alike g p q (face ∷ later) are same =
@@ -35,7 +35,7 @@ faces_alike g p q (face ∷ later) are same =
     ap (λ b. cond {A = ℕ} b 1 0) (all_alike p q face (λ v h. same v (are.0.below v h))) in
     omega (arith, rest, one)
 
--- two sums of the same parts are the same
+-- sums of equal terms are equal
 sum_alike : (n m : ℕ) (f h : ℕ → ℕ) → n ≤ m → ((k : ℕ) → k < m → f k ≡ h k) → sum_below n f ≡ sum_below n h
 sum_alike zero m f h l same = refl
 sum_alike (suc n) m f h l same = omega (arith, sum_alike n m f h (omega (arith, l)) same, same n (omega (arith, l)))
@@ -51,7 +51,7 @@ module _ (g : Graph) (p q : ℕ → Bool) (same : (v : ℕ) → v < g.units → 
 
 -- ---- one more unit
 
--- two tests that agree on each corner count as many
+-- tests that agree on each corner count equally many
 count_alike : (p q : ℕ × ℕ × ℕ × ℕ → Bool) (cs : List (ℕ × ℕ × ℕ × ℕ)) → All (λ t. p t ≡ q t) cs → count_by p cs ≡ count_by q cs
 count_alike p q [] same = refl
 count_alike p q (t ∷ rest) same =
@@ -105,11 +105,11 @@ module _ (g : Graph) (sound : IsGraph g) (faces : List (List ℕ)) (are : AreFac
 
 -- ---- bounds
 
--- a set has no more inner edges than the graph has edges
+-- a set has at most the graph's edges as inner edges
 pub edges_few : (g : Graph) (inside : ℕ → Bool) → count_inner_edges g inside ≤ count_edges g (λ v w. true)
 edges_few g inside = counted_edges_le g (λ v w. inside v && inside w) g.units (omega arith)
 
--- a set has no more inner faces than there are faces
+-- a set has at most all faces as inner faces
 inner_few : (inside : ℕ → Bool) (faces : List (List ℕ)) → count_inner_faces inside faces ≤ length faces
 inner_few inside [] = omega arith
 inner_few inside (face ∷ later) = omega (arith, inner_few inside later, one (list_all inside face))
@@ -118,6 +118,6 @@ inner_few inside (face ∷ later) = omega (arith, inner_few inside later, one (l
     one true = omega arith
     one false = omega arith
 
--- the units and inner faces of a set are no more than all units and faces
+-- the units and inner faces of a set are at most all units and faces
 pub filled_few : (g : Graph) (inside : ℕ → Bool) (faces : List (List ℕ)) → filled_of g faces inside ≤ g.units + length faces
 filled_few g inside faces = omega (arith, count_below_le g.units inside, inner_few inside faces)

@@ -1,4 +1,4 @@
--- Counts over the neighbours of a unit.
+-- Counts over the neighbors of a unit.
 use Rattle.std.proofs.Common.{◌≡◌, ℕ, zero, suc, ◌<◌, ◌≤◌, List, [], ◌∷◌, length, get_or, sym, subst, inl, inr, arith}
 use Rattle.std.specs.List.{slice_index_or}
 use Rattle.std.proofs.lemmas.Bool.{cases_eq, cases_lt, false_from_ne_true}
@@ -7,7 +7,7 @@ use Rattle.audit_model.specs.Graph.{Graph, IsGraph, has}
 use Rattle.audit_model.proofs.ListFacts.{apart_le}
 use Rattle.audit_model.proofs.Rows.{IsRising, tail_rises, above, row_rises}
 
--- a rising list has no number twice, and so a unit has no more neighbours than there are units
+-- a rising list has no repetitions
 rising_apart : (xs : List ℕ) → IsRising xs → AllApart xs
 rising_apart [] r = tt
 rising_apart (x ∷ xs) r = (
@@ -15,11 +15,11 @@ rising_apart (x ∷ xs) r = (
   rising_apart xs (tail_rises x xs r),
 )
 
--- a unit has no more neighbours than there are units
+-- a unit has at most as many neighbors as there are units
 pub row_short : (g : Graph) (u : ℕ) → IsGraph g → length (slice_index_or g.neighbours u []) ≤ g.units
 row_short g u sound = apart_le g.units (slice_index_or g.neighbours u []) (rising_apart (slice_index_or g.neighbours u []) (row_rises g u sound)) (λ v h. sound.below u v h)
 
--- in a rising list a number at an earlier place is less
+-- in a rising list, an item at an earlier position is smaller
 rising_less : (xs : List ℕ) → IsRising xs → (i j : ℕ) → i < j → j < length xs → get_or xs i 0 < get_or xs j 0
 rising_less xs r i zero less l = absurd (omega (arith, less))
 rising_less xs r i (suc j) less l = elim (cases_eq i j) [
@@ -27,7 +27,7 @@ rising_less xs r i (suc j) less l = elim (cases_eq i j) [
   | inr off ↦ let before : get_or xs i 0 < get_or xs j 0 = rising_less xs r i j (omega (arith, less, off)) (omega (arith, l)) in omega (arith, before, r.rises j l)
 ]
 
--- a number of a rising list has one place
+-- in a rising list, equal items have equal positions
 pub rising_once : (xs : List ℕ) → IsRising xs → (i j : ℕ) → i < length xs → j < length xs → get_or xs i 0 ≡ get_or xs j 0 → i ≡ j
 rising_once xs r i j li lj e = elim (cases_lt i j) [
   | inl less ↦ let l : get_or xs i 0 < get_or xs j 0 = rising_less xs r i j less lj in absurd (omega (arith, l, e))

@@ -1,4 +1,4 @@
--- What a search says at its end.
+-- The result of a search.
 use Rattle.std.proofs.Common.{◌≡◌, ℕ, ◌<◌, ◌≤◌, List, get_or, refl, sym, subst, inl, inr, arith}
 use Rattle.audit_model.specs.Graph.{Graph, IsIn, IsGraph}
 use Rattle.audit_model.specs.Path.{HasPath, IsConnected}
@@ -13,7 +13,7 @@ use Rattle.contig.proofs.Growing.{joined_all, mate_stays}
 use Rattle.contig.proofs.Leaving.{leaves, has_mate}
 
 module _ (g : Graph) (plan : List ℕ) (u : ℕ) (graph : IsGraph g) (lt : u < g.units) (connected : IsConnected g (in_district plan (slice_index plan u))) where
-  -- the only mate
+  -- a unit with one mate may leave
   pub one_leaves : (last : ℕ) (m : Marked) → IsSeeded g plan u last m → last ≡ 1 → MayLeave g plan u
   one_leaves last m s one =
       let seed = s.seeds 1 (omega arith) (omega (arith, one)) in
@@ -24,7 +24,7 @@ module _ (g : Graph) (plan : List ℕ) (u : ℕ) (graph : IsGraph g) (lt : u < g
       (λ a b ia ib. subst (λ t. HasPath g (stays_behind plan u) t b) (sym (is_seed a ia))
       (subst (λ t. HasPath g (stays_behind plan u) seed.0 t) (sym (is_seed b ib)) (path_one g (stays_behind plan u) seed.0 i)))
 
-  -- no mate
+  -- a unit without mates may not leave
   pub none_stays : (m : Marked) → IsSeeded g plan u 0 m → MayLeave g plan u → ⊥
   none_stays m s may =
       let mate = has_mate g plan u graph lt connected may in
@@ -32,7 +32,7 @@ module _ (g : Graph) (plan : List ℕ) (u : ℕ) (graph : IsGraph g) (lt : u < g
       let l = s.small mate.0 in
       omega (arith, p, l)
 
-  -- all labels have one root
+  -- if all labels have one root, the unit may leave
   pub all_leave : (last label : ℕ) (m after : Marked) (row roots now ends : List ℕ) (at : ℕ) → IsGrowing g (stays_behind plan u) last m roots ends at → label ≤ last → 0 < last
       → ((v : ℕ) → IsIn g (is_mate g plan u) v → 0 < get_or m.labels v 0)
       → IsSpread g (stays_behind plan u) row label m after roots now → AllOne now last → MayLeave g plan u

@@ -1,4 +1,4 @@
--- How the counts of a set change with a unit.
+-- The change of a set's counts with one unit.
 use Rattle.std.proofs.Common.{◌≡◌, ℕ, zero, suc, ◌+◌, ◌<◌, ◌≤◌, Bool, true, false, cond, not, ◌&&◌, List, [], ◌∷◌, refl, sym, ap, ◌∙◌, subst, inl, inr, arith}
 use Rattle.std.specs.Prelude.{◌==◌}
 use Rattle.std.specs.List.{list_all}
@@ -11,12 +11,12 @@ use Rattle.contig.specs.Faces.{count_units, count_inner_edges, count_inner_faces
 
 -- ---- counts
 
--- what is not taken out stays
+-- an item that is not taken out stays
 pub kept : (a b : Bool) → b ≡ false → (a && not b) ≡ a
 kept true b e = not_from_false b e
 kept false b e = refl
 
--- a count is that of all numbers but one, and of that one
+-- a count is the count without one number, plus that number's own
 count_split : (n : ℕ) (p : ℕ → Bool) (u : ℕ) → u < n → count_below n p ≡ count_below n (λ k. p k && not (k == u)) + cond (p u) 1 0
 count_split n p u l = elim (cases_Bool (p u)) [
   | inl e ↦ omega (arith, count_below_without n p u l e, cond-true {A = ℕ} (p u) 1 0 e)
@@ -31,7 +31,7 @@ count_split n p u l = elim (cases_Bool (p u)) [
 
 -- ---- edges
 
--- taking the unit out of a pair takes it out of its end in the set
+-- taking a unit out of a pair takes it out of the end in the set
 moved_out : (a b c d e : Bool) → e ≡ false → ((a && (b && c)) && not d) ≡ (a && ((b && not d) && (c && not e)))
 moved_out a b c d true h = absurd (true≢false h)
 moved_out false b c d false h = refl
@@ -41,11 +41,11 @@ moved_out true true false false false h = refl
 moved_out true true true true false h = refl
 moved_out true true true false false h = refl
 
--- a test in the middle that holds can be left out
+-- a true test in the middle of a conjunction may be left out
 with_both : (a b c : Bool) → b ≡ true → (a && (b && c)) ≡ (a && c)
 with_both a b c h = ap (λ t. a && (t && c)) h
 
--- a test at the end that holds can be left out
+-- a true test at the end of a conjunction may be left out
 with_last : (a b c : Bool) → c ≡ true → (a && (b && c)) ≡ (a && b)
 with_last a true c h = ap (λ t. a && t) h
 with_last a false c h = refl
@@ -60,7 +60,7 @@ module _ (g : Graph) (simple : IsSimple g) (inside : ℕ → Bool) (u : ℕ) (in
   mate : ℕ → Bool
   mate v = adjacent g u v && inside v
 
-  -- a unit before u loses nothing
+  -- a unit before u loses no edge to a smaller unit
   row_before : (w : ℕ) → w < u → row w ≡ row_after w
   unfolding row row_after
   row_before w l = count_below_same w (λ v. adjacent g v w && (inside v && inside w)) (λ v. adjacent g v w && (without_unit inside u v && without_unit inside u w))
@@ -78,7 +78,7 @@ module _ (g : Graph) (simple : IsSimple g) (inside : ℕ → Bool) (u : ℕ) (in
         (and_right (inside u) (not (u == u)) (not_from_true (u == u) (eq-eqb u u refl))))),
   )
 
-  -- a unit behind u loses the edge to u
+  -- a unit after u loses its edge to u
   row_behind : (w : ℕ) → u < w → row w ≡ row_after w + cond (mate w) 1 0
   unfolding row row_after mate
   row_behind w l =
@@ -110,13 +110,13 @@ module _ (g : Graph) (simple : IsSimple g) (inside : ℕ → Bool) (u : ℕ) (in
   unfolding row row_after mate
   edges_with l = (rows g.units).1 l
 
--- a set has one unit more than without one of its units
+-- a set has one more unit than without one of its units
 pub units_with : (g : Graph) (inside : ℕ → Bool) (u : ℕ) → IsIn g inside u → count_units g inside ≡ count_units g (without_unit inside u) + 1
 units_with g inside u i = count_below_without g.units inside u i.0 i.1
 
 -- ---- faces
 
--- a face with u is not inside without u, and another is as before
+-- a face that has u is not inside the set without u
 all_without : (inside : ℕ → Bool) (u : ℕ) (face : List ℕ) → has face u ≡ true → list_all (without_unit inside u) face ≡ false
 all_without inside u [] h = absurd (true≢false (sym h))
 all_without inside u (v ∷ face) h = elim (or_cases (v == u) (has face u) h) [
@@ -124,14 +124,14 @@ all_without inside u (v ∷ face) h = elim (or_cases (v == u) (has face u) h) [
   | inr e ↦ and_right (without_unit inside u v) (list_all (without_unit inside u) face) (all_without inside u face e)
 ]
 
--- a face without the unit is inside a set exactly where it is inside the set without that unit
+-- a face that does not have u is inside the set exactly if it is without u
 all_same : (inside : ℕ → Bool) (u : ℕ) (face : List ℕ) → has face u ≡ false → list_all (without_unit inside u) face ≡ list_all inside face
 all_same inside u [] h = refl
 all_same inside u (v ∷ face) h =
     let parts = or_parts (v == u) (has face u) h in
     ap (λ b. b && list_all (without_unit inside u) face) (kept (inside v) (v == u) parts.0) ∙ ap (λ b. inside v && b) (all_same inside u face parts.1)
 
--- a face counts for the set as much as for the set without the unit, and once more where it has the unit and is inside
+-- a face counts for the set as it does without the unit, and once more if it has the unit and is inside
 face_with : (inside : ℕ → Bool) (u : ℕ) (face : List ℕ)
     → cond {A = ℕ} (list_all inside face) 1 0 ≡ cond (list_all (without_unit inside u) face) 1 0 + cond (has face u && list_all inside face) 1 0
 face_with inside u face = elim (cases_Bool (has face u)) [
@@ -147,7 +147,7 @@ face_with inside u face = elim (cases_Bool (has face u)) [
   )
 ]
 
--- a set has the inner faces that it has without the unit, and those at the unit
+-- a set has the inner faces it has without the unit, and those at the unit
 pub faces_with : (inside : ℕ → Bool) (u : ℕ) (faces : List (List ℕ))
     → count_inner_faces inside faces ≡ count_inner_faces (without_unit inside u) faces + count_inner_faces_at u inside faces
 faces_with inside u [] = refl

@@ -12,7 +12,7 @@ use Rattle.dual_graph.specs.Marked.{Marked}
 use Rattle.contig.specs.Parts.{part, IsJoined, AllOne, NotOne, IsSpread, IsSeeded}
 use Rattle.contig.proofs.Between.{IsGrowing}
 
--- ---- the beginning
+-- ---- the start
 
 -- a mate stays behind
 pub mate_stays : (g : Graph) (plan : List ℕ) (u v : ℕ) → IsGraph g → IsIn g (is_mate g plan u) v → IsIn g (stays_behind plan u) v
@@ -34,7 +34,7 @@ seeds_joined g plan u last m roots s few same = record {
       subst (λ t. HasPath g (is_mate g plan u) v t) is (path_one g (is_mate g plan u) v (s.mates v pv));
 }
 
--- with the mates marked the search may begin: no unit has had its turn yet
+-- with the mates marked, the search may begin
 pub grow_begins : (g : Graph) (plan : List ℕ) (u last : ℕ) (m : Marked) (roots ends : List ℕ) → IsSeeded g plan u last m → last ≤ 16
     → IsJoined g (stays_behind plan u) m.labels roots → NotOne roots last → length roots ≡ 17 → length ends ≡ 17 → ((k : ℕ) → k < 17 → get_or ends k 0 ≡ k)
     → IsGrowing g (stays_behind plan u) last m roots ends 0
@@ -61,7 +61,7 @@ module _ (g : Graph) (inside : ℕ → Bool) (last : ℕ) (m : Marked) (roots en
   label_inside : (v : ℕ) → get_or m.labels v 0 < length roots
   label_inside v = omega (arith, s.small v, s.widths.0)
 
-  -- the neighbours of one more unit are found
+  -- the neighbors of one more unit are found
   pub grow_more : (label unit : ℕ) (after : Marked) (now later : List ℕ) → label ≤ last → at < length m.items
       → get_or m.labels unit 0 ≡ label → unit ≡ get_or m.items at 0
       → IsSpread g inside (get_or g.neighbours unit []) label m after roots now → NotOne now last
@@ -86,7 +86,7 @@ module _ (g : Graph) (inside : ℕ → Bool) (last : ℕ) (m : Marked) (roots en
       old_label : (k : ℕ) → k < length m.items → 0 < get_or m.labels (get_or m.items k 0) 0
       old_label k l = s.marked.labelled (get_or m.items k 0) (at_has m.items k l)
 
-      -- what was closed stays closed
+      -- a unit whose turn is over keeps its neighbors in its part
       stays : (x v : ℕ) → 0 < get_or m.labels x 0 → (0 < get_or m.labels v 0) × (part m.labels roots v ≡ part m.labels roots x)
           → (0 < get_or after.labels v 0) × (part after.labels now v ≡ part after.labels now x)
       stays x v px was =
@@ -140,18 +140,18 @@ module _ (g : Graph) (inside : ℕ → Bool) (last : ℕ) (m : Marked) (roots en
 
   -- ---- the end
 
-  -- a label of another part
+  -- some label has another root
   other_part : (l : ℕ) → 0 < last → (k : ℕ) × (0 < k) × (k ≤ last) × (get_or roots k 0 ≢ get_or roots l 0)
   other_part l some = elim (cases_eq (get_or roots 1 0) (get_or roots l 0)) [
     | inl e ↦ (s.parted.0, s.parted.1, s.parted.2, λ f. s.parted.3 (f ∙ sym e))
     | inr e ↦ (1, omega arith, some, e)
   ]
 
-  -- a unit of the part of a label
+  -- a unit in the part of a label
   abbrev IsHere : ℕ → ℕ → Type 0
   IsHere label v = (0 < get_or m.labels v 0) × (part m.labels roots v ≡ get_or roots label 0)
 
-  -- where the units of one part have all had their turn, the set is not connected
+  -- if all units of one part have had their turn, the set is not connected
   pub grow_parted : (label : ℕ) → 0 < label → label ≤ last → ((k : ℕ) → k < length m.items → part m.labels roots (get_or m.items k 0) ≡ get_or roots label 0 → k < at)
       → IsConnected g inside → ⊥
   grow_parted label pos le done connected =
@@ -173,7 +173,7 @@ module _ (g : Graph) (inside : ℕ → Bool) (last : ℕ) (m : Marked) (roots en
           let closed = s.closed place.0 below w i (subst (λ t. adjacent g t w ≡ true) (sym place.2) a) in
           (closed.0, closed.1 ∙ ap (λ t. part m.labels roots t) place.2 ∙ here.1)
 
-  -- where every label of one part ends before the place, its units have had their turn
+  -- if all labels of one part end before the position, its units have had their turn
   pub part_done : (label : ℕ) → ((l : ℕ) → 0 < l → l ≤ last → get_or roots l 0 ≡ get_or roots label 0 → get_or ends l 0 ≤ at)
       → (k : ℕ) → k < length m.items → part m.labels roots (get_or m.items k 0) ≡ get_or roots label 0 → k < at
   part_done label done k l same =
@@ -181,7 +181,7 @@ module _ (g : Graph) (inside : ℕ → Bool) (last : ℕ) (m : Marked) (roots en
       let far = done (get_or m.labels v 0) (s.marked.labelled v (at_has m.items k l)) (s.small v) same in
       omega (arith, s.ended k l, far)
 
--- where all labels have one root, any two found units have a path
+-- if all labels have one root, any two units found have a path
 pub joined_all : (g : Graph) (inside : ℕ → Bool) (labels roots : List ℕ) (last : ℕ) → IsJoined g inside labels roots → AllOne roots last → ((v : ℕ) → get_or labels v 0 ≤ last)
     → (v w : ℕ) → 0 < get_or labels v 0 → 0 < get_or labels w 0 → HasPath g inside v w
 joined_all g inside labels roots last joined one small v w pv pw =

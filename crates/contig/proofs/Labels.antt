@@ -1,4 +1,4 @@
--- Labels of units that are the same along edges: each edge costs at most one label that is its own unit's.
+-- Labels of units that are equal along edges: each edge removes at most one root.
 use Rattle.std.proofs.Common.{◌≡◌, ℕ, zero, suc, ◌+◌, ◌<◌, ◌≤◌, Bool, true, false, cond, not, ◌&&◌, List, [], ◌∷◌, refl, sym, ap, ◌∙◌, subst, inl, inr, arith}
 use Rattle.std.specs.Prelude.{◌==◌, ◌⊎◌}
 use Rattle.std.proofs.lemmas.Bool.{and_parts, and_from, cases_Bool, cases_eq, cond-true, cond-false, eq-eqb, eqb-true, ne_eqb, not_from_false, not-true, eqb-false, both_ways, cases_lt}
@@ -10,7 +10,7 @@ use Rattle.audit_model.proofs.Paths.{first_in}
 
 -- ---- counts
 
--- one that also passes x counts more
+-- a test that passes one more number counts more
 pub count_less : (n : ℕ) (p q : ℕ → Bool) (x : ℕ) → x < n → ((k : ℕ) → p k ≡ true → q k ≡ true) → q x ≡ true → p x ≡ false
     → count_below n p + 1 ≤ count_below n q
 count_less n p q x l weaker has-x lacks-x =
@@ -18,7 +18,7 @@ count_less n p q x l weaker has-x lacks-x =
     (not_from_false (k == x) (ne_eqb k x (λ e. both_ways (p x) lacks-x (subst (λ m. p m ≡ true) e h))))) in
     omega (arith, rest, count_below_without n q x l has-x)
 
--- a sum of parts that are no greater, one of them less, is less
+-- a sum with one smaller term, and none greater, is smaller
 pub sum_less : (n : ℕ) (f h : ℕ → ℕ) (k : ℕ) → k < n → ((j : ℕ) → f j ≤ h j) → f k + 1 ≤ h k → sum_below n f + 1 ≤ sum_below n h
 sum_less zero f h k l each less = absurd (omega arith)
 sum_less (suc n) f h k l each less = elim (cases_eq k n) [
@@ -26,7 +26,7 @@ sum_less (suc n) f h k l each less = elim (cases_eq k n) [
   | inr off ↦ omega (arith, sum_less n f h k (omega arith) each less, each n)
 ]
 
--- what is counted is there
+-- a positive count has a number that passes
 pub counted : (n : ℕ) (p : ℕ → Bool) → 0 < count_below n p → (k : ℕ) × (k < n) × (p k ≡ true)
 unfolding count_below
 counted zero p some = absurd (omega arith)
@@ -37,7 +37,7 @@ counted (suc n) p some = elim (cases_Bool (p n)) [
       (before.0, omega (arith, before.1), before.2)
 ]
 
--- where two are counted, there are two
+-- a count of at least two has two numbers that pass
 pub two_counted : (n : ℕ) (p : ℕ → Bool) → 2 ≤ count_below n p
     → (j : ℕ) × (k : ℕ) × (j < n) × (k < n) × (p j ≡ true) × (p k ≡ true) × (j ≡ k → ⊥)
 two_counted n p two =
@@ -49,7 +49,7 @@ two_counted n p two =
 
 -- ---- a set with fewer edges
 
--- one edge less
+-- one edge fewer
 pub edges_less : (g : Graph) (t less : ℕ → ℕ → Bool) (a b : ℕ) → a < b → b < g.units → adjacent g a b ≡ true → t a b ≡ true → less a b ≡ false
     → ((v w : ℕ) → less v w ≡ true → t v w ≡ true) → count_edges g less + 1 ≤ count_edges g t
 edges_less g t less a b ab bound near has-edge lacks-edge weaker =
@@ -67,29 +67,29 @@ edges_less g t less a b ab bound near has-edge lacks-edge weaker =
 
 -- ---- labels
 
--- what has one label before has one label after
+-- equal labels before are equal labels after
 pub Coarser : (ℕ → ℕ) → (ℕ → ℕ) → Type 0
 Coarser old new = (x y : ℕ) → old x ≡ old y → new x ≡ new y
 
--- how many numbers of the set are their own labels
+-- the number of units of the set that are their own labels
 abbrev pub count_roots : ℕ → (ℕ → Bool) → (ℕ → ℕ) → ℕ
 count_roots n set label = count_below n (λ k. set k && (label k == k))
 
--- p's label gives way to q's
+-- the label of p is replaced by that of q
 merged : (ℕ → ℕ) → ℕ → ℕ → ℕ → ℕ
 merged label p q v = cond (label v == label p) (label q) (label v)
 
--- a unit of the one label has the other label after the two are merged
+-- a unit with the replaced label has the other one
 merged_on : (label : ℕ → ℕ) (p q v : ℕ) → label v ≡ label p → merged label p q v ≡ label q
 unfolding merged
 merged_on label p q v e = cond-true {A = ℕ} (label v == label p) (label q) (label v) (eq-eqb (label v) (label p) e)
 
--- a unit of any third label keeps it when two labels are merged
+-- a unit with any third label keeps it
 merged_off : (label : ℕ → ℕ) (p q v : ℕ) → (label v ≡ label p → ⊥) → merged label p q v ≡ label v
 unfolding merged
 merged_off label p q v off = cond-false {A = ℕ} (label v == label p) (label q) (label v) (ne_eqb (label v) (label p) off)
 
--- units of one label have one label after two labels are merged
+-- merging keeps equal labels equal
 merged_coarser : (label : ℕ → ℕ) (p q : ℕ) → Coarser label (merged label p q)
 unfolding Coarser
 merged_coarser label p q x y e = elim (cases_eq (label x) (label p)) [
@@ -97,14 +97,14 @@ merged_coarser label p q x y e = elim (cases_eq (label x) (label p)) [
   | inr off ↦ merged_off label p q x off ∙ e ∙ sym (merged_off label p q y (λ h. off (e ∙ h)))
 ]
 
--- two units have one label after their labels are merged
+-- merging makes both labels equal
 merged_joins : (label : ℕ → ℕ) (p q : ℕ) → merged label p q p ≡ merged label p q q
 merged_joins label p q = merged_on label p q p refl ∙ elim (cases_eq (label q) (label p)) [
   | inl at ↦ sym (merged_on label p q q at)
   | inr off ↦ sym (merged_off label p q q off)
 ]
 
--- at most one root is lost
+-- merging removes at most one root
 merged_roots : (n : ℕ) (set : ℕ → Bool) (label : ℕ → ℕ) (p q : ℕ) → count_roots n set label ≤ count_roots n set (merged label p q) + 1
 merged_roots n set label p q = elim (cases_Bool (here (label p))) [
   | inl yes-h ↦ elim (below_or (label p)) [
@@ -135,7 +135,7 @@ merged_roots n set label p q = elim (cases_Bool (here (label p))) [
         let parts = and_parts (here k) (not (k == label p)) h in
         stays k parts.0 (λ e. both_ways (k == label p) (not-true (k == label p) parts.1) (eq-eqb k (label p) e))
 
--- ---- labels that are the same along the edges that pass a test, where the edge between v and w is at (at v w) and (at w v)
+-- ---- labels that are equal along the edges that pass a test; the edge of v and w is at (at v w) and (at w v)
 
 module _ (at : ℕ → ℕ → ℕ) (n : ℕ) (set : ℕ → Bool) where
   -- the edges from w to smaller units
@@ -192,7 +192,7 @@ module _ (at : ℕ → ℕ → ℕ) (n : ℕ) (set : ℕ → Bool) where
 
 -- ---- labels along paths
 
--- a label that is the same along each edge of a set is the same along a path
+-- labels that are equal along each edge of a set are equal along a path
 pub path_same : (g : Graph) (inside : ℕ → Bool) (label : ℕ → ℕ)
     → ((v w : ℕ) → IsIn g inside v → IsIn g inside w → adjacent g v w ≡ true → label v ≡ label w)
     → (units : List ℕ) (x y : ℕ) → IsPath g inside units x y → label x ≡ label y

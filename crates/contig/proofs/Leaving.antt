@@ -1,4 +1,4 @@
--- A connected district without one unit is connected exactly where that unit's mates are joined within it.
+-- A connected district without one unit is connected exactly if that unit's mates are joined within it.
 use Rattle.std.proofs.Common.{◌≡◌, ℕ, ◌<◌, true, not, List, [], ◌∷◌, refl, sym, ◌∙◌, subst, inl, inr}
 use Rattle.std.specs.Prelude.{◌==◌, ◌⊎◌, slice_index}
 use Rattle.std.proofs.lemmas.Bool.{and_parts, and_from, cases_eq, eq-eqb, both_ways, not-true}
@@ -14,7 +14,7 @@ module _ (g : Graph) (plan : List ℕ) (u : ℕ) (graph : IsGraph g) where
   mate : (v : ℕ) → IsIn g (in_district plan (slice_index plan u)) v → adjacent g u v ≡ true → IsIn g (is_mate g plan u) v
   mate v i a = (i.0, and_from (adjacent g u v) (in_district plan (slice_index plan u) v) a i.1)
 
-  -- on the way to u some mate is reached
+  -- a path to u passes a mate of u
   to_mate : (units : List ℕ) (x : ℕ) → IsPath g (in_district plan (slice_index plan u)) units x u → (x ≡ u → ⊥)
       → (m : ℕ) × IsIn g (is_mate g plan u) m × HasPath g (stays_behind plan u) x m
   to_mate [] x p off = absurd p
@@ -33,7 +33,7 @@ module _ (g : Graph) (plan : List ℕ) (u : ℕ) (graph : IsGraph g) where
         )
   ]
 
-  -- a path to another unit leaves u out, or its last part begins with a mate
+  -- a path to another unit avoids u, or its last part begins with a mate of u
   from_mate : (units : List ℕ) (x y : ℕ) → IsPath g (in_district plan (slice_index plan u)) units x y → (y ≡ u → ⊥)
       → HasPath g (stays_behind plan u) x y ⊎ ((m : ℕ) × IsIn g (is_mate g plan u) m × HasPath g (stays_behind plan u) m y)
   from_mate [] x y p off = absurd p
@@ -72,7 +72,7 @@ module _ (g : Graph) (plan : List ℕ) (u : ℕ) (graph : IsGraph g) where
         starts (w ∷ []) p = is_other w p.2 p.0
         starts (w ∷ t ∷ rest) p = is_other w p.1 p.0
 
-    -- where all mates are joined, u may leave
+    -- if all mates are joined, u may leave
     pub leaves : (m : ℕ) → IsIn g (stays_behind plan u) m
         → ((a b : ℕ) → IsIn g (is_mate g plan u) a → IsIn g (is_mate g plan u) b → HasPath g (stays_behind plan u) a b) → MayLeave g plan u
     leaves m i joined = record {

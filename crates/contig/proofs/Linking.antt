@@ -1,4 +1,4 @@
--- Mates that are beside each other are joined.
+-- Joining adjacent mates.
 use Rattle.std.proofs.Common.{◌≡◌, ℕ, ◌+◌, ◌<◌, ◌≤◌, true, List, [], length, get_or, sym, ap, ◌∙◌, subst, inl, inr, arith}
 use Rattle.std.proofs.lemmas.Bool.{cases_eq}
 use Rattle.audit_model.specs.Graph.{Graph, adjacent, IsIn, IsGraph}

@@ -1,4 +1,4 @@
--- Faces that a program tests and lists.
+-- Testing and listing faces.
 use Rattle.std.proofs.Common.{◌≡◌, ℕ, ◌<◌, Bool, true, false, not, ◌||◌, List, [], ◌∷◌, ◌++◌, refl, sym, ap, ◌∙◌, subst, inl, inr, arith}
 use Rattle.std.specs.Prelude.{◌==◌, nat_lt}
 use Rattle.std.specs.List.{list_any}
@@ -12,7 +12,7 @@ use Rattle.contig.specs.Faces.{is_pair, has_side, IsRing, OwnsSide, AreFaces}
 use Rattle.contig.specs.Listed.{rings, side, own_side}
 use Rattle.contig.specs.Rings.{ring_of, goes_round, differ, follow}
 
--- what is not one way round is not the other
+-- inequality is symmetric
 swapped : (a b : ℕ) → (a == b) ≡ false → (b == a) ≡ false
 swapped a b h = go (b == a) refl
   where
@@ -20,14 +20,14 @@ swapped a b h = go (b == a) refl
     go true e = absurd (both_ways (a == b) h (subst (λ k. (a == k) ≡ true) (sym (eqb-true b a e)) (eq-eqb a a refl)))
     go false e = refl
 
--- a pair of adjacent units is adjacent either way
+-- a pair of adjacent units is adjacent in either order
 pair_near : (g : Graph) (a b x y : ℕ) → IsSimple g → adjacent g a b ≡ true → is_pair a b x y ≡ true → adjacent g x y ≡ true
 pair_near g a b x y simple near h = elim (pair_is a b x y h) [
   | inl e ↦ subst (λ k. adjacent g x k ≡ true) e.1 (subst (λ k. adjacent g k b ≡ true) e.0 near)
   | inr e ↦ subst (λ k. adjacent g x k ≡ true) e.0 (subst (λ k. adjacent g k a ≡ true) e.1 (simple.symmetric b a ∙ near))
 ]
 
--- what passes the test is a ring
+-- a face that passes the test is a ring
 pub goes_round_ring : (g : Graph) (face : Face) → IsSimple g → goes_round g face ≡ true → IsRing g (ring_of face)
 goes_round_ring g (Triangle a b c) simple h =
     let h1 = and_parts (nat_lt a g.units) _ h in
@@ -160,7 +160,7 @@ goes_round_ring g (Pentagon a b c d e) simple h =
 
 -- ---- sides
 
--- a side is the same whichever of its units is named first
+-- the side of two units does not depend on their order
 side_turned : (x y : ℕ) → side x y ≡ side y x
 side_turned x y = elim (cases_order x y) [
   | inl e ↦ subst (λ k. side x k ≡ side k x) e refl
@@ -172,14 +172,14 @@ side_turned x y = elim (cases_order x y) [
   ]
 ]
 
--- the same two units are the same side
+-- pairs of the two units have one side
 pub pair_side : (a b x y : ℕ) → is_pair a b x y ≡ true → side a b ≡ side x y
 pair_side a b x y h = elim (pair_is a b x y h) [
   | inl e ↦ ap (λ k. side k b) e.0 ∙ ap (λ k. side x k) e.1
   | inr e ↦ ap (λ k. side k b) e.0 ∙ ap (λ k. side y k) e.1 ∙ side_turned y x
 ]
 
--- where its sides pass a test, so do those of all pairs on a side
+-- a test that passes the sides of a triangle passes each of its pairs
 pub triangle_sides : (test : ℕ × ℕ → Bool) (a b c : ℕ) → test (side a b) ≡ true → test (side b c) ≡ true → test (side c a) ≡ true
     → (x y : ℕ) → has_side (a ∷ b ∷ c ∷ []) x y ≡ true → test (side x y) ≡ true
 triangle_sides test a b c ab bc ca x y h = elim (or_cases (is_pair a b x y || is_pair b c x y) (is_pair c a x y) h) [
@@ -190,7 +190,7 @@ triangle_sides test a b c ab bc ca x y h = elim (or_cases (is_pair a b x y || is
   | inr f ↦ subst (λ k. test k ≡ true) (pair_side c a x y f) ca
 ]
 
--- what holds of the four sides of a square holds of each pair that follows on it
+-- a test that passes the sides of a square passes each of its pairs
 pub square_sides : (test : ℕ × ℕ → Bool) (a b c d : ℕ) → test (side a b) ≡ true → test (side b c) ≡ true → test (side c d) ≡ true → test (side d a) ≡ true
     → (x y : ℕ) → has_side (a ∷ b ∷ c ∷ d ∷ []) x y ≡ true → test (side x y) ≡ true
 square_sides test a b c d ab bc cd da x y h = elim (or_cases (is_pair a b x y || is_pair b c x y || is_pair c d x y) (is_pair d a x y) h) [
@@ -204,7 +204,7 @@ square_sides test a b c d ab bc cd da x y h = elim (or_cases (is_pair a b x y ||
   | inr f ↦ subst (λ k. test k ≡ true) (pair_side d a x y f) da
 ]
 
--- what holds of the five sides of a pentagon holds of each pair that follows on it
+-- a test that passes the sides of a pentagon passes each of its pairs
 pub pentagon_sides : (test : ℕ × ℕ → Bool) (a b c d e : ℕ) → test (side a b) ≡ true → test (side b c) ≡ true → test (side c d) ≡ true → test (side d e) ≡ true → test (side e a) ≡ true
     → (x y : ℕ) → has_side (a ∷ b ∷ c ∷ d ∷ e ∷ []) x y ≡ true → test (side x y) ≡ true
 pentagon_sides test a b c d e ab bc cd de ea x y h =
@@ -216,21 +216,21 @@ pentagon_sides test a b c d e ab bc cd de ea x y h =
     (λ k. subst (λ t. test t ≡ true) (pair_side e a x y k) ea)
     h
 
--- ---- one face more
+-- ---- one more face
 
--- a face appended to a list is the first of its rings
+-- the ring of an appended face comes first
 pub rings_more : (faces : List Face) (face : Face) → rings (faces ++ face ∷ []) ≡ ring_of face ∷ rings faces
 rings_more [] face = refl
 rings_more (first ∷ faces) face = ap (λ (l : List (List ℕ)). l ++ ring_of first ∷ []) (rings_more faces face)
 
--- a face whose own side is not there owns it
+-- a face whose own side is not in the set owns it
 pub owns : (faces : List (List ℕ)) (there : ℕ × ℕ → Bool) (face : Face) → ((x y : ℕ) → list_any (λ f. has_side f x y) faces ≡ true → there (side x y) ≡ true)
     → there (own_side face) ≡ false → OwnsSide (ring_of face) faces
 owns faces there (Triangle a b c) holds new = false_from_ne_true (list_any (λ f. has_side f a b) faces) (λ h. both_ways (there (side a b)) new (holds a b h))
 owns faces there (Square a b c d) holds new = false_from_ne_true (list_any (λ f. has_side f a b) faces) (λ h. both_ways (there (side a b)) new (holds a b h))
 owns faces there (Pentagon a b c d e) holds new = false_from_ne_true (list_any (λ f. has_side f a b) faces) (λ h. both_ways (there (side a b)) new (holds a b h))
 
--- the sides of one face more are in the set
+-- the sides of one more face are in the set
 pub holds_more : (faces new : List Face) (face : Face) (before after : ℕ × ℕ → Bool) → new ≡ faces ++ face ∷ []
     → ((x y : ℕ) → list_any (λ f. has_side f x y) (rings faces) ≡ true → before (side x y) ≡ true) → ((q : ℕ × ℕ) → before q ≡ true → after q ≡ true)
     → ((x y : ℕ) → has_side (ring_of face) x y ≡ true → after (side x y) ≡ true)
@@ -243,7 +243,7 @@ holds_more faces new face before after e holds kept there x y h =
       | inr f ↦ kept (side x y) (holds x y f)
     ]
 
--- a ring whose own side no face has can be put in front of the faces
+-- a ring whose own side belongs to no face can be added
 pub faces_more : (g : Graph) (faces new : List Face) (face : Face) (there : ℕ × ℕ → Bool) → new ≡ faces ++ face ∷ [] → IsGraph g → goes_round g face ≡ true
     → ((x y : ℕ) → list_any (λ f. has_side f x y) (rings faces) ≡ true → there (side x y) ≡ true) → there (own_side face) ≡ false
     → AreFaces g (rings faces) → AreFaces g (rings new)

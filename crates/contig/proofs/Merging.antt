@@ -1,4 +1,4 @@
--- Classes of neighbours that are merged corner by corner.
+-- Merging classes of neighbors, corner by corner.
 use Rattle.std.proofs.Common.{◌≡◌, ◌≢◌, ℕ, ◌+◌, ◌<◌, ◌≤◌, Bool, true, ◌&&◌, List, [], ◌∷◌, length, get_or, map, take, refl, sym, ap, ◌∙◌, subst, inl, inr, arith}
 use Rattle.std.specs.Prelude.{◌==◌, slice_index, All}
 use Rattle.std.specs.List.{slice_index_or}
@@ -23,12 +23,12 @@ use Rattle.contig.proofs.Counting.{rising_once}
 use Rattle.contig.proofs.Seeing.{corners_share, shared_corner}
 use Rattle.audit_model.specs.Replaced.{Replaced}
 
--- what of classes is kept, where the corners are those of faces
+-- the invariant of the classes, if the corners are those of faces
 abbrev pub Kept : Graph → List ℕ → ℕ → List Corner → List ℕ → List ℕ → Type 0
 Kept g plan u corners old new = (faces : List (List ℕ)) → AreFaces g faces → map (units_of (slice_index_or g.neighbours u [])) corners ≡ corners_at u faces
     → AreClasses g faces plan u old → AreClasses g faces plan u new
 
--- u's neighbours, and its district
+-- the neighbors of u, and its district
 abbrev pub row : Graph → ℕ → List ℕ
 row g u = get_or g.neighbours u []
 
@@ -37,7 +37,7 @@ home plan u = in_district plan (slice_index plan u)
 
 -- ---- one more corner
 
--- one corner more: its two neighbours have one class where it is inside, and those of the corners before it still have
+-- after one more corner, its two neighbors have one class if it is inside, and earlier corners stay merged
 pub merged_step : (g : Graph) (plan : List ℕ) (u : ℕ) (corners : List Corner) (k : ℕ) (d : Corner) (old new : List ℕ) → k < length corners
     → length (row g u) ≤ 32 → All (IsOnRow g (row g u)) corners
     → ((a b : ℕ) → a < 32 → b < 32 → get_or old a 0 ≡ get_or old b 0 → get_or new a 0 ≡ get_or new b 0)
@@ -62,7 +62,7 @@ merged_step g plan u corners k d old new lt few placed coarser here before j e l
           (before j e shorter (subst (λ (c : Corner). is_inner g plan u c ≡ true) (sym in_front) inner_all)))
     ])
 
--- ---- two classes that become one
+-- ---- merging two classes
 
 module _ (old new : List ℕ) (from into : ℕ) (width : length old ≡ 32) (lf : from < 32) (li : into < 32) (replaced : Replaced old new from into) where
   new_at : (k : ℕ) → k < 32 → get_or old k 0 ≡ get_or old from 0 → get_or new k 0 ≡ get_or old into 0
@@ -83,7 +83,7 @@ module _ (old new : List ℕ) (from into : ℕ) (width : length old ≡ 32) (lf 
     | inr f ↦ new_at from lf refl ∙ sym (new_off into li f)
   ]
 
-  -- units that have one class now have paths, where they had before, and those of the two have one between them
+  -- a relation within old classes, and between the two merged ones, holds within new classes
   joined_paths : (P : ℕ → ℕ → Type 0) → ((a b : ℕ) → a < 32 → b < 32 → get_or old a 0 ≡ get_or old b 0 → P a b)
       → ((a b : ℕ) → P a from → P from b → P a b) → ((a b : ℕ) → P a into → P into b → P a b) → P from into → P into from
       → (a b : ℕ) → a < 32 → b < 32 → get_or new a 0 ≡ get_or new b 0 → P a b
@@ -112,7 +112,7 @@ module _ (g : Graph) (plan : List ℕ) (u : ℕ) (sound : IsGraph g) (lu : u < g
       let near : adjacent g u (get_or (row g u) i 0) ≡ true = at_has (row g u) i l in
       (sound.below u (get_or (row g u) i 0) near, and_from (adjacent g u (get_or (row g u) i 0)) (home plan u (get_or (row g u) i 0)) near h)
 
-  -- a link, both ways
+  -- a link is a path in both directions
   linked_path : (x y : ℕ) → IsIn g (is_mate g plan u) x → IsIn g (is_mate g plan u) y → share_face faces (home plan u) u x y ≡ true
       → HasPath (link_graph g faces (home plan u) u) (is_mate g plan u) x y
   linked_path x y ix iy h =
@@ -126,7 +126,7 @@ module _ (g : Graph) (plan : List ℕ) (u : ℕ) (sound : IsGraph g) (lu : u < g
     as_many : length corners ≡ length (corners_at u faces)
     as_many = sym (length-map corners (units_of (row g u))) ∙ ap (length {A = ℕ × ℕ × ℕ × ℕ}) is
 
-    -- the neighbours on an inner corner share a face
+    -- the neighbors on an inner corner share a face
     shares : (k : ℕ) (d : Corner) → k < length corners → is_inner g plan u (get_or corners k d) ≡ true
         → share_face faces (home plan u) u (get_or (row g u) (get_or corners k d).one 0) (get_or (row g u) (get_or corners k d).other 0) ≡ true
     shares k d l inner =
@@ -155,7 +155,7 @@ module _ (g : Graph) (plan : List ℕ) (u : ℕ) (sound : IsGraph g) (lu : u < g
           let path = first la lm ma im in
           joined_from (link_graph g faces (home plan u) u) (is_mate g plan u) path.0 (get_or (row g u) a 0) (get_or (row g u) m 0) (get_or (row g u) b 0) path.1 (then lm lb im mb)
 
-      -- mates of classes that are one now are linked
+      -- mates in one class after the merge are linked
       pub classes_joined : Replaced old new (get_or corners k d).one (get_or corners k d).other → length new ≡ 32 → AreClasses g faces plan u old → AreClasses g faces plan u new
       classes_joined replaced wide s = record {
         width = wide;
@@ -172,7 +172,7 @@ module _ (g : Graph) (plan : List ℕ) (u : ℕ) (sound : IsGraph g) (lu : u < g
     -- ---- all corners
 
     module _ (classes : List ℕ) (merged : AreMerged g plan u corners classes) where
-      -- the class of a neighbour
+      -- some mate has this class
       abbrev Has : ℕ → ℕ → Type 0
       Has class v = (i : ℕ) → i < length (row g u) → get_or (row g u) i 0 ≡ v → get_or classes i 0 ≡ class
 
@@ -212,7 +212,7 @@ module _ (g : Graph) (plan : List ℕ) (u : ℕ) (sound : IsGraph g) (lu : u < g
           off (along (get_or classes i 0) path.0 (get_or (row g u) i 0) (get_or (row g u) j 0) path.1
           (λ k lk e. ap (λ t. get_or classes t 0) (rising_once (row g u) (row_rises g u sound) k i lk li e)) j lj refl)
 
-    -- mates that are all of one class are linked
+    -- mates that are all in one class are linked
     pub all_linked : (classes : List ℕ) (i : ℕ) → AreClasses g faces plan u classes → i < length (row g u) → IsIn g (is_mate g plan u) (get_or (row g u) i 0)
         → ((j : ℕ) → j < length (row g u) → IsIn g (is_mate g plan u) (get_or (row g u) j 0) → get_or classes j 0 ≡ get_or classes i 0) → AreLinked g faces plan u
     all_linked classes i s li mi one = record {
@@ -227,7 +227,7 @@ module _ (g : Graph) (plan : List ℕ) (u : ℕ) (sound : IsGraph g) (lu : u < g
           (s.linked px.0 py.0 px.1 py.1 mx my (one px.0 px.1 mx ∙ sym (one py.0 py.1 my))));
     }
 
-  -- each neighbour is of its own class
+  -- at first, each neighbor has its own class
   pub own_classes : (classes : List ℕ) → length (row g u) ≤ 32 → classes ≡ map_below 32 (λ k. k) → AreClasses g faces plan u classes
   own_classes classes few is = record {
     width = ap (length {A = ℕ}) is;

@@ -1,4 +1,5 @@
--- A unit of a set is split into two, one for the mates of one class: labels that are the same along the edges differ at the two.
+-- A unit of a set is split into two copies, one for the mates of one class. Labels equal along the edges differ at the
+-- copies.
 use Rattle.std.proofs.Common.{◌≡◌, ℕ, suc, ◌+◌, ◌<◌, ◌≤◌, Bool, true, false, cond, not, ◌&&◌, ◌||◌, List, [], ◌∷◌, refl, sym, ap, ◌∙◌, subst, inl, inr, arith}
 use Rattle.std.specs.Prelude.{◌==◌, slice_index}
 use Rattle.std.specs.List.{list_any, list_all}
@@ -15,7 +16,7 @@ use Rattle.contig.proofs.Rings.{pair_same, pair_is, pair_turned, side_at, side_t
 use Rattle.contig.specs.Faces.{is_pair, has_side, IsRing, AreFaces, count_units, count_inner_edges, count_inner_faces, IsClassing}
 
 module _ (g : Graph) (simple : IsSimple g) (inside : ℕ → Bool) (u : ℕ) (class : ℕ → ℕ) (x : ℕ) where
-  -- the copy of v at its edge to w: of u there are two, and the second is beside the mates of x's class
+  -- the copy of v at its edge to w; u has two copies, and the second one is adjacent to mates of x's class
   copy : ℕ → ℕ → ℕ
   copy v w = cond ((v == u) && (class w == class x)) g.units v
 
@@ -39,7 +40,7 @@ module _ (g : Graph) (simple : IsSimple g) (inside : ℕ → Bool) (u : ℕ) (cl
     | inr off ↦ copy_off v p off ∙ sym (copy_off v q off)
   ]
 
-  -- the units of the set, and the second copy
+  -- the units of the set, and the second copy of u
   doubled : ℕ → Bool
   doubled k = (k == g.units) || inside k
 
@@ -51,7 +52,7 @@ module _ (g : Graph) (simple : IsSimple g) (inside : ℕ → Bool) (u : ℕ) (cl
     cond-true {A = ℕ} (doubled g.units) 1 0 (or_left (g.units == g.units) (inside g.units) (eq-eqb g.units g.units refl)),
   )
 
-  -- the label is the same along the edges that pass the test
+  -- the labels are equal along the edges that pass the test
   IsEven : (ℕ → ℕ) → (ℕ → ℕ → Bool) → Type 0
   IsEven label t = (v w : ℕ) → v < g.units → w < g.units → adjacent g v w ≡ true → t v w ≡ true → label (copy v w) ≡ label (copy w v)
 
@@ -129,9 +130,9 @@ module _ (g : Graph) (simple : IsSimple g) (inside : ℕ → Bool) (u : ℕ) (cl
       weaker : (v w : ℕ) → without t a b v w ≡ true → t v w ≡ true
       weaker v w h = (and_parts (t v w) (not (is_pair a b v w)) h).0
 
-  -- ---- faces, one after the other
+  -- ---- faces, one after another
 
-  -- a label without a face's own side serves with it
+  -- a label that is even without a face's own side is even with it
   with_own : (t : ℕ → ℕ → Bool) (a b : ℕ) (rest : List ℕ) (label : ℕ → ℕ) → IsRing g (a ∷ b ∷ rest)
       → ((v w : ℕ) → has_side (a ∷ b ∷ rest) v w ≡ true → t v w ≡ true)
       → ((p q : ℕ) → has_side (a ∷ b ∷ rest) u p ≡ true → has_side (a ∷ b ∷ rest) u q ≡ true → class p ≡ class q)
@@ -209,7 +210,7 @@ module _ (g : Graph) (simple : IsSimple g) (inside : ℕ → Bool) (u : ℕ) (cl
   )
 
   module _ (connected : IsConnected g inside) (in_set : IsIn g inside u) (label : ℕ → ℕ) (even : IsEven label both_inside) where
-    -- where the two copies have one label, so have all units
+    -- if both copies have one label, so have all units
     all_one : label g.units ≡ label u → (k : ℕ) → k < suc g.units → doubled k ≡ true → label k ≡ label u
     unfolding IsEven both_inside doubled
     all_one same k l h = elim (cases_eq k g.units) [
@@ -232,7 +233,7 @@ module _ (g : Graph) (simple : IsSimple g) (inside : ℕ → Bool) (u : ℕ) (cl
         step : (v w : ℕ) → IsIn g inside v → IsIn g inside w → adjacent g v w ≡ true → label v ≡ label w
         step v w iv iw near = sym (plain v w) ∙ even v w iv.0 iw.0 near (and_from (inside v) (inside w) iv.1 iw.1) ∙ plain w v
 
-    -- where two mates of different classes have a path without u, the two copies have one label
+    -- if two mates of different classes have a path without u, both copies have one label
     path_joins : (y : ℕ) → IsIn g inside x → adjacent g u x ≡ true → IsIn g inside y → adjacent g u y ≡ true → (class x ≡ class y → ⊥)
         → HasPath g (λ v. inside v && not (v == u)) x y → label g.units ≡ label u
     unfolding IsEven both_inside
@@ -266,7 +267,7 @@ module _ (g : Graph) (simple : IsSimple g) (inside : ℕ → Bool) (u : ℕ) (cl
       apart (sym (eqb-true (label j) j parts_j.1) ∙ all_one connected in_set label even same j lj parts_j.0
       ∙ sym (all_one connected in_set label even same k lk parts_k.0) ∙ eqb-true (label k) k parts_k.1)
 
--- the same of a district
+-- two mates of different classes have no path in their district without u
 pub district_parts : (g : Graph) (faces : List (List ℕ)) (plan : List ℕ) (u x y : ℕ) (class : ℕ → ℕ) → IsSimple g → AreFaces g faces → u < g.units
     → IsConnected g (in_district plan (slice_index plan u))
     → count_inner_edges g (in_district plan (slice_index plan u)) + 1

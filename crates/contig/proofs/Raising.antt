@@ -1,4 +1,4 @@
--- How the counts of districts change where a unit comes or goes.
+-- The change of district counts when a unit comes or goes.
 use Rattle.std.proofs.Common.{◌≡◌, ℕ, zero, suc, ◌+◌, ◌-◌, ◌<◌, Bool, true, false, cond, not, ◌&&◌, List, [], ◌∷◌, length, get_or, set, replicate, refl, sym, ap, ◌∙◌, subst, inl, inr, arith, length-set, get_or-set_same, get_or-set_other}
 use Rattle.std.specs.Prelude.{◌==◌, nat_lt, count_by}
 use Rattle.std.specs.List.{list_all}
@@ -14,7 +14,7 @@ use Rattle.contig.specs.Counts.{Counted, filled_of, AreCountsOf, is_before}
 use Rattle.contig.proofs.Changing.{edges_alike, filled_alike, edges_more, filled_more}
 
 module _ (g : Graph) (sound : IsGraph g) (faces : List (List ℕ)) (are : AreFaces g faces) where
-  -- the counts of sets that are the same
+  -- equal sets have equal counts
   pub counts_alike : (p q : ℕ → ℕ → Bool) (n : ℕ) (counted : Counted) → ((x v : ℕ) → v < g.units → p x v ≡ q x v) → AreCountsOf g faces p n counted → AreCountsOf g faces q n counted
   counts_alike p q n counted same s = record {
     edge_places = s.edge_places;
@@ -112,7 +112,7 @@ module _ (g : Graph) (sound : IsGraph g) (faces : List (List ℕ)) (are : AreFac
   sum_none zero f none = refl
   sum_none (suc n) f none = omega (arith, sum_none n f none, none n)
 
-  -- before all units
+  -- before the first unit
   pub none_counted : (p : ℕ → ℕ → Bool) (n : ℕ) (counted : Counted) → ((x v : ℕ) → p x v ≡ false) → length counted.edges ≡ n → length counted.filled ≡ n
       → ((d : ℕ) → get_or counted.edges d 0 ≡ 0) → ((d : ℕ) → get_or counted.filled d 0 ≡ 0) → AreCountsOf g faces p n counted
   none_counted p n counted none le lf ze zf = record {
@@ -125,15 +125,15 @@ module _ (g : Graph) (sound : IsGraph g) (faces : List (List ℕ)) (are : AreFac
 
 -- ---- the sets of a plan
 
--- no unit stands before the first
+-- no unit is before the first one
 pub before_none : (plan : List ℕ) (x v : ℕ) → is_before plan 0 x v ≡ false
 before_none plan x v = and_right (in_district plan x v) (nat_lt v 0) (false_from_ne_true (nat_lt v 0) (λ h. let l = ltb-true v 0 h in omega (arith, l)))
 
--- a unit before the end is in the part so far exactly where it is in the district
+-- a unit below the end is counted exactly if it is in the district
 pub before_all : (plan : List ℕ) (end x v : ℕ) → v < end → is_before plan end x v ≡ in_district plan x v
 before_all plan end x v l = and_true (in_district plan x v) (nat_lt v end) (lt-ltb v end l)
 
--- a unit is in the part of its own district up to it
+-- a unit is counted in its own district, up to itself
 pub before_here : (plan : List ℕ) (u : ℕ) → is_before plan (u + 1) (get_or plan u 0) u ≡ true
 before_here plan u = and_from (in_district plan (get_or plan u 0) u) (nat_lt u (u + 1)) (eq-eqb (get_or plan u 0) (get_or plan u 0) refl) (lt-ltb u (u + 1) (omega arith))
 
@@ -145,7 +145,7 @@ before_itself plan u x = and_right (in_district plan x u) (nat_lt u u) (false_fr
 other_district : (plan : List ℕ) (u x : ℕ) → (x ≡ get_or plan u 0 → ⊥) → in_district plan x u ≡ false
 other_district plan u x off = ne_eqb (get_or plan u 0) x (λ e. off (sym e))
 
--- the part up to a unit is the part before it, but for the unit itself in its own district
+-- up to a unit, only the unit itself is added, in its own district
 pub before_next : (plan : List ℕ) (u x v : ℕ) → ((x ≡ get_or plan u 0) → (v ≡ u) → ⊥) → is_before plan (u + 1) x v ≡ is_before plan u x v
 before_next plan u x v other = elim (cases_eq v u) [
   | inl e ↦
@@ -165,15 +165,15 @@ before_next plan u x v other = elim (cases_eq v u) [
 abbrev pub between : List ℕ → ℕ → ℕ → ℕ → Bool
 between plan u x v = in_district plan x v && not (v == u)
 
--- between two districts the unit that moves is in none
+-- during the move, the unit is in no district
 pub between_itself : (plan : List ℕ) (u x : ℕ) → between plan u x u ≡ false
 between_itself plan u x = and_right (in_district plan x u) (not (u == u)) (not_from_true (u == u) (eq-eqb u u refl))
 
--- every other unit is then where it was
+-- during the move, each other unit is where it was
 between_other : (plan : List ℕ) (u x v : ℕ) → (v ≡ u → ⊥) → between plan u x v ≡ in_district plan x v
 between_other plan u x v off = and_true (in_district plan x v) (not (v == u)) (not_from_false (v == u) (ne_eqb v u off))
 
--- leaving its district changes nothing but the unit itself in that district
+-- leaving a district changes only the unit's own place
 pub left_out : (plan : List ℕ) (u x v : ℕ) → ((x ≡ get_or plan u 0) → (v ≡ u) → ⊥) → between plan u x v ≡ in_district plan x v
 left_out plan u x v other = elim (cases_eq v u) [
   | inl e ↦
@@ -182,7 +182,7 @@ left_out plan u x v other = elim (cases_eq v u) [
   | inr off ↦ between_other plan u x v off
 ]
 
--- joining a district changes nothing but the unit itself in that district
+-- joining a district changes only the unit's own place
 pub put_in : (plan : List ℕ) (u d x v : ℕ) → u < length plan → ((x ≡ d) → (v ≡ u) → ⊥) → in_district (set plan u d) x v ≡ between plan u x v
 put_in plan u d x v l other = elim (cases_eq v u) [
   | inl e ↦
@@ -191,15 +191,15 @@ put_in plan u d x v l other = elim (cases_eq v u) [
   | inr off ↦ ap (λ t. t == x) (get_or-set_other plan u v d 0 off) ∙ sym (between_other plan u x v off)
 ]
 
--- a unit that is put into a district is in it
+-- after the move, the unit is in its new district
 pub put_there : (plan : List ℕ) (u d : ℕ) → u < length plan → in_district (set plan u d) d u ≡ true
 put_there plan u d l = eq-eqb (get_or (set plan u d) u 0) d (get_or-set_same plan u d 0 l)
 
--- for every other unit the two tests agree
+-- for each other unit, the tests agree
 pub tests_between : (plan : List ℕ) (u x v : ℕ) → (v ≡ u → ⊥) → in_district plan x v ≡ between plan u x v
 tests_between plan u x v off = sym (between_other plan u x v off)
 
--- a list of zeros has a zero at each place
+-- each item of a list of zeros is zero
 pub zeros_at : (n d : ℕ) → get_or (replicate {A = ℕ} n 0) d 0 ≡ 0
 zeros_at zero d = refl
 zeros_at (suc n) zero = refl

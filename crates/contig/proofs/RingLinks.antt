@@ -1,4 +1,4 @@
--- Mates that are linked through faces have paths round the unit.
+-- Mates that are linked through faces have paths around the unit.
 use Rattle.std.proofs.Common.{◌≡◌, ℕ, ◌+◌, ◌<◌, ◌≤◌, Bool, true, false, cond, not, ◌&&◌, List, [], ◌∷◌, ◌++◌, refl, sym, ap, ◌∙◌, subst, inl, inr, arith}
 use Rattle.std.specs.Prelude.{◌==◌, slice_index}
 use Rattle.std.specs.List.{list_all}
@@ -18,7 +18,7 @@ use Rattle.contig.specs.Faces.{has_side, IsRing, AreFaces, share_face, IsClassin
 
 -- ---- links
 
--- what shares a face does so on some ring
+-- sharing a face means sharing some ring
 pub share_ring : (g : Graph) (inside : ℕ → Bool) (u p q : ℕ) (faces : List (List ℕ)) → AreFaces g faces → share_face faces inside u p q ≡ true
     → (ring : List ℕ) × IsRing g ring × (list_all inside ring ≡ true) × (has_side ring u p ≡ true) × (has_side ring u q ≡ true)
 share_ring g inside u p q [] are h = absurd (both_ways false refl h)
@@ -31,7 +31,7 @@ share_ring g inside u p q (face ∷ later) are h =
       | inr e ↦ share_ring g inside u p q later are.2 e
     ]
 
--- two units share a face whichever of them is named first
+-- sharing a face is symmetric
 pub share_turned : (inside : ℕ → Bool) (u p q : ℕ) (faces : List (List ℕ)) → share_face faces inside u p q ≡ true → share_face faces inside u q p ≡ true
 share_turned inside u p q [] h = absurd (both_ways false refl h)
 share_turned inside u p q (face ∷ later) h =
@@ -54,13 +54,13 @@ module _ (g : Graph) (faces : List (List ℕ)) (inside : ℕ → Bool) (u : ℕ)
   pub near_link : (v w : ℕ) → v < g.units → adjacent (link_graph g faces inside u) v w ≡ true → share_face faces inside u v w ≡ true
   near_link v w lv h = (has-filter_below g.units (λ w. share_face faces inside u v w) w (sym (row_is v w lv) ∙ h)).1
 
--- ---- where there is no hole, a unit that may leave has linked mates
+-- ---- without holes, the mates of a unit that may leave are linked
 
 module _ (g : Graph) (faces : List (List ℕ)) (plan : List ℕ) (u : ℕ) (simple : IsSimple g) (are : AreFaces g faces) where
   district : ℕ → Bool
   district = in_district plan (slice_index plan u)
 
-  -- who shares a face is a mate
+  -- units that share a face at u are mates of u
   pub shares_mate : (p q : ℕ) → share_face faces (in_district plan (slice_index plan u)) u p q ≡ true → IsIn g (is_mate g plan u) p
   shares_mate p q h =
       let (ring, is_ring, inner, up, uq) = share_ring g (in_district plan (slice_index plan u)) u p q faces are h in
@@ -117,7 +117,7 @@ module _ (g : Graph) (faces : List (List ℕ)) (plan : List ℕ) (u : ℕ) (simp
     unfolding found
     found_path y f = reached_has_path (link_graph g faces (in_district plan (slice_index plan u)) u) (is_mate g plan u) x y f
 
-  -- a path that goes on from u goes to a mate
+  -- a path that continues from u continues to a mate
   first_mate : (units : List ℕ) (w : ℕ) → IsPath g (in_district plan (slice_index plan u)) units u w → (w ≡ u → ⊥) → (v : ℕ) × IsIn g (is_mate g plan u) v
   first_mate [] w p off = absurd p
   first_mate (t ∷ []) w p off = absurd (off (sym p.1 ∙ p.0))

@@ -1,4 +1,4 @@
--- Sides of rings, and a way round a ring that leaves its own side out.
+-- Sides of rings, and a path around a ring that avoids its own side.
 use Rattle.std.proofs.Common.{◌≡◌, ℕ, ◌≤◌, Bool, true, false, ◌&&◌, ◌||◌, List, [], ◌∷◌, length, refl, sym, ap, ◌∙◌, subst, inl, inr, arith}
 use Rattle.std.specs.Prelude.{◌==◌, ◌⊎◌}
 use Rattle.std.proofs.lemmas.Bool.{and_parts, and_from, or_cases, or_left, or_right, eq-eqb, eqb-true, false≢true, false_from_ne_true}
@@ -10,7 +10,7 @@ use Rattle.contig.specs.Faces.{is_pair, has_side}
 
 -- ---- one of five
 
--- what follows from each of five cases follows from any
+-- case analysis of a disjunction of five
 pub by_five : (P : Type 0) (p q r s t : Bool) → (p ≡ true → P) → (q ≡ true → P) → (r ≡ true → P) → (s ≡ true → P) → (t ≡ true → P) → (p || q || r || s || t) ≡ true → P
 by_five P true q r s t f1 f2 f3 f4 f5 h = f1 refl
 by_five P false true r s t f1 f2 f3 f4 f5 h = f2 refl
@@ -19,27 +19,27 @@ by_five P false false false true t f1 f2 f3 f4 f5 h = f4 refl
 by_five P false false false false true f1 f2 f3 f4 f5 h = f5 refl
 by_five P false false false false false f1 f2 f3 f4 f5 h = absurd (false≢true h)
 
--- each part of five gives the whole
+-- the first of five implies the disjunction
 pub five_1 : (p q r s t : Bool) → p ≡ true → (p || q || r || s || t) ≡ true
 five_1 p q r s t h = or_left (p || q || r || s) t (in_1 p q r s h)
 
--- the second part of five gives the whole
+-- the second of five implies the disjunction
 pub five_2 : (p q r s t : Bool) → q ≡ true → (p || q || r || s || t) ≡ true
 five_2 p q r s t h = or_left (p || q || r || s) t (in_2 p q r s h)
 
--- the third part of five gives the whole
+-- the third of five implies the disjunction
 pub five_3 : (p q r s t : Bool) → r ≡ true → (p || q || r || s || t) ≡ true
 five_3 p q r s t h = or_left (p || q || r || s) t (in_3 p q r s h)
 
--- the fourth part of five gives the whole
+-- the fourth of five implies the disjunction
 pub five_4 : (p q r s t : Bool) → s ≡ true → (p || q || r || s || t) ≡ true
 five_4 p q r s t h = or_left (p || q || r || s) t (in_4 p q r s h)
 
--- the fifth part of five gives the whole
+-- the fifth of five implies the disjunction
 pub five_5 : (p q r s t : Bool) → t ≡ true → (p || q || r || s || t) ≡ true
 five_5 p q r s t h = or_right (p || q || r || s) t h
 
--- what follows for each of five units follows for any of a list of them
+-- case analysis of a member of a list of five
 pub unit_of_five : (P : Type 0) (a b c d e v : ℕ) → (a ≡ v → P) → (b ≡ v → P) → (c ≡ v → P) → (d ≡ v → P) → (e ≡ v → P) → has (a ∷ b ∷ c ∷ d ∷ e ∷ []) v ≡ true → P
 unit_of_five P a b c d e v f1 f2 f3 f4 f5 h = elim (or_cases (a == v) (has (b ∷ c ∷ d ∷ e ∷ []) v) h) [
   | inl k ↦ f1 (eqb-true a v k)
@@ -55,35 +55,35 @@ unit_of_five P a b c d e v f1 f2 f3 f4 f5 h = elim (or_cases (a == v) (has (b �
   ]
 ]
 
--- a list has its fifth number
+-- the fifth item of a list is a member
 pub has_5 : (a b c d e : ℕ) (xs : List ℕ) → has (a ∷ b ∷ c ∷ d ∷ e ∷ xs) e ≡ true
 has_5 a b c d e xs = or_right (a == e) (has (b ∷ c ∷ d ∷ e ∷ xs) e) (has_4 b c d e xs)
 
 -- ---- pairs
 
--- one or the other is the other or the one
+-- disjunction is commutative
 or_comm : (a b : Bool) → (a || b) ≡ true → (b || a) ≡ true
 or_comm a b h = elim (or_cases a b h) [
   | inl e ↦ or_right b a e
   | inr e ↦ or_left b a e
 ]
 
--- two units are the pair that they are
+-- two units are their own pair
 pub pair_same : (a b : ℕ) → is_pair a b a b ≡ true
 pair_same a b = or_left ((a == a) && (b == b)) ((a == b) && (b == a)) (and_from (a == a) (b == b) (eq-eqb a a refl) (eq-eqb b b refl))
 
--- a pair of units is the same in either order
+-- a pair is a pair in either order
 pub pair_turned : (a b x y : ℕ) → is_pair a b x y ≡ true → is_pair a b y x ≡ true
 pair_turned a b x y h = or_comm ((a == x) && (b == y)) ((a == y) && (b == x)) h
 
--- a pair has these units in one order or in the other
+-- a pair has these units, in one order or the other
 pub pair_is : (a b x y : ℕ) → is_pair a b x y ≡ true → ((a ≡ x) × (b ≡ y)) ⊎ ((a ≡ y) × (b ≡ x))
 pair_is a b x y h = elim (or_cases ((a == x) && (b == y)) ((a == y) && (b == x)) h) [
   | inl e ↦ let p = and_parts (a == x) (b == y) e in inl (eqb-true a x p.0, eqb-true b y p.1)
   | inr e ↦ let p = and_parts (a == y) (b == x) e in inr (eqb-true a y p.0, eqb-true b x p.1)
 ]
 
--- units that are a pair in neither order are no pair
+-- units that match in neither order are no pair
 pub not_pair : (a b x y : ℕ) → ((a ≡ x) → (b ≡ y) → ⊥) → ((a ≡ y) → (b ≡ x) → ⊥) → is_pair a b x y ≡ false
 not_pair a b x y straight turned = false_from_ne_true (is_pair a b x y) (λ h. elim (pair_is a b x y h) [
   | inl e ↦ straight e.0 e.1
@@ -92,14 +92,14 @@ not_pair a b x y straight turned = false_from_ne_true (is_pair a b x y) (λ h. e
 
 -- ---- sides
 
--- what follows from each of two cases follows from either
+-- a disjunction is monotone
 or_map : (a b c d : Bool) → (a ≡ true → c ≡ true) → (b ≡ true → d ≡ true) → (a || b) ≡ true → (c || d) ≡ true
 or_map a b c d f k h = elim (or_cases a b h) [
   | inl e ↦ or_left c d (f e)
   | inr e ↦ or_right c d (k e)
 ]
 
--- a side of a ring is one in either direction
+-- the sides of a ring are symmetric
 pub side_turned : (ring : List ℕ) (x y : ℕ) → has_side ring x y ≡ true → has_side ring y x ≡ true
 side_turned [] x y h = absurd (false≢true h)
 side_turned (a ∷ []) x y h = absurd (false≢true h)
@@ -123,7 +123,7 @@ side_turned (a ∷ b ∷ c ∷ d ∷ e ∷ []) x y h =
     h
 side_turned (a ∷ b ∷ c ∷ d ∷ e ∷ f ∷ rest) x y h = absurd (false≢true h)
 
--- a side that is a and b in either order is the side from a to b
+-- a side that is the pair of a and b is the side from a to b
 pub side_at : (ring : List ℕ) (a b x y : ℕ) → is_pair a b x y ≡ true → has_side ring x y ≡ true → has_side ring a b ≡ true
 side_at ring a b x y pair h = elim (pair_is a b x y pair) [
   | inl e ↦ subst (λ w. has_side ring a w ≡ true) (sym e.1) (subst (λ v. has_side ring v y ≡ true) (sym e.0) h)
@@ -138,7 +138,7 @@ own_side a b (c ∷ d ∷ []) size = in_1 (is_pair a b a b) (is_pair b c a b) (i
 own_side a b (c ∷ d ∷ e ∷ []) size = five_1 (is_pair a b a b) (is_pair b c a b) (is_pair c d a b) (is_pair d e a b) (is_pair e a a b) (pair_same a b)
 own_side a b (c ∷ d ∷ e ∷ f ∷ rest) size = absurd (omega (arith, size.1))
 
--- a label that is the same along each other side, and of the two edges at each corner, is the same along a ring's own side
+-- a label that is equal along all other sides, and at both edges of each corner, is equal along the own side
 pub round : (at : ℕ → ℕ → ℕ) (label : ℕ → ℕ) (a b : ℕ) (rest : List ℕ) → AllApart (a ∷ b ∷ rest) → has_side (a ∷ b ∷ rest) a b ≡ true
     → ((x y : ℕ) → has_side (a ∷ b ∷ rest) x y ≡ true → is_pair a b x y ≡ false → label (at x y) ≡ label (at y x))
     → ((v x y : ℕ) → has_side (a ∷ b ∷ rest) v x ≡ true → has_side (a ∷ b ∷ rest) v y ≡ true → at v x ≡ at v y)
@@ -232,14 +232,14 @@ round at label a b (c ∷ d ∷ e ∷ f ∷ rest) apart own edge corner = absurd
 
 -- ---- the units of a ring
 
--- both units of a pair of a ring are on the ring
+-- both units of a pair from a ring are on the ring
 pair_in : (ring : List ℕ) (a b x y : ℕ) → has ring a ≡ true → has ring b ≡ true → is_pair a b x y ≡ true → has ring x ≡ true
 pair_in ring a b x y has-a has-b h = elim (pair_is a b x y h) [
   | inl e ↦ subst (λ k. has ring k ≡ true) e.0 has-a
   | inr e ↦ subst (λ k. has ring k ≡ true) e.1 has-b
 ]
 
--- a side's ends are units of the ring
+-- the units of a side are on the ring
 pub side_in : (ring : List ℕ) (x y : ℕ) → has_side ring x y ≡ true → has ring x ≡ true
 side_in [] x y h = absurd (false≢true h)
 side_in (a ∷ []) x y h = absurd (false≢true h)

@@ -1,4 +1,4 @@
--- The mates of a unit are marked one after another.
+-- Marking the mates of a unit one after another.
 use Rattle.std.proofs.Common.{◌≡◌, ℕ, ◌+◌, ◌<◌, true, List, [], ◌∷◌, ◌++◌, length, get_or, set, take, refl, sym, ap, ◌∙◌, subst, inl, inr, arith, get_or-set_same, get_or-set_other, length-append}
 use Rattle.std.proofs.lemmas.Bool.{cases_eq, false≢true}
 use Rattle.std.proofs.lemmas.List.{get_or-take, length-take-le, get_or_append_left, get_or_push}
@@ -10,7 +10,7 @@ use Rattle.dual_graph.proofs.Marking.{is_zero}
 use Rattle.dual_graph.specs.Marked.{Marked, IsMarked}
 use Rattle.contig.proofs.Between.{IsSeeding}
 
--- a number of a rising list is not among those before it
+-- an item of a rising list is not among those before it
 pub not_before : (xs : List ℕ) (k : ℕ) → ((j : ℕ) → j + 1 < length xs → get_or xs j 0 < get_or xs (j + 1) 0) → k < length xs → has (take k xs) (get_or xs k 0) ≡ true → ⊥
 not_before xs k rising b h =
     let found = has_at (take k xs) (get_or xs k 0) h in
@@ -36,7 +36,7 @@ module _ (g : Graph) (plan : List ℕ) (u : ℕ) where
       no_label v = is_zero (get_or m.labels v 0) (λ p. false≢true (subst (λ (xs : List ℕ). has xs v ≡ true) none (marked.listed v p)))
 
   module _ (row : List ℕ) (last : ℕ) (m : Marked) (v : ℕ) (s : IsSeeding g plan u row last m) where
-    -- one more of the row, which is no mate
+    -- the next neighbor is not a mate
     pub seeding_passed : (IsIn g (is_mate g plan u) v → ⊥) → IsSeeding g plan u (row ++ v ∷ []) last m
     seeding_passed other = record {
       units = s.units;
@@ -53,7 +53,7 @@ module _ (g : Graph) (plan : List ℕ) (u : ℕ) where
       order = s.order;
     }
 
-    -- one more of the row, which is a mate
+    -- the next neighbor is a mate, and has no label yet
     pub not_labelled : (has row v ≡ true → ⊥) → get_or m.labels v 0 ≡ 0
     not_labelled fresh = is_zero (get_or m.labels v 0) (λ p. fresh (s.mates v p).1)
 

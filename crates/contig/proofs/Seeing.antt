@@ -1,4 +1,4 @@
--- What the corners at a unit say of its faces.
+-- The corners at a unit describe its faces.
 use Rattle.std.proofs.Common.{◌≡◌, ℕ, ◌+◌, ◌<◌, ◌≤◌, Bool, true, false, cond, ◌&&◌, ◌||◌, List, [], ◌∷◌, ◌++◌, length, get_or, refl, sym, ap, ◌∙◌, subst, inl, inr, arith}
 use Rattle.std.specs.Prelude.{◌==◌, ◌⊎◌, All, count_by}
 use Rattle.std.specs.List.{list_all}
@@ -28,7 +28,7 @@ pub record IsCornerOf (ring : List ℕ) (u : ℕ) (t : ℕ × ℕ × ℕ × ℕ)
   pub ends : (x : ℕ) → has_side ring u x ≡ true → (x ≡ t.0) ⊎ (x ≡ t.1)
   pub off : (t.0 ≡ u → ⊥) × (t.1 ≡ u → ⊥) × (t.2 ≡ u → ⊥) × (t.3 ≡ u → ⊥)
 
--- one of three holds whichever of them is named first
+-- a disjunction of three, rotated
 round3 : (p q r : Bool) → (p || (q || (r || false))) ≡ true → (q || (r || (p || false))) ≡ true
 round3 true true r h = refl
 round3 true false true h = refl
@@ -37,7 +37,7 @@ round3 false true r h = refl
 round3 false false true h = refl
 round3 false false false h = absurd (false≢true h)
 
--- one of four holds whichever of them is named first
+-- a disjunction of four, rotated
 round4 : (p q r s : Bool) → (p || (q || (r || (s || false)))) ≡ true → (q || (r || (s || (p || false)))) ≡ true
 round4 true true r s h = refl
 round4 true false true s h = refl
@@ -48,15 +48,15 @@ round4 false false true s h = refl
 round4 false false false true h = refl
 round4 false false false false h = absurd (false≢true h)
 
--- a triangle from its second unit on has the same units
+-- rotating a triangle keeps its units
 has3 : (a b c v : ℕ) → has (a ∷ b ∷ c ∷ []) v ≡ true → has (b ∷ c ∷ a ∷ []) v ≡ true
 has3 a b c v h = round3 (a == v) (b == v) (c == v) h
 
--- a square from its second unit on has the same units
+-- rotating a square keeps its units
 has4 : (a b c d v : ℕ) → has (a ∷ b ∷ c ∷ d ∷ []) v ≡ true → has (b ∷ c ∷ d ∷ a ∷ []) v ≡ true
 has4 a b c d v h = round4 (a == v) (b == v) (c == v) (d == v) h
 
--- a corner of a triangle from its second unit on is one of the triangle
+-- rotating a triangle keeps its corners
 turned3 : (a b c u : ℕ) (t : ℕ × ℕ × ℕ × ℕ) → IsCornerOf (b ∷ c ∷ a ∷ []) u t → IsCornerOf (a ∷ b ∷ c ∷ []) u t
 turned3 a b c u t s = record {
   own = back u s.own;
@@ -74,7 +74,7 @@ turned3 a b c u t s = record {
     side : (x : ℕ) → has_side (b ∷ c ∷ a ∷ []) u x ≡ true → has_side (a ∷ b ∷ c ∷ []) u x ≡ true
     side x h = turn_three c a b u x (turn_three b c a u x h)
 
--- a corner of a square from its second unit on is one of the square
+-- rotating a square keeps its corners
 turned4 : (a b c d u : ℕ) (t : ℕ × ℕ × ℕ × ℕ) → IsCornerOf (b ∷ c ∷ d ∷ a ∷ []) u t → IsCornerOf (a ∷ b ∷ c ∷ d ∷ []) u t
 turned4 a b c d u t s = record {
   own = back u s.own;
@@ -92,7 +92,7 @@ turned4 a b c d u t s = record {
     side : (x : ℕ) → has_side (b ∷ c ∷ d ∷ a ∷ []) u x ≡ true → has_side (a ∷ b ∷ c ∷ d ∷ []) u x ≡ true
     side x h = turn_four d a b c u x (turn_four c d a b u x (turn_four b c d a u x h))
 
--- a pentagon from its second unit on has the same units
+-- rotating a pentagon keeps its units
 has5 : (a b c d e v : ℕ) → has (a ∷ b ∷ c ∷ d ∷ e ∷ []) v ≡ true → has (b ∷ c ∷ d ∷ e ∷ a ∷ []) v ≡ true
 has5 a b c d e v h = unit_of_five (has (b ∷ c ∷ d ∷ e ∷ a ∷ []) v ≡ true) a b c d e v
     (λ k. subst (λ t. has (b ∷ c ∷ d ∷ e ∷ a ∷ []) t ≡ true) k (has_5 b c d e a []))
@@ -102,7 +102,7 @@ has5 a b c d e v h = unit_of_five (has (b ∷ c ∷ d ∷ e ∷ a ∷ []) v ≡ 
     (λ k. subst (λ t. has (b ∷ c ∷ d ∷ e ∷ a ∷ []) t ≡ true) k (has_4 b c d e (a ∷ [])))
     h
 
--- a corner of a pentagon from its second unit on is one of the pentagon
+-- rotating a pentagon keeps its corners
 turned5 : (a b c d e u : ℕ) (t : ℕ × ℕ × ℕ × ℕ) → IsCornerOf (b ∷ c ∷ d ∷ e ∷ a ∷ []) u t → IsCornerOf (a ∷ b ∷ c ∷ d ∷ e ∷ []) u t
 turned5 a b c d e u t s = record {
   own = back u s.own;
@@ -120,7 +120,7 @@ turned5 a b c d e u t s = record {
     side : (x : ℕ) → has_side (b ∷ c ∷ d ∷ e ∷ a ∷ []) u x ≡ true → has_side (a ∷ b ∷ c ∷ d ∷ e ∷ []) u x ≡ true
     side x h = turn_five e a b c d u x (turn_five d e a b c u x (turn_five c d e a b u x (turn_five b c d e a u x h)))
 
--- what the first unit of a triangle sees of it
+-- the corner of a triangle at its first unit
 first3 : (a b c : ℕ) → (a ≡ b → ⊥) → (a ≡ c → ⊥) → IsCornerOf (a ∷ b ∷ c ∷ []) a (b, c, c, c)
 first3 a b c ab ac = record {
   own = first_has a (b ∷ c ∷ []);
@@ -144,7 +144,7 @@ first3 a b c ab ac = record {
   off = (λ e. ab (sym e), λ e. ac (sym e), λ e. ac (sym e), λ e. ac (sym e));
 }
 
--- what the first unit of a square sees of it
+-- the corner of a square at its first unit
 first4 : (a b c d : ℕ) → (a ≡ b → ⊥) → (a ≡ c → ⊥) → (a ≡ d → ⊥) → IsCornerOf (a ∷ b ∷ c ∷ d ∷ []) a (b, d, c, c)
 first4 a b c d ab ac ad = record {
   own = first_has a (b ∷ c ∷ d ∷ []);
@@ -174,7 +174,7 @@ first4 a b c d ab ac ad = record {
   off = (λ e. ab (sym e), λ e. ad (sym e), λ e. ac (sym e), λ e. ac (sym e));
 }
 
--- what the first unit of a pentagon sees of it
+-- the corner of a pentagon at its first unit
 first5 : (a b c d e : ℕ) → (a ≡ b → ⊥) → (a ≡ c → ⊥) → (a ≡ d → ⊥) → (a ≡ e → ⊥) → IsCornerOf (a ∷ b ∷ c ∷ d ∷ e ∷ []) a (b, e, c, d)
 first5 a b c d e ab ac ad ae = record {
   own = first_has a (b ∷ c ∷ d ∷ e ∷ []);
@@ -195,15 +195,15 @@ first5 a b c d e ab ac ad ae = record {
 
 -- ---- one more face
 
--- a corner at the unit is added to those of the unit
+-- a corner at the unit is appended
 with_here : (u v : ℕ) (cs : List (ℕ × ℕ × ℕ × ℕ)) (t : ℕ × ℕ × ℕ × ℕ) → v ≡ u → with_corner u cs v t ≡ cs ++ t ∷ []
 with_here u v cs t e = ap (λ (xs : List (ℕ × ℕ × ℕ × ℕ)). cs ++ xs) (cond-true {A = List (ℕ × ℕ × ℕ × ℕ)} (v == u) (t ∷ []) [] (eq-eqb v u e))
 
--- a corner at another unit changes nothing for this one
+-- a corner at another unit changes nothing
 with_off : (u v : ℕ) (cs : List (ℕ × ℕ × ℕ × ℕ)) (t : ℕ × ℕ × ℕ × ℕ) → (v ≡ u → ⊥) → with_corner u cs v t ≡ cs
 with_off u v cs t off = ap (λ (xs : List (ℕ × ℕ × ℕ × ℕ)). cs ++ xs) (cond-false {A = List (ℕ × ℕ × ℕ × ℕ)} (v == u) (t ∷ []) [] (ne_eqb v u off)) ∙ append-nil cs
 
--- a face is at u with one corner, or is not at u
+-- a face has one corner at u, or does not have u
 abbrev Seen : ℕ → List (ℕ × ℕ × ℕ × ℕ) → List ℕ → Type 0
 Seen u cs ring = ((with_face u cs ring ≡ cs) × (has ring u ≡ false)) ⊎ ((t : ℕ × ℕ × ℕ × ℕ) × (with_face u cs ring ≡ cs ++ t ∷ []) × IsCornerOf ring u t)
 
@@ -222,7 +222,7 @@ two u cs a b c d = with_corner u (with_corner u cs a (b, d, c, c)) b (c, a, d, d
 abbrev three : ℕ → List (ℕ × ℕ × ℕ × ℕ) → ℕ → ℕ → ℕ → ℕ → List (ℕ × ℕ × ℕ × ℕ)
 three u cs a b c d = with_corner u (with_corner u (with_corner u cs a (b, d, c, c)) b (c, a, d, d)) c (d, b, a, a)
 
--- a unit sees a triangle as one corner where it is on it, and else not at all
+-- a triangle has one corner at each of its units, and none elsewhere
 seen3 : (u : ℕ) (cs : List (ℕ × ℕ × ℕ × ℕ)) (a b c : ℕ) → (a ≡ b → ⊥) → (a ≡ c → ⊥) → (b ≡ c → ⊥) → Seen u cs (a ∷ b ∷ c ∷ [])
 seen3 u cs a b c ab ac bc = elim (cases_eq a u) [
   | inl e ↦ inr (
@@ -257,7 +257,7 @@ seen3 u cs a b c ab ac bc = elim (cases_eq a u) [
   ]
 ]
 
--- a unit sees a square as one corner where it is on it, and else not at all
+-- a square has one corner at each of its units, and none elsewhere
 seen4 : (u : ℕ) (cs : List (ℕ × ℕ × ℕ × ℕ)) (a b c d : ℕ) → (a ≡ b → ⊥) → (a ≡ c → ⊥) → (a ≡ d → ⊥) → (b ≡ c → ⊥) → (b ≡ d → ⊥) → (c ≡ d → ⊥)
     → Seen u cs (a ∷ b ∷ c ∷ d ∷ [])
 seen4 u cs a b c d ab ac ad bc bd cd = elim (cases_eq a u) [
@@ -324,7 +324,7 @@ five_c u cs a b c d e = with_corner u (with_corner u (with_corner u cs a (b, e, 
 abbrev five_d : ℕ → List (ℕ × ℕ × ℕ × ℕ) → ℕ → ℕ → ℕ → ℕ → ℕ → List (ℕ × ℕ × ℕ × ℕ)
 five_d u cs a b c d e = with_corner u (with_corner u (with_corner u (with_corner u cs a (b, e, c, d)) b (c, a, d, e)) c (d, b, e, a)) d (e, c, a, b)
 
--- a unit sees a pentagon as one corner where it is on it, and else not at all
+-- a pentagon has one corner at each of its units, and none elsewhere
 seen5 : (u : ℕ) (cs : List (ℕ × ℕ × ℕ × ℕ)) (a b c d e : ℕ) → (a ≡ b → ⊥) → (a ≡ c → ⊥) → (a ≡ d → ⊥) → (a ≡ e → ⊥) → (b ≡ c → ⊥) → (b ≡ d → ⊥) → (b ≡ e → ⊥) → (c ≡ d → ⊥) → (c ≡ e → ⊥) → (d ≡ e → ⊥)
     → Seen u cs (a ∷ b ∷ c ∷ d ∷ e ∷ [])
 seen5 u cs a b c d e ab ac ad ae bc bd be cd ce de = elim (cases_eq a u) [
@@ -375,7 +375,7 @@ seen5 u cs a b c d e ab ac ad ae bc bd be cd ce de = elim (cases_eq a u) [
   ]
 ]
 
--- a unit sees a ring as one corner where it is on it, and else not at all
+-- a ring has one corner at each of its units, and none elsewhere
 seen : (g : Graph) (u : ℕ) (cs : List (ℕ × ℕ × ℕ × ℕ)) (ring : List ℕ) → IsRing g ring → Seen u cs ring
 seen g u cs ring is = by_size ring is.size is.apart
   where
@@ -406,7 +406,7 @@ seen g u cs ring is = by_size ring is.size is.apart
 -- ---- all faces
 
 module _ (inside : ℕ → Bool) (u : ℕ) (in_set : inside u ≡ true) where
-  -- a face is inside where the units of its corner are
+  -- a face is inside if the units of its corner are
   filled_face : (ring : List ℕ) (t : ℕ × ℕ × ℕ × ℕ) → IsCornerOf ring u t → is_filled inside t ≡ true → list_all inside ring ≡ true
   filled_face ring t s h =
       let first = and_parts (inside t.0) (inside t.1 && (inside t.2 && inside t.3)) h in
@@ -438,7 +438,7 @@ module _ (inside : ℕ → Bool) (u : ℕ) (in_set : inside u ≡ true) where
     | inr e ↦ e ∙ sym (false_from_ne_true (is_filled inside t) (λ h. both_ways (list_all inside ring) e (filled_face ring t s h)))
   ]
 
-  -- what a corner that is inside says
+  -- a corner that is inside has neighbors that share a face
   abbrev IsShared : List (List ℕ) → ℕ × ℕ × ℕ × ℕ → Type 0
   IsShared faces t = is_filled inside t ≡ true → share_face faces inside u t.0 t.1 ≡ true
 
@@ -458,7 +458,7 @@ module _ (inside : ℕ → Bool) (u : ℕ) (in_set : inside u ≡ true) where
             (and_from (has_side face u t.0) (has_side face u t.1) s.one s.other))))
       ]
 
-  -- the corner of two neighbours that share a face
+  -- some corner has these two neighbors, which share a face
   abbrev IsBetween : List (ℕ × ℕ × ℕ × ℕ) → ℕ → ℕ → Type 0
   IsBetween cs x y = (k : ℕ) × (k < length cs) × (is_filled inside (get_or cs k (0, 0, 0, 0)) ≡ true)
       × ((((get_or cs k (0, 0, 0, 0)).0 ≡ x) × ((get_or cs k (0, 0, 0, 0)).1 ≡ y)) ⊎ (((get_or cs k (0, 0, 0, 0)).0 ≡ y) × ((get_or cs k (0, 0, 0, 0)).1 ≡ x)))
@@ -516,7 +516,7 @@ module _ (inside : ℕ → Bool) (u : ℕ) (in_set : inside u ≡ true) where
       let one = sum_by-cons (λ c. cond {A = ℕ} (is_filled inside c) 1 0) t [] in
       omega (arith, split, one)
 
-  -- the faces at u that are inside are the corners that are
+  -- the faces at u that are inside are counted by their corners
   pub count_corners : (g : Graph) (faces : List (List ℕ)) → AreFaces g faces → count_inner_faces_at u inside faces ≡ count_by (is_filled inside) (corners_at u faces)
   count_corners g [] are = refl
   count_corners g (face ∷ later) are =
@@ -533,7 +533,7 @@ module _ (inside : ℕ → Bool) (u : ℕ) (in_set : inside u ≡ true) where
             omega (arith, rest, more, one)
       ]
 
--- ---- the units of a corner are others
+-- ---- the units of a corner differ from its own
 
 abbrev pub IsOther : Graph → ℕ → ℕ → Type 0
 IsOther g u v = (v < g.units) × (v ≡ u → ⊥)
@@ -541,7 +541,7 @@ IsOther g u v = (v < g.units) × (v ≡ u → ⊥)
 abbrev pub AreOthers : Graph → ℕ → ℕ × ℕ × ℕ × ℕ → Type 0
 AreOthers g u t = IsOther g u t.0 × IsOther g u t.1 × IsOther g u t.2 × IsOther g u t.3
 
--- the units that a unit sees on its faces are other units of the graph
+-- the units of corners at u are other units of the graph
 pub corners_other : (g : Graph) (u : ℕ) (faces : List (List ℕ)) → AreFaces g faces → All (AreOthers g u) (corners_at u faces)
 corners_other g u [] are = All-nil (AreOthers g u)
 corners_other g u (face ∷ later) are = elim (seen g u (corners_at u later) face are.0) [

@@ -1,4 +1,4 @@
--- The neighbours of one unit are found.
+-- Finding the neighbors of one unit.
 use Rattle.std.proofs.Common.{◌≡◌, ℕ, zero, suc, ◌<◌, Bool, true, cond, List, [], ◌∷◌, ◌++◌, length, get_or, set, refl, sym, ap, ◌∙◌, subst, inl, inr, arith, length-append, get_or-set_same, get_or-set_other}
 use Rattle.std.specs.Prelude.{◌==◌}
 use Rattle.std.proofs.lemmas.Bool.{cases_eq, eq-eqb, ne_eqb, false≢true, cond-true, cond-false}
@@ -12,19 +12,19 @@ use Rattle.dual_graph.specs.Marked.{Marked, IsMarked}
 use Rattle.contig.specs.Parts.{part, IsJoined, IsSpread}
 use Rattle.audit_model.specs.Replaced.{Replaced}
 
--- the root of one label in the place of that of another
+-- the roots, with that of one label replaced by that of another
 abbrev moved : List ℕ → ℕ → ℕ → ℕ → ℕ
 moved roots from into x = cond (x == get_or roots from 0) (get_or roots into 0) x
 
--- a root that is replaced becomes the other one
+-- a replaced root is the other one
 moved_at : (roots : List ℕ) (from into x : ℕ) → x ≡ get_or roots from 0 → moved roots from into x ≡ get_or roots into 0
 moved_at roots from into x e = cond-true {A = ℕ} (x == get_or roots from 0) (get_or roots into 0) x (eq-eqb x (get_or roots from 0) e)
 
--- every other root stays
+-- each other root stays
 moved_off : (roots : List ℕ) (from into x : ℕ) → (x ≡ get_or roots from 0 → ⊥) → moved roots from into x ≡ x
 moved_off roots from into x e = cond-false {A = ℕ} (x == get_or roots from 0) (get_or roots into 0) x (ne_eqb x (get_or roots from 0) e)
 
--- of no neighbours nothing has to be found
+-- before the first neighbor, nothing has to be found
 pub spread_none : (g : Graph) (inside : ℕ → Bool) (label : ℕ) (m : Marked) (roots : List ℕ) → IsMarked m → IsJoined g inside m.labels roots
     → IsSpread g inside [] label m m roots roots
 spread_none g inside label m roots marked joined = record {
@@ -42,7 +42,7 @@ spread_none g inside label m roots marked joined = record {
 }
 
 module _ (g : Graph) (inside : ℕ → Bool) (row : List ℕ) (label : ℕ) (old new : Marked) (before after : List ℕ) (v : ℕ) (s : IsSpread g inside row label old new before after) where
-  -- one more of the row, which is not in the set, or is of the part already
+  -- the next neighbor is not in the set, or already in the part
   pub spread_passed : (IsIn g inside v → (0 < get_or new.labels v 0) × (part new.labels after v ≡ get_or after label 0))
       → IsSpread g inside (row ++ v ∷ []) label old new before after
   spread_passed there = record {
@@ -70,7 +70,7 @@ module _ (g : Graph) (inside : ℕ → Bool) (row : List ℕ) (label : ℕ) (old
     unit_in : IsIn g inside unit
     unit_in = path_end g inside unit unit (s.joined.path unit unit unit_found unit_found refl)
 
-    -- one more of the row, which gets the label
+    -- the next neighbor gets the label
     pub spread_marked : (grown : Marked) → get_or new.labels v 0 ≡ 0 → v < new.units
         → grown.units ≡ new.units → grown.items ≡ new.items ++ v ∷ [] → grown.labels ≡ set new.labels v label → IsMarked grown
         → IsSpread g inside (row ++ v ∷ []) label old grown before after
@@ -142,7 +142,7 @@ module _ (g : Graph) (inside : ℕ → Bool) (row : List ℕ) (label : ℕ) (old
         part_off : (w : ℕ) → (w ≡ v → ⊥) → part grown.labels after w ≡ part new.labels after w
         part_off w e = ap (λ t. get_or after t 0) (off w e)
 
-    -- one more of the row, which is of another part
+    -- the next neighbor is in another part, which is joined
     pub spread_joined : (roots : List ℕ) → 0 < get_or new.labels v 0 → ((w : ℕ) → get_or new.labels w 0 < length after)
         → Replaced after roots (get_or new.labels v 0) label → length roots ≡ length after
         → IsSpread g inside (row ++ v ∷ []) label old new before roots
@@ -208,7 +208,7 @@ labels_stay_small g inside row label old new before after s small unit is w = el
   | inr e ↦ subst (λ t. get_or new.labels w 0 < t) (sym s.width) (subst (λ t. t < length before) (is ∙ sym e) (small unit))
 ]
 
--- a number that is not zero is above it
+-- a number that is not zero is positive
 pub above_zero : (n m : ℕ) → n ≡ m → (n ≡ 0 → ⊥) → 0 < m
 above_zero zero m e h = absurd (h refl)
 above_zero (suc n) m e h = omega (arith, e)

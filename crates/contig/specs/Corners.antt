@@ -1,14 +1,15 @@
--- The corners of faces: a face at a unit, as the unit's two neighbours on it and the two units opposite.
+-- Corners: a face as seen from one of its units, with the unit's two neighbors on it and the two units opposite.
 use Rattle.std.specs.Prelude.{◌≡◌, ℕ, ◌<◌, ◌==◌, ◌&&◌, Bool, cond, List, [], ◌∷◌, ◌++◌, length, slice_index, map, All}
 use Rattle.std.specs.List.{slice_index_or}
 use Rattle.audit_model.specs.Graph.{Graph}
 use Rattle.contig.specs.declared.corner.Corner.{Corner}
 
--- one more corner, where it is at u
+-- the corners at u, with one more if it is at u
 abbrev pub with_corner : ℕ → List (ℕ × ℕ × ℕ × ℕ) → ℕ → ℕ × ℕ × ℕ × ℕ → List (ℕ × ℕ × ℕ × ℕ)
 with_corner u corners v corner = corners ++ cond (v == u) (corner ∷ []) []
 
--- the corners at u with that of one more face; in a square the two units opposite are one, and in a triangle one of the two neighbours stands for both
+-- the corners at u with those of one more face; the units opposite are equal in a square, and one of the neighbors in a
+-- triangle
 abbrev pub with_face : ℕ → List (ℕ × ℕ × ℕ × ℕ) → List ℕ → List (ℕ × ℕ × ℕ × ℕ)
 with_face u corners (a ∷ b ∷ c ∷ []) = with_corner u (with_corner u (with_corner u corners a (b, c, c, c)) b (c, a, a, a)) c (a, b, b, b)
 with_face u corners (a ∷ b ∷ c ∷ d ∷ []) =
@@ -22,24 +23,24 @@ abbrev pub corners_at : ℕ → List (List ℕ) → List (ℕ × ℕ × ℕ × �
 corners_at u [] = []
 corners_at u (face ∷ later) = with_face u (corners_at u later) face
 
--- whether the four units are in the set
+-- all four units are in the set
 abbrev pub is_filled : (ℕ → Bool) → ℕ × ℕ × ℕ × ℕ → Bool
 is_filled inside corner = inside corner.0 && (inside corner.1 && (inside corner.2 && inside corner.3))
 
--- ---- as a program keeps them
+-- ---- as the program stores them
 
--- the units that a corner tells of, among these neighbours of its unit
+-- the units of a corner, given the neighbors of its unit
 abbrev pub units_of : List ℕ → Corner → ℕ × ℕ × ℕ × ℕ
 units_of row corner = (slice_index row corner.one, slice_index row corner.other, corner.far, corner.further)
 
--- the places are those of neighbours, and the units opposite are of the graph
+-- the positions are those of neighbors, and the units opposite are units of the graph
 pub record IsOnRow (g : Graph) (row : List ℕ) (corner : Corner) : Type 0 where
   pub one : corner.one < length row
   pub other : corner.other < length row
   pub far : corner.far < g.units
   pub further : corner.further < g.units
 
--- the rows tell of these corners at each unit
+-- the rows represent these corners at each unit
 pub record HasCorners (g : Graph) (corners : ℕ → List (ℕ × ℕ × ℕ × ℕ)) (rows : List (List Corner)) : Type 0 where
   pub width : length rows ≡ g.units
   pub placed : (u : ℕ) → u < g.units → All (IsOnRow g (slice_index_or g.neighbours u [])) (slice_index_or rows u [])

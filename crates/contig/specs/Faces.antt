@@ -8,78 +8,78 @@ use Rattle.audit_model.specs.Local.{is_mate}
 use Rattle.audit_model.specs.Path.{IsConnected}
 use Rattle.audit_model.specs.District.{in_district}
 
--- whether x and y are a and b, in either order
+-- x and y are a and b, in either order
 abbrev pub is_pair : ℕ → ℕ → ℕ → ℕ → Bool
 is_pair a b x y = ((a == x) && (b == y)) || ((a == y) && (b == x))
 
--- whether x and y follow each other on a ring of three to five units
+-- x and y are next to each other on a ring of three to five units
 abbrev pub has_side : List ℕ → ℕ → ℕ → Bool
 has_side (a ∷ b ∷ c ∷ []) x y = is_pair a b x y || is_pair b c x y || is_pair c a x y
 has_side (a ∷ b ∷ c ∷ d ∷ []) x y = is_pair a b x y || is_pair b c x y || is_pair c d x y || is_pair d a x y
 has_side (a ∷ b ∷ c ∷ d ∷ e ∷ []) x y = is_pair a b x y || is_pair b c x y || is_pair c d x y || is_pair d e x y || is_pair e a x y
 has_side _ x y = false
 
--- three to five units of the graph, no two the same, each adjacent to the next and the last to the first
+-- three to five distinct units of the graph, each adjacent to the next and the last to the first
 pub record IsRing (g : Graph) (ring : List ℕ) : Type 0 where
   pub size : (3 ≤ length ring) × (length ring ≤ 5)
   pub apart : AllApart ring
   pub below : (v : ℕ) → IsTrue (has ring v) → v < g.units
   pub sides : (x y : ℕ) → IsTrue (has_side ring x y) → IsTrue (adjacent g x y)
 
--- a ring's first two units are its own side: none of these faces has it
+-- the own side of a ring, between its first two units, belongs to none of these faces
 abbrev pub OwnsSide : List ℕ → List (List ℕ) → Type 0
 OwnsSide (a ∷ b ∷ rest) later = IsFalse (list_any (λ face. has_side face a b) later)
 OwnsSide _ later = ⊥
 
--- each face is a ring, and no later one has its own side
+-- each face is a ring whose own side belongs to no later one
 abbrev pub AreFaces : Graph → List (List ℕ) → Type 0
 AreFaces g [] = Unit {0}
 AreFaces g (face ∷ later) = IsRing g face × OwnsSide face later × AreFaces g later
 
 -- ---- the counts of a set
 
--- how many units the set has
+-- the number of units of the set
 abbrev pub count_units : Graph → (ℕ → Bool) → ℕ
 count_units g inside = count_below g.units inside
 
--- how many edges have both ends in the set
+-- the number of edges with both ends in the set
 abbrev pub count_inner_edges : Graph → (ℕ → Bool) → ℕ
 count_inner_edges g inside = count_edges g (λ v w. inside v && inside w)
 
--- how many faces have all their units in the set
+-- the number of faces with all units in the set
 abbrev pub count_inner_faces : (ℕ → Bool) → List (List ℕ) → ℕ
 count_inner_faces inside [] = 0
 count_inner_faces inside (face ∷ later) = count_inner_faces inside later + cond (list_all inside face) 1 0
 
--- ---- a unit more or less
+-- ---- one unit more or fewer
 
 -- the set without u
 abbrev pub without_unit : (ℕ → Bool) → ℕ → ℕ → Bool
 without_unit inside u v = inside v && not (v == u)
 
--- how many neighbours u has in the set
+-- the number of neighbors of u in the set
 abbrev pub count_mates : Graph → (ℕ → Bool) → ℕ → ℕ
 count_mates g inside u = count_below g.units (λ v. adjacent g u v && inside v)
 
--- how many faces with the unit u have all their units in the set
+-- the number of faces that have the unit u, with all units in the set
 abbrev pub count_inner_faces_at : ℕ → (ℕ → Bool) → List (List ℕ) → ℕ
 count_inner_faces_at u inside [] = 0
 count_inner_faces_at u inside (face ∷ later) = count_inner_faces_at u inside later + cond (has face u && list_all inside face) 1 0
 
 -- ---- mates
 
--- whether x and y are the two neighbours of u on a face whose units are all in the set
+-- x and y are the two neighbors of u on a face with all units in the set
 abbrev pub share_face : List (List ℕ) → (ℕ → Bool) → ℕ → ℕ → ℕ → Bool
 share_face faces inside u x y = list_any (λ face. list_all inside face && (has_side face u x && has_side face u y)) faces
 
--- classes that put neighbours of u which share a face into one
+-- neighbors of u that share a face are in one class
 abbrev pub IsClassing : List (List ℕ) → (ℕ → Bool) → ℕ → (ℕ → ℕ) → Type 0
 IsClassing faces inside u class = (x y : ℕ) → IsTrue (share_face faces inside u x y) → class x ≡ class y
 
--- the graph whose edges are the links: v and w are the two neighbours of u on a face whose units are all in the set
+-- the graph of links: v and w are joined if they are the two neighbors of u on a face with all units in the set
 abbrev pub link_graph : Graph → List (List ℕ) → (ℕ → Bool) → ℕ → Graph
 link_graph g faces inside u = record { units = g.units; neighbours = map_below g.units (λ v. filter_below g.units (λ w. share_face faces inside u v w)) }
 
--- u's neighbours in its district are linked among themselves, one to the next
+-- the mates of u are connected by links
 abbrev pub AreLinked : Graph → List (List ℕ) → List ℕ → ℕ → Type 0
 AreLinked g faces plan u = IsConnected (link_graph g faces (in_district plan (slice_index plan u)) u) (is_mate g plan u)

@@ -1,4 +1,4 @@
--- Classes of a unit's neighbours, which faces make one.
+-- Classes of a unit's neighbors, merged by faces.
 use Rattle.std.specs.Prelude.{◌≡◌, ℕ, ◌<◌, Bool, IsTrue, List, [], length, slice_index}
 use Rattle.std.specs.List.{slice_index_or}
 use Rattle.audit_model.specs.Graph.{Graph, IsIn}
@@ -9,11 +9,11 @@ use Rattle.contig.specs.Faces.{link_graph}
 use Rattle.contig.specs.declared.corner.Corner.{Corner}
 use Rattle.contig.specs.Corners.{is_filled, units_of}
 
--- whether the units of a corner at u are all in u's district
+-- all units of a corner at u are in u's district
 abbrev pub is_inner : Graph → List ℕ → ℕ → Corner → Bool
 is_inner g plan u corner = is_filled (in_district plan (slice_index plan u)) (units_of (slice_index_or g.neighbours u []) corner)
 
--- mates of u that have one class are linked
+-- mates of u in one class are connected by links
 pub record AreClasses (g : Graph) (faces : List (List ℕ)) (plan : List ℕ) (u : ℕ) (classes : List ℕ) : Type 0 where
   pub width : length classes ≡ 32
   pub linked : (i j : ℕ) → i < length (slice_index_or g.neighbours u []) → j < length (slice_index_or g.neighbours u [])
@@ -22,7 +22,7 @@ pub record AreClasses (g : Graph) (faces : List (List ℕ)) (plan : List ℕ) (u
       → HasPath (link_graph g faces (in_district plan (slice_index plan u)) u) (is_mate g plan u)
       (slice_index (slice_index_or g.neighbours u []) i) (slice_index (slice_index_or g.neighbours u []) j)
 
--- the neighbours on each of these corners that is inside have one class
+-- the two neighbors on each of these corners that is inside have one class
 abbrev pub AreMerged : Graph → List ℕ → ℕ → List Corner → List ℕ → Type 0
 AreMerged g plan u corners classes = (k : ℕ) (d : Corner) → k < length corners → IsTrue (is_inner g plan u (slice_index_or corners k d))
     → slice_index classes (slice_index_or corners k d).one ≡ slice_index classes (slice_index_or corners k d).other

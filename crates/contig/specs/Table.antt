@@ -1,4 +1,4 @@
--- The faces of a graph as a walk keeps them.
+-- The faces of a graph, as a walk uses them.
 use Rattle.std.specs.Prelude.{ℕ, ◌≤◌, List, length}
 use Rattle.audit_model.specs.Graph.{Graph}
 use Rattle.contig.specs.Faces.{AreFaces}
@@ -10,7 +10,7 @@ pub record Faced : Type 0 where
   pub graph : Graph
   pub faces : List (List ℕ)
 
--- each face has a side that no later one has, there are not too many, and the rows have their corners
+-- the faces are those of the graph, there are not too many, and the rows have their corners
 pub record IsFaceTable (faced : Faced) (rows : List (List Corner)) : Type 0 where
   pub faces : AreFaces faced.graph faced.faces
   pub few : length faced.faces ≤ 4000000

@@ -1,9 +1,9 @@
-//! Classes of numbered things: things with one number are of one class.
+//! Classes of numbered items, as an array of class numbers.
 
 ghost use Rattle.std.specs.Prelude.{◌<◌, length};
 ghost use Rattle.audit_model.specs.Replaced.{Replaced};
 
-/// Gives the things of one class the number of another thing's.
+/// Merges two classes: the items in the class of `from` join the class of `into`.
 #[inline]
 pub fn join(classes: &mut [u8], from: usize, into: usize)
     requires from { from < length classes.old }

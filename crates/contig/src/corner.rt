@@ -1,4 +1,4 @@
-//! A face as one of its units sees it.
+//! Faces as seen from one of their units.
 
 ghost use Rattle.std.specs.Prelude.{◌≡◌, ◌∷◌, [], ◌++◌, OnOk, OnErr};
 
@@ -6,8 +6,11 @@ use audit_model::memory::Memory;
 use std::alloc::Global;
 use std::marker::Model;
 
-/// A face at a unit: the places of the unit's two neighbours on it in the list of its neighbours, and the two
-/// units opposite, which in a square are one, and in a triangle one of the two neighbours.
+/// A face as seen from one of its units.
+///
+/// `one` and `other` are the positions of the unit's two neighbors on the face in the list of its
+/// neighbors. `far` and `further` are the opposite units: equal in a square, and one of the two
+/// neighbors in a triangle.
 #[derive(Clone, Copy)]
 pub struct Corner {
     pub one: u32,
@@ -32,7 +35,7 @@ impl Model for CornerList {
 }
 
 impl CornerList {
-    /// The empty list.
+    /// Creates an empty list.
     pub fn new(alloc: Global) -> CornerList
         ensures { result ≡ [] }
     {
@@ -41,7 +44,7 @@ impl CornerList {
         }
     }
 
-    /// The corners in order.
+    /// Returns the corners in order.
     #[inline]
     pub fn as_slice(&self) -> &[Corner]
         ensures { result.now ≡ self.now }
@@ -49,7 +52,7 @@ impl CornerList {
         self.corners.as_slice()
     }
 
-    /// Appends one.
+    /// Appends a corner. Fails if there is no memory.
     pub fn push(&mut self, corner: Corner) -> Result<(), Memory>
         ensures ok { OnOk result (self.new ≡ self.old ++ corner ∷ []) }
         ensures err { OnErr result (self.new ≡ self.old) }

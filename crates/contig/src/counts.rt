@@ -1,4 +1,4 @@
-//! What is counted in each district, as its units move.
+//! Counts per district, updated as units move.
 
 ghost use Rattle.std.specs.Prelude.{◌≡◌, ◌≢◌, ℕ, ◌+◌, ◌-◌, ◌<◌, ◌≤◌, ◌↔◌, ◌^◌, cond, [], length, replicate, slice_index, slice_set, count_by, IsTrue, IfOk};
 ghost use Rattle.std.specs.List.{slice_index_or};
@@ -16,7 +16,7 @@ use dual_graph::member::Member;
 use std::alloc::Global;
 use std::marker::Model;
 
-/// For each district its inner edges, and its units and inner faces together.
+/// For each district: the number of its inner edges, and the sum of its units and inner faces.
 #[derive(Drop)]
 pub struct FaceCounts {
     edges: Vec<u64>,
@@ -35,7 +35,7 @@ impl Model for FaceCounts {
 }
 
 impl FaceCounts {
-    /// Zeros, for so many districts.
+    /// Allocates zeros for this number of districts.
     fn zeros(alloc: Global, districts: u32) -> Result<FaceCounts, Memory>
         ensures edges { IfOk result (λ c. length c.edges ≡ districts) }
         ensures filled { IfOk result (λ c. length c.filled ≡ districts) }
@@ -46,7 +46,7 @@ impl FaceCounts {
         })
     }
 
-    /// The counts of a plan's districts.
+    /// Counts the districts of a plan. Fails if there is no memory.
     pub fn new(
         alloc: Global,
         graph: &Graph,
@@ -64,7 +64,7 @@ impl FaceCounts {
         Ok(counts)
     }
 
-    /// Makes all counts 0.
+    /// Sets all counts to 0.
     fn clear(&mut self)
         ensures edges { self.new.edges ≡ replicate (length self.old.edges) 0 }
         ensures filled { self.new.filled ≡ replicate (length self.old.edges) 0 }
@@ -73,7 +73,7 @@ impl FaceCounts {
         self.filled.fill(0);
     }
 
-    /// Counts a unit with so many mates and inner corners into a district.
+    /// Adds a unit with its mates and inner corners to a district.
     #[inline]
     fn raise(&mut self, district: u32, mates: u64, corners: u64)
         requires district { district < length self.old.edges }
@@ -86,7 +86,7 @@ impl FaceCounts {
         self.filled[district as usize] += 1 + corners;
     }
 
-    /// Counts a unit with so many mates and inner corners out of a district.
+    /// Removes a unit with its mates and inner corners from a district.
     #[inline]
     fn lower(&mut self, district: u32, mates: u64, corners: u64)
         requires district { district < length self.old.edges }
@@ -100,14 +100,15 @@ impl FaceCounts {
         self.filled[district as usize] = before - (1 + corners);
     }
 
-    /// Makes the counts those of another plan. It takes no memory.
+    /// Recounts the districts of another plan. It allocates nothing.
     pub fn reset(&mut self, graph: &Graph, table: &FaceTable, plan: &[u32])
         requires made { table.now.graph ≡ graph.now }
         requires plan { length plan.now ≡ graph.now.units }
         requires in_range { (u : ℕ) → u < graph.now.units → slice_index plan.now u < length self.old.edges }
         ensures { AreCounts graph.now table.now.faces (length self.old.edges) plan.now self.new }
     {
-        // Called for what their contracts say: the table's faces are the graph's, and few, and the graph has at most 400,000 edges.
+        // Called for their contracts: the faces are the graph's, and few, and it has at most
+        // 400,000 edges.
         let _units = table.units();
         let _edges = graph.edges();
         self.clear();
@@ -120,8 +121,9 @@ impl FaceCounts {
         }
     }
 
-    /// Follows a unit that will move from its district to another one. It reads the unit's neighbours and faces alone,
-    /// and takes no memory.
+    /// Updates the counts for a unit that is about to move to another district.
+    ///
+    /// It costs one pass over the unit's neighbors and faces, and allocates nothing.
     pub fn follow(&mut self, table: &FaceTable, leaving: Member, district: u32)
         requires made { table.now.graph ≡ leaving.graph.now }
         requires home { slice_index leaving.plan.now leaving.unit < length self.old.edges }
@@ -130,8 +132,8 @@ impl FaceCounts {
         requires counts { AreCounts leaving.graph.now table.now.faces (length self.old.edges) leaving.plan.now self.old }
         ensures { AreCounts leaving.entry.graph.now table.now.faces (length self.old.edges) (slice_set leaving.entry.plan.now leaving.entry.unit district) self.new }
     {
-        // Called for what their contracts say: the graph is sound, with at most 100,000 units and 400,000 edges, and the table's faces are
-        // the graph's, and few.
+        // Called for their contracts: the graph is sound, with at most 100,000 units and 400,000
+        // edges, and the faces are the graph's, and few.
         let _units = leaving.graph.units();
         let _edges = leaving.graph.edges();
         let _faces = table.units();
@@ -142,7 +144,7 @@ impl FaceCounts {
         self.raise(district, mates.1, corners.1);
     }
 
-    /// Whether a district's counts say that it has no hole.
+    /// Returns true if a district's counts show that it has no hole.
     #[inline]
     pub fn has_no_hole(&self, district: u32) -> bool
         requires { district < length self.now.edges }
@@ -152,7 +154,7 @@ impl FaceCounts {
     }
 }
 
-/// How many neighbours of a unit are in a district, of the units before an end.
+/// Counts the neighbors of a unit that are in a district and below `end`.
 #[inline]
 fn mates_in(member: Member, district: u32, end: u32) -> u64
     ensures { result ≡ count_mates member.entry.graph.now (is_before member.entry.plan.now end district) member.entry.unit }
@@ -167,7 +169,7 @@ fn mates_in(member: Member, district: u32, end: u32) -> u64
     count
 }
 
-/// How many faces at a unit have all their other units in a district, of the units before an end.
+/// Counts the faces at a unit whose other units are all in a district and below `end`.
 #[inline]
 fn corners_in(member: Member, table: &FaceTable, district: u32, end: u32) -> u64
     requires { table.now.graph ≡ member.graph.now }
@@ -196,7 +198,7 @@ fn corners_in(member: Member, table: &FaceTable, district: u32, end: u32) -> u64
     count
 }
 
-/// How many neighbours of a unit are in one district, and how many in another.
+/// Counts the neighbors of a unit in one district, and those in another.
 #[inline]
 fn mates_of(member: Member, one: u32, other: u32) -> (u64, u64)
     ensures one { result.0 ≡ count_mates member.entry.graph.now (in_district member.entry.plan.now one) member.entry.unit }
@@ -213,7 +215,8 @@ fn mates_of(member: Member, one: u32, other: u32) -> (u64, u64)
     (in_one, in_other)
 }
 
-/// How many faces at a unit have all their other units in one district, and how many in another.
+/// Counts the faces at a unit whose other units are all in one district, and those for another
+/// district.
 #[inline]
 fn corners_of(member: Member, table: &FaceTable, one: u32, other: u32) -> (u64, u64)
     requires { table.now.graph ≡ member.graph.now }
@@ -229,7 +232,7 @@ fn corners_of(member: Member, table: &FaceTable, one: u32, other: u32) -> (u64, 
     (in_one, in_other)
 }
 
-/// Whether the other units of a face at a unit are all in a district.
+/// Returns true if the other units of a face at a unit are all in a district.
 #[inline]
 fn is_inside(member: Member, corner: Corner, district: u32) -> bool
     requires { IsOnRow member.graph.now (slice_index_or member.graph.now.neighbours member.unit []) corner }
@@ -243,7 +246,7 @@ fn is_inside(member: Member, corner: Corner, district: u32) -> bool
         & (plan[corner.further as usize] == district)
 }
 
-/// The count with one more where something counts.
+/// Adds one to the count if `counts` is true.
 #[inline]
 fn with_one(count: u64, counts: bool) -> u64
     requires few { count < 2 ^ 63 }

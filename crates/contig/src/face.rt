@@ -5,7 +5,7 @@ ghost use Rattle.contig.specs.Rings.{goes_round, turned, differ, follow};
 
 use dual_graph::graph::Graph;
 
-/// The units of a ring in order. Its own side is that between the first two.
+/// A ring of three to five units, in order. Its own side joins the first two.
 #[derive(Clone, Copy, Debug, PartialEq, Eq)]
 pub enum Face {
     Triangle(u32, u32, u32),
@@ -14,7 +14,8 @@ pub enum Face {
 }
 
 impl Face {
-    /// Whether the units are different ones of the graph, each adjacent to the next and the last to the first.
+    /// Returns true if the units are distinct units of the graph, each adjacent to the next and the
+    /// last to the first.
     pub fn is_ring(&self, graph: &Graph) -> bool
         ensures { result ≡ goes_round graph.now self.now }
     {
@@ -59,7 +60,7 @@ impl Face {
         }
     }
 
-    /// The same ring from its second unit on.
+    /// Rotates the ring to begin with its second unit.
     pub fn turned(self) -> Face
         ensures { result ≡ turned self }
     {
@@ -71,14 +72,14 @@ impl Face {
     }
 }
 
-/// Whether no two of five units are the same.
+/// Returns true if five units are distinct.
 fn differ(a: u32, b: u32, c: u32, d: u32, e: u32) -> bool
     ensures { result ≡ differ a b c d e }
 {
     a != b && a != c && a != d && a != e && b != c && b != d && b != e && c != d && c != e && d != e
 }
 
-/// Whether each of five units is adjacent to the next and the last to the first.
+/// Returns true if each of five units is adjacent to the next, and the last to the first.
 fn follow(graph: &Graph, a: u32, b: u32, c: u32, d: u32, e: u32) -> bool
     requires three { (a < graph.now.units) × (b < graph.now.units) × (c < graph.now.units) }
     requires two { (d < graph.now.units) × (e < graph.now.units) }

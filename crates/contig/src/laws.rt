@@ -1,4 +1,4 @@
-//! Laws of faces, each the contract of a function that does nothing.
+//! Laws of faces. Each is the contract of a function with an empty body.
 
 ghost use Rattle.std.specs.Prelude.{◌≡◌, ◌≢◌, ◌&&◌, ◌==◌, ◌+◌, ◌<◌, ◌≤◌, ℕ, Bool, not, List, IsTrue, slice_index};
 ghost use Rattle.audit_model.specs.Graph.{Graph, adjacent, IsIn};
@@ -7,7 +7,8 @@ ghost use Rattle.audit_model.specs.Path.{HasPath, IsConnected};
 ghost use Rattle.audit_model.specs.District.{in_district};
 ghost use Rattle.contig.specs.Faces.{AreFaces, AreLinked, IsClassing, count_units, count_inner_edges, count_inner_faces, without_unit, count_mates, count_inner_faces_at};
 
-/// Where a connected set has no hole, two neighbours of a unit that are of different classes are apart without it.
+/// Shows that in a connected set without holes, two neighbors of a unit in different classes are
+/// disconnected without the unit. Neighbors that share an inner face have one class.
 pub fn classes_part_mates()
     ensures { (g : Graph) (faces : List (List ℕ)) (inside : ℕ → Bool) (u x y : ℕ) (class : ℕ → ℕ) →
         IsSimple g → AreFaces g faces → IsConnected g inside → IsIn g inside u →
@@ -17,7 +18,8 @@ pub fn classes_part_mates()
         HasPath g (λ v. inside v && not (v == u)) x y → ⊥ }
 {}
 
-/// The same of a unit and its district: where the district has no hole, and two mates are of different classes, the unit may not leave.
+/// Shows that in a district without holes, a unit with two mates in different classes may not
+/// leave.
 pub fn parting_units_may_not_leave()
     ensures { (g : Graph) (faces : List (List ℕ)) (plan : List ℕ) (u x y : ℕ) (class : ℕ → ℕ) →
         IsSimple g → AreFaces g faces → u < g.units → IsConnected g (in_district plan (slice_index plan u)) →
@@ -27,7 +29,7 @@ pub fn parting_units_may_not_leave()
         IsIn g (is_mate g plan u) x → IsIn g (is_mate g plan u) y → class x ≢ class y → MayLeave g plan u → ⊥ }
 {}
 
-/// What the three counts of a set are more than those of the set without a unit of it.
+/// Shows how the three counts of a set change when one of its units is taken out.
 pub fn counts_with_a_unit()
     ensures units { (g : Graph) (inside : ℕ → Bool) (u : ℕ) → IsIn g inside u →
         count_units g inside ≡ count_units g (without_unit inside u) + 1 }
@@ -37,7 +39,8 @@ pub fn counts_with_a_unit()
         count_inner_faces inside faces ≡ count_inner_faces (without_unit inside u) faces + count_inner_faces_at u inside faces }
 {}
 
-/// A unit whose mates are linked through faces may leave; where its district has no hole, no other unit may.
+/// Shows that a unit whose mates are linked through faces may leave, and that no other unit may if
+/// the district has no hole.
 pub fn linked_units_may_leave()
     ensures linked { (g : Graph) (faces : List (List ℕ)) (plan : List ℕ) (u : ℕ) →
         IsSimple g → AreFaces g faces → IsConnected g (in_district plan (slice_index plan u)) → AreLinked g faces plan u → MayLeave g plan u }

@@ -1,4 +1,4 @@
-//! May a unit leave its district?
+//! Calls that decide if a unit may leave its district.
 
 ghost use Rattle.std.specs.Prelude.{◌≡◌, ◌+◌, ◌<◌, ◌≤◌, ◌^◌, ◌-◌, ◌↔◌, ⊤, [], length, slice_index, IsTrue, MatchOption};
 ghost use Rattle.std.specs.List.{slice_index_or};
@@ -19,7 +19,7 @@ use dual_graph::marks::Marks;
 use dual_graph::member::Member;
 use std::sync::ledger::Ledger;
 
-/// Whether the neighbours of a unit in its district are connected among themselves.
+/// Returns true if the mates of a unit are connected among themselves.
 pub fn local_holds(graph: &Graph, plan: &[u32], unit: u32, marks: &mut Marks) -> bool
     requires plan { length plan.now ≡ graph.now.units }
     requires unit { unit < graph.now.units }
@@ -27,7 +27,7 @@ pub fn local_holds(graph: &Graph, plan: &[u32], unit: u32, marks: &mut Marks) ->
     ensures marks { marks.new.units ≡ marks.old.units }
     ensures local { IsTrue result ↔ IsLocal graph.now plan.now unit }
 {
-    // Called for what its contract says: the graph is sound, and has at most 100,000 units.
+    // Called for its contract: the graph is sound and has at most 100,000 units.
     let _units = graph.units();
     let leaving = Member { graph, plan, unit };
     let mates = mark_mates(leaving, marks);
@@ -38,7 +38,8 @@ pub fn local_holds(graph: &Graph, plan: &[u32], unit: u32, marks: &mut Marks) ->
     are_linked(leaving, marks, &mut roots, mates)
 }
 
-/// Whether a unit's district without it has a unit and is connected, by a search.
+/// Returns true if the unit's district without it is nonempty and connected. The search is counted
+/// in `steps`.
 pub fn search_holds<L: Ledger>(
     graph: &Graph,
     plan: &[u32],
@@ -56,7 +57,9 @@ pub fn search_holds<L: Ledger>(
     rest_is_whole(Member::of(graph, plan, unit), marks, steps)
 }
 
-/// Whether a unit's district stays connected without it, where it is connected. It searches only where the unit's neighbours there are not connected among themselves.
+/// Returns true if the unit's district, which must be connected, stays connected without it.
+///
+/// The district is searched only if the unit's mates are not connected among themselves.
 pub fn may_leave<L: Ledger>(
     graph: &Graph,
     plan: &[u32],
@@ -73,7 +76,7 @@ pub fn may_leave<L: Ledger>(
     ensures rising { steps.old ≤ steps.new }
     ensures most { steps.new ≤ steps.old + 1 }
 {
-    // Called for what its contract says: the graph is sound, and has at most 100,000 units.
+    // Called for its contract: the graph is sound and has at most 100,000 units.
     let _units = graph.units();
     let leaving = Member { graph, plan, unit };
     let mates = mark_mates(leaving, marks);
@@ -93,8 +96,11 @@ pub fn may_leave<L: Ledger>(
     meet(leaving, marks, &mut roots, mates, steps)
 }
 
-/// Whether a unit's district, which is connected, stays so without it, where counting tells: it does where the unit's
-/// neighbours there are linked through faces, and no other does where the district has no hole. Nothing is searched.
+/// Decides by links and counts alone if a unit may leave its district, which must be connected.
+/// `None` means that a search is needed.
+///
+/// The unit may leave if its mates are linked through faces. Otherwise it may not if the district
+/// has no hole.
 pub fn counting_tells(leaving: Member, table: &FaceTable, counts: &FaceCounts) -> Option<bool>
     requires made { table.now.graph ≡ leaving.graph.now }
     requires counts { AreCounts leaving.graph.now table.now.faces (length counts.now.edges) leaving.plan.now counts.now }

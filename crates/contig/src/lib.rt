@@ -1,10 +1,18 @@
-//! May a unit leave its district without disconnecting it? First its neighbours there are asked: where they are connected
-//! among themselves it may. Then the triangles, squares and pentagons of the graph, its faces: counts of a district's inner edges and faces
-//! tell that a district has no hole, and then the neighbours linked through faces are all that matters. A search of the district
-//! comes last.
+//! Decides if a unit may leave its district without disconnecting it.
 //!
-//! `face`, `near`, `peel` and `list` find faces, `rows` and `table` keep them by their units, `counts` follows a plan, `links` asks
-//! the neighbours of a unit, `parts` and `flood` search, and `leave` has the calls that decide.
+//! The *mates* of a unit are its neighbors in its own district. *Faces* are rings of three to five
+//! units; each face of a list has a side that no later one has. Three tests are made, in the order
+//! of their cost:
+//!
+//! - If the mates are linked, one to the next, through faces inside the district, the unit may
+//!   leave.
+//! - Otherwise, if counts of the district's edges and faces show that it has no hole, the unit may
+//!   not.
+//! - Otherwise the district is searched.
+//!
+//! `face`, `near`, `peel` and `list` find faces; `corner`, `rows` and `table` store them by unit.
+//! `counts` follows a plan, `classes` and `links` test the mates, `parts` and `flood` search, and
+//! `leave` has the calls that decide.
 #![tactic(auto)]
 
 mod classes;

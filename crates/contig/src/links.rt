@@ -1,4 +1,4 @@
-//! Whether the neighbours of a unit in its district are linked through faces.
+//! Links between the mates of a unit, through faces.
 
 ghost use Rattle.std.specs.Prelude.{◌≡◌, ◌≢◌, ◌<◌, ◌≤◌, ◌↔◌, ℕ, List, [], length, map, slice_index, All, IsTrue, IsFalse, MatchOption};
 ghost use Rattle.std.specs.List.{slice_index_or};
@@ -13,10 +13,11 @@ use crate::classes::join;
 use crate::corner::Corner;
 use dual_graph::member::Member;
 
-/// A unit with more neighbours is not asked.
+/// The maximum number of neighbors of a unit for which links are computed.
 pub const MOST: usize = 32;
 
-/// Whether the neighbours of a unit in its district are linked, one to the next, through faces inside it.
+/// Returns true if the mates of a unit are linked, one to the next, through faces inside their
+/// district.
 pub fn are_linked(leaving: Member, corners: &[Corner]) -> bool
     requires few { length (slice_index_or leaving.graph.now.neighbours leaving.unit []) ≤ 32 }
     requires placed { All (IsOnRow leaving.graph.now (slice_index_or leaving.graph.now.neighbours leaving.unit [])) corners.now }
@@ -36,7 +37,8 @@ pub fn are_linked(leaving: Member, corners: &[Corner]) -> bool
     }
 }
 
-/// Whether the units of a corner at u are all in u's district. They are counted, so that one test follows and not four.
+/// Returns true if all units of a corner are in the district of its unit. Adding up makes one
+/// branch of four.
 #[inline]
 fn is_inner(leaving: Member, corner: Corner) -> bool
     requires { IsOnRow leaving.graph.now (slice_index_or leaving.graph.now.neighbours leaving.unit []) corner }
@@ -52,7 +54,7 @@ fn is_inner(leaving: Member, corner: Corner) -> bool
     inside == 4
 }
 
-/// Makes the classes of neighbours one that share a face inside their district.
+/// Merges the classes of neighbors that share a face inside the district.
 #[inline]
 fn merge(leaving: Member, corners: &[Corner], classes: &mut [u8; 32])
     requires few { length (slice_index_or leaving.graph.now.neighbours leaving.unit []) ≤ 32 }
@@ -70,7 +72,7 @@ fn merge(leaving: Member, corners: &[Corner], classes: &mut [u8; 32])
     }
 }
 
-/// The place of the first neighbour in the unit's district.
+/// Returns the position of the first mate in the list of neighbors.
 #[inline]
 fn first_mate(leaving: Member) -> Option<usize>
     ensures { let g = leaving.entry.graph.now in let plan = leaving.entry.plan.now in let u = leaving.entry.unit in
@@ -87,7 +89,7 @@ fn first_mate(leaving: Member) -> Option<usize>
     None
 }
 
-/// Whether all neighbours in the unit's district are of this class.
+/// Returns true if all mates are in this class.
 #[inline]
 fn all_of(leaving: Member, classes: &[u8; 32], class: u8) -> bool
     requires { length (slice_index_or leaving.graph.now.neighbours leaving.unit []) ≤ 32 }

@@ -1,4 +1,4 @@
-//! Lists of faces in which each has a side that no later one has.
+//! Lists of faces in which each has a side that no earlier one has.
 
 ghost use Rattle.std.specs.Prelude.{◌≡◌, ℕ, [], ◌∷◌, not, IsTrue, IfOk, OnOk, OnErr};
 ghost use Rattle.std.specs.Bool.{OnTrue, OnFalse};
@@ -14,7 +14,8 @@ use std::alloc::Global;
 use std::collections::HashSet;
 use std::marker::Model;
 
-/// Faces, seen as their rings with the last first.
+/// A list of faces, in which the own side of each belongs to no earlier one. Proofs see the last
+/// face first.
 #[derive(Drop)]
 pub struct FaceList {
     faces: Vec<Face>,
@@ -33,7 +34,7 @@ impl Model for FaceList {
 }
 
 impl FaceList {
-    /// The empty list.
+    /// Creates an empty list.
     pub fn new(alloc: Global) -> FaceList
         ensures { result ≡ [] }
     {
@@ -43,16 +44,17 @@ impl FaceList {
         }
     }
 
-    /// The faces, the last of the list first.
+    /// Returns the faces in the order in which they were added.
     pub fn faces(&self) -> &[Face]
         ensures { rings result.now ≡ self.now }
     {
-        // Reads the fields, so that what the type says of them is known.
+        // Reading a field makes the type's invariant known to the prover.
         let _ = &self.sides;
         &self.faces
     }
 
-    /// Puts a face in front, where it is a ring and no face of the list has its own side.
+    /// Adds a face if it is a ring and no face of the list has its own side. Returns true if it was
+    /// added.
     pub fn push(&mut self, graph: &Graph, face: Face) -> Result<bool, Memory>
         requires faces { AreFaces graph.now self.old }
         ensures faces { AreFaces graph.now self.new }
@@ -60,7 +62,7 @@ impl FaceList {
         ensures unchanged { IfOk result (λ added. OnFalse added (self.new ≡ self.old)) }
         ensures err { OnErr result (self.new ≡ self.old) }
     {
-        // Called for what its contract says: the graph is sound, and has at most 100,000 units.
+        // Called for its contract: the graph is sound and has at most 100,000 units.
         let _units = graph.units();
         if !face.is_ring(graph) || has_own(&self.sides, face) {
             return Ok(false);
@@ -71,7 +73,7 @@ impl FaceList {
     }
 }
 
-/// The faces among the candidates, each put in front of those before it where it has a side that none of them has.
+/// Lists the candidates that are rings and whose own side belongs to no earlier face.
 pub fn list_faces(alloc: Global, graph: &Graph, candidates: &[Face]) -> Result<FaceList, Memory>
     ensures { IfOk result (λ l. AreFaces graph.now l) }
 {
@@ -82,14 +84,14 @@ pub fn list_faces(alloc: Global, graph: &Graph, candidates: &[Face]) -> Result<F
     Ok(list)
 }
 
-/// Two units, the smaller first.
+/// Returns the pair of two units, smaller unit first.
 fn side_of(x: u32, y: u32) -> (u32, u32)
     ensures { result ≡ side x y }
 {
     if x < y { (x, y) } else { (y, x) }
 }
 
-/// Puts the side of two units into the set.
+/// Inserts the side of two units.
 fn note(sides: &mut HashSet<(u32, u32)>, x: u32, y: u32) -> Result<(), Memory>
     ensures kept { (q : ℕ × ℕ) → IsTrue (contains same_side sides.old q) → IsTrue (contains same_side sides.new q) }
     ensures there { OnOk result (IsTrue (contains same_side sides.new (side x y))) }
@@ -98,7 +100,7 @@ fn note(sides: &mut HashSet<(u32, u32)>, x: u32, y: u32) -> Result<(), Memory>
     Ok(())
 }
 
-/// Puts all sides of a face into the set.
+/// Inserts all sides of a face.
 fn note_sides(sides: &mut HashSet<(u32, u32)>, face: Face) -> Result<(), Memory>
     ensures kept { (q : ℕ × ℕ) → IsTrue (contains same_side sides.old q) → IsTrue (contains same_side sides.new q) }
     ensures there { OnOk result ((x y : ℕ) → IsTrue (has_side (ring_of face) x y) → IsTrue (contains same_side sides.new (side x y))) }
@@ -128,7 +130,7 @@ fn note_sides(sides: &mut HashSet<(u32, u32)>, face: Face) -> Result<(), Memory>
     }
 }
 
-/// Whether a face's own side is in the set.
+/// Returns true if the own side of a face is in the set.
 fn has_own(sides: &HashSet<(u32, u32)>, face: Face) -> bool
     ensures { result ≡ contains same_side sides.now (own_side face) }
 {

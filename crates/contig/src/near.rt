@@ -1,4 +1,5 @@
-//! The faces of a graph.
+//! The search for the faces of a graph. Nothing is proved of which faces it finds: the list tests
+//! each of them.
 
 ghost use Rattle.std.specs.Prelude.{◌≡◌, ◌<◌, IfOk};
 ghost use Rattle.contig.specs.Faces.{AreFaces};
@@ -10,16 +11,17 @@ use audit_model::memory::Memory;
 use dual_graph::graph::Graph;
 use std::alloc::Global;
 
-/// Units with more neighbours get no face.
+/// The maximum number of neighbors of a unit on a face.
 const DEGREE: usize = 32;
 
-/// With more rings there are no faces.
+/// The maximum number of rings. A graph with more of them gets no faces.
 const MOST: usize = 4000000;
 
-/// So many ways to a ring of five are tried for each unit.
+/// The number of paths per unit to try in the search for pentagons.
 const WAYS: usize = 16;
 
-/// Triangles and squares of a graph, and pentagons where these leave room, each with a side that no later one has.
+/// Finds the triangles and squares of a graph, then pentagons if these leave room. Each face has a
+/// side that no later one has.
 pub fn faces_of(alloc: Global, graph: &Graph) -> Result<FaceList, Memory>
     ensures { IfOk result (λ l. AreFaces graph.now l) }
 {
@@ -44,22 +46,22 @@ pub fn faces_of(alloc: Global, graph: &Graph) -> Result<FaceList, Memory>
     list_faces(alloc, graph, &longer)
 }
 
-/// Whether so many rings, each with a side that no later one has, are all that a connected graph can have: each edge
-/// beyond those of a tree has one.
+/// Returns true if there are as many rings as a connected graph has independent cycles: one for
+/// each edge beyond those of a spanning tree. Then no more can be added.
 fn are_all(graph: &Graph, rings: usize) -> bool {
     rings.wrapping_add(graph.units() as usize) > graph.edges() as usize
 }
 
-/// Rings, as they are found.
+/// Rings found so far.
 #[derive(Drop)]
 struct Rings {
     rings: Vec<Face>,
-    /// How many more ways to a ring of five are tried.
+    /// The number of paths still to try in the search for pentagons.
     ways: usize,
 }
 
 impl Rings {
-    /// Adds the squares with these units in a row, where the fourth unit is greater than the first and not adjacent to it.
+    /// Adds the squares a, b, c, d whose `c` is greater than `a` and not adjacent to it.
     fn add_squares(&mut self, graph: &Graph, a: u32, b: u32, d: u32) -> Result<(), Memory>
         requires units { (a < graph.now.units) × (b < graph.now.units) × (d < graph.now.units) }
     {
@@ -76,7 +78,8 @@ impl Rings {
         Ok(())
     }
 
-    /// Adds the rings with a unit and two greater neighbours of it, one of them given.
+    /// Adds the triangles and squares in which `a` is the least unit and `b` the smaller of its two
+    /// neighbors.
     fn add_beside(&mut self, graph: &Graph, a: u32, b: u32) -> Result<(), Memory>
         requires units { (a < graph.now.units) × (b < graph.now.units) }
     {
@@ -93,7 +96,7 @@ impl Rings {
         Ok(())
     }
 
-    /// Adds the rings of which a unit is the least.
+    /// Adds the triangles and squares in which `a` is the least unit.
     fn add_at(&mut self, graph: &Graph, a: u32) -> Result<(), Memory>
         requires unit { a < graph.now.units }
     {
@@ -107,14 +110,15 @@ impl Rings {
         Ok(())
     }
 
-    /// Whether a side can be one of a pentagon, as far as its second unit tells.
+    /// Returns true if a pentagon may continue from `from` to `to`: `to` has few enough neighbors,
+    /// and their side has room.
     fn goes_on(&self, graph: &Graph, sides: &Sides, from: u32, to: u32) -> bool
         requires { to < graph.now.units }
     {
         graph.neighbours(to).len() <= DEGREE && sides.has_room(graph, from, to)
     }
 
-    /// Adds the pentagons with these units and one more, which is between `c` and `e`.
+    /// Adds the pentagons a, b, c, d, e for each `d` between `c` and `e`.
     fn add_fifth(
         &mut self,
         graph: &Graph,
@@ -139,7 +143,7 @@ impl Rings {
         Ok(())
     }
 
-    /// Adds the pentagons with these units in a row, of which the second is the least.
+    /// Adds the pentagons that contain the path b, a, e, in which `a` is the least unit.
     fn add_row(
         &mut self,
         graph: &Graph,
@@ -167,7 +171,7 @@ impl Rings {
         Ok(())
     }
 
-    /// Adds the pentagons with a unit and two greater neighbours of it, one of them given.
+    /// Adds the pentagons in which `a` is the least unit and `b` the smaller of its two neighbors.
     fn add_pentagons_beside(
         &mut self,
         graph: &Graph,
@@ -186,7 +190,7 @@ impl Rings {
         Ok(())
     }
 
-    /// Adds the pentagons of which a unit is the least.
+    /// Adds the pentagons in which `a` is the least unit.
     fn add_pentagons_at(&mut self, graph: &Graph, sides: &Sides, a: u32) -> Result<(), Memory>
         requires unit { a < graph.now.units }
     {
@@ -200,7 +204,7 @@ impl Rings {
         Ok(())
     }
 
-    /// Adds the pentagons that have no side without room.
+    /// Adds the pentagons whose sides all have room, until the paths to try are used up.
     fn add_pentagons(&mut self, graph: &Graph, sides: &Sides) -> Result<(), Memory> {
         self.ways = (graph.units() as usize).wrapping_mul(WAYS);
         for a in 0..graph.units() {
@@ -210,7 +214,7 @@ impl Rings {
     }
 }
 
-/// The triangles and squares of a graph. Where they are too many, not all are there.
+/// Finds the triangles and squares of a graph, and stops soon after `MOST` of them.
 fn rings_of(alloc: Global, graph: &Graph) -> Result<Rings, Memory> {
     let mut found = Rings {
         rings: Vec::new(alloc),

@@ -15,11 +15,14 @@ use dual_graph::marks::Marks;
 use dual_graph::member::Member;
 use std::sync::ledger::Ledger;
 
-/// The greatest label. The labels begin with 1.
+/// The greatest label. Labels begin with 1.
 pub const MOST: usize = 16;
 
-/// Whether a unit may leave its district, where that is connected, its mates have the labels 1 to `last`, and labels of one root are joined.
-/// It searches the district, which is counted.
+/// Returns true if a unit may leave its district, which must be connected.
+///
+/// The mates have the labels 1 to `last`, and labels with one root are joined. One part of the
+/// district grows from each mate in turn. The search ends as soon as all parts have met, or one of
+/// them cannot grow. It is counted in `steps`.
 #[inline(never)]
 pub fn meet<L: Ledger>(
     leaving: Member,
@@ -57,7 +60,8 @@ pub fn meet<L: Ledger>(
     false
 }
 
-/// Whether the mates of a unit, which have the labels 1 to `last`, are connected among themselves; labels of mates that are joined get one root.
+/// Joins the labels of adjacent mates, and returns true if the mates are connected among
+/// themselves. They have the labels 1 to `last`.
 pub fn are_linked(leaving: Member, marks: &Marks, roots: &mut [u8; 17], last: usize) -> bool
     requires some { 0 < last }
     requires seeded { IsSeeded leaving.graph.now leaving.plan.now leaving.unit last marks.now }
@@ -72,7 +76,8 @@ pub fn are_linked(leaving: Member, marks: &Marks, roots: &mut [u8; 17], last: us
     all_one(roots, last)
 }
 
-/// Marks the mates of a unit, each with a label of its own, and tells how many there are; where there are more than sixteen it answers seventeen.
+/// Marks the mates of a unit with labels from 1, and returns their number, or 17 if there are more
+/// than 16.
 pub fn mark_mates(leaving: Member, marks: &mut Marks) -> usize
     requires { marks.old.units ≡ leaving.graph.now.units }
     ensures units { marks.new.units ≡ leaving.entry.graph.now.units }
@@ -95,7 +100,7 @@ pub fn mark_mates(leaving: Member, marks: &mut Marks) -> usize
     count
 }
 
-/// Whether all labels up to the last have one root.
+/// Returns true if all labels up to the last have one root.
 fn all_one(roots: &[u8], last: usize) -> bool
     requires { last < length roots.now }
     ensures yes { IsTrue result → AllOne roots.now last }
@@ -109,7 +114,8 @@ fn all_one(roots: &[u8], last: usize) -> bool
     true
 }
 
-/// Marks the neighbours of a marked unit that stay behind with its label, and joins the parts that it meets; tells whether it joined any.
+/// Labels the unmarked neighbors of a marked unit as the unit is, and joins the parts that it
+/// meets. Returns true if it joined any.
 #[inline]
 fn spread(leaving: Member, marks: &mut Marks, roots: &mut [u8; 17], unit: u32, label: u8) -> bool
     requires unit { unit < leaving.graph.now.units }
@@ -137,7 +143,8 @@ fn spread(leaving: Member, marks: &mut Marks, roots: &mut [u8; 17], unit: u32, l
     met
 }
 
-/// Whether some unit with a label of the part of this one stands at the place or after it.
+/// Returns true if the part of a label can still grow: one of its units is at position `at` or
+/// later.
 fn goes_on(roots: &[u8], ends: &[usize], last: usize, label: u8, at: usize) -> bool
     requires widths { (last < length roots.now) × (last < length ends.now) }
     requires label { label ≤ last }
@@ -151,7 +158,7 @@ fn goes_on(roots: &[u8], ends: &[usize], last: usize, label: u8, at: usize) -> b
     false
 }
 
-/// Joins a mate's part with those of the mates beside it.
+/// Joins a mate's part with those of adjacent mates.
 #[inline]
 fn link(leaving: Member, marks: &Marks, roots: &mut [u8; 17], last: usize, unit: u32)
     requires unit { unit < leaving.graph.now.units }

@@ -1,5 +1,5 @@
-//! An order in which rings become faces. Nothing is proved of it: the list of faces tests each ring itself, and the
-//! order decides only how many it keeps.
+//! An order in which rings become faces. Nothing is proved of it: the list of faces tests each
+//! ring, and the order only decides how many it accepts.
 
 ghost use Rattle.std.specs.Prelude.{◌<◌};
 
@@ -8,38 +8,39 @@ use audit_model::memory::Memory;
 use dual_graph::graph::Graph;
 use std::alloc::Global;
 
-/// A crowded side counts as so many neighbours.
+/// The weight of a crowded side, in neighbors.
 const CROWDED: usize = 4;
 
-/// How many classes of rings there are: a pentagon whose units have 32 neighbours each and whose sides are crowded has
-/// the first.
+/// The number of classes. The greatest weight is that of a pentagon with 32 neighbors per unit and
+/// five crowded sides.
 const CLASSES: usize = 181;
 
-/// For each side how many of the rings that are left have it, and the exclusive or of their numbers.
+/// The sides of a graph: for each, the number of the rings left that have it, and the exclusive or
+/// of their indices. If one ring is left, that is its index.
 #[derive(Drop)]
 pub struct Sides {
-    /// The number of the first side of each unit.
+    /// The index of the first side of each unit.
     begins: Vec<usize>,
     counts: Vec<u32>,
     sums: Vec<usize>,
-    /// The sides that one ring alone was seen to have.
+    /// Sides that had a single ring when they were last seen.
     ready: Vec<usize>,
 }
 
 impl Sides {
-    /// The number of a ring's own side.
+    /// Returns the index of a ring's own side.
     fn own(&self, graph: &Graph, ring: Face) -> usize {
         let (a, b) = first_two(ring);
         self.number_of(graph, a, b)
     }
 
-    /// Whether fewer than two of the rings that are left have this side.
+    /// Returns true if fewer than two of the rings left have this side.
     pub fn has_room(&self, graph: &Graph, a: u32, b: u32) -> bool {
         let side = self.number_of(graph, a, b);
         side < self.counts.len() && self.counts[side] < 2
     }
 
-    /// The number of the side of two units.
+    /// Returns the index of the side of two units.
     fn number_of(&self, graph: &Graph, a: u32, b: u32) -> usize {
         let (low, high) = if a < b { (a, b) } else { (b, a) };
         if low >= graph.units() || low as usize >= self.begins.len() {
@@ -52,7 +53,7 @@ impl Sides {
         self.begins[low as usize].wrapping_add(place)
     }
 
-    /// Counts one more ring, or one less, at a side.
+    /// Adds one ring to a side, or removes one. A side left with a single ring becomes ready.
     fn count(&mut self, side: usize, number: usize, more: bool) -> Result<(), Memory> {
         if side >= self.counts.len() || side >= self.sums.len() {
             return Ok(());
@@ -71,7 +72,7 @@ impl Sides {
         Ok(())
     }
 
-    /// Counts one more ring, or one less, at all of its sides.
+    /// Adds one ring to all of its sides, or removes it.
     fn count_all(
         &mut self,
         graph: &Graph,
@@ -88,7 +89,7 @@ impl Sides {
         Ok(())
     }
 
-    /// The sides of these rings.
+    /// Counts the sides of these rings. Fails if there is no memory.
     pub fn of(alloc: Global, graph: &Graph, rings: &[Face]) -> Result<Sides, Memory> {
         let begins = begins_of(alloc, graph)?;
         let all = match begins.last() {
@@ -110,7 +111,7 @@ impl Sides {
         Ok(sides)
     }
 
-    /// Makes a side ready that one ring alone has.
+    /// Makes a side ready if it has a single ring.
     fn see(&mut self, side: usize) -> Result<(), Memory> {
         if side < self.counts.len() && self.counts[side] == 1 {
             self.ready.push(side)?;
@@ -118,7 +119,7 @@ impl Sides {
         Ok(())
     }
 
-    /// A side that one ring alone has, and the number of that ring.
+    /// Takes a ready side that still has a single ring. Returns the side and the index of the ring.
     fn next(&mut self) -> Option<(usize, usize)> {
         for _ in 0..u64::MAX {
             match self.ready.pop() {
@@ -136,7 +137,7 @@ impl Sides {
         None
     }
 
-    /// How many sides of a ring more than two rings have.
+    /// Counts the sides of a ring that more than two rings have.
     fn crowded(&self, graph: &Graph, ring: Face) -> u8 {
         let mut crowded = 0u8;
         let mut turn = ring;
@@ -150,7 +151,7 @@ impl Sides {
         crowded
     }
 
-    /// The ring begun with a side.
+    /// Rotates a ring to begin with a side.
     fn begun(&self, graph: &Graph, ring: Face, side: usize) -> Face {
         let mut turn = ring;
         for _ in 0..length_of(ring) {
@@ -163,8 +164,11 @@ impl Sides {
     }
 }
 
-/// The rings that are taken off while one has a side alone, the last first, each begun with that side. Where none has,
-/// one is dropped: a face has its sides with one other at most, and has neighbours on one side.
+/// Orders rings so that each has a side that no earlier one has, and rotates it to begin with that
+/// side.
+///
+/// It takes off a ring that alone has some side, again and again; the last one comes first. If
+/// there is none, it drops a ring. In a plane graph, at most two faces share a side.
 pub fn peeled(alloc: Global, graph: &Graph, rings: &[Face]) -> Result<Vec<Face>, Memory> {
     let mut sides = Sides::of(alloc, graph, rings)?;
     let order = drop_order(alloc, graph, &sides, rings)?;
@@ -179,7 +183,8 @@ pub fn peeled(alloc: Global, graph: &Graph, rings: &[Face]) -> Result<Vec<Face>,
     Ok(kept)
 }
 
-/// The numbers of the rings in the order of their classes.
+/// Returns the indices of the rings in the order in which to drop them, by a counting sort of their
+/// classes.
 fn drop_order(
     alloc: Global,
     graph: &Graph,
@@ -201,10 +206,12 @@ fn drop_order(
     Ok(order)
 }
 
-/// The class of a ring: the more neighbours its units have and the more of its sides are crowded, the sooner it comes. A
-/// ring round other units has neighbours on both of its sides, a face has them on one. And of four units that are all
-/// adjacent to one another, the one with the fewest neighbours is rarely apart from the other three, so that the ring of
-/// these three is missed the least.
+/// Returns the class of a ring. The more neighbors its units have and the more of its sides are
+/// crowded, the sooner it is dropped.
+///
+/// A ring around other units has neighbors on both sides, a face on one. Of four mutually adjacent
+/// units, the one with the fewest neighbors is rarely apart from the others. The ring of those
+/// others is then the least loss.
 fn class_of(graph: &Graph, sides: &Sides, ring: Face) -> usize
     ensures { result < 181 }
 {
@@ -213,7 +220,7 @@ fn class_of(graph: &Graph, sides: &Sides, ring: Face) -> usize
     (CLASSES - 1).saturating_sub(weight)
 }
 
-/// How many neighbours the units of a ring have, taken together.
+/// Adds up the numbers of neighbors of a ring's units.
 fn neighbours_of(graph: &Graph, ring: Face) -> usize {
     let mut all = 0usize;
     let mut turn = ring;
@@ -227,7 +234,7 @@ fn neighbours_of(graph: &Graph, ring: Face) -> usize {
     all
 }
 
-/// Makes of how many there are in each class the place at which it begins.
+/// Turns the sizes of the classes into the positions at which they begin.
 fn begin_classes(places: &mut [usize]) {
     let mut end = 0usize;
     for class in 0..places.len() {
@@ -237,7 +244,7 @@ fn begin_classes(places: &mut [usize]) {
     }
 }
 
-/// Puts a number at the place of its class, which moves on.
+/// Puts an index at the next position of its class.
 fn put(order: &mut [usize], places: &mut [usize], class: usize, number: usize) {
     if class < places.len() && places[class] < order.len() {
         let place = places[class];
@@ -246,7 +253,7 @@ fn put(order: &mut [usize], places: &mut [usize], class: usize, number: usize) {
     }
 }
 
-/// The number of the first side of each unit, and behind them that of all.
+/// Returns the index of the first side of each unit, and then the number of all sides.
 fn begins_of(alloc: Global, graph: &Graph) -> Result<Vec<usize>, Memory> {
     let mut begins = Vec::new(alloc);
     let mut end = 0usize;
@@ -258,7 +265,7 @@ fn begins_of(alloc: Global, graph: &Graph) -> Result<Vec<usize>, Memory> {
     Ok(begins)
 }
 
-/// How many sides a ring has.
+/// Returns the number of sides of a ring.
 fn length_of(ring: Face) -> usize {
     match ring {
         Face::Triangle(_, _, _) => 3,
@@ -267,7 +274,7 @@ fn length_of(ring: Face) -> usize {
     }
 }
 
-/// The first two units of a ring.
+/// Returns the first two units of a ring.
 fn first_two(ring: Face) -> (u32, u32) {
     match ring {
         Face::Triangle(a, b, _) => (a, b),
@@ -276,7 +283,7 @@ fn first_two(ring: Face) -> (u32, u32) {
     }
 }
 
-/// Takes a ring off, and tells whether it was left.
+/// Takes a ring off. Returns true if it was still left.
 fn take_off(
     graph: &Graph,
     rings: &[Face],
@@ -292,7 +299,7 @@ fn take_off(
     Ok(true)
 }
 
-/// Takes off the rings that have a side alone, one after another, and keeps them.
+/// Takes off and keeps rings that alone have some side, until there are none.
 fn keep_ready(
     graph: &Graph,
     rings: &[Face],

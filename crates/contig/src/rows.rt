@@ -1,4 +1,4 @@
-//! The corners at each unit.
+//! Corners by unit.
 
 ghost use Rattle.std.specs.Prelude.{◌≡◌, ◌<◌, ℕ, List, [], length, slice_index, IsTrue, IfOk, OnOk};
 ghost use Rattle.std.specs.List.{slice_index_or};
@@ -14,7 +14,7 @@ use audit_model::memory::Memory;
 use dual_graph::graph::Graph;
 use std::alloc::Global;
 
-/// The corners of the faces at each unit.
+/// Lists the corners of the faces at each unit. Fails if there is no memory.
 pub fn rows_of(alloc: Global, graph: &Graph, faces: &[Face]) -> Result<Vec<CornerList>, Memory>
     requires faces { AreFaces graph.now (rings faces.now) }
     ensures { IfOk result (λ rows. HasCorners graph.now (λ w. corners_at w (rings faces.now)) rows.items) }
@@ -26,13 +26,13 @@ pub fn rows_of(alloc: Global, graph: &Graph, faces: &[Face]) -> Result<Vec<Corne
     Ok(rows)
 }
 
-/// The place of a neighbour among a unit's neighbours.
+/// Returns the position of a neighbor in a unit's list.
 fn place_of(graph: &Graph, unit: u32, other: u32) -> u32
     requires { IsTrue (adjacent graph.now unit other) }
     ensures within { result < length (slice_index_or graph.now.neighbours unit []) }
     ensures there { slice_index (slice_index_or graph.now.neighbours unit []) result ≡ other }
 {
-    // Called for what its contract says: the graph is sound, and has at most 100,000 units.
+    // Called for its contract: the graph is sound and has at most 100,000 units.
     let _units = graph.units();
     let row = graph.neighbours(unit);
     for place in 0..row.len() {
@@ -43,7 +43,7 @@ fn place_of(graph: &Graph, unit: u32, other: u32) -> u32
     0
 }
 
-/// Adds a corner at a unit, with the units opposite.
+/// Adds a corner at a unit. `opposite` are the two units opposite.
 fn add_corner(
     graph: &Graph,
     rows: &mut Vec<CornerList>,
@@ -102,7 +102,7 @@ fn add_face(graph: &Graph, rows: &mut Vec<CornerList>, face: Face) -> Result<(),
     }
 }
 
-/// No corner at any unit.
+/// Allocates an empty list for each unit.
 fn no_rows(alloc: Global, units: u32) -> Result<Vec<CornerList>, Memory>
     ensures width { IfOk result (λ rows. length rows.items ≡ units) }
     ensures none { IfOk result (λ rows. (u : ℕ) → slice_index_or rows.items u [] ≡ []) }

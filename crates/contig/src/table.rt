@@ -1,4 +1,4 @@
-//! The faces of a graph, as a walk asks for them.
+//! The faces of a graph, by unit.
 
 ghost use Rattle.std.specs.Prelude.{◌≡◌, ◌+◌, ◌<◌, ◌≤◌, ◌↔◌, [], length, map, slice_index, IsTrue, IsFalse, IfOk, All};
 ghost use Rattle.std.specs.List.{slice_index_or};
@@ -21,10 +21,10 @@ use std::alloc::Global;
 use std::marker::Model;
 use std::snapshot::Snapshot;
 
-/// With more faces there are none.
+/// The maximum number of faces. A graph with more gets none.
 const MOST: usize = 4000000;
 
-/// The faces of a graph, by the units that they are at.
+/// The faces of a graph, stored as corners by unit.
 #[derive(Drop)]
 pub struct FaceTable {
     graph: Snapshot<Graph>,
@@ -43,7 +43,7 @@ impl Model for FaceTable {
 }
 
 impl FaceTable {
-    /// The faces of a graph.
+    /// Finds the faces of a graph. Fails if there is no memory.
     pub fn of(alloc: Global, graph: &Graph) -> Result<FaceTable, Memory>
         ensures { IfOk result (λ t. t.graph ≡ graph.now) }
     {
@@ -56,7 +56,7 @@ impl FaceTable {
         })
     }
 
-    /// How many units there are.
+    /// Returns the number of units.
     #[inline]
     pub fn units(&self) -> usize
         ensures units { result ≡ self.now.graph.units }
@@ -66,7 +66,7 @@ impl FaceTable {
         self.rows.len()
     }
 
-    /// The faces at a unit.
+    /// Returns the corners of the faces at a unit.
     #[inline]
     pub fn at(&self, unit: u32) -> &[Corner]
         requires { unit < self.now.graph.units }
@@ -77,8 +77,11 @@ impl FaceTable {
         self.rows[unit as usize].as_slice()
     }
 
-    /// Whether the neighbours of a unit in its district are linked, one to the next, through faces inside it. Where the
-    /// district is connected, a unit may leave it then; and no other may where the district has no hole.
+    /// Returns true if the mates of a unit are linked, one to the next, through faces inside their
+    /// district.
+    ///
+    /// If the district is connected, the unit may then leave. No other unit may leave a connected
+    /// district without holes.
     pub fn links_mates(&self, leaving: Member) -> bool
         requires made { self.now.graph ≡ leaving.graph.now }
         requires few { length (slice_index_or leaving.graph.now.neighbours leaving.unit []) ≤ 32 }
@@ -92,7 +95,7 @@ impl FaceTable {
     }
 }
 
-/// The faces of a graph, or none where they are too many.
+/// Finds the faces of a graph, or none if there are too many.
 fn some_faces(alloc: Global, graph: &Graph) -> Result<FaceList, Memory>
     ensures faces { IfOk result (λ l. AreFaces graph.now l) }
     ensures few { IfOk result (λ l. length l ≤ 4000000) }
