@@ -1,4 +1,4 @@
--- The division of draws into blocks, by a product with an inverse.
+-- Division of draws into blocks, by multiplication with an inverse.
 use Rattle.std.proofs.Common.{◌≡◌, ℕ, Option, cond, ◌+◌, ◌-◌, ◌*◌, ◌/◌, ◌%◌, ◌^◌, ◌<◌, ◌≤◌, Some, None, sym, ap, ◌∙◌, inl, inr, arith}
 use Rattle.std.specs.Prelude.{nat_lt}
 use Rattle.std.proofs.Math.Nat.{mul-le-mul_left, mul-le-mul_right}
@@ -9,15 +9,15 @@ use Rattle.flip_kernel.specs.Blocks.{place_in}
 
 -- ---- a quotient that is at most one short
 
--- the quotient and the rest of a number that is put together of them
+-- quotient and remainder of a number given as their combination
 divided_at : (blocks size rest : ℕ) → rest < size → ◌≡◌ {A = ℕ × ℕ} ((blocks * size + rest) / size, (blocks * size + rest) % size) (blocks, rest)
 divided_at blocks size rest small =
     ap (λ (n : ℕ). (n, (blocks * size + rest) % size)) (div-mul-add blocks size rest small) ∙ ap (λ (n : ℕ). (blocks, n)) (mod-mul-add blocks size rest small)
 
--- of all draws there are `all`, and the size goes into them `inverse` times; `blocks` is the product's quotient
+-- `all` is the number of draws, `inverse` its quotient by the size, and `blocks` the high half of the product
 module _ (all draw size inverse blocks : ℕ) (some : 0 < size) (l : draw < all) (enough : inverse * size < all) (most : all ≤ inverse * size + size)
     (low : blocks * all ≤ draw * inverse) (high : draw * inverse < blocks * all + all) where
-  -- it is not too much
+  -- the product's quotient is not too large
   pub blocks_fit : blocks * size ≤ draw
   blocks_fit = elim (cases_lt draw (blocks * size)) [
     | inr fits ↦ fits
@@ -28,7 +28,7 @@ module _ (all draw size inverse blocks : ℕ) (some : 0 < size) (l : draw < all)
         absurd (omega (arith, one, two, three, l))
   ]
 
-  -- and what is left is less than two sizes
+  -- the remainder is less than twice the size
   rest_small : draw < blocks * size + 2 * size
   rest_small = elim (cases_lt draw (blocks * size + 2 * size)) [
     | inl small ↦ small
@@ -40,14 +40,14 @@ module _ (all draw size inverse blocks : ℕ) (some : 0 < size) (l : draw < all)
         absurd (omega (arith, one, two, three, four, some))
   ]
 
-  -- either it is less than one, and the quotient is right
+  -- if the remainder is less than the size, the quotient is right
   pub divided_is : draw - blocks * size < size → ◌≡◌ {A = ℕ × ℕ} (blocks, draw - blocks * size) (draw / size, draw % size)
   divided_is small = sym (ap (λ (n : ℕ). (n / size, n % size)) split ∙ divided_at blocks size (draw - blocks * size) small)
     where
       split : draw ≡ blocks * size + (draw - blocks * size)
       split = omega (arith, blocks_fit)
 
-  -- or the quotient is the next
+  -- otherwise the next quotient is right
   pub divided_next : size ≤ draw - blocks * size → ◌≡◌ {A = ℕ × ℕ} (blocks + 1, draw - blocks * size - size) (draw / size, draw % size)
   divided_next large = sym (ap (λ (n : ℕ). (n / size, n % size)) split ∙ divided_at (blocks + 1) size (draw - blocks * size - size) (omega (arith, rest_small, large)))
     where
@@ -57,7 +57,7 @@ module _ (all draw size inverse blocks : ℕ) (some : 0 < size) (l : draw < all)
 -- ---- blocks of draws
 
 module _ (draw size last place : ℕ) (some : 0 < size) (whole : last + size ≡ 2 ^ 64) (is : place ≡ draw % size) where
-  -- a draw whose block ends below the limit is counted
+  -- a draw whose block begins at or before `last` has a place
   counted : draw - place ≤ last → draw < 2 ^ 64 / size * size
   counted within =
       let parts : draw / size * size + draw % size ≡ draw = div-add-mod' draw size in
@@ -67,7 +67,7 @@ module _ (draw size last place : ℕ) (some : 0 < size) (whole : last + size ≡
       let blocks : draw / size + 1 ≤ 2 ^ 64 / size = le-div (draw / size + 1) (2 ^ 64) size some block in
       omega (arith, mul-le-mul_right size blocks, parts, rest, more)
 
-  -- and another is not
+  -- a draw with a place has a block that begins at or before `last`
   ends_below : draw < 2 ^ 64 / size * size → draw - place ≤ last
   ends_below l =
       let parts : draw / size * size + draw % size ≡ draw = div-add-mod' draw size in
@@ -82,7 +82,7 @@ module _ (draw size last place : ℕ) (some : 0 < size) (whole : last + size ≡
   place_held beyond = sym (cond-false _ _ _ (false_from_ne_true (nat_lt draw (2 ^ 64 / size * size))
       (λ l. let below = ends_below (ltb-true draw (2 ^ 64 / size * size) l) in omega (arith, below, beyond))))
 
-  -- the place of a draw, by where its block begins
+  -- the place of a draw, by the beginning of its block
   pub place_by : place_in size draw ≡ cond {A = Option ℕ} (nat_lt last (draw - place)) None (Some place)
   place_by = elim (cases_lt last (draw - place)) [
     | inl beyond ↦ sym (place_held beyond) ∙ sym (cond-true _ _ _ (lt-ltb last (draw - place) beyond))

@@ -1,4 +1,4 @@
--- The plan after a draw, and the draw that leads back, by what the draw proposes.
+-- The plan after a draw, and the draw that leads back, by the proposal.
 use Rattle.std.proofs.Common.{◌≡◌, ℕ, ◌+◌, ◌-◌, ◌*◌, ◌/◌, ◌%◌, ◌<◌, Bool, true, false, cond, List, length, get_or, set, Option, Some, None, refl, sym, ap, ◌∙◌, inl, inr, arith}
 use Rattle.std.specs.Prelude.{◌↔◌, nat_lt, bytes_eq, IsTrue, IsFalse}
 use Rattle.std.proofs.Math.Nat.{mod-le}
@@ -13,17 +13,17 @@ use Rattle.audit_model.specs.Step.{changed, next, turned_back, mirrored}
 use Rattle.audit_model.proofs.Legal.{legal_passes, passes_legal}
 use Rattle.flip_kernel.specs.Held.{Held, IsMove}
 
--- a choice between a plan and itself
+-- a choice between two equal plans
 both_same : (b : Bool) (plan : List ℕ) → cond b plan plan ≡ plan
 both_same true plan = refl
 both_same false plan = refl
 
--- what is proposed, by the draw's place in its block
+-- a proposal, as the draw's place in its block
 record IsPlace (units districts draw unit district : ℕ) : Type 0 where
   same_unit : draw % (units * districts) / districts ≡ unit
   same_district : draw % (units * districts) % districts ≡ district
 
--- a proposed pair is that of the draw's place in its block
+-- a proposed pair has the draw's place in its block
 is_place : (units districts draw unit district : ℕ) → proposal units districts draw ≡ Some (unit, district) → IsPlace units districts draw unit district
 is_place units districts draw unit district is = elim (cases_Bool (nat_lt draw (counted_draws units districts))) [
   | inl counted ↦
@@ -34,7 +34,7 @@ is_place units districts draw unit district is = elim (cases_Bool (nat_lt draw (
   | inr held ↦ let other : ◌≡◌ {A = Option (ℕ × ℕ)} None (Some (unit, district)) = sym (cond-false _ _ _ held) ∙ is in absurd (cc)
 ]
 
--- the pair of what is proposed is the draw's place in its block
+-- the pair's place is the draw's place in its block
 proposed_place : (units districts draw unit district : ℕ) → proposal units districts draw ≡ Some (unit, district)
     → unit * districts + district ≡ draw % (units * districts)
 proposed_place units districts draw unit district is =
@@ -48,17 +48,17 @@ module _ (job : Job) (plan : List ℕ) (draw : ℕ) where
   unfolding next
   next_at o is = ap (λ p. cond (is_legal job (changed plan p)) (changed plan p) plan) is
 
-  -- nothing is proposed
+  -- without a proposal, the plan stays
   pub next_held : proposal job.graph.units job.districts draw ≡ None → next job plan draw ≡ plan
   next_held is = next_at None is ∙ both_same (is_legal job plan) plan
 
-  -- a move is proposed
+  -- a proposed move changes the plan
   pub next_moved : (unit district : ℕ) → proposal job.graph.units job.districts draw ≡ Some (unit, district) → IsMove job plan unit district
       → next job plan draw ≡ set plan unit district
   next_moved unit district is move =
       next_at (Some (unit, district)) is ∙ cond-true _ _ _ (legal_passes job (set plan unit district) move.legal)
 
-  -- what is proposed is no move
+  -- if the proposal is not a move, the plan stays
   pub next_stays : (unit district : ℕ) → proposal job.graph.units job.districts draw ≡ Some (unit, district) → (IsMove job plan unit district → ⊥)
       → next job plan draw ≡ plan
   next_stays unit district is still = elim (cases_eq (get_or plan unit 0) district) [
@@ -83,14 +83,14 @@ module _ (job : Job) (plan : List ℕ) (draw : ℕ) where
       cond-false _ _ _ (false_from_ne_true (bytes_eq (next job plan draw) plan) (λ same. differs ((bytes_eq-Decides (next job plan draw) plan).0 same)))
       ∙ ap (λ o. turned_back job.graph.units job.districts plan draw o) is
 
-  -- the same draw by the two districts alone
+  -- the mirrored draw, computed from the two districts
   pub mirrored_turned : (unit district : ℕ) → proposal job.graph.units job.districts draw ≡ Some (unit, district) → (next job plan draw ≡ plan → ⊥)
       → mirrored job plan draw ≡ draw - district + get_or plan unit 0
   mirrored_turned unit district is differs =
       let place = proposed_place job.graph.units job.districts draw unit district is in
       omega (arith, mirrored_moved unit district is differs, place, mod-le draw (job.graph.units * job.districts))
 
--- what is left where the unit is moved exactly where that is a move
+-- the result of a flip that is made exactly if it is a move
 module _ (job : Job) (old new : Held) (draw unit district : ℕ) (result : Bool)
     (is : proposal job.graph.units job.districts draw ≡ Some (unit, district)) (inside : unit < length old.plan)
     (moves : IsTrue result ↔ IsMove job old.plan unit district)

@@ -1,4 +1,4 @@
--- What a judge is asked of a job's plans.
+-- The plans that a constraint is asked about.
 use Rattle.std.proofs.Common.{◌≡◌, ℕ, ◌<◌, List, length, get_or, set, sym, ap, ◌∙◌, subst, inl, inr, arith, length-set}
 use Rattle.std.specs.Prelude.{IsTrue}
 use Rattle.std.proofs.lemmas.Bool.{cases_eq}
@@ -11,13 +11,13 @@ use Rattle.flip_guard.specs.Judging.{IsAfterMove, IsTaken, Judging}
 use Rattle.flip_kernel.specs.Judged.{IsJudgeFor, IsSeated, TakesPlansOf}
 use Rattle.flip_kernel.proofs.Holding.{put_back}
 
--- a plan of the job is taken
+-- a plan of the job is accepted
 pub plan_taken : (job : Job) (by : Judging) → IsJudgeFor job by → (plan : List ℕ) → length plan ≡ job.graph.units
     → ((u : ℕ) → u < job.graph.units → get_or plan u 0 < job.districts) → IsTaken by plan
 plan_taken job by judge plan complete in_range = subst (λ (n : ℕ). IsTrue (by.takes n (above_all plan))) (sym complete)
     (judge.taken (above_all plan) (above_all_most plan job.districts (λ u l. in_range u (omega (arith, l, complete)))))
 
--- and so is the plan with a unit in another district
+-- the plan after a move is accepted
 pub judged_after : (job : Job) (by : Judging) (plan : List ℕ) → IsSeated job plan by → IsLegal job plan → (after : List ℕ) (unit district home : ℕ)
     → unit < job.graph.units → district < job.districts → after ≡ set plan unit district → home ≡ get_or plan unit 0 → IsAfterMove by after unit home
 judged_after job by plan judge legal after unit district home inside within is was =
@@ -37,7 +37,7 @@ judged_after job by plan judge legal after unit district home inside within is w
       stood = subst by.stands (sym back) judge.stood;
     }
 
--- a judge for the job that judges and takes as before, keeps what it needs and stands for a plan is seated there
+-- a constraint that describes a plan, with rules and acceptance unchanged, is one for the job and the plan
 pub seated_now : (job : Job) (old new : Judging) (plan : List ℕ) → IsJudgeFor job old → new.keeps → new.stands plan → new.rules ≡ old.rules → new.takes ≡ old.takes
     → IsSeated job plan new
 seated_now job old new plan judge kept stood same_rules same_takes = record {

@@ -1,5 +1,5 @@
--- A proposal is a move exactly where its pair is open, both populations stay within the bounds, the plan after it meets the rules, and the
--- unit may leave its district.
+-- A proposal is a move exactly if four conditions hold: the pair is open, both populations stay within bounds, the plan
+-- after it meets the rules, and the unit may leave its district.
 use Rattle.std.proofs.Common.{◌≡◌, ℕ, ◌+◌, ◌<◌, ◌≤◌, Bool, true, false, cond, not, ◌==◌, List, [], ◌∷◌, length, get_or, set, refl, sym, ap, ◌∙◌, subst, inl, inr, arith, length-set}
 use Rattle.std.specs.Prelude.{◌⊎◌, ◌↔◌, IsTrue}
 use Rattle.std.proofs.lemmas.Bool.{cases_eq, eq-eqb, eqb-true, ne_eqb, and_right, both_ways, false≢true, cond-true, cond-false, not_from_true, not_from_false}
@@ -23,7 +23,7 @@ use Rattle.flip_kernel.proofs.Holding.{put_back}
 
 -- ---- connected sets
 
--- sets of the same units are connected alike
+-- equal sets are connected alike
 connected_same : (g : Graph) (p q : ℕ → Bool) → ((v : ℕ) → p v ≡ q v) → IsConnected g p → IsConnected g q
 connected_same g p q same connected = record {
   inhabited = (connected.inhabited.0, into connected.inhabited.0 connected.inhabited.1);
@@ -36,7 +36,7 @@ connected_same g p q same connected = record {
     back : (v : ℕ) → IsIn g q v → IsIn g p v
     back v i = (i.0, same v ∙ i.1)
 
--- a connected set stays so with one more unit that has a neighbour in it
+-- a connected set with one more unit adjacent to it is connected
 connected_more : (g : Graph) (small large : ℕ → Bool) (u w : ℕ) → IsGraph g → u < g.units → large u ≡ true → ((v : ℕ) → small v ≡ true → large v ≡ true)
     → ((v : ℕ) → large v ≡ true → (v ≡ u) ⊎ (small v ≡ true)) → adjacent g u w ≡ true → small w ≡ true → IsConnected g small → IsConnected g large
 connected_more g small large u w sound lt u_in more one near w_in connected = record {
@@ -68,7 +68,7 @@ second_of g inside [] u x p off = absurd p
 second_of g inside (a ∷ []) u x p off = absurd (off (sym p.1 ∙ p.0))
 second_of g inside (a ∷ b ∷ rest) u x p off = (b, subst (λ (v : ℕ). adjacent g v b ≡ true) p.0 p.2, (first_in g inside b rest b x p.3).1)
 
--- ---- the plan with the unit in the district
+-- ---- the plan after the flip
 
 module _ (job : Job) (plan : List ℕ) (u d : ℕ) (sound : IsJob job) (legal : IsLegal job plan) (inside : u < job.graph.units) (within : d < job.districts)
     (off : get_or plan u 0 ≡ d → ⊥) where
@@ -163,7 +163,7 @@ module _ (job : Job) (plan : List ℕ) (u d : ℕ) (sound : IsJob job) (legal : 
     ]
   ]
 
-  -- no district has fewer people than one of its units, and both districts' populations are within the bounds
+  -- a district has at least the people of each of its units, and both populations are within the bounds
   pub people_fit : (people ≤ sum_in plan (get_or plan u 0))
       × ((least_population job ≤ sum_in plan (get_or plan u 0)) × (sum_in plan (get_or plan u 0) ≤ greatest_population job))
       × (sum_in plan d ≤ greatest_population job)
@@ -173,7 +173,7 @@ module _ (job : Job) (plan : List ℕ) (u d : ℕ) (sound : IsJob job) (legal : 
     (bounded plan d (legal.balanced d within)).1,
   )
 
-  -- ---- both ways
+  -- ---- both directions
 
   connected_after : is_open job.graph plan u d ≡ true → MayLeave job.graph plan u → (e : ℕ) → e < job.districts → IsConnected job.graph (in_district (set plan u d) e)
   connected_after beside leaves e le = elim (cases_eq e (get_or plan u 0)) [
@@ -226,11 +226,11 @@ module _ (job : Job) (plan : List ℕ) (u d : ℕ) (sound : IsJob job) (legal : 
     pub move_leaves : MayLeave job.graph plan u
     move_leaves = connected_same job.graph (in_district (set plan u d) (get_or plan u 0)) (stays_behind plan u) in_old (move.legal.connected (get_or plan u 0) in_home)
 
-  -- where the bounds are not kept it is no move
+  -- without kept bounds, the flip is not a move
   pub not_kept : (kept : Bool) → kept ≡ false → IsTrue kept ↔ Keeps → IsTrue false ↔ IsMove job plan u d
   not_kept kept is told = (λ moved. absurd (false≢true moved), λ move. absurd (both_ways kept is (told.1 (move_keeps move))))
 
--- after a move the way back is open
+-- after a move, the pair back is open
 pub left_is_open : (job : Job) (plan : List ℕ) (u d : ℕ) → IsJob job → IsLegal job plan → u < job.graph.units → d < job.districts → IsMove job plan u d
     → is_open job.graph (set plan u d) u (get_or plan u 0) ≡ true
 left_is_open job plan u d sound legal inside within move =

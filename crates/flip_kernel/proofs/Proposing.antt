@@ -1,4 +1,4 @@
--- What a draw proposes, and that it is no move where the pair is not open.
+-- The proposal of a draw, and pairs that are not open.
 use Rattle.std.proofs.Common.{◌≡◌, ℕ, ◌*◌, ◌/◌, ◌%◌, ◌^◌, ◌<◌, Bool, true, false, List, get_or, Option, Some, None, sym, ap, ◌∙◌, subst, inl, inr, arith}
 use Rattle.std.specs.Prelude.{nat_lt}
 use Rattle.std.proofs.lemmas.Bool.{cases_Bool, cond-true, cond-false, both_ways}
@@ -23,12 +23,12 @@ proposed_none units districts size draw is held = elim (cases_Bool (nat_lt draw 
   | inr not-counted ↦ cond-false _ _ _ (ap (λ (n : ℕ). nat_lt draw (2 ^ 64 / n * n)) (sym is) ∙ not-counted)
 ]
 
--- a draw's place, where it has one
+-- the place of a draw that has one
 record IsPlaceOf (size draw found : ℕ) : Type 0 where
   counted : nat_lt draw (2 ^ 64 / size * size) ≡ true
   place : found ≡ draw % size
 
--- a draw's place is its rest, and the draw is of a whole block
+-- a draw's place is its remainder, and its block is whole
 is_place_of : (size draw found : ℕ) → Some found ≡ place_in size draw → IsPlaceOf size draw found
 is_place_of size draw found is = elim (cases_Bool (nat_lt draw (2 ^ 64 / size * size))) [
   | inl yes-counted ↦
@@ -37,7 +37,7 @@ is_place_of size draw found is = elim (cases_Bool (nat_lt draw (2 ^ 64 / size * 
   | inr not-counted ↦ let other : ◌≡◌ {A = Option ℕ} (Some found) None = is ∙ cond-false _ _ _ not-counted in absurd (cc)
 ]
 
--- a draw with a place proposes the pair of that place
+-- a draw with a place proposes the pair there
 proposed_some : (units districts size draw found : ℕ) → size ≡ units * districts → IsPlaceOf size draw found
     → proposal units districts draw ≡ Some (found / districts, found % districts)
 proposed_some units districts size draw found is of =
@@ -47,7 +47,7 @@ proposed_some units districts size draw found is of =
 
 module _ (job : Job) (plan : List ℕ) (sums : Following) (marks : ℕ) (table : List Bool) (pairs : Pairs) (low high : ℕ) (faced : Faced) (counted : Counted)
     (held : IsHeld job plan sums marks table pairs low high faced counted) (draw : ℕ) where
-  -- a draw of no whole block
+  -- a draw after the last whole block changes nothing
   pub still_held : None ≡ place_in pairs.count draw → next job plan draw ≡ plan
   still_held is = next_held job plan draw (proposed_none job.graph.units job.districts pairs.count draw held.numbers.count is)
 
@@ -74,19 +74,19 @@ module _ (job : Job) (plan : List ℕ) (sums : Following) (marks : ℕ) (table :
     proposal_is : proposal job.graph.units job.districts draw ≡ Some (found / job.districts, found % job.districts)
     proposal_is = proposed_some job.graph.units job.districts pairs.count draw found held.numbers.count (is_place_of pairs.count draw found is)
 
-    -- where it is not open the plan stays
+    -- if the pair is not open, the plan stays
     still_closed : get_or table found false ≡ false → next job plan draw ≡ plan
     still_closed closed = next_stays job plan draw (found / job.districts) (found % job.districts) proposal_is
         (λ move. both_ways (is_open job.graph plan (found / job.districts) (found % job.districts)) (sym flag_is ∙ closed)
         (move_is_open job plan (found / job.districts) (found % job.districts) held.numbers.sound held.summed.legal unit_below district_below move.elsewhere move))
 
-    -- and elsewhere it is the proposed one
+    -- if the pair is open, it is the proposed one
     pub is_proposed : (districts : ℕ) → districts ≡ job.districts → get_or table found false ≡ true → ProposesOpen job plan draw (found / districts) (found % districts)
     is_proposed districts same set1 =
         subst (λ (n : ℕ). ProposesOpen job plan draw (found / n) (found % n)) (sym same)
         (record { proposed = proposal_is; unit_below = unit_below; inside = omega (arith, unit_below, held.summed.legal.complete); district_below = district_below; beside = sym flag_is ∙ set1 })
 
-  -- where no pair is open at a draw's rest the plan stays, whether the draw has a place or not
+  -- if the pair at a draw's remainder is not open, the plan stays
   pub closed_stays : (rest : ℕ) → rest ≡ draw % pairs.count → get_or table rest false ≡ false → next job plan draw ≡ plan
   closed_stays rest is closed = elim (cases_Bool (nat_lt draw (2 ^ 64 / pairs.count * pairs.count))) [
     | inl yes-counted ↦ still_closed rest (ap (λ (n : ℕ). Some n) is ∙ sym (cond-true _ _ _ yes-counted)) closed

@@ -20,11 +20,11 @@ use Rattle.flip_kernel.proofs.Beside.{not_open, open_other, open_far}
 pub place_within : (units districts u d width : ℕ) → u < units → d < districts → units * districts ≤ width → u * districts + d < width
 place_within units districts u d width lu ld enough = omega (arith, mul-add-lt u districts d units lu ld, mul_comm districts units)
 
--- what is written for a pair is read of it
+-- reading a written pair gives what was written
 flag_same : (table : List Bool) (districts u d : ℕ) (flag : Bool) → u * districts + d < length table → flag_of (set table (u * districts + d) flag) districts u d ≡ flag
 flag_same table districts u d flag l = get_or-set_same table (u * districts + d) flag false l
 
--- what is written for a pair changes no other
+-- writing a pair changes no other pair
 flag_other : (table : List Bool) (districts u d v e : ℕ) (flag : Bool) → d < districts → e < districts → (u ≡ v → d ≡ e → ⊥)
     → flag_of (set table (v * districts + e) flag) districts u d ≡ flag_of table districts u d
 flag_other table districts u d v e flag ld le off =
@@ -33,12 +33,12 @@ flag_other table districts u d v e flag ld le off =
 
 -- ---- the pairs of one unit
 
--- a choice whose other part is false
+-- or-false is the other part
 or_without : (b c : Bool) → c ≡ false → (b || c) ≡ b
 or_without true c h = refl
 or_without false c h = h
 
--- the districts of one neighbour more are opened to the unit
+-- opening one more neighbor's district
 pub opening_more : (plan : List ℕ) (districts unit : ℕ) (row : List ℕ) (i : ℕ) (old new : List Bool) → i < length row → get_or plan (get_or row i 0) 0 < districts
     → unit * districts + get_or plan (get_or row i 0) 0 < length new → HasOpened plan districts unit (take i row) old new
     → HasOpened plan districts unit (take (i + 1) row) old
@@ -73,36 +73,36 @@ opening_more plan districts unit row i old new l there inside before = record {
           ∙ or_without (list_any (in_district plan d) (take i row)) (get_or plan (get_or row i 0) 0 == d) (ne_eqb (get_or plan (get_or row i 0) 0) d (λ x. off (sym x)))))
     ]
 
--- ---- the pairs of unit after unit
+-- ---- unit by unit
 
--- the table is the plan's for the units before this one, and closed for the others
+-- the table is filled for the units before this one, and closed for the others
 pub record IsFilling (g : Graph) (plan : List ℕ) (districts unit : ℕ) (table : List Bool) : Type 0 where
   pub filled : (u d : ℕ) → u < unit → d < districts → flag_of table districts u d ≡ is_open g plan u d
   pub closed : (u d : ℕ) → unit ≤ u → d < districts → flag_of table districts u d ≡ false
 
 -- ---- after a move
 
--- the pairs that are still as before the move: those of the two districts with the unit, or with a neighbour from this place of its row on
+-- pairs not yet updated: those of the two districts with the unit, or with a neighbor from this position of its row on
 abbrev pub IsStale : List ℕ → ℕ → ℕ → ℕ → ℕ → ℕ → ℕ → Type 0
 IsStale row unit home district i u d =
     ((d ≡ home) ⊎ (d ≡ district)) × ((u ≡ unit) ⊎ ((k : ℕ) × (i ≤ k) × (k < length row) × (get_or row k 0 ≡ u)))
 
--- all other pairs are as after it
+-- all other pairs are as after the move
 pub record IsRenewing (g : Graph) (plan : List ℕ) (districts : ℕ) (row : List ℕ) (unit home district i : ℕ) (table : List Bool) : Type 0 where
   pub width : g.units * districts ≤ length table
   pub each : (u d : ℕ) → u < g.units → d < districts → (flag_of table districts u d ≡ is_open g plan u d) ⊎ IsStale row unit home district i u d
 
--- the district that a unit is in is closed to it, but for the unit that moves
+-- each unit's own district is closed to it, except for the unit that moves
 abbrev pub IsClosed : ℕ → List ℕ → ℕ → ℕ → List Bool → Type 0
 IsClosed units plan districts unit table = (u d : ℕ) → u < units → d < districts → (u ≡ unit → ⊥) → get_or plan u 0 ≡ d → flag_of table districts u d ≡ false
 
--- it is so before the move
+-- before the first update, own districts are closed
 pub closed_none : (g : Graph) (plan : List ℕ) (districts unit home : ℕ) (table : List Bool) → TellsOpen g (set plan unit home) districts table
     → IsClosed g.units plan districts unit table
 closed_none g plan districts unit home table before = λ u d lu ld off is.
     before.each u d lu ld ∙ not_open g (set plan unit home) u d (get_or-set_other plan unit u home 0 off ∙ is)
 
--- and stays so where a pair is written, closed where it is of the unit's own district
+-- updates keep own districts closed
 pub closed_more : (units : ℕ) (plan : List ℕ) (districts unit v e : ℕ) (flag : Bool) (table : List Bool) → v * districts + e < length table → e < districts
     → (get_or plan v 0 ≡ e → flag ≡ false) → IsClosed units plan districts unit table → IsClosed units plan districts unit (set table (v * districts + e) flag)
 closed_more units plan districts unit v e flag table inside le own closed = λ u d lu ld off is. elim (cases_eq u v) [
@@ -117,7 +117,7 @@ closed_more units plan districts unit v e flag table inside le own closed = λ u
   | inr apart ↦ flag_other table districts u d v e flag ld le (λ same _. apart same) ∙ closed u d lu ld off is
 ]
 
--- before any pair is renewed all others than those of the two districts beside the unit are right
+-- before the first update, only pairs of the two districts near the unit may be wrong
 pub renewing_none : (g : Graph) (plan : List ℕ) (districts : ℕ) (row : List ℕ) (unit home : ℕ) (table : List Bool) → IsGraph g → unit < length plan
     → row ≡ get_or g.neighbours unit [] → TellsOpen g (set plan unit home) districts table
     → IsRenewing g plan districts row unit home (get_or plan unit 0) 0 table
@@ -142,7 +142,7 @@ renewing_none g plan districts row unit home table sound l is_row before = recor
       ]
     ]
 
--- what is right stays right where a pair is made right
+-- a right pair stays right after a right write
 stays_right : (g : Graph) (plan : List ℕ) (districts v e : ℕ) (flag : Bool) (table : List Bool) → v * districts + e < length table → e < districts → flag ≡ is_open g plan v e
     → (u d : ℕ) → d < districts → flag_of table districts u d ≡ is_open g plan u d → flag_of (set table (v * districts + e) flag) districts u d ≡ is_open g plan u d
 stays_right g plan districts v e flag table inside le is u d ld right = elim (cases_eq u v) [
@@ -157,12 +157,12 @@ stays_right g plan districts v e flag table inside le is u d ld right = elim (ca
   | inr off ↦ flag_other table districts u d v e flag ld le (λ same _. off same) ∙ right
 ]
 
--- a pair is right where what is written is so
+-- a pair is right after a right write
 made_right : (g : Graph) (plan : List ℕ) (districts v e : ℕ) (flag : Bool) (table : List Bool) → v * districts + e < length table → flag ≡ is_open g plan v e
     → flag_of (set table (v * districts + e) flag) districts v e ≡ is_open g plan v e
 made_right g plan districts v e flag table inside is = flag_same table districts v e flag inside ∙ is
 
--- both districts' pairs with a unit are made right
+-- both districts' pairs of a unit are updated
 module _ (g : Graph) (plan : List ℕ) (districts v district home : ℕ) (one other : Bool) (table : List Bool) (lv : v < g.units) (ld : district < districts) (lh : home < districts)
     (width : g.units * districts ≤ length table) (is_one : one ≡ is_open g plan v district) (is_other : other ≡ is_open g plan v home) where
   pub after : List Bool

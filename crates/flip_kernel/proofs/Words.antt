@@ -1,4 +1,4 @@
--- Truth values as bits of words, place by place.
+-- Booleans as bits of words, place by place.
 use mir.Val.{bool_byte}
 use Rattle.std.proofs.Common.{◌≡◌, ◌≢◌, ℕ, ◌*◌, ◌/◌, ◌%◌, ◌^◌, ◌<◌, max, bit_and, bit_or, w64, Bool, true, false, cond, ◌==◌, List, length, get_or, set, refl, sym, ap, ◌∙◌, inl, inr, arith, replicate, length-set, get_or-set_same, get_or-set_other}
 use Rattle.std.specs.Int.{bit_at, bit_not}
@@ -9,26 +9,26 @@ use Rattle.std.proofs.Math.Nat.{max-zero, zero-mul}
 use Rattle.flip_kernel.specs.Flags.{bit_of, flags_of}
 use Rattle.audit_model.proofs.Below.{length-map_below, get_or-map_below}
 
--- each word has 64 truth values
+-- each word has 64 Booleans
 pub length-flags_of : (words : List ℕ) → length (flags_of words) ≡ 64 * length words
 unfolding flags_of
 length-flags_of words = length-map_below (64 * length words) (bit_of words)
 
--- the truth value at a place is the bit there
+-- the Boolean at a place is the bit there
 pub flag_at : (words : List ℕ) (place : ℕ) → place < length (flags_of words) → get_or (flags_of words) place false ≡ bit_of words place
 unfolding flags_of
 flag_at words place l = get_or-map_below (64 * length words) (bit_of words) place false (omega (arith, l, length-map_below (64 * length words) (bit_of words)))
 
--- the word of a place is there
+-- the word of a place exists
 word_inside : (words : List ℕ) (place : ℕ) → place < length (flags_of words) → place / 64 < length words
 word_inside words place l = omega (arith, l, length-flags_of words)
 
--- a truth value as a bit, read again
+-- a Boolean, written as a bit and read again
 one_or_none : (flag : Bool) → (cond {A = ℕ} flag 1 0 == 1) ≡ flag
 one_or_none true = refl
 one_or_none false = refl
 
--- where one bit of a word is written, one truth value is
+-- writing one bit of a word writes one Boolean
 pub flags_of-set : (words : List ℕ) (place word : ℕ) (flag : Bool) → place / 64 < length words → bit_at word (place % 64) ≡ cond flag 1 0
     → ((i : ℕ) → i < 64 → i ≢ place % 64 → bit_at word i ≡ bit_at (get_or words (place / 64) 0) i)
     → flags_of (set words (place / 64) word) ≡ set (flags_of words) place flag
@@ -69,7 +69,7 @@ flags_of-set words place word flag within own others =
           ∙ sym (get_or-set_other (flags_of words) place k flag false off ∙ flag_at words k below)
     ]
 
--- words of zeros have no bit
+-- words of zeros have no bit set
 pub flags_of-zeros : (words : List ℕ) (n : ℕ) → n ≡ length words → flags_of (replicate n 0) ≡ replicate (length (flags_of words)) false
 flags_of-zeros words n same = ext_get_or false (flags_of (replicate n 0)) (replicate (length (flags_of words)) false) (width ∙ sym (length-replicate (length (flags_of words)) false)) each
   where
@@ -83,13 +83,13 @@ flags_of-zeros words n same = ext_get_or false (flags_of (replicate n 0)) (repli
         ∙ ap (λ (b : ℕ). b == 1) (bit_at-zero (k % 64))
         ∙ sym (get_or-replicate (length (flags_of words)) k false false (omega (arith, l, width)))
 
--- ---- a word with a bit put
+-- ---- a word with a bit written
 
--- the word without the bit
+-- the word with the bit cleared
 abbrev pub without : ℕ → ℕ → ℕ
 without word bit = bit_and word (bit_not w64 (1 * 2 ^ bit % 2 ^ 64))
 
--- nothing is put where no bit is
+-- adding no bit changes no bit
 nothing_put : (word bit i : ℕ) → bit_at (bit_or (without word bit) (0 * 2 ^ bit % 2 ^ 64)) i ≡ bit_at (without word bit) i
 nothing_put word bit i =
     ap (λ (n : ℕ). bit_at (bit_or (without word bit) (n % 2 ^ 64)) i) (zero-mul (2 ^ bit))
@@ -97,12 +97,12 @@ nothing_put word bit i =
     ∙ ap (λ (n : ℕ). max (bit_at (without word bit) i) n) (bit_at-zero i)
     ∙ max-zero (bit_at (without word bit) i)
 
--- the bit is the one that was put
+-- the bit is the one written
 pub put_own : (word bit : ℕ) (flag : Bool) → bit < 64 → bit_at (bit_or (without word bit) (bool_byte flag * 2 ^ bit % 2 ^ 64)) bit ≡ cond flag 1 0
 put_own word bit true l = bit_at_set_same w64 (without word bit) bit l
 put_own word bit false l = nothing_put word bit bit ∙ bit_at_clear_same w64 word bit l
 
--- and each other as it was
+-- each other bit is unchanged
 pub put_other : (word bit : ℕ) (flag : Bool) → bit < 64 → (i : ℕ) → i < 64 → i ≢ bit
     → bit_at (bit_or (without word bit) (bool_byte flag * 2 ^ bit % 2 ^ 64)) i ≡ bit_at word i
 put_other word bit true l i li off = bit_at_set_other w64 (without word bit) bit l i off ∙ bit_at_clear_other w64 word bit l i li off

@@ -1,15 +1,15 @@
--- Draws in blocks, which have one draw for each pair of a unit and a district.
+-- Draws in blocks, with one draw per pair of a unit and a district.
 use Rattle.std.specs.Prelude.{◌≡◌, ℕ, ◌+◌, ◌*◌, ◌/◌, ◌%◌, ◌^◌, ◌<◌, ◌≤◌, nat_lt, if◌then◌else◌, Option, Some, None}
 use Rattle.audit_model.specs.Job.{Job}
 use Rattle.audit_model.specs.JobOf.{IsJob}
 use Rattle.audit_model.specs.Plan.{least_population, greatest_population}
 use Rattle.flip_kernel.specs.declared.proposal.Pairs.{Pairs}
 
--- the place of a draw in its block of this size; the draws after the last whole block have none
+-- the place of a draw in its block of this size; draws after the last whole block have none
 abbrev pub place_in : ℕ → ℕ → Option ℕ
 place_in size draw = if nat_lt draw (2 ^ 64 / size * size) then Some (draw % size) else None
 
--- the last whole block of draws begins here, and the count and the districts go so often into all draws
+-- the greatest draw at which a whole block can begin, and 2^64 - 1 divided by both counts and rounded down
 pub record AreBlocks (pairs : Pairs) : Type 0 where
   pub some : 0 < pairs.count
   pub last : pairs.last + pairs.count ≡ 2 ^ 64
@@ -19,7 +19,7 @@ pub record AreBlocks (pairs : Pairs) : Type 0 where
   pub enough_districts : pairs.district_inverse * pairs.districts < 2 ^ 64
   pub most_districts : 2 ^ 64 ≤ pairs.district_inverse * pairs.districts + pairs.districts
 
--- what steps need of a job: its pairs, and the bounds of a district's population
+-- the numbers that steps of a job need: its pairs and its population bounds
 pub record AreNumbersOf (job : Job) (pairs : Pairs) (low high : ℕ) : Type 0 where
   pub sound : IsJob job
   pub districts : pairs.districts ≡ job.districts

@@ -1,9 +1,9 @@
--- Truth values as bits of words.
+-- Booleans as bits of words.
 use Rattle.std.specs.Int.{bit_at}
 use Rattle.std.specs.Prelude.{ℕ, ◌*◌, ◌/◌, ◌%◌, ◌==◌, Bool, List, length, slice_index}
 use Rattle.audit_model.specs.Below.{map_below}
 
--- the bit at a place, of words of 64 bits
+-- the bit at a place of 64-bit words
 abbrev pub bit_of : List ℕ → ℕ → Bool
 bit_of words place = bit_at (slice_index words (place / 64)) (place % 64) == 1
 

@@ -1,4 +1,4 @@
--- What a state holds: a job, and a plan that is legal for it.
+-- The state of the chain: a job, and a plan that is legal for it.
 use Rattle.std.specs.Prelude.{◌≡◌, ◌≢◌, ℕ, ◌+◌, ◌<◌, ◌≤◌, Bool, IsTrue, Some, List, length, slice_index, slice_set}
 use Rattle.audit_model.specs.declared.outcome.SumsView.{SumsView}
 use Rattle.audit_model.specs.Job.{Job}
@@ -17,18 +17,17 @@ pub record Held : Type 0 where
   pub job : Job
   pub plan : List ℕ
 
--- the sums of a plan of this job
+-- the sums of a plan of the job
 abbrev pub sums_in : Job → List ℕ → SumsView
 sums_in job plan = sums_of job.graph job.counts job.districts plan
 
--- the plan is legal, and the sums are its sums, in each of the job's districts
+-- the plan is legal, and the sums are its sums
 pub record IsSummed (job : Job) (plan : List ℕ) (sums : Following) : Type 0 where
   pub legal : IsLegal job plan
   pub places : districts_in sums ≡ job.districts
   pub stands : StandsFor job.graph job.counts plan sums
 
--- the plan is legal, the sums are its sums, there are marks for all units, the table tells which pairs are open, the numbers are the job's,
--- and the faces are its graph's and counted in each district of the plan
+-- the plan is legal, and the sums, open pairs, numbers, faces and counts are those of the job and the plan
 pub record IsHeld (job : Job) (plan : List ℕ) (sums : Following) (marks : ℕ) (table : List Bool) (pairs : Pairs) (low high : ℕ)
     (faced : Faced) (counted : Counted) : Type 0 where
   pub summed : IsSummed job plan sums
@@ -38,7 +37,7 @@ pub record IsHeld (job : Job) (plan : List ℕ) (sums : Following) (marks : ℕ)
   pub made : faced.graph ≡ job.graph
   pub counts : AreCounts job.graph faced.faces job.districts plan counted
 
--- the draw proposes the unit for the district, which is open to it
+-- the draw proposes the unit for the district, and the pair is open
 pub record ProposesOpen (job : Job) (plan : List ℕ) (draw unit district : ℕ) : Type 0 where
   pub proposed : proposal job.graph.units job.districts draw ≡ Some (unit, district)
   pub unit_below : unit < job.graph.units
@@ -46,17 +45,17 @@ pub record ProposesOpen (job : Job) (plan : List ℕ) (draw unit district : ℕ)
   pub district_below : district < job.districts
   pub beside : IsTrue (is_open job.graph plan unit district)
 
--- the unit is in another district, and with it in this one the plan is legal
+-- the unit is in another district, and the plan with it in this one is legal
 pub record IsMove (job : Job) (plan : List ℕ) (unit district : ℕ) : Type 0 where
   pub elsewhere : slice_index plan unit ≢ district
   pub legal : IsLegal job (slice_set plan unit district)
 
--- the district that people leave keeps the least population, and the one that they join the greatest
+-- the district that people leave keeps the least population, and the one they join the greatest
 pub record KeepsBounds (low high people from to : ℕ) : Type 0 where
   pub left : low + people ≤ from
   pub joined : to + people ≤ high
 
--- the two districts' populations keep the job's bounds where the unit moves to the district
+-- both districts stay within the job's population bounds when the unit moves
 abbrev pub KeepsBoundsIn : Job → List ℕ → ℕ → ℕ → Type 0
 KeepsBoundsIn job plan unit district =
     KeepsBounds (least_population job) (greatest_population job) (slice_index job.counts.population unit)

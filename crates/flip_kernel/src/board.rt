@@ -1,4 +1,4 @@
-//! A plan that is legal for a job, with its sums and its open pairs.
+//! A legal plan of a job, with its sums and its open pairs.
 
 ghost use Rattle.std.specs.Prelude.{◌≡◌, ◌≢◌, ◌+◌, ◌<◌, ◌≤◌, ◌^◌, ◌-◌, ◌↔◌, ℕ, ⊤, length, slice_index, slice_set, IfOk, MatchOption, IsTrue};
 ghost use Rattle.audit_model.specs.JobOf.{IsJob};
@@ -33,8 +33,10 @@ use std::marker::Model;
 use std::snapshot::Snapshot;
 use std::sync::ledger::Ledger;
 
-/// A job's plan, which is legal for it, with its sums, the pairs that are open, what is counted of the faces in each
-/// district, and room for a search.
+/// A current plan that is legal for its job, with everything that a step reads or updates.
+///
+/// This is the sums of the districts, the open pairs, the counts of faces in each district, and
+/// marks for a search. `low` and `high` are the population bounds.
 pub struct Board {
     job: Snapshot<Job>,
     plan: UnitList,
@@ -48,7 +50,7 @@ pub struct Board {
     high: u64,
 }
 
-/// Written out, so that to let a board go is one call for the proof of whoever does so.
+/// Drops the parts one by one. Written by hand so that a caller's proof sees one call.
 impl Drop for Board {
     fn drop(self) {
         let Board {
@@ -77,7 +79,7 @@ impl Model for Board {
 }
 
 impl Board {
-    /// The start plan of a job.
+    /// Allocates a board at the start plan of a job. Fails if there is no memory.
     pub fn new(alloc: Global, job: &Job) -> Result<Board, Memory>
         ensures job { IfOk result (λ s. s.job ≡ job.now) }
         ensures plan { IfOk result (λ s. s.plan ≡ job.now.start) }
@@ -106,7 +108,7 @@ impl Board {
         })
     }
 
-    /// Holds another legal plan. It takes no memory.
+    /// Replaces the current plan by another legal plan. It allocates nothing.
     pub fn set(&mut self, job: &Job, plan: &[u32])
         requires made { self.old.job ≡ job.now }
         requires legal { IsLegal job.now plan.now }
@@ -119,7 +121,7 @@ impl Board {
         self.counts.reset(job.graph(), &self.faces, plan);
     }
 
-    /// The plan.
+    /// Returns the current plan.
     #[inline]
     pub fn plan(&self) -> &UnitList
         ensures value { result.now ≡ self.now.plan }
@@ -129,7 +131,7 @@ impl Board {
         &self.plan
     }
 
-    /// The plan's sums.
+    /// Returns the sums of the current plan.
     #[inline]
     pub fn view(&self) -> &SumsView
         ensures { result.now ≡ sums_in self.now.job self.now.plan }
@@ -137,7 +139,8 @@ impl Board {
         self.sums.view()
     }
 
-    /// The unit and the district that a draw proposes, where the pair is open. No other draw changes the plan.
+    /// Returns the unit and the district that a draw proposes, if the pair is open. No other draw
+    /// changes the plan.
     #[inline]
     pub(crate) fn proposed(&self, draw: u64) -> Option<(u32, u32)>
         ensures { MatchOption result (next self.now.job self.now.plan draw ≡ self.now.plan)
@@ -150,14 +153,14 @@ impl Board {
         Some(self.pairs.at(place))
     }
 
-    /// Whether both districts stay within the population bounds where the unit moves.
+    /// Returns true if both districts stay within the population bounds after the flip.
     #[inline]
     pub(crate) fn keeps_bounds(&self, flip: Flip) -> bool
         requires made { self.now.job ≡ flip.job.now }
         requires elsewhere { slice_index self.now.plan flip.unit ≢ flip.district }
         ensures { IsTrue result ↔ KeepsBoundsIn flip.entry.job.now self.now.plan flip.entry.unit flip.entry.district }
     {
-        // Called for what its contract says: the job is within its limits, and its start plan is legal.
+        // Called for its contract: the job is within its limits, and its start plan is legal.
         let _units = flip.job.units();
         let people = flip.job.counts().population.as_slice()[flip.unit as usize];
         let home = self.plan.as_slice()[flip.unit as usize];
@@ -171,7 +174,8 @@ impl Board {
         )
     }
 
-    /// Whether the judge permits the plan with the unit in the district. A judge that limits nothing is not asked.
+    /// Returns true if the constraint permits the plan after the flip. A constraint that limits
+    /// nothing is not asked.
     #[inline]
     fn permits<J: Judge>(&mut self, judge: &J, flip: Flip) -> bool
         requires made { self.old.job ≡ flip.job.now }
@@ -181,7 +185,8 @@ impl Board {
             result ≡ meets_rules (rules flip.entry.job.now) (cut_edges flip.entry.job.now.graph after) after }
         ensures same { self.new ≡ self.old }
     {
-        // Called for what its contract says: the job is within its limits, and so is the number of its graph's edges.
+        // Called for its contract: the job and the number of its graph's edges are within their
+        // limits.
         let _units = flip.job.units();
         if judge.limits_nothing() {
             return true;
@@ -189,14 +194,15 @@ impl Board {
         is_permitted(judge, flip, &mut self.sums, &mut self.plan)
     }
 
-    /// Whether the unit may leave its district, where the counts of faces tell.
+    /// Decides by links and counts of faces if the unit may leave its district. `None` means that a
+    /// search is needed.
     fn counting_tells(&self, job: &Job, unit: u32) -> Option<bool>
         requires made { self.now.job ≡ job.now }
         requires unit { unit < job.now.graph.units }
         ensures { MatchOption result ⊤ (λ may. IsTrue may ↔ MayLeave job.now.graph self.now.plan unit) }
     {
         let graph = job.graph();
-        // Called for what its contract says: the graph is sound, and has at most 100,000 units.
+        // Called for its contract: the graph is sound and has at most 100,000 units.
         let _units = graph.units();
         let leaving = Member {
             graph,
@@ -206,7 +212,8 @@ impl Board {
         counting_tells(leaving, &self.faces, &self.counts)
     }
 
-    /// Whether the unit may leave its district, by a search where its neighbours there are not connected among themselves.
+    /// Returns true if the unit may leave its district. The district is searched only if the unit's
+    /// neighbors there are not connected among themselves.
     fn searching_tells<L: Ledger>(&mut self, job: &Job, unit: u32, steps: &mut Steps<L>) -> bool
         requires made { self.old.job ≡ job.now }
         requires unit { unit < job.now.graph.units }
@@ -224,9 +231,10 @@ impl Board {
         )
     }
 
-    /// Whether the unit can move to the district, which is open to it, where both districts stay within the population bounds and it is
-    /// told without a search: the counts of faces are asked first, and the rules last. Where it is not told, the unit can move if it may
-    /// leave its district.
+    /// Decides without a search if a flip on an open pair within the population bounds is a move.
+    ///
+    /// It tests the counts of faces first and the rules last. `None` means that the flip is a move
+    /// if the unit may leave its district.
     fn told<J: Judge>(&mut self, judge: &J, flip: Flip) -> Option<bool>
         requires made { self.old.job ≡ flip.job.now }
         requires judge { IsSeated flip.job.now self.old.plan (J.judging judge.now) }
@@ -237,7 +245,7 @@ impl Board {
             (λ moves. IsTrue moves ↔ IsMove flip.entry.job.now self.old.plan flip.entry.unit flip.entry.district) }
         ensures same { self.new ≡ self.old }
     {
-        // Called for what its contract says: the job is within its limits, and the plan is legal.
+        // Called for its contract: the job is within its limits, and the plan is legal.
         let _plan = self.plan();
         match self.counting_tells(flip.job, flip.unit) {
             Some(false) => Some(false),
@@ -252,7 +260,8 @@ impl Board {
         }
     }
 
-    /// Whether the unit can move to the district, which is open to it: the plan is legal then. The counter is that of the searches.
+    /// Returns true if the flip on an open pair is a move, so that the plan after it is legal. A
+    /// search is counted in `steps`.
     pub(crate) fn may_move<J: Judge, L: Ledger>(
         &mut self,
         judge: &J,
@@ -267,7 +276,7 @@ impl Board {
         ensures searches { (steps.old ≤ steps.new) × (steps.new ≤ steps.old + 1) }
         ensures local { IsLocal flip.entry.job.now.graph self.old.plan flip.entry.unit → steps.new ≡ steps.old }
     {
-        // Called for what its contract says: the job is within its limits, and the plan is legal.
+        // Called for its contract: the job is within its limits, and the plan is legal.
         let _plan = self.plan();
         if !self.keeps_bounds(flip) {
             return false;
@@ -275,7 +284,7 @@ impl Board {
         self.may_move_within(judge, flip, steps)
     }
 
-    /// The same where both districts stay within the population bounds.
+    /// Does the work of `may_move` for a flip within the population bounds.
     pub(crate) fn may_move_within<J: Judge, L: Ledger>(
         &mut self,
         judge: &J,
@@ -297,7 +306,8 @@ impl Board {
         }
     }
 
-    /// Whether `may_move` makes a search.
+    /// Returns true if `may_move` searches a district for this flip. Tests count searches with it;
+    /// nothing is proved of the result.
     pub(crate) fn asks_search<J: Judge>(&mut self, judge: &J, flip: Flip) -> bool
         requires made { self.old.job ≡ flip.job.now }
         requires judge { IsSeated flip.job.now self.old.plan (J.judging judge.now) }
@@ -315,7 +325,7 @@ impl Board {
         )
     }
 
-    /// Moves the unit to the district, which it can.
+    /// Makes a move.
     pub(crate) fn make_move(&mut self, flip: Flip)
         requires made { self.old.job ≡ flip.job.now }
         requires allowed { IsMove flip.job.now self.old.plan flip.unit flip.district }
@@ -323,7 +333,7 @@ impl Board {
     {
         let graph = flip.job.graph();
         let home = self.plan.as_slice()[flip.unit as usize];
-        // Called for what its contract says: the graph is sound, and has at most 100,000 units.
+        // Called for its contract: the graph is sound and has at most 100,000 units.
         let _units = graph.units();
         let leaving = Member {
             graph,
@@ -342,14 +352,14 @@ impl Board {
     }
 }
 
-/// Moves a unit to a district in the plan and in its sums.
+/// Moves a unit to a district, in the plan and in its sums.
 fn shift(flip: Flip, sums: &mut Sums, plan: &mut UnitList)
     requires summed { IsSummed flip.job.now plan.old sums.old }
     ensures plan { plan.new ≡ slice_set plan.old flip.entry.unit flip.entry.district }
     ensures places { districts_in sums.new ≡ flip.entry.job.now.districts }
     ensures stands { StandsFor flip.entry.job.now.graph flip.entry.job.now.counts plan.new sums.new }
 {
-    // Called for what its contract says: the job is within its limits, and its start plan is legal.
+    // Called for its contract: the job is within its limits, and its start plan is legal.
     let _units = flip.job.units();
     sums.shift(
         flip.job.graph(),
@@ -360,7 +370,7 @@ fn shift(flip: Flip, sums: &mut Sums, plan: &mut UnitList)
     );
 }
 
-/// Puts a unit into a district in the plan alone.
+/// Writes a unit's district in the plan, without updating the sums.
 #[inline]
 fn put_unit(plan: &mut UnitList, unit: u32, district: u32)
     requires { unit < length plan.old }
@@ -369,8 +379,10 @@ fn put_unit(plan: &mut UnitList, unit: u32, district: u32)
     plan.as_mut_slice()[unit as usize] = district;
 }
 
-/// Whether a judge permits the plan with a unit in another district. It sees that plan and the number of its cut edges. The plan and its
-/// sums are as before afterwards.
+/// Returns true if the constraint permits the plan after the flip.
+///
+/// The constraint is shown that plan and its number of cut edges. The plan and its sums are
+/// restored afterwards.
 #[inline(never)]
 fn is_permitted<J: Judge>(judge: &J, flip: Flip, sums: &mut Sums, plan: &mut UnitList) -> bool
     requires summed { IsSummed flip.job.now plan.old sums.old }
@@ -383,7 +395,7 @@ fn is_permitted<J: Judge>(judge: &J, flip: Flip, sums: &mut Sums, plan: &mut Uni
 {
     let home = plan.as_slice()[flip.unit as usize];
     let before = sums.view().cut;
-    // Called for what its contract says: the job is within its limits, and its start plan is legal.
+    // Called for its contract: the job is within its limits, and its start plan is legal.
     let _units = flip.job.units();
     let member = Member {
         graph: flip.job.graph(),
@@ -399,8 +411,10 @@ fn is_permitted<J: Judge>(judge: &J, flip: Flip, sums: &mut Sums, plan: &mut Uni
     permitted
 }
 
-/// Whether the bounds are kept where people leave one district and join another, by the populations before. What is left above the least and
-/// below the greatest population wraps where it would be below 0, so that one branch follows and not two.
+/// Returns true if both populations stay within the bounds when `people` move.
+///
+/// A violated bound makes a difference wrap to 2^63 or more. So one comparison, of the larger
+/// difference, tests both bounds.
 #[inline]
 fn are_kept(low: u64, high: u64, people: u64, from: u64, to: u64) -> bool
     requires people { people ≤ from }

@@ -1,4 +1,4 @@
-//! One step of the chain of plans, and the draw that leads back.
+//! One step of the chain, and the draw that leads back.
 
 ghost use Rattle.std.specs.Prelude.{◌≡◌, ℕ, ◌+◌, ◌<◌, ◌-◌, ◌*◌, ◌%◌, ◌≤◌, ◌↔◌, Some, slice_index, IsTrue, IsFalse};
 ghost use Rattle.audit_model.specs.Local.{IsLocal};
@@ -14,10 +14,11 @@ use plan_core::job::Job;
 use std::marker::Brand;
 use std::sync::ledger::{Blank, Ledger};
 
-/// Makes the plan the one after the draw, and tells whether it changed. The counter is that of the
-/// searches of a district: the two functions of `contig` that make one take it, and add one to it. None
-/// is made where the unit's neighbours in its district are connected among themselves, and at most one
-/// elsewhere.
+/// Takes the step of a draw. Returns true if it changed the plan.
+///
+/// Searches of a district are counted in `steps`: only the functions of `contig` that search can
+/// tick it. A step makes at most one search, and none if the unit's neighbors in its district are
+/// connected among themselves.
 #[inline]
 pub fn try_flip<J: Judge, L: Ledger>(
     job: &Job,
@@ -33,7 +34,7 @@ pub fn try_flip<J: Judge, L: Ledger>(
     ensures local { (unit district : ℕ) → proposal job.now.graph.units job.now.districts draw ≡ Some (unit, district) →
         IsLocal job.now.graph state.old.plan unit → steps.new ≡ steps.old }
 {
-    // Called for what its contract says: the job is within its limits, and its start plan is legal.
+    // Called for its contract: the job is within its limits, and its start plan is legal.
     let _units = job.units();
     match state.proposed(draw) {
         None => false,
@@ -48,8 +49,10 @@ pub fn try_flip<J: Judge, L: Ledger>(
     }
 }
 
-/// The draw itself where it moves no unit, and elsewhere the draw of the same block that leads back. The
-/// state is as before, and no memory is taken.
+/// Returns the draw that leads back from the plan after `draw`.
+///
+/// It is `draw` itself if that changes nothing, else a draw of the same block. The state is
+/// unchanged, and nothing is allocated.
 pub fn mirror<J: Judge>(job: &Job, state: &mut State<J>, draw: u64) -> u64
     requires made { state.old.job ≡ job.now }
     ensures value { result ≡ mirrored job.now state.old.plan draw }
@@ -65,8 +68,8 @@ pub fn mirror<J: Judge>(job: &Job, state: &mut State<J>, draw: u64) -> u64
     led_back::<J, Brand>(job, state, draw, Blank::new(1))
 }
 
-// The draw itself where it moves no unit. Elsewhere the place in its block is that of the unit's old district.
-// Only tests are made, and no move; their searches have a counter of their own.
+// Does the work of `mirror`, with its own counter of searches. The draw back has its block's place
+// of the unit's old district. It tests the flip without making it.
 fn led_back<J: Judge, L: Ledger>(job: &Job, state: &mut State<J>, draw: u64, blank: Blank) -> u64
     requires name { blank.name ≡ L.name }
     requires parts { blank.parts ≡ L.parts }
@@ -76,7 +79,7 @@ fn led_back<J: Judge, L: Ledger>(job: &Job, state: &mut State<J>, draw: u64, bla
     ensures same { state.new ≡ state.old }
     ensures legal { IsLegal job.now state.old.plan }
 {
-    // Called for what its contract says: the job is within its limits, and its start plan is legal.
+    // Called for its contract: the job is within its limits, and its start plan is legal.
     let _units = job.units();
     let plan = state.plan();
     match state.proposed(draw) {

@@ -1,11 +1,12 @@
-//! Laws of the chain of plans, each the contract of a function that does nothing.
+//! Laws of the chain of plans. Each is the contract of a function with an empty body.
 
 ghost use Rattle.std.specs.Prelude.{◌≡◌, ℕ, List};
 ghost use Rattle.audit_model.specs.Job.{Job};
 ghost use Rattle.audit_model.specs.Plan.{IsLegal};
 ghost use Rattle.audit_model.specs.Step.{ways};
 
-/// As many draws lead from one legal plan to another as lead back.
+/// Shows that the chain is reversible: equally many draws lead from one legal plan to another as
+/// back.
 pub fn ways_are_symmetric()
     ensures { (job : Job) (from to : List ℕ) → IsLegal job from → IsLegal job to → ways job from to ≡ ways job to from }
 {

@@ -1,4 +1,4 @@
-//! The single flip: what a draw proposes, the plan after it, and the draw that leads back.
+//! The single-flip chain: the proposal of a draw, the plan after it, and the draw that leads back.
 #![tactic(auto)]
 
 mod board;

@@ -1,4 +1,4 @@
-//! A unit and a district to which it may go.
+//! Flips: a unit and a district to which it may go.
 
 ghost use Rattle.std.specs.Prelude.{◌<◌};
 

@@ -1,4 +1,4 @@
-//! Which pairs of a unit and a district can be a move at all.
+//! The open pairs: those that may be a move at all.
 
 ghost use Rattle.std.specs.Int.{bit_at};
 ghost use Rattle.std.specs.Prelude.{◌≡◌, ◌≢◌, ℕ, ◌+◌, ◌*◌, ◌/◌, ◌<◌, ◌≤◌, cond, false, [], length, slice_index, slice_set, replicate, IfOk, IsTrue};
@@ -11,8 +11,8 @@ use dual_graph::graph::Graph;
 use std::alloc::Global;
 use std::marker::Model;
 
-/// For each pair of a unit and a district whether it is open: the unit is in another district and has a
-/// neighbour in this one. A pair has one bit.
+/// For each pair of a unit and a district, one bit: the pair is open if the unit is in another
+/// district and has a neighbor in this one.
 #[derive(Drop)]
 pub struct Openings {
     words: Vec<u64>,
@@ -28,7 +28,7 @@ impl Model for Openings {
 }
 
 impl Openings {
-    /// No pair is open, of so many units and districts.
+    /// Allocates bits for all pairs, with none open. Fails if there is no memory.
     pub fn none(alloc: Global, units: u32, districts: u32) -> Result<Openings, Memory>
         ensures { IfOk result (λ o. units * districts ≤ length o) }
     {
@@ -37,7 +37,7 @@ impl Openings {
         })
     }
 
-    /// Whether the pair at a place is open.
+    /// Returns true if the pair at a place is open.
     #[inline]
     pub fn has(&self, place: usize) -> bool
         requires { place < length self.now }
@@ -55,7 +55,8 @@ impl Openings {
         put_bit(&mut self.words, place_of(unit, district, districts), flag);
     }
 
-    /// Opens or closes a pair of a unit that is in the district `there`. Its own district is closed to it already.
+    /// Opens or closes a pair, unless the unit is in that district (`there`). That pair is closed
+    /// already.
     #[inline]
     fn put_elsewhere(&mut self, districts: u32, unit: u32, district: u32, there: u32, flag: bool)
         requires inside { unit * districts + district < length self.old }
@@ -75,7 +76,7 @@ impl Openings {
         self.words.fill(0);
     }
 
-    /// Opens the districts of a unit's neighbours to the unit, to which none is open.
+    /// Opens the districts of a unit's neighbors to the unit. All its pairs must be closed.
     fn open_beside(&mut self, graph: &Graph, plan: &[u32], districts: u32, unit: u32)
         requires plan { length plan.now ≡ graph.now.units }
         requires in_range { (u : ℕ) → u < graph.now.units → slice_index plan.now u < districts }
@@ -91,7 +92,7 @@ impl Openings {
         }
     }
 
-    /// Makes the openings those of a plan. It takes no memory.
+    /// Recomputes the open pairs of a plan. It allocates nothing.
     pub fn refill(&mut self, graph: &Graph, plan: &[u32], districts: u32)
         requires plan { length plan.now ≡ graph.now.units }
         requires in_range { (u : ℕ) → u < graph.now.units → slice_index plan.now u < districts }
@@ -104,8 +105,9 @@ impl Openings {
         }
     }
 
-    /// Follows a unit that was in one district and is in another now, and has neighbours where it was. It reads the unit's neighbours and
-    /// theirs alone, and takes no memory.
+    /// Updates the open pairs after a unit has moved away from `home`, where it has a neighbor.
+    ///
+    /// It costs one pass over the unit's neighbors and theirs, and allocates nothing.
     pub fn renew(&mut self, graph: &Graph, plan: &[u32], districts: u32, unit: u32, home: u32)
         requires plan { length plan.now ≡ graph.now.units }
         requires in_range { (u : ℕ) → u < graph.now.units → slice_index plan.now u < districts }
@@ -115,7 +117,7 @@ impl Openings {
         requires table { TellsOpen graph.now (slice_set plan.now unit home) districts self.old }
         ensures { TellsOpen graph.now plan.now districts self.new }
     {
-        // Called for what its contract says: the graph is sound, and has at most 100,000 units.
+        // Called for its contract: the graph is sound and has at most 100,000 units.
         let _units = graph.units();
         let district = plan[unit as usize];
         for other in graph.neighbours(unit) {
@@ -129,7 +131,7 @@ impl Openings {
     }
 }
 
-/// The place of a pair of a unit and a district.
+/// Returns the place of a pair, `unit * districts + district`.
 #[inline]
 fn place_of(unit: u32, district: u32, districts: u32) -> usize
     ensures { result ≡ unit * districts + district }
@@ -137,7 +139,7 @@ fn place_of(unit: u32, district: u32, districts: u32) -> usize
     unit as usize * districts as usize + district as usize
 }
 
-/// The word with the bit set, or not set.
+/// Returns the word with a bit set or cleared.
 #[inline]
 fn with_bit(word: u64, bit: usize, flag: bool) -> u64
     requires { bit < 64 }
@@ -147,7 +149,7 @@ fn with_bit(word: u64, bit: usize, flag: bool) -> u64
     (word & !(1u64 << bit)) | (u64::from(flag) << bit)
 }
 
-/// The bit at a place of words of 64 bits.
+/// Returns the bit at a place of 64-bit words.
 #[inline]
 fn bit_of(words: &[u64], place: usize) -> bool
     requires { place / 64 < length words.now }
@@ -156,7 +158,7 @@ fn bit_of(words: &[u64], place: usize) -> bool
     (words[place / 64] >> (place % 64)) & 1 == 1
 }
 
-/// Sets the bit at a place, or takes it away.
+/// Sets or clears the bit at a place.
 #[inline]
 fn put_bit(words: &mut [u64], place: usize, flag: bool)
     requires { place / 64 < length words.old }
@@ -166,11 +168,13 @@ fn put_bit(words: &mut [u64], place: usize, flag: bool)
     words[place / 64] = with_bit(word, place % 64, flag);
 }
 
-/// A row of at most so many neighbours is read to its end.
+/// The greatest number of neighbors that are scanned without a branch.
 const SHORT: usize = 16;
 
-/// Whether the unit is in another district and has a neighbour in this one. A short row of neighbours is read to its end, so that no branch goes by
-/// which of them is the first in the district; a long one is read up to the first.
+/// Returns true if the unit is in another district and has a neighbor in this one.
+///
+/// A short row is scanned to its end, so that no branch depends on the districts. A long row is
+/// scanned up to the first hit.
 fn is_open(graph: &Graph, plan: &[u32], unit: u32, district: u32) -> bool
     requires plan { length plan.now ≡ graph.now.units }
     requires unit { unit < graph.now.units }

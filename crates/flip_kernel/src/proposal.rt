@@ -1,25 +1,25 @@
-//! What a draw proposes.
+//! The proposal of a draw.
 
 ghost use Rattle.std.specs.Prelude.{◌≡◌, ◌+◌, ◌*◌, ◌/◌, ◌%◌, ◌^◌, ◌<◌, ◌≤◌, cond, None, Some};
 ghost use Rattle.audit_model.specs.Proposal.{proposal};
 ghost use Rattle.flip_kernel.specs.Blocks.{AreBlocks, place_in};
 ghost use Rattle.audit_model.specs.Limits.{most_units, most_districts};
 
-/// The pairs of a unit and a district. Draws are in blocks, which have one draw for each pair.
+/// The pairs of a unit and a district. Draws form blocks with one draw per pair.
 #[derive(Drop)]
 pub struct Pairs {
     pub districts: u32,
     pub count: u64,
-    /// The first draw of the last whole block.
+    /// The greatest draw at which a whole block can begin.
     pub last: u64,
-    /// How often the count goes into all draws, for a division by it that is a product.
+    /// 2^64 - 1 divided by `count` and rounded down. It replaces a division by a multiplication.
     pub inverse: u64,
-    /// The same of the districts.
+    /// 2^64 - 1 divided by `districts` and rounded down.
     pub district_inverse: u64,
 }
 
 impl Pairs {
-    /// The pairs of n units and so many districts.
+    /// Computes the numbers for pairs of this many units and districts.
     pub fn of(units: u32, districts: u32) -> Pairs
         requires units { (0 < units) × (units ≤ most_units) }
         requires districts { (0 < districts) × (districts ≤ most_districts) }
@@ -37,7 +37,7 @@ impl Pairs {
         }
     }
 
-    /// The rest of a draw where it is divided by the count: its place in its block.
+    /// Returns the remainder of a draw by `count`, which is its place in its block.
     #[inline]
     pub fn rest(&self, draw: u64) -> u64
         requires { AreBlocks self.now }
@@ -46,7 +46,8 @@ impl Pairs {
         divided(draw, self.count, self.inverse).1
     }
 
-    /// Whether a draw with this rest is after the last whole block. Such a draw has no place.
+    /// Returns true if a draw with this remainder lies after the last whole block. Such a draw has
+    /// no place.
     #[inline]
     pub fn is_past(&self, draw: u64, rest: u64) -> bool
         requires blocks { AreBlocks self.now }
@@ -56,7 +57,7 @@ impl Pairs {
         draw - rest > self.last
     }
 
-    /// The place of a draw in its block. The draws after the last whole block have none.
+    /// Returns the place of a draw in its block, or `None` after the last whole block.
     #[inline]
     pub fn place(&self, draw: u64) -> Option<u64>
         requires { AreBlocks self.now }
@@ -69,7 +70,7 @@ impl Pairs {
         Some(place)
     }
 
-    /// The unit and the district of the pair at a place.
+    /// Returns the unit and the district of the pair at a place.
     #[inline]
     pub fn at(&self, place: u64) -> (u32, u32)
         requires blocks { AreBlocks self.now }
@@ -81,8 +82,10 @@ impl Pairs {
     }
 }
 
-/// The quotient and the rest of a number, by how often the divisor goes into all numbers of 64 bits. The product is at most one short of the
-/// quotient.
+/// Returns the quotient and the remainder of a number, given the inverse of the divisor: 2^64 - 1
+/// divided by it and rounded down.
+///
+/// The high half of the product is the quotient or one less.
 #[inline]
 fn divided(number: u64, divisor: u64, inverse: u64) -> (u64, u64)
     requires some { 0 < divisor }
@@ -99,8 +102,9 @@ fn divided(number: u64, divisor: u64, inverse: u64) -> (u64, u64)
     }
 }
 
-/// The unit and the district that a draw proposes, of n units. Nothing is proposed by the draws of the
-/// last block, which has too few draws for all pairs.
+/// Returns the unit and the district that a draw proposes.
+///
+/// Draws after the last whole block propose nothing, so that each pair has equally many draws.
 #[inline]
 pub fn propose(draw: u64, units: u32, districts: u32) -> Option<(u32, u32)>
     requires units { (0 < units) × (units ≤ most_units) }

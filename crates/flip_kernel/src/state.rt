@@ -1,4 +1,4 @@
-//! A legal plan of a job beside a judge that stands for it.
+//! A legal plan of a job, with a constraint that describes it.
 
 ghost use Rattle.std.specs.Prelude.{◌≡◌, ◌+◌, ◌≤◌, ◌↔◌, slice_set, IfOk, MatchOption, IsTrue, IsFalse};
 ghost use Rattle.audit_model.specs.JobOf.{IsJob};
@@ -21,7 +21,8 @@ use std::alloc::Global;
 use std::marker::Model;
 use std::sync::ledger::Ledger;
 
-/// A job's plan, which is legal for it, with its sums and room for a search, and a judge that is asked before the plan changes.
+/// The state of the chain: a legal current plan with its sums and tables, and a constraint that is
+/// asked before each move.
 #[derive(Drop)]
 pub struct State<J: Judge> {
     board: Board,
@@ -40,7 +41,7 @@ impl<J: Judge> Model for State<J> {
 }
 
 impl<J: Judge> State<J> {
-    /// The start plan of a job, and a judge for the job.
+    /// Allocates the state at the start plan of a job. Fails if there is no memory.
     pub fn new(alloc: Global, job: &Job, judge: J) -> Result<State<J>, Memory>
         requires judge { IsJudgeFor job.now (J.judging judge) }
         ensures job { IfOk result (λ s. s.job ≡ job.now) }
@@ -52,7 +53,7 @@ impl<J: Judge> State<J> {
         Ok(State { board, judge })
     }
 
-    /// Holds another legal plan. It takes no memory.
+    /// Replaces the current plan by another legal plan. It allocates nothing.
     pub fn set(&mut self, job: &Job, plan: &[u32])
         requires made { self.old.job ≡ job.now }
         requires legal { IsLegal job.now plan.now }
@@ -62,7 +63,7 @@ impl<J: Judge> State<J> {
         self.judge.reset(plan);
     }
 
-    /// The plan.
+    /// Returns the current plan.
     #[inline]
     pub fn plan(&self) -> &UnitList
         ensures value { result.now ≡ self.now.plan }
@@ -72,7 +73,7 @@ impl<J: Judge> State<J> {
         self.board.plan()
     }
 
-    /// The plan's sums.
+    /// Returns the sums of the current plan.
     #[inline]
     pub fn view(&self) -> &SumsView
         ensures { result.now ≡ sums_in self.now.job self.now.plan }
@@ -80,7 +81,8 @@ impl<J: Judge> State<J> {
         self.board.view()
     }
 
-    /// The unit and the district that a draw proposes, where the pair is open. The board is the state's own, so that no step can leave the judge behind.
+    /// Returns the unit and the district that a draw proposes, if the pair is open. The board
+    /// itself stays private: no step can change the plan without the constraint.
     #[inline]
     pub(crate) fn proposed(&self, draw: u64) -> Option<(u32, u32)>
         ensures { MatchOption result (next self.now.job self.now.plan draw ≡ self.now.plan)
@@ -89,7 +91,8 @@ impl<J: Judge> State<J> {
         self.board.proposed(draw)
     }
 
-    /// Whether the unit can move to the district, which is open to it: the judge is asked of it, and keeps standing for the plan.
+    /// Returns true if the flip on an open pair is a move. Neither the plan nor the constraint
+    /// changes.
     pub(crate) fn may_move<L: Ledger>(&mut self, flip: Flip, steps: &mut Steps<L>) -> bool
         requires made { self.old.job ≡ flip.job.now }
         requires beside { IsTrue (is_open flip.job.now.graph self.old.plan flip.unit flip.district) }
@@ -101,12 +104,12 @@ impl<J: Judge> State<J> {
         self.board.may_move(&self.judge, flip, steps)
     }
 
-    /// Whether the step with this draw makes a search.
+    /// Returns true if the step of this draw searches a district.
     pub fn asks_search(&mut self, job: &Job, draw: u64) -> bool
         requires made { self.old.job ≡ job.now }
         ensures same { self.new ≡ self.old }
     {
-        // Called for what its contract says: the job is within its limits, and its start plan is legal.
+        // Called for its contract: the job is within its limits, and its start plan is legal.
         let _units = job.units();
         match self.board.proposed(draw) {
             None => false,
@@ -121,7 +124,7 @@ impl<J: Judge> State<J> {
         }
     }
 
-    /// Moves the unit to the district, which it can.
+    /// Makes a move, in the plan and in the constraint.
     fn make_move(&mut self, flip: Flip)
         requires made { self.old.job ≡ flip.job.now }
         requires allowed { IsMove flip.job.now self.old.plan flip.unit flip.district }
@@ -133,8 +136,9 @@ impl<J: Judge> State<J> {
             .moved(self.board.plan().as_slice(), flip.unit, home);
     }
 
-    /// Moves the unit to the district, which is open to it, where it can, and tells whether it did. The populations are tested first: they
-    /// hold most of the proposals that get so far.
+    /// Makes the flip on an open pair if it is a move. Returns true if it was made.
+    ///
+    /// The populations are tested first: they reject most of the flips that get this far.
     #[inline]
     pub(crate) fn flip<L: Ledger>(&mut self, flip: Flip, steps: &mut Steps<L>) -> bool
         requires made { self.old.job ≡ flip.job.now }
@@ -145,7 +149,7 @@ impl<J: Judge> State<J> {
         ensures searches { (steps.old ≤ steps.new) × (steps.new ≤ steps.old + 1) }
         ensures local { IsLocal flip.entry.job.now.graph self.old.plan flip.entry.unit → steps.new ≡ steps.old }
     {
-        // Called for what its contract says: the job is within its limits, and the plan is legal.
+        // Called for its contract: the job is within its limits, and the plan is legal.
         let _plan = self.board.plan();
         if !self.board.keeps_bounds(flip) {
             return false;
@@ -153,7 +157,8 @@ impl<J: Judge> State<J> {
         self.flip_within(flip, steps)
     }
 
-    /// The same where both districts stay within the population bounds.
+    /// Does the work of `flip` for a flip within the population bounds. It is rare, and kept out of
+    /// line.
     #[inline(never)]
     fn flip_within<L: Ledger>(&mut self, flip: Flip, steps: &mut Steps<L>) -> bool
         requires made { self.old.job ≡ flip.job.now }

@@ -9,7 +9,7 @@ use Rattle.flip_kernel.specs.Held.{IsMove, ProposesOpen}
 use Rattle.flip_kernel.proofs.flip.led_back.Goals as goal
 use Rattle.flip_kernel.proofs.Flipping.{next_moved, next_stays, move_differs, mirrored_turned}
 
--- a move's draw less its district, plus the unit's old one
+-- a draw minus its district, plus the unit's old district
 turned : (job : Job) (plan : List ℕ) (draw unit district minus plus : ℕ) → proposal job.graph.units job.districts draw ≡ Some (unit, district)
     → unit < length plan → IsMove job plan unit district → minus ≡ district → plus ≡ get_or plan unit 0 → draw - minus + plus ≡ mirrored job plan draw
 turned job plan draw unit district minus plus is l move less more =

@@ -7,7 +7,7 @@ use Rattle.flip_kernel.proofs.Holding.{held_for, put_back}
 use Rattle.flip_kernel.proofs.Moves.{left_is_open}
 use Rattle.flip_kernel.proofs.board.Board.make_move.Goals as goal
 
--- the same table, of equal graphs, plans and numbers of districts
+-- equal graphs, plans and numbers of districts share a table
 table_of : (g h : Graph) (p q : List ℕ) (m n : ℕ) (table : List Bool) → g ≡ h → p ≡ q → m ≡ n → TellsOpen g p m table → TellsOpen h q n table
 table_of g h p q m n table eg ep em is =
     subst (λ (x : Graph). TellsOpen x q n table) eg (subst (λ (x : List ℕ). TellsOpen g x n table) ep (subst (λ (x : ℕ). TellsOpen g p x table) em is))
