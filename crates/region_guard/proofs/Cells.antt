@@ -1,4 +1,4 @@
--- Counts below a bound that differ at one number, and the places of a table.
+-- Counts and sums that differ at one number, and positions in a table.
 use Rattle.std.proofs.Common.{◌≡◌, ℕ, zero, suc, ◌+◌, ◌*◌, ◌<◌, ◌≤◌, Bool, true, false, cond, not, ◌&&◌, ◌||◌, ◌==◌, List, length, get_or, refl, sym, ap, ◌∙◌, inl, inr, arith, add-one}
 use Rattle.std.specs.Prelude.{nat_lt}
 use Rattle.std.proofs.Math.Nat.{mul-le-mul_right, mul-suc}
@@ -18,12 +18,12 @@ pub one_small : (b : Bool) → one_if b ≤ 1
 one_small true = omega arith
 one_small false = omega arith
 
--- a count over one number more
+-- a count over one more number
 pub count_more : (n : ℕ) (f : ℕ → Bool) → count_below (suc n) f ≡ count_below n f + one_if (f n)
 unfolding count_below
 count_more n f = refl
 
--- counts of tests that differ at one number alone differ by what they say of it
+-- counts of tests that differ at one number differ by their values there
 pub count_but_one : (n u : ℕ) (f g : ℕ → Bool) → u < n → ((v : ℕ) → v < n → (v ≡ u → ⊥) → f v ≡ g v)
     → count_below n f + one_if (g u) ≡ count_below n g + one_if (f u)
 count_but_one zero u f g l same = absurd (omega arith)
@@ -39,7 +39,7 @@ count_but_one (suc n) u f g l same = elim (cases_eq u n) [
       omega (arith, before, last, count_more n f, count_more n g)
 ]
 
--- two numbers at which they differ
+-- counts of tests that differ at two numbers
 pub count_but_two : (n x y : ℕ) (f g : ℕ → Bool) → x < n → y < n → (x ≡ y → ⊥)
     → ((v : ℕ) → v < n → (v ≡ x → ⊥) → (v ≡ y → ⊥) → f v ≡ g v)
     → count_below n f + one_if (g x) + one_if (g y) ≡ count_below n g + one_if (f x) + one_if (f y)
@@ -54,7 +54,7 @@ count_but_two n x y f g lx ly apart same =
     ]) in
     omega (arith, first, second, ap one_if h_at, ap one_if (h_off y (λ e. apart (sym e))))
 
--- numbers past which none passes count for nothing
+-- numbers that fail add nothing to a count
 pub count_longer : (n m : ℕ) (f : ℕ → Bool) → m ≤ n → ((k : ℕ) → m ≤ k → f k ≡ false) → count_below m f ≡ count_below n f
 count_longer zero m f l none = let e : m ≡ zero = omega (arith, l) in ap (λ k. count_below k f) e
 count_longer (suc n) m f l none = elim (cases_eq m (suc n)) [
@@ -65,11 +65,11 @@ count_longer (suc n) m f l none = elim (cases_eq m (suc n)) [
       omega (arith, before, last, count_more n f)
 ]
 
--- a count has each number of which the test is true
+-- a number that passes makes the count positive
 pub some_counted : (n x : ℕ) (f : ℕ → Bool) → x < n → f x ≡ true → 1 ≤ count_below n f
 some_counted n x f l h = omega (arith, count_below_without n f x l h)
 
--- a test is true of some number where its count is not 0
+-- some number passes exactly if the count is positive
 pub any_is_some : (n : ℕ) (f : ℕ → Bool) → any_below n f ≡ nat_lt 0 (count_below n f)
 any_is_some zero f = sym (false_from_ne_true (nat_lt 0 (count_below 0 f)) (λ h. let l = ltb-true 0 (count_below 0 f) h in omega (arith, l, count_below_zero f)))
 any_is_some (suc n) f = elim (cases_Bool (f n)) [
@@ -86,7 +86,7 @@ any_is_some (suc n) f = elim (cases_Bool (f n)) [
     or_none true b h = refl
     or_none false b h = h
 
--- all pass where none fails
+-- all numbers pass exactly if none fails
 pub all_is_none : (n : ℕ) (f : ℕ → Bool) → (count_below n (λ k. not (f k)) == 0) ≡ all_below n f
 all_is_none zero f = eq-eqb (count_below 0 (λ k. not (f k))) 0 (count_below_zero (λ k. not (f k)))
 all_is_none (suc n) f = elim (cases_Bool (f n)) [
@@ -106,13 +106,13 @@ all_is_none (suc n) f = elim (cases_Bool (f n)) [
 
 -- ---- sums
 
--- sums of functions that agree below the bound are the same
+-- sums of functions that agree are equal
 pub sum_same : (n : ℕ) (f g : ℕ → ℕ) → ((k : ℕ) → k < n → f k ≡ g k) → sum_below n f ≡ sum_below n g
 sum_same zero f g same = refl
 sum_same (suc n) f g same =
     let before = sum_same n f g (λ k l. same k (omega (arith, l))) in let last = same n (omega arith) in omega (arith, before, last)
 
--- sums of functions that differ at one number alone differ by what they give for it
+-- sums of functions that differ at one number differ by their values there
 pub sum_but_one : (n u : ℕ) (f g : ℕ → ℕ) → u < n → ((v : ℕ) → v < n → (v ≡ u → ⊥) → f v ≡ g v)
     → sum_below n f + g u ≡ sum_below n g + f u
 sum_but_one zero u f g l same = absurd (omega arith)
@@ -128,7 +128,7 @@ sum_but_one (suc n) u f g l same = elim (cases_eq u n) [
       omega (arith, before, last)
 ]
 
--- a sum of small terms is small
+-- a bound on each term bounds the sum
 pub sum_small : (n most : ℕ) (f : ℕ → ℕ) → ((k : ℕ) → k < n → f k ≤ most) → sum_below n f ≤ most * n
 sum_small zero most f small = omega arith
 sum_small (suc n) most f small =
@@ -136,13 +136,13 @@ sum_small (suc n) most f small =
     let last = small n (omega arith) in
     omega (arith, before, last, mul-suc most n)
 
--- a sum of zeros
+-- a sum of zeros is zero
 pub sum_none : (n : ℕ) (f : ℕ → ℕ) → ((k : ℕ) → k < n → f k ≡ 0) → sum_below n f ≡ 0
 sum_none zero f none = refl
 sum_none (suc n) f none =
     let before = sum_none n f (λ k l. none k (omega (arith, l))) in let last = none n (omega arith) in omega (arith, before, last)
 
--- numbers past which each term is 0 add nothing
+-- zero terms add nothing to a sum
 pub sum_longer : (n m : ℕ) (f : ℕ → ℕ) → m ≤ n → ((k : ℕ) → m ≤ k → f k ≡ 0) → sum_below m f ≡ sum_below n f
 sum_longer zero m f l none = let e : m ≡ zero = omega (arith, l) in ap (λ (k : ℕ). sum_below k f) e
 sum_longer (suc n) m f l none = elim (cases_eq m (suc n)) [
@@ -153,20 +153,20 @@ sum_longer (suc n) m f l none = elim (cases_eq m (suc n)) [
       omega (arith, before, last)
 ]
 
--- a sum over one number more
+-- a sum over one more number
 pub sum_more : (n : ℕ) (f : ℕ → ℕ) → sum_below (n + 1) f ≡ sum_below n f + f n
 sum_more n f = ap (λ (k : ℕ). sum_below k f) (add-one n)
 
--- ---- places in the table
+-- ---- positions in the table
 
--- rows do not share a place
+-- rows do not overlap
 same_cell : (districts q d r e : ℕ) → d < districts → e < districts → q < r → q * districts + d ≡ r * districts + e → ⊥
 same_cell districts q d r e ld le l h =
     let row : suc q * districts ≤ r * districts = mul-le-mul_right districts (omega (arith, l)) in
     let one : suc q * districts ≡ q * districts + districts = omega arith in
     omega (arith, row, one, ld, h)
 
--- a place is of one row
+-- a position determines its row
 pub row_of_cell : (districts q d r e : ℕ) → d < districts → e < districts → q * districts + d ≡ r * districts + e → q ≡ r
 row_of_cell districts q d r e ld le h = elim (cases_lt q r) [
   | inl l ↦ absurd (same_cell districts q d r e ld le l h)
@@ -176,18 +176,18 @@ row_of_cell districts q d r e ld le h = elim (cases_lt q r) [
   ]
 ]
 
--- and of one district
+-- a position determines its district
 pub place_of_cell : (districts q d r e : ℕ) → d < districts → e < districts → q * districts + d ≡ r * districts + e → d ≡ e
 place_of_cell districts q d r e ld le h =
     let row = ap (λ k. k * districts) (row_of_cell districts q d r e ld le h) in omega (arith, row, h)
 
--- ---- what a region's districts are
+-- ---- the districts of a region
 
--- a region lies in a district exactly where units of it are counted there
+-- a region lies in a district exactly if its count of units there is positive
 pub lies_is_counted : (regions plan : List ℕ) (q d : ℕ) → lies_in regions plan q d ≡ nat_lt 0 (units_among (length regions) regions plan q d)
 lies_is_counted regions plan q d = any_is_some (length regions) (λ u. (get_or regions u 0 == q) && (get_or plan u 0 == d))
 
--- among how many districts a region is split, by its row of the table
+-- the number of a region's districts is the number of positive entries of its row
 pub split_is_counted : (regions plan : List ℕ) (districts q : ℕ) → length plan ≡ length regions → above_all plan ≤ districts
     → split_of regions plan q ≡ count_below districts (λ d. nat_lt 0 (units_among (length regions) regions plan q d))
 split_is_counted regions plan districts q long l =

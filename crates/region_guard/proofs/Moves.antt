@@ -1,4 +1,4 @@
--- What a move changes in the counts.
+-- The change of the counts by a move.
 use Rattle.std.proofs.Common.{◌≡◌, ℕ, zero, suc, ◌+◌, ◌*◌, ◌-◌, ◌<◌, ◌≤◌, Bool, true, false, not, ◌&&◌, ◌==◌, List, ◌++◌, length, take, drop, get_or, refl, sym, ap, ◌∙◌, subst, inl, inr, arith, add-one}
 use Rattle.std.specs.Prelude.{nat_lt, nat_le}
 use Rattle.std.proofs.Math.Nat.{mul-le-mul_right}
@@ -16,7 +16,7 @@ use Rattle.region_guard.specs.declared.splits.Totals.{Totals}
 use Rattle.region_guard.specs.Standing.{AreSplits, IsStep, IsTable, broken_in, cell, permits_splits, totals_from, totals_of, units_among}
 use Rattle.region_guard.proofs.Cells.{sum_but_one, sum_same, sum_small, one_if, all_is_none, count_more, count_but_one, count_but_two, some_counted, split_is_counted, row_of_cell, place_of_cell}
 
--- totals of the same numbers are the same
+-- totals with equal fields are equal
 pub totals_same : (t s : Totals) → t.broken ≡ s.broken → t.in_all ≡ s.in_all → t.split ≡ s.split → t ≡ s
 totals_same t s broken in_all split =
     ap (λ (b : ℕ). (let r : Totals = record { broken = b; in_all = t.in_all; split = t.split } in r)) broken
@@ -84,7 +84,7 @@ module _ (regions after : List ℕ) (most districts u from : ℕ) (step : IsStep
       let no : (region == r) ≡ false = ne_eqb region r (λ e. off (sym e)) in
       omega (arith, moved_units r d, none_if (region == r) (to == d) no, none_if (region == r) (from == d) no)
 
-  -- so do those of other districts
+  -- the counts of other districts stay
   other_district : (r d : ℕ) → (d ≡ from → ⊥) → (d ≡ to → ⊥) → units_after r d ≡ units_before r d
   other_district r d off_from off_to =
       omega (
@@ -143,7 +143,7 @@ module _ (regions after : List ℕ) (most districts u from : ℕ) (step : IsStep
       | inr off ↦ ne_eqb n 0 off ∙ sym (ne_eqb m 1 (λ one. off (omega (arith, one, e))))
     ]
 
-    -- one district fewer where the last unit left it, and one more where the first came
+    -- the region loses a district if its last unit leaves it, and gains one if its first unit joins it
     pub split_here : split_of regions after region + one_if (units_before region from == 1) ≡ split_of regions before region + one_if (units_before region to == 0)
     split_here =
         let two = count_but_two districts from to (λ d. nat_lt 0 (units_after region d)) (λ d. nat_lt 0 (units_before region d)) from_below to_below
@@ -170,7 +170,7 @@ module _ (regions after : List ℕ) (most districts u from : ℕ) (step : IsStep
     pub few_split_after : split_of regions after region ≤ districts
     few_split_after = omega (arith, split_after region, count_below_le districts (λ d. nat_lt 0 (units_after region d)))
 
-    -- the splits in all change as the region's districts do
+    -- the splits in all change by as much as the region's districts
     pub in_all_here : splits_in_all regions after + split_of regions before region ≡ splits_in_all regions before + split_of regions after region
     in_all_here = omega (arith, in_all_moved, some_split, some_split_after)
 
@@ -203,7 +203,7 @@ module _ (regions after : List ℕ) (most districts u from : ℕ) (step : IsStep
   broken_some h = some_counted (above_all regions) region (λ r. not (nat_le (split_of regions before r) most)) region_below
       (not_from_false (nat_le (split_of regions before region) most) h)
 
-  -- where the unit stays, so do the totals
+  -- if the unit stays, so do the totals
   pub stayed : (splits : Splits) → AreSplits regions most districts splits before → to ≡ from → splits.totals ≡ totals_of regions most after
   stayed splits stood e = stood.totals ∙ ap (totals_of regions most) (same_plan e)
 
@@ -369,13 +369,13 @@ module _ (regions after : List ℕ) (most districts u from : ℕ) (step : IsStep
         totals = is_totals;
       }
 
--- ---- counting from the front
+-- ---- counting unit by unit
 
--- a count over one number more
+-- a count over one more number
 pub next_counted : (n : ℕ) (f : ℕ → Bool) → count_below (n + 1) f ≡ count_below n f + one_if (f n)
 next_counted n f = ap (λ k. count_below k f) (add-one n) ∙ count_more n f
 
--- the table with one unit more is that of one unit more
+-- adding one more unit to the table
 pub counted_on : (regions plan cells : List ℕ) (districts unit : ℕ) → (rows : ℕ) → length cells ≡ rows * districts
     → get_or regions unit 0 < rows → get_or plan unit 0 < districts
     → ((q d : ℕ) → q < rows → d < districts → cell districts cells q d ≡ units_among unit regions plan q d)
@@ -404,7 +404,7 @@ counted_on regions plan cells districts unit rows places lr lp before q d lq ld 
           omega (arith, next, none, kept, before q d lq ld)
     ]
 
--- the place of a region and a district fits the machine
+-- the position of a region and a district does not overflow
 pub small_place : (regions : List ℕ) (districts : ℕ) (splits : Splits) (r d : ℕ) → IsTable regions districts splits → r < length splits.widths → d < districts
     → r * districts + d < 1000000
 small_place regions districts splits r d table lr ld =
@@ -412,7 +412,7 @@ small_place regions districts splits r d table lr ld =
     let few : length splits.widths * districts ≤ 5000 * districts = mul-le-mul_right districts (omega (arith, table.rows, table.few_rows)) in
     omega (arith, inside, few, table.few)
 
--- the totals tell whether regions are split no more than they may be
+-- the totals decide the rules on regions
 pub within : (rules : Rules) (after : List ℕ) (t : Totals) → t ≡ totals_of rules.regions rules.max_split after
     → ((t.broken == 0) && nat_le t.in_all rules.max_splits && nat_le t.split rules.max_split_regions) ≡ permits_splits rules after
 within rules after t h =
@@ -420,7 +420,7 @@ within rules after t h =
     ∙ ap (λ b. b && nat_le (splits_in_all rules.regions after) rules.max_splits && nat_le (split_regions rules.regions after) rules.max_split_regions)
     (all_is_none (above_all rules.regions) (λ q. nat_le (split_of rules.regions after q) rules.max_split))
 
--- the counts of a plan, made anew
+-- recomputed counts are the plan's
 pub stands_anew : (regions : List ℕ) (most districts : ℕ) (splits : Splits) (plan : List ℕ)
     → (0 < above_all regions → length plan ≡ length regions) → above_all plan ≤ districts → length splits.widths ≡ above_all regions
     → ((q d : ℕ) → q < length splits.widths → d < districts → cell districts splits.cells q d ≡ units_among (length regions) regions plan q d)
@@ -443,12 +443,12 @@ stands_anew regions most districts splits plan long below rows units widths h =
           ∙ ap (λ (n : ℕ). totals_from n most (split_of regions plan)) rows;
     }
 
--- a list that was written over whole is what was written
+-- a list that is overwritten entirely is what was written
 pub over_is : (old new : List ℕ) → length new ≡ length old → take (length old) (new ++ drop (length new) old) ≡ new
 over_is old new long =
     take-append-le (length old) new (drop (length new) old) (omega (arith, long)) ∙ take_all (length old) new (omega (arith, long))
 
--- counts that were written as those of a plan are its counts
+-- counts written as a plan's are its counts
 pub stands_as : (regions : List ℕ) (most districts : ℕ) (cells written widths written_widths : List ℕ) (t : Totals) (plan : List ℕ)
     → written ≡ cells → written_widths ≡ widths → AreSplits regions most districts (record { cells = cells; widths = widths; totals = t }) plan
     → AreSplits regions most districts (record { cells = written; widths = written_widths; totals = t }) plan
@@ -458,18 +458,18 @@ stands_as regions most districts cells written widths written_widths t plan e f 
 
 -- ---- no regions
 
--- of no numbers none is above 0
+-- the bound of an empty list is 0
 pub none_above : (xs : List ℕ) → length xs ≡ 0 → above_all xs ≡ 0
 none_above xs none = ap above_all (nil_from_length xs none)
 
--- the totals of no regions
+-- the totals without regions are 0
 no_totals : (regions : List ℕ) (most : ℕ) (plan : List ℕ) → above_all regions ≡ 0 → totals_of regions most plan ≡ record { broken = 0; in_all = 0; split = 0 }
 no_totals regions most plan none =
     ap (λ (n : ℕ). totals_from n most (split_of regions plan)) none
     ∙ totals_same (totals_from 0 most (split_of regions plan)) (record { broken = 0; in_all = 0; split = 0 })
     (count_below_zero (λ q. not (nat_le (split_of regions plan q) most))) refl (count_below_zero (λ q. nat_lt 1 (split_of regions plan q)))
 
--- no regions are not split
+-- without regions, the rules on regions are met
 pub none_permitted : (rules : Rules) (plan : List ℕ) → length rules.regions ≡ 0 → true ≡ permits_splits rules plan
 none_permitted rules plan none =
     let zero_above = none_above rules.regions none in
@@ -483,7 +483,7 @@ none_permitted rules plan none =
     (le-leb (splits_in_all rules.regions plan) rules.max_splits (omega (arith, in_all))))
     (le-leb (split_regions rules.regions plan) rules.max_split_regions (omega (arith, split))))
 
--- counts of no regions are those of each plan
+-- without regions, the counts are those of every plan
 pub none_stand : (regions : List ℕ) (most districts : ℕ) (splits : Splits) (plan other : List ℕ) → length regions ≡ 0
     → AreSplits regions most districts splits plan → AreSplits regions most districts splits other
 none_stand regions most districts splits plan other none stood =

@@ -1,4 +1,4 @@
--- Plans that fit before and after a move.
+-- Plans that fit the tables before and after a move.
 use Rattle.std.proofs.Common.{◌≡◌, ℕ, ◌<◌, ◌≤◌, true, ◌&&◌, ◌==◌, List, length, set, ◌⊎◌, inl, inr, arith}
 use Rattle.std.specs.Prelude.{nat_le}
 use Rattle.std.proofs.lemmas.Bool.{and_parts, eqb-true, leb-true, or_cases}
@@ -6,14 +6,14 @@ use Rattle.audit_model.specs.declared.rules.Rules.{Rules}
 use Rattle.audit_model.specs.Below.{above_all}
 use Rattle.region_guard.specs.Standing.{IsFitStep, IsStep, is_fitting, is_for}
 
--- a list that is for so many units has none or as many
+-- a list for this many units is empty or has one entry per unit
 pub for_cases : (units : ℕ) (entries : List ℕ) → is_for units entries ≡ true → (length entries ≡ 0) ⊎ (length entries ≡ units)
 for_cases units entries h = elim (or_cases (length entries == 0) (length entries == units) h) [
   | inl none ↦ inl (eqb-true (length entries) 0 none)
   | inr all ↦ inr (eqb-true (length entries) units all)
 ]
 
--- what it is that a plan fits
+-- the conditions under which a plan fits the tables
 pub record IsFit (rules : Rules) (districts units above : ℕ) : Type 0 where
   pub regions : is_for units rules.regions ≡ true
   pub group : is_for units rules.group.members ≡ true
@@ -33,15 +33,15 @@ module _ (rules : Rules) (districts : ℕ) (after : List ℕ) (u from : ℕ) (ta
   was : IsFit rules districts (length (set after u from)) (above_all (set after u from))
   was = fit_parts rules districts (length (set after u from)) (above_all (set after u from)) taken_before
 
-  -- plans that fit before and after a move are a step of the regions
+  -- plans that fit before and after a move are a step for the regions
   pub region_step : IsFitStep rules.regions districts after u from
   region_step = record { long = here.regions; unit_below = inside; after_below = here.below; before_below = was.below }
 
-  -- and of the group
+  -- plans that fit before and after a move are a step for the group
   pub group_step : IsFitStep rules.group.members districts after u from
   group_step = record { long = here.group; unit_below = inside; after_below = here.below; before_below = was.below }
 
--- where there are entries, each unit has one
+-- if the list is not empty, each unit has an entry
 pub sure_step : (entries : List ℕ) (districts : ℕ) (after : List ℕ) (u from : ℕ) → IsFitStep entries districts after u from → (length entries ≡ 0 → ⊥)
     → IsStep entries districts after u from
 sure_step entries districts after u from step some = record {
@@ -51,6 +51,6 @@ sure_step entries districts after u from step some = record {
   before_below = step.before_below;
 }
 
--- there are no more entries than units
+-- there are at most as many entries as units
 pub no_more : (units : ℕ) (entries : List ℕ) → is_for units entries ≡ true → length entries ≤ units
 no_more units entries h = elim (for_cases units entries h) [ inl none ↦ omega (arith, none) | inr all ↦ omega (arith, all) ]

@@ -1,4 +1,4 @@
--- The sums of a group by district, and its majorities.
+-- Sums of a group by district, and its majorities.
 use Rattle.std.proofs.Common.{◌≡◌, ℕ, ◌+◌, ◌*◌, ◌-◌, ◌^◌, ◌<◌, ◌≤◌, cond, ◌==◌, List, length, get_or, refl, sym, ap, ◌∙◌, inl, inr, arith}
 use Rattle.std.specs.Prelude.{nat_lt}
 use Rattle.std.proofs.Math.ListN.{set, length-set}
@@ -18,41 +18,41 @@ use Rattle.region_guard.proofs.Cells.{one_if, count_but_two, count_longer, sum_b
 
 -- ---- one column
 
--- what a unit adds to the sum of a district
+-- the term of a unit in a district's sum
 abbrev pub term : List ℕ → List ℕ → ℕ → ℕ → ℕ
 term column plan d u = cond (in_district plan d u) (get_or column u 0) 0
 
--- a unit adds its number to its district
+-- a unit adds its number to its own district
 pub own_term : (column plan : List ℕ) (d u : ℕ) → get_or plan u 0 ≡ d → term column plan d u ≡ get_or column u 0
 own_term column plan d u e = cond-true {A = ℕ} (get_or plan u 0 == d) (get_or column u 0) 0 (eq-eqb (get_or plan u 0) d e)
 
--- and nothing to any other
+-- a unit adds nothing to other districts
 pub no_term : (column plan : List ℕ) (d u : ℕ) → (get_or plan u 0 ≡ d → ⊥) → term column plan d u ≡ 0
 no_term column plan d u off = cond-false {A = ℕ} (get_or plan u 0 == d) (get_or column u 0) 0 (ne_eqb (get_or plan u 0) d off)
 
--- a unit of no number adds nothing
+-- a unit with number 0 adds nothing
 pub bare_term : (column plan : List ℕ) (d u : ℕ) → get_or column u 0 ≡ 0 → term column plan d u ≡ 0
 bare_term column plan d u none = elim (cases_eq (get_or plan u 0) d) [
   | inl e ↦ own_term column plan d u e ∙ none
   | inr off ↦ no_term column plan d u off
 ]
 
--- a district of no unit has a sum of 0
+-- a district without units has the sum 0
 pub no_sum : (column plan : List ℕ) (d : ℕ) → above_all plan ≤ d → district_sum column plan d ≡ 0
 no_sum column plan d past = sum_none (length plan) (term column plan d) (λ u l.
     no_term column plan d u (λ e. let under = below_above_all plan u l in omega (arith, e, past, under)))
 
--- so has each district where there is no column
+-- without a column, each district has the sum 0
 pub bare_sum : (column plan : List ℕ) (d : ℕ) → length column ≡ 0 → district_sum column plan d ≡ 0
 bare_sum column plan d none = sum_none (length plan) (term column plan d) (λ u l.
     bare_term column plan d u (get_or_past column u 0 (omega (arith, none))))
 
--- a sum over as many units as the column has is that of the district
+-- the sum over the column's units is the district's sum
 pub whole_sum : (column plan : List ℕ) (d : ℕ) → length column ≤ length plan → part_of column plan (length column) d ≡ district_sum column plan d
 whole_sum column plan d l = sum_longer (length plan) (length column) (term column plan d) l (λ u past.
     bare_term column plan d u (get_or_past column u 0 past))
 
--- sums with the next unit's number are those of one unit more
+-- adding one more unit's number
 pub added_on : (column plan sums : List ℕ) (unit : ℕ) → get_or plan unit 0 < length sums
     → ((d : ℕ) → d < length sums → get_or sums d 0 ≡ part_of column plan unit d)
     → let home : ℕ = get_or plan unit 0 in
@@ -74,7 +74,7 @@ added_on column plan sums unit inside before d l =
           omega (arith, next, kept, before d (omega (arith, l, width)), no_term column plan d unit (λ e. off (sym e)))
     ]
 
--- the sum of a district is at most 10 ^ 14
+-- a district's sum is at most 10 ^ 14
 pub small_sum : (column plan : List ℕ) (d : ℕ) → ((u : ℕ) → u < length column → get_or column u 0 ≤ 10 ^ 9) → length column ≤ length plan → length column ≤ 100000
     → district_sum column plan d ≤ 10 ^ 14
 small_sum column plan d small l few =
@@ -101,7 +101,7 @@ module _ (column after : List ℕ) (u from : ℕ) (inside : u < length after) wh
       ap (λ (n : ℕ). sum_below n (term column before d)) (length-set after u from) in
       omega (arith, but, width)
 
-  -- the districts between which no unit moved keep their sums
+  -- districts not involved in the move keep their sums
   pub kept_sum : (d : ℕ) → (d ≡ from → ⊥) → (d ≡ to → ⊥) → district_sum column after d ≡ district_sum column before d
   kept_sum d off_from off_to =
       omega (
@@ -116,7 +116,7 @@ module _ (column after : List ℕ) (u from : ℕ) (inside : u < length after) wh
     pub left_sum : district_sum column before from ≡ district_sum column after from + amount
     left_sum = omega (arith, moved_sum from, no_term column after from u apart, own_term column before from u was)
 
-    -- the new one has it
+    -- the new district has the unit's number
     pub come_sum : district_sum column after to ≡ district_sum column before to + amount
     come_sum = omega (arith, moved_sum to, own_term column after to u refl, no_term column before to u (λ e. apart (sym e ∙ was)))
 
@@ -150,7 +150,7 @@ module _ (column after : List ℕ) (u from : ℕ) (inside : u < length after) wh
 
 -- ---- the group
 
--- both columns have a number for each unit of the group
+-- both columns of the group have a number per unit
 pub own_columns : (group : Group) → IsGroup (length group.members) group → IsColumn (length group.members) group.members × IsColumn (length group.members) group.whole
 own_columns group is = elim is [
   | inl none ↦ (bare group.members (ap length none.0) (ap length none.0), bare group.whole (ap length none.1) (ap length none.0))
@@ -160,7 +160,7 @@ own_columns group is = elim is [
     bare : (xs : List ℕ) → length xs ≡ 0 → length group.members ≡ 0 → IsColumn (length group.members) xs
     bare xs none no_members = record { width = omega (arith, none, no_members); small = λ k d l. absurd (omega (arith, none, l)) }
 
--- districts past the plan's have no majority: no one is more than half of no one
+-- districts beyond the plan's have no majority
 pub majorities_within : (group : Group) (plan : List ℕ) (districts : ℕ) → above_all plan ≤ districts
     → majorities group plan ≡ count_below districts (has_majority group plan)
 majorities_within group plan districts l =
@@ -170,14 +170,14 @@ majorities_within group plan districts l =
     false_from_ne_true (has_majority group plan d) (λ h.
     let less = ltb-true (district_sum group.whole plan d) (2 * district_sum group.members plan d) h in omega (arith, members, whole, less)))
 
--- no group has no majority
+-- without a group, there are no majorities
 pub no_majority : (group : Group) (plan : List ℕ) → length group.members ≡ 0 → majorities group plan ≡ 0
 no_majority group plan none = count_below_none (above_all plan) (has_majority group plan) (λ d l.
     let members = bare_sum group.members plan d none in
     false_from_ne_true (has_majority group plan d) (λ h.
     let less = ltb-true (district_sum group.whole plan d) (2 * district_sum group.members plan d) h in omega (arith, members, less)))
 
--- counts of no group are those of each plan
+-- without a group, the sums are those of every plan
 pub none_tallied : (group : Group) (districts : ℕ) (tally : GroupTally) (plan other : List ℕ) → length group.members ≡ 0 → length group.whole ≡ 0
     → IsTallied group districts tally plan → IsTallied group districts tally other
 none_tallied group districts tally plan other none no_whole stood = record {
@@ -186,7 +186,7 @@ none_tallied group districts tally plan other none no_whole stood = record {
   majorities = stood.majorities ∙ no_majority group plan none ∙ sym (no_majority group other none);
 }
 
--- the counts of a plan, made anew
+-- recomputed sums are the plan's
 pub tallied_anew : (group : Group) (districts : ℕ) (members whole : List ℕ) (n : ℕ) (plan : List ℕ) → above_all plan ≤ districts → length members ≡ districts
     → ((d : ℕ) → d < districts → get_or members d 0 ≡ district_sum group.members plan d)
     → ((d : ℕ) → d < districts → get_or whole d 0 ≡ district_sum group.whole plan d)
@@ -234,7 +234,7 @@ module _ (group : Group) (districts : ℕ) (tally : GroupTally) (after : List �
   small_whole : (v : ℕ) → v < length group.whole → get_or group.whole v 0 ≤ 10 ^ 9
   small_whole v l = columns.1.small v 0 l
 
-  -- the sums and the unit's numbers fit the machine
+  -- the sums and the unit's numbers do not overflow
   pub few_members : (d : ℕ) → d < districts → get_or tally.members d 0 ≤ 10 ^ 14
   few_members d l =
       let sum = small_sum group.members plan_before d small_members (omega (arith, length-set after u from, step.long)) table.few_units in
@@ -252,7 +252,7 @@ module _ (group : Group) (districts : ℕ) (tally : GroupTally) (after : List �
   pub unit_whole : get_or group.whole u 0 ≤ 10 ^ 9
   unit_whole = small_whole u has_whole
 
-  -- where the unit stays, so do the majorities
+  -- if the unit stays, so do the majorities
   pub stayed : target ≡ from → tally.majorities ≡ majorities group after
   stayed e = stood.majorities ∙ ap (majorities group) (ap (λ d. set after u d) (sym e) ∙ set-get_or after u 0)
 
@@ -263,7 +263,7 @@ module _ (group : Group) (districts : ℕ) (tally : GroupTally) (after : List �
     left_whole : district_sum group.whole plan_before from ≡ district_sum group.whole after from + get_or group.whole u 0
     left_whole = left_sum group.whole after u from step.unit_below apart
 
-    -- the old district has the unit's numbers
+    -- the old district's sum has the unit's numbers
     pub some_members : get_or group.members u 0 ≤ get_or tally.members from 0
     some_members = omega (arith, left_members, stood.members from home_below)
 
@@ -306,7 +306,7 @@ module _ (group : Group) (districts : ℕ) (tally : GroupTally) (after : List �
     few_majorities =
         omega (arith, stood.majorities, majorities_within group plan_before districts step.before_below, count_below_le districts (has_majority group plan_before), table.few)
 
-    -- what the two districts' majorities before and after the move make of the count
+    -- the number of majorities, from those of the two districts before and after the move
     module _ (left come home there : ℕ)
         (left_is : left ≡ one_if (nat_lt (get_or tally.whole from 0 - get_or group.whole u 0) (2 * (get_or tally.members from 0 - get_or group.members u 0))))
         (come_is : come ≡ one_if (nat_lt (get_or tally.whole target 0 + get_or group.whole u 0) (2 * (get_or tally.members target 0 + get_or group.members u 0))))
@@ -336,7 +336,7 @@ module _ (group : Group) (districts : ℕ) (tally : GroupTally) (after : List �
       pub majorities_found : tally.majorities + left + come - home - there ≡ majorities group after
       majorities_found = omega (arith, summed)
 
-    -- the counts after the move
+    -- the sums after the move
     pub tallied_after : (members whole : List ℕ) (n : ℕ)
         → let less : List ℕ = set tally.members from (get_or tally.members from 0 - get_or group.members u 0) in
         members ≡ set less target (get_or less target 0 + get_or group.members u 0)

@@ -1,11 +1,11 @@
--- Judges by one test of the cut edges and one of the number of districts of a region.
+-- Constraints by a test of the cut edges and a test of the districts of a region.
 use Rattle.std.specs.Prelude.{◌≡◌, ℕ, List}
 use Rattle.std.specs.List.{All}
 use Rattle.audit_model.specs.declared.rules.Rules.{Rules}
 use Rattle.region_guard.specs.declared.guard.RegionGuard.{RegionGuard}
 use Rattle.region_guard.specs.Standing.{IsGroupTable, IsTable}
 
--- it has these tests and these rules, and tables for so many districts
+-- the constraint has these tests and rules, and tables for this number of districts
 pub record IsRegionGuard {F T : Type 0} (cut : F) (test : T) (by : Rules) (districts : ℕ) (g : RegionGuard F T) : Type 0 where
   pub cut_is : g.cut.test ≡ cut
   pub same_cut : g.cut.rules.max_cut ≡ by.max_cut

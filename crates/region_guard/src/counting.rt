@@ -8,7 +8,7 @@ ghost use Rattle.audit_model.specs.Limits.{most_regions, most_districts, most_pe
 
 use audit_model::lists::{NumList, UnitList};
 
-/// Writes how many units of each region are in each district.
+/// Counts the units of each region in each district. `cells` has a row per region.
 pub(crate) fn count_units(
     regions: &UnitList,
     plan: &[u32],
@@ -35,7 +35,7 @@ pub(crate) fn count_units(
     );
 }
 
-/// The same in slices.
+/// Does the work of [`count_units`] on slices.
 fn count_cells(regions: &[u32], plan: &[u32], rows: usize, districts: usize, cells: &mut [u64])
     requires lengths { length regions.now ≤ length plan.now }
     requires few_rows { rows ≤ most_regions }
@@ -53,7 +53,7 @@ fn count_cells(regions: &[u32], plan: &[u32], rows: usize, districts: usize, cel
     }
 }
 
-/// Writes for each region how many districts have units of it.
+/// Counts the districts of each region.
 pub(crate) fn count_widths(cells: &NumList, districts: usize, widths: &mut UnitList)
     requires few_rows { length widths.old ≤ most_regions }
     requires few { districts ≤ most_districts }
@@ -65,7 +65,7 @@ pub(crate) fn count_widths(cells: &NumList, districts: usize, widths: &mut UnitL
     count_rows(cells.as_slice(), districts, widths.as_mut_slice());
 }
 
-/// The same in slices.
+/// Does the work of [`count_widths`] on slices.
 fn count_rows(cells: &[u64], districts: usize, widths: &mut [u32])
     requires few_rows { length widths.old ≤ most_regions }
     requires few { districts ≤ most_districts }
@@ -79,7 +79,7 @@ fn count_rows(cells: &[u64], districts: usize, widths: &mut [u32])
     }
 }
 
-/// Moves one unit from one count to another, of no more than `units`.
+/// Moves one unit from one cell to another. No count exceeds `units`.
 #[inline]
 pub(crate) fn move_unit(cells: &mut NumList, from: usize, to: usize, units: usize)
     requires from { from < length cells.old }
@@ -91,7 +91,7 @@ pub(crate) fn move_unit(cells: &mut NumList, from: usize, to: usize, units: usiz
     move_one(cells.as_mut_slice(), from, to, units);
 }
 
-/// The same in a slice.
+/// Does the work of [`move_unit`] on a slice.
 #[inline]
 fn move_one(cells: &mut [u64], from: usize, to: usize, units: usize)
     requires from { from < length cells.old }
@@ -113,7 +113,7 @@ pub(crate) fn set_width(widths: &mut UnitList, region: usize, width: u32)
     write_width(widths.as_mut_slice(), region, width);
 }
 
-/// The same in a slice.
+/// Does the work of [`set_width`] on a slice.
 #[inline]
 fn write_width(widths: &mut [u32], region: usize, width: u32)
     requires region { region < length widths.old }
@@ -122,7 +122,7 @@ fn write_width(widths: &mut [u32], region: usize, width: u32)
     widths[region] = width;
 }
 
-/// How often regions are split in all.
+/// Returns the number of splits in all: the districts of each region less one, added up.
 pub(crate) fn count_in_all(widths: &[u32]) -> u32
     requires few_rows { length widths.now ≤ most_regions }
     requires few { (region : ℕ) → region < length widths.now → slice_index widths.now region ≤ most_districts }
@@ -135,7 +135,7 @@ pub(crate) fn count_in_all(widths: &[u32]) -> u32
     in_all
 }
 
-/// How many regions are split.
+/// Returns the number of split regions.
 pub(crate) fn count_split(widths: &[u32]) -> u32
     requires few_rows { length widths.now ≤ most_regions }
     ensures { result ≡ count_below (length widths.now) (λ region. nat_lt 1 (slice_index widths.now region)) }
@@ -149,7 +149,7 @@ pub(crate) fn count_split(widths: &[u32]) -> u32
     split
 }
 
-/// Writes the sum of a column over each district.
+/// Recomputes each district's sum of a column.
 pub(crate) fn refill(column: &NumList, plan: &[u32], sums: &mut NumList)
     requires entries { length column.now ≤ length plan.now }
     requires few { length column.now ≤ most_units }
@@ -161,7 +161,7 @@ pub(crate) fn refill(column: &NumList, plan: &[u32], sums: &mut NumList)
     add_up(column.as_slice(), plan, sums.as_mut_slice());
 }
 
-/// The same in slices.
+/// Does the work of [`refill`] on slices.
 fn add_up(column: &[u64], plan: &[u32], sums: &mut [u64])
     requires entries { length column.now ≤ length plan.now }
     requires few { length column.now ≤ most_units }
@@ -203,7 +203,7 @@ fn move_amount(amount: u64, from: usize, to: usize, sums: &mut [u64])
     sums[to] += amount;
 }
 
-/// One more than the greatest of the regions.
+/// Returns one more than the greatest region.
 pub(crate) fn row_count(regions: &[u32]) -> u32
     requires { (u : ℕ) → u < length regions.now → slice_index regions.now u < most_regions }
     ensures { result ≡ above_all regions.now }
@@ -217,7 +217,7 @@ pub(crate) fn row_count(regions: &[u32]) -> u32
     rows
 }
 
-/// How many districts have units of a region.
+/// Returns the number of districts that have units of a region.
 fn width(cells: &[u64], rows: usize, districts: usize, region: usize) -> u32
     requires few_rows { rows ≤ most_regions }
     requires few { districts ≤ most_districts }

@@ -1,4 +1,4 @@
-//! A judge by two stored closures and counts.
+//! A constraint by two stored closures and running counts.
 
 ghost use Rattle.std.specs.Prelude.{◌≡◌, ℕ, ◌+◌, ◌<◌, ◌≤◌, ◌^◌, ◌≢◌, cond, not, nat_le, Bool, IfOk, length, slice_index, slice_set, replicate, false, All};
 ghost use Rattle.std.specs.Fn.{FnReturnsAt};
@@ -20,8 +20,11 @@ use flip_guard::guard::Guard;
 use flip_guard::judge::Judge;
 use std::alloc::Global;
 
-/// A judge of all rules: of cut edges, beside a closure that tests among how many districts a region is split, and the counts of a plan: how
-/// its regions are split, and in how many of its districts the group has a majority. There may be no regions, and no group.
+/// A constraint for all rules.
+///
+/// `cut` tests the cut edges, and `test` the number of districts of a region. Running counts
+/// describe the current plan: how its regions are split, and in how many districts the group has a
+/// majority. There may be no regions and no group.
 #[derive(Drop)]
 pub struct RegionGuard<F, T> {
     cut: Guard<F>,
@@ -33,7 +36,7 @@ pub struct RegionGuard<F, T> {
 }
 
 impl<F: Fn(&SumsView) -> bool + Drop, T: Fn(u32) -> bool + Drop> RegionGuard<F, T> {
-    /// Whether a region may be split among so many districts.
+    /// Returns true if a region may lie in `width` districts.
     fn passes(&self, width: u32) -> bool
         requires callable { T.IsAlwaysCallable self.now.test }
         requires answers { (width : ℕ) (answer : Bool) → width < 2 ^ 32 → T.post self.now.test width answer → answer ≡ nat_le width self.now.rules.max_split }
@@ -42,7 +45,8 @@ impl<F: Fn(&SumsView) -> bool + Drop, T: Fn(u32) -> bool + Drop> RegionGuard<F, 
         (self.test)(width)
     }
 
-    /// How many regions fail the test where one region is split among `wide` districts in place of `width`.
+    /// Returns the number of regions that fail the test after one region has changed from `width`
+    /// to `wide` districts.
     fn broken_after(&self, width: u32, wide: u32) -> u32
         requires callable { T.IsAlwaysCallable self.now.test }
         requires answers { (width : ℕ) (answer : Bool) → width < 2 ^ 32 → T.post self.now.test width answer → answer ≡ nat_le width self.now.rules.max_split }
@@ -61,7 +65,7 @@ impl<F: Fn(&SumsView) -> bool + Drop, T: Fn(u32) -> bool + Drop> RegionGuard<F, 
         broken
     }
 
-    /// How many regions fail the test.
+    /// Counts the regions that fail the test.
     fn count_broken(&self) -> u32
         requires callable { T.IsAlwaysCallable self.now.test }
         requires answers { (width : ℕ) (answer : Bool) → width < 2 ^ 32 → T.post self.now.test width answer → answer ≡ nat_le width self.now.rules.max_split }
@@ -78,7 +82,7 @@ impl<F: Fn(&SumsView) -> bool + Drop, T: Fn(u32) -> bool + Drop> RegionGuard<F, 
         broken
     }
 
-    /// The totals, by the number of districts of each region.
+    /// Computes the totals from the number of districts of each region.
     fn count_totals(&self) -> Totals
         requires callable { T.IsAlwaysCallable self.now.test }
         requires answers { (width : ℕ) (answer : Bool) → width < 2 ^ 32 → T.post self.now.test width answer → answer ≡ nat_le width self.now.rules.max_split }
@@ -94,7 +98,7 @@ impl<F: Fn(&SumsView) -> bool + Drop, T: Fn(u32) -> bool + Drop> RegionGuard<F, 
         }
     }
 
-    /// The region of a unit.
+    /// Returns the region of a unit.
     fn region_of(&self, unit: u32) -> usize
         requires unit { unit < length self.now.rules.regions }
         ensures { result ≡ slice_index self.now.rules.regions unit }
@@ -102,7 +106,7 @@ impl<F: Fn(&SumsView) -> bool + Drop, T: Fn(u32) -> bool + Drop> RegionGuard<F, 
         self.rules.regions.as_slice()[unit as usize] as usize
     }
 
-    /// Among how many districts the unit's region is split after its move from another district.
+    /// Returns the number of districts of the unit's region after its move from `from`.
     fn split_with(&self, after: &[u32], unit: u32, from: u32) -> u32
         requires table { IsTable self.now.rules.regions self.now.districts self.now.splits }
         requires step { IsStep self.now.rules.regions self.now.districts after.now unit from }
@@ -115,7 +119,7 @@ impl<F: Fn(&SumsView) -> bool + Drop, T: Fn(u32) -> bool + Drop> RegionGuard<F, 
             .wide_after(self.districts, region, from, after[unit as usize])
     }
 
-    /// The totals after a move.
+    /// Returns the totals after a move.
     fn totals_with(&self, after: &[u32], unit: u32, from: u32) -> Totals
         requires callable { T.IsAlwaysCallable self.now.test }
         requires answers { (width : ℕ) (answer : Bool) → width < 2 ^ 32 → T.post self.now.test width answer → answer ≡ nat_le width self.now.rules.max_split }
@@ -133,7 +137,7 @@ impl<F: Fn(&SumsView) -> bool + Drop, T: Fn(u32) -> bool + Drop> RegionGuard<F, 
         self.splits.totals.changed(broken, width, wide)
     }
 
-    /// Whether regions are split no more than they may be after a move.
+    /// Returns true if the rules on regions are met after a move.
     fn permits_regions(&self, after: &[u32], unit: u32, from: u32) -> bool
         requires callable { T.IsAlwaysCallable self.now.test }
         requires answers { (width : ℕ) (answer : Bool) → width < 2 ^ 32 → T.post self.now.test width answer → answer ≡ nat_le width self.now.rules.max_split }
@@ -148,7 +152,7 @@ impl<F: Fn(&SumsView) -> bool + Drop, T: Fn(u32) -> bool + Drop> RegionGuard<F, 
         self.totals_with(after, unit, from).are_within(&self.rules)
     }
 
-    /// Counts the unit's region anew after its move to another district.
+    /// Updates the counts of the unit's region after its move to another district.
     fn move_region(&mut self, after: &[u32], unit: u32, from: u32)
         requires callable { T.IsAlwaysCallable self.old.test }
         requires answers { (width : ℕ) (answer : Bool) → width < 2 ^ 32 → T.post self.old.test width answer → answer ≡ nat_le width self.old.rules.max_split }
@@ -177,8 +181,9 @@ impl<F: Fn(&SumsView) -> bool + Drop, T: Fn(u32) -> bool + Drop> RegionGuard<F, 
         self.splits.totals = totals;
     }
 
-    /// A judge of plans with one entry for each region and each of the group's units, all below `districts`. It stands for no plan before it is
-    /// reset to one.
+    /// Allocates a constraint for plans whose districts are below `districts`.
+    ///
+    /// It describes no plan until it is reset to one. Fails if there is no memory.
     pub fn new(
         alloc: Global,
         cut: Guard<F>,

@@ -1,4 +1,4 @@
-//! Judges for several workers.
+//! Constraints for several workers.
 
 ghost use Rattle.std.specs.Prelude.{◌≡◌, ◌<◌, ◌≤◌, ◌^◌, ℕ, [], nat_le, All, Bool, IfOk, length, vec_len};
 ghost use Rattle.std.specs.Fn.{FnReturnsAt};
@@ -14,8 +14,9 @@ use audit_model::rules::{Group, Rules};
 use flip_guard::guard::Guard;
 use std::alloc::Global;
 
-/// So many judges by one test of the cut edges and one of the number of districts of a region, each with rules and counts of its own. None
-/// stands for a plan before it is reset to one. The only error is want of memory.
+/// Allocates `count` constraints with the given tests, each with its own rules and counts.
+///
+/// They describe no plan until they are reset to one. Fails only if there is no memory.
 pub fn region_guards<F: Fn(&SumsView) -> bool + Copy + Drop, T: Fn(u32) -> bool + Copy + Drop>(
     alloc: Global,
     cut: F,
@@ -42,7 +43,7 @@ pub fn region_guards<F: Fn(&SumsView) -> bool + Copy + Drop, T: Fn(u32) -> bool 
     Ok(judges)
 }
 
-// The rule on cut edges alone.
+// Returns the rule on cut edges alone.
 fn cut_rules(alloc: Global, rules: &Rules) -> Rules
     ensures max_cut { result.max_cut ≡ rules.now.max_cut }
     ensures no_regions { result.regions ≡ [] }
@@ -62,7 +63,7 @@ fn cut_rules(alloc: Global, rules: &Rules) -> Rules
     }
 }
 
-// One judge, with rules of its own. The only error is want of memory.
+// Allocates one constraint with its own copy of the rules. Fails only if there is no memory.
 fn region_guard_of<F: Fn(&SumsView) -> bool + Copy + Drop, T: Fn(u32) -> bool + Copy + Drop>(
     alloc: Global,
     cut: F,

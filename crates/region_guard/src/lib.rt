@@ -1,5 +1,8 @@
-//! A judge of all rules that a plan is to meet: that it cuts few edges, splits each region, as a county, among a few districts only, splits
-//! few regions and not often, and leaves a group its majorities.
+//! A constraint for all rules on plans: limits on cut edges and on region splits, and majorities of
+//! a group.
+//!
+//! Regions are, for instance, counties. Their splits are limited per region, in all, and by the
+//! number of split regions.
 #![tactic(auto)]
 
 mod counting;

@@ -1,4 +1,4 @@
-//! In how many districts a group has a majority.
+//! Majorities of a group, by district.
 
 ghost use Rattle.std.specs.Prelude.{◌≡◌, ◌≢◌, ℕ, ◌+◌, ◌-◌, ◌*◌, ◌^◌, ◌<◌, ◌≤◌, cond, nat_lt, IfOk, length, replicate, slice_index, slice_set};
 ghost use Rattle.audit_model.specs.Below.{above_all, count_below};
@@ -12,8 +12,8 @@ use audit_model::memory::Memory;
 use audit_model::rules::Group;
 use std::alloc::Global;
 
-/// The sums of a plan's districts: how many people of a group are in each, and how many of those among whom it may be a majority; and in
-/// how many districts it is one.
+/// Sums by district: the people of a group (`members`) and its base population (`whole`).
+/// `majorities` is the number of districts in which the members are more than half.
 #[derive(Drop)]
 pub struct GroupTally {
     members: NumList,
@@ -22,7 +22,7 @@ pub struct GroupTally {
 }
 
 impl GroupTally {
-    /// Sums of no one.
+    /// Allocates sums of zero. Fails if there is no memory.
     pub(crate) fn zeros(alloc: Global, districts: usize) -> Result<GroupTally, Memory>
         ensures { IfOk result (λ t. t ≡ record { members = replicate districts 0; whole = replicate districts 0; majorities = 0 }) }
     {
@@ -33,7 +33,7 @@ impl GroupTally {
         })
     }
 
-    /// 1 where the group has a majority in a district, and else 0.
+    /// Returns 1 if the group has a majority in a district, else 0.
     #[inline]
     fn majority_in(&self, district: u32) -> u32
         requires members { district < length self.now.members }
@@ -45,7 +45,7 @@ impl GroupTally {
         majority_of(self.members.as_slice()[place], self.whole.as_slice()[place])
     }
 
-    /// The same where a unit has left the district.
+    /// Returns what [`Self::majority_in`] would return after a unit has left the district.
     #[inline]
     fn majority_without(&self, group: &Group, unit: u32, district: u32) -> u32
         requires members { district < length self.now.members }
@@ -67,7 +67,7 @@ impl GroupTally {
         )
     }
 
-    /// The same where a unit has come into the district.
+    /// Returns what [`Self::majority_in`] would return after a unit has joined the district.
     #[inline]
     fn majority_beside(&self, group: &Group, unit: u32, district: u32) -> u32
         requires members { district < length self.now.members }
@@ -88,7 +88,7 @@ impl GroupTally {
         )
     }
 
-    /// In how many districts the group has a majority after a move, where there is a group.
+    /// Returns the number of majorities after a move. The group must be named.
     fn majorities_after(&self, group: &Group, after: &[u32], unit: u32, from: u32) -> u32
         requires table { IsGroupTable group.now (length self.now.members) self.now }
         requires step { IsStep group.now.members (length self.now.members) after.now unit from }
@@ -104,7 +104,7 @@ impl GroupTally {
         self.majorities + left + entered - self.majority_in(from) - self.majority_in(to)
     }
 
-    /// In how many districts the group has a majority after a move.
+    /// Returns the number of majorities after a move, with or without a group.
     #[inline]
     pub(crate) fn majorities_with(&self, group: &Group, after: &[u32], unit: u32, from: u32) -> u32
         requires table { IsGroupTable group.now (length self.now.members) self.now }
@@ -118,7 +118,7 @@ impl GroupTally {
         self.majorities_after(group, after, unit, from)
     }
 
-    /// Stands for the plan after a move to another district, where there is a group.
+    /// Updates the sums after a move to another district. The group must be named.
     fn follow(&mut self, group: &Group, after: &[u32], unit: u32, from: u32)
         requires table { IsGroupTable group.now (length self.old.members) self.old }
         requires step { IsStep group.now.members (length self.old.members) after.now unit from }
@@ -134,7 +134,7 @@ impl GroupTally {
         self.majorities = majorities;
     }
 
-    /// Stands for the plan after a move to another district.
+    /// Updates the sums after a move to another district, if there is a group.
     pub(crate) fn moved(&mut self, group: &Group, after: &[u32], unit: u32, from: u32)
         requires table { IsGroupTable group.now (length self.old.members) self.old }
         requires step { IsFitStep group.now.members (length self.old.members) after.now unit from }
@@ -148,7 +148,7 @@ impl GroupTally {
         }
     }
 
-    /// In how many districts the group has a majority, by the sums.
+    /// Counts the majorities from the sums.
     fn count_majorities(&self) -> u32
         requires few { length self.now.members ≤ most_districts }
         requires places { length self.now.whole ≡ length self.now.members }
@@ -163,7 +163,7 @@ impl GroupTally {
         majorities
     }
 
-    /// Stands for a plan.
+    /// Recomputes the sums for a plan.
     pub(crate) fn reset(&mut self, group: &Group, plan: &[u32])
         requires table { IsGroupTable group.now (length self.old.members) self.old }
         requires entries { length group.now.members ≤ length plan.now }
@@ -177,7 +177,7 @@ impl GroupTally {
     }
 }
 
-/// 1 where so many members are more than half of the whole, and else 0.
+/// Returns 1 if the members are more than half of the base population, else 0.
 #[inline]
 fn majority_of(members: u64, whole: u64) -> u32
     requires few { 2 * members < 2 ^ 64 }

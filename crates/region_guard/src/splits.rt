@@ -1,4 +1,4 @@
-//! Among how many districts the regions of a plan are split.
+//! Splits of a plan's regions among districts.
 
 ghost use Rattle.std.specs.Prelude.{◌≡◌, ◌+◌, ◌-◌, ◌*◌, ◌<◌, ◌≤◌, ◌==◌, ◌&&◌, cond, nat_le, nat_lt, IfOk, length, replicate, slice_index};
 ghost use Rattle.audit_model.specs.Limits.{most_districts, most_regions, most_splits};
@@ -9,7 +9,8 @@ use audit_model::memory::Memory;
 use audit_model::rules::Rules;
 use std::alloc::Global;
 
-/// How many regions are split among more districts than they may, how often regions are split in all, and how many of them are split.
+/// The numbers that the rules limit: regions in too many districts, splits in all, and split
+/// regions.
 #[derive(Clone, Copy)]
 pub struct Totals {
     pub broken: u32,
@@ -18,7 +19,8 @@ pub struct Totals {
 }
 
 impl Totals {
-    /// The totals where so many regions are split too often, and one that was split among `width` districts is split among `wide`.
+    /// Returns the totals after one region has changed from `width` to `wide` districts. `broken`
+    /// is the new number of regions in too many districts.
     #[inline]
     pub(crate) fn changed(self, broken: u32, width: u32, wide: u32) -> Totals
         requires few_in_all { self.in_all ≤ most_splits }
@@ -39,7 +41,7 @@ impl Totals {
         }
     }
 
-    /// Whether regions are split no more than they may be.
+    /// Returns true if the totals are within the limits.
     #[inline]
     pub(crate) fn are_within(self, rules: &Rules) -> bool
         ensures { result ≡ ((self.broken == 0) && nat_le self.in_all rules.now.max_splits && nat_le self.split rules.now.max_split_regions) }
@@ -48,7 +50,8 @@ impl Totals {
     }
 }
 
-/// The counts of a plan's regions: how many units of each are in each district, among how many districts each is split, and the totals.
+/// Counts of a plan's regions: `cells` has the units by region and district, `widths` the districts
+/// of each region.
 #[derive(Drop)]
 pub struct Splits {
     pub(crate) cells: NumList,
@@ -57,7 +60,7 @@ pub struct Splits {
 }
 
 impl Splits {
-    /// Counts of no units.
+    /// Allocates counts of zero. Fails if there is no memory.
     pub(crate) fn zeros(alloc: Global, regions: usize, districts: usize) -> Result<Splits, Memory>
         requires few_rows { regions ≤ most_regions }
         requires few { districts ≤ most_districts }
@@ -78,7 +81,7 @@ impl Splits {
         })
     }
 
-    /// Among how many districts a region is split.
+    /// Returns the number of districts of a region.
     #[inline]
     pub(crate) fn width_of(&self, region: usize) -> u32
         requires region { region < length self.now.widths }
@@ -87,7 +90,8 @@ impl Splits {
         self.widths.as_slice()[region]
     }
 
-    /// Among how many districts a region is split where one of its units moves to another district.
+    /// Returns the number of districts of a region after one of its units has moved to another
+    /// district.
     #[inline]
     pub(crate) fn wide_after(&self, districts: u32, region: usize, from: u32, to: u32) -> u32
         requires places { length self.now.cells ≡ length self.now.widths * districts }
@@ -114,7 +118,7 @@ impl Splits {
     }
 }
 
-/// 1 where a region that lies in so many districts is split, and else 0.
+/// Returns 1 if a region in this many districts is split, else 0.
 #[inline]
 fn one_if_split(width: u32) -> u32
     ensures { result ≡ cond (nat_lt 1 width) 1 0 }
