@@ -1,4 +1,4 @@
--- The population bounds as two numbers, and which start plans are accepted.
+-- The population bounds as two numbers, and accepted start plans.
 use Rattle.std.proofs.Common.{◌≡◌, ℕ, ◌+◌, ◌-◌, ◌*◌, ◌/◌, ◌<◌, ◌≤◌, false, List, [], ◌∷◌, length, Option, Some, None, ap, ◌∙◌, arith}
 use Rattle.std.specs.Prelude.{◌↔◌, nat_lt, slice_index, option_map}
 use Rattle.std.specs.Option.{option_or}
@@ -25,7 +25,7 @@ use Rattle.audit_model.proofs.First.{first_below_none, none_first_below}
 
 -- ---- the bounds
 
--- a product is enough exactly from the rounded quotient on
+-- a product is enough exactly from the rounded-up quotient on
 pub enough_from : (a b p : ℕ) → 0 < b → (a ≤ b * p) ↔ (quotient_up a b ≤ p)
 enough_from a b p above =
     let least = quotient_up_is_least a b above in (
@@ -45,7 +45,7 @@ small_up_to b c p above = (
       omega (arith, more, mul_comm b p, div-add-mod' c b),
 )
 
--- a population is balanced exactly where it lies between the least and the greatest that the slack allows
+-- a population is balanced exactly from the least to the greatest that the slack allows
 pub balanced_between : (job : Job) (population : ℕ) → 0 < job.districts
     → IsBalanced job population ↔ ((least_population job ≤ population) × (population ≤ greatest_population job))
 balanced_between job population above =
@@ -55,9 +55,9 @@ balanced_between job population above =
 
 -- ---- the first of several
 
--- ---- which start plans are accepted
+-- ---- accepted start plans
 
--- the last reasons to refuse a start plan, from that on: the group, the split regions, the splits in all, the splits of each region
+-- the faults from the group on
 after_splits : Job → List (Option PlanFault)
 after_splits job = split_regions_fault job ∷ group_fault job ∷ []
 
@@ -67,7 +67,7 @@ after_regions job = splits_fault job ∷ after_splits job
 after_cut : Job → List (Option PlanFault)
 after_cut job = split_fault job ∷ after_regions job
 
--- where a job has no fault, none of its tests finds one
+-- a job without a fault passes each test
 no_fault_parts : (job : Job) → plan_fault job ≡ None
     → (votes_fault job ≡ None) × (bounds_fault job ≡ None) × (path_fault job ≡ None) × (cut_fault job ≡ None) × (split_fault job ≡ None)
     × (splits_fault job ≡ None) × (split_regions_fault job ≡ None) × (group_fault job ≡ None)
@@ -83,7 +83,7 @@ no_fault_parts job h =
     let eighth = option_or_none (group_fault job) (first_some []) seventh.1 in
     (first.0, second.0, third.0, fourth.0, fifth.0, sixth.0, seventh.0, eighth.0)
 
--- with no fault there are votes where they are asked for, and the start plan is legal
+-- without a fault, there are votes if needed, and the start plan is legal
 pub accepted_is_legal : (job : Job) → length job.start ≡ job.graph.units
     → ((u : ℕ) → u < job.graph.units → slice_index job.start u < job.districts)
     → plan_fault job ≡ None → (lacks_votes job ≡ false) × IsLegal job job.start
@@ -119,7 +119,7 @@ accepted_is_legal job complete in_range h =
       },
     )
 
--- and the other way round
+-- with votes if needed and a legal start plan, there is no fault
 pub legal_is_accepted : (job : Job) → lacks_votes job ≡ false → IsLegal job job.start → plan_fault job ≡ None
 unfolding after_cut after_regions after_splits
 legal_is_accepted job votes legal =

@@ -1,15 +1,15 @@
--- Each visited plan is in one bin, so that the bins of a walk add up to the number of its visits.
+-- Each visited plan is in one bin, so the histogram of a walk adds up to the number of its visits.
 use Rattle.std.proofs.Common.{◌≡◌, ℕ, zero, suc, ◌+◌, ◌≤◌, Bool, true, cond, refl, ◌∙◌, arith}
 use Rattle.std.specs.Prelude.{◌==◌, sum}
 use Rattle.audit_model.specs.Below.{count_below}
 use Rattle.audit_model.specs.Job.{Job}
 use Rattle.audit_model.specs.Trajectory.{bin_of, bins_by, plan_seats, visit}
 
--- 1 for true and 0 for false
+-- 1 for true, 0 for false
 one : Bool → ℕ
 one b = cond b 1 0
 
--- of a number up to 8 one of nine tests passes
+-- a number up to 8 passes exactly one of nine tests
 in_one : (k : ℕ) → k ≤ 8
     → 0 + one (k == 0) + one (k == 1) + one (k == 2) + one (k == 3) + one (k == 4) + one (k == 5) + one (k == 6) + one (k == 7) + one (k == 8) ≡ 1
 unfolding one
@@ -28,7 +28,7 @@ in_one (suc (suc (suc (suc (suc (suc (suc (suc (suc k))))))))) few = absurd (ome
 nine : (ℕ → ℕ) → ℕ
 nine g = 0 + g 0 + g 1 + g 2 + g 3 + g 4 + g 5 + g 6 + g 7 + g 8
 
--- nine sums of two terms are the sums of each
+-- the sum of nine sums splits into both sums
 nine_sum : (g h : ℕ → ℕ) → nine (λ b. g b + h b) ≡ nine g + nine h
 unfolding nine
 nine_sum g h = omega arith
@@ -42,11 +42,11 @@ module _ (f : ℕ → ℕ) (few : (i : ℕ) → f i ≤ 8) where
       let next : nine (λ b. one (f n == b)) ≡ 1 = in_one (f n) (few n) in
       more ∙ (let before = counted n in omega (arith, before, next))
 
--- no plan's bin is above the ninth
+-- the bin of a plan is at most 8
 pub few_bins : (a b : ℕ) → bin_of a b ≤ 8
 few_bins a b = omega arith
 
--- the bins of a walk add up to the number of its visits, the start's among them
+-- the histogram of a walk adds up to the number of its visits, the start plan included
 pub bins_add_up : (job : Job) (draws : ℕ → ℕ) → sum (bins_by true job draws) ≡ job.setting.steps + 1
 unfolding nine
 bins_add_up job draws =

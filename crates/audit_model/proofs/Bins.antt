@@ -1,4 +1,4 @@
--- Outcomes with their bins and without, and what a run that goes on from honest ones starts with.
+-- Outcomes with and without histograms, and the outcomes from which a run resumes.
 use Rattle.std.proofs.Common.{◌≡◌, ℕ, zero, suc, ◌<◌, Bool, true, false, not, ◌&&◌, List, [], ◌∷◌, map, get_or, refl, sym, ap, ◌∙◌, inl, inr, arith}
 use Rattle.std.specs.Prelude.{◌⊎◌, nat_lt}
 use Rattle.std.specs.List.{AllPairs}
@@ -10,23 +10,23 @@ use Rattle.audit_model.specs.Job.{Job}
 use Rattle.audit_model.specs.Run.{IsHonest, IsRight, bins_fit, fits, is_bare, taken_up, total}
 use Rattle.audit_model.specs.Trajectory.{Draws, bare, outcome, outcome_by, outcome_with, whole}
 
--- without its bins, an outcome is what is found without bins
+-- without its histogram, an outcome is the one found if none is asked for
 pub bare_by : (walks bins : Bool) (job : Job) (draws : Draws) (id : ℕ)
     → bare (outcome_by walks bins job draws id) ≡ outcome_by walks false job draws id
 bare_by true bins job draws id = refl
 bare_by false bins job draws id = refl
 
--- the bare outcome is what is found without bins
+-- the outcome without its histogram is the one found if none is asked for
 pub bare_whole : (job : Job) (draws : Draws) (id : ℕ) → bare (whole job draws id) ≡ outcome_with false job draws id
 bare_whole job draws id = bare_by (nat_lt id job.setting.walks) true job draws id
 
--- no trajectory of the parallel test has bins
+-- endpoint trajectories have no histogram
 bare_end : (walks : Bool) (job : Job) (draws : Draws) (id : ℕ) → walks ≡ false
     → bare (outcome_by walks true job draws id) ≡ outcome_by walks true job draws id
 bare_end true job draws id h = absurd (both_ways true h refl)
 bare_end false job draws id h = refl
 
--- what is related after a function is related in its list
+-- pairs related through a function are related in the mapped list
 AllPairs-map : {A B : Type 0} (R : B → B → Type 0) (f : A → B) (xs : List A) → AllPairs (λ x y. R (f x) (f y)) xs → AllPairs R (map f xs)
 AllPairs-map R f [] h = λ i j d l m. absurd (omega arith)
 AllPairs-map R f (x ∷ xs) h = AllPairs-cons R (f x) (map f xs)
@@ -37,7 +37,7 @@ module _ (job : Job) (draws : Draws) (outcomes : List Outcome) (honest : IsHones
   IsFound : Outcome → Type 0
   IsFound o = (o ≡ whole job draws o.id) ⊎ (o ≡ bare (whole job draws o.id))
 
-  -- with its bins or of the parallel test, it is whole
+  -- an outcome with its histogram, or of an endpoint trajectory, is whole
   kept_whole : (o : Outcome) → IsFound o → not (nat_lt o.id job.setting.walks && is_bare o) ≡ true → o ≡ whole job draws o.id
   unfolding IsFound
   kept_whole o (inl e) kept = e
@@ -56,7 +56,7 @@ module _ (job : Job) (draws : Draws) (outcomes : List Outcome) (honest : IsHones
   test : Outcome → Bool
   test o = not (nat_lt o.id job.setting.walks && is_bare o)
 
-  -- what is found with bins or without is what the job asks for
+  -- with a histogram asked for, the outcome found has it or needs none
   asked_whole : job.setting.shift ≡ true → (o : Outcome) → IsFound o → not (nat_lt o.id job.setting.walks && is_bare o) ≡ true
       → o ≡ outcome job draws o.id
   asked_whole asked o found kept = kept_whole o found kept ∙ ap (λ b. outcome_with b job draws o.id) (sym asked)
@@ -77,18 +77,18 @@ module _ (job : Job) (draws : Draws) (outcomes : List Outcome) (honest : IsHones
     found = All-map (λ o. o ≡ outcome job draws o.id) bare outcomes (λ k d l. asked_bare asked (get_or outcomes k d) (honest.found k d l));
   }
 
-  -- what a run goes on from is what its trajectories find
+  -- the outcomes from which a run resumes are what its trajectories find
   pub honest_are_right : IsRight job draws (taken_up job.setting.shift job.setting.walks outcomes)
   honest_are_right = right_by job.setting.shift refl
 
--- ---- an outcome that fits fits without its bins
+-- ---- a plausible outcome is plausible without its histogram
 
--- bins that are all 0 fit any job
+-- an empty histogram is plausible
 bare_bins_fit : (walks : Bool) (job : Job) (o : Outcome) → bins_fit walks job (bare o) ≡ true
 bare_bins_fit true job o = refl
 bare_bins_fit false job o = refl
 
--- an outcome that fits its job fits it without its bins
+-- a plausible outcome is plausible without its histogram
 pub bare_fits : (job : Job) (o : Outcome) → fits job o ≡ true → fits job (bare o) ≡ true
 bare_fits job o h = and_from _ (bins_fit (nat_lt o.id job.setting.walks) job (bare o)) (and_parts _ (bins_fit (nat_lt o.id job.setting.walks) job o) h).0
     (bare_bins_fit (nat_lt o.id job.setting.walks) job o)

@@ -1,35 +1,35 @@
--- Truth values.
+-- Booleans.
 use Rattle.std.proofs.Common.{◌≡◌, Bool, true, false, ◌&&◌, refl, sym, ◌||◌}
 use Rattle.std.proofs.lemmas.Bool.{or_left, or_right}
 
--- beside what is true, an 'and' is its other part
+-- and-true is the other part
 pub and_true : (b c : Bool) → c ≡ true → (b && c) ≡ b
 and_true true c h = h
 and_true false c h = refl
 
--- two truth values each of which follows from the other are the same
+-- Booleans that imply each other are equal
 pub same_bool : (a b : Bool) → (a ≡ true → b ≡ true) → (b ≡ true → a ≡ true) → a ≡ b
 same_bool true b f g = sym (f refl)
 same_bool false true f g = g refl
 same_bool false false f g = refl
 
--- beside what is false, an 'or' is its other part
+-- or-false is the other part
 pub or_false : (b : Bool) → (b || false) ≡ b
 or_false true = refl
 or_false false = refl
 
--- each part of three or four gives the whole
+-- the first of four parts implies the disjunction
 pub in_1 : (a b c d : Bool) → a ≡ true → (a || b || c || d) ≡ true
 in_1 a b c d h = or_left (a || b || c) d (or_left (a || b) c (or_left a b h))
 
--- the second of four parts gives the whole
+-- the second of four parts implies the disjunction
 pub in_2 : (a b c d : Bool) → b ≡ true → (a || b || c || d) ≡ true
 in_2 a b c d h = or_left (a || b || c) d (or_left (a || b) c (or_right a b h))
 
--- the third of four parts gives the whole
+-- the third of four parts implies the disjunction
 pub in_3 : (a b c d : Bool) → c ≡ true → (a || b || c || d) ≡ true
 in_3 a b c d h = or_left (a || b || c) d (or_right (a || b) c h)
 
--- the fourth of four parts gives the whole
+-- the fourth of four parts implies the disjunction
 pub in_4 : (a b c d : Bool) → d ≡ true → (a || b || c || d) ≡ true
 in_4 a b c d h = or_right (a || b || c) d h

@@ -7,16 +7,16 @@ use Rattle.audit_model.proofs.Below.{length-map_below, get_or-map_below}
 use Rattle.std.specs.List.{All}
 use Rattle.std.proofs.Math.Nat.{mul-suc}
 
--- what the units before this one add to the sum of a district
+-- the sum over the units before this one
 abbrev pub part_of : List ℕ → List ℕ → ℕ → ℕ → ℕ
 part_of column plan unit d = sum_below unit (λ u. cond (in_district plan d u) (get_or column u 0) 0)
 
--- a number that is counted or not adds no more than itself
+-- a number that is counted or not adds at most itself
 pub one_part : (b : Bool) (n : ℕ) → cond b n 0 ≤ n
 one_part true n = omega arith
 one_part false n = omega arith
 
--- a sum over units is at most the bound of each times how many there are
+-- a sum over units is at most the bound of each times their number
 pub part_small : (column plan : List ℕ) (bound unit d : ℕ) → ((u : ℕ) → u < length column → get_or column u 0 ≤ bound) → unit ≤ length column
     → part_of column plan unit d ≤ bound * unit
 part_small column plan bound zero d small l = omega arith

@@ -1,4 +1,4 @@
--- The test of connectedness answers whether any two units have a path.
+-- The test of connectedness decides if any two units have a path.
 use Rattle.std.proofs.Common.{◌≡◌, ℕ, zero, suc, ◌+◌, ◌-◌, ◌<◌, ◌≤◌, Bool, true, false, cond, ◌&&◌, ◌||◌, List, [], ◌∷◌, ◌++◌, refl, sym, ◌∙◌, subst, inl, inr, arith}
 use Rattle.std.specs.Prelude.{◌==◌, ◌⊎◌}
 use Rattle.std.specs.List.{list_any, list_all}
@@ -11,7 +11,7 @@ use Rattle.audit_model.proofs.Every.{all_from_each, each_from_all, some_from_any
 
 -- ---- membership in lists
 
--- a list that is put together has what either part has
+-- a member of the first list is a member of the appended list
 pub has-append_left : (xs ys : List ℕ) (n : ℕ) → has xs n ≡ true → has (xs ++ ys) n ≡ true
 has-append_left [] ys n h = absurd (false≢true h)
 has-append_left (x ∷ xs) ys n h = elim (or_cases (x == n) (has xs n) h) [
@@ -19,12 +19,12 @@ has-append_left (x ∷ xs) ys n h = elim (or_cases (x == n) (has xs n) h) [
   | inr e ↦ or_right (x == n) (has (xs ++ ys) n) (has-append_left xs ys n e)
 ]
 
--- what the second of two lists has, the joined list has
+-- a member of the second list is a member of the appended list
 pub has-append_right : (xs ys : List ℕ) (n : ℕ) → has ys n ≡ true → has (xs ++ ys) n ≡ true
 has-append_right [] ys n h = h
 has-append_right (x ∷ xs) ys n h = or_right (x == n) (has (xs ++ ys) n) (has-append_right xs ys n h)
 
--- what a joined list has, the first or the second has
+-- a member of the appended list is one of either list
 pub has-append_parts : (xs ys : List ℕ) (n : ℕ) → has (xs ++ ys) n ≡ true → (has xs n ≡ true) ⊎ (has ys n ≡ true)
 has-append_parts [] ys n h = inr h
 has-append_parts (x ∷ xs) ys n h = elim (or_cases (x == n) (has (xs ++ ys) n) h) [
@@ -35,7 +35,7 @@ has-append_parts (x ∷ xs) ys n h = elim (or_cases (x == n) (has (xs ++ ys) n) 
   ]
 ]
 
--- the list of one number, or of none
+-- a member of a list of at most one number is that number
 has_last : (b : Bool) (n m : ℕ) → has (cond b (n ∷ []) []) m ≡ true → (b ≡ true) × (n ≡ m)
 has_last true n m h = elim (or_cases (n == m) false h) [
   | inl e ↦ (refl, eqb-true n m e)
@@ -43,7 +43,7 @@ has_last true n m h = elim (or_cases (n == m) false h) [
 ]
 has_last false n m h = absurd (false≢true h)
 
--- what the filter keeps is below the bound and passes the test
+-- a kept number is below the bound and passes the test
 pub has-filter_below : (bound : ℕ) (test : ℕ → Bool) (n : ℕ) → has (filter_below bound test) n ≡ true → (n < bound) × (test n ≡ true)
 has-filter_below zero test n h = absurd (false≢true h)
 has-filter_below (suc bound) test n h = elim (has-append_parts (filter_below bound test) (cond (test bound) (bound ∷ []) []) n h) [
@@ -51,12 +51,12 @@ has-filter_below (suc bound) test n h = elim (has-append_parts (filter_below bou
   | inr e ↦ let last = has_last (test bound) bound n e in (omega (arith, last.1), subst (λ m. test m ≡ true) last.1 last.0)
 ]
 
--- a number that is kept is in its list
+-- a number that is kept is a member
 last_has : (b : Bool) (n : ℕ) → b ≡ true → has (cond b (n ∷ []) []) n ≡ true
 last_has true n h = or_left (n == n) false (eq-eqb n n refl)
 last_has false n h = absurd (false≢true h)
 
--- what is below the bound and passes the test is kept
+-- a number below the bound that passes is kept
 pub filter_below-has : (bound : ℕ) (test : ℕ → Bool) (n : ℕ) → n < bound → test n ≡ true → has (filter_below bound test) n ≡ true
 filter_below-has zero test n l h = absurd (omega arith)
 filter_below-has (suc bound) test n l h = elim (cases_eq n bound) [
@@ -67,7 +67,7 @@ filter_below-has (suc bound) test n l h = elim (cases_eq n bound) [
 
 -- ---- counts
 
--- a weaker test counts more, or it is no weaker below the bound
+-- a weaker test has a greater count, or agrees below the bound
 pub grows : (n : ℕ) (p q : ℕ → Bool) → ((v : ℕ) → v < n → p v ≡ true → q v ≡ true)
     → (count_below n p < count_below n q) ⊎ ((count_below n p ≤ count_below n q) × ((v : ℕ) → v < n → q v ≡ true → p v ≡ true))
 unfolding count_below
@@ -110,10 +110,10 @@ grows (suc n) p q weaker = elim (cases_Bool (p n)) [
   ]
 ]
 
--- ---- one step more
+-- ---- one more step
 
 module _ (g : Graph) (inside : ℕ → Bool) where
-  -- what the step keeps: a unit of the set, among the units before or adjacent to one of them
+  -- a unit after the step is in the set, and among the units before or adjacent to one
   one_step_parts : (units : List ℕ) (v : ℕ) → has (one_step_from g inside units) v ≡ true
       → IsIn g inside v × ((has units v ≡ true) ⊎ (list_any (λ u. adjacent g u v) units ≡ true))
   one_step_parts units v h =
@@ -144,7 +144,7 @@ module _ (g : Graph) (inside : ℕ → Bool) where
   one_step_reaches units u v i h a = filter_below-has g.units (λ w. inside w && (has units w || list_any (λ u. adjacent g u w) units)) v i.0
       (and_from (inside v) _ i.1 (or_right (has units v) (list_any (λ w. adjacent g w v) units) (adjacent_from units u v h a)))
 
-  -- more units before give more units after
+  -- more units before the step give more units after it
   one_step_more : (units others : List ℕ) → ((u : ℕ) → has units u ≡ true → has others u ≡ true)
       → (v : ℕ) → has (one_step_from g inside units) v ≡ true → has (one_step_from g inside others) v ≡ true
   one_step_more units others more v h =
@@ -156,14 +156,14 @@ module _ (g : Graph) (inside : ℕ → Bool) where
 
   -- ---- paths
 
-  -- one more unit at the end of a path
+  -- extending a path by one unit
   pub path_more : (units : List ℕ) (x u v : ℕ) → IsPath g inside units x u → IsIn g inside v → adjacent g u v ≡ true → IsPath g inside (units ++ v ∷ []) x v
   path_more [] x u v p i a = absurd p
   path_more (y ∷ []) x u v p i a = (p.0, p.2, subst (λ w. adjacent g w v ≡ true) (sym p.1) a, (refl, refl, i))
   path_more (y ∷ z ∷ rest) x u v p i a = (p.0, p.1, p.2, path_more (z ∷ rest) z u v p.3 i a)
 
   module _ (x : ℕ) where
-    -- what is found has a path
+    -- each unit found has a path
     found_has_path : (steps v : ℕ) → has (within_steps g inside x steps) v ≡ true → HasPath g inside x v
     found_has_path zero v h =
         let found = has-filter_below g.units (λ w. inside w && (w == x)) v h in
@@ -191,7 +191,7 @@ module _ (g : Graph) (inside : ℕ → Bool) where
     found_more : (steps v : ℕ) → has (within_steps g inside x steps) v ≡ true → has (within_steps g inside x (suc steps)) v ≡ true
     found_more steps v h = one_step_keeps (within_steps g inside x steps) v (found_is_in steps v h) h
 
-    -- where a path goes on from what is found, its end is found
+    -- if a path continues from a unit found, its end is found
     path_found : (units : List ℕ) (u v steps : ℕ) → IsPath g inside units u v → has (within_steps g inside x steps) u ≡ true
         → (more : ℕ) × (has (within_steps g inside x more) v ≡ true)
     path_found [] u v steps p h = absurd p
@@ -206,7 +206,7 @@ module _ (g : Graph) (inside : ℕ → Bool) where
 
     -- ---- no path needs more steps than there are units
 
-    -- a further step finds nothing new
+    -- one more step finds nothing new
     IsSettled : ℕ → Type 0
     IsSettled steps = (v : ℕ) → has (within_steps g inside x (suc steps)) v ≡ true → has (within_steps g inside x steps) v ≡ true
 
@@ -214,7 +214,7 @@ module _ (g : Graph) (inside : ℕ → Bool) where
     unfolding IsSettled
     settled_next steps settled v h = one_step_more (within_steps g inside x (suc steps)) (within_steps g inside x steps) settled v h
 
-    -- the same number of steps
+    -- equal numbers of steps find equal units
     steps_same : (j k v : ℕ) → j ≡ k → has (within_steps g inside x j) v ≡ true → has (within_steps g inside x k) v ≡ true
     steps_same j k v e h = subst (λ i. has (within_steps g inside x i) v ≡ true) e h
 
@@ -235,7 +235,7 @@ module _ (g : Graph) (inside : ℕ → Bool) where
     found_later steps zero v h = steps_same steps (zero + steps) v (omega arith) h
     found_later steps (suc more) v h = steps_same (suc (more + steps)) (suc more + steps) v (omega arith) (found_more (more + steps) v (found_later steps more v h))
 
-    -- the test that picks what is found
+    -- the test of being found after some steps
     test_at : ℕ → ℕ → Bool
     test_at zero v = inside v && (v == x)
     test_at (suc steps) v = inside v && (has (within_steps g inside x steps) v || list_any (λ u. adjacent g u v) (within_steps g inside x steps))
@@ -251,7 +251,7 @@ module _ (g : Graph) (inside : ℕ → Bool) where
     passes_found : (steps v : ℕ) → v < g.units → test_at steps v ≡ true → has (within_steps g inside x steps) v ≡ true
     passes_found steps v l h = subst (λ l. has l v ≡ true) (sym (found_by_test steps)) (filter_below-has g.units (test_at steps) v l h)
 
-    -- either some number of steps up to this one settles, or as many units are found as there were steps
+    -- either fewer steps find all, or at least as many units are found as steps were taken
     settles_or_grows : (steps : ℕ) → ((k : ℕ) × (k < steps) × IsSettled k) ⊎ (steps ≤ count_below g.units (test_at steps))
     unfolding IsSettled
     settles_or_grows zero = inr (omega arith)
@@ -275,7 +275,7 @@ module _ (g : Graph) (inside : ℕ → Bool) where
       | inr grown ↦ absurd (omega (arith, count_below_le g.units (test_at (suc g.units))))
     ]
 
-    -- what is found after any number of steps is found after as many as there are units
+    -- units found after any number of steps are found after as many steps as there are units
     found_reached : (steps v : ℕ) → has (within_steps g inside x steps) v ≡ true → has (reached g inside x) v ≡ true
     found_reached steps v h =
         let s = settles in
@@ -283,7 +283,7 @@ module _ (g : Graph) (inside : ℕ → Bool) where
         (steps_same (s.0 + steps) (steps + s.0) v (omega arith) (found_later steps s.0 v h)) in
         steps_same (g.units - s.0 + s.0) g.units v (omega (arith, s.1)) (found_later s.0 (g.units - s.0) v early)
 
-  -- a unit is reached exactly where a path leads to it
+  -- a unit is reached exactly if a path leads to it
   pub reached_has_path : (x v : ℕ) → has (reached g inside x) v ≡ true → HasPath g inside x v
   reached_has_path x v h = found_has_path x g.units v h
 

@@ -5,7 +5,7 @@ use Rattle.std.proofs.lemmas.List.Elements.{All-append}
 use Rattle.std.proofs.lemmas.List.Quantifiers.{all_pairs_push}
 use Rattle.audit_model.specs.Below.{filter_below}
 
--- each is below the bound and passes the test
+-- each kept number is below the bound and passes
 pub each_passes : (n : ℕ) (test : ℕ → Bool) → All (λ id. (id < n) × (test id ≡ true)) (filter_below n test)
 each_passes zero test = λ k d inside. absurd (omega arith)
 each_passes (suc n) test = All-append (λ id. (id < suc n) × (test id ≡ true)) (filter_below n test) (cond (test n) (n ∷ []) [])
@@ -17,7 +17,7 @@ each_passes (suc n) test = All-append (λ id. (id < suc n) × (test id ≡ true)
     last true e (suc k) d inside = absurd (omega arith)
     last false e k d inside = absurd (omega arith)
 
--- the numbers that are kept stand in rising order
+-- the kept numbers rise
 pub each_rises : (n : ℕ) (test : ℕ → Bool) → AllPairs (λ a b. a < b) (filter_below n test)
 each_rises zero test = λ i j d before inside. absurd (omega arith)
 each_rises (suc n) test = last (test n) (each_rises n test)

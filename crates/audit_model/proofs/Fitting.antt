@@ -1,4 +1,4 @@
--- What each trajectory finds could be its outcome, with its bins and without.
+-- The outcome of each trajectory is plausible, with its histogram and without.
 use Rattle.std.proofs.Common.{◌≡◌, ℕ, zero, suc, ◌+◌, ◌*◌, ◌<◌, ◌≤◌, ◌&&◌, ◌||◌, not, Bool, true, false, cond, List, [], ◌∷◌, ◌++◌, length, map, take, drop, refl, ap, ◌∙◌, arith}
 use Rattle.std.specs.Prelude.{nat_lt, nat_le, sum, ◌==◌, ℤ, pos, negsuc, int_le}
 use Rattle.std.specs.List.{list_all, slice_index_or}
@@ -17,12 +17,12 @@ use Rattle.audit_model.proofs.BinSums.{bins_add_up}
 
 -- ---- counts
 
--- a number that passes counts as one
+-- a number that passes counts one
 pub one_of : (b : Bool) → b ≡ true → cond {A = ℕ} b 1 0 ≡ 1
 one_of true e = refl
 one_of false e = cc
 
--- where 0 passes, some number does
+-- if 0 passes, the count is positive
 counts_first : (n : ℕ) (test : ℕ → Bool) → 0 < n → test 0 ≡ true → 1 ≤ count_below n test
 unfolding count_below
 counts_first zero test above first = absurd (omega arith)
@@ -50,7 +50,7 @@ zeros_after f (a ∷ b ∷ c ∷ []) = refl
 zeros_after f (a ∷ b ∷ c ∷ d ∷ []) = refl
 zeros_after f (a ∷ b ∷ c ∷ d ∷ e ∷ rest) = refl
 
--- what holds of what a function gives of any ask holds of the value at each ask's place
+-- a property of the function's values holds at each ask's place
 each_value : (n : ℕ) (test : ℤ → Bool) (f : Ask → ℤ) (asks : List Ask) (zeros : List ℤ) (k : ℕ) → ((ask : Ask) → test (f ask) ≡ true)
     → length asks ≤ n → k < length asks → test (slice_index_or (take n (map f asks ++ zeros)) k (pos 0)) ≡ true
 each_value n test f [] zeros k each few l = absurd (omega arith)
@@ -60,7 +60,7 @@ each_value (suc n) test f (a ∷ asks) zeros (suc k) each few l = each_value n t
 
 -- ---- outcomes
 
--- the parts of the test, where it is known whether the outcome is an outlier trajectory's
+-- plausibility from its parts, given the kind of the trajectory
 fitting : (job : Job) (o : Outcome) (walks : Bool) → nat_lt o.id job.setting.walks ≡ walks → o.id < total job → o.moved ≤ steps_of walks job
     → list_all (λ v. int_eq v (pos 0)) (drop (length job.setting.asks) o.values) ≡ true
     → (walks ≡ true → all_below (length job.setting.asks) (λ k. int_le (pos 1) (value_at o k) && int_le (value_at o k) (pos (job.setting.steps + 1))) ≡ true)
@@ -91,7 +91,7 @@ module _ (job : Job) (draws : Draws) where
       (le-leb 1 (visits_in_tail job stream job.setting.steps ask) (counts_first (job.setting.steps + 1) _ (omega arith) (start_in_tail job stream ask)))
       (le-leb (visits_in_tail job stream job.setting.steps ask) (job.setting.steps + 1) (count_below_le (job.setting.steps + 1) _))
 
-  -- with bins or without, what a trajectory finds fits the job
+  -- with its histogram or without, the outcome of a trajectory is plausible
   pub found_fits : (with_bins : Bool) → length job.setting.asks ≤ 4 → (id : ℕ) → id < total job → fits job (outcome_with with_bins job draws id) ≡ true
   found_fits with_bins few id below = by (nat_lt id job.setting.walks) with_bins refl
     where
@@ -106,7 +106,7 @@ module _ (job : Job) (draws : Draws) where
           (λ k l. each_value 4 (λ v. int_le (pos 1) v && int_le v (pos (job.setting.steps + 1))) _ job.setting.asks _ k (count_fits _) few l)) (walk_bins b)
       by false b e = fitting job (end_outcome job draws id) false e below (count_below_le _ _) (zeros_after _ job.setting.asks) (λ h. cc) refl
 
-  -- its bins add up to the number of visits at most
+  -- its histogram adds up to at most the number of visits
   pub found_bins : (with_bins : Bool) (id : ℕ) → sum (outcome_with with_bins job draws id).bins ≤ job.setting.steps + 1
   found_bins with_bins id = by (nat_lt id job.setting.walks) with_bins
     where

@@ -1,4 +1,4 @@
--- What a job that is made keeps.
+-- Facts about a job that was made.
 use Rattle.std.proofs.Common.{◌≡◌, ℕ, List, Option, Some, None, Ok, ap, sym}
 use Rattle.audit_model.specs.declared.fault.PlanFault.{PlanFault}
 use Rattle.audit_model.specs.declared.setting.Setting.{Setting}

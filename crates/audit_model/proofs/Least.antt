@@ -1,4 +1,4 @@
--- The least number below a limit, and quotients that are rounded up, are the least numbers that pass.
+-- Least numbers below a limit, and quotients rounded up.
 use Rattle.std.proofs.Common.{◌≡◌, ℕ, zero, suc, ◌+◌, ◌-◌, ◌*◌, ◌/◌, ◌^◌, ◌<◌, ◌≤◌, Bool, true, sym, subst, inl, inr, arith}
 use Rattle.std.specs.Prelude.{nat_le, nat_lt}
 use Rattle.std.proofs.lemmas.Bool.{cases_Bool, cases_lt, cond-true, cond-false, both_ways, leb-true, le-leb, ltb-true}
@@ -9,7 +9,7 @@ use Rattle.audit_model.specs.Rounded.{quotient_up}
 use Rattle.audit_model.specs.Test.{bound}
 use Rattle.audit_model.proofs.Below.{any_below_some, any_below_from}
 
--- where some number below the limit passes, the least one is found
+-- if some number below the limit passes, the least one is found
 pub least_below_least : (n : ℕ) (test : ℕ → Bool) (k : ℕ) → k < n → test k ≡ true → IsLeast test (least_below n test)
 unfolding least_below
 least_below_least zero test k l h = absurd (omega arith)
@@ -27,18 +27,18 @@ least_below_least (suc n) test k l h = elim (cases_Bool (any_below n test)) [
       (record { passes = subst (λ m. test m ≡ true) at h; least = least })
 ]
 
--- there is one least number
+-- a least number is unique
 pub least_unique : (test : ℕ → Bool) (m n : ℕ) → IsLeast test m → IsLeast test n → m ≡ n
 least_unique test m n hm hn = omega (arith, hm.least n hn.passes, hn.least m hm.passes)
 
--- the bound's square is reached by no less
+-- the bound is the least number with a large enough square
 pub bound_is_least : (count all : ℕ) → count ≤ all → IsLeast (λ r. nat_le (2 * count * 10 ^ 18) (r * r * all)) (bound count all)
 unfolding bound
 bound_is_least count all l =
     least_below_least (2 ^ 64) (λ r. nat_le (2 * count * 10 ^ 18) (r * r * all)) 2000000000 (omega arith)
     (le-leb (2 * count * 10 ^ 18) (2000000000 * 2000000000 * all) (omega arith))
 
--- a quotient that is rounded up is the least number whose product is enough
+-- a quotient rounded up is the least number with a large enough product
 pub quotient_up_is_least : (a b : ℕ) → 0 < b → IsLeast (λ q. nat_le a (q * b)) (quotient_up a b)
 quotient_up_is_least a b pos = record {
   passes = le-leb a (quotient_up a b * b) (omega (arith, div-add-mod' (a + b - 1) b, mod_below (a + b - 1) b pos));
@@ -48,7 +48,7 @@ quotient_up_is_least a b pos = record {
       omega arith;
 }
 
--- the bound, from the last number that is too small
+-- the bound, from the greatest number that is too small
 pub bound_from : (count all r : ℕ) → count ≤ all → nat_le (2 * count * 10 ^ 18) (suc r * suc r * all) ≡ true → nat_lt (r * r * all) (2 * count * 10 ^ 18) ≡ true → bound count all ≡ suc r
 bound_from count all r l reached short =
     least_unique (λ r. nat_le (2 * count * 10 ^ 18) (r * r * all)) (bound count all) (suc r) (bound_is_least count all l)

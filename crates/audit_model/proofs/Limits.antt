@@ -1,4 +1,4 @@
--- What a job within its limits has.
+-- Bounds of a job within its limits.
 use Rattle.std.proofs.Common.{◌≤◌, ◌^◌, arith}
 use Rattle.audit_model.specs.declared.setting.Command.{Command}
 use Rattle.audit_model.specs.declared.setting.Command.TheVariants.{Check, Run, Make, Plans, Trace}

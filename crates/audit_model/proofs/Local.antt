@@ -1,4 +1,4 @@
--- Where a unit's neighbours are connected among themselves, its district stays connected without it.
+-- A unit whose neighbors are connected among themselves may leave its district.
 use Rattle.std.proofs.Common.{◌≡◌, ℕ, Bool, true, not, List, [], ◌∷◌, refl, sym, ◌∙◌, subst, inl, inr}
 use Rattle.std.specs.Prelude.{◌==◌, slice_index}
 use Rattle.std.proofs.lemmas.Bool.{and_parts, and_from, cases_eq, eq-eqb, ne_eqb, both_ways, not_from_false, not-true}
@@ -15,15 +15,15 @@ path_within g small large more [] x y p = absurd p
 path_within g small large more (w ∷ []) x y p = (p.0, p.1, (p.2.0, more w p.2.1))
 path_within g small large more (w ∷ t ∷ rest) x y p = (p.0, (p.1.0, more w p.1.1), p.2, path_within g small large more (t ∷ rest) t y p.3)
 
--- what is in a unit's district and is not the unit stays behind it
+-- each other unit of a unit's district stays behind
 pub left_behind : (g : Graph) (plan : List ℕ) (u v : ℕ) → IsIn g (in_district plan (slice_index plan u)) v → (v ≡ u → ⊥) → IsIn g (stays_behind plan u) v
 left_behind g plan u v i off = (i.0, and_from (in_district plan (slice_index plan u) v) (not (v == u)) i.1 (not_from_false (v == u) (ne_eqb v u off)))
 
--- no unit of a simple graph is its own neighbour
+-- no unit of a simple graph is its own neighbor
 pub not_beside_itself : (g : Graph) (u : ℕ) → IsSimple g → (b : ℕ) → adjacent g u b ≡ true → b ≡ u → ⊥
 not_beside_itself g u simple b h e = both_ways (adjacent g u u) (simple.loopless u) (subst (λ t. adjacent g u t ≡ true) e h)
 
--- ---- round the unit
+-- ---- around the unit
 
 module _ (g : Graph) (plan : List ℕ) (u : ℕ) (simple : IsSimple g) (local : IsLocal g plan u) where
   district : ℕ → Bool
@@ -36,12 +36,12 @@ module _ (g : Graph) (plan : List ℕ) (u : ℕ) (simple : IsSimple g) (local : 
       and_from (in_district plan (slice_index plan u) v) (not (v == u)) parts.1
       (not_from_false (v == u) (ne_eqb v u (λ e. both_ways (adjacent g u u) (simple.loopless u) (subst (λ t. adjacent g u t ≡ true) e parts.0))))
 
-  -- what is in the district and is not u stays behind
+  -- each unit of the district except u stays behind
   behind : (v : ℕ) → IsIn g district v → (v ≡ u → ⊥) → IsIn g (stays_behind plan u) v
   unfolding district
   behind v i off = left_behind g plan u v i off
 
-  -- two mates have a path that leaves u out
+  -- two mates have a path that avoids u
   round : (a b : ℕ) → IsIn g district a → IsIn g district b → adjacent g a u ≡ true → adjacent g u b ≡ true → HasPath g (stays_behind plan u) a b
   unfolding district
   round a b ia ib au ub =
@@ -55,7 +55,7 @@ module _ (g : Graph) (plan : List ℕ) (u : ℕ) (simple : IsSimple g) (local : 
   first_in v [] y p = p.2
   first_in v (w ∷ rest) y p = p.1
 
-  -- a path of the district between units that stay behind gives one that leaves u out
+  -- a path of the district between units that stay behind gives one that avoids u
   detour : (units : List ℕ) (x y : ℕ) → IsPath g district units x y → (x ≡ u → ⊥) → (y ≡ u → ⊥) → HasPath g (stays_behind plan u) x y
   detour [] x y p off-x off-y = absurd p
   detour (w ∷ []) x y p off-x off-y =
@@ -90,6 +90,6 @@ module _ (g : Graph) (plan : List ℕ) (u : ℕ) (simple : IsSimple g) (local : 
       apart : (v : ℕ) → not (v == u) ≡ true → v ≡ u → ⊥
       apart v h e = both_ways (v == u) (not-true (v == u) h) (eq-eqb v u e)
 
--- a graph that is accepted is simple
+-- a graph within its invariant is simple
 pub simple : (g : Graph) → IsGraph g → IsSimple g
 simple g graph = record { symmetric = graph.symmetric; loopless = graph.loopless }

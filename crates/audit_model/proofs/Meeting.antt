@@ -1,4 +1,4 @@
--- The test of the rules answers whether a plan meets them.
+-- The test of the rules decides if a plan meets them.
 use Rattle.std.proofs.Common.{◌≡◌, ℕ, zero, suc, ◌<◌, ◌≤◌, true, not, ◌&&◌, List, [], ◌∷◌, length, refl, ap, ◌∙◌, inl, inr, arith}
 use Rattle.std.specs.Prelude.{◌==◌, ◌-◌, ◌*◌, Bool, nat_le, nat_lt, slice_index}
 use Rattle.std.proofs.lemmas.Bool.{and_left, and_parts, and_from, cases_lt, leb-true, le-leb, ne_eqb}
@@ -12,13 +12,13 @@ use Rattle.audit_model.specs.Plan.{cut_edges}
 use Rattle.audit_model.proofs.Below.{all_below_at, all_below_from, any_below_none, count_below_le, count_below_none, count_below_more, sum_below_more}
 use Rattle.audit_model.proofs.ListFacts.{above_all_most}
 
--- each number of a list is below the one above all
+-- each number of a list is below its bound
 pub below_above_all : (xs : List ℕ) (u : ℕ) → u < length xs → slice_index xs u < above_all xs
 below_above_all [] u l = absurd (omega arith)
 below_above_all (x ∷ xs) zero l = omega arith
 below_above_all (x ∷ xs) (suc u) l = let rest = below_above_all xs u (omega arith) in omega (arith, rest)
 
--- a region of no unit lies in no district
+-- a region without units lies in no district
 pub no_split : (regions plan : List ℕ) (region : ℕ) → above_all regions ≤ region → split_of regions plan region ≡ 0
 no_split regions plan region past = count_below_none (above_all plan) (lies_in regions plan region) (λ district below.
     any_below_none (length regions) (λ u. (slice_index regions u == region) && (slice_index plan u == district)) (λ u l.
@@ -42,7 +42,7 @@ module _ (rules : Rules) (cut : ℕ) (plan : List ℕ) where
   of_group : Bool
   of_group = nat_le rules.group_districts (majorities rules.group plan)
 
--- a plan that meets the rules passes their test
+-- a plan that meets the rules passes the test
 pub meets_passes : (rules : Rules) (cut : ℕ) (plan : List ℕ) → Meets rules cut plan → meets_rules rules cut plan ≡ true
 unfolding cuts whole in_all of_regions of_group
 meets_passes rules cut plan h =
@@ -57,7 +57,7 @@ meets_passes rules cut plan h =
     (le-leb (split_regions rules.regions plan) rules.max_split_regions h.few_regions))
     (le-leb rules.group_districts (majorities rules.group plan) h.enough)
 
--- what holds of the regions below the bound holds of all
+-- a limit on the regions below the bound holds of all
 pub splits_from : (regions plan : List ℕ) (most : ℕ) → ((region : ℕ) → region < above_all regions → split_of regions plan region ≤ most)
     → (region : ℕ) → split_of regions plan region ≤ most
 splits_from regions plan most each region = elim (cases_lt region (above_all regions)) [
@@ -65,7 +65,7 @@ splits_from regions plan most each region = elim (cases_lt region (above_all reg
   | inr past ↦ omega (arith, no_split regions plan region past)
 ]
 
--- a plan that passes the test of the rules meets them
+-- a plan that passes the test meets the rules
 pub passes_meets : (rules : Rules) (cut : ℕ) (plan : List ℕ) → meets_rules rules cut plan ≡ true → Meets rules cut plan
 unfolding cuts whole in_all of_regions of_group
 passes_meets rules cut plan h =
@@ -82,9 +82,9 @@ passes_meets rules cut plan h =
       enough = leb-true rules.group_districts (majorities rules.group plan) last.1;
     }
 
--- ---- the rules by default
+-- ---- default rules
 
--- no more edges are cut than there are
+-- at most all edges are cut
 pub cut_edges_few : (g : Graph) (plan : List ℕ) → cut_edges g plan ≤ count_edges g (λ u v. true)
 cut_edges_few g plan = sum_below_more g.units
     (λ v. count_below v (λ u. adjacent g u v && not (slice_index plan u == slice_index plan v)))
@@ -92,12 +92,12 @@ cut_edges_few g plan = sum_below_more g.units
     (λ v. count_below_more v (λ u. adjacent g u v && not (slice_index plan u == slice_index plan v)) (λ u. adjacent g u v && true)
     (λ u h. and_from (adjacent g u v) true (and_parts (adjacent g u v) (not (slice_index plan u == slice_index plan v)) h).0 refl))
 
--- of no regions none is split
+-- without regions, none is split
 count_below_nothing : (plan : List ℕ) → split_regions [] plan ≡ 0
 unfolding count_below
 count_below_nothing plan = refl
 
--- with no regions, no fewer edges allowed than there are, and no majority asked for, each plan meets the rules
+-- the default rules allow every plan: no regions, no group majority, and a high enough limit on cut edges
 pub default_meets : (job : Job) (plan : List ℕ) → count_edges job.graph (λ u v. true) ≤ job.setting.max_cut → job.regions ≡ []
     → job.setting.group_districts ≡ 0 → Meets (rules job) (cut_edges job.graph plan) plan
 default_meets job plan enough none no_group =
@@ -113,18 +113,18 @@ default_meets job plan enough none no_group =
       enough = omega (arith, no_group);
     }
 
--- a region lies in no more districts than there are
+-- a region lies in at most all districts
 split_few : (regions plan : List ℕ) (districts region : ℕ) → ((u : ℕ) → u < length plan → slice_index plan u < districts) → split_of regions plan region ≤ districts
 split_few regions plan districts region inside =
     let counted = count_below_le (above_all plan) (lies_in regions plan region) in
     omega (arith, counted, above_all_most plan districts inside)
 
--- a sum of numbers that are at most a bound
+-- a bound on each term bounds the sum
 sum_few : (n most : ℕ) (f : ℕ → ℕ) → ((k : ℕ) → f k ≤ most) → sum_below n f ≤ n * most
 sum_few zero most f each = omega arith
 sum_few (suc n) most f each = omega (arith, sum_few n most f each, each n)
 
--- with each limit at its default, and no majority asked for, each plan meets the rules
+-- rules with each limit at its default allow every plan
 pub unlimited_meets : (job : Job) (plan : List ℕ) → IsWithinLimits job → ((u : ℕ) → u < length plan → slice_index plan u < job.districts)
     → job.setting.max_cut ≡ most_edges → job.setting.max_split ≡ most_districts → job.setting.max_splits ≡ most_splits
     → job.setting.max_split_regions ≡ most_regions → job.setting.group_districts ≡ 0 → Meets (rules job) (cut_edges job.graph plan) plan

@@ -1,4 +1,4 @@
--- The mirrored draw leads back, and as many draws lead from one legal plan to another as back.
+-- The mirrored draw leads back, and the chain is reversible.
 use Rattle.std.proofs.Common.{◌≡◌, ℕ, suc, zero, ◌+◌, ◌-◌, ◌*◌, ◌/◌, ◌%◌, ◌^◌, ◌<◌, ◌≤◌, Bool, true, false, cond, List, set, Option, Some, None, refl, sym, ap, ◌∙◌, subst, inl, inr, arith}
 use Rattle.std.specs.Prelude.{◌⊎◌, nat_lt, slice_index, bytes_eq}
 use Rattle.std.proofs.Math.Nat.{mul_comm}
@@ -16,24 +16,24 @@ use Rattle.audit_model.proofs.Legal.{legal_passes, passes_legal}
 use Rattle.audit_model.proofs.Numbers.{place_below}
 use Rattle.audit_model.proofs.ListFacts.{bytes_other}
 
--- ---- numbers: a draw of a block, and another of the same block
+-- ---- draws of one block
 
--- a draw is its block's first draw and its place in the block
+-- a draw minus its place is the first draw of its block
 block : (draw size : ℕ) → draw - draw % size ≡ draw / size * size
 block draw size = omega (arith, div-add-mod' draw size)
 
--- another place of the same block is below the same whole number of blocks
+-- another place of a whole block is in it
 same_block_below : (draw size blocks place : ℕ) → 0 < size → draw < blocks * size → place < size → draw / size * size + place < blocks * size
 same_block_below draw size blocks place pos l p =
     subst (λ m. draw / size * size + place < m) (mul_comm size blocks) (mul-add-lt (draw / size) size place blocks (div_below draw size blocks pos l) p)
 
--- ---- what a draw proposes
+-- ---- the proposal of a draw
 
--- a draw past the counted ones proposes nothing
+-- a draw that does not count proposes nothing
 proposal_none : (units districts draw : ℕ) → nat_lt draw (counted_draws units districts) ≡ false → proposal units districts draw ≡ None
 proposal_none units districts draw h = cond-false _ _ _ h
 
--- a counted draw proposes the unit and the district of its remainder
+-- a draw that counts proposes the pair of its remainder
 proposal_some : (units districts draw : ℕ) → draw < counted_draws units districts
     → proposal units districts draw ≡ Some (draw % (units * districts) / districts, draw % (units * districts) % districts)
 proposal_some units districts draw h = cond-true _ _ _ (lt-ltb draw (counted_draws units districts) h)
@@ -53,7 +53,7 @@ module _ (job : Job) where
   unfolding next
   next_at plan draw o h = ap (λ p. cond (is_legal job (changed plan p)) (changed plan p) plan) h
 
-  -- what a draw does that changes the plan
+  -- a draw that changes the plan
   record Move (plan : List ℕ) (draw : ℕ) : Type 0 where
     counted : draw < counted_draws job.graph.units job.districts
     legal : is_legal job (set plan (unit_of draw) (district_of draw)) ≡ true
@@ -83,7 +83,7 @@ module _ (job : Job) where
     | inr move ↦ subst (λ p. IsLegal job p) (sym move.after) (passes_legal job (set plan (unit_of draw) (district_of draw)) move.legal)
   ]
 
--- a product is above zero only where each factor is
+-- the second factor of a positive product is positive
 second_above_zero : (a b : ℕ) → 0 < a * b → 0 < b
 second_above_zero a b h = elim (cases_eq b 0) [
   | inl e ↦ let none : a * b ≡ a * 0 = ap (λ m. a * m) e in absurd (omega (arith, none))
@@ -144,7 +144,7 @@ module _ (job : Job) (plan : List ℕ) (draw : ℕ) (legal : IsLegal job plan) (
   unfolding district_of size back_place
   back_district = ap (λ r. r % job.districts) back_rest ∙ mod-mul-add (unit_of job draw) job.districts (slice_index plan (unit_of job draw)) old_below
 
-  -- the unit in its old district again gives the old plan
+  -- moving the unit back gives the old plan
   undone : set (set plan (unit_of job draw) (district_of job draw)) (unit_of job back) (district_of job back) ≡ plan
   undone =
       ap (λ u. set (set plan (unit_of job draw) (district_of job draw)) u (district_of job back)) back_unit
@@ -160,7 +160,7 @@ module _ (job : Job) (plan : List ℕ) (draw : ℕ) (legal : IsLegal job plan) (
       ∙ cond-true _ _ _ (ap (λ p. is_legal job p) undone ∙ legal_passes job plan legal)
       ∙ undone
 
-  -- where the step changes the plan, the mirrored draw is that one
+  -- if the step changes the plan, the mirrored draw is the one that leads back
   mirrored_is_back : bytes_eq (next job plan draw) plan ≡ false → mirrored job plan draw ≡ back
   unfolding mirrored back back_place size unit_of
   mirrored_is_back changes =
@@ -168,7 +168,7 @@ module _ (job : Job) (plan : List ℕ) (draw : ℕ) (legal : IsLegal job plan) (
       ∙ ap (λ o. turned_back job.graph.units job.districts plan draw o) (proposal_some job.graph.units job.districts draw move.counted)
       ∙ ap (λ first. first + back_place) (block draw (size job))
 
-  -- turned back once more it is the first draw
+  -- mirroring again gives the draw
   back_of_back : back / size job * size job + (unit_of job back * job.districts + slice_index (set plan (unit_of job draw) (district_of job draw)) (unit_of job back)) ≡ draw
   unfolding unit_of district_of size
   back_of_back =
@@ -179,12 +179,12 @@ module _ (job : Job) (plan : List ℕ) (draw : ℕ) (legal : IsLegal job plan) (
       ∙ ap (λ r. draw / size job * size job + r) (div-add-mod' (draw % size job) job.districts)
       ∙ div-add-mod' draw (size job)
 
--- where the step changes nothing, the mirrored draw is the draw
+-- if the step changes nothing, the mirrored draw is the draw
 pub mirrored_stays : (job : Job) (plan : List ℕ) (draw : ℕ) → next job plan draw ≡ plan → mirrored job plan draw ≡ draw
 unfolding mirrored
 mirrored_stays job plan draw same = cond-true _ _ _ ((bytes_eq-Decides (next job plan draw) plan).1 same)
 
--- where the step changes the plan, the mirrored draw turns it back
+-- if the step changes the plan, mirroring turns it back
 mirrored_moves : (job : Job) (plan : List ℕ) (draw : ℕ) → bytes_eq (next job plan draw) plan ≡ false
     → mirrored job plan draw ≡ turned_back job.graph.units job.districts plan draw (proposal job.graph.units job.districts draw)
 unfolding mirrored
@@ -206,7 +206,7 @@ module _ (job : Job) (plan : List ℕ) (draw : ℕ) (legal : IsLegal job plan) w
     ]
   ]
 
-  -- mirrored twice it is the draw again
+  -- mirroring twice gives the draw
   pub mirrored-mirrored : mirrored job (next job plan draw) (mirrored job plan draw) ≡ draw
   unfolding back back_place unit_of size
   mirrored-mirrored = elim (cases_Bool (bytes_eq (next job plan draw) plan)) [
@@ -234,7 +234,7 @@ module _ (job : Job) (plan : List ℕ) (draw : ℕ) (legal : IsLegal job plan) w
     ]
   ]
 
-  -- both draws are of one block
+  -- both draws are in one block
   pub mirrored_block : mirrored job plan draw / (job.graph.units * job.districts) ≡ draw / (job.graph.units * job.districts)
   unfolding size
   mirrored_block = elim (cases_Bool (bytes_eq (next job plan draw) plan)) [
@@ -245,7 +245,7 @@ module _ (job : Job) (plan : List ℕ) (draw : ℕ) (legal : IsLegal job plan) w
     ]
   ]
 
-  -- the mirrored draw is a draw
+  -- the mirrored draw is below 2 ^ 64
   pub mirrored_below : draw < 2 ^ 64 → mirrored job plan draw < 2 ^ 64
   unfolding size
   mirrored_below l = elim (cases_Bool (bytes_eq (next job plan draw) plan)) [
@@ -257,7 +257,7 @@ module _ (job : Job) (plan : List ℕ) (draw : ℕ) (legal : IsLegal job plan) w
     ]
   ]
 
--- no more draws lead from one legal plan to another than back
+-- at most as many ways lead to a plan as back
 ways_le : (job : Job) (from to : List ℕ) → IsLegal job from → IsLegal job to → ways job from to ≤ ways job to from
 unfolding ways
 ways_le job from to legal_from legal_to =
@@ -275,11 +275,11 @@ ways_le job from to legal_from legal_to =
     again : (draw : ℕ) → bytes_eq (next job from draw) to ≡ true → mirrored job to (mirrored job from draw) ≡ draw
     again draw h = ap (λ p. mirrored job p (mirrored job from draw)) (sym (leads draw h)) ∙ mirrored-mirrored job from draw legal_from
 
--- as many draws lead from one legal plan to another as lead back
+-- equally many draws lead from one legal plan to another as back
 pub ways_symmetric : (job : Job) (from to : List ℕ) → IsLegal job from → IsLegal job to → ways job from to ≡ ways job to from
 ways_symmetric job from to legal_from legal_to = omega (arith, ways_le job from to legal_from legal_to, ways_le job to from legal_to legal_from)
 
--- each plan that is visited from a legal plan is legal
+-- each plan visited from a legal plan is legal
 pub visit_stays_legal : (job : Job) (draws : ℕ → ℕ) (plan : List ℕ) (i : ℕ) → IsLegal job plan → IsLegal job (visit job draws plan i)
 unfolding visit
 visit_stays_legal job draws plan zero h = h

@@ -1,4 +1,4 @@
--- The parts of what is to be walked.
+-- The parts of a job.
 use Rattle.std.proofs.Common.{◌≡◌, ℕ, ◌<◌, Bool, true, false, ◌&&◌, not, List, take, ap, ◌∙◌}
 use Rattle.std.specs.Prelude.{◌==◌, ◌%◌}
 use Rattle.std.proofs.lemmas.Bool.{and_from, and_parts, eq-eqb, eqb-true, not-true}
@@ -16,7 +16,7 @@ use Rattle.audit_model.proofs.Connected.{filter_below-has, has-filter_below}
 use Rattle.audit_model.proofs.ListFacts.{has-take}
 use Rattle.audit_model.proofs.Running.{apart-filter_below, apart-take}
 
--- with enough budget all that pass are taken
+-- with enough budget, all ids that pass are taken
 enough : (n : ℕ) (test : ℕ → Bool) (id : ℕ) → has (take n (filter_below n test)) id ≡ has (filter_below n test) id
 enough n test id = ap (λ xs. has xs id) (take_all n (filter_below n test) (length-filter_below n test))
 
@@ -53,7 +53,7 @@ module _ (parts part : ℕ) (job : Job) (opening : List Outcome) where
   unfolding lies lacks
   once_in_its_part budget = apart-take budget (filter_below (total job) lies) (apart-filter_below (total job) lies)
 
--- the one part of a run that is not parted has all ids that are lacking
+-- the single part of an undivided run has all missing ids
 pub only_part : (job : Job) (opening : List Outcome) (budget : ℕ) → part_ids 1 0 job opening budget ≡ take budget (lacking_ids job opening)
 only_part job opening budget =
     ap (take budget) (filter_below_same (total job) (λ id. not (has_id opening id) && (id % 1 == 0)) (λ id. not (has_id opening id))

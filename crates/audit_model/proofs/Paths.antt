@@ -1,4 +1,4 @@
--- Paths that are put together.
+-- Composition of paths.
 use Rattle.std.proofs.Common.{◌≡◌, ℕ, Bool, true, List, [], ◌∷◌, ◌++◌, refl, sym, ◌∙◌, subst}
 use Rattle.audit_model.specs.Graph.{Graph, adjacent, IsIn}
 use Rattle.audit_model.specs.Path.{IsPath, HasPath}
@@ -8,7 +8,7 @@ module _ (g : Graph) (inside : ℕ → Bool) where
   pub path_one : (x : ℕ) → IsIn g inside x → HasPath g inside x x
   path_one x i = (x ∷ [], (refl, refl, i))
 
-  -- one more unit in front
+  -- extending a path at its beginning
   pub path_before : (x v z : ℕ) → IsIn g inside x → adjacent g x v ≡ true → HasPath g inside v z → HasPath g inside x z
   path_before x v z i a path = front path.0 path.1
     where
@@ -17,7 +17,7 @@ module _ (g : Graph) (inside : ℕ → Bool) where
       front (w ∷ []) p = (x ∷ w ∷ [], (refl, i, subst (λ t. adjacent g x t ≡ true) (sym p.0) a, (refl, p.1, p.2)))
       front (w ∷ t ∷ rest) p = (x ∷ w ∷ t ∷ rest, (refl, i, subst (λ t. adjacent g x t ≡ true) (sym p.0) a, (refl, p.1, p.2, p.3)))
 
-  -- one more unit at the end
+  -- extending a path at its end
   pub path_after : (x u v : ℕ) → HasPath g inside x u → IsIn g inside v → adjacent g u v ≡ true → HasPath g inside x v
   path_after x u v path i a = (path.0 ++ v ∷ [], path_more g inside path.0 x u v path.1 i a)
 
@@ -31,7 +31,7 @@ module _ (g : Graph) (inside : ℕ → Bool) where
   pub path_joined : (x y z : ℕ) → HasPath g inside x y → HasPath g inside y z → HasPath g inside x z
   path_joined x y z one other = joined_from one.0 x y z one.1 other
 
-  -- the ends of a path are in the set
+  -- the end of a path is in the set
   end_in : (units : List ℕ) (x y : ℕ) → IsPath g inside units x y → IsIn g inside y
   end_in [] x y p = absurd p
   end_in (u ∷ []) x y p = subst (λ v. IsIn g inside v) p.1 p.2
@@ -44,7 +44,7 @@ module _ (g : Graph) (inside : ℕ → Bool) where
   first_in v [] x y q = q.2
   first_in v (w ∷ rest) x y q = q.1
 
-  -- what is closed under adjacency within the set, and has the first unit of a path, has the last
+  -- a property that adjacency within the set preserves holds along a path
   closed_along : (P : ℕ → Type 0) → ((v w : ℕ) → P v → IsIn g inside w → adjacent g v w ≡ true → P w)
       → (units : List ℕ) (x y : ℕ) → IsPath g inside units x y → P x → P y
   closed_along P closed [] x y p h = absurd p
@@ -63,6 +63,6 @@ within g small large more [] x y p = absurd p
 within g small large more (w ∷ []) x y p = (p.0, p.1, more w p.2)
 within g small large more (w ∷ t ∷ rest) x y p = (p.0, more w p.1, p.2, within g small large more (t ∷ rest) t y p.3)
 
--- a path within some units is one within more
+-- a path within a set is one within a greater set
 pub path_within : (g : Graph) (small large : ℕ → Bool) → ((v : ℕ) → IsIn g small v → IsIn g large v) → (x y : ℕ) → HasPath g small x y → HasPath g large x y
 path_within g small large more x y path = (path.0, within g small large more path.0 x y path.1)

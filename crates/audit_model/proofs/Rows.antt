@@ -1,4 +1,4 @@
--- Rising lists, and counts over the neighbours of a unit.
+-- Rising lists, and counts over the neighbors of a unit.
 use Rattle.std.proofs.Common.{ℕ, suc, ◌<◌, List, length, get_or, ◌∷◌, arith, ◌≡◌, true, false, [], inl, inr, subst, add-one, ◌+◌, Bool, cond, not, ◌&&◌, ◌||◌, refl, sym, ap, ◌∙◌, ◌==◌, take, ◌≤◌}
 use Rattle.std.specs.Prelude.{nat_lt, count_by}
 use Rattle.std.proofs.lemmas.Bool.{eqb-true, or_cases, false≢true, cases_eq, cases_Bool, eq-eqb, ne_eqb, cond-true, cond-false, lt-ltb, ltb-true, or_left, and_parts, and_from, false_from_ne_true, not_from_true, not_from_false, and_right, or_right}
@@ -12,7 +12,7 @@ use Rattle.std.specs.List.{slice_index_or}
 pub record IsRising (xs : List ℕ) : Type 0 where
   pub rises : (i : ℕ) → suc i < length xs → get_or xs i 0 < get_or xs (suc i) 0
 
--- a rising list rises without its first number
+-- a rising list without its first number rises
 pub tail_rises : (x : ℕ) (xs : List ℕ) → IsRising (x ∷ xs) → IsRising xs
 tail_rises x xs r = record { rises = λ i l. r.rises (suc i) (omega arith) }
 
@@ -26,14 +26,14 @@ above x (y ∷ ys) r v h =
       | inr e ↦ omega (arith, step, above y ys (tail_rises x (y ∷ ys) r) v e)
     ]
 
--- the neighbours of a unit are listed in rising order
+-- the neighbors of a unit rise
 pub row_rises : (g : Graph) (unit : ℕ) → IsGraph g → IsRising (slice_index_or g.neighbours unit [])
 row_rises g unit sound = record {
   rises = λ i l. subst (λ (j : ℕ). get_or (slice_index_or g.neighbours unit []) i 0 < get_or (slice_index_or g.neighbours unit []) j 0) (add-one i)
       (sound.rising unit i (omega (arith, l)));
 }
 
--- a rising list has each number at most once
+-- counting the items of a rising list is counting numbers below the bound
 pub count_rising : (n : ℕ) (test : ℕ → Bool) (xs : List ℕ) → IsRising xs → count_by (λ u. nat_lt u n && test u) xs ≡ count_below n (λ u. has xs u && test u)
 count_rising n test [] r = sym (count_none n)
 count_rising n test (x ∷ xs) r =
@@ -78,7 +78,7 @@ count_rising n test (x ∷ xs) r =
       | inr off ↦ other k off
     ]
 
--- where all numbers of a list are below n, testing that as well changes no count
+-- a bound that holds of all items may be added to the test
 pub inside_counted : (n : ℕ) (test : ℕ → Bool) (xs : List ℕ) → ((v : ℕ) → has xs v ≡ true → v < n) → count_by test xs ≡ count_by (λ v. nat_lt v n && test v) xs
 inside_counted n test [] inside = refl
 inside_counted n test (x ∷ xs) inside =
@@ -90,14 +90,14 @@ inside_counted n test (x ∷ xs) inside =
     let rest = inside_counted n test xs (λ v h. inside v (or_right (x == v) (has xs v) h)) in
     omega (arith, first, other, same, rest)
 
--- the neighbours that pass a test
+-- counting the neighbors that pass a test
 pub row_counted : (g : Graph) (u : ℕ) (test : ℕ → Bool) → IsGraph g
     → count_by test (slice_index_or g.neighbours u []) ≡ count_below g.units (λ v. adjacent g u v && test v)
 row_counted g u test sound =
     inside_counted g.units test (slice_index_or g.neighbours u []) (λ v h. sound.below u v h)
     ∙ count_rising g.units test (slice_index_or g.neighbours u []) (row_rises g u sound)
 
--- one place more of a row counts one more where its number passes
+-- a count over one more neighbor
 pub counted_more : (test : ℕ → Bool) (row : List ℕ) (i : ℕ) → i < length row → count_by test (take (i + 1) row) ≡ count_by test (take i row) + cond {A = ℕ} (test (get_or row i 0)) 1 0
 counted_more test row i lt = elim (cases_Bool (test (get_or row i 0))) [
   | inl passes ↦
@@ -110,7 +110,7 @@ counted_more test row i lt = elim (cases_Bool (test (get_or row i 0))) [
       omega (arith, same, none)
 ]
 
--- the edges to the first units that pass a test are no more than all edges
+-- the edges of the first units that pass a test are at most all edges
 pub counted_edges_le : (g : Graph) (test : ℕ → ℕ → Bool) (unit : ℕ) → unit ≤ g.units
     → sum_below unit (λ v. count_below v (λ u. adjacent g u v && test u v)) ≤ count_edges g (λ u v. true)
 counted_edges_le g test unit l =

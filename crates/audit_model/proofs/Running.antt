@@ -1,4 +1,4 @@
--- What holds of a run after any events.
+-- The invariant of a run after any events.
 use Rattle.std.proofs.Common.{◌≡◌, ℕ, zero, suc, ◌<◌, Bool, true, false, cond, not, List, [], ◌∷◌, ◌++◌, length, take, replicate, Option, Some, None, refl, sym, ap, ◌∙◌, subst, inl, inr, arith, append_assoc}
 use Rattle.std.specs.Prelude.{◌==◌, ◌&&◌, ◌⊎◌, slice_get, slice_set}
 use Rattle.std.proofs.lemmas.Bool.{and_parts, or_left, or_right, cases_eq, eq-eqb, both_ways, false_from_ne_true, not-true}
@@ -16,7 +16,7 @@ use Rattle.std.proofs.lemmas.Option.{none-some, same_Some}
 
 -- ---- lists
 
--- an item that is replaced is the new one
+-- a replaced item is the new one
 get_set_same : {A : Type 0} (xs : List A) (k : ℕ) (old new : A) → slice_get xs k ≡ Some old → slice_get (slice_set xs k new) k ≡ Some new
 get_set_same [] k old new h = absurd (none-some old h)
 get_set_same (x ∷ xs) zero old new h = refl
@@ -30,19 +30,19 @@ get_set_other (x ∷ xs) zero (suc k) new off = refl
 get_set_other (x ∷ xs) (suc j) zero new off = refl
 get_set_other (x ∷ xs) (suc j) (suc k) new off = get_set_other xs j k new (λ e. off (ap suc e))
 
--- no worker of a fresh list has an id open
+-- at first, no worker has an open id
 pub get-replicate : (n k id : ℕ) → slice_get (replicate {A = Option ℕ} n None) k ≡ Some (Some id) → ⊥
 get-replicate zero k id h = none-some (Some id) h
 get-replicate (suc n) zero id h = none-some id (same_Some None (Some id) h)
 get-replicate (suc n) (suc k) id h = get-replicate n k id h
 
--- a list has the number at each of its places
+-- the item at each position is a member
 get_has : (xs : List ℕ) (k id : ℕ) → slice_get xs k ≡ Some id → has xs id ≡ true
 get_has [] k id h = absurd (none-some id h)
 get_has (x ∷ xs) zero id h = or_left (x == id) (has xs id) (eq-eqb x id (same_Some x id h))
 get_has (x ∷ xs) (suc k) id h = or_right (x == id) (has xs id) (get_has xs k id h)
 
--- where no number stands twice, a number has one place
+-- in a list of distinct numbers, a number has one position
 one_place : (xs : List ℕ) (j k id : ℕ) → AllApart xs → slice_get xs j ≡ Some id → slice_get xs k ≡ Some id → j ≡ k
 one_place [] j k id a hj hk = absurd (none-some id hj)
 one_place (x ∷ xs) zero zero id a hj hk = refl
@@ -50,20 +50,20 @@ one_place (x ∷ xs) zero (suc k) id a hj hk = absurd (both_ways (has xs x) a.0 
 one_place (x ∷ xs) (suc j) zero id a hj hk = absurd (both_ways (has xs x) a.0 (subst (λ y. has xs y ≡ true) (sym (same_Some x id hk)) (get_has xs j id hj)))
 one_place (x ∷ xs) (suc j) (suc k) id a hj hk = ap suc (one_place xs j k id a.1 hj hk)
 
--- the front of a list whose numbers differ has numbers that differ
+-- a prefix of distinct numbers is distinct
 apart_front : (xs ys : List ℕ) → AllApart (xs ++ ys) → AllApart xs
 apart_front [] ys a = tt
 apart_front (x ∷ xs) ys a =
     (false_from_ne_true (has xs x) (λ there. both_ways (has (xs ++ ys) x) a.0 (has-append_left xs ys x there)), apart_front xs ys a.1)
 
--- the first numbers of a list whose numbers differ, differ
+-- the first of distinct numbers are distinct
 pub apart-take : (n : ℕ) (xs : List ℕ) → AllApart xs → AllApart (take n xs)
 apart-take zero xs a = tt
 apart-take (suc n) [] a = tt
 apart-take (suc n) (x ∷ xs) a =
     (false_from_ne_true (has (take n xs) x) (λ there. both_ways (has xs x) a.0 (has-take n xs x there)), apart-take n xs a.1)
 
--- the numbers that are kept below a bound differ
+-- filtered numbers are distinct
 pub apart-filter_below : (n : ℕ) (test : ℕ → Bool) → AllApart (filter_below n test)
 apart-filter_below zero test = tt
 apart-filter_below (suc n) test = by (apart-filter_below n test) (test n)
@@ -76,7 +76,7 @@ apart-filter_below (suc n) test = by (apart-filter_below n test) (test n)
     by a true = apart_below a
     by a false = subst AllApart (sym (append-nil (filter_below n test))) a
 
--- ---- what is to do
+-- ---- pending ids
 
 module _ (m : Machine) where
   may_do : ℕ → Bool
@@ -86,7 +86,7 @@ module _ (m : Machine) where
   unfolding may_do
   todo_apart = apart-take m.budget (filter_below m.total may_do) (apart-filter_below m.total may_do)
 
-  -- an id that is to do is below the total, and was not done at the start
+  -- a pending id is below the total, and was not done at the start
   pub at_is_new : (k id : ℕ) → IsAt m k id → (id < m.total) × (has m.start id ≡ false)
   unfolding may_do
   at_is_new k id h =
@@ -96,7 +96,7 @@ module _ (m : Machine) where
 -- ---- each event
 
 module _ (m : Machine) (run : IsRun m) where
-  -- a claim of the id at the next place
+  -- a claim of the next id
   module _ (w id : ℕ) (free : slice_get m.held w ≡ Some None) (at : IsAt m m.next id) where
     after_claim : Machine
     after_claim = (claimed m w (Some id)).0
@@ -240,7 +240,7 @@ module _ (m : Machine) (run : IsRun m) where
     ahead = λ k id l h. (at_is_new (step m Halt).0 k id h).1;
   }
 
--- each event leaves a run right
+-- each event keeps the invariant
 pub step_keeps : (m : Machine) (event : Event) → IsRun m → IsRun (step m event).0
 unfolding after_claim after_post
 step_keeps m (Claim w) run = by (slice_get m.held w) refl
@@ -262,12 +262,12 @@ step_keeps m (Post w) run = by (slice_get m.held w) refl
 step_keeps m Save run = save_keeps m run
 step_keeps m Halt run = halt_keeps m run
 
--- any events leave a run right
+-- any events keep the invariant
 pub events_keep : (m : Machine) (events : List Event) → IsRun m → IsRun (state_after m events)
 events_keep m [] run = run
 events_keep m (event ∷ events) run = events_keep (step m event).0 events (step_keeps m event run)
 
--- a run begins right from any different ids below the total
+-- a run that starts from distinct ids below the total has the invariant
 pub fresh_run : (parts part total budget workers : ℕ) (ids : List ℕ) → AllApart ids → ((id : ℕ) → has ids id ≡ true → id < total) → IsRun (started_part parts part total budget workers ids)
 fresh_run parts part total budget workers ids apart below = record {
   apart = apart;

@@ -1,4 +1,4 @@
--- The steps of a search, and what it has found at its end.
+-- The steps of a search, and its result.
 use Rattle.std.proofs.Common.{◌≡◌, ℕ, ◌+◌, ◌<◌, ◌≤◌, Bool, true, List, [], ◌∷◌, ◌++◌, length, get_or, refl, sym, ◌∙◌, subst, inl, inr, arith, length-append}
 use Rattle.std.specs.Prelude.{◌↔◌}
 use Rattle.std.proofs.lemmas.Bool.{cases_eq, false≢true}
@@ -20,7 +20,7 @@ module _ (g : Graph) (inside : ℕ → Bool) where
     each = λ v i h. absurd (false≢true h);
   }
 
-  -- one more of the row, which is found already or is not in the set
+  -- the next unit of the row is already found, or is not in the set
   pub adds_passed : (row old new : List ℕ) (v : ℕ) → AddsFrom g inside row old new → (IsIn g inside v → has new v ≡ true) → AddsFrom g inside (row ++ v ∷ []) old new
   adds_passed row old new v adds there = record {
     longer = adds.longer;
@@ -33,7 +33,7 @@ module _ (g : Graph) (inside : ℕ → Bool) where
     ];
   }
 
-  -- one more of the row, which is added
+  -- the next unit of the row is added
   pub adds_pushed : (row old new : List ℕ) (v : ℕ) → AddsFrom g inside row old new → IsIn g inside v → AddsFrom g inside (row ++ v ∷ []) old (new ++ v ∷ [])
   adds_pushed row old new v adds i = record {
     longer = omega (arith, adds.longer, length-append new (v ∷ []));

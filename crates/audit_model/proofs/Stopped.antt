@@ -1,4 +1,4 @@
--- What values up to a stop settle, no values after them change.
+-- Values up to a stop decide it; later values change nothing.
 use Rattle.std.proofs.Common.{◌≡◌, ℕ, zero, suc, ◌+◌, ◌<◌, ◌≤◌, Bool, true, false, cond, List, [], ◌∷◌, ◌++◌, length, take, Option, Some, None, refl, sym, ap, ◌∙◌, subst, inl, inr, arith, length-append}
 use Rattle.std.specs.Prelude.{◌==◌, count_by, sum_by, ℤ}
 use Rattle.std.specs.Option.{option_or}
@@ -15,14 +15,14 @@ use Rattle.audit_model.proofs.ListFacts.{take_own}
 
 -- ---- the first of several
 
--- what is found below a bound is found below a greater one
+-- a result below a bound is the result below a greater one
 first_below_more : (n more : ℕ) (test : ℕ → Bool) (k : ℕ) → first_below n test ≡ Some k → first_below (more + n) test ≡ Some k
 first_below_more n zero test k h = let e : n ≡ zero + n = omega arith in subst (λ m. first_below m test ≡ Some k) e h
 first_below_more n (suc more) test k h =
     let e : suc (more + n) ≡ suc more + n = omega arith in
     subst (λ m. first_below m test ≡ Some k) e (ap (λ o. option_or o (cond (test (more + n)) (Some (more + n)) None)) (first_below_more n more test k h))
 
--- by what is found below a bound, with one number more that passes or not
+-- one more number, by the result before it
 one_more : (n k : ℕ) (test : ℕ → Bool) (o : Option ℕ) → first_below n test ≡ o → k < suc n → test k ≡ true
     → (k < n → (j : ℕ) × (first_below n test ≡ Some j)) → (j : ℕ) × (first_below (suc n) test ≡ Some j)
 one_more n k test (Some j) e l h before = (j, ap (λ o. option_or o (cond (test n) (Some n) None)) e)
@@ -33,12 +33,12 @@ one_more n k test None e l h before = elim (cases_lt k n) [
       (n, ap (λ o. option_or o (cond (test n) (Some n) None)) e ∙ cond-true (test n) (Some n) None (subst (λ m. test m ≡ true) at h))
 ]
 
--- where a number passes, a least one is found
+-- if a number passes, a least one is found
 some_first_below : (n : ℕ) (test : ℕ → Bool) (k : ℕ) → k < n → test k ≡ true → (j : ℕ) × (first_below n test ≡ Some j)
 some_first_below zero test k l h = absurd (omega arith)
 some_first_below (suc n) test k l h = one_more n k test (first_below n test) refl l h (λ less. some_first_below n test k less h)
 
--- ---- counts of longer and longer fronts
+-- ---- counts of longer and longer prefixes
 
 module _ (p : ℤ → Bool) where
   one : ℤ → ℕ
@@ -62,7 +62,7 @@ module _ (p : ℤ → Bool) where
       let shorter = sum_by-cons one x (take n xs) in
       omega (arith, rest, longer, shorter)
 
-  -- a number that is reached at all is the count of some front
+  -- a count that is reached at all is the count of some prefix
   reaches : (xs : List ℤ) (enough n : ℕ) → enough ≤ count_by p (take n xs) → (k : ℕ) × (k ≤ n) × (count_by p (take k xs) ≡ enough)
   unfolding one
   reaches xs enough zero h = (zero, omega arith, omega (arith, h))
@@ -101,7 +101,7 @@ module _ (tail : Tail) (start : ℤ) (values later : List ℤ) (enough : ℕ) (h
       (first_below_more (length values + 1) (length later) whole_test front_found.0
       (first_below_same (length values + 1) whole_test front_test same ∙ front_found.1))
 
-  -- where enough of the values are in the tail, no value after them changes where the test stops
+  -- once enough values are in the tail, later values do not change the stop
   pub stop_is_settled : stop tail start (values ++ later) enough ≡ stop tail start values enough
   unfolding front_test whole_test
   stop_is_settled =

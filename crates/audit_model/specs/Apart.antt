@@ -1,8 +1,8 @@
--- Lists in which no number stands twice.
+-- Lists of distinct numbers.
 use Rattle.std.specs.Prelude.{IsFalse, ℕ, List, [], ◌∷◌}
 use Rattle.audit_model.specs.Graph.{has}
 
--- no number stands twice
+-- no number occurs twice
 abbrev pub AllApart : List ℕ → Type 0
 AllApart [] = Unit {0}
 AllApart (x ∷ xs) = IsFalse (has xs x) × AllApart xs

@@ -2,7 +2,7 @@
 use Rattle.std.specs.Prelude.{ℕ, ◌==◌, Bool, cond, List, length, slice_index}
 use Rattle.audit_model.specs.Below.{sum_below}
 
--- whether the plan gives the unit this district
+-- the plan gives the unit this district
 abbrev pub in_district : List ℕ → ℕ → ℕ → Bool
 in_district plan district unit = slice_index plan unit == district
 

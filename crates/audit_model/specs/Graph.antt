@@ -1,22 +1,22 @@
--- The dual graph of a districting: its units, and which of them are adjacent.
+-- The dual graph of a districting plan: its units and their adjacencies.
 use Rattle.std.specs.Prelude.{◌≡◌, ℕ, ◌+◌, ◌<◌, ◌==◌, ◌&&◌, Bool, IsTrue, IsFalse, List, [], length, slice_index}
 use Rattle.std.specs.List.{list_any, slice_index_or}
 use Rattle.audit_model.specs.Below.{count_below, sum_below}
 
--- how many units there are, and the neighbours of each unit in rising order
+-- the number of units, and the neighbors of each unit in rising order
 pub record Graph : Type 0 where
   pub units : ℕ
   pub neighbours : List (List ℕ)
 
--- whether the list has the number
+-- the list has the number
 abbrev pub has : List ℕ → ℕ → Bool
 has numbers n = list_any (λ m. m == n) numbers
 
--- whether v is a neighbour of u
+-- v is a neighbor of u
 abbrev pub adjacent : Graph → ℕ → ℕ → Bool
 adjacent g u v = has (slice_index_or g.neighbours u []) v
 
--- how many edges there are whose ends pass the test, each edge counted once, from its smaller end
+-- the number of edges whose ends pass the test, each counted once, from its smaller end
 abbrev pub count_edges : Graph → (ℕ → ℕ → Bool) → ℕ
 count_edges g test = sum_below g.units (λ v. count_below v (λ u. adjacent g u v && test u v))
 
@@ -24,7 +24,7 @@ count_edges g test = sum_below g.units (λ v. count_below v (λ u. adjacent g u 
 abbrev pub IsIn : Graph → (ℕ → Bool) → ℕ → Type 0
 IsIn g inside u = (u < g.units) × IsTrue (inside u)
 
--- there is a list for each unit, neighbours are units in rising order, adjacency is of both, and no unit is adjacent to itself
+-- each unit has a rising list of neighbors, adjacency is symmetric, and no unit is adjacent to itself
 pub record IsGraph (g : Graph) : Type 0 where
   pub width : length g.neighbours ≡ g.units
   pub below : (u v : ℕ) → IsTrue (adjacent g u v) → v < g.units

@@ -1,5 +1,5 @@
--- The job of a graph, a setting and regions, or the first reason to refuse the start plan.
--- This project's refusals, in their order. Each is said by itself, at its least place; the code stops at the first.
+-- The job of a graph, a setting and regions, or the first fault of the start plan. This project's faults, in their
+-- order. Each is defined by itself, at its least place; the code stops at the first.
 use Rattle.std.specs.Prelude.{ℕ, ◌==◌, ◌&&◌, Bool, true, false, IsFalse, not, cond, nat_lt, List, [], ◌∷◌, length, Option, Some, None, option_map, unwrap_or, Result, Ok, Err}
 use Rattle.std.specs.List.{list_any}
 use Rattle.audit_model.specs.declared.fault.PlanFault.{PlanFault}
@@ -29,12 +29,12 @@ is_gap CutEdges = false
 abbrev pub least_unit : Job → ℕ → ℕ
 least_unit job d = unwrap_or (first_below job.graph.units (in_district job.start d)) 0
 
--- the least unit of a district to which no path within it leads from its least unit
+-- the least unit of a district that no path within it connects to its least unit
 abbrev pub parted_unit : Job → ℕ → ℕ
 parted_unit job d = unwrap_or
     (first_below job.graph.units (λ u. in_district job.start d u && not (has (reached job.graph (in_district job.start d) (least_unit job d)) u))) 0
 
--- the gap is asked for, and there are no votes
+-- the efficiency gap is asked for, and there are no votes
 abbrev pub lacks_votes : Job → Bool
 lacks_votes job = list_any (λ ask. is_gap ask.score) job.setting.asks && (total_votes job == 0)
 
@@ -54,7 +54,7 @@ cuts_too_many job = nat_lt job.setting.max_cut (cut_edges job.graph job.start)
 abbrev pub is_oversplit : Job → ℕ → Bool
 is_oversplit job region = nat_lt job.setting.max_split (split_of job.regions job.start region)
 
--- each refusal, at its least district or region
+-- each fault, at its least district or region
 abbrev pub votes_fault : Job → Option PlanFault
 votes_fault job = cond (lacks_votes job) (Some NoVotes) None
 
@@ -93,7 +93,7 @@ group_fault job =
     cond (nat_lt (majorities job.group job.start) job.setting.group_districts)
     (Some (TooFewMajorities (majorities job.group job.start) job.setting.group_districts)) None
 
--- the first reason to refuse the start plan
+-- the first fault of the start plan
 abbrev pub plan_fault : Job → Option PlanFault
 plan_fault job = first_some (
     votes_fault job ∷ bounds_fault job ∷ path_fault job ∷ cut_fault job ∷ split_fault job
@@ -103,7 +103,7 @@ abbrev pub job_or : Job → Option PlanFault → Result Job PlanFault
 job_or job None = Ok job
 job_or job (Some f) = Err f
 
--- the record of what was read, a setting and regions, which is a job where its start plan is not refused; of its origin nothing is told
+-- the data of a parsed source, a setting and regions, with no origin; it is a job if its start plan has no fault
 abbrev pub job_from : Parsed → Setting → List ℕ → Job
 job_from parsed setting regions = record {
   graph = parsed.graph;
@@ -116,19 +116,19 @@ job_from parsed setting regions = record {
   origin = None;
 }
 
--- the job, or the first reason to refuse its start plan
+-- the job, or the first fault of its start plan
 unfoldable pub job_of : Parsed → Setting → List ℕ → Result Job PlanFault
 job_of parsed setting regions = job_or (job_from parsed setting regions) (plan_fault (job_from parsed setting regions))
 
--- the record with another start plan, in which each unit has the place of its label among these
+-- the job's data with another start plan, given as the index of each unit's label among these
 abbrev pub restarted : Job → List ℕ → List Label → Job
 restarted job start labels = record job { start = start; districts = length labels }
 
--- the job with that plan, or the first reason to refuse it
+-- the job with that plan, or its first fault
 unfoldable pub job_with : Job → List ℕ → List Label → Result Job PlanFault
 job_with job start labels = job_or (restarted job start labels) (plan_fault (restarted job start labels))
 
--- all is within the limits, there are votes where the gap is asked for, and the plan to start from is legal
+-- all is within the limits, there are votes if the efficiency gap is asked for, and the start plan is legal
 pub record IsJob (job : Job) : Type 0 where
   pub within : IsWithinLimits job
   pub votes : IsFalse (lacks_votes job)

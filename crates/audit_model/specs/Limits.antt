@@ -1,4 +1,4 @@
--- The limits within which a graph, its counts and regions, its start plan and a setting are accepted.
+-- Limits on a graph, its counts and regions, its start plan and a setting.
 use Rattle.std.specs.Prelude.{◌≡◌, ◌≢◌, ◌⊎◌, ℕ, ◌+◌, ◌^◌, ◌<◌, ◌≤◌, true, List, [], length, slice_index}
 use Rattle.std.specs.List.{All, AllPairs}
 use Rattle.audit_model.specs.declared.outcome.Counts.{Counts}
@@ -9,7 +9,7 @@ use Rattle.audit_model.specs.declared.setting.Setting.{Setting}
 use Rattle.audit_model.specs.Graph.{Graph, IsGraph, count_edges}
 use Rattle.audit_model.specs.Job.{Job}
 
--- the most units, edges, districts and regions of a graph
+-- the maximum number of units, edges, districts and regions of a graph
 abbrev pub most_units : ℕ
 most_units = 100000
 
@@ -22,15 +22,15 @@ most_districts = 200
 abbrev pub most_regions : ℕ
 most_regions = 5000
 
--- the most splits of regions in all: each region in each district
+-- the maximum number of splits in all, with each region in each district: 5,000 * 199
 abbrev pub most_splits : ℕ
 most_splits = 995000
 
--- the most that a unit has of people, or of a party's votes
+-- the maximum population of a unit, and of a party's votes in it
 abbrev pub most_people : ℕ
 most_people = 10 ^ 9
 
--- the most trajectories, and steps of each
+-- the maximum number of trajectories, of steps of each, and of workers
 abbrev pub most_trajectories : ℕ
 most_trajectories = 100000
 
@@ -40,16 +40,16 @@ most_steps = 10 ^ 9
 abbrev pub most_workers : ℕ
 most_workers = 32
 
--- the most bytes of a saved checkpoint: 84 beside its outcomes, and 80 for each of the most trajectories
+-- the maximum size of a saved checkpoint: 84 bytes, and 80 for each trajectory
 abbrev pub most_saved_bytes : ℕ
 most_saved_bytes = 8000084
 
--- one number for each unit, each at most 10 ^ 9
+-- one number per unit, each at most 10 ^ 9
 pub record IsColumn (units : ℕ) (numbers : List ℕ) : Type 0 where
   pub width : length numbers ≡ units
   pub small : All (λ n. n ≤ most_people) numbers
 
--- at most 100,000 units, 400,000 edges and 200 districts, with a count and a district for each unit
+-- at most 100,000 units, 400,000 edges and 200 districts, with counts and a district for each unit
 pub record AreWithin (graph : Graph) (counts : Counts) (start : List ℕ) (districts : ℕ) : Type 0 where
   pub simple : IsGraph graph
   pub units : graph.units ≤ most_units
@@ -62,7 +62,7 @@ pub record AreWithin (graph : Graph) (counts : Counts) (start : List ℕ) (distr
   pub complete : length start ≡ graph.units
   pub in_range : (u : ℕ) → u < graph.units → slice_index start u < districts
 
--- the trajectories that a run may have
+-- the trajectories, asks and workers of a run are within their limits
 pub record IsRunSetting (s : Setting) : Type 0 where
   pub some : 1 ≤ s.walks + s.ends
   pub few : s.walks + s.ends ≤ most_trajectories
@@ -76,7 +76,7 @@ pub record IsRunSetting (s : Setting) : Type 0 where
   pub some_workers : 1 ≤ s.workers
   pub few_workers : s.workers ≤ most_workers
 
--- what a check has in place of a run
+-- a check has no trajectories, asks, budget or saves
 pub record IsCheckSetting (s : Setting) : Type 0 where
   pub no_walks : s.walks ≡ 0
   pub no_steps : s.steps ≡ 0
@@ -86,7 +86,7 @@ pub record IsCheckSetting (s : Setting) : Type 0 where
   pub no_budget : s.budget ≡ 0
   pub no_saves : s.save_every ≡ 0
 
--- the limits of a trace: those of a run, and a range of its trajectories, shown at every `thin`-th step
+-- a trace has the limits of a run, and a range of its trajectories, shown at every `thin`-th step
 pub record IsTraceSetting (s : Setting) : Type 0 where
   pub run : IsRunSetting s
   pub in_order : s.first_id ≤ s.last_id
@@ -101,7 +101,7 @@ IsSettingOf Make s = IsRunSetting s
 IsSettingOf Plans s = IsRunSetting s
 IsSettingOf Trace s = IsTraceSetting s
 
--- a part is one of the parts, and where there are several, what is walked of one is saved
+-- the part is one of the parts, and a run of one of several parts saves
 pub record HasPart (s : Setting) : Type 0 where
   pub some : 1 ≤ s.parts
   pub few : s.parts ≤ most_trajectories
@@ -130,7 +130,7 @@ pub record AreRegions (units : ℕ) (regions : List ℕ) : Type 0 where
 abbrev pub IsGroup : ℕ → Group → Type 0
 IsGroup units group = ((group.members ≡ []) × (group.whole ≡ [])) ⊎ (IsColumn units group.members × IsColumn units group.whole)
 
--- all that a job holds is within its limits
+-- all data of a job are within the limits
 pub record IsWithinLimits (job : Job) : Type 0 where
   pub input : AreWithin job.graph job.counts job.start job.districts
   pub setting : IsSetting job.setting

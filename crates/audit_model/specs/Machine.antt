@@ -1,5 +1,5 @@
--- The run of several workers as a machine: claims, posts, saves and halts, one at a time.
--- This project's journal of one thread's run. It is lists of ids; the code has words, tickets and a slot.
+-- A run of several workers as a state machine, with claims, posts, saves and halts as events. This project's model of a
+-- run. It has lists of ids; the code has atomic words, tickets and a slot.
 use Rattle.std.specs.Prelude.{◌≡◌, ◌<◌, ◌≤◌, ◌⊎◌, IsTrue, IsFalse, ℕ, ◌+◌, not, List, [], ◌∷◌, ◌++◌, ◌&&◌, length, take, replicate, slice_get, slice_set, Option, Some, None}
 use Rattle.audit_model.specs.declared.outcome.Did.{Did}
 use Rattle.audit_model.specs.declared.outcome.Did.TheVariants.{Claimed, Empty, Posted, Idle, Saved, Halted}
@@ -10,8 +10,8 @@ use Rattle.audit_model.specs.Below.{filter_below}
 use Rattle.audit_model.specs.Graph.{has}
 use Rattle.audit_model.specs.Run.{is_in_part}
 
--- how many ids there are, in how many parts they are dealt and which of these is the run's, and how many of its ids a run may take; what was done when the run started, when it was last saved, and now;
--- how many were claimed in this run; and which id each worker has open
+-- the number of ids, the parts into which they are dealt, the run's part, and its budget; the ids done at the start of
+-- the run, at its last save, and now; the number of ids claimed in this run; and the open id of each worker
 pub record Machine : Type 0 where
   pub total : ℕ
   pub parts : ℕ
@@ -23,16 +23,16 @@ pub record Machine : Type 0 where
   pub next : ℕ
   pub held : List (Option ℕ)
 
--- the ids that the run is to do, in rising order
+-- the ids that the run has to do, in rising order
 abbrev pub todo : Machine → List ℕ
 todo m = take m.budget (filter_below m.total (λ id. not (has m.start id) && is_in_part m.parts m.part id))
 
--- the worker claims the id, or there was none
+-- the worker claims the id, if there is one
 abbrev pub claimed : Machine → ℕ → Option ℕ → Machine × Did
 claimed m worker None = (m, Empty)
 claimed m worker (Some id) = (record m { next = m.next + 1; held = slice_set m.held worker (Some id) }, Claimed id)
 
--- what a worker's entry in held lets it do: there is no such worker, it has an open id, or it has none
+-- an event by the worker's entry in `held`: no such worker, an open id, or none
 abbrev pub claim : Machine → ℕ → Option (Option ℕ) → Machine × Did
 claim m worker None = (m, Idle)
 claim m worker (Some (Some id)) = (m, Idle)
@@ -50,7 +50,7 @@ step m (Post worker) = post m worker (slice_get m.held worker)
 step m Save = (record m { saved = m.done }, Saved (length m.done))
 step m Halt = (record m { start = m.saved; done = m.saved; next = 0; held = replicate (length m.held) None }, Halted)
 
--- a run of one part that starts with these ids done and saved, and takes at most budget others
+-- a run of one part that starts with these ids done and saved
 abbrev pub started_part : ℕ → ℕ → ℕ → ℕ → ℕ → List ℕ → Machine
 started_part parts part total budget workers ids = record {
   total = total;
@@ -64,15 +64,15 @@ started_part parts part total budget workers ids = record {
   held = replicate workers None;
 }
 
--- the same of all ids
+-- a run of all ids that starts with these ids done and saved
 abbrev pub started : ℕ → ℕ → ℕ → List ℕ → Machine
 started total budget workers ids = started_part 1 0 total budget workers ids
 
--- a run from nothing
+-- a run that starts with nothing done
 abbrev pub new_machine : ℕ → ℕ → Machine
 new_machine total workers = started total total workers []
 
--- the state after all events, and the answer to each
+-- the state after all events, and the effect of each
 abbrev pub state_after : Machine → List Event → Machine
 state_after m [] = m
 state_after m (event ∷ events) = state_after (step m event).0 events
@@ -81,9 +81,9 @@ abbrev pub answers_to : Machine → List Event → List Did
 answers_to m [] = []
 answers_to m (event ∷ events) = (step m event).1 ∷ answers_to (step m event).0 events
 
--- ---- what holds after any events
+-- ---- invariants
 
--- the second list goes on from the first
+-- the first list is a prefix of the second
 abbrev pub IsFront : List ℕ → List ℕ → Type 0
 IsFront front whole = (rest : List ℕ) × (whole ≡ front ++ rest)
 
@@ -91,12 +91,12 @@ IsFront front whole = (rest : List ℕ) × (whole ≡ front ++ rest)
 abbrev pub IsOpen : Machine → ℕ → ℕ → Type 0
 IsOpen m worker id = slice_get m.held worker ≡ Some (Some id)
 
--- the id is the one at this place of those to do
+-- the id is at this position of those to do
 abbrev pub IsAt : Machine → ℕ → ℕ → Type 0
 IsAt m place id = slice_get (todo m) place ≡ Some id
 
--- the ids that are done differ and are below the total; what is saved, and what was done at the start, come first among them;
--- each id that was claimed is open under one worker or done, and not both; and no other id is open
+-- the ids done are distinct and below the total, and those done at the start or saved are prefixes of them; each
+-- claimed id is either done or open under one worker; no other id is open
 pub record IsRun (m : Machine) : Type 0 where
   pub apart : AllApart m.done
   pub below : (id : ℕ) → IsTrue (has m.done id) → id < m.total

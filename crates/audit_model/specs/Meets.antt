@@ -1,6 +1,6 @@
--- The rules that a plan is to meet beside population and connectedness: how many edges it may cut; among how many districts it may split a
--- region, as a county; how often it may split regions in all, and how many of them; and in how many districts a group is to have a majority.
--- In GerryChain such a rule is a constraint that its user adds, a call on a partition; here each is a number.
+-- The rules that a plan must meet beyond population and contiguity. They limit the cut edges, the districts of one
+-- region (such as a county), the splits in all and the split regions, and require majorities of a group. In GerryChain
+-- such a rule is a constraint that the user adds, a call on a partition; here each is a number.
 use Rattle.std.specs.Prelude.{ℕ, ◌-◌, ◌*◌, ◌≤◌, ◌==◌, ◌&&◌, Bool, nat_le, nat_lt, List, length, slice_index}
 use Rattle.audit_model.specs.declared.rules.Group.{Group}
 use Rattle.audit_model.specs.declared.rules.Rules.{Rules}
@@ -8,7 +8,7 @@ use Rattle.audit_model.specs.Below.{above_all, all_below, any_below, count_below
 use Rattle.audit_model.specs.District.{district_sum}
 use Rattle.audit_model.specs.Graph.{has}
 
--- how many regions there are
+-- the number of regions
 abbrev pub region_count : List ℕ → ℕ
 region_count regions = count_below (above_all regions) (has regions)
 
@@ -16,27 +16,27 @@ region_count regions = count_below (above_all regions) (has regions)
 abbrev pub lies_in : List ℕ → List ℕ → ℕ → ℕ → Bool
 lies_in regions plan region district = any_below (length regions) (λ u. (slice_index regions u == region) && (slice_index plan u == district))
 
--- how many different districts the plan gives to units of the region
+-- the number of districts in which the region has units
 abbrev pub split_of : List ℕ → List ℕ → ℕ → ℕ
 split_of regions plan region = count_below (above_all plan) (lies_in regions plan region)
 
--- how often regions are split in all: each by one less than the number of its districts
+-- the number of splits in all: the districts of each region less one, added up
 abbrev pub splits_in_all : List ℕ → List ℕ → ℕ
 splits_in_all regions plan = sum_below (above_all regions) (λ region. split_of regions plan region - 1)
 
--- how many regions lie in more than one district
+-- the number of regions that lie in more than one district
 abbrev pub split_regions : List ℕ → List ℕ → ℕ
 split_regions regions plan = count_below (above_all regions) (λ region. nat_lt 1 (split_of regions plan region))
 
--- the group has more than half of the district
+-- the group has more than half of the district's base population
 abbrev pub has_majority : Group → List ℕ → ℕ → Bool
 has_majority group plan district = nat_lt (district_sum group.whole plan district) (2 * district_sum group.members plan district)
 
--- in how many districts the group has a majority
+-- the number of districts in which the group has a majority
 abbrev pub majorities : Group → List ℕ → ℕ
 majorities group plan = count_below (above_all plan) (has_majority group plan)
 
--- a plan that cuts so many edges meets the rules
+-- a plan with this number of cut edges meets the rules
 pub record Meets (rules : Rules) (cut : ℕ) (plan : List ℕ) : Type 0 where
   pub few_cuts : cut ≤ rules.max_cut
   pub few_splits : (region : ℕ) → split_of rules.regions plan region ≤ rules.max_split
@@ -44,9 +44,9 @@ pub record Meets (rules : Rules) (cut : ℕ) (plan : List ℕ) : Type 0 where
   pub few_regions : split_regions rules.regions plan ≤ rules.max_split_regions
   pub enough : rules.group_districts ≤ majorities rules.group plan
 
--- ---- the same as a test that computes
+-- ---- tests that decide it
 
--- no region is split too often
+-- no region lies in too many districts
 abbrev pub are_whole : List ℕ → ℕ → List ℕ → Bool
 are_whole regions max_split plan = all_below (above_all regions) (λ region. nat_le (split_of regions plan region) max_split)
 

@@ -1,9 +1,9 @@
--- How the names that the words may set are spelled.
+-- The spelling of options.
 use Rattle.std.specs.Prelude.{ℕ, List, codes}
 use Rattle.audit_model.specs.declared.fault.Name.{Name}
 use Rattle.audit_model.specs.declared.fault.Name.TheVariants.{Pop, First, Second, District, Size, Slack, Key, Walks, Steps, Ends, HubSteps, Ask, Workers, Budget, Save, Resume, MaxCut, Shift, Stop, Serial, Region, MaxSplit, Parts, Part, MaxSplits, MaxSplitRegions, Group, GroupOf, GroupDistricts, Source, Ids, Thin}
 
--- the spelling of a name
+-- the spelling of an option
 abbrev pub name_text : Name → List ℕ
 name_text Pop = codes "--pop"
 name_text First = codes "--first"

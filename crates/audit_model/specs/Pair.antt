@@ -1,4 +1,4 @@
--- What a keeper's two slots hold, where it tells, and what a load and a save do.
+-- The two slots of a keeper, if it is observable, and the effect of a load and a save.
 use Rattle.std.specs.Prelude.{◌≡◌, ℕ, zero, suc, Bool, true, false, List, Option, Some, None}
 use Rattle.audit_model.specs.Told.{IfTold, IfBothTold}
 
@@ -16,12 +16,12 @@ abbrev pub stored : Pair → ℕ → Stored
 stored p zero = p.zero_slot
 stored p (suc n) = p.one_slot
 
--- the slot that has not this number
+-- the other slot
 abbrev pub other_stored : Pair → ℕ → Stored
 other_stored p zero = p.one_slot
 other_stored p (suc n) = p.zero_slot
 
--- whatever a save answers, the other slot is as it was
+-- whatever a save returns, the other slot is unchanged
 abbrev pub KeepsOther : Option Pair → Option Pair → ℕ → Type 0
 KeepsOther old new slot = IfBothTold old new (λ p q. other_stored q slot ≡ other_stored p slot)
 
@@ -29,7 +29,7 @@ KeepsOther old new slot = IfBothTold old new (λ p q. other_stored q slot ≡ ot
 abbrev pub HoldsBytes : Option Pair → ℕ → List ℕ → Type 0
 HoldsBytes slots slot bytes = IfTold slots (λ q. stored q slot ≡ Some bytes)
 
--- the bytes, where the slot is there
+-- the bytes, if the slot is present
 abbrev pub stored_if : Bool → List ℕ → Stored
 stored_if true bytes = Some bytes
 stored_if false bytes = None

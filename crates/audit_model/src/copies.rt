@@ -1,10 +1,10 @@
-//! Values whose clone is the same value.
+//! Types whose clones are equal to the original.
 
 ghost use Rattle.std.specs.Prelude.{◌≡◌};
 
 use crate::setting::{Ask, Label};
 
-/// A value whose clone is the same value.
+/// A type whose clones are equal to the original, which proofs may rely on.
 pub trait Same: Clone {
     ghost same: { (x y : Self) → Self.Clone.is_clone x y → y ≡ x };
 }

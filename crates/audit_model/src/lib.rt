@@ -1,5 +1,6 @@
-//! The plain types of a districting audit, the definitions that contracts cite and that need no other crate, the laws of these
-//! definitions, and the lemmas that several crates need, each once.
+//! Plain types of an audit, the definitions that need no other crate, and their laws.
+//!
+//! Lemmas that several crates need are here too, each once.
 #![tactic(auto)]
 
 pub mod buffers;

@@ -1,6 +1,6 @@
-//! Where a job comes from.
+//! The origin of a job.
 
-/// The SHA-256 of all bytes that were read from the source, and how many they were.
+/// The SHA-256 and the number of all bytes read from the source.
 #[derive(Clone, Copy, Debug, PartialEq, Eq)]
 pub struct Origin {
     pub sha256: [u8; 32],

@@ -1,6 +1,6 @@
-//! Where checkpoints go.
+//! The position of a checkpoint.
 
-/// Where a checkpoint goes: a slot, 0 or 1, and a generation, 0 to 2.
+/// The position of a checkpoint: a slot, 0 or 1, and a generation, 0 to 2.
 #[derive(Clone, Copy, Debug, PartialEq, Eq)]
 pub struct Place {
     pub slot: u8,

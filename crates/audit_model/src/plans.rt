@@ -3,7 +3,8 @@
 use crate::lists::{LabelList, PlainList, UnitList};
 use crate::text::Text;
 
-/// A plan of a table: its name, its different labels in rising order, and the place of each unit's label among them.
+/// A plan of a table: its name, its distinct labels in rising order, and the index of each unit's
+/// label among them.
 #[derive(Drop)]
 pub struct Assigned {
     pub name: Text,

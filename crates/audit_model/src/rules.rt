@@ -1,12 +1,12 @@
-//! The rules that a plan is to meet beside population and connectedness.
+//! The rules that a plan must meet beyond population and contiguity.
 
 ghost use Rattle.std.specs.Prelude.{◌≡◌, IfOk};
 
 use crate::lists::{NumList, UnitList};
 use crate::memory::Memory;
 
-/// How many people of a group are in each unit, and how many of those among whom it may be a majority, as all people or all of voting age.
-/// Both are empty where no group is named.
+/// The people of a group in each unit, and the base population of which they may be the majority:
+/// all people, or for instance those of voting age. Both are empty if no group is named.
 #[derive(Drop)]
 pub struct Group {
     pub members: NumList,
@@ -14,7 +14,7 @@ pub struct Group {
 }
 
 impl Group {
-    /// Other lists of the same numbers.
+    /// Copies the columns. Fails if there is no memory.
     pub fn copy(&self) -> Result<Group, Memory>
         ensures { IfOk result (λ g. g ≡ self.now) }
     {
@@ -25,9 +25,11 @@ impl Group {
     }
 }
 
-/// The most edges that a plan may cut; the region of each unit, empty where there are none; among how many districts a region may be
-/// split, how often regions may be split in all, and how many of them; the group of each unit, and in how many districts it is to have a
-/// majority.
+/// The rules on plans.
+///
+/// `max_cut` limits the cut edges. `regions` has the region of each unit, or is empty. `max_split`
+/// limits the districts of one region, `max_splits` the splits in all, and `max_split_regions` the
+/// split regions. The group must have a majority in at least `group_districts` districts.
 #[derive(Drop)]
 pub struct Rules {
     pub max_cut: u32,
@@ -40,7 +42,7 @@ pub struct Rules {
 }
 
 impl Rules {
-    /// Other rules that are the same.
+    /// Copies the rules. Fails if there is no memory.
     pub fn copy(&self) -> Result<Rules, Memory>
         ensures { IfOk result (λ r. r ≡ self.now) }
     {
