@@ -40,7 +40,7 @@ most_steps = 10 ^ 9
 abbrev pub most_workers : ℕ
 most_workers = 32
 
--- the maximum size of a saved checkpoint: 84 bytes, and 80 for each trajectory
+-- the maximum size of a saved checkpoint: 84 bytes, and 80 for each of 100,000 trajectories
 abbrev pub most_saved_bytes : ℕ
 most_saved_bytes = 8000084
 

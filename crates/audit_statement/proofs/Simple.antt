@@ -1,4 +1,4 @@
--- What is read of a document is a simple graph, in rising lists.
+-- The graph of a document is simple, and its lists rise.
 use Rattle.std.proofs.Common.{◌≡◌, ℕ, ◌<◌, true, not, ◌||◌, List, [], refl, sym, subst, inl, inr, arith}
 use Rattle.std.specs.Prelude.{◌==◌}
 use Rattle.std.proofs.lemmas.Bool.{and_parts, and_from, or_cases, or_left, or_right, cases_lt, eq-eqb, ne_eqb, false≢true, both_ways, false_from_ne_true, not_from_false, not-true}
@@ -12,7 +12,7 @@ use Rattle.audit_model.proofs.Bools.{same_bool}
 use Rattle.audit_statement.specs.Reading.{Document, node_count, lists, joined, graph}
 
 module _ (d : Document) where
-  -- units are adjacent exactly where their nodes are joined
+  -- units are adjacent exactly if their nodes are
   adjacent_joined : (u v : ℕ) → adjacent (graph d) u v ≡ true → (u < node_count d) × (v < node_count d) × (joined d u v ≡ true)
   adjacent_joined u v h = elim (cases_lt u (node_count d)) [
     | inl l ↦

@@ -1,5 +1,5 @@
--- What a run with none of the features that may be left out has done that ended with status 0.
--- This project's claim, in the terms of its sources: the words, the JSON, the plans that are visited, and the bytes that are written.
+-- A plain run that ended with status 0. This project's claim, in the terms of its sources: the arguments, the JSON, the
+-- visited plans and the written bytes.
 use Rattle.std.specs.Prelude.{◌≡◌, ℕ, ◌++◌, Bool, IsTrue, List, ◌∷◌, Option, Some, codes}
 use Rattle.std.specs.Str.{is_utf8}
 use Rattle.serde_json.specs.Data.{Data}
@@ -11,9 +11,9 @@ use Rattle.audit_statement.specs.Valid.{IsValid}
 use Rattle.audit_statement.specs.Plain.{Decides, hub, plan_after, plain_report}
 use Rattle.audit_statement.specs.Said.{ArePlain, AreSaid}
 
--- The words say the job's setting, and the bytes are JSON that gives the job; its start plan is valid, and so is each plan that its trajectories
--- visit, on any stream and after any number of steps; and with a test that passes exactly the valid plans the bytes of the output are those of
--- before and then the report.
+-- The arguments give the job's setting, and the bytes are JSON that gives the job. The start plan is valid, and so is
+-- each plan visited on any stream after any number of steps. `valid` is a test that passes exactly the valid plans. The
+-- output is what it was before, followed by the plain report for this test.
 pub record IsAudited (words : List (List ℕ)) (bytes old : List ℕ) (out_after : Option (List ℕ)) : Type 0 where
   pub job : Job
   pub set : AreSaid words job.setting
@@ -28,8 +28,8 @@ pub record IsAudited (words : List (List ℕ)) (bytes old : List ℕ) (out_after
   pub from_hub : (stream i : ℕ) → IsValid job (plan_after job valid (draw job.setting.key stream) (hub job valid (draw job.setting.key)) i)
   pub written : out_after ≡ Some (old ++ plain_report job valid (draw job.setting.key))
 
--- a call on the word 'run' and words that name none of the features that may be left out, over a source and an output that tell their bytes, has
--- done this where it ended with status 0
+-- a call with the word `run` and plain arguments, over an observable source and output, has done this if it ended with
+-- status 0
 abbrev pub AuditsPlainly : List (List ℕ) → Option (List ℕ) → Option (List ℕ) → Option (List ℕ) → ℕ → Type 0
 AuditsPlainly words source out_before out_after status = (rest : List (List ℕ)) (bytes old : List ℕ) → words ≡ codes "run" ∷ rest → ArePlain rest
     → source ≡ Some bytes → out_before ≡ Some old → status ≡ 0 → IsAudited rest bytes old out_after

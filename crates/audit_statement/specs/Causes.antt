@@ -1,4 +1,4 @@
--- What follows from how a call ended: which status comes exactly where, and when the call does all.
+-- Consequences of how a call ended: which status comes exactly when, and when the call completes.
 use Rattle.std.specs.Prelude.{◌≡◌, ◌≢◌, ◌⊎◌, ℕ, ◌<◌, Bool, true, false, IsTrue, IsFalse, List, ⊤, Some, None, Ok, IsErr}
 use Rattle.audit_model.specs.declared.outcome.Outcome.{Outcome}
 use Rattle.audit_model.specs.declared.setting.Setting.{Setting}
@@ -9,17 +9,17 @@ use Rattle.audit_statement.specs.Accepted.{judged, input_of}
 use Rattle.audit_statement.specs.Endings.{is_walking, TellsOpening, leaves_work, IsDone, IsReadFault, IsWriteFault, IsLoadFault, IsSaveFault, IsSlotsFault, IsStopped}
 use Rattle.audit_statement.specs.World.{World}
 
--- the words are accepted, and the bytes are told and are this job's
+-- the arguments are accepted, and the bytes of the graph are observable
 pub record IsTold (words : List (List ℕ)) (before : World) (setting : Setting) (bytes : List ℕ) : Type 0 where
   pub words_are : setting_of words ≡ Ok setting
   pub input : input_of setting before.source.bytes ≡ Some bytes
 
--- a walking command finds an opening, and takes all that it lacks
+-- a walking command finds initial outcomes, and has the budget for all missing ids
 abbrev pub HasBudget : Bool → Job → World → Type 0
 HasBudget false job before = ⊤
 HasBudget true job before = (o : List Outcome) × TellsOpening job before.keeper.slots (Some o) × IsFalse (leaves_work job o)
 
--- nothing stands in the way: all is accepted, nothing is left for another run, and no call failed
+-- nothing stands in the way: all is accepted, no work is left for another run, and no call failed
 pub record MayEndWell (words : List (List ℕ)) (before after : World) : Type 0 where
   pub job : Job
   pub bytes : List ℕ
@@ -31,17 +31,17 @@ pub record MayEndWell (words : List (List ℕ)) (before after : World) : Type 0 
   pub loads : Rose before.keeper.load_faults.all after.keeper.load_faults.all → ⊥
   pub saves : Rose before.keeper.save_faults after.keeper.save_faults → ⊥
 
--- then all is done, or there was no memory
+-- then the call completes, or is out of memory
 abbrev pub IsComplete : List (List ℕ) → World → World → ℕ → Type 0
 IsComplete words before after status = MayEndWell words before after → (status ≡ 0) ⊎ (status ≡ 3)
 
--- this is the job of the words and of the bytes, which are told
+-- the job of the arguments and of the observable bytes
 pub record IsTheJob (words : List (List ℕ)) (before : World) (job : Job) : Type 0 where
   pub bytes : List ℕ
   pub told : IsTold words before job.setting bytes
   pub accepted : judged job.setting bytes ≡ Ok job
 
--- a walking command finds an opening, and takes fewer ids than it lacks
+-- a walking command finds initial outcomes, and walks fewer ids than are missing
 pub record LeavesWork (words : List (List ℕ)) (before : World) : Type 0 where
   pub job : Job
   pub the_job : IsTheJob words before job
@@ -50,14 +50,14 @@ pub record LeavesWork (words : List (List ℕ)) (before : World) : Type 0 where
   pub opened : TellsOpening job before.keeper.slots (Some outcomes)
   pub left : IsTrue (leaves_work job outcomes)
 
--- a walking command is to resume, and the slots do not say how
+-- a walking command is asked to resume, and the slots do not say how
 pub record LacksOpening (words : List (List ℕ)) (before : World) : Type 0 where
   pub job : Job
   pub the_job : IsTheJob words before job
   pub walking : IsTrue (is_walking job.setting.command)
   pub undefined : TellsOpening job before.keeper.slots None
 
--- each refusal comes where it is to, unless there was no memory; and no failed call is passed over
+-- each refusal comes when it must, unless memory ran out, and no failed call is ignored
 pub record HasCauses (words : List (List ℕ)) (before after : World) (status : ℕ) : Type 0 where
   pub one_only : status ≡ 1 → IsErr (setting_of words)
   pub one : IsErr (setting_of words) → (status ≡ 1) ⊎ (status ≡ 3)

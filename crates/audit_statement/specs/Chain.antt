@@ -1,4 +1,4 @@
--- Runs one after the other over the same slots.
+-- Runs one after another over the same slots.
 use Rattle.std.specs.Prelude.{◌≡◌, ℕ, ◌+◌, ◌-◌, ◌^◌, ◌<◌, ◌≤◌, ◌==◌, ◌&&◌, ◌||◌, min, Bool, true, false, List, [], ◌++◌, length, Some, IsTrue}
 use Rattle.std.specs.List.{All, AllPairs, Contains}
 use Rattle.audit_model.specs.Pair.{Pair}
@@ -17,15 +17,15 @@ use Rattle.audit_statement.specs.Endings.{AreRunSaves, IsTryOf, NoSaveFailed, Te
 use Rattle.audit_statement.specs.Headline.{StartsWith, WritesOneThreads}
 use Rattle.audit_statement.specs.World.{World}
 
--- all that both slots hold of the job was found by its trajectories
+-- all outcomes of the job in both slots were found by its trajectories
 abbrev pub AreHonestOf : Job → Pair → Type 0
 AreHonestOf job p = AreHonest job (draw job.setting.key) (job_digest job) p
 
--- a run that resumes finds such slots; of the slots of a run that does not, nothing is asked
+-- a run that resumes finds consistent slots; for other runs nothing is required
 abbrev pub ResumesHonestly : Job → World → Type 0
 ResumesHonestly job before = IsTrue job.setting.resume → IfTold before.keeper.slots (AreHonestOf job)
 
--- the later save holds each outcome of the earlier one, and more where that one succeeded
+-- the later save holds each outcome of the earlier one, and more if that one succeeded
 pub record IsHeldBy (job : Job) (earlier later : Try) : Type 0 where
   pub first : List Outcome
   pub first_generation : ℕ
@@ -36,20 +36,20 @@ pub record IsHeldBy (job : Job) (earlier later : Try) : Type 0 where
   pub held : All (Contains second) first
   pub more : earlier.succeeded ≡ true → length first < length second
 
--- the statuses with which a call ends that has walked: all was done, the text or a save failed, or work is left
+-- the statuses of a call that has walked: all done, a failed write or save, or work left
 abbrev pub has_walked : ℕ → Bool
 has_walked status = (status == 0) || (status == 5) || (status == 7) || (status == 9)
 
--- the saves are exactly those of a run that saves and has walked, and elsewhere there are none
+-- the saves are exactly those of a run that saves and has walked, otherwise there are none
 abbrev pub AreSavesWhere : Bool → Job → List Outcome → Pair → List Try → Type 0
 AreSavesWhere true job outcomes p tries = AreRunSaves job outcomes p tries
 AreSavesWhere false job outcomes p tries = tries ≡ []
 
--- the saves of a call on the job over these slots, and whether each succeeded: they are all that its keeper was asked for, and exactly those of a run
--- that starts with what these slots give; each went to the place of these slots, which moved on after each that succeeded, with a checkpoint of the
--- opening and of what the trajectories of ids find that the opening lacks; each holds all that those before it hold, and more than those of them that
--- succeeded; where all succeeded there are as many as a run makes; the keeper's count covers those that failed; and where the run resumes honestly, all
--- of it was found by the job's trajectories
+-- The save attempts of a call on the job over these slots, with their success. They are all that the keeper was asked
+-- for, and exactly those of a run that starts from these slots. Each went to the current place, which advances after a
+-- success, and holds initial outcomes and outcomes of missing ids. Each holds all that earlier ones hold, and more than
+-- those that succeeded. If all succeeded, their number is that of a run's saves. The keeper's count covers the
+-- failures. If the run resumed from consistent slots, all outcomes are those of the job's trajectories.
 pub record TriesOver (job : Job) (before after : World) (p : Pair) (status : ℕ) (told now : List Try) : Type 0 where
   pub tries : List Try
   pub appended : now ≡ told ++ tries
@@ -63,13 +63,13 @@ pub record TriesOver (job : Job) (before after : World) (p : Pair) (status : ℕ
   pub covered : min (before.keeper.save_faults + failed_of tries) (2 ^ 64 - 1) ≤ after.keeper.save_faults
   pub right : ResumesHonestly job before → All (λ t. IsRightSave job (draw job.setting.key) (job_digest job) t.bytes) tries
 
--- where the keeper tells, what it was asked to save
+-- the save attempts, if the keeper is observable
 abbrev pub TriedRightly : List (List ℕ) → World → World → ℕ → Type 0
 TriedRightly words before after status = (job : Job) (p : Pair) → IsTheJob words before job → before.keeper.slots ≡ Some p
     → IfBothTold before.keeper.tried after.keeper.tried (TriesOver job before after p status)
 
--- from honest slots a run starts with what its trajectories found, writes the report of one thread, and where no save failed leaves honest slots:
--- so does the next run
+-- from consistent slots, a run starts with right outcomes, writes the report of one thread and, if no save failed,
+-- leaves consistent slots for the next run
 pub record StaysHonest (words : List (List ℕ)) (before after : World) (status : ℕ) : Type 0 where
   pub opens_right : (job : Job) (outcomes : List Outcome) → StartsWith words before job outcomes → ResumesHonestly job before
       → IsRight job (draw job.setting.key) outcomes

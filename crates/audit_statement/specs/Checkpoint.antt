@@ -1,5 +1,5 @@
--- The bytes of a checkpoint, the digest of a job, and the first fault in what is no checkpoint.
--- FIPS 180-4 for SHA-256, this project's format for the rest. A checkpoint is one whole text; the code reads fields at offsets.
+-- The bytes of a checkpoint, the digest of a job, and the first fault in bytes that are no checkpoint. FIPS 180-4 for
+-- SHA-256, this project's format for the rest. A checkpoint is one whole text; the code reads fields at offsets.
 use Rattle.std.specs.Prelude.{◌≡◌, ◌⊎◌, ℕ, ◌+◌, ◌-◌, ◌*◌, ◌^◌, ◌<◌, ◌≤◌, ◌==◌, ◌&&◌, ◌||◌, Bool, true, false, not, cond, nat_lt, nat_le, List, [], ◌∷◌, ◌++◌, length, map, take, drop, flat_map, codes, bytes_eq, slice_index, slice_range, FitsSigned, Option, Some, None, option_map}
 use Rattle.std.specs.Int.{Width, w32, w64, byte_len, to_be_bytes, from_be_bytes, cast_unsigned}
 use Rattle.std.specs.List.{AllByRecursion}
@@ -22,16 +22,16 @@ use Rattle.audit_model.specs.Limits.{most_trajectories, most_edges, most_regions
 
 -- ---- writing
 
--- the second version of the format holds bins
+-- version 2 of the format holds histograms
 abbrev pub has_bins : ℕ → Bool
 has_bins version = version == 2
 
--- the bins, where the version has them
+-- the histogram, if the version has one
 abbrev pub bin_bytes : Bool → List ℕ → List ℕ
 bin_bytes true bins = flat_map (to_be_bytes w32) bins
 bin_bytes false bins = []
 
--- an outcome: its id, its moves and its values, and in the second version its bins
+-- an outcome: its id, its moves and its values, and in version 2 its histogram
 abbrev pub outcome_bytes : ℕ → Outcome → List ℕ
 outcome_bytes version o =
     to_be_bytes w32 o.id ++ to_be_bytes w64 o.moved ++ flat_map (λ v. to_be_bytes w64 (cast_unsigned w64 v)) o.values ++ bin_bytes (has_bins version) o.bins
@@ -53,7 +53,7 @@ AreRising [] = Unit {0}
 AreRising (x ∷ []) = Unit {0}
 AreRising (x ∷ y ∷ rest) = (x < y) × AreRising (y ∷ rest)
 
--- what an outcome's fields hold
+-- the fields of an outcome are within their ranges
 pub record IsOutcome (o : Outcome) : Type 0 where
   pub id : o.id < 2 ^ 32
   pub moved : o.moved < 2 ^ 64
@@ -62,7 +62,7 @@ pub record IsOutcome (o : Outcome) : Type 0 where
   pub nine : length o.bins ≡ 9
   pub bins : AllByRecursion (λ n. n < 2 ^ 32) o.bins
 
--- the second version holds any bins, and the first none
+-- version 2 holds any histograms, version 1 none
 abbrev pub HoldsBins : ℕ → List Outcome → Type 0
 HoldsBins version outcomes = (version ≡ 2) ⊎ ((version ≡ 1) × AllByRecursion (λ o. o.bins ≡ no_bins) outcomes)
 
@@ -79,48 +79,47 @@ pub record IsCheckpoint (bytes : List ℕ) (version : ℕ) (digest : List ℕ) (
 
 -- ---- the first fault
 
--- the number of this width at a place
+-- the big-endian number of this width at an offset
 abbrev pub number_at : Width → ℕ → List ℕ → ℕ
 number_at w at bytes = from_be_bytes w (slice_range bytes at (at + byte_len w))
 
--- the places of a checkpoint's parts: behind the eight bytes of the format's name its version, the digest, the generation and the number of
--- outcomes, and then the outcomes
+-- the byte offsets of a checkpoint's parts; the version follows the eight bytes of the format's name
 abbrev pub version_place : ℕ
 version_place = 8
 
--- where the digest begins
+-- the offset of the digest
 abbrev pub digest_place : ℕ
 digest_place = 12
 
--- where the generation stands
+-- the offset of the generation
 abbrev pub generation_place : ℕ
 generation_place = 44
 
--- where the number of outcomes stands
+-- the offset of the number of outcomes
 abbrev pub count_place : ℕ
 count_place = 48
 
--- where the outcomes begin
+-- the offset of the outcomes
 abbrev pub outcomes_place : ℕ
 outcomes_place = 52
 
--- how many bytes a checkpoint has beside its outcomes: those before them, and the checksum
+-- the number of bytes besides the outcomes: the parts before them, and the checksum
 abbrev pub bare_length : ℕ
 bare_length = 84
 
--- the version that the bytes say they are of
+-- the version that the bytes state
 abbrev pub stated_version : List ℕ → ℕ
 stated_version bytes = number_at w32 version_place bytes
 
--- how many bytes an outcome has
+-- the number of bytes of an outcome
 abbrev pub outcome_size : ℕ → ℕ
 outcome_size version = cond (has_bins version) 80 44
 
--- where the outcome at a place begins
+-- the offset of the outcome at a place
 abbrev pub outcome_start : List ℕ → ℕ → ℕ
 outcome_start bytes place = outcomes_place + outcome_size (stated_version bytes) * place
 
--- the number of outcomes that the bytes say they have
+-- the number of outcomes that the bytes state
 abbrev pub stated_count : List ℕ → ℕ
 stated_count bytes = number_at w32 count_place bytes
 
@@ -155,17 +154,17 @@ abbrev pub tail_code : Tail → ℕ
 tail_code Low = 0
 tail_code High = 1
 
--- each edge, its smaller end first, in rising order
+-- each edge, its smaller unit first, in rising order
 abbrev pub edge_bytes : Graph → List ℕ
 edge_bytes g = flat_map (λ u. flat_map (λ v. to_be_bytes w32 u ++ to_be_bytes w32 v) (filter_below g.units (λ v. nat_lt u v && adjacent g u v))) (map_below g.units (λ u. u))
 
--- the counts of a unit, and its district at the start
+-- the counts of a unit, and its district in the start plan
 abbrev pub unit_bytes : Job → ℕ → List ℕ
 unit_bytes job u =
     to_be_bytes w64 (slice_index job.counts.population u) ++ to_be_bytes w64 (slice_index job.counts.first u)
     ++ to_be_bytes w64 (slice_index job.counts.second u) ++ to_be_bytes w32 (slice_index job.start u)
 
--- the rules limit how often regions are split in all, or how many of them
+-- the rules limit the splits in all or the split regions
 abbrev pub limits_splits : Rules → Bool
 limits_splits rules = (nat_lt rules.max_splits most_splits || nat_lt rules.max_split_regions most_regions) && not (length rules.regions == 0)
 
@@ -173,45 +172,45 @@ limits_splits rules = (nat_lt rules.max_splits most_splits || nat_lt rules.max_s
 abbrev pub has_group : Rules → Bool
 has_group rules = not (length rules.group.members == 0)
 
--- there is one of these rules, which the third version of what is digested holds
+-- the rules need version 3 of the digested bytes
 abbrev pub has_further_rules : Rules → Bool
 has_further_rules rules = limits_splits rules || has_group rules
 
--- the rules limit the cut edges, or have regions, or a group
+-- the rules limit the cut edges, or have regions or a group
 abbrev pub has_rules : Rules → Bool
 has_rules rules = nat_lt rules.max_cut most_edges || not (length rules.regions == 0) || has_group rules
 
--- the first bytes of what is digested, by whether the job has rules, and further ones
+-- the first digested bytes, by the rules that the job has
 abbrev pub digest_name : Bool → Bool → List ℕ
 digest_name has_some true = codes "district-job 3"
 digest_name true false = codes "district-job 2"
 digest_name false false = codes "district-job 1"
 
--- the limit of the regions, and each unit's region, where there are regions
+-- the limit on districts per region, and each unit's region, if there are regions
 abbrev pub region_bytes : ℕ → List ℕ → List ℕ
 region_bytes max_split [] = []
 region_bytes max_split (r ∷ rest) = to_be_bytes w32 max_split ++ flat_map (to_be_bytes w32) (r ∷ rest)
 
--- the limits of splits in all and of split regions, where one is set
+-- the limits on splits in all and on split regions, if one is set
 abbrev pub split_bytes : Rules → List ℕ
 split_bytes rules = cond (limits_splits rules) (to_be_bytes w32 rules.max_splits ++ to_be_bytes w32 rules.max_split_regions) []
 
--- how many of the group, and of its whole, are in a unit
+-- the members and the base population of a group in a unit
 abbrev pub member_bytes : Group → ℕ → List ℕ
 member_bytes group u = to_be_bytes w64 (slice_index group.members u) ++ to_be_bytes w64 (slice_index group.whole u)
 
--- in how many districts the group is to have a majority, and how many of it and of its whole are in each unit, where there is a group
+-- the required majorities, and the group's numbers in each unit, if there is a group
 abbrev pub group_bytes : ℕ → Rules → List ℕ
 group_bytes units rules =
     cond (has_group rules) (to_be_bytes w32 rules.group_districts ++ flat_map (member_bytes rules.group) (map_below units (λ u. u))) []
 
--- the rules, where there are some
+-- the rules, if there are some
 abbrev pub rule_bytes : Bool → ℕ → Rules → List ℕ
 rule_bytes true units rules =
     to_be_bytes w32 rules.max_cut ++ region_bytes rules.max_split rules.regions ++ split_bytes rules ++ group_bytes units rules
 rule_bytes false units rules = []
 
--- all that a job's outcomes depend on, but whether they have bins
+-- all that a job's outcomes depend on, except for asking for histograms
 abbrev pub job_bytes : Job → List ℕ
 job_bytes job =
     digest_name (has_rules (rules job)) (has_further_rules (rules job))

@@ -1,6 +1,6 @@
--- The saves that a call may ask its keeper for at any moment, whether or not the call ever returns.
--- A keeper states which saves it permits, and `save` may be called only with a permitted one. The top call is proved for every keeper that permits the due saves. Some keepers
--- permit no others, so the top call can never ask for a save that is not due.
+-- The saves that a call may ask its keeper for at any moment, even if it never returns. A keeper states which saves it
+-- permits, and `save` may only be called with a permitted one. The top call is proved for every keeper that permits the
+-- due saves. Some keepers permit no others, so the top call can never ask for a save that is not due.
 use Rattle.std.specs.Prelude.{◌≡◌, ℕ, ◌<◌, IsTrue, List, [], ◌∷◌, ◌++◌, Option}
 use Rattle.audit_model.specs.Pair.{Pair}
 use Rattle.audit_model.specs.State.{Kept}
@@ -20,18 +20,18 @@ use Rattle.audit_statement.specs.World.{World}
 abbrev pub Lets : Type 1
 Lets = Kept → ℕ → List ℕ → Type 0
 
--- in this state it permits the save of this checkpoint to this slot
+-- in this state, the keeper permits the save of this checkpoint to this slot
 abbrev pub LetsCheckpoint : Lets → Kept → List ℕ → ℕ → ℕ → List Outcome → Type 0
 LetsCheckpoint lets k digest slot generation outcomes =
     IsCheckpoint (checkpoint 2 digest generation outcomes) 2 digest generation outcomes → lets k slot (checkpoint 2 digest generation outcomes)
 
--- In a run that takes in these ids, a keeper permits each save that is due next. `told` are the save attempts before the run; a save is due next if the attempts since, with it at
--- the end, are saves so far.
+-- In a run over these ids, the keeper permits each save that is due next. `told` are the save attempts before the run.
+-- A save is due next if the attempts since, followed by it, are saves so far.
 abbrev pub LetsRun : Lets → Option (List Try) → Job → List Outcome → ℕ → Place → List ℕ → Type 0
 LetsRun lets told job opening every place ids =
     (k : Kept) (tries : List Try) (t : Try) → k.tried ≡ tried_all told tries → AreSavesSoFar job opening every place ids (tries ++ t ∷ []) → lets k t.slot t.bytes
 
--- the place of a run's first save, if the slots that it finds are known
+-- the place of a run's first save, if the slots that it finds are observable
 pub record IsFirstPlace (job : Job) (slots : Option Pair) (place : Place) : Type 0 where
   pub slot : place.slot < 2
   pub generation : place.generation < 3
@@ -42,8 +42,8 @@ abbrev pub LetsSavesOf : Lets → Job → Kept → Type 0
 LetsSavesOf lets job before = (opening : List Outcome) (place : Place) → IsTrue (saves job.setting) → IsOpening job before.slots opening → IsFirstPlace job before.slots place
     → LetsRun lets before.tried job opening job.setting.save_every place (run_ids job opening job.setting.budget)
 
--- The keeper permits the saves that are due in the run that the words and the source give, one after the other. The slots at the start of the run determine its opening and the
--- place of its first save. Each save is the checkpoint of the opening and of the ids taken in so far, each once, with the outcomes of their trajectories. If the words, the source
--- or the slots give no run, no save is due.
+-- The keeper permits the due saves of the run that the arguments and the source give, one after another. The slots at
+-- its start determine its initial outcomes and the first place. Each save is the checkpoint of the initial outcomes and
+-- of the ids taken in so far, each once, with their trajectories' outcomes. If there is no such run, no save is due.
 abbrev pub LetsDueSaves : Lets → List (List ℕ) → World → Type 0
 LetsDueSaves lets words before = (job : Job) → IsAccepted words before.source.bytes job → LetsSavesOf lets job before.keeper

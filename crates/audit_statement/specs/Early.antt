@@ -1,4 +1,4 @@
--- What a call promises whose words ask for tests that stop early.
+-- A call whose arguments ask for tests that stop early.
 use Rattle.std.specs.Prelude.{◌≡◌, ℕ, ◌<◌, ◌≤◌, List, Ok}
 use Rattle.audit_model.specs.declared.setting.Setting.{Setting}
 use Rattle.audit_model.specs.Job.{Job}
@@ -7,8 +7,9 @@ use Rattle.audit_statement.specs.Causes.{IsTheJob}
 use Rattle.audit_statement.specs.Headline.{WritesOneThreads}
 use Rattle.audit_statement.specs.World.{World}
 
--- Where the words ask for tests that stop early: with status 0 the report of one thread was written, which tells of each test at which of all ends by
--- rising id it stops, and its p-value there, however many ends were walked past that place; the keeper is as before, and no status is above 5.
+-- If tests stop early: with status 0 the report of one thread was written. It gives each test's stopping place among
+-- the endpoints by rising id and its p-value there, however many endpoints were walked beyond. The keeper is unchanged,
+-- and no status is above 5.
 pub record EndsEarly (words : List (List ℕ)) (before after : World) (status : ℕ) : Type 0 where
   pub written : (job : Job) → IsTheJob words before job → 1 ≤ job.setting.stop → status ≡ 0 → WritesOneThreads job before after
   pub kept : (setting : Setting) → setting_of words ≡ Ok setting → 1 ≤ setting.stop → after.keeper ≡ before.keeper

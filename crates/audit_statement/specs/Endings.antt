@@ -1,4 +1,4 @@
--- How a call may end: for each reason, what caused it, what it wrote, and what it left untouched.
+-- The endings of a call: for each reason its cause, its output and what it left unchanged.
 use Rattle.std.specs.Prelude.{◌≡◌, ◌⊎◌, IsPermutation, ℕ, suc, ◌+◌, ◌-◌, ◌*◌, ◌%◌, ◌^◌, ◌<◌, ◌≤◌, ◌==◌, min, ◌&&◌, ◌||◌, Bool, true, false, not, IsTrue, IsFalse, nat_lt, List, [], ◌++◌, length, map, take, ⊤, Option, Some, None, Result, Ok, Err}
 use Rattle.std.specs.List.{list_all, All, Contains}
 use Rattle.std.specs.Io.KnownBytes.{Appends, IsAtEnd}
@@ -32,7 +32,7 @@ use Rattle.audit_model.specs.State.{Kept, Stream}
 use Rattle.audit_model.specs.Told.{IfTold, IfBothTold}
 use Rattle.audit_statement.specs.World.{World}
 
--- ---- what the words ask for
+-- ---- the features that the arguments ask for
 
 -- the command reads the source
 abbrev pub is_reading : Command → Bool
@@ -42,7 +42,7 @@ is_reading Make = false
 is_reading Plans = true
 is_reading Trace = true
 
--- whether the command walks the trajectories that are left to it; a trace walks a range of them, and keeps no outcome
+-- the command walks the missing trajectories and keeps outcomes; a trace walks a range and keeps none
 abbrev pub is_walking : Command → Bool
 is_walking Check = false
 is_walking Run = true
@@ -50,97 +50,96 @@ is_walking Make = true
 is_walking Plans = true
 is_walking Trace = false
 
--- a run of this setting saves, and loads
+-- a run of this setting saves
 abbrev pub saves : Setting → Bool
 saves setting = is_walking setting.command && not (setting.save_every == 0)
 
--- and it loads, where it resumes or saves
+-- a run of this setting loads, since it resumes or saves
 abbrev pub loads : Setting → Bool
 loads setting = is_walking setting.command && (setting.resume || not (setting.save_every == 0))
 
--- the words are accepted and pass the test
+-- the arguments are accepted, and their setting passes the test
 abbrev pub passes : (Setting → Bool) → Result Setting WordFault → Bool
 passes test (Ok setting) = test setting
 passes test (Err f) = false
 
--- ---- the slots that were seen, and the opening
+-- ---- the slots that were seen, and the initial outcomes
 
--- there are two slots that were seen, the told ones where the keeper tells, and this holds of them
+-- some slots were seen, the keeper's if it is observable, and this holds of them
 pub record Saw (slots : Option Pair) (P : Pair → Type 0) : Type 0 where
   pub pair : Pair
   pub same : IfTold slots (λ p. pair ≡ p)
   pub holds : P pair
 
--- the outcomes with which a run starts that finds these slots, where it may start: nothing, unless it resumes
+-- the initial outcomes of a run that finds these slots, if it may start; none unless it resumes
 abbrev pub opening_from : Bool → Job → Pair → Option (List Outcome)
 opening_from false job p = Some []
 opening_from true job p = opening true job.setting (slot_of job (job_digest job) p.zero_slot) (slot_of job (job_digest job) p.one_slot)
 
--- what a keeper tells of its slots says with what a run starts, where it may start: with nothing, unless it resumes; and where it resumes,
--- it is to tell
+-- the keeper's slots determine the initial outcomes of a run; one that resumes needs an observable keeper
 abbrev pub StartsFrom : Bool → Job → Option Pair → Option (List Outcome) → Type 0
 StartsFrom false job slots o = Some [] ≡ o
 StartsFrom true job None o = ⊥
 StartsFrom true job (Some p) o = opening_from true job p ≡ o
 
--- what a keeper tells of its slots says that a run of the job starts with this
+-- the keeper's slots say that a run of the job starts with this
 abbrev pub TellsOpening : Job → Option Pair → Option (List Outcome) → Type 0
 TellsOpening job slots o = StartsFrom job.setting.resume job slots o
 
--- these are the outcomes with which a run starts that finds the slots that were seen
+-- the initial outcomes of a run that finds the slots that were seen
 pub record IsOpening (job : Job) (slots : Option Pair) (outcomes : List Outcome) : Type 0 where
   pub seen : Saw slots (λ p. opening_from job.setting.resume job p ≡ Some outcomes)
   pub apart : AllApart (map (λ o. o.id) outcomes)
   pub fitting : IsTrue (list_all (fits job) outcomes)
 
--- how many ids the opening lacks
+-- the number of ids missing in the initial outcomes
 abbrev pub lacking : Job → List Outcome → ℕ
 lacking job outcomes = length (lacking_ids job outcomes)
 
--- how many of them the run walks: those of its part, as many as its budget allows
+-- the number of ids that the run walks: missing ones of its part, up to its budget
 abbrev pub to_walk : Job → List Outcome → ℕ
 to_walk job outcomes = length (run_ids job outcomes job.setting.budget)
 
--- it walks fewer than the opening lacks
+-- the run walks fewer ids than are missing
 abbrev pub leaves_work : Job → List Outcome → Bool
 leaves_work job outcomes = nat_lt (to_walk job outcomes) (lacking job outcomes)
 
--- the outcomes of the opening, and of the ids that the run takes
+-- the initial outcomes, and those of the ids that the run takes
 abbrev pub full_of : Job → List Outcome → List Outcome
 full_of job outcomes = full job (draw job.setting.key) outcomes job.setting.budget
 
--- ---- what was read
+-- ---- input
 
 -- the source was read to its end, or not at all
 abbrev pub IsReadBy : Bool → Stream → Stream → Type 0
 IsReadBy true before after = IsAtEnd after.bytes × (after.faults ≡ before.faults)
 IsReadBy false before after = after ≡ before
 
--- the job was accepted, all that it holds is within the limits, its plan is legal, and the source was read for it
+-- the job was accepted, it is sound, and the source was read for it
 pub record IsPrepared (words : List (List ℕ)) (before after : Stream) (job : Job) : Type 0 where
   pub accepted : IsAccepted words before.bytes job
   pub sound : IsJob job
   pub read : IsReadBy (is_reading job.setting.command) before after
 
--- ---- what was written
+-- ---- output
 
--- some of the text's first bytes were taken
+-- a prefix of the text was written
 abbrev pub AppendsPart : Option (List ℕ) → Option (List ℕ) → List ℕ → Type 0
 AppendsPart before after text = (n : ℕ) × (n ≤ length text) × Appends before after (take n text)
 
--- a text was taken whole, or in part
+-- the text was written whole, or a prefix of it
 abbrev pub Writes : Bool → Option (List ℕ) → Option (List ℕ) → List ℕ → Type 0
 Writes true before after text = Appends before after text
 Writes false before after text = AppendsPart before after text
 
--- nothing is left to be walked, and the report on all outcomes was written
+-- no work is left, and the report on all outcomes was written
 pub record WritesReport (whole : Bool) (job : Job) (before after : World) : Type 0 where
   pub outcomes : List Outcome
   pub opened : IsOpening job before.keeper.slots outcomes
   pub nothing_left : IsFalse (leaves_work job outcomes)
   pub written : Writes whole before.out.bytes after.out.bytes (full_report job (draw job.setting.key) (full_of job outcomes))
 
--- what a command writes
+-- the text that a command writes
 abbrev pub WritesText : Command → Bool → Job → World → World → Type 0
 WritesText Check whole job before after = Writes whole before.out.bytes after.out.bytes (check_text job)
 WritesText Run whole job before after = WritesReport whole job before after
@@ -156,27 +155,28 @@ pub record StopsEarly (job : Job) (before after : World) : Type 0 where
   pub work_left : IsTrue (leaves_work job outcomes)
   pub unwritten : after.out.bytes ≡ before.out.bytes
 
--- ---- what was saved
+-- ---- saves
 
--- where the keeper tells, the newest slot is the checkpoint of the opening and of what was walked
+-- the newest slot is the checkpoint of these outcomes
 abbrev pub IsNewest : Job → List Outcome → Pair → Type 0
 IsNewest job outcomes p =
     (n : ℕ) × (newest (slot_of job (job_digest job) p.zero_slot) (slot_of job (job_digest job) p.one_slot) ≡ Some n)
     × ((g : ℕ) × (g < 3) × (stored p n ≡ Some (checkpoint 2 (job_digest job) g outcomes)))
 
--- an outcome of the opening, or what the trajectory of an id finds that the opening lacks and that is to be walked
+-- an initial outcome, or the trajectory's outcome of a missing id that the run walks
 abbrev pub IsOpeningOrFound : Job → List Outcome → Outcome → Type 0
 IsOpeningOrFound job outcomes o =
     Contains outcomes o
     ⊎ (IsFalse (has_id outcomes o.id) × (o.id < total job) × Contains (run_ids job outcomes job.setting.budget) o.id × (o ≡ outcome job (draw job.setting.key) o.id))
 
--- these are all outcomes of the opening, and so many others
+-- all initial outcomes, and this many outcomes of missing ids
 pub record HoldsPart (job : Job) (outcomes : List Outcome) (count : ℕ) (saved : List Outcome) : Type 0 where
   pub each : All (IsOpeningOrFound job outcomes) saved
   pub opening_kept : All (Contains saved) outcomes
   pub counted : length saved ≡ length outcomes + count
 
--- the slot is a checkpoint of the job with this generation, of the opening and of so many ids that the opening lacks, and is read as that
+-- the slot is a checkpoint of the job with this generation, of the initial outcomes and this many missing ids, and is
+-- read as that
 pub record IsPartly (job : Job) (outcomes : List Outcome) (count generation : ℕ) (slot : Option (List ℕ)) : Type 0 where
   pub saved : List Outcome
   pub bytes_are : slot ≡ Some (checkpoint 2 (job_digest job) generation saved)
@@ -184,30 +184,31 @@ pub record IsPartly (job : Job) (outcomes : List Outcome) (count generation : �
   pub slot_is : slot_of job (job_digest job) slot ≡ ours generation saved
   pub holds : HoldsPart job outcomes count saved
 
--- of two slots of which one was intact, one is the newest slot as it was, or a checkpoint of the opening and of ids that it lacks
+-- if a slot was valid, some slot now holds the newest one's bytes, or is a checkpoint of the initial outcomes and of
+-- missing ids
 abbrev pub KeepsASlot : Job → List Outcome → Pair → Pair → Type 0
 KeepsASlot job outcomes p q =
     (n : ℕ) → newest (slot_of job (job_digest job) p.zero_slot) (slot_of job (job_digest job) p.one_slot) ≡ Some n
     → (m : ℕ) × ((stored q m ≡ stored p n) ⊎ ((count : ℕ) × ((g : ℕ) × IsPartly job outcomes count g (stored q m))))
 
--- where a run saves: the place that the slots at its start give
+-- the place of a run's first save, given by the slots at its start
 abbrev pub place_of : Job → Pair → ℕ × ℕ
 place_of job p = save_place (slot_of job (job_digest job) p.zero_slot) (slot_of job (job_digest job) p.one_slot)
 
--- the same as one place
+-- the place, as one value
 abbrev pub first_place : Job → Pair → Place
 first_place job p = record { slot = (place_of job p).0; generation = (place_of job p).1 }
 
--- how many saves a run makes: one each time that as many ids were walked as was asked for, and a last one where the last id had none
+-- the number of a run's saves: one per `save_every` ids walked, and a last one if the last id had none
 abbrev pub count_of_saves : Job → List Outcome → ℕ
 count_of_saves job outcomes = saves_of (to_walk job outcomes) job.setting.save_every
 
--- the place of the last of them: after each the place moves to the other slot and the next generation of three in turn
+-- the place of the last of them; after each save it moves to the other slot and the next of three generations
 abbrev pub last_place : Job → List Outcome → Pair → Place
 last_place job outcomes p = moved (count_of_saves job outcomes - 1) (first_place job p)
 
--- so many saves were made, the last at this place: it is the checkpoint of the opening and of all that was walked, is read as that, and is the
--- newest; where it is the only one, the other slot is as it was, and elsewhere the other slot is the save before
+-- This many saves were made, the last at this place. It is the checkpoint of the initial outcomes and of all that was
+-- walked, is read as that, and is the newest. The other slot is the save before it or, if there was none, unchanged.
 pub record SavesInTurnAt (job : Job) (outcomes : List Outcome) (p q : Pair) (at : Place) (count : ℕ) : Type 0 where
   pub last : stored q at.slot ≡ Some (checkpoint 2 (job_digest job) at.generation (full_of job outcomes))
   pub last_is : slot_of job (job_digest job) (stored q at.slot) ≡ ours at.generation (full_of job outcomes)
@@ -219,9 +220,9 @@ pub record SavesInTurnAt (job : Job) (outcomes : List Outcome) (p q : Pair) (at 
 abbrev pub SavesInTurn : Job → List Outcome → Pair → Pair → Type 0
 SavesInTurn job outcomes p q = SavesInTurnAt job outcomes p q (last_place job outcomes p) (count_of_saves job outcomes)
 
--- ---- what was tried
+-- ---- save attempts
 
--- a save that was tried: a checkpoint of the job, of the opening and of what the trajectories of ids find that the opening lacks
+-- a save attempt: a checkpoint of the job with initial outcomes and trajectories' outcomes of missing ids
 pub record IsTryOf (job : Job) (outcomes : List Outcome) (t : Try) : Type 0 where
   pub generation : ℕ
   pub count : ℕ
@@ -229,16 +230,18 @@ pub record IsTryOf (job : Job) (outcomes : List Outcome) (t : Try) : Type 0 wher
   pub sound : IsCheckpoint t.bytes 2 (job_digest job) generation saved
   pub holds : HoldsPart job outcomes count saved
 
--- Exactly the saves of a run over these slots that starts with these outcomes. The ids that it walks were taken in in this order, each once. A save was
--- tried each time that as many of them were as `--save` says, of the opening and of all that were taken in so far, and one more of all at the end, but
--- where the last one was of all and succeeded. The first went to the place of these slots, and each later one to the place after the last that succeeded.
+-- Exactly the save attempts of a run over these slots that starts with these outcomes. The ids that it walks were taken
+-- in in this order, each once. A save was attempted after every `save_every` ids, and one of all at the end unless the
+-- last one was of all and succeeded. The first went to the place of these slots, each later one to the place after the
+-- last success.
 pub record AreRunSaves (job : Job) (outcomes : List Outcome) (p : Pair) (tries : List Try) : Type 0 where
   pub walked : List ℕ
   pub all_walked : IsPermutation walked (run_ids job outcomes job.setting.budget)
   pub exactly : AreSavesOf job outcomes job.setting.save_every (first_place job p) walked tries
 
--- the saves of a run over these slots, and whether each succeeded: they are all that its keeper was asked for since, and exactly those of such a run;
--- each is a checkpoint of the job; the keeper's count covers those that failed; and where the opening is right, so are they
+-- The save attempts of a run over these slots, with their success. They are all that the keeper was asked for since,
+-- and exactly those of such a run. Each is a checkpoint of the job. The keeper's count covers the failures. If the
+-- initial outcomes are right, so are the saves.
 pub record TriesOf (job : Job) (outcomes : List Outcome) (p : Pair) (faults faults_now : ℕ) (told now : List Try) : Type 0 where
   pub tries : List Try
   pub appended : now ≡ told ++ tries
@@ -248,12 +251,12 @@ pub record TriesOf (job : Job) (outcomes : List Outcome) (p : Pair) (faults faul
   pub covered : min (faults + failed_of tries) (2 ^ 64 - 1) ≤ faults_now
   pub right : IsRight job (draw job.setting.key) outcomes → All (λ t. IsRightSave job (draw job.setting.key) (job_digest job) t.bytes) tries
 
--- what a run that saves has tried, where its keeper tells
+-- the save attempts of a run that saves, if its keeper is observable
 abbrev pub TriesTold : Job → List Outcome → Kept → Kept → Type 0
 TriesTold job outcomes before after = IfTold before.slots (λ p. IfBothTold before.tried after.tried (TriesOf job outcomes p before.save_faults after.save_faults))
 
--- the slots after a run that saves, and what it has tried: where each save was made, they were made in turn, and the checkpoint of the opening
--- and of all that was walked is in the newest slot
+-- The slots after a run that saves, and its save attempts. If every save was made, they were made in turn, and the
+-- newest slot is the checkpoint of the initial outcomes and of all that was walked.
 pub record SavesAll (made : Type 0) (job : Job) (before after : World) : Type 0 where
   pub outcomes : List Outcome
   pub opened : IsOpening job before.keeper.slots outcomes
@@ -262,7 +265,7 @@ pub record SavesAll (made : Type 0) (job : Job) (before after : World) : Type 0 
   pub newest_is : made → IfBothTold before.keeper.slots after.keeper.slots (λ p q. IsNewest job (full_of job outcomes) q)
   pub tried : TriesTold job outcomes before.keeper after.keeper
 
--- a run that does not save leaves the slots as they were
+-- a run that does not save leaves the slots unchanged
 abbrev pub SavesWhere : Bool → Type 0 → Job → World → World → Type 0
 SavesWhere false made job before after = after.keeper.slots ≡ before.keeper.slots
 SavesWhere true made job before after = SavesAll made job before after
@@ -273,7 +276,7 @@ NoSaveFailed before after = Rose before.keeper.save_faults after.keeper.save_fau
 
 -- ---- each reason
 
--- one byte more than the limit was taken, where the source is read and tells
+-- one byte more than the limit was read, if the source is read and observable
 abbrev pub TakesTooMany : Bool → Option (List ℕ) → Option (List ℕ) → Type 0
 TakesTooMany true before after = IfBothTold before after (λ left rest. length left ≡ suc (most_bytes + length rest))
 TakesTooMany false before after = ⊤
@@ -297,7 +300,7 @@ pub record IsReadFault (words : List (List ℕ)) (before after : World) : Type 0
   pub reading : IsTrue (is_reading setting.command)
   pub rose : Rose before.source.faults after.source.faults
 
--- a part of the text was written, and a write failed
+-- a prefix of the text was written, and a write failed
 pub record IsWriteFault (words : List (List ℕ)) (before after : World) : Type 0 where
   pub job : Job
   pub prepared : IsPrepared words before.source after.source job
@@ -312,17 +315,17 @@ pub record IsLoadFault (words : List (List ℕ)) (before after : World) : Type 0
   pub loading : IsTrue (loads job.setting)
   pub rose : Rose before.keeper.load_faults.all after.keeper.load_faults.all
 
--- it failed, and not since another process holds the slots
+-- a load failed, but not because another process holds the slots
 pub record IsUnread (words : List (List ℕ)) (before after : World) : Type 0 where
   pub fault : IsLoadFault words before after
   pub untaken : after.keeper.load_faults.taken ≡ before.keeper.load_faults.taken
 
--- it failed since another process holds the slots
+-- a load failed because another process holds the slots
 pub record IsFolderTaken (words : List (List ℕ)) (before after : World) : Type 0 where
   pub fault : IsLoadFault words before after
   pub taken : Rose before.keeper.load_faults.taken after.keeper.load_faults.taken
 
--- work is left: so many of all trajectories are done and saved
+-- work is left; this many of all trajectories are done and saved
 pub record IsStopped (words : List (List ℕ)) (before after : World) (done all : ℕ) : Type 0 where
   pub job : Job
   pub prepared : IsPrepared words before.source after.source job
@@ -332,14 +335,14 @@ pub record IsStopped (words : List (List ℕ)) (before after : World) (done all 
   pub all_is : all ≡ total job
   pub saved : SavesAll ⊤ job before after
 
--- resuming was asked, and the slots that were seen do not say how a run may start, and are so for the job
+-- the run was asked to resume, the slots that were seen do not say how, and `found` holds of them
 pub record IsSlotsFault (words : List (List ℕ)) (before after : World) (found : Job → Pair → Type 0) : Type 0 where
   pub job : Job
   pub prepared : IsPrepared words before.source after.source job
   pub resuming : IsTrue (is_walking job.setting.command && job.setting.resume)
   pub seen : Saw before.keeper.slots (λ p. (opening_from job.setting.resume job p ≡ None) × found job p)
 
--- both slots as they are, of which none is intact
+-- both slots as they are, with neither valid
 pub record AreDamaged (zero one : Slot) (job : Job) (p : Pair) : Type 0 where
   pub zero_is : slot_of job (job_digest job) p.zero_slot ≡ zero
   pub one_is : slot_of job (job_digest job) p.one_slot ≡ one
@@ -358,7 +361,7 @@ abbrev pub WritesOrStops : Bool → Job → World → World → Type 0
 WritesOrStops true job before after = WritesReport true job before after
 WritesOrStops false job before after = StopsEarly job before after
 
--- a save failed; all else is done as without it
+-- a save failed; all else is done as without the failure
 pub record IsSaveFault (words : List (List ℕ)) (before after : World) : Type 0 where
   pub job : Job
   pub prepared : IsPrepared words before.source after.source job
@@ -371,7 +374,7 @@ pub record IsSaveFault (words : List (List ℕ)) (before after : World) : Type 0
   pub tried : TriesTold job outcomes before.keeper after.keeper
   pub rose : Rose before.keeper.save_faults after.keeper.save_faults
 
--- why a call ended
+-- the cause of an ending
 abbrev pub Cause : List (List ℕ) → World → World → Option Ending → Type 0
 Cause words before after None = IsDone words before after
 Cause words before after (Some (bad_words f)) = setting_of words ≡ Err f
@@ -391,14 +394,14 @@ Cause words before after (Some (damaged first second)) = IsSlotsFault words befo
 Cause words before after (Some (other_job found wanted)) = IsSlotsFault words before after (IsOtherJob found wanted)
 Cause words before after (Some save_fault) = IsSaveFault words before after
 
--- ---- what is left as it was
+-- ---- unchanged parts
 
--- the value is as before, unless the test passed
+-- the value is unchanged, unless the test passed
 abbrev pub SameUnless : {A : Type 0} → Bool → A → A → Type 0
 SameUnless true before after = ⊤
 SameUnless false before after = after ≡ before
 
--- which endings may have written, saved, and seen which call fail
+-- the endings that may have written, saved, and seen a call of each kind fail
 pub record EndingMarks : Type 0 where
   pub wrote : Bool
   pub saved : Bool
@@ -431,8 +434,9 @@ marks_of (Some (damaged first second)) = no_marks
 marks_of (Some (other_job found wanted)) = no_marks
 marks_of (Some save_fault) = record no_marks { wrote = true; saved = true; save_failed = true }
 
--- the source is touched only where it is read, the slots only where the run saves, and only then is a save tried, `out` only where a text was to be written;
--- and no failed call is passed over: each count is as before, but that of the call whose fault is told, or of a save before a write fault
+-- The source changes only if it is read, the slots and save attempts only if the run saves, and the output only if a
+-- text was to be written. No failed call is ignored: each count is unchanged, except for the reported failure or a
+-- failed save before a failed write.
 pub record LeavesUntouched (words : List (List ℕ)) (before after : World) (marks : EndingMarks) : Type 0 where
   pub source : SameUnless (passes (λ s. is_reading s.command) (setting_of words)) before.source after.source
   pub out : SameUnless marks.wrote before.out.bytes after.out.bytes
@@ -443,21 +447,21 @@ pub record LeavesUntouched (words : List (List ℕ)) (before after : World) (mar
   pub load_faults : SameUnless marks.load_failed before.keeper.load_faults after.keeper.load_faults
   pub save_faults : SameUnless (marks.save_failed && passes saves (setting_of words)) before.keeper.save_faults after.keeper.save_faults
 
--- ---- the note
+-- ---- the diagnostic
 
--- the line was added whole, or in part where the note's count rose
+-- the line was appended whole, or a prefix of it if the diagnostic's count of faults rose
 pub record AddsLine (before after : Stream) (line : List ℕ) : Type 0 where
   pub added : (Appends before.bytes after.bytes line × (after.faults ≡ before.faults))
       ⊎ (AppendsPart before.bytes after.bytes line × Rose before.faults after.faults)
 
--- nothing is told where all was done, and elsewhere the line of the ending
+-- nothing is written if all was done, else the line of the ending
 abbrev pub TellsWhy : Columns → Stream → Stream → Option Ending → Type 0
 TellsWhy columns before after None = after ≡ before
 TellsWhy columns before after (Some ending) = AddsLine before after (note columns ending)
 
--- ---- the whole
+-- ---- the contract of an ending
 
--- there is a reason: the status says it, it has its cause, it leaves untouched what it is to, and the note tells it
+-- there is a reason: the status shows it, it has its cause, the rest is unchanged, and the diagnostic says it
 pub record EndsFor (words : List (List ℕ)) (before after : World) (note_before note_after : Stream) (status : ℕ) : Type 0 where
   pub reason : Option Ending
   pub status_is : status ≡ status_of reason

@@ -1,6 +1,5 @@
--- What the bytes of a graph say of a run's job.
--- networkx's adjacency format, which GerryChain's `Graph.from_json` reads; JSON is what `serde_json` reads. It says what a job has in common
--- with the JSON that was accepted, and nothing of what is refused.
+-- The bytes of a graph and a run's job. networkx's adjacency format, which GerryChain's `Graph.from_json` reads; JSON
+-- is what `serde_json` reads. It relates a job to the JSON that was accepted, and is silent on refusals.
 use Rattle.std.specs.Prelude.{◌≡◌, ◌≢◌, ◌⊎◌, ◌↔◌, ℕ, ◌<◌, true, IsTrue, List, [], ◌∷◌, length, map, slice_index, codes, Option, Some, option_and_then}
 use Rattle.std.specs.List.{slice_index_or}
 use Rattle.serde_json.specs.Data.{Data, null, boolean, number, array, unsigned, Items, no_items, item}
@@ -21,7 +20,7 @@ items_of (value ∷ values) = item value (items_of values)
 abbrev pub list : List Data → Data
 list values = array (items_of values)
 
--- the whole number or the text at a key
+-- the integer or the text at a key
 abbrev pub label_under : List ℕ → Data → Option Label
 label_under key value = option_and_then label_of (get key value)
 
@@ -34,9 +33,9 @@ abbrev pub Names : List Label → List Data → ℕ → Type 0
 Names ids entries u =
     (place : ℕ) × (place < length entries) × (label_under (codes "id") (slice_index_or entries place null) ≡ Some (slice_index_or ids u (Word [])))
 
--- The nodes are the units. Each has an id of its own and a list of neighbours, whose entries have ids of units. Two different units are
--- adjacent where one of them lists the other. Each column gives each unit a number, and the column of districts a label: districts are
--- numbered by rising label.
+-- The nodes are the units. Each has its own id and a list of neighbors, whose entries have ids of units. Two distinct
+-- units are adjacent if one of them lists the other. Each column gives each unit a number, and the column of districts
+-- a label. Districts are numbered by rising label.
 pub record IsGiven (root : Data) (job : Job) : Type 0 where
   pub nodes : List Data
   pub lists : List (List Data)

@@ -1,20 +1,20 @@
--- The grid that the program makes, as JSON.
+-- The grid that `make` writes, as JSON.
 use Rattle.std.specs.Prelude.{ℕ, ◌+◌, ◌-◌, ◌*◌, ◌/◌, ◌%◌, ◌==◌, ◌&&◌, ◌||◌, Bool, List, ◌++◌, map, codes, decimal}
 use Rattle.std.specs.List.{join_with_byte}
 use Rattle.audit_model.specs.Below.{map_below, filter_below}
 use Rattle.audit_statement.specs.Draw.{draw}
 
--- how many columns there are, and as many rows
+-- the number of columns, and of rows
 abbrev pub grid_side : ℕ → ℕ
 grid_side size = 10 * size
 
--- the units beside each other in a row or a column
+-- the units are next to each other in a row or a column
 abbrev pub are_beside : ℕ → ℕ → ℕ → Bool
 are_beside size u v =
     (u / grid_side size == v / grid_side size) && ((u + 1 == v) || (v + 1 == u))
     || ((u + grid_side size == v) || (v + grid_side size == u))
 
--- the votes of the first party in a unit, of 100, drawn on a stream of their own
+-- the votes of the first party in a unit, of 100, drawn on their own stream
 abbrev pub first_votes_of : List ℕ → ℕ → ℕ
 first_votes_of key u = draw key 4294967296 u % 101
 
@@ -22,7 +22,7 @@ first_votes_of key u = draw key 4294967296 u % 101
 abbrev pub bracketed : List (List ℕ) → List ℕ
 bracketed parts = codes "[" ++ join_with_byte 44 parts ++ codes "]"
 
--- the list of the neighbours of a unit
+-- the adjacency list of a unit
 abbrev pub neighbours_json : ℕ → ℕ → List ℕ
 neighbours_json size u = bracketed (map (λ v. codes "{\"id\":" ++ decimal v ++ codes "}") (filter_below (grid_side size * grid_side size) (are_beside size u)))
 

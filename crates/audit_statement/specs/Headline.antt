@@ -1,4 +1,4 @@
--- What a call that did all has written, in terms of the words, the bytes and the slots alone.
+-- The output of a call that completed, in terms of the arguments, the bytes and the slots alone.
 use Rattle.std.specs.Prelude.{◌≡◌, ℕ, List, IsTrue, IsFalse, Some}
 use Rattle.std.specs.Io.KnownBytes.{Appends}
 use Rattle.audit_model.specs.declared.outcome.Outcome.{Outcome}
@@ -12,7 +12,7 @@ use Rattle.audit_statement.specs.Causes.{IsTheJob}
 use Rattle.audit_statement.specs.Endings.{is_walking, TellsOpening, leaves_work, full_of}
 use Rattle.audit_statement.specs.World.{World}
 
--- the report on what one thread finds that walks each trajectory once
+-- the report of one thread that walks each trajectory once
 abbrev pub WritesOneThreads : Job → World → World → Type 0
 WritesOneThreads job before after = Appends before.out.bytes after.out.bytes (thread_report job (draw job.setting.key))
 
@@ -22,8 +22,9 @@ pub record StartsWith (words : List (List ℕ)) (before : World) (job : Job) (ou
   pub walking : IsTrue (is_walking job.setting.command)
   pub opened : TellsOpening job before.keeper.slots (Some outcomes)
 
--- a check writes its text; a trace writes the text of its range; a run writes the report on the opening and on what the opening lacks, and where the opening is right,
--- that is the report that one thread gives; a failed save changes nothing of it
+-- With status 0, a check writes its text, a trace the text of its range, and a run the report on the initial outcomes
+-- and the missing ids. If the initial outcomes are right, that is the report of one thread. A failed save does not
+-- change it.
 pub record WritesWhole (words : List (List ℕ)) (before after : World) (status : ℕ) : Type 0 where
   pub check : (job : Job) → IsTheJob words before job → job.setting.command ≡ Check → status ≡ 0 → Appends before.out.bytes after.out.bytes (check_text job)
   pub trace : (job : Job) → IsTheJob words before job → job.setting.command ≡ Trace → status ≡ 0

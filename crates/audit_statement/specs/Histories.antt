@@ -1,4 +1,4 @@
--- What saves that were tried leave in the slots, however each ended, and wherever a run was stopped.
+-- The slots after some save attempts, however each ended, and wherever a run was stopped.
 use Rattle.std.specs.Prelude.{◌≡◌, ℕ, ◌+◌, ◌-◌, ◌%◌, ◌<◌, ◌⊎◌, zero, suc, Bool, true, false, cond, IsTrue, List, [], ◌∷◌, ◌++◌, take, ⊤, Option, Some, None}
 use Rattle.std.specs.List.{All, list_all}
 use Rattle.audit_model.specs.Pair.{Pair, Stored, stored}
@@ -10,8 +10,8 @@ use Rattle.audit_model.specs.Trajectory.{Draws}
 use Rattle.audit_statement.specs.Checkpoint.{IsCheckpoint, checkpoint}
 use Rattle.audit_statement.specs.Slots.{IsAfterStop, Slot, generation_of, slot_of, newest_for}
 
--- What a save that failed, or that a stop cut off, leaves in its slot: what was there, its first bytes or all of them, or another thing of
--- which this holds.
+-- a failed or interrupted save leaves in its slot what was there, a prefix of its bytes, or something that satisfies
+-- `Other`
 abbrev pub IsLeft : (Slot → Type 0) → Job → List ℕ → Stored → List ℕ → Stored → Type 0
 IsLeft Other job digest before bytes after = (after ≡ before) ⊎ ((n : ℕ) × (after ≡ Some (take n bytes))) ⊎ Other (slot_of job digest after)
 
@@ -26,20 +26,20 @@ pub record IsCarriedOut (Other : Slot → Type 0) (job : Job) (digest : List ℕ
   pub beside : IsAfterStop c.slot p.zero_slot p.one_slot q.zero_slot q.one_slot
   pub ended : IsEnded Other job digest c.succeeded (stored p c.slot) c.bytes (stored q c.slot)
 
--- saves were carried out, one after the other
+-- saves were carried out, one after another
 abbrev pub AreCarriedOut : (Slot → Type 0) → Job → List ℕ → Pair → List Try → Pair → Type 0
 AreCarriedOut Other job digest p [] q = q ≡ p
 AreCarriedOut Other job digest p (c ∷ rest) q = (m : Pair) × IsCarriedOut Other job digest p m c × AreCarriedOut Other job digest m rest q
 
--- the first so many saves as they ended, and the next one cut off: what a run that was stopped has tried
+-- the first n attempts as they ended, and the next one interrupted: the attempts of a stopped run
 abbrev pub stopped_in : ℕ → List Try → List Try
 stopped_in n [] = []
 stopped_in zero (t ∷ tries) = record t { succeeded = false } ∷ []
 stopped_in (suc n) (t ∷ tries) = t ∷ stopped_in n tries
 
--- ---- honest slots
+-- ---- consistent slots
 
--- the bytes are a checkpoint of the job's digest, of either version, of outcomes that fit the job and were found by its trajectories
+-- the bytes are a checkpoint of the job's digest, of either version, with plausible outcomes of its trajectories
 pub record IsRightSave (job : Job) (draws : Draws) (digest bytes : List ℕ) : Type 0 where
   pub version : ℕ
   pub generation : ℕ
@@ -50,7 +50,7 @@ pub record IsRightSave (job : Job) (draws : Draws) (digest bytes : List ℕ) : T
 
 -- ---- the newest slot
 
--- the slot is not intact
+-- the slot is not valid
 abbrev pub IsNotIntact : Slot → Type 0
 IsNotIntact slot = generation_of slot ≡ None
 
@@ -63,7 +63,7 @@ bytes_at p (Some n) = stored p n
 abbrev pub newest_bytes : Job → List ℕ → Pair → Stored
 newest_bytes job digest p = bytes_at p (newest_for job digest p)
 
--- the save went to this slot, with a checkpoint of either version, of this generation and of outcomes that fit the job
+-- the save went to this slot, with a checkpoint of either version, of this generation and of plausible outcomes
 pub record IsSaveAt (job : Job) (digest : List ℕ) (number generation : ℕ) (c : Try) : Type 0 where
   pub slot : c.slot ≡ number
   pub version : ℕ
@@ -72,7 +72,7 @@ pub record IsSaveAt (job : Job) (digest : List ℕ) (number generation : ℕ) (c
   pub sound : IsCheckpoint (checkpoint version digest generation outcomes) version digest generation outcomes
   pub fit : IsTrue (list_all (fits job) outcomes)
 
--- each save went to the place, which moves on to the other slot and the next generation after each that succeeded
+-- each save went to the current place, which moves to the other slot and the next generation after each success
 abbrev pub AreInTurn : Job → List ℕ → ℕ → ℕ → List Try → Type 0
 AreInTurn job digest number generation [] = ⊤
 AreInTurn job digest number generation (c ∷ rest) =
@@ -92,8 +92,8 @@ pub record IsLatest (carried : List Try) (bytes : List ℕ) : Type 0 where
   pub failed : All HasFailed later
   pub same : save.bytes ≡ bytes
 
--- where no save succeeded, the newest slot is whole, and elsewhere it is the last that succeeded or a later one; where one that failed has
--- left all its bytes, it may be that one
+-- no save succeeded and the newest slot is unchanged, or it is a save after which none succeeded: the last success, or
+-- a failed save that left all its bytes
 abbrev pub KeepsNewest : Job → List ℕ → Pair → List Try → Pair → Type 0
 KeepsNewest job digest before carried after =
     (All HasFailed carried × (newest_bytes job digest after ≡ newest_bytes job digest before))

@@ -1,4 +1,4 @@
--- Exactly which saves a run tries, by the order in which the outcomes of its ids were taken in.
+-- The exact save attempts of a run, by the order in which the outcomes of its ids were taken in.
 use Rattle.std.specs.Prelude.{◌≡◌, ℕ, suc, ◌+◌, ◌*◌, ◌/◌, ◌%◌, ◌≤◌, ◌==◌, ◌&&◌, Bool, false, cond, List, [], ◌∷◌, ◌++◌, length, map, take, ⊤, IsPermutation, zero, ◌-◌, ◌||◌, not, count_by}
 use Rattle.audit_model.specs.Tries.{Try}
 use Rattle.audit_model.specs.declared.outcome.Outcome.{Outcome}
@@ -9,72 +9,73 @@ use Rattle.audit_statement.specs.Checkpoint.{IsCheckpoint, checkpoint, job_diges
 use Rattle.audit_model.specs.declared.place.Place.{Place}
 use Rattle.audit_statement.specs.Draw.{draw}
 
--- the other slot, with the next generation of three in turn
+-- the other slot, with the next of three generations
 abbrev pub next_place : Place → Place
 next_place p = record { slot = 1 - p.slot; generation = (p.generation + 1) % 3 }
 
--- moved on so often
+-- the place after n moves
 abbrev pub moved : ℕ → Place → Place
 moved zero p = p
 moved (suc n) p = next_place (moved n p)
 
--- how many saves are made for so many posts: one for each whole group, and a last one where the last post had none
+-- the number of saves for a number of hand-ins: one for each full group, and a last one if the last hand-in had none
 abbrev pub saves_of : ℕ → ℕ → ℕ
 saves_of posts every = posts / every + cond {A = ℕ} ((posts == 0) || not (posts % every == 0)) 1 0
 
--- how many of them failed
+-- the number of failed attempts
 abbrev pub failed_of : List Try → ℕ
 failed_of tries = count_by (λ t. not t.succeeded) tries
 
--- the outcomes of the opening and what the trajectories of these ids find, by rising id
+-- the initial outcomes and those of the trajectories of these ids, by rising id
 abbrev pub taken_in : Job → List Outcome → List ℕ → List Outcome
 taken_in job opening ids = by_id (total job) (opening ++ map (outcome job (draw job.setting.key)) ids)
 
--- the save went to this place, with the checkpoint of the opening and of these ids, which holds each outcome of the opening and of an id once
+-- the save went to this place, with the checkpoint of the initial outcomes and of these ids, each once
 pub record IsSaveOfIds (job : Job) (opening : List Outcome) (place : Place) (ids : List ℕ) (t : Try) : Type 0 where
   pub slot : t.slot ≡ place.slot
   pub bytes : t.bytes ≡ checkpoint 2 (job_digest job) place.generation (taken_in job opening ids)
   pub sound : IsCheckpoint t.bytes 2 (job_digest job) place.generation (taken_in job opening ids)
   pub all : IsPermutation (opening ++ map (outcome job (draw job.setting.key)) ids) (taken_in job opening ids)
 
--- a save that succeeded moves the place on to the other slot and the next generation, and one that failed leaves it
+-- a success moves the place to the other slot and the next generation; a failure leaves it
 abbrev pub place_after : Place → Try → Place
 place_after place t = cond t.succeeded (next_place place) place
 
--- the n-th save is of the first n times as many ids as a save is asked for after, and of all where there are fewer; the next one is of as many more,
--- and so on, each at the place after the last that succeeded
+-- The first of these saves is of the first n * every ids, or of all if there are fewer; each later one is of `every`
+-- more. Each goes to the place after the last success.
 abbrev pub AreSavesFrom : Job → List Outcome → ℕ → List ℕ → ℕ → Place → List Try → Type 0
 AreSavesFrom job opening every walked n place [] = ⊤
 AreSavesFrom job opening every walked n place (t ∷ rest) =
     IsSaveOfIds job opening place (take (n * every) walked) t
     × AreSavesFrom job opening every walked (suc n) (place_after place t) rest
 
--- whether the last of the saves succeeded
+-- the last of the attempts succeeded
 abbrev pub last_succeeded_from : Bool → List Try → Bool
 last_succeeded_from last [] = last
 last_succeeded_from last (t ∷ tries) = last_succeeded_from t.succeeded tries
 
--- the same of all saves; where there are none, none did
+-- the last of all attempts succeeded, if there are any
 abbrev pub last_succeeded : List Try → Bool
 last_succeeded tries = last_succeeded_from false tries
 
--- how many saves a run tries that tries these: one for each time that as many ids were taken in as was asked for, and one more of all ids, but where
--- the last of the former was of all of them and succeeded
+-- the number of attempts: one per `every` ids, and one more of all ids unless the last of these was of all and
+-- succeeded
 abbrev pub count_of_tries : ℕ → ℕ → List Try → ℕ
 count_of_tries every ids tries =
     ids / every + cond {A = ℕ} ((ids % every == 0) && last_succeeded (take (ids / every) tries)) 0 1
 
--- these are exactly the saves of a run that started with this opening and this place, and took in the outcomes of these ids in this order
+-- exactly the save attempts of a run that started with these outcomes and this place and took in these ids in this
+-- order
 pub record AreSavesOf (job : Job) (opening : List Outcome) (every : ℕ) (place : Place) (walked : List ℕ) (tries : List Try) : Type 0 where
   pub each : AreSavesFrom job opening every walked 1 place tries
   pub counted : length tries ≡ count_of_tries every (length walked) tries
 
--- the first of these saves: all of them, or fewer
+-- the first of these attempts, or all of them
 pub record AreFirstSavesOf (job : Job) (opening : List Outcome) (every : ℕ) (place : Place) (walked : List ℕ) (tries : List Try) : Type 0 where
   pub each : AreSavesFrom job opening every walked 1 place tries
   pub few : length tries ≤ count_of_tries every (length walked) tries
 
--- the saves so far of a run that takes in these ids, each once, in any order
+-- the save attempts so far of a run that takes in these ids, each once, in any order
 pub record AreSavesSoFar (job : Job) (opening : List Outcome) (every : ℕ) (place : Place) (ids : List ℕ) (tries : List Try) : Type 0 where
   pub walked : List ℕ
   pub all_walked : IsPermutation walked ids

@@ -1,13 +1,13 @@
--- What a call leaves as it was, in terms of its status and of the words.
+-- The parts of the outside that a call leaves unchanged, by its status and its arguments.
 use Rattle.std.specs.Prelude.{◌≡◌, ◌≢◌, ℕ, List, IsFalse, Ok, IsErr}
 use Rattle.audit_model.specs.declared.setting.Setting.{Setting}
 use Rattle.audit_statement.specs.Words.{setting_of}
 use Rattle.audit_statement.specs.Endings.{is_reading, saves, loads}
 use Rattle.audit_statement.specs.World.{World}
 
--- a refusal writes nothing, saves nothing and tries no save, nor does want of memory or a failed read or load; nothing is written where work is left;
--- refused words leave the source alone, and so does a command that does not read it; a command that does not save or load leaves the
--- slots and the counts of the keeper
+-- A refusal, a failed read or load and out of memory write nothing and attempt no save. Nothing is written if work is
+-- left. Refused arguments, and commands that do not read, leave the source. Commands that do not save or load leave the
+-- slots and the keeper's counts.
 pub record LeavesAlone (words : List (List ℕ)) (before after : World) (status : ℕ) : Type 0 where
   pub unwritten : status ≢ 0 → status ≢ 5 → status ≢ 9 → after.out.bytes ≡ before.out.bytes
   pub unsaved : status ≢ 0 → status ≢ 5 → status ≢ 7 → status ≢ 9 → after.keeper.slots ≡ before.keeper.slots

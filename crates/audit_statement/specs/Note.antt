@@ -1,5 +1,5 @@
--- The line that tells why a run ended without a whole report.
--- This project's formats. A line is a list of texts, put together; the code writes one after the other.
+-- The diagnostic: the line that says why a run ended without a whole report. This project's formats. A line is a list
+-- of texts, put together; the code writes one after another.
 use Rattle.std.specs.Prelude.{ℕ, List, [], ◌∷◌, ◌++◌, codes, decimal}
 use Rattle.hex.specs.Hex.{encode_lower}
 use Rattle.audit_model.specs.declared.fault.CkptFault.{CkptFault}
@@ -22,7 +22,7 @@ use Rattle.audit_model.specs.declared.setting.Columns.{Columns}
 use Rattle.audit_model.specs.Names.{name_text}
 use Rattle.audit_statement.specs.Slots.{Slot, absent, broken, other, ours}
 
--- why a run ended; regions with the name of their column, and the plan of a table with its name
+-- the reason why a run ended; faults of regions carry their column, and faults of a table's plan its name
 pub data Ending : Type 0 where
   bad_words : WordFault → Ending
   too_many_bytes : Ending
@@ -41,7 +41,7 @@ pub data Ending : Type 0 where
   other_job : List ℕ → List ℕ → Ending
   save_fault : Ending
 
--- the texts of a line in their order: what is said, and the names and numbers that go with it
+-- the texts of a line in order: the message, and its names and numbers
 abbrev pub word_note : WordFault → List (List ℕ)
 word_note word.NoCommand = codes "no command" ∷ []
 word_note (word.UnknownCommand w) = codes "unknown command " ∷ w ∷ []
@@ -60,7 +60,7 @@ part_name part.Adjacency = codes "adjacency"
 part_name part.Directed = codes "directed"
 part_name part.Multigraph = codes "multigraph"
 
--- the name of a column, as the words give it
+-- the name of a column, as the arguments give it
 abbrev pub column_name : Columns → Column → List ℕ
 column_name columns column.Population = columns.population
 column_name columns column.First = columns.first
@@ -69,7 +69,7 @@ column_name columns column.District = columns.district
 column_name columns column.Group = columns.group
 column_name columns column.Whole = columns.whole
 
--- of a graph that is refused
+-- the message for a graph's fault
 abbrev pub graph_note : Columns → GraphFault → List (List ℕ)
 graph_note columns graph.NotJson = codes "not JSON" ∷ []
 graph_note columns (graph.BadShape p) = codes "bad shape of " ∷ part_name p ∷ []
@@ -87,14 +87,14 @@ graph_note columns (graph.BadLabel i) = codes "node " ∷ decimal i ∷ codes " 
 graph_note columns (graph.DistrictCount n) = decimal n ∷ codes " districts, not 2 to 200" ∷ []
 graph_note columns graph.Memory = codes "memory" ∷ []
 
--- of regions that are refused
+-- the message for a fault of the regions
 abbrev pub region_note : List ℕ → RegionFault → List (List ℕ)
 region_note column (region.Missing i) = codes "node " ∷ decimal i ∷ codes " has no column " ∷ column ∷ []
 region_note column (region.BadLabel i) = codes "node " ∷ decimal i ∷ codes " has no usable label in column " ∷ column ∷ []
 region_note column (region.TooMany n) = decimal n ∷ codes " regions, more than 5000" ∷ []
 region_note column region.Memory = codes "memory" ∷ []
 
--- of a table that is refused
+-- the message for a table's fault
 abbrev pub table_note : TableFault → List (List ℕ)
 table_note (table.Unreadable r) = codes "record " ∷ decimal r ∷ codes " is unreadable" ∷ []
 table_note table.NoHeader = codes "no header" ∷ []
@@ -107,7 +107,7 @@ table_note (table.MissingUnit u) = codes "unit " ∷ decimal u ∷ codes " is mi
 table_note (table.DistrictCount i n) = codes "plan " ∷ decimal i ∷ codes " has " ∷ decimal n ∷ codes " districts, not 2 to 200" ∷ []
 table_note table.Memory = codes "memory" ∷ []
 
--- of a plan that is refused
+-- the message for a plan's fault
 abbrev pub plan_note : PlanFault → List (List ℕ)
 plan_note plan.NoVotes = codes "no votes" ∷ []
 plan_note (plan.OutOfBounds d population low high) = codes "district " ∷ decimal d ∷ codes " has population " ∷ decimal population ∷ codes ", outside " ∷ decimal low ∷ codes " to " ∷ decimal high ∷ []
@@ -119,7 +119,7 @@ plan_note (plan.TooManySplitRegions regions most) = decimal regions ∷ codes " 
 plan_note (plan.TooFewMajorities districts least) = codes "the group has a majority in " ∷ decimal districts ∷ codes " districts, fewer than " ∷ decimal least ∷ []
 plan_note plan.Memory = codes "memory" ∷ []
 
--- why a slot is no checkpoint, in a word or two
+-- the reason why a slot is no checkpoint, in a word or two
 abbrev pub fault_name : CkptFault → List ℕ
 fault_name (ckpt.TooLong n) = codes "too long"
 fault_name (ckpt.TooShort n) = codes "too short"
@@ -132,7 +132,7 @@ fault_name (ckpt.BadDigest found computed) = codes "bad digest"
 fault_name (ckpt.Unfit n) = codes "unfit"
 fault_name ckpt.Memory = codes "memory"
 
--- a slot of a keeper that holds nothing intact
+-- a slot of a keeper that holds nothing valid
 abbrev pub slot_name : Slot → List ℕ
 slot_name absent = codes "absent"
 slot_name (broken f) = fault_name f
@@ -158,7 +158,7 @@ note_pieces columns (damaged first second) = codes "checkpoint: slot 0 " ∷ slo
 note_pieces columns (other_job found wanted) = codes "checkpoint: other job " ∷ encode_lower found ∷ codes ", this job " ∷ encode_lower wanted ∷ []
 note_pieces columns save_fault = codes "checkpoint save fault" ∷ []
 
--- the pieces one after the other, and a line feed
+-- the pieces one after another, and a line feed
 abbrev pub as_line : List (List ℕ) → List ℕ
 as_line [] = 10 ∷ []
 as_line (piece ∷ pieces) = piece ++ as_line pieces

@@ -1,17 +1,16 @@
--- From which bytes a job comes, where the words ask to be told.
--- FIPS 180-4 for SHA-256.
+-- The bytes that a job comes from, if the arguments ask for it. FIPS 180-4 for SHA-256.
 use Rattle.std.specs.Prelude.{ℕ, List, length, Bool, true, false, Option, Some, None}
 use Rattle.sha2.specs.Sha256.{sha256}
 use Rattle.audit_model.specs.declared.origin.Origin.{Origin}
 use Rattle.audit_model.specs.declared.setting.Setting.{Setting}
 use Rattle.audit_model.specs.Job.{Job}
 
--- the digest of the bytes, and how many they are
+-- the digest and the number of the bytes
 abbrev pub origin_if : Bool → List ℕ → Option Origin
 origin_if true bytes = Some (record { sha256 = sha256 bytes; bytes = length bytes })
 origin_if false bytes = None
 
--- the same, where the setting asks for it
+-- the origin, if the setting asks for it
 abbrev pub origin_of : Setting → List ℕ → Option Origin
 origin_of setting bytes = origin_if setting.source bytes
 

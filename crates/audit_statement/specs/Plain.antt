@@ -1,6 +1,6 @@
--- A run with none of the features that may be left out: its plans, what its trajectories find, and its report.
--- Chikina, Frieze and Pegden 2017 for the walks, Besag and Clifford 1989 for the hub and the ends. The report is written at once from the
--- plans; there are no outcomes, workers or checkpoints between.
+-- A plain run: its plans, its trajectories and its report. Chikina, Frieze and Pegden 2017 for the walks, Besag and
+-- Clifford 1989 for the hub and the endpoints. The report is defined directly on the plans, without outcomes, workers
+-- or checkpoints.
 use Rattle.std.specs.Prelude.{◌↔◌, ℕ, zero, suc, ◌+◌, ◌*◌, ◌/◌, ◌%◌, ◌^◌, ◌==◌, ◌&&◌, Bool, IsTrue, cond, not, nat_lt, List, [], ◌∷◌, ◌++◌, slice_set, bytes_eq, codes, decimal, flat_map}
 use Rattle.hex.specs.Hex.{encode_lower}
 use Rattle.audit_model.specs.declared.setting.Ask.{Ask}
@@ -15,59 +15,59 @@ use Rattle.audit_statement.specs.Report.{ask_words, billionths, graph_line, line
 abbrev pub Decides : Job → (List ℕ → Bool) → Type 0
 Decides job valid = (plan : List ℕ) → IsTrue (valid plan) ↔ IsValid job plan
 
--- the texts that a function gives of each number below the bound, one after the other
+-- the texts of a function for the numbers below the bound, one after another
 abbrev pub each_below : ℕ → (ℕ → List ℕ) → List ℕ
 each_below zero text = []
 each_below (suc n) text = each_below n text ++ text n
 
--- whether a plan is at least as extreme as the start
+-- a plan is at least as extreme as the start plan
 abbrev pub is_extreme : Job → Ask → List ℕ → Bool
 is_extreme job ask plan = in_tail ask.tail (plan_value job plan ask.score) (plan_value job job.start ask.score)
 
 module _ (job : Job) (valid : List ℕ → Bool) where
-  -- One step: a draw below the greatest multiple of the number of pairs of a unit and a district picks a pair; the plan with this unit in this
-  -- district is taken where it is valid.
+  -- One step. A draw below the greatest multiple of the number of pairs of a unit and a district picks a pair. The plan
+  -- with this unit in this district is taken if it is valid.
   unfoldable pub after_step : List ℕ → ℕ → List ℕ
   after_step plan draw =
       let pairs = job.graph.units * job.districts in
       let moved = slice_set plan (draw % pairs / job.districts) (draw % pairs % job.districts) in
       cond (nat_lt draw (2 ^ 64 / pairs * pairs) && valid moved) moved plan
 
-  -- the plan after so many steps, each with the draw at its place
+  -- the plan after this many steps, each with the draw at its place
   unfoldable pub plan_after : (ℕ → ℕ) → List ℕ → ℕ → List ℕ
   plan_after draws plan zero = plan
   plan_after draws plan (suc i) = after_step (plan_after draws plan i) (draws i)
 
-  -- how many steps of an outlier trajectory, which begins at the start plan, change the plan
+  -- the number of steps of a walk from the start plan that change the plan
   abbrev pub changes : (ℕ → ℕ) → ℕ
   changes draws =
       count_below job.setting.steps (λ i. not (bytes_eq (plan_after draws job.start i) (plan_after draws job.start (suc i))))
 
-  -- how many of the plans that the outlier trajectory visits, the start among them, are so
+  -- the number of extreme plans among those that a walk visits, the start plan included
   abbrev pub extreme_visits : (ℕ → ℕ) → Ask → ℕ
   extreme_visits draws ask = count_below (job.setting.steps + 1) (λ i. is_extreme job ask (plan_after draws job.start i))
 
   module _ (draws : Draws) where
-    -- the plan from which the trajectories of the parallel test begin
+    -- the plan from which the endpoint trajectories begin
     abbrev pub hub : List ℕ
     hub = plan_after (draws 1) job.start job.setting.hub_steps
 
-    -- the last plan of each of these
+    -- the last plan of each endpoint trajectory
     abbrev pub end : ℕ → List ℕ
     end n = plan_after (draws (2 * n + 3)) hub job.setting.hub_steps
 
-    -- the start's rank among these last plans
+    -- the start plan's rank among these last plans
     abbrev pub start_rank : Ask → ℕ
     start_rank ask = 1 + count_below job.setting.ends (λ n. is_extreme job ask (end n))
 
-    -- what an outlier trajectory found for an ask, on its own stream of draws
+    -- the line of a walk for an ask
     abbrev pub outlier_line : ℕ → Ask → List ℕ
     outlier_line n ask = line (
         (codes "walk" ∷ decimal n ∷ codes "moved" ∷ decimal (changes (draws (2 * n))) ∷ []) ++ ask_words job ask
         ++ codes "count" ∷ decimal (extreme_visits (draws (2 * n)) ask) ∷ codes "of" ∷ decimal (job.setting.steps + 1)
         ∷ codes "bound" ∷ billionths (bound (extreme_visits (draws (2 * n)) ask) (job.setting.steps + 1)) ∷ [])
 
-    -- what the parallel test found for an ask
+    -- the line of the parallel test for an ask
     abbrev pub parallel_line : Ask → List ℕ
     parallel_line ask = line (
         (codes "ends" ∷ []) ++ ask_words job ask

@@ -1,5 +1,5 @@
--- When a run with none of the features that may be left out ends well: it cannot refuse a graph that is as it has to be.
--- This project's claim. It is the other direction: what status 0 means is said by itself.
+-- Plain runs that end well: a graph within the limits cannot be refused. This project's claim. It is the converse of
+-- the claim on status 0.
 use Rattle.std.specs.Prelude.{◌≡◌, ◌⊎◌, ℕ, ◌≤◌, IsTrue, List, ◌∷◌, length, codes, Some, Ok, true, Bool, IsFalse}
 use Rattle.std.specs.Str.{is_utf8}
 use Rattle.serde_json.specs.Data.{Data, boolean}
@@ -18,12 +18,12 @@ use Rattle.audit_model.specs.Graph.{count_edges}
 use Rattle.audit_model.specs.JobOf.{lacks_votes}
 use Rattle.audit_model.specs.Limits.{most_districts, most_edges, most_people, most_units}
 
--- where there is a value at the key, it is a truth value
+-- the value at the key, if any, is a Boolean
 abbrev pub IsFlag : List ℕ → Data → Type 0
 IsFlag key root = (value : Data) → get key root ≡ Some value → (b : Bool) × (value ≡ boolean b)
 
--- The limits: at most 100,000 units, 400,000 edges and 200 districts, two at least, and 10 ^ 9 people or votes of a unit; truth values where networkx
--- writes such; and votes, where the gap is asked for.
+-- The limits: at most 100,000 units, 400,000 edges and 2 to 200 districts, and at most 10 ^ 9 people or votes per unit.
+-- The flags that networkx writes are Booleans. There are votes if the efficiency gap is asked for.
 pub record IsAllowed (root : Data) (job : Job) : Type 0 where
   pub directed : IsFlag (codes "directed") root
   pub multigraph : IsFlag (codes "multigraph") root
@@ -36,7 +36,8 @@ pub record IsAllowed (root : Data) (job : Job) : Type 0 where
   pub second : All (λ n. n ≤ most_people) job.counts.second
   pub votes : IsFalse (lacks_votes job)
 
--- the words are accepted, and the bytes are JSON that gives a job of their setting with a valid start plan, all within the limits
+-- the arguments are accepted, and the bytes are JSON within the limits that gives a job of their setting with a valid
+-- start plan
 pub record AreWellFormed (words : List (List ℕ)) (bytes : List ℕ) : Type 0 where
   pub job : Job
   pub words_are : setting_of words ≡ Ok job.setting
@@ -55,8 +56,8 @@ pub record NoneFailed (before after : World) : Type 0 where
   pub loads : Rose before.keeper.load_faults.all after.keeper.load_faults.all → ⊥
   pub saves : Rose before.keeper.save_faults after.keeper.save_faults → ⊥
 
--- a call on the word 'run' and words that name none of the features that may be left out, over a source that tells its bytes, where the words and the
--- bytes are fit and nothing failed, ends with status 0, or with 3, for want of memory
+-- a call with the word `run` and plain arguments over an observable, well-formed source, in which nothing failed, ends
+-- with status 0, or with 3 if memory ran out
 abbrev pub EndsPlainly : List (List ℕ) → World → World → ℕ → Type 0
 EndsPlainly words before after status = (rest : List (List ℕ)) (bytes : List ℕ) → words ≡ codes "run" ∷ rest → ArePlain rest
     → before.source.bytes ≡ Some bytes → AreWellFormed words bytes → NoneFailed before after → (status ≡ 0) ⊎ (status ≡ 3)

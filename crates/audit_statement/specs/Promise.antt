@@ -1,7 +1,7 @@
--- All that the top call promises of one call, from its words and the outside before and after it: the headline first.
--- What follows from what: `ends` says all of how a call ended, for each reason. `written`, `early`, `causes`, `complete` and `left_alone` follow from it alone:
--- they say the same by statuses and by what is told, without the reason. `chain` and `tried` follow from it and from the laws on slots. `legal` stands by itself: it
--- follows from what is accepted.
+-- The promise of the top call for one call, from its arguments and the outside before and after it; the headline comes
+-- first. `ends` says everything about how a call ended, for each reason. `written`, `early`, `causes`, `complete` and
+-- `left_alone` follow from it: they restate it by statuses and observable facts, without the reason. `chain` and
+-- `tried` follow from it and from the laws on slots. `legal` follows from what is accepted.
 use Rattle.std.specs.Prelude.{ℕ, List}
 use Rattle.audit_statement.specs.Causes.{HasCauses, IsComplete}
 use Rattle.audit_statement.specs.Chain.{StaysHonest, TriedRightly}
@@ -13,9 +13,10 @@ use Rattle.audit_statement.specs.Visits.{VisitsLegal}
 use Rattle.audit_model.specs.State.{Stream}
 use Rattle.audit_statement.specs.World.{World}
 
--- with status 0 the report of one thread was written; tests that stop early stop where one thread's do; every visited plan is legal; from honest slots
--- a run goes on rightly and leaves honest slots; each save that was tried is right; the call ended for a reason, and the note tells it; which status
--- comes exactly where; when all is done; and what is left as it was
+-- With status 0, the report of one thread was written, with early-stopping tests at their places. Every visited plan is
+-- legal. From consistent slots, a run resumes rightly and leaves consistent slots, and each save attempt is right. The
+-- call ended for a reason, which the diagnostic says. Each status comes exactly when it must, and the rest is
+-- unchanged.
 pub record KeepsItsPromise (words : List (List ℕ)) (before after : World) (note_before note_after : Stream) (status : ℕ) : Type 0 where
   pub written : WritesWhole words before after status
   pub early : EndsEarly words before after status

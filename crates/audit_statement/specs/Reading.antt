@@ -1,6 +1,5 @@
--- The graph that networkx adjacency data holds, or the first reason to refuse it.
--- networkx's adjacency format, which GerryChain's `Graph.from_json` reads; JSON is what `serde_json` reads. Edges are a test on pairs; the
--- code looks ids up and sorts.
+-- The graph of networkx adjacency data, or the first fault. networkx's adjacency format, which GerryChain's
+-- `Graph.from_json` reads; JSON is what `serde_json` reads. Edges are a test on pairs; the code looks ids up and sorts.
 use Rattle.std.specs.Prelude.{ℕ, ◌==◌, ◌&&◌, ◌||◌, Bool, true, false, not, cond, nat_lt, nat_le, List, [], ◌∷◌, length, map, codes, Option, Some, None, is_some, is_none, unwrap_or, option_map, option_and_then, Result, Ok, Err}
 use Rattle.std.specs.List.{slice_index_or, list_all}
 use Rattle.std.specs.Str.{is_utf8}
@@ -23,7 +22,7 @@ use Rattle.audit_model.specs.Label.{same_label, label_before}
 use Rattle.audit_model.specs.Parsed.{Parsed}
 use Rattle.audit_model.specs.Limits.{most_people, most_units, most_edges, most_districts}
 
--- the fault where the test passes, and nothing elsewhere
+-- the fault if the test passes, else nothing
 abbrev pub refused_if : {A : Type 0} → Bool → A → Option A
 refused_if b f = cond b (Some f) None
 
@@ -34,7 +33,7 @@ abbrev pub elements : Items → List Data
 elements no_items = []
 elements (item d ds) = d ∷ elements ds
 
--- the elements, where it is an array
+-- the elements, if it is an array
 abbrev pub list_of : Data → Option (List Data)
 list_of d = option_map elements (as_array d)
 
@@ -42,11 +41,11 @@ list_of d = option_map elements (as_array d)
 abbrev pub list_at : List ℕ → Data → Option (List Data)
 list_at key root = option_and_then list_of (get key root)
 
--- there is a value at the key, and it is no truth value
+-- there is a value at the key, and it is not a Boolean
 abbrev pub is_no_flag : List ℕ → Data → Bool
 is_no_flag key root = unwrap_or (option_map (λ d. is_none (as_bool d)) (get key root)) false
 
--- the first part that has not its shape
+-- the first part of wrong shape
 abbrev pub bad_part : Data → Option Part
 bad_part root = first_some (
     refused_if (is_none (as_object root)) part.Root
@@ -56,13 +55,13 @@ bad_part root = first_some (
     ∷ refused_if (is_no_flag (codes "multigraph") root) part.Multigraph
     ∷ [])
 
--- what is read of the root
+-- the parts of the root
 pub record Document : Type 0 where
   pub nodes : List Data
   pub adjacency : List (List Data)
   pub directed : Bool
 
--- the parts of the root, and nothing in the place of one that is not there
+-- the parts of the root, with empty values for missing parts
 abbrev pub document : Data → Document
 document root = record {
   nodes = unwrap_or (list_at (codes "nodes") root) [];
@@ -72,7 +71,7 @@ document root = record {
 
 -- ---- ids and edges
 
--- a whole number or a text
+-- an integer or a text
 abbrev pub label_of : Data → Option Label
 label_of null = None
 label_of (boolean b) = None
@@ -81,18 +80,18 @@ label_of (string s) = Some (Word s)
 label_of (array ds) = None
 label_of (object ms) = None
 
--- the id of a node, or of an entry of a list of neighbours
+-- the id of a node or of an adjacency entry
 abbrev pub id_of : Data → Option Label
 id_of d = option_and_then label_of (get (codes "id") d)
 
--- both are there and are the same
+-- both are present and equal
 abbrev pub same_id : Option Label → Option Label → Bool
 same_id None other = false
 same_id (Some a) None = false
 same_id (Some a) (Some b) = same_label a b
 
 module _ (read_of : Document) where
-  -- how many nodes there are
+  -- the number of nodes
   abbrev pub node_count : ℕ
   node_count = length read_of.nodes
 
@@ -100,23 +99,23 @@ module _ (read_of : Document) where
   abbrev pub node : ℕ → Data
   node i = slice_index_or read_of.nodes i null
 
-  -- the entries of the neighbours of a node
+  -- the adjacency list of a node
   abbrev pub entries : ℕ → List Data
   entries i = slice_index_or read_of.adjacency i []
 
-  -- the entry at a place of these
+  -- the entry at a place of the list
   abbrev pub entry : ℕ → ℕ → Data
   entry i place = slice_index_or (entries i) place null
 
-  -- whether a node lists another
+  -- a node lists another
   abbrev pub lists : ℕ → ℕ → Bool
   lists i j = any_below (length (entries i)) (λ place. same_id (id_of (entry i place)) (id_of (node j)))
 
-  -- whether two different nodes are joined: at least one lists the other
+  -- two distinct nodes are adjacent: at least one lists the other
   abbrev pub joined : ℕ → ℕ → Bool
   joined i j = not (i == j) && (lists i j || lists j i)
 
-  -- the graph: the neighbours of each node in rising order
+  -- the graph, with the neighbors of each node in rising order
   abbrev pub graph : Graph
   graph = record { units = node_count; neighbours = map_below node_count (λ i. filter_below node_count (joined i)) }
 
@@ -140,11 +139,11 @@ module _ (read_of : Document) where
     abbrev pub cell : ℕ → Column → Option Data
     cell i c = get (key_of c) (node i)
 
-    -- a whole number from 0 to 10 ^ 9
+    -- an integer from 0 to 10 ^ 9
     abbrev pub count_of : Data → Option ℕ
     count_of d = option_and_then (λ n. cond (nat_le n most_people) (Some n) None) (option_and_then as_u64 (as_number d))
 
-    -- the number in a node's column, and 0 where there is none
+    -- the number in a node's column, or 0 without one
     abbrev pub count_at : Column → ℕ → ℕ
     count_at c i = unwrap_or (option_and_then count_of (cell i c)) 0
 
@@ -156,28 +155,28 @@ module _ (read_of : Document) where
     abbrev pub is_new_label : ℕ → Bool
     is_new_label i = not (any_below i (λ j. same_label (label_at j) (label_at i)))
 
-    -- how many different labels there are
+    -- the number of distinct labels
     abbrev pub label_count : ℕ
     label_count = count_below node_count is_new_label
 
-    -- how many different labels are before the node's
+    -- the number of distinct labels before the node's
     abbrev pub district_at : ℕ → ℕ
     district_at i = count_below node_count (λ j. is_new_label j && label_before (label_at j) (label_at i))
 
-    -- ---- the refusals, each at its least place
+    -- ---- the faults, each at its least place
 
-    -- the first node whose id an earlier one has, and the first that has it
+    -- the first node whose id an earlier node has, and that node
     abbrev pub repeated_id : Option GraphFault
     repeated_id = option_map
         (λ j. fault.SameId (unwrap_or (first_below j (λ i. same_id (id_of (node i)) (id_of (node j)))) 0) j)
         (first_below node_count (λ j. any_below j (λ i. same_id (id_of (node i)) (id_of (node j)))))
 
-    -- the first entry of a list of neighbours that passes the test
+    -- the first adjacency entry that passes the test
     abbrev pub first_entry : (Data → Bool) → (ℕ → ℕ → GraphFault) → Option GraphFault
     first_entry test f = first_some_below node_count
         (λ i. option_map (f i) (first_below (length (entries i)) (λ place. test (entry i place))))
 
-    -- the first column that a node lacks
+    -- the first column missing in a node
     abbrev pub missing_column : ℕ → Option GraphFault
     missing_column i = option_map (fault.Missing i) (first_some (
         refused_if (is_none (cell i column.Population)) column.Population
@@ -188,7 +187,7 @@ module _ (read_of : Document) where
         ∷ refused_if (names_group && is_none (cell i column.Whole)) column.Whole
         ∷ []))
 
-    -- the first column of a node that has no such number
+    -- the first column of a node without a valid number
     abbrev pub bad_number : ℕ → Option GraphFault
     bad_number i = option_map (fault.BadNumber i) (first_some (
         refused_if (is_none (option_and_then count_of (cell i column.Population))) column.Population
@@ -198,7 +197,7 @@ module _ (read_of : Document) where
         ∷ refused_if (names_group && is_none (option_and_then count_of (cell i column.Whole))) column.Whole
         ∷ []))
 
-    -- the first refusal, in their order
+    -- the first fault, in their order
     abbrev pub refusal : Option GraphFault
     refusal = first_some (
         refused_if read_of.directed fault.Directed
@@ -215,7 +214,7 @@ module _ (read_of : Document) where
         ∷ refused_if (nat_lt label_count 2 || nat_lt most_districts label_count) (fault.DistrictCount label_count)
         ∷ [])
 
-    -- what is read where nothing is refused
+    -- the result if there is no fault
     abbrev pub parsed : Parsed
     parsed = record {
       graph = graph;
@@ -234,21 +233,21 @@ module _ (read_of : Document) where
 
 -- ---- the whole reading
 
--- what is read, where nothing is refused
+-- the result, if there is no fault
 abbrev pub accepted_or : {A : Type 0} → A → Option GraphFault → Result A GraphFault
 accepted_or x None = Ok x
 accepted_or x (Some f) = Err f
 
--- of a root, by its first part that has not its shape
+-- the result for a root, by its first part of wrong shape
 abbrev pub of_root : Columns → Data → Option Part → Result Parsed GraphFault
 of_root columns root (Some p) = Err (fault.BadShape p)
 of_root columns root None = accepted_or (parsed (document root) columns) (refusal (document root) columns)
 
--- of JSON, where it is any
+-- the result for JSON, if the text is JSON
 abbrev pub of_json : Columns → Option Data → Result Parsed GraphFault
 of_json columns None = Err fault.NotJson
 of_json columns (Some root) = of_root columns root (bad_part root)
 
--- the graph of a text, or the first refusal
+-- the graph of a text, or the first fault
 unfoldable pub reading : List ℕ → Columns → Result Parsed GraphFault
 reading bytes columns = of_json columns (cond (is_utf8 bytes) (read bytes) None)

@@ -1,5 +1,5 @@
--- The report, the check text, and their lines, as lists of bytes.
--- This project's formats. A text is one list of lines; the code appends to room that was made before.
+-- The report, the check text, and their lines, as lists of bytes. This project's formats. A text is one list of lines;
+-- the code appends to a preallocated buffer.
 use Rattle.std.specs.Prelude.{ℕ, zero, suc, ◌+◌, ◌-◌, ◌/◌, ◌%◌, ◌^◌, Bool, true, false, ◌||◌, cond, nat_lt, List, [], ◌∷◌, ◌++◌, length, map, replicate, slice_index, codes, decimal, flat_map, filter, zip, Option, Some, None, ℤ, unsigned_abs}
 use Rattle.std.specs.Fmt.{signed_decimal}
 use Rattle.hex.specs.Hex.{encode_lower}
@@ -20,13 +20,13 @@ use Rattle.audit_model.specs.Trajectory.{Draws, plan_value, rank, sequence, tall
 use Rattle.audit_statement.specs.Names.{score_name, tail_name}
 use Rattle.audit_model.specs.Limits.{most_edges, most_regions, most_splits}
 
--- the words with a space between each two, and a line feed at the end
+-- the words with single spaces between them, and a line feed at the end
 abbrev pub line : List (List ℕ) → List ℕ
 line [] = 10 ∷ []
 line (word ∷ []) = word ++ 10 ∷ []
 line (word ∷ next ∷ words) = word ++ 32 ∷ line (next ∷ words)
 
--- nine digits, with zeros in front
+-- nine digits, with leading zeros
 abbrev pub nine_digits : ℕ → List ℕ
 nine_digits n = replicate (9 - length (decimal n)) 48 ++ decimal n
 
@@ -38,7 +38,7 @@ billionths n = decimal (n / 10 ^ 9) ++ 46 ∷ nine_digits (n % 10 ^ 9)
 abbrev pub fraction : ℤ → ℕ → List ℕ
 fraction top bottom = signed_decimal top ++ 47 ∷ decimal bottom
 
--- how many units, edges and districts there are
+-- the numbers of units, edges and districts
 abbrev pub graph_line : Job → List ℕ
 graph_line job = line (
     codes "units" ∷ decimal job.graph.units ∷ codes "edges" ∷ decimal (count_edges job.graph (λ u v. true))
@@ -50,28 +50,28 @@ population_line job = line (
     codes "population" ∷ decimal (total_population job) ∷ codes "slack" ∷ decimal job.setting.slack
     ∷ codes "low" ∷ decimal (least_population job) ∷ codes "high" ∷ decimal (greatest_population job) ∷ [])
 
--- the most cut edges, where they are limited
+-- the limit on cut edges, if there is one
 abbrev pub cut_line : Job → List ℕ
 cut_line job = cond (nat_lt job.setting.max_cut most_edges) (line (codes "max-cut" ∷ decimal job.setting.max_cut ∷ [])) []
 
--- among how many districts a region may be split, and how many regions there are, where there are any
+-- the limit on districts per region and the number of regions, if there are any
 abbrev pub split_line : ℕ → List ℕ → List ℕ
 split_line max_split [] = []
 split_line max_split (r ∷ rest) = line (codes "max-split" ∷ decimal max_split ∷ codes "regions" ∷ decimal (region_count (r ∷ rest)) ∷ [])
 
--- how often regions may be split in all, and how many of them, where there are any and one of these is limited
+-- the limits on splits in all and on split regions, if there are regions and one limit is set
 abbrev pub splits_line : ℕ → ℕ → List ℕ → List ℕ
 splits_line max_splits max_split_regions [] = []
 splits_line max_splits max_split_regions (r ∷ rest) =
     cond (nat_lt max_splits most_splits || nat_lt max_split_regions most_regions)
     (line (codes "max-splits" ∷ decimal max_splits ∷ codes "max-split-regions" ∷ decimal max_split_regions ∷ [])) []
 
--- in how many districts a group is to have a majority, and in how many the start plan gives it one, where there is a group
+-- the required majorities and those of the start plan, if there is a group
 abbrev pub group_line : ℕ → ℕ → List ℕ → List ℕ
 group_line least there [] = []
 group_line least there (n ∷ rest) = line (codes "group-districts" ∷ decimal least ∷ codes "of" ∷ decimal there ∷ [])
 
--- the rules, where there are some
+-- the rules, if there are some
 abbrev pub rule_lines : Job → List ℕ
 rule_lines job =
     cut_line job
@@ -79,7 +79,7 @@ rule_lines job =
     ++ splits_line job.setting.max_splits job.setting.max_split_regions job.regions
     ++ group_line job.setting.group_districts (majorities job.group job.start) job.group.members
 
--- how many trajectories of how many steps there are
+-- the numbers of trajectories and of their steps
 abbrev pub setting_line : Job → List ℕ
 setting_line job = line (
     codes "walks" ∷ decimal job.setting.walks ∷ codes "steps" ∷ decimal job.setting.steps
@@ -91,48 +91,48 @@ ask_words job ask =
     score_name ask.score ∷ tail_name ask.tail ∷ codes "start"
     ∷ fraction (plan_value job job.start ask.score) (denominator ask.score job.districts (total_votes job)) ∷ []
 
--- what an outlier trajectory found for the ask at this place
+-- the line of a walk for the ask at this place
 abbrev pub walk_line : Job → Outcome → ℕ × Ask → List ℕ
 walk_line job found ask = line (
     (codes "walk" ∷ decimal found.id ∷ codes "moved" ∷ decimal found.moved ∷ []) ++ ask_words job ask.1
     ++ codes "count" ∷ signed_decimal (value_at found ask.0) ∷ codes "of" ∷ decimal (job.setting.steps + 1)
     ∷ codes "bound" ∷ billionths (bound (unsigned_abs (value_at found ask.0)) (job.setting.steps + 1)) ∷ [])
 
--- what the parallel test found for the ask at this place
+-- the line of the parallel test for the ask at this place
 abbrev pub ends_line : Job → List Outcome → ℕ × Ask → List ℕ
 ends_line job outcomes ask = line (
     (codes "ends" ∷ []) ++ ask_words job ask.1
     ++ codes "rank" ∷ decimal (rank job ask.1 ask.0 outcomes) ∷ codes "of" ∷ decimal (job.setting.ends + 1)
     ∷ codes "p" ∷ billionths (p_value (rank job ask.1 ask.0 outcomes) (job.setting.ends + 1)) ∷ [])
 
--- a line for each outlier trajectory and each ask
+-- a line for each walk and each ask
 abbrev pub walk_lines : Job → List Outcome → List ℕ
 walk_lines job outcomes =
     flat_map (λ found. flat_map (walk_line job found) (placed_asks job)) (filter (λ o. nat_lt o.id job.setting.walks) outcomes)
 
--- a line for each ask, where there are trajectories of the parallel test
+-- a line for each ask, if there are endpoint trajectories
 abbrev pub ends_lines : ℕ → Job → List Outcome → List ℕ
 ends_lines zero job outcomes = []
 ends_lines (suc ends) job outcomes = flat_map (ends_line job outcomes) (placed_asks job)
 
--- ---- what a run may ask for beside these lines
+-- ---- optional lines
 
--- after how many ends in the tail a test stops, where it stops early
+-- the number of endpoints in the tail at which a test stops, if tests stop early
 abbrev pub stop_line : ℕ → List ℕ
 stop_line zero = []
 stop_line (suc h) = line (codes "stop" ∷ decimal (suc h) ∷ [])
 
--- the first line tells whether the seats of the visited plans are told
+-- the title, whose version says if the report has a histogram
 abbrev pub title_line : Bool → List ℕ
 title_line true = line (codes "district-audit 2" ∷ [])
 title_line false = line (codes "district-audit 1" ∷ [])
 
--- the sum of each bin over the outcomes, where bins are asked for
+-- the summed histogram, if it is asked for
 abbrev pub shift_line : Bool → List Outcome → List ℕ
 shift_line true outcomes = line (codes "shift" ∷ map decimal (tally outcomes))
 shift_line false outcomes = []
 
--- where the test of an ask stopped: the place, and the numbers of its p-value
+-- the stop of an ask's test: the place, and the numbers of its p-value
 abbrev pub stopped_line : Job → Ask × List ℕ → List ℕ
 stopped_line job stopped = line (
     (codes "stop" ∷ []) ++ ask_words job stopped.0
@@ -140,12 +140,12 @@ stopped_line job stopped = line (
     ∷ codes "value" ∷ (decimal (slice_index stopped.1 1) ++ 47 ∷ decimal (slice_index stopped.1 2))
     ∷ codes "p" ∷ billionths (p_value (slice_index stopped.1 1) (slice_index stopped.1 2)) ∷ [])
 
--- a line for each ask: of all ends, or of those up to the stop
+-- a line for each ask: of all endpoints, or of those up to the stop
 abbrev pub test_lines : ℕ → Job → List Outcome → List (List ℕ) → List ℕ
 test_lines zero job outcomes stops = ends_lines job.setting.ends job outcomes
 test_lines (suc h) job outcomes stops = flat_map (stopped_line job) (zip job.setting.asks stops)
 
--- what the serial test found for the ask at a place: the place of the start plan in its run, and its rank
+-- the line of the serial test for the ask at a place: the start plan's position and rank
 abbrev pub serial_line : Job → ℕ → List ℕ → ℕ × Ask → List ℕ
 serial_line job place ranks ask = line (
     (codes "serial" ∷ []) ++ ask_words job ask.1
@@ -153,28 +153,28 @@ serial_line job place ranks ask = line (
     ∷ codes "rank" ∷ decimal (slice_index ranks ask.0) ∷ codes "of" ∷ decimal (job.setting.steps + 1)
     ∷ codes "p" ∷ billionths (p_value (slice_index ranks ask.0) (job.setting.steps + 1)) ∷ [])
 
--- a line for each ask, where the serial test was made
+-- a line for each ask, if the serial test was made
 abbrev pub serial_lines : Job → Option (ℕ × List ℕ) → List ℕ
 serial_lines job None = []
 serial_lines job (Some found) = flat_map (serial_line job found.0 found.1) (placed_asks job)
 
--- the column of the regions, where one is named
+-- the column of the regions, if one is named
 abbrev pub region_words : List ℕ → List (List ℕ)
 region_words [] = []
 region_words (c ∷ column) = codes "region" ∷ quoted (c ∷ column) ∷ []
 
--- the columns of a group, where one is named
+-- the columns of a group, if one is named
 abbrev pub group_words : List ℕ → List ℕ → List (List ℕ)
 group_words [] whole = []
 group_words (c ∷ column) whole = codes "group" ∷ quoted (c ∷ column) ∷ codes "of" ∷ quoted whole ∷ []
 
--- the names of the columns as JSON texts: population, votes, districts, and then what else is named
+-- the names of the columns as JSON texts: population, votes, districts, and optional ones
 abbrev pub columns_line : Columns → List ℕ → List ℕ
 columns_line columns region = line (
     (codes "columns" ∷ quoted columns.population ∷ quoted columns.first ∷ quoted columns.second ∷ quoted columns.district ∷ [])
     ++ region_words region ++ group_words columns.group columns.whole)
 
--- the digest of what was read, and the columns that were read of it, where the job tells its origin
+-- the digest of the source and its columns, if the job has an origin
 abbrev pub origin_lines : Job → Option Origin → List ℕ
 origin_lines job None = []
 origin_lines job (Some origin) =
@@ -183,7 +183,7 @@ origin_lines job (Some origin) =
 
 -- ---- whole texts
 
--- the report on these outcomes, on where the tests of the asks stopped, and on what the serial test found
+-- the report on these outcomes, the stops of the asks' tests and the serial test
 unfoldable pub report : Job → List Outcome → List (List ℕ) → Option (ℕ × List ℕ) → List ℕ
 report job outcomes stops serial =
     title_line job.setting.shift
@@ -200,11 +200,11 @@ report job outcomes stops serial =
     ++ serial_lines job serial
     ++ line (codes "end" ∷ [])
 
--- the report on outcomes that were all looked at
+-- the report on all outcomes, with their stops and the serial test
 abbrev pub full_report : Job → Draws → List Outcome → List ℕ
 full_report job draws outcomes = report job outcomes (stops_of job outcomes) (serial_told job draws)
 
--- the report that one thread gives by walking each trajectory once
+-- the report of one thread that walks each trajectory once
 unfoldable pub thread_report : Job → Draws → List ℕ
 thread_report job draws = full_report job draws (sequence job draws)
 
@@ -222,6 +222,6 @@ check_text job =
 abbrev pub plan_text : Draws → List ℕ × Job → List ℕ
 plan_text draws plan = line (codes "plan" ∷ plan.0 ∷ []) ++ thread_report plan.1 draws
 
--- the reports of several plans of one graph, one after the other
+-- the reports of several plans on one graph, one after another
 unfoldable pub plans_text : Draws → List (List ℕ × Job) → List ℕ
 plans_text draws plans = flat_map (plan_text draws) plans

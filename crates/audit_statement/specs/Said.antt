@@ -1,34 +1,34 @@
--- What the words of a run say, where they name none of the features that may be left out.
--- This project's words: 'run', and then a name and its value in turn.
+-- The meaning of plain arguments. This project's arguments: `run`, then an option and its value in turn.
 use Rattle.std.specs.Prelude.{◌≡◌, ℕ, ◌^◌, ◌<◌, List, [], ◌∷◌, codes, cond, decimal, bytes_eq, map, Ok}
 use Rattle.std.specs.List.{All}
 use Rattle.hex.specs.Hex.{decode_sized}
 use Rattle.audit_model.specs.declared.setting.Setting.{Setting}
 use Rattle.audit_statement.specs.Words.{ask_text, parts_between}
 
--- the value that the words give a name, or the other one where they do not name it
+-- the value that the arguments give an option, or the other value if they do not give it
 abbrev pub said : List (List ℕ) → List ℕ → List ℕ → List ℕ
 said [] name other = other
 said (word ∷ []) name other = other
 said (word ∷ value ∷ rest) name other = cond (bytes_eq word name) value (said rest name other)
 
--- they do not name it
+-- they do not give it
 abbrev pub IsSilent : List (List ℕ) → List ℕ → Type 0
 IsSilent words name = (other : List ℕ) → said words name other ≡ other
 
--- they save nothing and resume nothing, stop no test early, ask for no serial test and no bins, name no regions and no group, do not limit cut
--- edges, and do not ask for the digest of what is read;
--- a run that saves nothing walks all of its trajectories, so that nothing need be said of parts
+-- The arguments give none of the optional features: saves, resuming, early stopping, the serial test, histograms,
+-- regions, a limit on cut edges, a group, the origin. A run that saves nothing walks all its trajectories, so parts
+-- need no mention.
 abbrev pub ArePlain : List (List ℕ) → Type 0
 ArePlain words = All (IsSilent words) (
     codes "--save" ∷ codes "--resume" ∷ codes "--stop" ∷ codes "--serial" ∷ codes "--shift" ∷ codes "--region" ∷ codes "--max-cut"
     ∷ codes "--group" ∷ codes "--source" ∷ [])
 
--- the text is the digits of the number; of a number of more than 64 digits `decimal` has the last 64 alone
+-- the text is the digits of the number; `decimal` keeps the last 64 digits only
 abbrev pub IsSpelled : List ℕ → ℕ → Type 0
 IsSpelled text n = (decimal n ≡ text) × (n < 2 ^ 64)
 
--- the setting is what they say: keys of columns, a key of 32 bytes in hexadecimal digits, numbers in decimal digits, and asks between commas
+-- the setting is what the arguments say: column keys, a 32-byte key in hexadecimal, decimal numbers, and asks between
+-- commas
 pub record AreSaid (words : List (List ℕ)) (setting : Setting) : Type 0 where
   pub population : setting.columns.population ≡ said words (codes "--pop") []
   pub first : setting.columns.first ≡ said words (codes "--first") []

@@ -1,4 +1,5 @@
--- Several plans of one graph: as which jobs the input is accepted, how a call on it ends, and what follows from that by statuses and by what is told.
+-- Several plans on one graph: the accepted jobs, how a call ends, and its consequences by statuses and observable
+-- facts.
 use Rattle.std.specs.Prelude.{◌≡◌, ◌≢◌, ◌⊎◌, ℕ, ◌<◌, ◌≤◌, Bool, true, false, nat_lt, List, [], ◌∷◌, length, codes, bytes_eq, ⊤, Option, Some, None, Result, Ok, Err, IsErr}
 use Rattle.std.specs.List.{All}
 use Rattle.std.specs.Io.KnownBytes.{Appends, IsAtEnd}
@@ -21,14 +22,14 @@ use Rattle.audit_model.specs.State.{Stream}
 use Rattle.audit_model.specs.Told.{IfTold}
 use Rattle.audit_statement.specs.World.{World}
 
--- whether the words are those of the command on several plans
+-- the command is the one for several plans
 abbrev pub names_plans : List (List ℕ) → Bool
 names_plans [] = false
 names_plans (word ∷ rest) = bytes_eq word (codes "plans")
 
--- ---- what is accepted
+-- ---- accepted input
 
--- a refusal in the words of the note; want of memory is none
+-- the ending for a fault; out of memory is not a fault of the input
 abbrev pub ending_for : Setting → PlansFault → Ending
 ending_for setting (fault.Graph f) = bad_graph f
 ending_for setting (fault.Regions f) = bad_regions setting.region f
@@ -37,21 +38,21 @@ ending_for setting (fault.Own f) = bad_plan f
 ending_for setting (fault.Other name f) = bad_plan_named name f
 ending_for setting fault.Memory = no_memory
 
--- the jobs, or the refusal in the words of the note
+-- the jobs, or the ending for the fault
 abbrev pub from_jobs : Setting → Result Jobs PlansFault → Result Jobs Ending
 from_jobs setting (Ok jobs) = Ok jobs
 from_jobs setting (Err f) = Err (ending_for setting f)
 
--- of bytes that are too many, or are not
+-- the jobs of bytes within the limit, or the ending for too many
 abbrev pub from_size : Setting → List ℕ → Bool → Result Jobs Ending
 from_size setting bytes true = Err too_many_bytes
 from_size setting bytes false = from_jobs setting (jobs_reading setting bytes)
 
--- the jobs of these bytes, or the first reason to refuse them
+-- the jobs of these bytes, or the ending for the first fault
 unfoldable pub plans_judged : Setting → List ℕ → Result Jobs Ending
 plans_judged setting bytes = from_size setting bytes (nat_lt most_bytes (length bytes))
 
--- the words are accepted as this setting; where the source tells its bytes, they are these
+-- the arguments are accepted as this setting; if the source is observable, its bytes are these
 pub record HasPlansInput (words : List (List ℕ)) (left : Option (List ℕ)) (setting : Setting) (bytes : List ℕ) : Type 0 where
   pub words_are : setting_of words ≡ Ok setting
   pub given : IfTold left (λ input. input ≡ bytes)
@@ -64,25 +65,26 @@ pub record ArePrepared (words : List (List ℕ)) (before after : Stream) (settin
   pub at_end : IsAtEnd after.bytes
   pub faults : after.faults ≡ before.faults
 
--- the words were accepted, and something of the input was refused for this reason
+-- the arguments were accepted, and the input was refused with this ending
 pub record ArePlansRefused (words : List (List ℕ)) (left : Option (List ℕ)) (ending : Ending) : Type 0 where
   pub setting : Setting
   pub bytes : List ℕ
   pub input : HasPlansInput words left setting bytes
   pub judged_so : plans_judged setting bytes ≡ Err ending
 
--- every plan that a trajectory of the job visits, from the start plan or from the hub, on any stream and after any number of steps, is legal
+-- every plan that a trajectory visits, from the start plan or the hub, on any stream and after any number of steps, is
+-- legal
 pub record VisitsLegally (job : Job) : Type 0 where
   pub from_start : (stream step : ℕ) → IsLegal job (visit job (draw job.setting.key stream) job.start step)
   pub from_hub : (stream step : ℕ) → IsLegal job (visit job (draw job.setting.key stream) (hub job (draw job.setting.key)) step)
 
--- so it is with each of the jobs
+-- each of the jobs visits legal plans only
 abbrev pub VisitLegally : Jobs → Type 0
 VisitLegally jobs = All (λ plan. VisitsLegally plan.1) jobs
 
--- ---- how the call ends
+-- ---- endings
 
--- the report of each job that it would get alone was written, one after the other
+-- the report of each job, as it would be alone, was written, one after another
 pub record ArePlansDone (words : List (List ℕ)) (before after : World) : Type 0 where
   pub setting : Setting
   pub jobs : Jobs
@@ -90,7 +92,7 @@ pub record ArePlansDone (words : List (List ℕ)) (before after : World) : Type 
   pub written : Appends before.out.bytes after.out.bytes (plans_text (draw setting.key) jobs)
   pub legal : VisitLegally jobs
 
--- a part of the same text was written, and a write failed
+-- a prefix of that text was written, and a write failed
 pub record ArePlansCutOff (words : List (List ℕ)) (before after : World) : Type 0 where
   pub setting : Setting
   pub jobs : Jobs
@@ -104,13 +106,13 @@ pub record AreTooManyBytes (words : List (List ℕ)) (before after : World) : Ty
   pub refused : ArePlansRefused words before.source.bytes too_many_bytes
   pub taken : TakesTooMany true before.source.bytes after.source.bytes
 
--- the words are accepted, and a read failed
+-- the arguments are accepted, and a read failed
 pub record IsPlansReadFault (words : List (List ℕ)) (before after : World) : Type 0 where
   pub setting : Setting
   pub words_are : setting_of words ≡ Ok setting
   pub rose : Rose before.source.faults after.source.faults
 
--- why the call ended
+-- the cause of an ending
 abbrev pub PlansCause : List (List ℕ) → World → World → Option Ending → Type 0
 PlansCause words before after None = ArePlansDone words before after
 PlansCause words before after (Some (bad_words f)) = setting_of words ≡ Err f
@@ -130,7 +132,7 @@ PlansCause words before after (Some (damaged first second)) = ⊥
 PlansCause words before after (Some (other_job found wanted)) = ⊥
 PlansCause words before after (Some save_fault) = ⊥
 
--- which endings may have read, seen a read fail, written, and seen a write fail
+-- the endings that may have read, seen a read fail, written, and seen a write fail
 pub record PlansMarks : Type 0 where
   pub read : Bool
   pub read_failed : Bool
@@ -145,7 +147,7 @@ plans_marks (Some read_fault) = record { read = true; read_failed = true; wrote 
 plans_marks (Some write_fault) = record { read = true; read_failed = false; wrote = true; write_failed = true }
 plans_marks (Some _) = record { read = true; read_failed = false; wrote = false; write_failed = false }
 
--- all else is as before; no slot is looked at or changed
+-- all else is unchanged; no slot is looked at or changed
 pub record PlansLeave (before after : World) (marks : PlansMarks) : Type 0 where
   pub source : SameUnless marks.read before.source after.source
   pub read_faults : SameUnless marks.read_failed before.source.faults after.source.faults
@@ -153,7 +155,7 @@ pub record PlansLeave (before after : World) (marks : PlansMarks) : Type 0 where
   pub write_faults : SameUnless marks.write_failed before.out.faults after.out.faults
   pub keeper : after.keeper ≡ before.keeper
 
--- there is a reason: the status says it, it has its cause, it leaves untouched what it is to, and the note tells it
+-- there is a reason: the status shows it, it has its cause, the rest is unchanged, and the diagnostic says it
 pub record PlansEnd (words : List (List ℕ)) (before after : World) (note_before note_after : Stream) (status : ℕ) : Type 0 where
   pub reason : Option Ending
   pub status_is : status ≡ status_of reason
@@ -161,9 +163,9 @@ pub record PlansEnd (words : List (List ℕ)) (before after : World) (note_befor
   pub untouched : PlansLeave before after (plans_marks reason)
   pub told : TellsWhy (columns_of words) note_before note_after reason
 
--- ---- what follows
+-- ---- consequences
 
--- the words are accepted, and the bytes are told
+-- the arguments are accepted, and the bytes are observable
 pub record AreToldPlans (words : List (List ℕ)) (before : World) (setting : Setting) (bytes : List ℕ) : Type 0 where
   pub words_are : setting_of words ≡ Ok setting
   pub input : before.source.bytes ≡ Some bytes
@@ -174,9 +176,10 @@ pub record AreTheJobs (words : List (List ℕ)) (before : World) (setting : Sett
   pub told : AreToldPlans words before setting bytes
   pub accepted : plans_judged setting bytes ≡ Ok jobs
 
--- With status 0 exactly the reports that the plans would get alone were written, one after the other, and with status 5 a part of them; with both every
--- plan was legal that a trajectory visited. Only the statuses 0 to 5 come, each refusal where it is to, unless there was no memory; no failed call is passed over; and where nothing stands in the way, all
--- is done, or there was no memory.
+-- With status 0 exactly the reports that the plans would get alone were written, one after another, with status 5 a
+-- prefix of them; in both cases every visited plan was legal. Only the statuses 0 to 5 occur. Each refusal comes when
+-- it must, unless memory ran out, and no failed call is ignored. If nothing stands in the way, the call completes or is
+-- out of memory.
 pub record PlansCauses (words : List (List ℕ)) (before after : World) (status : ℕ) : Type 0 where
   pub written : (setting : Setting) (jobs : Jobs) → AreTheJobs words before setting jobs → status ≡ 0
       → Appends before.out.bytes after.out.bytes (plans_text (draw setting.key) jobs)
@@ -199,7 +202,7 @@ pub record PlansCauses (words : List (List ℕ)) (before after : World) (status 
       → (Rose before.out.faults after.out.faults → ⊥) → (status ≡ 0) ⊎ (status ≡ 3)
   pub kept : after.keeper ≡ before.keeper
 
--- all that a call on several plans promises
+-- the promise of a call on several plans
 pub record KeepsPlansPromise (words : List (List ℕ)) (before after : World) (note_before note_after : Stream) (status : ℕ) : Type 0 where
   pub causes : PlansCauses words before after status
   pub ends : PlansEnd words before after note_before note_after status

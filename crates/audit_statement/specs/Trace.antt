@@ -1,5 +1,6 @@
--- The text of a trace: the plans of a range of trajectories at every N-th step, each plan by its differences from the plan of the line before.
--- This project's format. Each line is defined by the plan at its step; the code walks each trajectory once, from one line to the next.
+-- The text of a trace: the plans of a range of trajectories at every N-th step, each by its differences from the plan
+-- of the line before. This project's format. Each line is defined by the plan at its step; the code walks each
+-- trajectory once, from line to line.
 use Rattle.std.specs.Prelude.{ℕ, zero, suc, ◌+◌, ◌-◌, ◌*◌, ◌==◌, not, min, List, [], ◌∷◌, ◌++◌, length, map, slice_index, codes, decimal, flat_map, ℤ}
 use Rattle.std.specs.Fmt.{signed_decimal}
 use Rattle.hex.specs.Hex.{encode_lower}
@@ -36,11 +37,11 @@ plan_line step moved values before plan = line (((decimal step ∷ decimal moved
 abbrev pub shown : ℕ → ℕ → ℕ → ℕ
 shown thin steps place = min (place * thin) steps
 
--- the number of lines: one for the first plan, and one for each stride, of which the last may be shorter
+-- the number of lines: one for the first plan, and one for each stride, the last of which may be shorter
 abbrev pub count_shown : ℕ → ℕ → ℕ
 count_shown thin steps = quotient_up steps thin + 1
 
--- the plan of the line before; the first line is compared with the enacted plan
+-- the plan of the line before; the first line is compared with the start plan
 abbrev pub shown_before : Job → Draws → ℕ → ℕ → ℕ → List ℕ
 shown_before job draws id thin zero = job.start
 shown_before job draws id thin (suc place) = plan_after job draws id (shown thin (own_steps job id) place)
@@ -61,7 +62,7 @@ first_lines job draws id thin (suc places) = first_lines job draws id thin place
 
 -- ---- the lines of a range
 
--- which trajectory the next lines show, its number of steps, and N
+-- the line that names a trajectory, its number of steps, and N
 abbrev pub trace_id_line : Job → ℕ → ℕ → List ℕ
 trace_id_line job id thin = line (
     codes "trace" ∷ codes "id" ∷ decimal id ∷ codes "steps" ∷ decimal (own_steps job id) ∷ codes "thin" ∷ decimal thin ∷ [])

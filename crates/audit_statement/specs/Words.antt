@@ -1,5 +1,5 @@
--- The setting that the words of a command line give, or the first fault in them.
--- This project's grammar. The definition looks at the whole list; the code reads from left to right.
+-- The setting that the arguments give, or their first fault. This project's grammar. The definition looks at the whole
+-- list; the code reads from left to right.
 use Rattle.std.specs.Prelude.{ℕ, ◌+◌, ◌-◌, ◌*◌, ◌==◌, ◌&&◌, ◌||◌, Bool, true, false, not, cond, nat_le, nat_lt, List, [], ◌∷◌, ◌++◌, length, find, fold, replicate, codes, decimal, bytes_eq, Option, Some, None, is_some, is_none, unwrap_or, option_map, option_and_then, Result, Ok, Err}
 use Rattle.std.specs.Result.{result_ok}
 use Rattle.std.specs.List.{list_any, slice_index_or, before_first, after_first}
@@ -24,9 +24,9 @@ use Rattle.audit_model.specs.Power.{is_power_of_two}
 use Rattle.audit_statement.specs.Names.{score_name, tail_name}
 use Rattle.audit_model.specs.Limits.{most_trajectories, most_districts, most_regions, most_splits, most_steps, most_workers, most_edges}
 
--- ---- the table of names
+-- ---- the table of options
 
--- the names that a command takes, in the order of the table
+-- the options that a command takes, in the order of the table
 abbrev pub names_of : Command → List Name
 names_of Check =
     Pop ∷ First ∷ Second ∷ District ∷ Slack ∷ MaxCut ∷ Region ∷ MaxSplit
@@ -42,7 +42,7 @@ names_of Trace =
     Pop ∷ First ∷ Second ∷ District ∷ Slack ∷ Key ∷ Walks ∷ Steps ∷ Ends ∷ HubSteps ∷ Ask ∷ MaxCut ∷ Region ∷ MaxSplit
     ∷ MaxSplits ∷ MaxSplitRegions ∷ Group ∷ GroupOf ∷ GroupDistricts ∷ Source ∷ Ids ∷ Thin ∷ []
 
--- the value of a name that is not given, where it may be left out
+-- the default of an option, if it may be left out
 abbrev pub default_of : Name → Option (List ℕ)
 default_of Pop = None
 default_of First = None
@@ -79,7 +79,7 @@ default_of Thin = Some (codes "1000")
 
 -- ---- values
 
--- the number that a text of digits stands for
+-- the number that a text of digits represents
 abbrev pub digits_value : List ℕ → ℕ
 digits_value text = fold (λ n c. 10 * n + (c - 48)) 0 text
 
@@ -87,7 +87,7 @@ digits_value text = fold (λ n c. 10 * n + (c - 48)) 0 text
 abbrev pub number_of : List ℕ → Option ℕ
 number_of text = cond (bytes_eq (decimal (digits_value text)) text) (Some (digits_value text)) None
 
--- whether the text is a number within these bounds
+-- the text is a number within these bounds
 abbrev pub is_number : ℕ → ℕ → List ℕ → Bool
 is_number low high text = unwrap_or (option_map (λ n. nat_le low n && nat_le n high) (number_of text)) false
 
@@ -117,7 +117,7 @@ all_asks =
     ∷ record { score = Gap; tail = Low } ∷ record { score = Gap; tail = High }
     ∷ record { score = CutEdges; tail = Low } ∷ record { score = CutEdges; tail = High } ∷ []
 
--- how an ask is spelled
+-- the spelling of an ask
 abbrev pub ask_text : AskOf → List ℕ
 ask_text ask = score_name ask.score ++ codes ":" ++ tail_name ask.tail
 
@@ -125,33 +125,33 @@ ask_text ask = score_name ask.score ++ codes ":" ++ tail_name ask.tail
 abbrev pub ask_of : List ℕ → Option AskOf
 ask_of text = find (λ ask. bytes_eq (ask_text ask) text) all_asks
 
--- one ask more, where each part spells one
+-- one more ask, if all parts so far spell asks
 abbrev pub with_ask : Option AskOf → Option (List AskOf) → Option (List AskOf)
 with_ask None asks = None
 with_ask (Some ask) None = None
 with_ask (Some ask) (Some asks) = Some (ask ∷ asks)
 
--- the asks that these parts spell, where each does
+-- the asks that these parts spell, if each does
 abbrev pub asks_of : List (List ℕ) → Option (List AskOf)
 asks_of [] = Some []
 asks_of (part ∷ parts) = with_ask (ask_of part) (asks_of parts)
 
--- none is like one after it
+-- no two parts are equal
 abbrev pub all_different : List (List ℕ) → Bool
 all_different [] = true
 all_different (part ∷ parts) = not (list_any (λ other. bytes_eq other part) parts) && all_different parts
 
--- the text has asks between commas, four at most and all different
+-- the text has at most four asks between commas, all distinct
 abbrev pub are_asks : List ℕ → Bool
 are_asks text = is_some (asks_of (parts_between 44 text)) && nat_le (length (parts_between 44 text)) 4 && all_different (parts_between 44 text)
 
--- ---- the pairs of a name and a value
+-- ---- pairs of an option and a value
 
--- a name, and its value where one follows
+-- an option, and its value if one follows
 abbrev pub NameAndValue : Type 0
 NameAndValue = List ℕ × Option (List ℕ)
 
--- words as such pairs
+-- the arguments as such pairs
 abbrev pub pairs : List (List ℕ) → List NameAndValue
 pairs [] = []
 pairs (name ∷ []) = (name, None) ∷ []
@@ -165,7 +165,7 @@ command_of word =
     (cond (bytes_eq word (codes "make")) (Some Make)
     (cond (bytes_eq word (codes "plans")) (Some Plans) (cond (bytes_eq word (codes "trace")) (Some Trace) None))))
 
--- the name of the district column is a line of the report of several plans
+-- the name of the district column fits on one line of the report of several plans
 abbrev pub is_one_line : Command → List ℕ → Bool
 is_one_line Check text = true
 is_one_line Run text = true
@@ -173,7 +173,7 @@ is_one_line Make text = true
 is_one_line Plans text = not (has text 10)
 is_one_line Trace text = true
 
--- the column of those among whom a group may be a majority: that which is named, or the population's; and none where there is no group
+-- the column of a group's base population: the one named, or else the population; none without a group
 abbrev pub whole_column : List ℕ → List ℕ → List ℕ → List ℕ
 whole_column [] named population = []
 whole_column (c ∷ group) [] population = population
@@ -184,7 +184,7 @@ module _ (command : Command) (words : List NameAndValue) where
   abbrev pub word_pair : ℕ → NameAndValue
   word_pair k = slice_index_or words k ([], None)
 
-  -- the name that a word spells
+  -- the option that a word spells
   abbrev pub name_of : List ℕ → Option Name
   name_of word = find (λ name. bytes_eq (name_text name) word) (names_of command)
 
@@ -192,7 +192,7 @@ module _ (command : Command) (words : List NameAndValue) where
   abbrev pub is_repeated : ℕ → Bool
   is_repeated k = any_below k (λ j. bytes_eq (word_pair j).0 (word_pair k).0)
 
-  -- the fault of a pair, by the name that its word spells
+  -- the fault of a pair, by the option that its word spells
   abbrev pub known_fault : ℕ → Option Name → Option WordFault
   known_fault k None = Some (UnknownName (word_pair k).0)
   known_fault k (Some name) = cond (is_repeated k) (Some (Twice name)) (cond (is_none (word_pair k).1) (Some (NoValue name)) None)
@@ -201,15 +201,15 @@ module _ (command : Command) (words : List NameAndValue) where
   abbrev pub pair_fault : ℕ → Option WordFault
   pair_fault k = known_fault k (name_of (word_pair k).0)
 
-  -- the value that the words give a name
+  -- the value that the arguments give an option
   abbrev pub given : Name → Option (List ℕ)
   given name = option_and_then (λ pair. pair.1) (find (λ pair. bytes_eq pair.0 (name_text name)) words)
 
-  -- that, or the value of a name that is not given
+  -- the given value, or the default
   abbrev pub given_or_default : Name → Option (List ℕ)
   given_or_default name = option_or (given name) (default_of name)
 
-  -- the same as a text
+  -- the value as a text
   abbrev pub text_of : Name → List ℕ
   text_of name = unwrap_or (given_or_default name) []
 
@@ -217,55 +217,55 @@ module _ (command : Command) (words : List NameAndValue) where
   abbrev pub number_named : Name → ℕ
   number_named name = unwrap_or (number_of (text_of name)) 0
 
-  -- the trajectories that are asked for are neither none nor too many
+  -- there is at least one trajectory, and there are not too many
   abbrev pub has_walks : Bool
   has_walks = nat_le 1 (number_named Walks + number_named Ends) && nat_le (number_named Walks + number_named Ends) most_trajectories
 
-  -- a run that saves nothing does all of them
+  -- a run that saves nothing has the budget for all of them
   abbrev pub covers_walks : Bool
   covers_walks = not (is_number 0 0 (text_of Save)) || nat_le (number_named Walks + number_named Ends) (number_named Budget)
 
-  -- it is `yes`
+  -- the value is `yes`
   abbrev pub is_yes : Name → Bool
   is_yes name = bytes_eq (text_of name) (codes "yes")
 
-  -- it is `yes` or `no`
+  -- the value is `yes` or `no`
   abbrev pub is_yes_or_no : Name → Bool
   is_yes_or_no name = is_yes name || bytes_eq (text_of name) (codes "no")
 
-  -- a test that stops early has ends to test, and neither saves nor resumes
+  -- tests that stop early have endpoint trajectories, and the run neither saves nor resumes
   abbrev pub stops_alone : Bool
   stops_alone = (number_named Stop == 0) || (nat_le 1 (number_named Ends) && (number_named Save == 0) && not (is_yes Resume))
 
-  -- the serial test needs a number of plans by which draws divide evenly
+  -- the serial test needs a number of plans that divides the draws evenly
   abbrev pub divides_draws : Bool
   divides_draws = not (is_yes Serial) || is_power_of_two (number_named Steps + 1)
 
-  -- the value of a name is empty, as that of a column that is not named
+  -- the value of an option is empty, as that of a column that is not named
   abbrev pub is_empty : Name → Bool
   is_empty name = length (text_of name) == 0
 
-  -- only regions are split
+  -- a limit on districts per region needs regions
   abbrev pub has_split : Bool
   has_split = (number_named MaxSplit == most_districts) || not (is_empty Region)
 
-  -- so it is with splits in all
+  -- a limit on splits in all needs regions
   abbrev pub has_splits : Bool
   has_splits = (number_named MaxSplits == most_splits) || not (is_empty Region)
 
-  -- and with how many regions are split
+  -- a limit on split regions needs regions
   abbrev pub has_split_regions : Bool
   has_split_regions = (number_named MaxSplitRegions == most_regions) || not (is_empty Region)
 
-  -- only a group has a part of a whole
+  -- a base population needs a group
   abbrev pub has_group_of : Bool
   has_group_of = is_empty GroupOf || not (is_empty Group)
 
-  -- and only a group has majorities
+  -- required majorities need a group
   abbrev pub has_majority_group : Bool
   has_majority_group = (number_named GroupDistricts == 0) || not (is_empty Group)
 
-  -- what is walked of one of several parts is saved
+  -- a run of one of several parts saves
   abbrev pub saves_parts : Bool
   saves_parts = (number_named Parts == 1) || nat_le 1 (number_named Save)
 
@@ -283,7 +283,7 @@ module _ (command : Command) (words : List NameAndValue) where
       is_number 0 most_trajectories (first_of_range (text_of Ids)) && is_number 0 most_trajectories (last_of_range (text_of Ids))
       && nat_le first_id last_id && nat_lt last_id (number_named Walks + number_named Ends)
 
-  -- whether the value of a name is one that it may have
+  -- the value of an option is one that it may have
   abbrev pub is_good : Name → Bool
   is_good Pop = true
   is_good First = true
@@ -318,7 +318,7 @@ module _ (command : Command) (words : List NameAndValue) where
   is_good Ids = has_ids
   is_good Thin = is_number 1 most_steps (text_of Thin)
 
-  -- the first fault, in the order of the refusals
+  -- the first fault, in their order
   abbrev pub fault_of : Option WordFault
   fault_of = first_some (
       first_some_below (length words) pair_fault
@@ -337,7 +337,7 @@ module _ (command : Command) (words : List NameAndValue) where
     whole = whole_column (text_of Group) (text_of GroupOf) (text_of Pop);
   }
 
-  -- what the values say
+  -- the setting of a run with these values
   abbrev pub as_run : Setting
   as_run = record {
     command = command;
@@ -371,7 +371,7 @@ module _ (command : Command) (words : List NameAndValue) where
     thin = 1;
   }
 
--- with what a command fixes
+-- the setting, with the values that a command fixes
 abbrev pub setting_for : Command → List NameAndValue → Setting
 setting_for Check words = record {
   command = Check;
@@ -429,12 +429,12 @@ setting_for Trace words = record (as_run Trace words) {
   thin = number_named Trace words Thin;
 }
 
--- the setting, where there is no fault
+-- the setting, if there is no fault
 abbrev pub setting_or : Command → List NameAndValue → Option WordFault → Result Setting WordFault
 setting_or command words None = Ok (setting_for command words)
 setting_or command words (Some fault) = Err fault
 
--- by the command that the first word spells
+-- the setting for the command that the first word spells
 abbrev pub of_command : List ℕ → List NameAndValue → Option Command → Result Setting WordFault
 of_command word words None = Err (UnknownCommand word)
 of_command word words (Some command) = setting_or command words (fault_of command words)

@@ -1,9 +1,9 @@
-//! Laws of the definitions, each the contract of a function that does nothing.
+//! Laws of the definitions. Each is the contract of a function with an empty body.
 
 ghost use Rattle.audit_model.specs.Local.{IsSimple};
 ghost use Rattle.audit_statement.specs.Reading.{Document, graph};
 
-/// Adjacency is of both units, and none is adjacent to itself.
+/// Shows that adjacency is symmetric, and that no unit is adjacent to itself.
 pub fn graphs_are_simple()
     ensures { (d : Document) → IsSimple (graph d) }
 {}
