@@ -189,7 +189,7 @@ abbrev pub AllHaveWritten : Job → List Event → Type 0
 AllHaveWritten job [] = ⊤
 AllHaveWritten job (e ∷ events) = HasWritten job e × AllHaveWritten job events
 
--- From consistent slots, which include empty ones and those of version 1, each run of a chain writes the report of one
--- thread if it ends with status 0, or with 9 and no work left.
+-- From consistent slots, each run of a chain writes the report of one thread if it ends with status 0, or with 9 and
+-- no work left. Empty slots and those of version 1 are consistent.
 abbrev pub ChainsWriteOneReport : Type 0
 ChainsWriteOneReport = (job : Job) (p : Pair) (events : List Event) → AreHonestOf job p → IsChain job p events → AllHaveWritten job events
