@@ -1,14 +1,14 @@
 //! Decides if a unit may leave its district without disconnecting it.
 //!
 //! The *mates* of a unit are its neighbors in its own district. *Faces* are rings of three to five
-//! units; each face of a list has a side that no later one has. Three tests are made, in the order
-//! of their cost:
+//! units; each face of a list has a side that no later one has. Cheaper tests come first:
 //!
-//! - If the mates are linked, one to the next, through faces inside the district, the unit may
-//!   leave.
-//! - Otherwise, if counts of the district's edges and faces show that it has no hole, the unit may
-//!   not.
-//! - Otherwise the district is searched.
+//! - Links: if the mates are linked, one to the next, through faces inside the district, the unit
+//!   may leave.
+//! - Counts: otherwise, if the numbers of the district's edges and faces show that it has no hole,
+//!   the unit may not leave.
+//! - Mates: otherwise, if the mates are connected among themselves, the unit may leave.
+//! - Search: otherwise the district is searched.
 //!
 //! `face`, `near`, `peel` and `list` find faces; `corner`, `rows` and `table` store them by unit.
 //! `counts` follows a plan, `classes` and `links` test the mates, `parts` and `flood` search, and

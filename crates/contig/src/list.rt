@@ -54,7 +54,7 @@ impl FaceList {
     }
 
     /// Adds a face if it is a ring and no face of the list has its own side. Returns true if it was
-    /// added.
+    /// added. Fails if there is no memory.
     pub fn push(&mut self, graph: &Graph, face: Face) -> Result<bool, Memory>
         requires faces { AreFaces graph.now self.old }
         ensures faces { AreFaces graph.now self.new }
@@ -73,7 +73,8 @@ impl FaceList {
     }
 }
 
-/// Lists the candidates that are rings and whose own side belongs to no earlier face.
+/// Lists the candidates that are rings and whose own side belongs to no earlier face. Fails if
+/// there is no memory.
 pub fn list_faces(alloc: Global, graph: &Graph, candidates: &[Face]) -> Result<FaceList, Memory>
     ensures { IfOk result (λ l. AreFaces graph.now l) }
 {

@@ -1,5 +1,5 @@
-//! The search for the faces of a graph. Nothing is proved of which faces it finds: the list tests
-//! each of them.
+//! The search for the faces of a graph. Nothing is proved of the search itself: the list of faces
+//! tests each ring that it finds.
 
 ghost use Rattle.std.specs.Prelude.{◌≡◌, ◌<◌, IfOk};
 ghost use Rattle.contig.specs.Faces.{AreFaces};
@@ -21,7 +21,7 @@ const MOST: usize = 4000000;
 const WAYS: usize = 16;
 
 /// Finds the triangles and squares of a graph, then pentagons if these leave room. Each face has a
-/// side that no later one has.
+/// side that no later one has. Fails if there is no memory.
 pub fn faces_of(alloc: Global, graph: &Graph) -> Result<FaceList, Memory>
     ensures { IfOk result (λ l. AreFaces graph.now l) }
 {

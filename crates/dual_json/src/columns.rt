@@ -48,7 +48,7 @@ pub fn check_numbers(nodes: &[Value<'_>], columns: &Columns) -> Result<(), Graph
     Ok(())
 }
 
-/// Reads the columns of population and votes.
+/// Reads the columns of population and votes. The only error is `Memory`.
 pub fn counts_of(
     alloc: Global,
     nodes: &[Value<'_>],
@@ -66,7 +66,8 @@ pub fn counts_of(
     })
 }
 
-/// Reads the two columns of the group, or returns empty ones if no group is named.
+/// Reads the two columns of the group, or returns empty ones if no group is named. The only error
+/// is `Memory`.
 pub fn group_of(alloc: Global, nodes: &[Value<'_>], columns: &Columns) -> Result<Group, GraphFault>
     ensures { MatchResult result (AreOfGroup columns.now (views nodes.now)) (λ f. f ≡ Memory) }
 {

@@ -11,7 +11,7 @@ use audit_model::fault::GraphFault;
 use audit_model::lists::{LabelList, UnitList};
 use std::alloc::Global;
 
-/// Returns the distinct names in rising order.
+/// Returns the distinct names in rising order. The only error is `Memory`.
 pub fn different<'v>(alloc: Global, names: &[Name<'v>]) -> Result<Vec<Name<'v>>, GraphFault>
     ensures { MatchResult result (λ found. AreDifferent names.now found.items) (λ f. f ≡ Memory) }
 {
@@ -31,7 +31,7 @@ pub fn check_count(count: usize) -> Result<(), GraphFault>
     Ok(())
 }
 
-/// Returns the index of each name among the distinct ones.
+/// Returns the index of each name among the distinct ones. The only error is `Memory`.
 pub fn start_of<'v>(
     alloc: Global,
     names: &[Name<'v>],
@@ -51,7 +51,7 @@ pub fn start_of<'v>(
     Ok(start)
 }
 
-/// Copies the names to labels that own their texts.
+/// Copies the names to labels that own their texts. The only error is `Memory`.
 pub fn labels_of(alloc: Global, names: &[Name<'_>]) -> Result<LabelList, GraphFault>
     ensures { MatchResult result (λ labels. labels ≡ labels_from names.now) (λ f. f ≡ Memory) }
 {

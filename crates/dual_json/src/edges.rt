@@ -37,6 +37,8 @@ pub fn check_entries(adjacency: &[Value<'_>]) -> Result<(), GraphFault>
 }
 
 /// Builds the graph. Two distinct nodes are adjacent if either lists the other.
+///
+/// Returns the first entry that names no node, or `TooManyEdges`, as an error.
 pub fn graph_of<'v>(
     alloc: Global,
     units: u32,

@@ -15,6 +15,9 @@ use std::alloc::Global;
 const MAX_DEPTH: usize = 127;
 
 /// Parses a text. Texts with escapes are decoded into the scratch buffer.
+///
+/// Returns `Invalid` if the text is not JSON or nests too deep, and `OutOfMemory` if there was no
+/// memory.
 pub fn parse<'t>(alloc: Global, text: &'t str, scratch: &'t mut Scratch) -> Result<Value<'t>, Error>
     ensures ok { IfOk result (λ v. read_text text.now ≡ Some (value_data v)) }
     ensures err { result ≡ Err Error.Invalid → read_text text.now ≡ None }

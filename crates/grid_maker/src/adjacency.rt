@@ -38,7 +38,7 @@ pub(crate) fn below(square: Square, unit: u32) -> Option<u32>
     }
 }
 
-/// Builds the adjacency lists of all units.
+/// Builds the adjacency lists of all units. Fails if there is no memory.
 pub fn adjacency_of(alloc: Global, square: Square) -> Result<Value, Memory>
     ensures { IfOk result (λ value. view value ≡ adjacency_tree square.size) }
 {

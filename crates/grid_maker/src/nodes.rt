@@ -14,7 +14,7 @@ use std::alloc::Global;
 /// The stream from which the votes are drawn. Trajectories use streams far below it.
 pub(crate) const VOTES_STREAM: u64 = 4_294_967_296;
 
-/// Builds the nodes of all units.
+/// Builds the nodes of all units. Fails if there is no memory.
 pub fn nodes_of(alloc: Global, square: Square, key: [u8; 32]) -> Result<Value, Memory>
     ensures { IfOk result (λ value. view value ≡ nodes_tree square.size key) }
 {

@@ -12,7 +12,7 @@ use audit_model::memory::Memory;
 use csv::{ByteRecord, ReaderBuilder, StringRecord};
 use std::alloc::Global;
 
-/// Reads all records; none is skipped as a header.
+/// Reads all records; none is skipped as a header. Fails if there is no memory.
 pub fn records_of(alloc: Global, bytes: &[u8]) -> Result<Vec<ByteRecord>, Memory>
     ensures { IfOk result (λ rows. map fields_of rows.items ≡ records default_config (strip_bom bytes.now)) }
 {

@@ -18,7 +18,7 @@ use itoa::Buffer;
 use std::alloc::Global;
 use std::collections::BTreeMap;
 
-/// Returns an id as text.
+/// Returns an id as text. Fails if there is no memory.
 pub fn id_text(alloc: Global, id: &Label) -> Result<String, Memory>
     ensures { IfOk result (λ text. string_bytes text ≡ table.id_text id.now) }
 {
