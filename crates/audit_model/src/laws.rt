@@ -82,8 +82,8 @@ pub fn bare_outcomes_have_no_bins()
     ensures { (job : Job) (draws : Draws) (id : ℕ) → bare (whole job draws id) ≡ outcome_with false job draws id }
 {}
 
-/// Shows that a run resumes from right outcomes: those taken from a checkpoint, histograms possibly
-/// missing, are what its trajectories find.
+/// Shows that a run resumes rightly: from outcomes of the job's trajectories, with their histograms
+/// or without, it takes what the trajectories find.
 pub fn honest_runs_go_on_rightly()
     ensures { (job : Job) (draws : Draws) (outcomes : List Outcome) → IsHonest job draws outcomes →
         IsRight job draws (taken_up job.setting.shift job.setting.walks outcomes) }
@@ -115,8 +115,8 @@ pub fn unlimited_rules_limit_nothing()
         job.setting.max_split_regions ≡ most_regions → job.setting.group_districts ≡ 0 → Meets (rules job) (cut_edges job.graph plan) plan }
 {}
 
-/// Shows that a population is within the bounds exactly from the least to the greatest allowed, and
-/// that each of these is tight.
+/// Shows that the population bounds are two integers: the least population that is large enough,
+/// and the greatest that is small enough.
 pub fn bounds_are_two_numbers()
     ensures both { (job : Job) (population : ℕ) → 0 < job.districts →
         IsBalanced job population ↔ ((least_population job ≤ population) × (population ≤ greatest_population job)) }

@@ -37,8 +37,8 @@ pub fn are_linked(leaving: Member, corners: &[Corner]) -> bool
     }
 }
 
-/// Returns true if all units of a corner are in the district of its unit. Adding up makes one
-/// branch of four.
+/// Returns true if all units of a corner are in the district of its unit. Adding up the four tests
+/// leaves one branch.
 #[inline]
 fn is_inner(leaving: Member, corner: Corner) -> bool
     requires { IsOnRow leaving.graph.now (slice_index_or leaving.graph.now.neighbours leaving.unit []) corner }

@@ -16,9 +16,8 @@ use std::sync::ledger::{Blank, Ledger};
 
 /// Takes the step of a draw. Returns true if it changed the plan.
 ///
-/// Searches of a district are counted in `steps`: only the functions of `contig` that search can
-/// tick it. A step makes at most one search, and none if the unit's neighbors in its district are
-/// connected among themselves.
+/// The functions of `contig` that search a district tick `steps`. A step makes at most one search,
+/// and none if the unit's neighbors in its district are connected among themselves.
 #[inline]
 pub fn try_flip<J: Judge, L: Ledger>(
     job: &Job,
@@ -68,8 +67,8 @@ pub fn mirror<J: Judge>(job: &Job, state: &mut State<J>, draw: u64) -> u64
     led_back::<J, Brand>(job, state, draw, Blank::new(1))
 }
 
-// Does the work of `mirror`, with its own counter of searches. The draw back has its block's place
-// of the unit's old district. It tests the flip without making it.
+// Does the work of `mirror`, with its own counter of searches. The draw that leads back is in the
+// same block, at the place of the unit's old district. The flip is tested, not made.
 fn led_back<J: Judge, L: Ledger>(job: &Job, state: &mut State<J>, draw: u64, blank: Blank) -> u64
     requires name { blank.name ≡ L.name }
     requires parts { blank.parts ≡ L.parts }

@@ -13,9 +13,9 @@ use outcome_book::laws::outcomes_by_id_are_mapped;
 
 /// Shows that a run stays consistent after any events.
 ///
-/// The finished ids differ and are below the total. Those finished at the start come first,
-/// followed by the saved ones. Each claimed id is either finished or open under one worker, and no
-/// other id is open.
+/// The finished ids differ and are below the total; those finished at the start and the saved ones
+/// are prefixes of them. Each claimed id is either finished or open under one worker, and no other
+/// id is open.
 pub fn runs_stay_right()
     ensures fresh { (total workers : ℕ) (events : List Event) → IsRun (state_after (new_machine total workers) events) }
     ensures resumed { (m : Machine) (events : List Event) → IsStart m → IsRun (state_after m events) }

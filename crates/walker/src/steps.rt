@@ -81,8 +81,8 @@ struct Track {
 /// Walks from the start plan, which is the current one.
 ///
 /// Returns the number of moves, each ask's number of visited plans in its tail, and the histogram
-/// if `course` asks for it. The start plan is a visited plan. Scores and seats are computed only
-/// after a move.
+/// if `course` asks for it. The start plan is a visited plan. Scores and seats are computed at the
+/// start and after each move only.
 pub fn count_visits<J: Judge, L: Ledger>(
     job: &Job,
     state: &mut State<J>,
