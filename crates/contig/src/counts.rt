@@ -35,7 +35,6 @@ impl Model for FaceCounts {
 }
 
 impl FaceCounts {
-    /// Allocates zeros for this number of districts.
     fn zeros(alloc: Global, districts: u32) -> Result<FaceCounts, Memory>
         ensures edges { IfOk result (λ c. length c.edges ≡ districts) }
         ensures filled { IfOk result (λ c. length c.filled ≡ districts) }
@@ -64,7 +63,6 @@ impl FaceCounts {
         Ok(counts)
     }
 
-    /// Sets all counts to 0.
     fn clear(&mut self)
         ensures edges { self.new.edges ≡ replicate (length self.old.edges) 0 }
         ensures filled { self.new.filled ≡ replicate (length self.old.edges) 0 }
@@ -246,7 +244,6 @@ fn is_inside(member: Member, corner: Corner, district: u32) -> bool
         & (plan[corner.further as usize] == district)
 }
 
-/// Adds one to the count if `counts` is true.
 #[inline]
 fn with_one(count: u64, counts: bool) -> u64
     requires few { count < 2 ^ 63 }

@@ -72,7 +72,6 @@ impl Face {
     }
 }
 
-/// Returns true if five units are distinct.
 fn differ(a: u32, b: u32, c: u32, d: u32, e: u32) -> bool
     ensures { result ≡ differ a b c d e }
 {

@@ -101,7 +101,6 @@ fn note(sides: &mut HashSet<(u32, u32)>, x: u32, y: u32) -> Result<(), Memory>
     Ok(())
 }
 
-/// Inserts all sides of a face.
 fn note_sides(sides: &mut HashSet<(u32, u32)>, face: Face) -> Result<(), Memory>
     ensures kept { (q : ℕ × ℕ) → IsTrue (contains same_side sides.old q) → IsTrue (contains same_side sides.new q) }
     ensures there { OnOk result ((x y : ℕ) → IsTrue (has_side (ring_of face) x y) → IsTrue (contains same_side sides.new (side x y))) }

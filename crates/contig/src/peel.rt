@@ -265,7 +265,6 @@ fn begins_of(alloc: Global, graph: &Graph) -> Result<Vec<usize>, Memory> {
     Ok(begins)
 }
 
-/// Returns the number of sides of a ring.
 fn length_of(ring: Face) -> usize {
     match ring {
         Face::Triangle(_, _, _) => 3,
@@ -274,7 +273,6 @@ fn length_of(ring: Face) -> usize {
     }
 }
 
-/// Returns the first two units of a ring.
 fn first_two(ring: Face) -> (u32, u32) {
     match ring {
         Face::Triangle(a, b, _) => (a, b),

@@ -69,7 +69,6 @@ fn add_corner(
     Ok(())
 }
 
-/// Adds the corners of a face.
 fn add_face(graph: &Graph, rows: &mut Vec<CornerList>, face: Face) -> Result<(), Memory>
     requires ring { IsRing graph.now (ring_of face) }
     requires rows { length rows.old.items ≡ graph.now.units }
@@ -102,7 +101,6 @@ fn add_face(graph: &Graph, rows: &mut Vec<CornerList>, face: Face) -> Result<(),
     }
 }
 
-/// Allocates an empty list for each unit.
 fn no_rows(alloc: Global, units: u32) -> Result<Vec<CornerList>, Memory>
     ensures width { IfOk result (λ rows. length rows.items ≡ units) }
     ensures none { IfOk result (λ rows. (u : ℕ) → slice_index_or rows.items u [] ≡ []) }

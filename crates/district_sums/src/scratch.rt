@@ -56,7 +56,6 @@ fn add_up(column: &[u64], plan: &[u32], sums: &mut [u64])
     }
 }
 
-/// Calls [`add_up`] on the list's slice.
 fn refill_column(column: &NumList, plan: &[u32], sums: &mut NumList)
     requires column { IsColumn (length plan.now) column.now }
     requires few { length plan.now ≤ most_units }
@@ -95,7 +94,6 @@ fn count_apart(graph: &Graph, plan: &[u32], apart: &mut [u32])
     }
 }
 
-/// Calls [`count_apart`] on the list's slice.
 pub(crate) fn refill_apart(graph: &Graph, plan: &[u32], apart: &mut UnitList)
     requires plan { length plan.now ≡ graph.now.units }
     requires width { length apart.old ≡ graph.now.units }

@@ -51,7 +51,6 @@ fn shift_column(column: &[u64], member: Member, district: u32, sums: &mut [u64])
     sums[district as usize] += amount;
 }
 
-/// Calls [`shift_column`] on the list's slice.
 fn shift_list(column: &NumList, member: Member, district: u32, sums: &mut NumList)
     requires column { IsColumn member.graph.now.units column.now }
     requires moves { MovesWithin (length sums.old) member.plan.now member.unit district }
@@ -61,7 +60,6 @@ fn shift_list(column: &NumList, member: Member, district: u32, sums: &mut NumLis
     shift_column(column.as_slice(), member, district, sums.as_mut_slice());
 }
 
-/// Adds one to the count if `counts` is true.
 #[inline]
 fn with_one(count: u32, counts: bool) -> u32
     requires few { count ≤ most_units }
@@ -102,7 +100,6 @@ fn recount(member: Member, into: u32, apart: &mut [u32])
     apart[member.unit as usize] = others;
 }
 
-/// Calls [`recount`] on the list's slice.
 pub(crate) fn shift_apart(member: Member, into: u32, apart: &mut UnitList)
     requires { apart.old ≡ map_below member.graph.now.units (apart_of member.graph.now member.plan.now) }
     ensures { apart.new ≡ map_below member.entry.graph.now.units (apart_of member.entry.graph.now (slice_set member.entry.plan.now member.entry.unit into)) }

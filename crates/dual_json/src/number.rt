@@ -42,14 +42,12 @@ fn below_zero(numeral: &Numeral<'_>) -> Option<Number>
     nearest(true, numeral)
 }
 
-/// Returns the nearest float.
 fn nearest(negative: bool, numeral: &Numeral<'_>) -> Option<Number>
     ensures { option_map number_view result ≡ float_of negative numeral.now }
 {
     Number::from_f64(numeral.to_float::<f64>(negative))
 }
 
-/// Returns true if the first byte is a minus sign.
 fn has_minus(bytes: &[u8]) -> bool
     ensures value { result ≡ (slice_index bytes.now 0 == 45) }
     ensures some { IsTrue result → 0 < length bytes.now }

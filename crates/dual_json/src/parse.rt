@@ -118,7 +118,6 @@ fn read_members<'t>(
     Ok(found)
 }
 
-/// Appends an item.
 fn push<T: Drop>(found: &mut Vec<T>, item: T) -> Result<(), Error>
     ensures ok { OnOk result (found.new.items ≡ found.old.items ++ item ∷ []) }
     ensures err { OnErr result (result ≡ Err Error.OutOfMemory) }

@@ -94,7 +94,6 @@ fn list_at<'v, 't>(root: &'v Value<'t>, key: &str) -> Option<&'v [Value<'t>]>
     }
 }
 
-/// Returns true if each value is an array.
 fn are_lists(values: &[Value<'_>]) -> bool
     ensures { result ≡ list_all (λ d. is_some (list_of d)) (views values.now) }
 {

@@ -69,7 +69,6 @@ impl Openings {
         }
     }
 
-    /// Closes all pairs.
     fn clear(&mut self)
         ensures { self.new ≡ replicate (length self.old) false }
     {
@@ -131,7 +130,6 @@ impl Openings {
     }
 }
 
-/// Returns the place of a pair, `unit * districts + district`.
 #[inline]
 fn place_of(unit: u32, district: u32, districts: u32) -> usize
     ensures { result ≡ unit * districts + district }
@@ -139,7 +137,6 @@ fn place_of(unit: u32, district: u32, districts: u32) -> usize
     unit as usize * districts as usize + district as usize
 }
 
-/// Returns the word with a bit set or cleared.
 #[inline]
 fn with_bit(word: u64, bit: usize, flag: bool) -> u64
     requires { bit < 64 }
@@ -149,7 +146,6 @@ fn with_bit(word: u64, bit: usize, flag: bool) -> u64
     (word & !(1u64 << bit)) | (u64::from(flag) << bit)
 }
 
-/// Returns the bit at a place of 64-bit words.
 #[inline]
 fn bit_of(words: &[u64], place: usize) -> bool
     requires { place / 64 < length words.now }
@@ -158,7 +154,6 @@ fn bit_of(words: &[u64], place: usize) -> bool
     (words[place / 64] >> (place % 64)) & 1 == 1
 }
 
-/// Sets or clears the bit at a place.
 #[inline]
 fn put_bit(words: &mut [u64], place: usize, flag: bool)
     requires { place / 64 < length words.old }

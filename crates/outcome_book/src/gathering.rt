@@ -136,7 +136,6 @@ impl Gathering {
         let _ = &self.places;
     }
 
-    /// Adds one outcome.
     fn put(&mut self, outcome: &Outcome)
         requires { outcome.now.id < self.old.total }
         ensures total { self.new.total ≡ self.old.total }
@@ -182,7 +181,6 @@ fn bare(outcome: &Outcome) -> Outcome
     }
 }
 
-// Returns true if both outcomes are equal.
 fn is_same(one: &Outcome, other: &Outcome) -> bool
     ensures { Decides result (one.now ≡ other.now) }
 {

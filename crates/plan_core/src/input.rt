@@ -74,7 +74,6 @@ impl Model for Input {
         i.rules i.population i.votes };
 }
 
-/// Returns true if the score is the efficiency gap.
 fn is_gap(score: Score) -> bool
     ensures { result ≡ is_gap score }
 {

@@ -46,7 +46,6 @@ impl Model for Job {
     ghost invariant = { λ j. IsValued j.input j.values };
 }
 
-/// Returns the value at a place.
 fn entry(values: &[i64], place: usize) -> i64
     requires { place < length values.now }
     ensures { result ≡ slice_index_or values.now place (pos 0) }

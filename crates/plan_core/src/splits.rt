@@ -31,7 +31,6 @@ fn above_all(numbers: &[u32]) -> u32
     above
 }
 
-/// Counts the places that are true.
 fn count_marked(seen: &[bool; 200]) -> u32
     ensures { result ≡ count_below most_districts (λ d. slice_index_or seen.now d false) }
 {

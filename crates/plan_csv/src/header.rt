@@ -54,7 +54,6 @@ fn is_seen(byte: u8) -> bool
     byte >= 33 && byte <= 126
 }
 
-/// Returns true if all bytes are visible ASCII.
 fn are_seen(bytes: &[u8]) -> bool
     ensures { result ≡ list_all (λ c. nat_le 33 c && nat_le c 126) bytes.now }
 {

@@ -48,7 +48,6 @@ fn regions_of(alloc: Global, bytes: &[u8], column: &Text) -> Result<UnitList, Re
     read_regions(alloc, bytes, column)
 }
 
-/// Inserts a job before the others.
 fn with_first(named: Vec<Named>, own: Named) -> Result<Vec<Named>, Memory>
     ensures { IfOk result (λ all. all.items ≡ own ∷ named.items) }
 {

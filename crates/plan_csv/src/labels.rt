@@ -75,7 +75,6 @@ fn names_of<'e>(
     Ok(names)
 }
 
-/// Copies a text. Fails if there is no memory.
 fn text_of(alloc: Global, text: &str) -> Result<Text, Memory>
     ensures { IfOk result (λ copy. copy ≡ text.now) }
 {

@@ -10,7 +10,6 @@ pub struct Parts<'b> {
     pub table: &'b [u8],
 }
 
-/// Finds the first line feed.
 fn line_feed(bytes: &[u8]) -> Option<usize>
     ensures { result ≡ position (λ c. c == 10) bytes.now }
 {

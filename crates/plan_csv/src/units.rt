@@ -127,7 +127,6 @@ pub fn records_from(
     records_of(alloc, places.as_slice())
 }
 
-/// Returns `count` empty places.
 fn blanks(alloc: Global, count: usize) -> Result<Vec<Option<usize>>, Memory>
     ensures { IfOk result (λ places. (length places.items ≡ count) × ((u : ℕ) → slice_index_or places.items u None ≡ None)) }
 {

@@ -35,7 +35,6 @@ pub(crate) fn count_units(
     );
 }
 
-/// Does the work of [`count_units`] on slices.
 fn count_cells(regions: &[u32], plan: &[u32], rows: usize, districts: usize, cells: &mut [u64])
     requires lengths { length regions.now ≤ length plan.now }
     requires few_rows { rows ≤ most_regions }
@@ -65,7 +64,6 @@ pub(crate) fn count_widths(cells: &NumList, districts: usize, widths: &mut UnitL
     count_rows(cells.as_slice(), districts, widths.as_mut_slice());
 }
 
-/// Does the work of [`count_widths`] on slices.
 fn count_rows(cells: &[u64], districts: usize, widths: &mut [u32])
     requires few_rows { length widths.old ≤ most_regions }
     requires few { districts ≤ most_districts }
@@ -91,7 +89,6 @@ pub(crate) fn move_unit(cells: &mut NumList, from: usize, to: usize, units: usiz
     move_one(cells.as_mut_slice(), from, to, units);
 }
 
-/// Does the work of [`move_unit`] on a slice.
 #[inline]
 fn move_one(cells: &mut [u64], from: usize, to: usize, units: usize)
     requires from { from < length cells.old }
@@ -113,7 +110,6 @@ pub(crate) fn set_width(widths: &mut UnitList, region: usize, width: u32)
     write_width(widths.as_mut_slice(), region, width);
 }
 
-/// Does the work of [`set_width`] on a slice.
 #[inline]
 fn write_width(widths: &mut [u32], region: usize, width: u32)
     requires region { region < length widths.old }
@@ -161,7 +157,6 @@ pub(crate) fn refill(column: &NumList, plan: &[u32], sums: &mut NumList)
     add_up(column.as_slice(), plan, sums.as_mut_slice());
 }
 
-/// Does the work of [`refill`] on slices.
 fn add_up(column: &[u64], plan: &[u32], sums: &mut [u64])
     requires entries { length column.now ≤ length plan.now }
     requires few { length column.now ≤ most_units }
@@ -190,7 +185,6 @@ pub(crate) fn shift(column: &NumList, unit: u32, from: u32, to: u32, sums: &mut 
     move_amount(amount, from as usize, to as usize, sums.as_mut_slice());
 }
 
-/// Moves an amount from one sum to another.
 #[inline]
 fn move_amount(amount: u64, from: usize, to: usize, sums: &mut [u64])
     requires from { from < length sums.old }

@@ -98,7 +98,6 @@ impl<F: Fn(&SumsView) -> bool + Drop, T: Fn(u32) -> bool + Drop> RegionGuard<F, 
         }
     }
 
-    /// Returns the region of a unit.
     fn region_of(&self, unit: u32) -> usize
         requires unit { unit < length self.now.rules.regions }
         ensures { result ≡ slice_index self.now.rules.regions unit }

@@ -108,7 +108,6 @@ impl Core {
         }
     }
 
-    // Saves all finished ids.
     fn save(&mut self) -> Did
         ensures step { (self.new, result) ≡ step self.old Save }
         ensures sound { IsRun self.new }

@@ -6,7 +6,6 @@ ghost use Rattle.audit_model.specs.Below.{filter_below};
 ghost use Rattle.audit_model.specs.Graph.{has};
 ghost use Rattle.audit_model.specs.Limits.{most_trajectories};
 
-// Marks the ids.
 pub(crate) fn mark(marks: &mut [bool], ids: &[u32])
     requires { All (λ id. id < length marks.old) ids.now }
     ensures width { length marks.new ≡ length marks.old }

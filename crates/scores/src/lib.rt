@@ -145,7 +145,6 @@ fn mean_median(shares: &mut [u64], middle: &mut u64) -> i64
     (districts * twice_median(shares, middle)) as i64 - (2 * all) as i64
 }
 
-/// Adds up the shares.
 fn total(shares: &[u64]) -> u64
     requires { AreShares shares.now }
     ensures value { result ≡ sum shares.now }

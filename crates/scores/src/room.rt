@@ -57,7 +57,6 @@ impl Room {
 }
 
 impl Share {
-    // Computes the share of a district with these votes.
     fn of(first: u64, second: u64) -> Share
         requires { first + second < 2 ^ 64 }
         ensures first { result.first ≡ first }

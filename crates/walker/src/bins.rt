@@ -74,7 +74,6 @@ impl Bins {
     }
 }
 
-/// Returns the seats of the current plan.
 fn held_seats<J: Judge>(state: &State<J>, room: &mut Room) -> u64
     ensures seats { result ≡ plan_seats state.now.job state.now.plan }
     ensures small { result < 2 ^ 63 }
