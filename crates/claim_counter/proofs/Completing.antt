@@ -1,4 +1,4 @@
--- What a run leaves, by rising id, whatever the order in which it was found.
+-- The outcomes of a run by rising id do not depend on the order in which they were found.
 use Rattle.std.proofs.Common.{◌≡◌, ◌∙◌, refl, sym, ap, ℕ, zero, suc, ◌<◌, Bool, true, false, cond, ◌||◌, List, [], ◌∷◌, ◌++◌, length, map, get_or, Option, Some, None, All, arith}
 use Rattle.std.specs.Prelude.{◌==◌, IsFalse, IsPermutation, find}
 use Rattle.std.proofs.lemmas.Bool.{eq-eqb, ne_eqb, false≢true}
@@ -15,7 +15,7 @@ use Rattle.outcome_book.specs.Booked.{AreApart}
 use Rattle.claim_counter.specs.Walks.{found}
 use Rattle.claim_counter.proofs.Sharing.{found_id}
 
--- the outcome with the id of one of them is that one, where ids differ
+-- with different ids, a search by the id of one outcome finds that outcome
 found_at_place : (os : List Outcome) → AreApart os → (k : ℕ) (d : Outcome) → k < length os → find (λ o. o.id == (get_or os k d).id) os ≡ Some (get_or os k d)
 found_at_place [] apart k d inside = absurd (omega arith)
 found_at_place (x ∷ os) apart zero d inside = ap (λ b. cond b (Some x) (find (λ o. o.id == x.id) os)) (eq-eqb x.id x.id refl)
@@ -23,7 +23,7 @@ found_at_place (x ∷ os) apart (suc k) d inside =
     ap (λ b. cond b (Some x) (find (λ o. o.id == (get_or os k d).id) os)) (ne_eqb x.id (get_or os k d).id (apart 0 (suc k) d (omega arith) inside))
     ∙ found_at_place os (λ i j e before within. apart (suc i) (suc j) e (omega arith) (omega arith)) k d (omega arith)
 
--- none has the id
+-- a search for an id that no outcome has finds nothing
 not_there : (os : List Outcome) (id : ℕ) → has_id os id ≡ false → find (λ o. o.id == id) os ≡ None
 not_there [] id none = refl
 not_there (x ∷ os) id none = by (x.id == id) (has_id os id) (find (λ o. o.id == id) os) none (not_there os id)
@@ -32,7 +32,7 @@ not_there (x ∷ os) id none = by (x.id == id) (has_id os id) (find (λ o. o.id 
     by true rest r e rec = absurd (false≢true (sym e))
     by false rest r e rec = rec e
 
--- every outcome of a run is the opening's, or what its trajectory finds
+-- every outcome of a run is an initial outcome, or the outcome of its trajectory
 all_from : (job : Job) (opening : List Outcome) (todo : List ℕ) → AreApart opening → All (λ id. IsFalse (has_id opening id)) todo
     → All (λ o. o ≡ outcome_from job (draw job.setting.key) opening o.id) (opening ++ map (found job) todo)
 unfolding found
@@ -43,17 +43,17 @@ all_from job opening todo apart absent = All-append (λ (o : Outcome). o ≡ out
     ap (kept_or job (draw job.setting.key) id) (sym (not_there opening id (absent k d inside)))
     ∙ ap (outcome_from job (draw job.setting.key) opening) (sym (found_id job id))))
 
--- what is found of ids has these ids
+-- the outcomes of ids have exactly these ids
 has_id-found : (job : Job) (todo : List ℕ) (id : ℕ) → has_id (map (found job) todo) id ≡ has todo id
 has_id-found job [] id = refl
 has_id-found job (x ∷ todo) id = ap (λ k. (k == id) || has_id (map (found job) todo) id) (found_id job x) ∙ ap (λ b. (x == id) || b) (has_id-found job todo id)
 
--- the law of a book: where each outcome is what a function gives of its id, those by rising id are what it gives of the ids, in rising order
+-- the law of a book: if each outcome is a function of its id, the outcomes by rising id are that function over the ids
 abbrev pub AreMapped : Type 0
 AreMapped = (n : ℕ) (os : List Outcome) (test : ℕ → Bool) (f : ℕ → Outcome) → All (λ o. o ≡ f o.id) os → ((id : ℕ) → id < n → has_id os id ≡ test id)
     → by_id n os ≡ map f (filter_below n test)
 
--- the opening and what is found of the ids to do are, by rising id, all that the run is to have
+-- the initial outcomes and those of the ids to do are, by rising id, all outcomes that the run shall have
 pub by_id-full : AreMapped → (job : Job) (opening outcomes : List Outcome) (todo : List ℕ) (budget : ℕ) → AreApart opening → All (λ id. IsFalse (has_id opening id)) todo
     → todo ≡ run_ids job opening budget → IsPermutation outcomes (opening ++ map (found job) todo)
     → by_id (total job) outcomes ≡ full job (draw job.setting.key) opening budget

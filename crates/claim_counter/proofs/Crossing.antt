@@ -1,4 +1,4 @@
--- A worker may go to another thread.
+-- Workers can cross threads.
 use denote.Param.Send.{IsSend, recorded_send, struct_send, sendable}
 use denote.RattleType.{RattleType}
 use denote.Struct.Declared.{shape}
@@ -16,23 +16,23 @@ use Rattle.claim_counter.specs.contracts.worker.Worker as Worker
 outcome_send : IsSend Outcome.the_row
 outcome_send = search (crosses, sendable) depth 20
 
--- a share may
+-- a list of outcomes may cross threads
 share_send : IsSend (RoomyList.the_row Outcome.the_row)
 share_send = search (outcome_send, crosses, sendable) depth 20
 
--- a pass may
+-- a pass may cross threads
 pass_send : IsSend Pass.the_field.row
 pass_send = search (seat_send, crosses, sendable) depth 20
 
--- a share may as a field
+-- a list of outcomes may cross threads as a field
 share_field_send : IsSend (RoomyList.the_field Outcome.the_row).row
 share_field_send = search (share_send, crosses, sendable) depth 20
 
--- a walker that walks what the gate was told of may, where its judge may
+-- a gated walker may cross threads if its constraint may
 pub gated_send : (J : RattleType) (g : Ghosts J.Denot) → IsSend J → IsSend (GatedWalker.the_field J g).row
 gated_send J g judge = let a = walker_send J g judge in search (crosses, sendable) depth 20
 
--- so a worker may, where its judge may
+-- a worker may cross threads if its constraint may
 pub worker_send : (J : RattleType) (g : Ghosts J.Denot) → IsSend J → IsSend (Worker.the_row J g)
 worker_send J g judge =
     recorded_send (Worker.the_field J g).row _ _ (Worker.the_type J g).to_one (struct_send (shape (Worker.the_type J g)) (gated_send J g judge, (pass_send, (share_field_send, tt))))

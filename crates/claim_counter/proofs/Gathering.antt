@@ -1,4 +1,4 @@
--- The shares of workers, one after the other, go into a book.
+-- Merging the workers' outcomes into a book, one worker after the other.
 use Rattle.std.proofs.Common.{◌≡◌, ◌∙◌, sym, ap, subst, ℕ, ◌<◌, List, [], ◌++◌, length, map, get_or, All, AllPairs, append_assoc, arith}
 use Rattle.std.specs.Prelude.{◌≢◌, IsFalse}
 use Rattle.std.proofs.lemmas.List.{map-append}
@@ -17,7 +17,7 @@ use Rattle.claim_counter.specs.Workers.{IsWorkerDone}
 use Rattle.claim_counter.specs.Walks.{found_at, LacksIds, IsTodo, IsWithin}
 use Rattle.claim_counter.proofs.Sharing.{Lacks, found_is, share_within, share_apart, share_absent, lacks_others}
 
--- anything holds of each of none
+-- any predicate holds for each member of an empty list
 pub none_yet : {A : Type 0} (P : A → Type 0) (xs : List A) → length xs ≡ 0 → All P xs
 none_yet P xs none = λ k d inside. absurd (omega (arith, inside, none))
 
@@ -36,7 +36,7 @@ module _ {J : Type 0} (job : Job) (todo : List ℕ) (c : Claims) (w : Worker J) 
   done_apart : AllPairs (λ a b. a ≢ b) todo → AreApart w.share.items
   done_apart apart = subst AreApart (sym done.shared) (share_apart job todo places different apart)
 
-  -- the bins of each outcome are few enough for the book
+  -- the histogram of each outcome is small enough for the book
   done_few : ((id : ℕ) → HasFewVisits (outcome job (draw job.setting.key) id)) → All HasFewVisits w.share.items
   done_few law =
       subst (All HasFewVisits) (sym done.shared)
@@ -58,7 +58,7 @@ module _ {J : Type 0} (job : Job) (todo : List ℕ) (c : Claims) (w : Worker J) 
       absent_from now before (subst (λ n. AreDifferentBelow n (before ++ places)) count together)
       (subst (λ os. Lacks os todo before) (sym holds) (lacks_others job todo before in_todo kept is))
 
-  -- the first share may go into the book
+  -- the book accepts the first worker's outcomes
   pub first_share : (b : Booked) → LacksIds job b todo → ((id : ℕ) → HasFewVisits (outcome job (draw job.setting.key) id)) → IsShareFor b w.share.items
   first_share b lacks law = record {
     below = done_within lacks.ids.within b.total lacks.whole;
@@ -67,7 +67,7 @@ module _ {J : Type 0} (job : Job) (todo : List ℕ) (c : Claims) (w : Worker J) 
     bins = done_few law;
   }
 
-  -- so may one more, beside shares of other places
+  -- the book accepts the next worker's outcomes, which come from other places
   pub more_share : (b now : Booked) (before : List ℕ) → LacksIds job b todo → now.total ≡ b.total → AreDifferentBelow (size_of c).limit before
       → now.outcomes ≡ b.outcomes ++ map (found_at job todo) before → ((id : ℕ) → HasFewVisits (outcome job (draw job.setting.key) id))
       → AreDifferentBelow (size_of c).limit (before ++ places) → IsShareFor now w.share.items
@@ -78,7 +78,7 @@ module _ {J : Type 0} (job : Job) (todo : List ℕ) (c : Claims) (w : Worker J) 
     bins = done_few law;
   }
 
-  -- the book with this share too
+  -- the book after it took in this worker's outcomes
   pub holds_more : (kept now later : List Outcome) (before both : List ℕ) → now ≡ kept ++ map (found_at job todo) before → later ≡ now ++ w.share.items
       → both ≡ before ++ places → later ≡ kept ++ map (found_at job todo) both
   holds_more kept now later before both holds merged joined =

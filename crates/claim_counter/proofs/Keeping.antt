@@ -1,4 +1,4 @@
--- Each step keeps the rule over records.
+-- Each step keeps the rule over pass records.
 use Rattle.std.proofs.Common.{◌≡◌, ℕ, zero, suc, ◌-◌, ◌+◌, ◌<◌, ◌≤◌, ◌&&◌, min, Bool, true, false, List, [], ◌∷◌, ◌++◌, set, sym, refl, ap, ◌∙◌, subst, inl, inr, ⊎_elim, ◌⊎◌, arith}
 use Rattle.std.proofs.lemmas.Bool.{true≢false, false≢true}
 use mathlib.Core.Option.{some, some-injective, some-ne-none}
@@ -17,11 +17,11 @@ SpentOrLive p = (p ≡ spent) ⊎ IsLive p
 abbrev Each : List PassRecord → Type 0
 Each ps = (i : ℕ) (p : PassRecord) → get_elem? ps i ≡ some p → SpentOrLive p
 
--- each pass is spent or in use after one changed
+-- each pass is spent or in use after one of them changed
 each_set : (ps : List PassRecord) (i : ℕ) (q : PassRecord) → Each ps → SpentOrLive q → Each (set ps i q)
 each_set ps i q all here j p e = ⊎_elim (λ t. subst SpentOrLive t.1 here) (λ t. all j p t.1) (at_set ps i j q p e)
 
--- and after one more came
+-- each pass is spent or in use after one was added
 each_push : (ps : List PassRecord) (q : PassRecord) → Each ps → SpentOrLive q → Each (ps ++ q ∷ [])
 each_push ps q all here j p e = ⊎_elim (λ t. all j p t) (λ t. subst SpentOrLive t here) (at_snoc ps q p j e)
 
@@ -34,7 +34,7 @@ past p = p.past_end
 abbrev share : PassRecord → ℕ
 share p = p.weight + p.spare
 
--- a pass that weighs is in use
+-- a pass with a positive weight is in use
 pub live_at : (limit count word : ℕ) (ps : List PassRecord) (i : ℕ) (p : PassRecord) → AreCounted limit count word ps → get_elem? ps i ≡ some p → 0 < p.weight → IsLive p
 live_at limit count word ps i p c at some_weight = ⊎_elim (λ is. let none : p.weight ≡ 0 = ap weight is in absurd (omega arith)) (λ l. l) (c.each i p at)
 
@@ -48,12 +48,12 @@ claim_keeps limit count word ps i p c at some_weight below = let q = with_claim 
   seats = let s = sum_set share ps i p q at in let is = c.seats in omega arith;
 }
 
--- the number drawn is nobody's claim yet
+-- a newly drawn number is no pass's claim yet
 pub claim_is_new : (limit count word : ℕ) (ps : List PassRecord) (i : ℕ) (p : PassRecord) → AreCounted limit count word ps → get_elem? ps i ≡ some p → word < limit → times word p.claims ≡ 0
 claim_is_new limit count word ps i p c at below = let least = sum_at (λ (r : PassRecord). times word r.claims) ps i p at in
     let none = once_below_past word (min word limit) (omega arith) in omega (arith, least, none, c.claims word)
 
--- a draw past the limit keeps it
+-- a draw past the limit keeps the rule
 pub end_keeps : (limit count word : ℕ) (ps : List PassRecord) (i : ℕ) (p : PassRecord) → AreCounted limit count word ps → get_elem? ps i ≡ some p → 0 < p.weight → p.ended ≡ false → limit ≤ word
     → AreCounted limit count (word + 1) (set ps i (at_end p))
 end_keeps limit count word ps i p c at some_weight going past_limit = let q = at_end p in let l = live_at limit count word ps i p c at some_weight in let room = l.before_end going in record {
@@ -63,7 +63,7 @@ end_keeps limit count word ps i p c at some_weight going past_limit = let q = at
   seats = let s = sum_set share ps i p q at in let is = c.seats in omega arith;
 }
 
--- a pass that is split keeps it
+-- a split keeps the rule
 pub split_keeps : (limit count word : ℕ) (ps : List PassRecord) (i : ℕ) (p : PassRecord) → AreCounted limit count word ps → get_elem? ps i ≡ some p → 0 < p.weight → 0 < p.spare
     → AreCounted limit count word (set ps i (with_less_spare p) ++ fresh 0 ∷ [])
 split_keeps limit count word ps i p c at some_weight some_spare = let q = with_less_spare p in let qs = set ps i q in let l = live_at limit count word ps i p c at some_weight in record {
@@ -74,7 +74,7 @@ split_keeps limit count word ps i p c at some_weight some_spare = let q = with_l
   seats = let s = sum_set share ps i p q at in let is = c.seats in omega (arith, sum_by_push share qs (fresh 0));
 }
 
--- two passes of which one has not ended have room for a draw past the end
+-- two passes, one of which has not ended, leave room for a draw past the end
 room_left : (a b : Bool) (m w n v : ℕ) → m ≤ w → n ≤ v → (a ≡ false → m < w) → (b ≡ false → n < v) → (a && b) ≡ false → m + n < w + v
 room_left false b m w n v le le' going going' e = let r = going refl in omega arith
 room_left true false m w n v le le' going going' e = let r = going' refl in omega arith
@@ -85,7 +85,7 @@ both_end : (a b : Bool) (m n : ℕ) → (a ≡ true → 0 < m) → (a && b) ≡ 
 both_end false b m n after e = absurd (false≢true e)
 both_end true b m n after e = let r = after refl in omega arith
 
--- two passes in use that are joined are in use
+-- joining two passes in use gives a pass in use
 live_joined : (p q : PassRecord) → IsLive p → IsLive q → IsLive (joined_passes p q)
 live_joined p q l k = let lw = l.weighs in let lm = l.most in let km = k.most in record {
   weighs = omega arith;
@@ -94,7 +94,7 @@ live_joined p q l k = let lw = l.weighs in let lm = l.most in let km = k.most in
   after_end = both_end p.ended q.ended p.past_end q.past_end l.after_end;
 }
 
--- a pass that takes in another keeps the rule
+-- a join keeps the rule
 pub join_keeps : (limit count word : ℕ) (ps : List PassRecord) (i : ℕ) (p : PassRecord) (j : ℕ) (q : PassRecord) → AreCounted limit count word ps → get_elem? ps i ≡ some p → ¬ (j ≡ i)
     → get_elem? (set ps i (joined_passes p q)) j ≡ some q → 0 < p.weight → 0 < q.weight
     → AreCounted limit count word (set (set ps i (joined_passes p q)) j spent)
@@ -106,12 +106,12 @@ join_keeps limit count word ps i p j q c at other at' some_weight some_weight' =
       seats = let is = c.seats in omega (arith, sum_set share ps i p r at, sum_set share rs j q spent at');
     }
 
--- the draws past the end are at most as many as the seats
+-- the draws past the end are at most the number of seats
 pub count_bounded : (limit count word : ℕ) (ps : List PassRecord) → AreCounted limit count word ps → word ≤ limit + count
 count_bounded limit count word ps c = let is = c.past_end in let shares = c.seats in
     let most = sum_le past share ps (λ i p at. ⊎_elim (λ e. let none : p.past_end ≡ 0 = ap past e in omega arith) (λ l. let m = l.most in omega arith) (c.each i p at)) in omega arith
 
--- a pass has at most all seats, and each of its claims is one number below the limit
+-- a pass has at most all seats
 pub share_bounded : (limit count word : ℕ) (ps : List PassRecord) (i : ℕ) (p : PassRecord) → AreCounted limit count word ps → get_elem? ps i ≡ some p → p.weight + p.spare ≤ count
 share_bounded limit count word ps i p c at = let most = sum_at share ps i p at in let is = c.seats in omega arith
 
@@ -119,14 +119,14 @@ share_bounded limit count word ps i p c at = let most = sum_at share ps i p at i
 pub claims_bounded : (limit count word : ℕ) (ps : List PassRecord) (i : ℕ) (p : PassRecord) → AreCounted limit count word ps → get_elem? ps i ≡ some p → (x : ℕ) → times x p.claims ≤ once_below x limit
 claims_bounded limit count word ps i p c at x = let most = sum_at (λ (r : PassRecord). times x r.claims) ps i p at in let more : once_below x (min word limit) ≤ once_below x limit = grind arith in omega (arith, most, c.claims x, more)
 
--- no number stands in two passes
+-- no number is a claim of two passes
 pub claims_differ : (limit count word : ℕ) (ps : List PassRecord) (i : ℕ) (p : PassRecord) (j : ℕ) (q : PassRecord) → AreCounted limit count word ps → ¬ (j ≡ i) → get_elem? ps i ≡ some p
     → get_elem? ps j ≡ some q → (x : ℕ) → times x p.claims + times x q.claims ≤ once_below x limit
 claims_differ limit count word ps i p j q c other at at' x = let f : PassRecord → ℕ = λ r. times x r.claims in let rs = set ps i spent in
     let least = sum_at f rs j q (set_else ps i j spent other ∙ at') in let more : once_below x (min word limit) ≤ once_below x limit = grind arith in
     omega (arith, least, sum_set f ps i p spent at, c.claims x, more)
 
--- a pass that has all seats knows all
+-- a pass with all seats has all drawn numbers
 pub sole_pass : (limit count word : ℕ) (ps : List PassRecord) (i : ℕ) (p : PassRecord) → AreCounted limit count word ps → get_elem? ps i ≡ some p → 0 < p.weight → p.weight + p.spare ≡ count → IsSole limit word p
 sole_pass limit count word ps i p c at some_weight all =
     let l = live_at limit count word ps i p c at some_weight in
@@ -140,7 +140,7 @@ sole_pass limit count word ps i p c at some_weight all =
       ended = λ e. let after = l.after_end e in let is = c.past_end in omega arith;
     }
 
--- at first
+-- the rule holds before the first draw
 pub start_counted : (limit count : ℕ) → 0 < count → AreCounted limit count 0 (fresh (count - 1) ∷ [])
 start_counted limit count some_seat = record {
   claims = λ x. let none = once_below_past x (min 0 limit) (omega arith) in sym none;
@@ -153,10 +153,10 @@ start_counted limit count some_seat = record {
     first_is_live zero p at = subst IsLive (some-injective _ _ at) (record { weighs = omega arith; most = omega arith; before_end = λ _. omega arith; after_end = λ e. absurd (false≢true e) })
     first_is_live (suc i) p at = absurd (some-ne-none p (sym at))
 
--- where a pass has ended, no number is left
+-- if a pass has ended, no number is left
 pub end_true : (limit count word : ℕ) (ps : List PassRecord) (i : ℕ) (p : PassRecord) → AreCounted limit count word ps → get_elem? ps i ≡ some p → 0 < p.weight → p.ended ≡ true → limit ≤ word
 end_true limit count word ps i p c at some_weight ended = let l = live_at limit count word ps i p c at some_weight in let after = l.after_end ended in let least = sum_at past ps i p at in let is = c.past_end in omega arith
 
--- all passes together have drawn the first numbers, each once
+-- the claims of all passes are the first numbers, each once
 pub all_claims : (limit count word : ℕ) (ps : List PassRecord) → AreCounted limit count word ps → AreAllBelow (min word limit) (flat_map (λ p. p.claims) ps)
 all_claims limit count word ps c = permutation_below (min word limit) (flat_map (λ p. p.claims) ps) (λ x. times-flat_map x (λ (p : PassRecord). p.claims) ps ∙ c.claims x)

@@ -1,4 +1,4 @@
--- Shares of different places, and what a book lacks.
+-- Outcomes of different places, and the outcomes missing from a book.
 use Rattle.std.proofs.Common.{◌≡◌, ◌∙◌, refl, sym, ap, subst, ℕ, zero, suc, ◌+◌, ◌<◌, ◌≤◌, ◌⊎◌, inl, inr, Bool, true, false, cond, ◌||◌, List, [], ◌∷◌, ◌++◌, length, map, get_or, All, AllPairs, arith}
 use Rattle.std.specs.Prelude.{◌≢◌, ◌==◌, nat_lt, slice_index, IsFalse, IsPermutation}
 use Rattle.std.specs.List.{range_with_len}
@@ -18,13 +18,13 @@ use Rattle.outcome_book.specs.Booked.{AreApart}
 use Rattle.claim_counter.specs.Records.{AreDifferentBelow}
 use Rattle.claim_counter.specs.Walks.{found, found_at, IsTodo, IsWithin}
 
--- no outcome is kept of the ids at the other places
+-- no outcome is kept for the ids at the other places
 abbrev pub Lacks : List Outcome → List ℕ → List ℕ → Type 0
 Lacks kept todo places = (k : ℕ) → k < length todo → times k places ≡ 0 → IsFalse (has_id kept (slice_index todo k))
 
 -- ---- lists in which no number stands twice
 
--- what stands at a place of a list occurs in it
+-- a member of a list occurs in it
 times_at : (xs : List ℕ) (j d : ℕ) → j < length xs → 1 ≤ times (get_or xs j d) xs
 times_at [] j d inside = absurd (omega arith)
 times_at (x ∷ xs) zero d inside = omega (arith, times-cons x x xs, one_same x)
@@ -65,12 +65,12 @@ one_place xs apart a b first second same = by (cases_order a b)
 
 -- ---- what is found at places of todo
 
--- what is found of an id, by its definition
+-- the outcome found for an id is its trajectory's outcome
 pub found_is : (job : Job) (id : ℕ) → found job id ≡ outcome job (draw job.setting.key) id
 unfolding found
 found_is job id = refl
 
--- it has the id
+-- an outcome found for an id has that id
 pub found_id : (job : Job) (id : ℕ) → (found job id).id ≡ id
 unfolding found
 found_id job id = by (nat_lt id job.setting.walks) job.setting.shift
@@ -79,7 +79,7 @@ found_id job id = by (nat_lt id job.setting.walks) job.setting.shift
     by true bins = refl
     by false bins = refl
 
--- a share with one outcome more
+-- a worker's list with one more outcome
 pub shared_more : (job : Job) (todo places more : List ℕ) (place : ℕ) (share longer : List Outcome) (o : Outcome)
     → share ≡ map (found_at job todo) places → more ≡ places ++ place ∷ [] → longer ≡ share ++ o ∷ []
     → o ≡ outcome job (draw job.setting.key) (get_or todo place 0) → longer ≡ map (found_at job todo) more
@@ -108,7 +108,7 @@ module _ (job : Job) (todo places : List ℕ) (different : AreDifferentBelow (le
       id_at : (k : ℕ) → k < length places → get_or todo (get_or places k 0) 0 ≡ (get_or (map (found_at job todo) places) k d).id
       id_at k l = sym (ap (λ (o : Outcome). o.id) (get_or-map (found_at job todo) places k 0 d l) ∙ found_id job (get_or todo (get_or places k 0) 0))
 
-  -- a book with the outcomes at these places lacks those at the others
+  -- a book with the outcomes at these places has none for the other places
   pub lacks_others : (kept : List Outcome) → IsTodo job kept todo → Lacks (kept ++ map (found_at job todo) places) todo places
   lacks_others kept is k inside none =
       let id = get_or todo k 0 in
@@ -122,7 +122,7 @@ module _ (job : Job) (todo places : List ℕ) (different : AreDifferentBelow (le
       let stands : 1 ≤ times k places = subst (λ p. 1 ≤ times p places) at (times_at places j d l) in
       absurd (omega arith))))
 
--- a book lacks the outcomes of a share whose places are others
+-- a book has no outcome of a list whose places are others
 pub share_absent : (job : Job) (todo before places : List ℕ) (kept : List Outcome) → AreDifferentBelow (length todo) (before ++ places)
     → AreDifferentBelow (length todo) places → Lacks kept todo before → All (λ o. IsFalse (has_id kept o.id)) (map (found_at job todo) places)
 share_absent job todo before places kept together different lacks = All-map (λ (o : Outcome). has_id kept o.id ≡ false) (found_at job todo) places (λ k d inside.
@@ -134,7 +134,7 @@ share_absent job todo before places kept together different lacks = All-map (λ 
 
 -- ---- all places
 
--- what a function gives of places is what another gives of what stands there
+-- a function of the places is a function of the list's members
 map_over_range : {A : Type 0} (g : ℕ → A) (f : ℕ → A) (xs : List ℕ) (a : ℕ) → ((k : ℕ) → k < length xs → g (a + k) ≡ f (get_or xs k 0))
     → map g (range_with_len a (length xs)) ≡ map f xs
 map_over_range g f [] a same = refl
@@ -143,7 +143,7 @@ map_over_range g f (x ∷ xs) a same =
     ap (λ y. y ∷ map g (range_with_len (a + 1) (length xs))) here
     ∙ ap (λ ys. f x ∷ ys) (map_over_range g f xs (a + 1) (λ k l. ap g (let e : a + 1 + k ≡ a + suc k = omega arith in e) ∙ same (suc k) (omega arith)))
 
--- where all places were drawn, what their ids find is what all ids to do find
+-- once all places are drawn, the outcomes found are those of all ids to do
 pub all_found : (job : Job) (todo places : List ℕ) (kept : List Outcome) (n : ℕ) → IsPermutation places (range_with_len 0 n) → n ≡ length todo
     → IsPermutation (kept ++ map (found_at job todo) places) (kept ++ map (found job) todo)
 all_found job todo places kept n all is =

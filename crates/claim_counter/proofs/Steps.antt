@@ -26,11 +26,11 @@ St = State (Unit {0}) View
 abbrev Sized : Size → List View → Type 0
 Sized size vs = (i : ℕ) (v : View) → get_elem? vs i ≡ some v → 0 < v.own.weight → v.size ≡ size
 
--- all passes know the size after one changed
+-- all passes know the size after one of them changed
 sized_set : (size : Size) (vs : List View) (i : ℕ) (w : View) → Sized size vs → (0 < w.own.weight → w.size ≡ size) → Sized size (set vs i w)
 sized_set size vs i w all here j v e = ⊎_elim (λ t. subst (λ (u : View). 0 < u.own.weight → u.size ≡ size) t.1 here) (λ t. all j v t.1) (at_set vs i j w v e)
 
--- and after one more came
+-- all passes know the size after one was added
 sized_push : (size : Size) (vs : List View) (w : View) → Sized size vs → (0 < w.own.weight → w.size ≡ size) → Sized size (vs ++ w ∷ [])
 sized_push size vs w all here j v e = ⊎_elim (λ t. all j v t) (λ t. subst (λ (u : View). 0 < u.own.weight → u.size ≡ size) t here) (at_snoc vs w v j e)
 
@@ -45,7 +45,7 @@ placed size s k n id me w is c = let wide = k.one_word in record {
   sizes = sized_set size s.views id w k.sizes (λ _. is);
 }
 
--- the only pass has drawn all where no number is left
+-- the only pass has drawn all numbers if none is left
 pub drawn_all : (limit word : ℕ) (p : PassRecord) → IsSole limit word p → limit ≤ word → AreAllBelow limit p.claims
 drawn_all limit word p sole past = let m : min word limit ≡ limit = omega arith in permutation_below limit p.claims (λ x. sole.claims x ∙ ap (once_below x) m)
 
@@ -53,7 +53,7 @@ drawn_all limit word p sole past = let m : min word limit ≡ limit = omega arit
 pub drawn_below : (limit word : ℕ) (p : PassRecord) → IsSole limit word p → AreAllBelow (min word limit) p.claims
 drawn_below limit word p sole = permutation_below (min word limit) p.claims sole.claims
 
--- what a draw tells, and that it keeps the rule
+-- the effect of a draw, which keeps the rule
 pub draws : (size : Size) (slots id : ℕ) (me : Mine) → size.limit ≤ 100000 → size.seats ≤ 33 → me.0.size ≡ size → me.0.own.ended ≡ false → 0 < me.0.own.weight
     → Allows (IsCounterState size) slots id me 0 (λ n. (n + 1) % 2 ^ 64) (DrawsNumber (step slots 0 1 0 none) me)
 draws size slots id me few few_seats is going live s k _ at _ =
@@ -95,7 +95,7 @@ draws size slots id me few few_seats is going live s k _ at _ =
       },
     ))
 
--- what a look tells
+-- the knowledge that a look gives
 pub looks : (size : Size) (slots id : ℕ) (me : Mine) → me.0.size ≡ size → 0 < me.0.own.weight → Allows (IsCounterState size) slots id me 0 (λ n. n) (LooksAtCount (step slots 0 0 0 none) me)
 looks size slots id me is live s k _ at _ =
     let n : ℕ = get_or s.words 0 0 in let ps = map record_of s.views in let p = me.0.own in let at' = at_map record_of s.views id me.0 at in (
@@ -124,7 +124,7 @@ splits size id v is live some_spare s k at =
       sizes = sized_push size vs (new_view v) (sized_set size s.views id (split_view v) k.sizes (λ _. is)) (λ _. is);
     }
 
--- a join keeps it
+-- a join keeps the rule of the table
 pub joins : (size : Size) (id : ℕ) (v : View) (other : ℕ) (w : View) → v.size ≡ size → 0 < v.own.weight → 0 < w.own.weight → Joins (IsCounterState size) id v other w (both_view v w) gone_view
 joins size id v other w is live live' s k at apart at_other =
     let n : ℕ = get_or s.words 0 0 in let ps = map record_of s.views in let both = both_view v w in let vs = set s.views id both in
@@ -138,12 +138,12 @@ joins size id v other w is live live' s k at apart at_other =
       sizes = sized_set size vs other gone_view (sized_set size s.views id both k.sizes (λ _. is)) (λ none. absurd (omega arith));
     }
 
--- the first word is the one that is found there
+-- the first word of the table is the word read
 first_of_word : (ws : List ℕ) (word : ℕ) → get_elem? ws 0 ≡ some word → get_or ws 0 0 ≡ word
 first_of_word [] word e = absurd (some-ne-none word (sym e))
 first_of_word (x ∷ xs) word e = some-injective x word e
 
--- what the only pass knows once the table is closed
+-- the knowledge of the only pass after the table is closed
 pub closes : (size : Size) (id : ℕ) (v : View) (ws : List ℕ) (xs : List (Unit {0})) (word : ℕ) → Final (Seen (IsCounterState size) id v) ws xs → get_elem? ws 0 ≡ some word → 0 < v.own.weight
     → v.own.weight + v.own.spare ≡ size.seats → IsSole size.limit word v.own
 closes size id v ws xs word final at_word live all = let s = final.0 in let k = final.1.0 in let at = final.1.1 in let ps = map record_of s.views in

@@ -1,4 +1,4 @@
--- What clauses say of the workers of a run in parts.
+-- Predicates on the workers of a run in parts.
 use Rattle.std.specs.Prelude.{◌≡◌, ℕ, ◌+◌, ◌-◌, ◌<◌, ◌≤◌, Bool, List, [], length, replicate, vec_capacity, vec_len, Vec}
 use Rattle.std.specs.List.{All}
 use Rattle.audit_model.specs.Job.{Job}
@@ -14,56 +14,56 @@ use Rattle.claim_counter.specs.declared.worker.Worker.{Worker}
 use Rattle.audit_model.specs.Room.{RoomyOutcomes}
 use Rattle.flip_kernel.specs.Held.{Held}
 
--- a counter of so many places, of which nothing is drawn, and a pass that can be split for so many workers
+-- a counter of `count` places, none drawn, and a pass that can be split for `workers` workers
 pub record IsFreshPart (count workers : ℕ) (p : Part) : Type 0 where
   pub limit : (size_of p.claims).limit ≡ count
   pub seats : (size_of p.claims).seats ≡ workers
   pub pass : BelongsTo p.claims p.pass
   pub fresh : own p.pass ≡ fresh (workers - 1)
 
--- a worker may rest that has walked: there is room in its share for the outcomes of all trajectories
+-- a worker that can rest after a part: its list has capacity for the outcomes of all trajectories
 pub record MayRest (job : Job) (walker : Held) (share : RoomyOutcomes) : Type 0 where
   pub made : walker.job ≡ job
   pub share_room : total job ≤ length share.items + share.spare
 
 module _ {J : Type 0} where
-  -- between two parts: the share is empty, and has room for all outcomes
+  -- a worker between two parts: its list is empty and has capacity for all outcomes
   pub record IsHand (job : Job) (h : Hand J) : Type 0 where
     pub made : h.walker.job ≡ job
     pub empty : h.share.items ≡ []
     pub room : total job ≤ h.share.spare
 
-  -- before a part
+  -- a worker before a part
   pub record IsLent (job : Job) (c : Claims) (w : Worker J) : Type 0 where
     pub ready : IsReady job c w
     pub room : total job ≤ w.share.spare
 
-  -- after it
+  -- a worker after a part
   pub record IsBack (job : Job) (todo : List ℕ) (c : Claims) (w : Worker J) : Type 0 where
     pub done : IsWorkerDone job todo c w
     pub made : w.walker.job ≡ job
     pub room : total job ≤ length w.share.items + w.share.spare
 
-  -- there is room for one hand more
+  -- the list of resting workers has capacity for one more
   pub record HasPlace {A : Type 0} (job : Job) (hands : Vec (Hand J) A) : Type 0 where
     pub hands_are : All (IsHand job) hands.items
     pub room : vec_len hands < vec_capacity hands
 
-  -- all workers rest, and there is room to lend them
+  -- all workers rest, and there is capacity to give each a pass
   pub record AreResting {A B : Type 0} (job : Job) (hands : Vec (Hand J) A) (workers : Vec (Worker J) B) : Type 0 where
     pub some : 0 < vec_len hands
     pub hands_are : All (IsHand job) hands.items
     pub none : vec_len workers ≡ 0
     pub room : vec_len hands ≤ vec_capacity workers
 
-  -- all workers are back from a part, and there is room for them to rest
+  -- all workers are back from a part, and there is capacity for all to rest
   pub record AreBack {A B : Type 0} (job : Job) (todo : List ℕ) (c : Claims) (workers : Vec (Worker J) A) (hands : Vec (Hand J) B) : Type 0 where
     pub workers_are : All (IsBack job todo c) workers.items
     pub some : 0 < vec_len workers
     pub none : vec_len hands ≡ 0
     pub room : vec_len workers ≤ vec_capacity hands
 
-  -- so many workers, and room to lend them all
+  -- `seats` resting workers, and capacity to give each a pass
   pub record IsTeam (job : Job) (seats : ℕ) (t : Team J) : Type 0 where
     pub hands : All (IsHand job) t.hands.items
     pub count : vec_len t.hands ≡ seats
@@ -73,6 +73,6 @@ module _ {J : Type 0} where
     pub room : seats ≤ vec_capacity t.workers
     pub hub : length t.hub ≡ job.graph.units
 
-  -- no hub was walked yet
+  -- the hub is not computed yet
   abbrev pub HasNoHub : Job → Team J → Type 0
   HasNoHub job t = t.hub ≡ replicate job.graph.units 0

@@ -1,4 +1,4 @@
--- The rule of a counter, over the plain records of its passes.
+-- The rule of a counter, stated over the records of its passes.
 use Rattle.std.specs.Prelude.{◌≡◌, ℕ, ◌+◌, ◌-◌, ◌<◌, ◌≤◌, ◌&&◌, min, true, false, List, [], ◌∷◌, ◌++◌, sum_by, ◌⊎◌}
 use Rattle.std.specs.List.{range_with_len}
 use Rattle.std.specs.List.Sorted.{IsPermutation}
@@ -19,7 +19,7 @@ AreAllBelow n xs = IsPermutation xs (range_with_len 0 n)
 abbrev pub fresh : ℕ → PassRecord
 fresh spare = record { claims = []; past_end = 0; weight = 1; spare = spare; ended = false }
 
--- a pass that was taken into another
+-- a pass that was joined to another
 abbrev pub spent : PassRecord
 spent = record { claims = []; past_end = 0; weight = 0; spare = 0; ended = false }
 
@@ -35,7 +35,7 @@ at_end p = record p { past_end = p.past_end + 1; ended = true }
 abbrev pub with_less_spare : PassRecord → PassRecord
 with_less_spare p = record p { spare = p.spare - 1 }
 
--- one pass for two: it has ended where both have
+-- two passes joined into one, which has ended if both have
 abbrev pub joined_passes : PassRecord → PassRecord → PassRecord
 joined_passes p q = record {
   claims = p.claims ++ q.claims;
@@ -45,24 +45,24 @@ joined_passes p q = record {
   ended = p.ended && q.ended;
 }
 
--- A pass in use. Each of the passes that it holds makes at most one draw that finds no number left, and has then ended.
+-- A pass in use. Each of the passes joined in it makes at most one draw that finds no number left, and has then ended.
 pub record IsLive (p : PassRecord) : Type 0 where
   pub weighs : 0 < p.weight
   pub most : p.past_end ≤ p.weight
   pub before_end : p.ended ≡ false → p.past_end < p.weight
   pub after_end : p.ended ≡ true → 0 < p.past_end
 
--- The rule. `word` numbers were drawn, and these are all passes that there ever were.
+-- The rule: `word` draws were made, and the list has every pass that ever existed.
 pub record AreCounted (limit count word : ℕ) (passes : List PassRecord) : Type 0 where
-  -- each number that was drawn and is below the limit is one claim of one pass, and there are no other claims
+  -- each drawn number below the limit is one claim of one pass, and there are no other claims
   pub claims : (x : ℕ) → sum_by (λ p. times x p.claims) passes ≡ once_below x (min word limit)
-  -- the other numbers that were drawn are the draws past the end
+  -- the remaining draws are those past the end
   pub past_end : word ≡ min word limit + sum_by (λ p. p.past_end) passes
   pub each : (i : ℕ) (p : PassRecord) → get_elem? passes i ≡ some p → (p ≡ spent) ⊎ IsLive p
-  -- there are `count` seats, of which each is a pass or can still become one
+  -- of the `count` seats, each is a pass or can still become one
   pub seats : sum_by (λ p. p.weight + p.spare) passes ≡ count
 
--- of the only pass in use: its claims are the numbers drawn, each once, and where it has ended they are all
+-- the only pass in use: its claims are the drawn numbers, each once, and if it has ended they are all numbers
 pub record IsSole (limit word : ℕ) (p : PassRecord) : Type 0 where
   pub claims : (x : ℕ) → times x p.claims ≡ once_below x (min word limit)
   pub past_end : word ≡ min word limit + p.past_end

@@ -1,4 +1,4 @@
--- The rule of a counter's table, and what its steps tell.
+-- The rule of the counter's table, and the effect of each step.
 use Rattle.std.specs.Prelude.{◌≡◌, true, ℕ, ◌+◌, ◌-◌, ◌<◌, ◌≤◌, map, length, slice_index}
 use mathlib.Core.Option.{some}
 use lib.ListN.{get_elem?}
@@ -9,7 +9,7 @@ use Rattle.claim_counter.specs.declared.record.Size.{Size}
 use Rattle.claim_counter.specs.Records.{AreCounted, fresh, spent, with_claim, at_end, with_less_spare, joined_passes, AreDifferentBelow, AreAllBelow}
 use Rattle.audit_model.specs.Times.{times}
 
--- all of so many seats are the pass's: there is no other pass, and what can be split off is split off it
+-- the pass has all `seats` seats: no other pass exists
 abbrev pub HasAllSeats : ℕ → PassRecord → Type 0
 HasAllSeats seats p = p.weight + p.spare ≡ seats
 
@@ -19,7 +19,7 @@ view size p = record { size = size; own = p }
 abbrev pub record_of : View → PassRecord
 record_of v = v.own
 
--- the rule of the table: one word, which counts the draws, and passes that all know the counter's size
+-- the rule of the table: one word that counts the draws, and passes that know the counter's size
 pub record IsCounterState (size : Size) (s : State (Unit {0}) View) : Type 0 where
   pub one_word : length s.words ≡ 1
   pub counted : AreCounted size.limit size.seats (slice_index s.words 0) (map record_of s.views)
@@ -31,7 +31,8 @@ opening_view size = view size (fresh (size.seats - 1))
 abbrev pub no_size : Size
 no_size = record { limit = 0; seats = 0 }
 
--- a draw gives a number below the limit that the pass did not have, or ends the pass; with all seats, it has then drawn all
+-- a draw gives a number below the limit that the pass did not have, or ends the pass. A pass with all seats has then
+-- drawn all numbers.
 pub record DrawsNumber (st : Step (Unit {0})) (me : Me (Unit {0}) View) (found : ℕ) (me' : Me (Unit {0}) View) : Type 0 where
   pub slots : me'.1 ≡ me.1
   pub size : me'.0.size ≡ me.0.size
@@ -53,7 +54,7 @@ both_view v w = view v.size (joined_passes v.own w.own)
 abbrev pub gone_view : View
 gone_view = view no_size spent
 
--- a look changes nothing. The pass has at most all seats; with all seats and its end it has drawn all
+-- a look changes nothing. The pass has at most all seats. With all seats and its end it has drawn all numbers.
 pub record LooksAtCount (st : Step (Unit {0})) (me : Me (Unit {0}) View) (found : ℕ) (me' : Me (Unit {0}) View) : Type 0 where
   pub same : me' ≡ me
   pub seats : me.0.own.weight + me.0.own.spare ≤ me.0.size.seats

@@ -1,4 +1,4 @@
--- What clauses say of a worker before a run, between two draws, and after it.
+-- The state of a worker before a run, between two draws, and after the run.
 use Rattle.std.specs.Prelude.{◌≡◌, ℕ, ◌+◌, ◌≤◌, Bool, true, false, List, [], length, map}
 use Rattle.claim_counter.specs.declared.claims.Claims.{Claims}
 use Rattle.claim_counter.specs.declared.pass.Pass.{Pass}
@@ -10,13 +10,14 @@ use Rattle.flip_kernel.specs.Held.{Held}
 use Rattle.claim_counter.specs.declared.worker.Worker.{Worker}
 use Rattle.claim_counter.specs.Walks.{found_at, IsWithin, ServesEnds}
 
--- what workers walk together: the counter's places are those of the ids, which are ids of the job's trajectories, and the hub is there where one starts from it
+-- the shared input of the workers: one place for each id, ids of the job's trajectories, and the hub if one starts from
+-- it
 pub record IsShared (job : Job) (todo units : List ℕ) (c : Claims) : Type 0 where
   pub count : (size_of c).limit ≡ length todo
   pub within : IsWithin job todo
   pub hub : ServesEnds job todo units
 
--- it has drawn nothing, and has room for all outcomes
+-- a worker that has drawn nothing and has capacity for all outcomes
 pub record IsReady {J : Type 0} (job : Job) (c : Claims) (w : Worker J) : Type 0 where
   pub made : w.walker.job ≡ job
   pub pass : BelongsTo c w.pass
@@ -24,7 +25,7 @@ pub record IsReady {J : Type 0} (job : Job) (c : Claims) (w : Worker J) : Type 0
   pub empty : w.share.items ≡ []
   pub room : (size_of c).limit ≤ w.share.spare
 
--- between two draws: the share is what the places that were drawn give
+-- a worker between two draws: its outcomes are those of the places drawn
 pub record IsAtWork (job : Job) (todo : List ℕ) (c : Claims) (w : Held) (p : Pass) (share : RoomyOutcomes) : Type 0 where
   pub made : w.job ≡ job
   pub pass : BelongsTo c p
@@ -34,7 +35,7 @@ pub record IsAtWork (job : Job) (todo : List ℕ) (c : Claims) (w : Held) (p : P
   pub shared : share.items ≡ map (found_at job todo) (own p).claims
   pub room : (size_of c).limit ≤ length share.items + share.spare
 
--- no place is left, and its share is what the places that it drew give
+-- a worker that found no place left: its outcomes are those of the places it drew
 pub record IsWorkerDone {J : Type 0} (job : Job) (todo : List ℕ) (c : Claims) (w : Worker J) : Type 0 where
   pub pass : BelongsTo c w.pass
   pub ended : (own w.pass).ended ≡ true

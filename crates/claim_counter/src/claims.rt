@@ -1,4 +1,4 @@
-//! The counter.
+//! The counter that workers draw places from.
 ghost use Rattle.std.specs.Prelude.{◌≡◌, ◌≤◌};
 ghost use Rattle.audit_model.specs.Limits.{most_trajectories};
 
@@ -9,7 +9,7 @@ use atomic_table::Table;
 use audit_model::memory::Memory;
 use std::alloc::Global;
 
-/// Gives out the numbers below a limit, each to one pass, in whatever order the passes ask. No call waits for another.
+/// A lock-free counter that gives each number below a limit to exactly one pass, in whatever order the passes ask.
 #[derive(Drop)]
 pub struct Claims {
     pub(crate) table: Table<(), View, Size, EachOnce, Global>,
@@ -20,10 +20,10 @@ pub struct Claims {
     ghost small: { (limit ≤ most_trajectories) × (table.shared.key.seats ≤ 33) },
 }
 
-/// What a counter gave out.
+/// The result of closing a counter.
 #[derive(Clone, Copy, Debug, PartialEq, Eq)]
 pub struct Closed {
-    /// How many numbers were given out: those below it.
+    /// The number of numbers given out. The numbers are those below it.
     pub drawn: u32,
 }
 
@@ -34,7 +34,8 @@ impl Claims {
     ghost use Rattle.claim_counter.specs.Views.{HasAllSeats};
     ghost use Rattle.claim_counter.specs.Passes.{own, size_of, BelongsTo};
 
-    /// A counter of the numbers below `limit`, for at most `seats` passes, and the first of these. The only error is want of memory.
+    /// Makes a counter of the numbers below `limit`, for at most `seats` passes, and the first pass. The only error is
+    /// out of memory.
     pub fn new(alloc: Global, limit: u32, seats: u32) -> Result<(Claims, Pass), Memory>
         requires limit { limit ≤ most_trajectories }
         requires seats { (1 ≤ seats) × (seats ≤ 33) }
@@ -53,7 +54,7 @@ impl Claims {
         ))
     }
 
-    /// One more pass, which has drawn nothing. `pass` can then be split once less.
+    /// Splits off a pass that has drawn nothing. `pass` can then be split once less.
     pub fn split(&self, pass: &mut Pass) -> Pass
         requires pass { BelongsTo self.now pass.old }
         requires spare { 0 < (own pass.old).spare }
@@ -69,8 +70,8 @@ impl Claims {
         }
     }
 
-    /// Draws the next number, in one atomic step. No other pass of this counter has it, or ever gets it.
-    /// `None` says that no number was left, and the pass has ended.
+    /// Draws the next number in one atomic step. No other pass of this counter ever gets the same number.
+    /// Returns `None` if no number was left. The pass has then ended.
     pub fn claim(&self, pass: &mut Pass) -> Option<u32>
         requires pass { BelongsTo self.now pass.old }
         requires before_end { (own pass.old).ended ≡ false }
@@ -92,7 +93,7 @@ impl Claims {
         }
     }
 
-    /// One pass for two, with the numbers of both. It has ended where both have.
+    /// Joins two passes into one with the numbers of both. The result has ended if both have.
     pub fn join(&self, first: Pass, second: Pass) -> Pass
         requires first { BelongsTo self.now first }
         requires second { BelongsTo self.now second }
@@ -114,7 +115,7 @@ impl Claims {
         self.table
             .shared
             .join_seat::<OnePass>(&mut seat, other_seat);
-        // The step tells nothing of both together: a look does.
+        // Joining gives no fact about both passes together. Reading the counter afterwards does.
         self.table.shared.load::<Look>(&mut seat, 0);
         Pass {
             seat,
@@ -123,7 +124,7 @@ impl Claims {
         }
     }
 
-    /// Ends the counter, with the pass that has all seats: whatever was split off has been joined again.
+    /// Closes the counter. The pass must have all seats: every pass that was split off has been joined again.
     pub fn close(self, pass: Pass) -> Closed
         requires pass { BelongsTo self pass }
         requires only { HasAllSeats (size_of self).seats (own pass) }

@@ -1,4 +1,4 @@
-//! All workers of a run.
+//! The workers of a run in one part.
 
 ghost use Rattle.std.specs.Prelude.{◌≤◌, IfOk, vec_len};
 ghost use Rattle.claim_counter.specs.Crews.{HasWalkedNothing, IsCrew};
@@ -11,15 +11,15 @@ use flip_guard::judge::Judge;
 use plan_core::job::Job;
 use std::alloc::Global;
 
-/// All that walking takes: the workers and the hub, and with what the one part of the run is walked.
+/// The workers, the hub, and the counter of a run in one part.
 #[derive(Drop)]
 pub struct Crew<J: Judge> {
     pub(crate) part: Part,
     pub(crate) team: Team<J>,
 }
 
-/// A worker for each judge, who will walk `count` trajectories of the job together. The only error is want of memory, and walking takes no
-/// more of it. The hub was not walked yet.
+/// Makes a worker for each constraint, to walk `count` trajectories of the job together. The only error is out of
+/// memory, and walking allocates nothing more. The hub is not computed yet.
 pub fn recruit<J: Judge>(
     alloc: Global,
     job: &Job,

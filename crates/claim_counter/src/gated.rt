@@ -1,4 +1,4 @@
-//! A walker that walks only what the gate was told of.
+//! A walker that walks a trajectory only after the gate has learned its id.
 
 ghost use Rattle.std.specs.Prelude.{◌≡◌, ◌+◌, ◌<◌, ◌≤◌, length, IfOk};
 ghost use Rattle.audit_statement.specs.Draw.{draw};
@@ -14,7 +14,8 @@ use std::alloc::Global;
 use std::marker::Model;
 use walker::walker::Walker;
 
-/// That the gate was told of an id, and that nobody has walked it since. Only telling makes one, and it can be neither copied nor dropped.
+/// A start token: proof that the gate has learned an id and that nobody has walked the id since. Only `tell` makes one.
+/// It can be neither copied nor dropped.
 pub struct Told {
     id: u32,
 }
@@ -28,7 +29,7 @@ impl Model for Told {
 }
 
 impl Told {
-    /// Tells the gate of an id.
+    /// Tells the gate that the trajectory with this id is about to start.
     pub fn tell<G: Gate>(gate: &G, id: u32) -> Told
         ensures { result ≡ id }
     {
@@ -37,7 +38,7 @@ impl Told {
     }
 }
 
-/// A walker that walks a trajectory only once the gate was told of its id.
+/// A walker that takes a start token for each trajectory.
 #[derive(Drop)]
 pub struct GatedWalker<J: Judge> {
     walker: Walker<J>,
@@ -52,7 +53,8 @@ impl<J: Judge> Model for GatedWalker<J> {
 }
 
 impl<J: Judge> GatedWalker<J> {
-    /// A walker with a judge for the job. The only error is want of memory, and walking takes no more of it.
+    /// Makes a walker for the job with its constraint. The only error is out of memory, and walking allocates nothing
+    /// more.
     pub fn new(alloc: Global, job: &Job, judge: J) -> Result<GatedWalker<J>, Memory>
         requires judge { IsJudgeFor job.now (J.judging judge) }
         ensures job { IfOk result (λ w. w.job ≡ job.now) }
@@ -61,8 +63,8 @@ impl<J: Judge> GatedWalker<J> {
         Ok(GatedWalker { walker })
     }
 
-    /// Walks the trajectory of which the gate was told, and answers what it finds: one of the outlier test from the start plan, or one of the
-    /// parallel test from the hub, which is read for no other. It takes no memory.
+    /// Walks the trajectory of the token and returns its outcome. Walks of the outlier test begin at the start plan.
+    /// Endpoint trajectories begin at `hub`, which no other trajectory reads. Allocates nothing.
     pub fn walk(&mut self, job: &Job, hub: &[u32], told: Told) -> Outcome
         requires made { self.old.job ≡ job.now }
         requires id { told < job.now.setting.walks + job.now.setting.ends }
@@ -74,7 +76,7 @@ impl<J: Judge> GatedWalker<J> {
         self.walker.walk(job, hub, id)
     }
 
-    /// Writes the plan from which the trajectories of the parallel test start. It takes no memory.
+    /// Writes the hub, the plan from which endpoint trajectories begin, to `hub`. Allocates nothing.
     pub fn hub_into(&mut self, job: &Job, hub: &mut [u32])
         requires made { self.old.job ≡ job.now }
         requires units { length hub.old ≡ job.now.graph.units }

@@ -1,12 +1,13 @@
-//! Laws over a plain list with what each pass has done. A rule over a counter and more keeps its part on the counter by them.
+//! Laws about the list of pass records. A table rule that covers more than the counter keeps its counter part by these
+//! laws.
 ghost use Rattle.claim_counter.specs.RecordLaws.{StartIsCounted, NumberKeeps, EndKeeps, SplitKeeps, JoinKeeps, ClaimsAreDrawn, ClaimsDiffer, EndIsTrue, SoleHasAll, CountIsBounded, AllAreOnce, DifferentAreFew};
 
-/// The rule holds of a first pass, which has all seats.
+/// The rule holds for one first pass that has all seats.
 pub fn start_is_counted()
     ensures { StartIsCounted }
 {}
 
-/// A draw below the limit keeps the rule, and gives what no pass has.
+/// A draw below the limit keeps the rule and gives a number that no pass has.
 pub fn number_keeps()
     ensures { NumberKeeps }
 {}
@@ -26,37 +27,37 @@ pub fn join_keeps()
     ensures { JoinKeeps }
 {}
 
-/// The claims of all passes are the numbers drawn, each once.
+/// The claims of all passes are the drawn numbers, each once.
 pub fn claims_are_drawn()
     ensures { ClaimsAreDrawn }
 {}
 
-/// No two passes have one number.
+/// No number belongs to two passes.
 pub fn claims_differ()
     ensures { ClaimsDiffer }
 {}
 
-/// A pass has ended only where no number is left.
+/// If a pass has ended, no number is left.
 pub fn end_is_true()
     ensures { EndIsTrue }
 {}
 
-/// A pass with all seats knows what was drawn.
+/// The claims of a pass with all seats are all drawn numbers.
 pub fn sole_has_all()
     ensures { SoleHasAll }
 {}
 
-/// The count does not wrap.
+/// The count of draws is at most the limit plus the number of seats. It cannot wrap.
 pub fn count_is_bounded()
     ensures { CountIsBounded }
 {}
 
-/// Two ways to say that a list has all numbers below a limit, each once.
+/// The two forms of "all numbers below a limit, each once" are equivalent.
 pub fn all_are_once()
     ensures { AllAreOnce }
 {}
 
-/// So many different numbers are there below a limit.
+/// A list of different numbers below a limit is at most as long as the limit.
 pub fn different_are_few()
     ensures { DifferentAreFew }
 {}

@@ -1,5 +1,5 @@
-//! Several callers, also in several threads, draw the numbers below a limit, each number once; and workers that walk trajectories by such draws, in one part
-//! or in several.
+//! A counter that gives each number below a limit to one caller, across threads, and the workers that walk trajectories
+//! by it, in one part or in several.
 #![tactic(auto)]
 
 mod claims;

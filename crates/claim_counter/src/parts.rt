@@ -1,4 +1,4 @@
-//! A run that is walked in parts, one after the other: each worker is made once, and each part has a counter of its own.
+//! Runs in several parts, one after the other. The workers are allocated once. Each part has its own counter.
 
 ghost use Rattle.std.specs.Prelude.{◌≡◌, true, ◌+◌, ◌-◌, ◌<◌, ◌≤◌, ◌++◌, All, IfOk, IsPermutation, length, map, vec_capacity, vec_len};
 ghost use Rattle.audit_model.specs.Run.{total};
@@ -30,7 +30,7 @@ use std::alloc::Global;
 use std::thread;
 use std::thread::Threads;
 
-/// What one part is walked with: a counter of its places, and the pass that has all seats of it.
+/// The counter of one part, and the pass that has all its seats.
 #[derive(Drop)]
 pub struct Part {
     pub(crate) claims: Claims,
@@ -38,7 +38,7 @@ pub struct Part {
 }
 
 impl Part {
-    /// For `count` trajectories and so many workers. The only error is want of memory.
+    /// Makes the counter of a part with `count` trajectories and `workers` workers. The only error is out of memory.
     pub fn new(alloc: Global, count: u32, workers: u32) -> Result<Part, Memory>
         requires count { count ≤ most_trajectories }
         requires workers { (1 ≤ workers) × (workers ≤ most_workers) }
@@ -49,14 +49,14 @@ impl Part {
     }
 }
 
-/// A worker between two parts: a walker, and an empty share with room for the outcomes of all trajectories.
+/// A worker between two parts: a walker, and an empty list with capacity for the outcomes of all trajectories.
 #[derive(Drop)]
 pub struct Hand<J: Judge> {
     pub(crate) walker: GatedWalker<J>,
     pub(crate) share: OutcomeList,
 }
 
-/// All workers of a run in parts, and the hub.
+/// The workers of a run in parts, and the hub.
 #[derive(Drop)]
 pub struct Team<J: Judge> {
     pub(crate) hands: Vec<Hand<J>>,
@@ -64,7 +64,7 @@ pub struct Team<J: Judge> {
     pub(crate) hub: UnitList,
 }
 
-// A worker without a pass.
+// Makes a worker without a pass.
 fn make_hand<J: Judge>(alloc: Global, job: &Job, judge: J) -> Result<Hand<J>, Memory>
     requires judge { IsJudgeFor job.now (J.judging judge) }
     ensures { IfOk result (IsHand job.now) }
@@ -74,7 +74,7 @@ fn make_hand<J: Judge>(alloc: Global, job: &Job, judge: J) -> Result<Hand<J>, Me
     Ok(Hand { walker, share })
 }
 
-// A worker without a pass for each judge.
+// Makes a worker without a pass for each constraint.
 fn make_hands<J: Judge>(
     alloc: Global,
     job: &Job,
@@ -92,7 +92,8 @@ fn make_hands<J: Judge>(
     Ok(hands)
 }
 
-/// A worker for each judge, and no hub yet. The only error is want of memory, and walking takes no more of it.
+/// Makes a worker for each constraint. The hub is not computed yet. The only error is out of memory, and walking
+/// allocates nothing more.
 pub fn muster<J: Judge>(alloc: Global, job: &Job, judges: Vec<J>) -> Result<Team<J>, Memory>
     requires workers { 1 ≤ vec_len judges }
     requires judges { AreJudges job.now J.judging judges.items }
@@ -109,14 +110,14 @@ pub fn muster<J: Judge>(alloc: Global, job: &Job, judges: Vec<J>) -> Result<Team
     })
 }
 
-// The worker takes part, with this pass.
+// Gives the worker a pass for the next part.
 fn lend<J: Judge>(job: &Job, claims: &Claims, hand: Hand<J>, pass: Pass) -> Worker<J>
     requires limit { (size_of claims.now).limit ≤ total job.now }
     requires pass { BelongsTo claims.now pass × (own pass ≡ fresh 0) }
     requires hand { IsHand job.now hand }
     ensures { IsLent job.now claims.now result }
 {
-    // Called for what its contract says: so many trajectories there are, which fits 32 bits.
+    // Called for its contract: the job's total fits 32 bits.
     let _total = job.total();
     let Hand { walker, share } = hand;
     Worker {
@@ -126,7 +127,7 @@ fn lend<J: Judge>(job: &Job, claims: &Claims, hand: Hand<J>, pass: Pass) -> Work
     }
 }
 
-// All take part: each gets a pass.
+// Gives each worker a pass for the next part.
 fn lend_all<J: Judge>(
     job: &Job,
     claims: &Claims,
@@ -153,7 +154,7 @@ fn lend_all<J: Judge>(
     workers.push_reserved(lend(job, claims, last, pass));
 }
 
-// Each in a thread of its own, where one can be started.
+// Runs each worker in its own thread, if one can be started.
 fn run_all<R: Threads + Sync, J: Judge + Send, G: Gate + Sync>(
     rt: &Runtime<R, G>,
     job: &Job,
@@ -180,7 +181,7 @@ fn run_all<R: Threads + Sync, J: Judge + Send, G: Gate + Sync>(
     );
 }
 
-// The worker has no pass any more, and its share is empty again.
+// Takes the pass from a worker and empties its list of outcomes.
 fn rest<J: Judge>(
     job: &Job,
     walker: GatedWalker<J>,
@@ -193,13 +194,13 @@ fn rest<J: Judge>(
     ensures count { vec_len hands.new ≡ vec_len hands.old + 1 }
     ensures room { vec_capacity hands.new ≡ vec_capacity hands.old }
 {
-    // Called for what its contract says: so many trajectories there are, which fits 32 bits.
+    // Called for its contract: the job's total fits 32 bits.
     let _total = job.total();
     share.clear();
     hands.push_reserved(Hand { walker, share });
 }
 
-// The share of a worker goes into the book, and its pass comes back.
+// Merges the first worker's outcomes into the book and returns its pass.
 fn take_first<J: Judge>(
     job: &Job,
     worker: Worker<J>,
@@ -226,7 +227,7 @@ fn take_first<J: Judge>(
     pass
 }
 
-// The pass of one worker more goes into the pass of those before it, and its share into the book.
+// Joins another worker's pass to the pass so far, and merges its outcomes into the book.
 fn take_next<J: Judge>(
     job: &Job,
     claims: &Claims,
@@ -261,7 +262,7 @@ fn take_next<J: Judge>(
     both
 }
 
-// The shares of all go into the book, and one pass for all comes back.
+// Merges the outcomes of all workers into the book and returns their joined pass.
 fn take_all<J: Judge>(
     job: &Job,
     todo: &[u32],
@@ -284,7 +285,7 @@ fn take_all<J: Judge>(
     ensures none { vec_len workers.new ≡ 0 }
     ensures workers_room { vec_capacity workers.new ≡ vec_capacity workers.old }
 {
-    // Called for what their contracts say: bins add up to few enough for a book, and the job is within its limits.
+    // Called for their contracts: histograms are small enough for a book, and the job is within its limits.
     outcomes_have_few_visits();
     let _units = job.units();
     let Some(first) = workers.pop() else {
@@ -297,7 +298,7 @@ fn take_all<J: Judge>(
     pass
 }
 
-/// Walks to the hub. It takes no memory.
+/// Computes the hub. Allocates nothing.
 pub fn find_hub<J: Judge>(job: &Job, team: &mut Team<J>)
     requires team { IsTeam job.now (vec_len team.old.hands) team.old }
     ensures team { IsTeam job.now (vec_len team.old.hands) team.new }
@@ -307,9 +308,9 @@ pub fn find_hub<J: Judge>(job: &Job, team: &mut Team<J>)
     hand.walker.hub_into(job, team.hub.as_mut_slice());
 }
 
-/// Walks the trajectories with these ids, and adds their outcomes to the book. Each worker is a thread, where one can be started, and each
-/// id goes to whichever of them asks next; before it walks an id it tells the gate. It takes no memory, and the workers are as ready as
-/// before.
+/// Walks the trajectories with these ids and adds their outcomes to the book. Each worker is a thread, if one can be
+/// started. An id goes to the next worker that asks, and the gate learns each id before its walk. Allocates nothing.
+/// The workers can walk another part afterwards.
 pub fn walk_part<R: Threads + Sync, J: Judge + Send, G: Gate + Sync>(
     rt: &Runtime<R, G>,
     job: &Job,

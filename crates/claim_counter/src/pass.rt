@@ -4,7 +4,8 @@ ghost use Rattle.std.specs.Prelude.{◌≡◌, ◌<◌, []};
 use crate::record::View;
 use atomic_table::Seat;
 
-/// The right to draw numbers from a counter. What it has drawn is its claims. It takes a few bytes, and may cross threads.
+/// The right to draw numbers from a counter. Its claims are the numbers it has drawn. A pass takes a few bytes and may
+/// cross threads.
 #[derive(Drop)]
 pub struct Pass {
     pub(crate) seat: Seat<(), View>,
@@ -20,14 +21,14 @@ impl Pass {
     ghost use Rattle.std.specs.Prelude.{◌≡◌};
     ghost use Rattle.claim_counter.specs.Passes.{own};
 
-    /// Whether a draw of each pass in it found no number left.
+    /// Returns true if a draw of each joined pass found no number left.
     pub fn ended(&self) -> bool
         ensures { result ≡ (own self.now).ended }
     {
         self.ended
     }
 
-    /// How many passes can still be split off.
+    /// Returns the number of passes that can still be split off.
     pub fn spare(&self) -> u32
         ensures { result ≡ (own self.now).spare }
     {

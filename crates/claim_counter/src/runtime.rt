@@ -1,8 +1,9 @@
-//! What a run takes of the machine it runs on.
+//! The resources of the machine that a run uses.
 
 use std::alloc::Global;
 
-/// The threads, the memory and the gate of a run, which every step of it is lent. No clause speaks of them: what a run finds is the same whatever they are.
+/// The threads, the allocator and the gate of a run, borrowed by every step. No clause mentions them: the outcomes do
+/// not depend on them.
 #[derive(Drop)]
 pub struct Runtime<'a, R, G> {
     pub threads: &'a R,

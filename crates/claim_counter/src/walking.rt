@@ -1,4 +1,4 @@
-//! The trajectories of a run, walked by several threads.
+//! Walks a run's trajectories in several threads.
 
 ghost use Rattle.std.specs.List.{AllPairs};
 ghost use Rattle.std.specs.Prelude.{◌≡◌, ◌+◌, ◌<◌, ◌≤◌, ◌++◌, ℕ, All, IsFalse, length, map, vec_len, IsPermutation};
@@ -19,7 +19,7 @@ use outcome_book::laws::outcomes_by_id_are_mapped;
 use plan_core::job::Job;
 use std::thread::Threads;
 
-/// Whether one of the ids is not below the bound.
+/// Returns true if an id is at or above the bound.
 pub fn has_above(ids: &[u32], bound: u32) -> bool
     ensures none { IsFalse result → All (λ id. id < bound) ids.now }
     ensures some { All (λ id. id < bound) ids.now → IsFalse result }
@@ -32,7 +32,7 @@ pub fn has_above(ids: &[u32], bound: u32) -> bool
     false
 }
 
-// Walks to the hub exactly where one of the trajectories starts from it.
+// Computes the hub exactly if one of the trajectories starts from it.
 fn walk_hub<J: Judge>(job: &Job, todo: &[u32], team: &mut Team<J>)
     requires team { IsTeam job.now (vec_len team.old.hands) team.old }
     ensures team { IsTeam job.now (vec_len team.old.hands) team.new }
@@ -44,7 +44,7 @@ fn walk_hub<J: Judge>(job: &Job, todo: &[u32], team: &mut Team<J>)
     }
 }
 
-// Walks the trajectories with these ids, and adds their outcomes to the book.
+// Walks the trajectories with these ids and adds their outcomes to the book.
 fn walk_all<R: Threads + Sync, J: Judge + Send, G: Gate + Sync>(
     rt: &Runtime<R, G>,
     job: &Job,
@@ -62,8 +62,9 @@ fn walk_all<R: Threads + Sync, J: Judge + Send, G: Gate + Sync>(
     walk_part(rt, job, todo, part, &mut team, book);
 }
 
-/// Walks the trajectories with these ids, adds their outcomes to the book, and makes `out` the outcomes of the book by rising id. Each worker is a
-/// thread, where one can be started, and each id goes to whichever of them asks next; before it walks an id it tells the gate. It takes no memory.
+/// Walks the trajectories with these ids, adds their outcomes to the book, and fills `out` with the book's outcomes by
+/// rising id. Each worker is a thread, if one can be started. An id goes to the next worker that asks, and the gate
+/// learns each id before its walk. Allocates nothing.
 pub fn walk_run<R: Threads + Sync, J: Judge + Send, G: Gate + Sync>(
     rt: &Runtime<R, G>,
     job: &Job,
@@ -83,10 +84,11 @@ pub fn walk_run<R: Threads + Sync, J: Judge + Send, G: Gate + Sync>(
     ensures all { IsPermutation out.new.items (book.old.outcomes ++ map (found job.now) todo.now) }
     ensures room { length out.new.items + out.new.spare ≡ length out.old.items + out.old.spare }
 {
-    // Called for what its contract says: the book holds no more than it has room for.
+    // Called for its contract: the book holds no more than its capacity.
     let _kept = book.len();
     walk_all(rt, job, todo, crew, book);
-    // Called for what their contracts say: the book holds no more than it has room for, and its outcomes by id are all that were walked.
+    // Called for their contracts: the book is within its capacity, and its outcomes by id are all those that were
+    // walked.
     let _all = book.len();
     outcomes_by_id_are_mapped();
     book.sorted_into(out);

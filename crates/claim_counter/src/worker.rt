@@ -1,4 +1,4 @@
-//! One thread's part of a run.
+//! One thread of a run.
 
 use crate::gated::{GatedWalker, Told};
 use crate::{Claims, Pass};
@@ -8,7 +8,7 @@ use audit_model::outcome::Outcome;
 use flip_guard::judge::Judge;
 use plan_core::job::Job;
 
-/// A walker, a pass, and room for the outcomes of all numbers that the pass may draw.
+/// A walker, a pass, and a list with capacity for the outcomes of all numbers that the pass may draw.
 #[derive(Drop)]
 pub struct Worker<J: Judge> {
     pub walker: GatedWalker<J>,
@@ -20,7 +20,7 @@ impl<J: Judge> Worker<J> {
     ghost use Rattle.claim_counter.specs.Workers.{IsShared};
     ghost use Rattle.claim_counter.specs.Parts.{IsBack, IsLent};
 
-    /// Draws places of `todo` until none is left, and walks the trajectories with the ids that stand there.
+    /// Draws places of `todo` until none is left, and walks the trajectory whose id stands at each place.
     pub fn run<G: Gate>(&mut self, job: &Job, todo: &[u32], hub: &[u32], gate: &G, claims: &Claims)
         requires lent { IsLent job.now claims.now self.old }
         requires shared { IsShared job.now todo.now hub.now claims.now }
@@ -39,12 +39,12 @@ impl<J: Judge> Worker<J> {
 
 ghost use Rattle.std.specs.Prelude.{◌≡◌, ◌≤◌, ◌+◌, ◌++◌, [], ◌∷◌};
 
-// Appends an outcome for which there is room.
+// Appends an outcome within the capacity.
 fn append(share: &mut OutcomeList, outcome: Outcome)
     requires { 1 ≤ share.old.spare }
     ensures items { share.new.items ≡ share.old.items ++ outcome ∷ [] }
     ensures spare { share.new.spare + 1 ≡ share.old.spare }
 {
-    // There is room, so it takes no memory and cannot fail.
+    // The capacity is reserved: the push allocates nothing and cannot fail.
     let _ = share.push(outcome);
 }
