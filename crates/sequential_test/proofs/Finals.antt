@@ -1,4 +1,4 @@
--- What right outcomes settle is the stop of all ends.
+-- The stop that correct outcomes settle is the stop of all endpoints.
 use Rattle.std.proofs.Common.{◌≡◌, ℕ, zero, suc, ◌+◌, ◌<◌, ◌≤◌, ◌⊎◌, Bool, true, false, cond, not, ◌||◌, ◌==◌, List, [], ◌∷◌, ◌++◌, length, map, filter, Option, Some, None, refl, sym, ap, ◌∙◌, subst, inl, inr, arith, append_assoc}
 use Rattle.std.specs.Prelude.{nat_le, find, unwrap_or, option_map, ℤ, pos}
 use Rattle.std.specs.List.{All}
@@ -20,9 +20,9 @@ use Rattle.audit_model.proofs.First.{none_first_below}
 use Rattle.audit_model.proofs.Fitting.{outcome_id}
 use Rattle.audit_model.proofs.Below.{length-map_below, map_below_same}
 
--- ---- what is known of right outcomes
+-- ---- consequences of correct outcomes
 
--- what holds of all holds of all after the first
+-- a predicate that holds for all members holds for all after the first
 all_rest : {X : Type 0} (P : X → Type 0) (x : X) (xs : List X) → All P (x ∷ xs) → All P xs
 all_rest P x xs each = λ k d l. each (suc k) d (omega (arith, l))
 
@@ -40,7 +40,7 @@ found_value job draws place (o ∷ rest) id each h = elim (cases_Bool (o.id == i
       ∙ found_value job draws place rest id (all_rest (λ o. o ≡ outcome job draws o.id) o rest each) later
 ]
 
--- a longer list by place begins with a shorter one
+-- a longer list of values by place begins with a shorter one
 later_values : (g n : ℕ) (f : ℕ → ℤ) → g ≤ n → (later : List ℤ) × (map_below n f ≡ map_below g f ++ later)
 later_values g zero f l = let e : g ≡ zero = omega (arith, l) in ([], ap (λ k. map_below k f ++ []) (sym e))
 later_values g (suc n) f l = elim (cases_eq g (suc n)) [
@@ -60,7 +60,7 @@ pub record IsFirst (n : ℕ) (test : ℕ → Bool) (first : ℕ) : Type 0 where
   pub within : first ≤ n
   pub before : (k : ℕ) → k < first → test k ≡ false
 
--- the first number that passes, or the bound, is the first of all below it
+-- the first number that passes, or the bound, is the first of all numbers below the bound
 first_more : (n : ℕ) (test : ℕ → Bool) (o : Option ℕ) → IsFirst n test (unwrap_or o n)
     → IsFirst (suc n) test (unwrap_or (option_or o (cond (test n) (Some n) None)) (suc n))
 first_more n test (Some j) h = record { within = omega (arith, h.within); before = h.before }
@@ -75,12 +75,12 @@ first_more n test None h = elim (cases_Bool (test n)) [
   })
 ]
 
--- so it is for each bound
+-- the search below any bound finds the first number that passes
 first_is : (n : ℕ) (test : ℕ → Bool) → IsFirst n test (unwrap_or (first_below n test) n)
 first_is zero test = record { within = omega arith; before = λ k l. absurd (omega (arith, l)) }
 first_is (suc n) test = first_more n test (first_below n test) (first_is n test)
 
--- where an answer is there that is given on a condition, the condition holds, and it is this answer
+-- if a conditional answer is there, its condition holds and it is this answer
 some_parts : (b : Bool) (x s : Stop) → some_if b x ≡ Some s → (b ≡ true) × (x ≡ s)
 some_parts true x s h = (refl, ap (λ o. unwrap_or o x) h)
 some_parts false x s h = cc
@@ -91,7 +91,7 @@ module _ (job : Job) (draws : Draws) (place : ℕ) where
   abbrev walks : ℕ
   walks = job.setting.walks
 
-  -- the value of the end at a place
+  -- the value of the endpoint at a place
   abbrev end_value : ℕ → ℤ
   end_value j = value_at (outcome job draws (walks + j)) place
 
@@ -164,9 +164,9 @@ module _ (job : Job) (draws : Draws) (place : ℕ) where
         let parts = some_parts (enough_there || all_there) (stop_of job (place, ask) (known_values job place outcomes) enough) s h in
         sym (final_by ask enough s (or_cases enough_there all_there parts.0) ∙ parts.1)
 
--- ---- no end is missing
+-- ---- no endpoint is missing
 
--- where no end is missing, the test has stopped
+-- if no endpoint is missing, the test has stopped
 pub all_are_settled : (job : Job) (place : ℕ) (ask : Ask) (enough : ℕ) (outcomes : List Outcome)
     → ((j : ℕ) → j < job.setting.ends → has_id outcomes (job.setting.walks + j) ≡ true)
     → settled job (place, ask) enough outcomes ≡ Some (stop_of job (place, ask) (known_values job place outcomes) enough)

@@ -1,4 +1,4 @@
--- How many ends rounds walk, and lists of rounds.
+-- The number of endpoints after each round, and lists of rounds.
 use Rattle.std.proofs.Common.{◌≡◌, ◌∙◌, sym, ap, subst, ℕ, zero, suc, ◌+◌, ◌-◌, ◌*◌, ◌^◌, ◌≤◌, min, List, [], ◌∷◌, ◌++◌, length, length-append, get_or, inl, inr, arith}
 use Rattle.std.proofs.lemmas.Bool.{cases_eq}
 use Rattle.std.proofs.Math.Nat.{pow-succ'}
@@ -17,7 +17,7 @@ use Rattle.claim_counter.specs.Parts.{IsFreshPart}
 use Rattle.sequential_test.specs.Crews.{AreRounds}
 use Rattle.sequential_test.specs.Rounds.{ends_after, found_below, AreSettled, StopsInTime}
 
--- one round more
+-- one more round by the doubling rule
 pub next_after : (ends n : ℕ) → min ends (2 * ends_after ends n + 64) ≡ ends_after ends (suc n)
 next_after ends n =
     let twice = pow-succ' 2 n in
@@ -27,15 +27,15 @@ next_after ends n =
     double : (ends p q : ℕ) → 1 ≤ p → q ≡ 2 * p → min ends (2 * min ends (64 * (p - 1)) + 64) ≡ min ends (64 * (q - 1))
     double ends p q some twice = omega arith
 
--- before the first round no ends are walked
+-- before the first round no endpoints are walked
 pub none_after : (ends : ℕ) → ends_after ends 0 ≡ 0
 none_after ends = omega arith
 
--- never more than there are
+-- a round never goes past the last endpoint
 pub few_after : (ends n : ℕ) → ends_after ends n ≤ ends
 few_after ends n = omega arith
 
--- a list with one round more, which is the last to be walked
+-- a list with one more round, which is walked last
 pub rounds_more : (ends seats : ℕ) (rounds : List Part) (p : Part) → AreRounds ends seats 0 rounds
     → IsFreshPart (ends_after ends (suc (length rounds)) - ends_after ends (length rounds)) seats p → AreRounds ends seats 0 (p ∷ rounds)
 rounds_more ends seats rounds p are is zero d i inside at =
@@ -43,7 +43,7 @@ rounds_more ends seats rounds p are is zero d i inside at =
     subst (λ n. IsFreshPart (ends_after ends (suc n) - ends_after ends n) seats p) e is
 rounds_more ends seats rounds p are is (suc k) d i inside at = are k d i (omega arith) (omega arith)
 
--- the next round, and those after it
+-- the next round of the list
 pub next_round : (ends seats done : ℕ) (all rest : List Part) (p : Part) → AreRounds ends seats done all → all ≡ rest ++ p ∷ []
     → IsFreshPart (ends_after ends (suc done) - ends_after ends done) seats p
 next_round ends seats done all rest p are is =
@@ -52,7 +52,7 @@ next_round ends seats done all rest p are is =
     (ap (λ xs. get_or xs (length rest) p) is ∙ get_or-append_seam rest p [] p)
     (are (length rest) p done (omega arith) (omega arith))
 
--- once the last part of the list is taken, the others are the rounds after it
+-- once the last counter of the list is taken, the others are those of the rounds after it
 pub rounds_left : (ends seats done : ℕ) (all rest : List Part) (p : Part) → AreRounds ends seats done all → all ≡ rest ++ p ∷ [] → AreRounds ends seats (suc done) rest
 rounds_left ends seats done all rest p are is k d i inside at =
     let long : length all ≡ length rest + 1 = ap length is ∙ length-append rest (p ∷ []) in
@@ -62,7 +62,7 @@ rounds_left ends seats done all rest p are is k d i inside at =
 
 -- ---- between two rounds
 
--- so many rounds were walked, and after none of them was every ask settled
+-- `walked` endpoints were walked, and after no round was every ask settled
 pub record IsAtRound (job : Job) (seats all : ℕ) (rounds : List Part) (walked : ℕ) : Type 0 where
   pub done : ℕ
   pub counted : done + length rounds ≡ all
@@ -105,7 +105,7 @@ module _ (job : Job) (seats all : ℕ) (rounds : List Part) (walked : ℕ) (at :
     before = λ k some less. at.before k some (omega (arith, less));
   }
 
-  -- some test is not settled while ends are left, so rounds do not run out
+  -- while endpoints are left, some test is not settled: rounds do not run out
   pub never_out : length rounds ≡ 0 → 1 ≤ job.setting.ends → ends_after job.setting.ends all ≡ job.setting.ends
       → AreSettled job (found_below job (job.setting.walks + job.setting.ends)) → ⊥
   never_out none some whole settled =
@@ -116,13 +116,13 @@ module _ (job : Job) (seats all : ℕ) (rounds : List Part) (walked : ℕ) (at :
         | inr off ↦ omega arith
       ]) (omega arith) (subst (λ n. AreSettled job (found_below job (job.setting.walks + n))) (sym here) settled)
 
--- an empty list is any number of no rounds
+-- an empty list has the counters of no rounds
 pub no_rounds : (ends seats : ℕ) (rounds : List Part) → length rounds ≡ 0 → AreRounds ends seats 0 rounds
 no_rounds ends seats rounds none k d i inside at = absurd (omega (arith, inside, none))
 
--- ---- what is known of a job
+-- ---- limits of a job
 
--- a setting that words give has few trajectories and asks
+-- a setting read from arguments has few trajectories and asks
 few_by : (command : Command) (s : Setting) → IsSettingOf command s → (s.walks + s.ends ≤ 100000) × (length s.asks ≤ 4)
 few_by Check s is = (omega (arith, is.no_walks, is.no_ends), omega (arith, ap length is.no_asks))
 few_by Run s is = (is.few, is.few_asks)
@@ -130,6 +130,6 @@ few_by Make s is = (is.few, is.few_asks)
 few_by Plans s is = (is.few, is.few_asks)
 few_by Trace s is = (is.run.few, is.run.few_asks)
 
--- so has that of a job
+-- a job's setting has few trajectories and asks
 pub few_job : (job : Job) → IsJob job → (job.setting.walks + job.setting.ends ≤ 100000) × (length job.setting.asks ≤ 4)
 few_job job is = few_by job.setting.command job.setting is.within.setting.command

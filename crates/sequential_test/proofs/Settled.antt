@@ -1,4 +1,4 @@
--- What halving finds is what is settled.
+-- The result of the bisection is the settled stop.
 use Rattle.std.proofs.Common.{◌≡◌, ◌≢◌, ℕ, zero, suc, ◌+◌, ◌-◌, ◌<◌, ◌≤◌, Bool, true, false, cond, not, ◌||◌, ◌==◌, List, [], ◌∷◌, length, take, Option, Some, None, refl, sym, ap, ◌∙◌, subst, inl, inr, arith, take_all}
 use Rattle.std.specs.Prelude.{nat_le, count_by, unwrap_or, ℤ}
 use Rattle.std.specs.Option.{option_or}
@@ -22,7 +22,7 @@ use Rattle.sequential_test.proofs.Ranks.{AreApart, ends_counted, tails_counted, 
 
 -- ---- counts below a bound
 
--- where each passes, or one more would not make all pass
+-- if the count equals the bound, each number below it passes
 pub all_pass : (n : ℕ) (test : ℕ → Bool) → count_below n test ≡ n → (k : ℕ) → k < n → test k ≡ true
 unfolding count_below
 all_pass zero test h k l = absurd (omega arith)
@@ -38,13 +38,13 @@ all_pass (suc n) test h k l = elim (cases_Bool (test n)) [
       absurd (omega (arith, h, none, count_below_le n test))
 ]
 
--- where all numbers below a bound pass and one more do not, the bound does not
+-- if all numbers below n pass but not all below n + 1, then n fails
 pub next_fails : (n : ℕ) (test : ℕ → Bool) → count_below n test ≡ n → count_below (suc n) test ≢ suc n → test n ≡ false
 unfolding count_below
 next_fails n test h short = false_from_ne_true (test n) (λ hit.
     let one : cond {A = ℕ} (test n) 1 0 ≡ 1 = cond-true {A = ℕ} (test n) 1 0 hit in short (omega (arith, h, one)))
 
--- what is counted of one is 0 or 1
+-- one test counts 0 or 1
 at_most_one : (b : Bool) → cond {A = ℕ} b 1 0 ≤ 1
 at_most_one true = omega arith
 at_most_one false = omega arith
@@ -77,7 +77,7 @@ first_below_is (suc n) test k l none hit = elim (cases_eq k n) [
 
 -- ---- lists made by place
 
--- the first of a table of values
+-- a prefix of a table of values is the shorter table
 take-map_below : (g n : ℕ) (f : ℕ → ℤ) → n ≤ g → take n (map_below g f) ≡ map_below n f
 take-map_below g n f l = elim (cases_eq n g) [
   | inl e ↦ take_all n (map_below g f) (omega (arith, e, length-map_below g f)) ∙ ap (λ k. map_below k f) (sym e)
@@ -105,7 +105,7 @@ abbrev pub settled_from : ℕ → Tail → ℤ → List ℤ → ℕ → Option S
 settled_from ends tail start values enough =
     some_if (nat_le enough (count_in_tail tail start values) || (length values == ends)) (stop tail start values enough)
 
--- where the condition holds, the answer is there
+-- if the condition holds, the answer is there
 some_from : (b : Bool) (s : Stop) → b ≡ true → some_if b s ≡ Some s
 some_from b s h = ap (λ t. some_if t s) h
 
@@ -128,7 +128,7 @@ module _ (tail : Tail) (start : ℤ) (g : ℕ) (f : ℕ → ℤ) (enough : ℕ) 
   too_few : (n : ℕ) → n ≤ g → inside n < enough → reached n ≡ false
   too_few n l few = ne_eqb (count_in_tail tail start (take n values)) enough (λ e. omega (arith, e, few, counted n l))
 
-  -- stopped at a place
+  -- the test stopped at this place
   pub stopped : (ends place : ℕ) → 1 ≤ place → place ≤ g → enough ≤ inside place → inside (place - 1) < enough
       → Some (record { place = place; top = enough; of = place }) ≡ settled_from ends tail start values enough
   stopped ends place some l hit before =
@@ -150,7 +150,7 @@ module _ (tail : Tail) (start : ℤ) (g : ℕ) (f : ℕ → ℤ) (enough : ℕ) 
   short_of few = false_from_ne_true (nat_le enough (count_in_tail tail start values)) (λ h.
       let le = leb-true enough (count_in_tail tail start values) h in omega (arith, le, few, all_counted))
 
-  -- all ends are there, and too few in the tail
+  -- all endpoints are there, and too few are in the tail
   pub ended : inside g < enough → Some (record { place = g; top = inside g + 1; of = g + 1 }) ≡ settled_from g tail start values enough
   ended few =
       let none : first_below (length values + 1) reached ≡ None = none_first_below (length values + 1) reached
@@ -165,13 +165,13 @@ module _ (tail : Tail) (start : ℤ) (g : ℕ) (f : ℕ → ℤ) (enough : ℕ) 
           → let s : Stop = record { place = n; top = m + 1; of = n + 1 } in let t : Stop = record { place = g; top = inside g + 1; of = g + 1 } in s ≡ t
       three a b = λ i. record { place = a i; top = b i + 1; of = a i + 1 }
 
-  -- an end is missing, and too few are in the tail so far
+  -- an endpoint is missing, and too few are in the tail so far
   pub unsettled : (ends : ℕ) → inside g < enough → g < ends → None ≡ settled_from ends tail start values enough
   unsettled ends few l = sym (ap (λ b. some_if b (stop tail start values enough))
       (or_from (nat_le enough (count_in_tail tail start values)) (length values == ends) (short_of few)
       (ne_eqb (length values) ends (λ e. omega (arith, e, l, length-map_below g f)))))
 
--- ---- the ends that are known
+-- ---- the known endpoints
 
 abbrev pub gap_at : ℕ → ℕ → List Outcome → ℕ
 gap_at walks ends outcomes = unwrap_or (first_below ends (λ j. not (has_id outcomes (walks + j)))) ends
@@ -179,7 +179,7 @@ gap_at walks ends outcomes = unwrap_or (first_below ends (λ j. not (has_id outc
 abbrev pub values_from : ℕ → ℕ → ℕ → List Outcome → List ℤ
 values_from walks ends place outcomes = map_below (gap_at walks ends outcomes) (λ j. value_with_id place outcomes (walks + j))
 
--- what halving tells of the number of ends before the first that is missing
+-- the result of the bisection for the first missing endpoint
 pub record IsGap (walks ends known : ℕ) (outcomes : List Outcome) : Type 0 where
   pub within : known ≤ ends
   pub counted : ends_below walks outcomes known ≡ known
@@ -209,7 +209,7 @@ module _ (walks ends g : ℕ) (outcomes : List Outcome) (apart : AreApart outcom
         ap (λ o. unwrap_or o ends) (none_first_below ends (λ j. not (there j)) (λ j less. not_from_true (there j) (all_there j (omega (arith, less, e))))) ∙ e
   ]
 
-  -- the count of ends in the tail is that of their values by place
+  -- the count of endpoints in the tail is the count over their values by place
   pub tails_are : (place : ℕ) (tail : Tail) (start : ℤ) (n : ℕ) → n ≤ g
       → tails_below walks place tail start outcomes n ≡ count_below n (λ j. in_tail tail (value_with_id place outcomes (walks + j)) start)
   tails_are place tail start n l = tails_counted walks (λ v. in_tail tail v start) place outcomes apart n (λ j less. all_there j (omega (arith, less, l)))
@@ -217,7 +217,7 @@ module _ (walks ends g : ℕ) (outcomes : List Outcome) (apart : AreApart outcom
   pub values_are : (place : ℕ) → values_from walks ends place outcomes ≡ map_below g (λ j. value_with_id place outcomes (walks + j))
   values_are place = ap (λ n. map_below n (λ j. value_with_id place outcomes (walks + j))) gap_is
 
--- the same for a job with these numbers
+-- the settled stop of a job with these numbers
 pub of_job : (walks ends place enough : ℕ) (tail : Tail) (start : ℤ) (outcomes : List Outcome) (job : Job) (ask : Ask)
     → job.setting.walks ≡ walks → job.setting.ends ≡ ends → ask.tail ≡ tail → plan_value job job.start ask.score ≡ start
     → settled_from ends tail start (values_from walks ends place outcomes) enough ≡ settled job (place, ask) enough outcomes

@@ -1,4 +1,4 @@
--- Parts of the list of all ids, and what is found by the trajectories that were walked so far.
+-- Ranges of the list of all ids, and the outcomes of the trajectories walked so far.
 use Rattle.std.proofs.Common.{◌≡◌, ◌∙◌, refl, sym, ap, subst, ℕ, zero, suc, ◌+◌, ◌-◌, ◌<◌, ◌≤◌, inl, inr, min, Bool, true, false, cond, List, [], ◌∷◌, ◌++◌, length, map, take, drop, get_or, Some, All, append-nil, append_assoc, arith}
 use Rattle.std.specs.Prelude.{◌==◌, nat_lt, IsPermutation}
 use Rattle.std.specs.List.{slice_get, enumerate_from}
@@ -23,7 +23,7 @@ use Rattle.sequential_test.specs.Rounds.{found_below, AreIds, AreSettled, AreSet
 
 -- ---- parts of the ids
 
--- a part of all ids is the ids from one bound to the other
+-- a slice of the list of all ids has the ids between its bounds
 pub ids_between : (n from to : ℕ) (all ids : List ℕ) → all ≡ map_below n (λ id. id) → from ≤ to → to ≤ n → ids ≡ take (to - from) (drop from all) → AreIds from to ids
 ids_between n from to all ids whole order few is =
     let long : length all ≡ n = ap length whole ∙ length-map_below n (λ id. id) in
@@ -39,7 +39,7 @@ ids_between n from to all ids whole order few is =
           ∙ get_or-map_below n (λ id. id) (from + k) d (omega arith);
     }
 
--- a list of all ids is one of as many as it has
+-- the list of all ids below n is the list of all ids below its own length
 pub whole_ids : (n : ℕ) (all : List ℕ) → all ≡ map_below n (λ id. id) → all ≡ map_below (length all) (λ id. id)
 whole_ids n all is = is ∙ ap (λ k. map_below k (λ id. id)) (let long : n ≡ length all = sym (ap length is ∙ length-map_below n (λ id. id)) in long)
 
@@ -89,7 +89,7 @@ module _ (f : ℕ → Outcome) (same : (id : ℕ) → (f id).id ≡ id) where
       let e = id_at n k d l in
       omega (arith, e, l, few)
 
-  -- more found, by the next ids
+  -- the outcomes of the next ids extend the table of outcomes
   extend : (ids : List ℕ) (from : ℕ) → ((k d : ℕ) → k < length ids → get_or ids k d ≡ from + k) → map_below from f ++ map f ids ≡ map_below (from + length ids) f
   extend [] from at = append-nil (map_below from f) ∙ ap (λ n. map_below n f) (let e : from ≡ from + 0 = omega arith in e)
   extend (x ∷ rest) from at =
@@ -115,7 +115,7 @@ module _ (f : ℕ → Outcome) (same : (id : ℕ) → (f id).id ≡ id) where
             ∙ ap (λ k. map_below k f) (let e : min n to ≡ min (suc n) to = omega (arith, past) in e)
       ]
 
--- the law of a book: where each outcome is what a function gives of its id, those by rising id are what it gives of the ids, in rising order
+-- the law of a book: if each outcome is a function of its id, the outcomes by rising id are that function over the ids
 abbrev pub AreMapped : Type 0
 AreMapped = (n : ℕ) (os : List Outcome) (test : ℕ → Bool) (f : ℕ → Outcome) → All (λ o. o ≡ f o.id) os → ((id : ℕ) → id < n → has_id os id ≡ test id)
     → by_id n os ≡ map f (filter_below n test)
@@ -127,7 +127,7 @@ module _ (job : Job) where
   same : (id : ℕ) → (f id).id ≡ id
   same id = outcome_id job (draw job.setting.key) id
 
-  -- these ids may be walked where those before them were
+  -- the next ids can be walked once those before them were walked
   pub may_walk : (from to : ℕ) (ids : List ℕ) (kept : List Outcome) → AreIds from to ids → to ≤ total job → IsPermutation kept (found_below job from) → IsTodo job kept ids
   unfolding found_below
   may_walk from to ids kept are few walked = record {
@@ -145,7 +145,7 @@ module _ (job : Job) where
         ∙ has_false f same from id (omega (arith, are.at k d inside));
   }
 
-  -- what is found with them
+  -- the outcomes after the next ids are walked
   pub found_more : (from to : ℕ) (ids : List ℕ) (before after : List Outcome) → AreIds from to ids → IsPermutation before (found_below job from)
       → IsPermutation after (before ++ map (found job) ids) → IsPermutation after (found_below job to)
   unfolding found found_below
@@ -154,7 +154,7 @@ module _ (job : Job) where
       IsPermutation-trans after (before ++ map f ids) (map_below to f) moved
       (subst (IsPermutation (before ++ map f ids)) all (IsPermutation-append_left (map f ids) before (map_below from f) walked))
 
-  -- by rising id
+  -- the outcomes walked so far, by rising id
   pub found_sorted : AreMapped → (to : ℕ) (outcomes : List Outcome) → to ≤ total job → IsPermutation outcomes (found_below job to) → by_id (total job) outcomes ≡ found_below job to
   unfolding found_below
   found_sorted law to outcomes few moved =
@@ -176,15 +176,15 @@ module _ (job : Job) where
   unfolding found_below
   found_there to j l = has_true f same to j l
 
--- ---- where all is settled
+-- ---- every ask is settled
 
--- the law of tests: where no end is missing, each has stopped
+-- the law of tests: if no endpoint is missing, each test has stopped
 abbrev pub AllSettle : Type 0
 AllSettle = (job : Job) (place : ℕ) (ask : Ask) (enough : ℕ) (outcomes : List Outcome)
     → ((j : ℕ) → j < job.setting.ends → has_id outcomes (job.setting.walks + j) ≡ true)
     → settled job (place, ask) enough outcomes ≡ Some (stop_of job (place, ask) (known_values job place outcomes) enough)
 
--- what is found of all ends settles every ask
+-- the outcomes of all endpoints settle every ask
 pub all_settled : AllSettle → (job : Job) → AreSettled job (found_below job (job.setting.walks + job.setting.ends))
 all_settled law job place ask at =
     let outcomes = found_below job (job.setting.walks + job.setting.ends) in (
@@ -192,7 +192,7 @@ all_settled law job place ask at =
       law job place ask job.setting.stop outcomes (λ j l. found_there job (job.setting.walks + job.setting.ends) (job.setting.walks + j) (omega (arith, l))),
     )
 
--- the numbers of each ask, one after the other
+-- the stops of the asks, one after the other
 numbers_of : (g : ℕ × Ask → List ℕ) (asks : List Ask) (n : ℕ) (stops : List (List ℕ)) → length asks ≤ length stops
     → ((place : ℕ) (ask : Ask) → place < length asks → slice_get asks place ≡ Some ask → get_or stops place [] ≡ g (n + place, ask))
     → take (length asks) stops ≡ map g (enumerate_from n asks)
@@ -203,12 +203,12 @@ numbers_of g (ask ∷ asks) n (s ∷ stops) enough each =
     ∙ ap (λ xs. g (n, ask) ∷ xs) (numbers_of g asks (n + 1) stops (omega (arith, enough)) (λ place a inside at.
     each (suc place) a (omega (arith, inside)) at ∙ ap (λ k. g (k, a)) (let e : n + suc place ≡ n + 1 + place = omega arith in e)))
 
--- the law of tests: what right outcomes settle is the stop of all ends
+-- the law of tests: a stop that correct outcomes settle is the stop of all endpoints
 abbrev pub AreFinal : Type 0
 AreFinal = (job : Job) (draws : Draws) (place : ℕ) (ask : Ask) (enough : ℕ) (outcomes : List Outcome) (s : Stop) → IsRight job draws outcomes
     → settled job (place, ask) enough outcomes ≡ Some s → s ≡ stop_of job (place, ask) (end_values job place (sequence job draws)) enough
 
--- what is settled for every ask are the stops of all ends
+-- the stops settled for every ask are the stops of all endpoints
 pub final_stops : AreFinal → (job : Job) (draws : Draws) (outcomes : List Outcome) (stops : List (List ℕ)) → IsRight job draws outcomes → 1 ≤ job.setting.stop
     → length job.setting.asks ≤ length stops → AreSettledBelow job outcomes (length job.setting.asks) stops
     → take (length job.setting.asks) stops ≡ stops_of job (sequence job draws)
@@ -225,12 +225,12 @@ final_stops law job draws outcomes stops right some enough settled_so = by job.s
 
 -- ---- the first walks
 
--- nothing is found of no ids
+-- no ids have no outcomes
 pub found_none : (job : Job) → found_below job 0 ≡ []
 unfolding found_below
 found_none job = refl
 
--- so an empty book is what was found before the first walk
+-- an empty book has the outcomes from before the first walk
 pub none_walked : (job : Job) (outcomes : List Outcome) → outcomes ≡ [] → IsPermutation outcomes (found_below job 0)
 none_walked job outcomes none = subst (λ (xs : List Outcome). IsPermutation xs (found_below job 0)) (sym none)
     (subst (IsPermutation []) (sym (found_none job)) (IsPermutation-refl []))

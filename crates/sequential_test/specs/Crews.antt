@@ -1,4 +1,4 @@
--- What clauses say of the workers of a run whose tests stop early.
+-- Predicates on the workers of a run whose tests stop early.
 use Rattle.std.specs.Prelude.{◌≡◌, ℕ, suc, ◌+◌, ◌-◌, ◌<◌, ◌≤◌, Bool, List, length, vec_len, IsPermutation}
 use Rattle.std.specs.List.{slice_index_or}
 use Rattle.audit_model.specs.Job.{Job}
@@ -13,13 +13,13 @@ use Rattle.claim_counter.specs.Parts.{HasNoHub, IsFreshPart, IsTeam}
 use Rattle.sequential_test.specs.declared.crew.StoppingCrew.{StoppingCrew}
 use Rattle.sequential_test.specs.Rounds.{ends_after, found_below}
 
--- the rounds after so many, the first of them at the end of the list
+-- the counters of the rounds after the first `done`, the next of them at the end of the list
 abbrev pub AreRounds : ℕ → ℕ → ℕ → List Part → Type 0
 AreRounds ends seats done rounds = (k : ℕ) (d : Part) (i : ℕ) → k < length rounds → i + k + 1 ≡ done + length rounds
     → IsFreshPart (ends_after ends (suc i) - ends_after ends i) seats (slice_index_or rounds k d)
 
 module _ {J : Type 0} where
-  -- so many workers, a part for all outlier trajectories, and rounds for all ends
+  -- `seats` workers, a counter for all outlier walks, and counters for rounds of all endpoints
   pub record IsStoppingCrew (job : Job) (workers : ℕ) (c : StoppingCrew J) : Type 0 where
     pub workers_are : c.seats ≡ workers
     pub team : IsTeam job c.seats c.team
@@ -27,11 +27,12 @@ module _ {J : Type 0} where
     pub rounds : AreRounds job.setting.ends c.seats 0 c.rounds.items
     pub all : ends_after job.setting.ends (vec_len c.rounds) ≡ job.setting.ends
 
-  -- they have walked nothing, not even to the hub
+  -- nothing is walked yet, and the hub is not computed
   abbrev pub HasStartedNothing : Job → StoppingCrew J → Type 0
   HasStartedNothing job c = HasNoHub job c.team
 
-  -- the trajectories with the first ids were walked, and the workers are ready for more, with the hub and with room for all outcomes
+  -- the trajectories with ids below `count` were walked, and the workers are ready for more, with the hub and capacity
+  -- for all outcomes
   pub record HasWalkedTo (job : Job) (seats count : ℕ) (t : Team J) (b : Booked) (sorted : RoomyOutcomes) : Type 0 where
     pub team : IsTeam job seats t
     pub hub_is : t.hub ≡ hub job (draw job.setting.key)

@@ -1,10 +1,10 @@
--- How many of the first ends are there, and how many of them are in the tail.
+-- The number of the first endpoints that are there, and the number of them in the tail.
 use Rattle.std.specs.Prelude.{ℕ, ◌+◌, ◌&&◌, Bool, nat_le, nat_lt, List, count_by, ℤ}
 use Rattle.audit_model.specs.declared.outcome.Outcome.{Outcome}
 use Rattle.audit_model.specs.declared.setting.Tail.{Tail}
 use Rattle.audit_model.specs.Trajectory.{in_tail, value_at}
 
--- the outcome is one of the first ends
+-- the outcome is one of the first n endpoints
 abbrev pub is_end_below : ℕ → ℕ → Outcome → Bool
 is_end_below walks n o = nat_le walks o.id && nat_lt o.id (walks + n)
 

@@ -1,4 +1,4 @@
--- How many ends a run walks whose tests stop early, and where each test stopped.
+-- The number of endpoints walked by a run whose tests stop early, and the place at which each test stopped.
 use Rattle.std.specs.Prelude.{◌≡◌, ℕ, ◌+◌, ◌-◌, ◌*◌, ◌^◌, ◌<◌, ◌≤◌, min, List, [], length, slice_index, Some}
 use Rattle.std.specs.List.{slice_get, slice_index_or}
 use Rattle.audit_model.specs.declared.outcome.Outcome.{Outcome}
@@ -10,36 +10,37 @@ use Rattle.audit_model.specs.Stopping.{settled, three_numbers}
 use Rattle.audit_model.specs.Trajectory.{outcome}
 use Rattle.audit_statement.specs.Draw.{draw}
 
--- how many ends are walked after so many rounds: 64 in the first, and in each other twice as many as in the one before it, while some are left
+-- the number of endpoints walked after n rounds: 64 in the first round, then twice those of the round before, up to all
+-- endpoints
 abbrev pub ends_after : ℕ → ℕ → ℕ
 ends_after ends rounds = min ends (64 * (2 ^ rounds - 1))
 
--- what the trajectories with the first ids find, by the draws of the job's key
+-- the outcomes of the first n trajectories, by the draws of the job's key
 unfoldable pub found_below : Job → ℕ → List Outcome
 found_below job count = map_below count (outcome job (draw job.setting.key))
 
--- the ids from one to another
+-- the ids from one bound to the other
 pub record AreIds (from to : ℕ) (ids : List ℕ) : Type 0 where
   pub count : from + length ids ≡ to
   pub at : (k d : ℕ) → k < length ids → slice_index_or ids k d ≡ from + k
 
--- the ask at a place is settled by these outcomes, with these three numbers
+-- these outcomes settle the ask at this place, with these three numbers
 pub record IsSettledAs (job : Job) (outcomes : List Outcome) (place : ℕ) (ask : Ask) (numbers : List ℕ) : Type 0 where
   pub stop : Stop
   pub settled_is : settled job (place, ask) job.setting.stop outcomes ≡ Some stop
   pub numbers_are : numbers ≡ three_numbers stop
 
--- each of the first asks is, with the numbers at its place
+-- these outcomes settle each of the first n asks, with the numbers at its place
 abbrev pub AreSettledBelow : Job → List Outcome → ℕ → List (List ℕ) → Type 0
 AreSettledBelow job outcomes count stops = (place : ℕ) (ask : Ask) → place < count → slice_get job.setting.asks place ≡ Some ask
     → IsSettledAs job outcomes place ask (slice_index_or stops place [])
 
--- every ask is settled
+-- these outcomes settle every ask
 abbrev pub AreSettled : Job → List Outcome → Type 0
 AreSettled job outcomes = (place : ℕ) (ask : Ask) → slice_get job.setting.asks place ≡ Some ask
     → (s : Stop) × (settled job (place, ask) job.setting.stop outcomes ≡ Some s)
 
--- a place among so many ends, and a part of the values up to it
+-- a place of at most `ends`, and a fraction above 0 and at most 1
 pub record IsPartOf (ends : ℕ) (numbers : List ℕ) : Type 0 where
   pub place : slice_index numbers 0 ≤ ends
   pub some : 1 ≤ slice_index numbers 1
@@ -49,7 +50,7 @@ pub record IsPartOf (ends : ℕ) (numbers : List ℕ) : Type 0 where
 abbrev pub AreParts : ℕ → ℕ → List (List ℕ) → Type 0
 AreParts ends count stops = (place : ℕ) → place < count → IsPartOf ends (slice_index_or stops place [])
 
--- So many rounds were walked and no more: after none of those before the last was every ask settled.
+-- No round more than needed was walked: after each round before the last, some ask was not settled.
 pub record StopsInTime (job : Job) (outcomes : List Outcome) : Type 0 where
   pub rounds : ℕ
   pub some : 1 ≤ rounds

@@ -1,4 +1,4 @@
-//! All that walking takes, made before the first walk.
+//! The workers and counters of a run whose tests stop early.
 
 ghost use Rattle.std.specs.Prelude.{◌≡◌, ◌+◌, ◌*◌, ◌≤◌, min, IfOk, vec_len};
 ghost use Rattle.sequential_test.specs.Crews.{AreRounds, HasStartedNothing, IsStoppingCrew};
@@ -12,10 +12,11 @@ use flip_guard::judge::Judge;
 use plan_core::job::Job;
 use std::alloc::Global;
 
-/// The ends of the first round.
+/// The number of endpoint trajectories in the first round.
 const FIRST_ROUND: u32 = 64;
 
-/// The workers, and with what they walk the outlier trajectories and each round of ends: the round that is walked first is the last one here.
+/// The workers, and a counter for the outlier walks and for each round of endpoint trajectories. Rounds are popped from
+/// the end, so the first round stands last.
 #[derive(Drop)]
 pub struct StoppingCrew<J: Judge> {
     pub(crate) team: Team<J>,
@@ -24,7 +25,8 @@ pub struct StoppingCrew<J: Judge> {
     pub(crate) rounds: Vec<Part>,
 }
 
-/// How many of so many ends are walked after one round more. Each round has twice as many ends as the one before, while some are left.
+/// Returns the number of endpoint trajectories walked after one more round. Each round doubles the number of the round
+/// before, up to `ends`.
 pub fn after_round(ends: u32, walked: u32) -> u32
     requires { (ends ≤ most_trajectories) × (walked ≤ ends) }
     ensures { result ≡ min ends (2 * walked + 64) }
@@ -32,7 +34,7 @@ pub fn after_round(ends: u32, walked: u32) -> u32
     ends.min(2 * walked + FIRST_ROUND)
 }
 
-// What each round is walked with.
+// Makes the counter of each round.
 fn make_rounds(alloc: Global, ends: u32, seats: u32) -> Result<Vec<Part>, Memory>
     requires ends { ends ≤ most_trajectories }
     requires seats { (1 ≤ seats) × (seats ≤ most_workers) }
@@ -50,8 +52,8 @@ fn make_rounds(alloc: Global, ends: u32, seats: u32) -> Result<Vec<Part>, Memory
     Ok(rounds)
 }
 
-/// A worker for each judge, and all that they need for any number of rounds. The only error is want of memory, and walking takes no more of it.
-/// The hub was not walked yet.
+/// Makes a worker for each constraint, and counters for every round that may come. The only error is out of memory, and
+/// walking allocates nothing more. The hub is not computed yet.
 pub fn recruit<J: Judge>(
     alloc: Global,
     job: &Job,
@@ -62,7 +64,7 @@ pub fn recruit<J: Judge>(
     ensures crew { IfOk result (IsStoppingCrew job.now (vec_len judges)) }
     ensures no_hub { IfOk result (HasStartedNothing job.now) }
 {
-    // Called for what its contract says: the job is within its limits, and its start plan is legal.
+    // Called for its contract: the job is within its limits, and its start plan is legal.
     let _units = job.units();
     let seats = judges.len() as u32;
     let walks = Part::new(alloc, job.setting().walks, seats)?;

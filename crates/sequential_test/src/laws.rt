@@ -1,4 +1,4 @@
-//! What is settled early is settled for good.
+//! Laws that an early stop is final.
 
 ghost use Rattle.std.specs.Prelude.{◌≡◌, ℕ, ◌+◌, ◌<◌, IsTrue, List, Some};
 ghost use Rattle.audit_model.specs.Job.{Job};
@@ -9,13 +9,13 @@ ghost use Rattle.audit_model.specs.declared.outcome.Outcome.{Outcome};
 ghost use Rattle.audit_model.specs.declared.outcome.Stop.{Stop};
 ghost use Rattle.audit_model.specs.declared.setting.Ask.{Ask};
 
-/// Where the outcomes that are there are what their trajectories find, what they settle is the stop of all ends that one thread finds.
+/// If the outcomes are correct, a stop settled by some of them is the stop of all endpoint trajectories of one thread.
 pub fn settled_stops_are_final()
     ensures { (job : Job) (draws : Draws) (place : ℕ) (ask : Ask) (enough : ℕ) (outcomes : List Outcome) (s : Stop) → IsRight job draws outcomes →
         settled job (place, ask) enough outcomes ≡ Some s → s ≡ stop_of job (place, ask) (end_values job place (sequence job draws)) enough }
 {}
 
-/// Where no end is missing, the test has stopped.
+/// If no endpoint is missing, the test has stopped.
 pub fn all_ends_settle()
     ensures { (job : Job) (place : ℕ) (ask : Ask) (enough : ℕ) (outcomes : List Outcome) →
         ((j : ℕ) → j < job.setting.ends → IsTrue (has_id outcomes (job.setting.walks + j))) →

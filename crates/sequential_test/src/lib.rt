@@ -1,4 +1,4 @@
-//! The parallel test that stops early, once enough ends are in the tail.
+//! The parallel test with an early stop, once enough endpoints are in the tail.
 #![tactic(auto)]
 
 pub mod crew;

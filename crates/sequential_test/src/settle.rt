@@ -1,4 +1,4 @@
-//! Where a test stops that stops early, as far as the ends that are there tell.
+//! The stopping place of one test, from the outcomes so far.
 
 ghost use Rattle.std.specs.Prelude.{◌≡◌, ◌≢◌, ℕ, ◌+◌, ◌-◌, ◌<◌, ◌≤◌, length, pos, IfSome};
 ghost use Rattle.std.specs.List.{slice_get, AllPairs};
@@ -14,7 +14,7 @@ use audit_model::setting::Tail;
 use outlier_tests::in_tail;
 use plan_core::job::Job;
 
-/// How many ends a job has, and how many outlier walks come before them.
+/// The number of endpoint trajectories of a job, and the number of outlier walks before them.
 #[derive(Clone, Copy)]
 struct Span {
     walks: u32,
@@ -22,7 +22,8 @@ struct Span {
     ghost few: { walks + ends ≤ most_trajectories },
 }
 
-/// A score's place among the asks, the start's value, the tail that it is tested in, and how many outlier walks come before the ends.
+/// One test on endpoints: the number of outlier walks before them, the ask's place, the start plan's value, and the
+/// tail.
 #[derive(Clone, Copy)]
 struct EndTest {
     walks: u32,
@@ -32,13 +33,13 @@ struct EndTest {
     ghost place_is: { place < 4 },
 }
 
-/// What the outcomes that are there settle for an ask: the place at which Besag and Clifford's test stops that needs `hits` ends in the tail,
-/// and its p-value as a fraction. The outcomes may be in any order, and some may be past that place.
+/// Returns the stopping place of Besag and Clifford's sequential test for an ask, and its p-value as a fraction. The
+/// test needs `hits` endpoints in the tail. The outcomes may be in any order and may lie past that place.
 ///
-/// Only ends by rising id up to the first that is missing count. Where `hits` of these are in the tail, the place is the least number of them
-/// among which there are `hits`, and the fraction is `hits` out of that number. Where fewer are and none is missing, the place is the number of
-/// all ends, and the fraction is one more than are in the tail out of one more than there are. Elsewhere nothing is settled: `None`. It
-/// takes no memory.
+/// Only endpoints by rising id up to the first missing one count. If `hits` of them are in the tail, the place is the
+/// least number of endpoints with `hits` in the tail. The fraction is then `hits` over the place. If fewer are in the
+/// tail and none is missing, the place is the number of all endpoints. The fraction is then one more than the number in
+/// the tail, over one more than the number of endpoints. Returns `None` otherwise. Allocates nothing.
 pub fn settle(job: &Job, ask: u32, hits: u32, posted: &[Outcome]) -> Option<Stop>
     requires ask { ask < length job.now.setting.asks }
     requires some { 1 ≤ hits }
@@ -46,7 +47,7 @@ pub fn settle(job: &Job, ask: u32, hits: u32, posted: &[Outcome]) -> Option<Stop
     ensures settled { IfSome (slice_get job.now.setting.asks ask) (λ asked. result ≡ settled job.now (ask, asked) hits posted.now) }
     ensures part { IfSome result (λ s. (s.place ≤ job.now.setting.ends) × (1 ≤ s.top) × (s.top ≤ s.of) × (s.of ≤ job.now.setting.ends + 1)) }
 {
-    // Called for what its contract says: the job is within its limits, and its start plan is legal.
+    // Called for its contract: the job is within its limits, and its start plan is legal.
     let _units = job.units();
     let setting = job.setting();
     let place = ask as usize;
@@ -58,7 +59,7 @@ pub fn settle(job: &Job, ask: u32, hits: u32, posted: &[Outcome]) -> Option<Stop
     settle_values(span, tail, job.start_value(ask), place, hits, posted)
 }
 
-/// How many of the first `count` ends are there.
+/// Returns the number of the first `count` endpoints whose outcomes are there.
 fn count_ends(walks: u32, posted: &[Outcome], count: u32) -> usize
     requires few { walks + count ≤ most_trajectories }
     ensures { result ≡ ends_below walks posted.now count }
@@ -69,7 +70,7 @@ fn count_ends(walks: u32, posted: &[Outcome], count: u32) -> usize
         .count()
 }
 
-/// How many of the first `n` ends are there and in the tail.
+/// Returns the number of the first `n` endpoints that are there and in the tail.
 fn count_tail(test: EndTest, posted: &[Outcome], n: u32) -> usize
     requires few { test.walks + n ≤ most_trajectories }
     ensures { result ≡ tails_below test.walks test.place test.tail test.start posted.now n }
@@ -84,7 +85,8 @@ fn count_tail(test: EndTest, posted: &[Outcome], n: u32) -> usize
     count
 }
 
-/// The most ends by rising id of which none is missing: so many that as many outcomes have their ids, while one more are not all there.
+/// Returns the number of endpoints by rising id before the first missing one. A prefix is complete if its count equals
+/// its length, since no two outcomes have one id.
 fn known_ends(span: Span, posted: &[Outcome]) -> u32
     ensures within { result ≤ span.ends }
     ensures known { ends_below span.walks posted.now result ≡ result }
@@ -105,7 +107,7 @@ fn known_ends(span: Span, posted: &[Outcome]) -> u32
     known
 }
 
-/// The first of the places up to `known` at which enough ends are in the tail.
+/// Returns the first place up to `known` at which enough endpoints are in the tail.
 fn tail_place(test: EndTest, known: u32, enough: usize, posted: &[Outcome]) -> u32
     requires few { test.walks + known ≤ most_trajectories }
     requires some { 1 ≤ enough }
@@ -127,9 +129,8 @@ fn tail_place(test: EndTest, known: u32, enough: usize, posted: &[Outcome]) -> u
     place
 }
 
-/// As `settle`, for the ask at `place` among those of a job with so many walks and ends, whose start has the value `start`. It finds by
-/// halving how many ends come before the first that is missing, and where enough of them are in the tail, with one look at all outcomes at
-/// each half.
+/// Computes `settle` for the ask at `place`, from the numbers that it needs of the job. It bisects for the first
+/// missing endpoint and for the stopping place, with one pass over the outcomes at each step.
 fn settle_values(
     span: Span,
     tail: Tail,

@@ -1,4 +1,4 @@
-//! Whether every test has stopped.
+//! The stopping places of all tests.
 
 ghost use Rattle.std.specs.Prelude.{◌≡◌, ◌≤◌, length, IfNone, IfSome};
 ghost use Rattle.std.specs.List.{AllPairs};
@@ -8,8 +8,8 @@ use crate::settle::settle;
 use audit_model::outcome::Outcome;
 use plan_core::job::Job;
 
-/// Where the test of each ask has stopped, as far as these outcomes tell: the place, and a part of the values up to it. `None` where one
-/// has not. It takes no memory.
+/// Returns the stopping place and the p-value's fraction for each ask, or `None` if one test has not stopped by these
+/// outcomes. Allocates nothing.
 pub fn settle_all(job: &Job, outcomes: &[Outcome]) -> Option<[[u32; 3]; 4]>
     requires some { 1 ≤ job.now.setting.stop }
     requires apart { AllPairs (λ a b. a.id ≡ b.id → ⊥) outcomes.now }
@@ -18,7 +18,7 @@ pub fn settle_all(job: &Job, outcomes: &[Outcome]) -> Option<[[u32; 3]; 4]>
     ensures four { IfSome result (λ stops. length stops ≡ 4) }
     ensures none { IfNone result (AreSettled job.now outcomes.now → ⊥) }
 {
-    // Called for what its contract says: the job is within its limits, and its start plan is legal.
+    // Called for its contract: the job is within its limits, and its start plan is legal.
     let _units = job.units();
     let enough = job.setting().stop;
     let mut stops = [[0; 3]; 4];

@@ -1,4 +1,4 @@
-//! The walks and the rounds.
+//! Walks the outlier trajectories, and then endpoint trajectories in rounds.
 
 ghost use Rattle.std.specs.Prelude.{◌≡◌, ◌+◌, ◌-◌, ◌≤◌, [], length, take, vec_len};
 ghost use Rattle.std.specs.List.{AllPairs};
@@ -24,7 +24,7 @@ use outcome_book::laws::outcomes_by_id_are_mapped;
 use plan_core::job::Job;
 use std::thread::Threads;
 
-// The ids from one to another.
+// Returns the ids in `from..to`.
 fn ids_from(todo: &[u32], from: u32, to: u32) -> &[u32]
     requires order { (from ≤ to) × (to ≤ length todo.now) }
     ensures { todo.now ≡ map_below (length todo.now) (λ id. id) → AreIds from to result.now }
@@ -32,7 +32,7 @@ fn ids_from(todo: &[u32], from: u32, to: u32) -> &[u32]
     &todo[from as usize..to as usize]
 }
 
-/// Some ids in turn, and with what they are walked.
+/// A range of consecutive ids, and the counter for it.
 #[derive(Drop)]
 struct Stretch<'a> {
     ids: &'a [u32],
@@ -41,14 +41,14 @@ struct Stretch<'a> {
     part: Part,
 }
 
-/// All ids of a run, and with what each of its rounds is walked.
+/// All ids of a run, and the counter of each round.
 #[derive(Drop)]
 struct Rounds<'a> {
     todo: &'a [u32],
     parts: Vec<Part>,
 }
 
-// Walks the trajectories of a stretch, where those before it were walked, and makes `sorted` all outcomes by rising id.
+// Walks the trajectories of a stretch after those before it, and fills `sorted` with all outcomes by rising id.
 fn walk_to<R: Threads + Sync, J: Judge + Send, G: Gate + Sync>(
     rt: &Runtime<R, G>,
     job: &Job,
@@ -65,15 +65,15 @@ fn walk_to<R: Threads + Sync, J: Judge + Send, G: Gate + Sync>(
     ensures sorted { sorted.new.items ≡ found_below job.now stretch.entry.to }
     ensures rising { AllPairs (λ a b. a.id ≡ b.id → ⊥) sorted.new.items }
 {
-    // A law, called for what its contract says: the outcomes by id are what is found of the ids in turn.
+    // Called for its contract: outcomes by rising id are those of consecutive ids.
     outcomes_by_id_are_mapped();
     walk_part(rt, job, stretch.ids, stretch.part, team, book);
-    // Called for what its contract says: the book holds no more than it has room for.
+    // Called for its contract: the book holds no more than its capacity.
     let _all = book.len();
     book.sorted_into(sorted);
 }
 
-// Walks ends in rounds, until every test has stopped, and answers where.
+// Walks rounds of endpoint trajectories until every test has stopped, and returns the stops.
 fn walk_rounds<R: Threads + Sync, J: Judge + Send, G: Gate + Sync>(
     rt: &Runtime<R, G>,
     job: &Job,
@@ -93,7 +93,7 @@ fn walk_rounds<R: Threads + Sync, J: Judge + Send, G: Gate + Sync>(
     ensures parts { AreParts job.now.setting.ends (length job.now.setting.asks) result }
     ensures four { length result ≡ 4 }
 {
-    // Called for what their contracts say: where no end is missing every test has stopped, and the job is within its limits.
+    // Called for their contracts: every test stops once no endpoint is missing, and the job is within its limits.
     all_ends_settle();
     let _units = job.units();
     let walks = job.setting().walks;
@@ -121,9 +121,10 @@ fn walk_rounds<R: Threads + Sync, J: Judge + Send, G: Gate + Sync>(
     unreachable!()
 }
 
-/// Walks all outlier trajectories, and then ends by rising id in rounds, as far as the tests need them. `sorted` is then what was found, by
-/// rising id, and the answer where each test stopped: the place, and a part of the values up to it. It is the same as where one thread finds
-/// all ends, however many were walked past the places. Each worker is a thread, where one can be started. It takes no memory.
+/// Walks all outlier trajectories, then rounds of endpoint trajectories by rising id until every test has stopped.
+/// `sorted` then has all outcomes by rising id. Returns each test's stopping place and the fraction of its p-value.
+/// They equal those of one thread that walks every endpoint, however many were walked past the places. Each worker is a
+/// thread, if one can be started. Allocates nothing.
 pub fn walk_to_stops<R: Threads + Sync, J: Judge + Send, G: Gate + Sync>(
     rt: &Runtime<R, G>,
     job: &Job,
@@ -144,7 +145,7 @@ pub fn walk_to_stops<R: Threads + Sync, J: Judge + Send, G: Gate + Sync>(
     ensures parts { AreParts job.now.setting.ends (length job.now.setting.asks) result }
     ensures four { length result ≡ 4 }
 {
-    // Called for what their contracts say: a stop that is settled stays so whatever ends follow, and the job is within its limits.
+    // Called for their contracts: later endpoints do not change a settled stop, and the job is within its limits.
     settled_stops_are_final();
     let _units = job.units();
     let StoppingCrew {
