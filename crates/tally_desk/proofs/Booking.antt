@@ -1,4 +1,5 @@
--- The book of the opening and of posts: it lacks what was not posted, its outcomes fit the job, and so do those of any part of it.
+-- The book of initial outcomes and posts: it has no outcome of an id that was not posted, and all its outcomes fit the
+-- job.
 use Rattle.std.proofs.Common.{◌≡◌, ℕ, zero, suc, ◌<◌, ◌≤◌, ◌&&◌, Bool, true, false, cond, List, [], ◌∷◌, ◌++◌, map, Some, refl, sym, ap, ◌∙◌, All, append_assoc, arith}
 use Rattle.std.specs.Prelude.{◌==◌, IsTrue, find, option_to_list}
 use Rattle.std.specs.List.{list_all}
@@ -20,14 +21,14 @@ use Rattle.tally_desk.proofs.Found.{found_fits}
 use Rattle.tally_desk.proofs.Marking.{ids_up_to_save}
 use Rattle.tally_desk.proofs.Todo.{todo_within, todo_lacked}
 
--- one post more adds what its trajectory finds
+-- one more post adds the outcome of its trajectory
 pub booked-push : (parts : Parts) (l : List Entry) (e : Entry) → booked parts (l ++ e ∷ []) ≡ booked parts l ++ found parts.job e.id ∷ []
 booked-push parts l e =
     ap (λ (ids : List ℕ). parts.opening ++ map (found parts.job) ids) (map-append posted_id l (e ∷ []))
     ∙ ap (λ (os : List Outcome). parts.opening ++ os) (map-append (found parts.job) (ids_of l) (e.id ∷ []))
     ∙ sym (append_assoc parts.opening (map (found parts.job) (ids_of l)) (found parts.job e.id ∷ []))
 
--- an id that is none of these has none of their outcomes
+-- an id that is not among these ids has none of their outcomes
 absent_of_ids : (job : Job) (ids : List ℕ) (id : ℕ) → times id ids ≡ 0 → has_id (map (found job) ids) id ≡ false
 absent_of_ids job [] id none = refl
 absent_of_ids job (x ∷ ids) id none =
@@ -44,12 +45,12 @@ absent_of_book parts plan l id to_do unposted =
 
 -- ---- what fits
 
--- a test that each outcome passes is passed by all
+-- a test that each outcome passes holds for the whole list
 all_from : (test : Outcome → Bool) (os : List Outcome) → All (λ o. IsTrue (test o)) os → list_all test os ≡ true
 all_from test [] all = refl
 all_from test (o ∷ os) all = and_from (test o) (list_all test os) (all 0 o (omega arith)) (all_from test os (λ k d inside. all (suc k) d (omega arith)))
 
--- what is found of each id passes
+-- if the outcome of each id passes, the list of outcomes does
 found_all : (test : Outcome → Bool) (job : Job) (ids : List ℕ) → ((id : ℕ) → 0 < times id ids → test (found job id) ≡ true) → list_all test (map (found job) ids) ≡ true
 found_all test job [] each = refl
 found_all test job (x ∷ ids) each =
@@ -65,7 +66,7 @@ booked_fit parts plan l of_todo =
     (found_all (fits parts.job) parts.job (ids_of l)
     (λ id some_here. found_fits parts.job plan.few_asks id (todo_within parts plan id (omega (arith, some_here, of_todo id)))))
 
--- so does one that is found among such outcomes
+-- an outcome found among fitting outcomes fits
 find_fit : (test search_for : Outcome → Bool) (os : List Outcome) → list_all test os ≡ true → list_all test (option_to_list (find search_for os)) ≡ true
 find_fit test search_for [] all = refl
 find_fit test search_for (o ∷ os) all = by (search_for o) (test o) (list_all test os) refl refl all (find_fit test search_for os)
@@ -77,14 +78,14 @@ find_fit test search_for (o ∷ os) all = by (search_for o) (test o) (list_all t
     by true false d here rest both later = cc
     by false false d here rest both later = cc
 
--- the outcomes by rising id are some of the outcomes
+-- if all outcomes pass a test, so do those by rising id
 pub by_id_fit : (test : Outcome → Bool) (n : ℕ) (os : List Outcome) → list_all test os ≡ true → list_all test (by_id n os) ≡ true
 by_id_fit test zero os all = refl
 by_id_fit test (suc n) os all =
     list_all-append test (by_id n os) (option_to_list (with_id os n))
     ∙ and_from _ _ (by_id_fit test n os all) (find_fit test (λ o. o.id == n) os all)
 
--- so do those that are saved
+-- the saved outcomes fit the job
 pub saved_fit : (parts : Parts) → IsPlan parts → (l : List Entry) (n : ℕ) → ((id : ℕ) → times id (ids_of l) ≤ times id parts.todo)
     → list_all (fits parts.job) (by_id (total parts.job) (booked parts (up_to_save n l))) ≡ true
 saved_fit parts plan l n of_todo =

@@ -1,4 +1,4 @@
--- How many posts and turns there can be.
+-- Bounds on the number of posts and turns.
 use Rattle.std.proofs.Common.{◌≡◌, ℕ, zero, suc, ◌+◌, ◌≤◌, min, List, [], ◌∷◌, ◌++◌, map, set, take, get_or, length, sym, refl, ap, ◌∙◌, arith}
 use mathlib.Core.Option.{some, some-injective, some-ne-none}
 use lib.ListN.{get_elem?}
@@ -37,7 +37,7 @@ module _ {A : Type 0} where
 abbrev claims_of : PassRecord → List ℕ
 claims_of p = p.claims
 
--- all passes together have at most as many claims as there are places
+-- all passes together have at most one claim for each place
 pub claim_count : (limit count word : ℕ) (ps : List PassRecord) → AreCounted limit count word ps → sum_by (λ p. length p.claims) ps ≤ limit
 claim_count limit count word ps c = let most = length-apart limit (flat_map claims_of ps) (λ x. let more : once_below x (min word limit) ≤ once_below x limit = grind arith in omega (arith, times-flat_map x claims_of ps, c.claims x, more)) in
     omega (arith, most, length-flat_map claims_of ps)
@@ -58,7 +58,7 @@ module _ (P : ℕ → ℕ → ℕ → Type 0) where
   put_third (a ∷ b ∷ []) n e h = absurd (omega arith)
   put_third (a ∷ b ∷ c ∷ l) n e h = h
 
--- one number more at the end of a range
+-- a range extended by one number
 pub range_push : (a n : ℕ) → range_with_len a (suc n) ≡ range_with_len a n ++ (a + n) ∷ []
 range_push a zero = let e : a ≡ a + 0 = omega arith in ap (λ (k : ℕ). k ∷ []) e
 range_push a (suc n) = let e : a + 1 + n ≡ a + suc n = omega arith in ap (λ (l : List ℕ). a ∷ l) (range_push (a + 1) n ∙ ap (λ (k : ℕ). range_with_len (a + 1) n ++ k ∷ []) e)
@@ -84,7 +84,7 @@ times-first x todo (suc n) within =
       ap (λ (k : ℕ). times x (take k todo)) e,
     )
 
--- how often an id was claimed is the sum over all passes
+-- the number of claims of an id is the sum over all passes
 times-ids-flat : (x : ℕ) (todo : List ℕ) (ps : List PassRecord) → times x (map (at_of todo) (flat_map claims_of ps)) ≡ sum_by (λ p. times x (map (at_of todo) p.claims)) ps
 times-ids-flat x todo [] = refl
 times-ids-flat x todo (p ∷ ps) = let r = times-ids-flat x todo ps in
@@ -96,7 +96,7 @@ times-ids-flat x todo (p ∷ ps) = let r = times-ids-flat x todo ps in
       sum_by-cons (λ (q : PassRecord). times x (map (at_of todo) q.claims)) p ps,
     )
 
--- the ids of all claims are ids of the list, none more often than there
+-- an id is claimed at most as often as the list has it
 pub claimed_of_todo : (todo : List ℕ) (count word : ℕ) (ps : List PassRecord) → AreCounted (length todo) count word ps → (x : ℕ) → sum_by (λ p. times x (map (at_of todo) p.claims)) ps ≤ times x todo
 claimed_of_todo todo count word ps c x =
     let next = min word (length todo) in

@@ -1,4 +1,4 @@
--- A worker may go to another thread, where its judge may.
+-- A worker may cross threads if its constraint may.
 use denote.RattleType.{RattleType}
 use denote.Param.Send.{IsSend, recorded_send, struct_send, sendable}
 use denote.Struct.Declared.{shape}
@@ -14,11 +14,11 @@ use Rattle.tally_desk.specs.contracts.worker.DeskWorker as DeskWorker
 pass_send : IsSend DeskPass.the_field.row
 pass_send = search (badge_send, crosses, sendable) depth 20
 
--- an outcome may
+-- an outcome may cross threads
 outcome_send : IsSend Outcome.the_row
 outcome_send = search (crosses, sendable) depth 20
 
--- so may a worker, where its judge may
+-- a worker may cross threads if its constraint may
 pub worker_send : (J : RattleType) (g : Ghosts J.Denot) → IsSend J → IsSend (DeskWorker.the_row J g)
 worker_send J g judge =
     recorded_send (DeskWorker.the_field J g).row _ _ (DeskWorker.the_type J g).to_one

@@ -1,4 +1,4 @@
--- Each step of a desk keeps its rule, and takes the state for which the desk stands to the state after its events.
+-- Each step of a desk keeps its rule, and takes the matching machine to the machine after its events.
 use Rattle.std.proofs.Common.{◌≡◌, ℕ, suc, ◌+◌, min, List, [], ◌∷◌, ◌++◌, set, get_or, length, length-set, refl, sym, ap, ◌∙◌, subst, arith}
 use mathlib.Core.Option as maybe
 use Rattle.audit_model.specs.declared.outcome.Event.TheVariants.{Claim}

@@ -1,4 +1,4 @@
--- What each trajectory finds could be its outcome, and has its id.
+-- The outcome of each trajectory fits the job and has its id.
 use Rattle.std.proofs.Common.{◌≡◌, ◌∙◌, ℕ, ◌<◌, ◌≤◌, true, length, sym, ap}
 use Rattle.audit_model.specs.declared.outcome.Outcome.{Outcome}
 use Rattle.audit_model.specs.Job.{Job}
@@ -9,21 +9,21 @@ use Rattle.audit_model.proofs.Fitting.{outcome_id}
 use Rattle.audit_model.proofs.Fitting as fitting
 use Rattle.claim_counter.specs.Walks.{found}
 
--- what is found of an id of the job fits the job
+-- the outcome found for an id of the job fits the job
 pub found_fits : (job : Job) → length job.setting.asks ≤ 4 → (id : ℕ) → id < total job → fits job (found job id) ≡ true
 unfolding found
 found_fits job few id below = fitting.found_fits job (draw job.setting.key) job.setting.shift few id below
 
--- it is what the trajectory with its own id finds
+-- the outcome found for an id is that of the trajectory with its own id
 pub found_right : (job : Job) (id : ℕ) → found job id ≡ outcome job (draw job.setting.key) (found job id).id
 unfolding found
 found_right job id = ap (outcome job (draw job.setting.key)) (sym (fitting.found_id job (draw job.setting.key) job.setting.shift id))
 
--- the outcome of a walk is what is found of the id that was told, and has that id
+-- the outcome of a walk has the id of its start token
 pub walked_id : (job : Job) (id told : ℕ) (o : Outcome) → told ≡ id → o ≡ outcome job (draw job.setting.key) told → o.id ≡ id
 walked_id job id told o told_is is = ap (λ (x : Outcome). x.id) is ∙ outcome_id job (draw job.setting.key) told ∙ told_is
 
--- and is what is found of its own id
+-- the outcome of a walk is the one found for its own id
 pub walked_found : (job key : Job) (id told : ℕ) (o : Outcome) → job ≡ key → told ≡ id → o ≡ outcome job (draw job.setting.key) told → o ≡ found key o.id
 unfolding found
 walked_found job key id told o same told_is is =

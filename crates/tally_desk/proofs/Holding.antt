@@ -1,4 +1,4 @@
--- What the saves of a run hold.
+-- The contents of a run's saves.
 use Rattle.std.proofs.Common.{◌≡◌, ◌⊎◌, inl, inr, ℕ, ◌+◌, ◌<◌, ◌≤◌, List, [], ◌∷◌, ◌++◌, map, length, length-append, sym, ap, ◌∙◌, subst, append_assoc, All, Contains, IsPermutation, arith}
 use Rattle.std.proofs.lemmas.List.{append-nil, length-map, map-append}
 use Rattle.std.proofs.lemmas.List.Elements.{All-append, Contains-append_left, Contains-get_or}
@@ -26,7 +26,7 @@ module _ (parts : Parts) (plan : IsPlan parts) where
   abbrev OfTodo : List Entry → Type 0
   OfTodo posted = (id : ℕ) → times id (ids_of posted) ≤ times id parts.todo
 
-  -- the ids of posts before and after one
+  -- the ids of posts, split around one post
   parted : (earlier posted : List Entry) (e : Entry) (id : ℕ) → times id (ids_of (earlier ++ e ∷ posted)) ≡ times id (ids_of earlier) + (one id e.id + times id (ids_of posted))
   parted earlier posted e id =
       let all = ap (times id) (map-append posted_id earlier (e ∷ posted)) ∙ times-append id (ids_of earlier) (ids_of (e ∷ posted)) in
@@ -87,11 +87,11 @@ module _ (parts : Parts) (plan : IsPlan parts) where
           omega (arith, same, length-append parts.opening (map (found parts.job) (ids_of part)), length-map (ids_of part) (found parts.job), length-map part posted_id);
     }
 
--- the law on what a save holds
+-- the law on the contents of a save
 pub saves_hold_parts : SavesHoldParts
 saves_hold_parts parts part plan of_todo = holds_part parts plan part of_todo
 
--- the law on saves of a right opening
+-- the law on saves from correct initial outcomes
 pub run_tries_are_right : RunTriesAreRight
 run_tries_are_right parts t plan opening is = record {
   version = 2;

@@ -21,28 +21,28 @@ use Rattle.tally_desk.proofs.Marking.{ids_up_to_save}
 use Rattle.tally_desk.proofs.Regular.{unfailed_posts_are_regular}
 use Rattle.tally_desk.proofs.Slotting.{before_next, moved_generation, moved_slot, newest_written, twice_other, two_before_next}
 
--- after a save no more were missed than in all
+-- the posts after a save missed no more saves than all posts
 missed_after : (v n : ℕ) (l : List Entry) → missed v (after_save n l) ≤ missed v l
 missed_after v zero l = omega arith
 missed_after v (suc n) [] = omega arith
 missed_after v (suc n) (e ∷ l) = let r = missed_after v (cond e.saved n (suc n)) l in omega (arith, r, sum_by-cons (λ (x : Entry). cond (is_missed v x) 1 0) e l)
 
--- the posts up to a save are all, where they are as many
+-- a prefix of the posts with the full length is all posts
 whole_front : (n : ℕ) (l : List Entry) → length (up_to_save n l) ≡ length l → up_to_save n l ≡ l
 whole_front zero [] same = refl
 whole_front zero (e ∷ l) same = absurd (omega arith)
 whole_front (suc n) [] same = refl
 whole_front (suc n) (e ∷ l) same = ap (λ (q : List Entry). e ∷ q) (whole_front (cond e.saved n (suc n)) l (omega arith))
 
--- where the last post had no save, there is one save more than whole groups
+-- without a save at the last post, there is one save more than full groups
 one_more_save : (posts every : ℕ) → ((posts == 0) || not (posts % every == 0)) ≡ true → saves_of posts every ≡ posts / every + 1
 one_more_save posts every is = ap (λ (b : Bool). posts / every + cond {A = ℕ} b 1 0) is
 
--- where it had one, there is none more
+-- with a save at the last post, there is one save for each full group
 no_more_save : (posts every : ℕ) → (posts == 0) ≡ false → (posts % every == 0) ≡ true → saves_of posts every ≡ posts / every + 0
 no_more_save posts every some_post whole = λ i. posts / every + cond {A = ℕ} (some_post i || not (whole i)) 1 0
 
--- the same by whether the last of the posts is marked
+-- the number of saves if the last post is not marked
 unsaved_last : (posts every : ℕ) → (nat_lt 0 posts && (posts % every == 0)) ≡ false → saves_of posts every ≡ posts / every + 1
 unsaved_last posts every not_both = one_more_save posts every (⊎_elim
     (λ none. let z : posts ≡ 0 = let le = ltb-false 0 posts none in omega arith in ap (λ (b : Bool). b || not (posts % every == 0)) (eq-eqb posts 0 z))
@@ -57,7 +57,7 @@ module _ (newest : SavedSlotsAreNewest) (ours : CheckpointsAreOurs) (parts : Par
   none_after : missed parts.save_every (after_save (saves_made posted) posted) ≡ 0
   none_after = let most = missed_after parts.save_every (saves_made posted) posted in omega (arith, most, u.none_missed)
 
-  -- the last post had the last save
+  -- the last save was made with the last post
   saved_last : (n : ℕ) → saves_made posted ≡ suc n → ends_saved posted ≡ true → up_to_save (saves_made posted) posted ≡ posted → now ≡ desk
       → SlotsAs parts before desk (moved (suc n) parts.place) posted → RunSavesInTurnAt parts before now posted (moved n parts.place) (saves_made posted)
   saved_last n count ends whole same s =
@@ -80,7 +80,7 @@ module _ (newest : SavedSlotsAreNewest) (ours : CheckpointsAreOurs) (parts : Par
         };
       }
 
-  -- a last save is made
+  -- a last save was made after the desk
   saved_rest : SavesRest parts desk now (moved (saves_made posted) parts.place) posted → SlotsAs parts before desk (moved (saves_made posted) parts.place) posted
       → RunSavesInTurnAt parts before now posted (moved (saves_made posted) parts.place) (saves_made posted + 1)
   saved_rest rest s =

@@ -1,4 +1,4 @@
--- What a run leaves whose desk was closed, and which made a last save where its desk made none with the last post.
+-- The result of a run whose desk was closed, with a last save unless the last post saved.
 use Rattle.std.proofs.Common.{◌≡◌, ◌⊎◌, inl, inr, ℕ, zero, suc, ◌+◌, ◌-◌, ◌%◌, ◌^◌, ◌<◌, ◌≤◌, ◌==◌, ◌&&◌, min, not, Bool, true, false, cond, List, length, Option, Some, None, refl, sym, ap, ◌∙◌, subst, arith}
 use Rattle.std.specs.Prelude.{IsErr, IsOk, IsPermutation, OnErr, OnOk, Result, Ok, Err, is_ok}
 use Rattle.std.specs.List.{AllPairs, range_with_len}
@@ -39,11 +39,11 @@ use Rattle.tally_desk.proofs.Tried.{are_run_tries, rest_tries, run_tries}
 
 -- ---- counts of faults
 
--- where a save failed at the desk, the keeper's count rose
+-- if a save failed at the desk, the keeper's count rose
 rose_covered : (last start failed now after : ℕ) → min (start + failed) last ≤ now → now ≤ after → 0 < failed → min (start + 1) last ≤ after
 rose_covered last start failed now after covered le some_failed = omega arith
 
--- where the last save failed, it rose
+-- if the last save failed, the keeper's count rose
 rose_later : (last start now after : ℕ) → start ≤ now → min (now + 1) last ≤ after → min (start + 1) last ≤ after
 rose_later last start now after le rose = omega arith
 
@@ -52,24 +52,24 @@ same_cause : (n : ℕ) (r : Result (Unit {0}) Failed) → is_ok r ≡ true → H
 same_cause n (Ok done) is = record { counts = record { later = omega arith; within = λ b. b }; failed = tt; passed = refl }
 same_cause n (Err failed) is = cc
 
--- what holds where all is well
+-- a property that holds on Ok holds for an Ok result
 on_ok_at : {P : Type 0} (r : Result (Unit {0}) Failed) → IsOk r → OnOk r P → P
 on_ok_at (Ok done) is p = p
 on_ok_at (Err failed) is p = cc
 
--- what holds of a failure
+-- a property that holds on Err holds for an Err result
 on_err_at : {P : Type 0} (r : Result (Unit {0}) Failed) → IsErr r → OnErr r P → P
 on_err_at (Err failed) is p = p
 on_err_at (Ok done) is p = cc
 
--- what is not below is at least as great
+-- a number that is not above another is at most that
 not_more : (a b : ℕ) → (a < b → ⊥) → b ≤ a
 not_more a b none = elim (cases_lt a b) [
   | inl less ↦ absurd (none less)
   | inr rest ↦ rest
 ]
 
--- ok where both are
+-- a property of every Ok result holds on Ok
 on_ok_of : {P : Type 0} (r : Result (Unit {0}) Failed) → (IsOk r → P) → OnOk r P
 on_ok_of (Ok done) f = f refl
 on_ok_of (Err failed) f = tt
@@ -90,7 +90,7 @@ module _ (start failed now after : ℕ) (rest : Result (Unit {0}) Failed) (cover
   both_cause (Ok done) b = record { counts = counts_more start now after counts cause.counts; failed = tt; passed = kept_count (b.ok refl) }
   both_cause (Err why) b = record { counts = counts_more start now after counts cause.counts; failed = rose (b.err refl); passed = tt }
 
--- each save that failed is counted, the last one with them
+-- each failed save is counted, the last one included
 cover : (last start failed now after : ℕ) (saved : Bool) (r : Result (Unit {0}) Failed) → min (start + failed) last ≤ now → now ≤ after → OnErr r (min (now + 1) last ≤ after)
     → min (start + (failed + cond {A = ℕ} (not saved && not (is_ok r)) 1 0)) last ≤ after
 cover last start failed now after true r covered le rose = omega arith
@@ -121,7 +121,7 @@ module _ {C : Type 0} (state : C → KeeperState) (parts : Parts) (v : PassView)
     none_missed = sym k.closed.kept.failed_is ∙ none;
   }
 
-  -- the last save is the next of the run, so that a keeper lets it through that lets the run's saves through
+  -- a keeper that accepts the run's saves accepts the last save, which is the next of the run
   pub lets_last : (lets : Lets) → LetsDesk lets parts → kept.last_saved ≡ false → LetsLastSave state lets kept digest
   lets_last lets desk none sound =
       let place = moved (saves_made posted) parts.place in
@@ -138,7 +138,7 @@ module _ {C : Type 0} (state : C → KeeperState) (parts : Parts) (v : PassView)
   at_moved : (a c : Pair) → SlotsAs parts a c kept.place posted → SlotsAs parts a c (moved (saves_made posted) parts.place) posted
   at_moved a c = subst (λ (p : Place). SlotsAs parts a c p posted) k.closed.kept.place_is
 
-  -- the last post had a save
+  -- the slots if the last post saved
   saved_before : UnfailedRunsSaveInTurn → kept.failed_saves ≡ 0 → kept.last_saved ≡ true → (a c : Option Pair) → IsPlaceFor parts.job a parts.place
       → IfBothTold a c (λ p q. SlotsAs parts p q kept.place posted) → IfBothTold a c (λ p q. RunSavesInTurn parts p q posted)
   saved_before law none last None c first told = tt
@@ -147,7 +147,7 @@ module _ {C : Type 0} (state : C → KeeperState) (parts : Parts) (v : PassView)
       law parts p q q posted k.closed.plan first (unfailed none) (at_moved p q told)
       (subst (λ (b : Bool). EndsSaves b parts q q (moved (saves_made posted) parts.place) posted) (sym last ∙ k.closed.last) refl)
 
-  -- the last save was made
+  -- the slots if the last save was made after the desk
   saved_now : UnfailedRunsSaveInTurn → kept.failed_saves ≡ 0 → kept.last_saved ≡ false → (sorted : List Outcome) → sorted ≡ by_id kept.book.total kept.book.outcomes
       → IsCheckpoint (checkpoint 2 digest kept.place.generation sorted) 2 digest kept.place.generation sorted → (a c d : Option Pair) → IsPlaceFor parts.job a parts.place
       → IfBothTold a c (λ p q. SlotsAs parts p q kept.place posted) → KeepsOther c d kept.place.slot
@@ -192,7 +192,7 @@ module _ {C : Type 0} (state : C → KeeperState) (parts : Parts) (v : PassView)
     ),
   )
 
-  -- whether the keepers tell or not
+  -- the slots in all cases, known or not
   keeps_by : (a c d : Option Pair) → IfBothTold a c (λ p q. SlotsAs parts p q kept.place posted) → KeepsOther c d kept.place.slot → IfBothTold a d (KeepsSome parts)
   keeps_by None c d told other = tt
   keeps_by (Some p) None d told other = absurd told
@@ -200,7 +200,7 @@ module _ {C : Type 0} (state : C → KeeperState) (parts : Parts) (v : PassView)
   keeps_by (Some p) (Some q) (Some r) told other =
       keeps_some p q r (saves_made posted) refl told (sym (other_is r kept.place.slot k.closed.slot) ∙ other ∙ other_is q kept.place.slot k.closed.slot)
 
--- slots that did not change keep each other slot
+-- slots that did not change keep every other slot
 keeps_itself : (c : Option Pair) (at : ℕ) → KeepsOther c c at
 keeps_itself None at = tt
 keeps_itself (Some q) at = refl

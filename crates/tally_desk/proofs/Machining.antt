@@ -1,4 +1,4 @@
--- What a claim and a post do to the run machine for which a desk stands.
+-- The effect of a claim and of a post on the machine that matches a desk.
 use Rattle.std.proofs.Common.{◌≡◌, ◌≢◌, ℕ, zero, suc, ◌+◌, ◌<◌, ◌≤◌, ◌==◌, ◌&&◌, ◌||◌, nat_lt, min, not, Bool, true, false, cond, List, [], ◌∷◌, ◌++◌, map, set, take, get_or, length, Option, Some, None, refl, sym, ap, ◌∙◌, append_assoc, arith}
 use Rattle.std.specs.Prelude.{slice_get}
 use Rattle.std.proofs.lemmas.Bool.{and_right, eq-eqb, ne_eqb, le-ltb, lt-ltb}
@@ -67,19 +67,19 @@ module _ {A : Type 0} where
       lt_from : (k n : ℕ) → k < suc n → (k ≡ n → ⊥) → k < n
       lt_from k n l differ = dite (dec_le n k) (λ le. absurd (differ (omega arith))) (λ not_le. lt_of_not-le not_le)
 
--- what stands at a place of a list
+-- a place inside a list has a member
 get_in : (xs : List ℕ) (k : ℕ) → k < length xs → slice_get xs k ≡ Some (get_or xs k 0)
 get_in [] k within = absurd (omega arith)
 get_in (x ∷ xs) zero within = refl
 get_in (x ∷ xs) (suc k) within = get_in xs k (omega arith)
 
--- what stands at a place occurs
+-- a member of a list occurs in it
 times_at : (xs : List ℕ) (j : ℕ) → j < length xs → 0 < times (get_or xs j 0) xs
 times_at [] j within = absurd (omega arith)
 times_at (x ∷ xs) zero within = omega (arith, times-cons x x xs, one_same x)
 times_at (x ∷ xs) (suc j) within = let r = times_at xs j (omega arith) in omega (arith, r, times-cons (get_or xs j 0) x xs)
 
--- in a list without repetition two places have two numbers
+-- without repetitions, different places have different numbers
 two_places : (xs : List ℕ) (i j : ℕ) → ((x : ℕ) → times x xs ≤ 1) → i < length xs → j < length xs → get_or xs i 0 ≡ get_or xs j 0 → i ≡ j
 two_places [] i j differ within within' same = absurd (omega arith)
 two_places (x ∷ xs) zero zero differ within within' same = refl
@@ -87,19 +87,19 @@ two_places (x ∷ xs) zero (suc j) differ within within' same = let r = times_at
 two_places (x ∷ xs) (suc i) zero differ within within' same = let r = times_at xs i (omega arith) in absurd (omega (arith, r, differ x, times-cons x x xs, one_same x, ap (λ (k : ℕ). times k xs) same))
 two_places (x ∷ xs) (suc i) (suc j) differ within within' same = ap suc (two_places xs i j (λ y. omega (arith, differ y, times-cons y x xs)) (omega arith) (omega arith) same)
 
--- ---- what is to do
+-- ---- the ids to do
 
--- the ids of outcomes are those that the list has
+-- an id is in the list of ids exactly if an outcome has it
 has_ids : (os : List Outcome) (id : ℕ) → has (map (λ o. o.id) os) id ≡ has_id os id
 has_ids [] id = refl
 has_ids (o ∷ os) id = ap (λ (b : Bool). (o.id == id) || b) (has_ids os id)
 
--- tests that say the same take the same
+-- equal tests filter equal lists
 filter_same : (n : ℕ) (f g : ℕ → Bool) → ((k : ℕ) → f k ≡ g k) → filter_below n f ≡ filter_below n g
 filter_same zero f g same = refl
 filter_same (suc n) f g same = λ i. filter_same n f g same i ++ cond (same n i) (n ∷ []) []
 
--- the first ones of a list, taken once more by their number
+-- taking a prefix twice is taking it once
 take_again : (n : ℕ) (xs : List ℕ) → take (length (take n xs)) xs ≡ take n xs
 take_again zero xs = refl
 take_again (suc n) [] = refl
@@ -121,7 +121,7 @@ module _ (parts : Parts) (plan : IsPlan parts) where
   abbrev at : ℕ → ℕ
   at place = get_or parts.todo place 0
 
-  -- a place is open or not
+  -- a place is open if it is claimed and its id is not posted
   opened : (next : ℕ) (l : List Entry) (j : ℕ) (b c : Bool) → nat_lt j next ≡ b → (times (at j) (ids_of l) == 0) ≡ c → open_at parts next l j ≡ cond (b && c) (Some (at j)) None
   opened next l j b c e f = λ i. cond (e i && f i) (Some (at j)) None
 

@@ -1,4 +1,4 @@
--- The saves of a run are exactly those that are due by the order of its posts.
+-- The saves of a run are exactly those due by the order of its posts.
 use Rattle.std.proofs.Common.{◌≡◌, ℕ, suc, ◌+◌, ◌*◌, ◌/◌, ◌%◌, ◌<◌, ◌≤◌, ◌==◌, ◌&&◌, Bool, true, false, cond, List, [], ◌∷◌, ◌++◌, take, length, length-append, map, refl, sym, ap, ◌∙◌, subst, append_assoc, IsPermutation, suc-mul, div-add-mod', arith}
 use Rattle.std.specs.List.{All, range_with_len}
 use Rattle.std.proofs.lemmas.Bool.{true≢false}
@@ -30,7 +30,7 @@ use Rattle.tally_desk.proofs.Regular.{due_later, due_next, first_ticket, next_gr
 use Rattle.tally_desk.proofs.Holding.{moved_all}
 use Rattle.tally_desk.proofs.Tried.{fewer, later as later_ones, rest_tries, run_tries, sound_rest}
 
--- ids of a list, each no more often than there, and what is left of the list
+-- the members of one list that another list does not use
 left_over : (xs ys : List ℕ) → ((id : ℕ) → times id xs ≤ times id ys) → (more : List ℕ) × ((id : ℕ) → times id (xs ++ more) ≡ times id ys)
 left_over [] ys fewer_ids = (ys, λ id. refl)
 left_over (x ∷ xs) ys fewer_ids =
@@ -44,14 +44,14 @@ module _ (parts : Parts) (plan : IsPlan parts) where
   abbrev v : ℕ
   v = parts.save_every
 
-  -- these are posts of ids to do
+  -- posts of ids to do
   abbrev OfTodo : List Entry → Type 0
   OfTodo posted = (id : ℕ) → times id (ids_of posted) ≤ times id parts.todo
 
   abbrev Due : Entry → Type 0
   Due e = e.saved ≡ true → is_due v e ≡ true
 
-  -- the saves from the n-th on of a run that posts these, from where the place is after these posts
+  -- the saves from the n-th on, by the place after the earlier posts
   abbrev From : List Entry → ℕ → List Entry → List Try → Type 0
   From whole n earlier ts = AreSavesFrom parts.job parts.opening v (ids_of whole) n (moved (saves_made earlier) parts.place) ts
 
@@ -78,7 +78,7 @@ module _ (parts : Parts) (plan : IsPlan parts) where
             (moved_all parts plan posted of_todo);
       }
 
-  -- so many of the first posts
+  -- the ids of the first posts are the first ids
   first_ids : (earlier posted : List Entry) (e : Entry) (n : ℕ) → length earlier + 1 ≡ n → ids_of (earlier ++ e ∷ []) ≡ take n (ids_of (earlier ++ e ∷ posted))
   first_ids earlier posted e n is =
       let parted : ids_of (earlier ++ e ∷ posted) ≡ ids_of (earlier ++ e ∷ []) ++ ids_of posted =
@@ -98,7 +98,7 @@ module _ (parts : Parts) (plan : IsPlan parts) where
       by true h = absurd (true≢false (sym (h refl) ∙ undue))
       by false h = refl
 
-  -- one more post
+  -- the saves with one more post
   order_with : (whole earlier posted : List Entry) (e : Entry) (q : ℕ) (ms : List Made) (rest : List Try) → whole ≡ earlier ++ e ∷ posted → (b : Bool) → is_due v e ≡ b → Due e
       → OfTodo (earlier ++ e ∷ []) → (b ≡ true → length earlier + 1 ≡ suc q * v) → All (IsSound parts.job) (cond b (made_with parts earlier e ∷ []) [] ++ ms)
       → From whole (cond b (suc (suc q)) (suc q)) (earlier ++ e ∷ []) (map (try_made parts.job) ms ++ rest)
@@ -116,7 +116,7 @@ module _ (parts : Parts) (plan : IsPlan parts) where
   abbrev Tickets : List Entry → ℕ → Type 0
   Tickets l a = tickets_of l ≡ range_with_len a (length l)
 
-  -- after q whole groups and r posts
+  -- the saves after q full groups and r posts
   order : (whole posted earlier : List Entry) (q r : ℕ) (rest : List Try) → whole ≡ earlier ++ posted → length earlier ≡ q * v + r → r < v → OfTodo (earlier ++ posted) → Tickets posted (q * v + r)
       → All (IsSound parts.job) (made_after parts earlier posted) → All Due posted
       → From whole (suc (length whole / v)) whole rest
@@ -152,7 +152,7 @@ module _ (parts : Parts) (plan : IsPlan parts) where
       (order whole posted (earlier ++ e ∷ []) q (r + 1) rest whole_later reached more of_todo_later
       (later ∙ ap (λ (z : ℕ). range_with_len z (length posted)) (let same : q * v + r + 1 ≡ q * v + (r + 1) = omega arith in same)) sound_later due_later_on goes)))
 
-  -- ---- how many there are
+  -- ---- the number of saves
 
   abbrev tried_after : List Entry → List Entry → List Try
   tried_after earlier posted = map (try_made parts.job) (made_after parts earlier posted)
@@ -184,7 +184,7 @@ module _ (parts : Parts) (plan : IsPlan parts) where
       let sum : length (tried_after earlier (e ∷ posted)) + q ≡ length (tried_after (earlier ++ e ∷ []) posted) + q = omega (arith, cut, flag) in
       sum ∙ rest ∙ ap (λ (z : ℕ). z / v) reached)
 
-  -- ---- whether the last post is saved
+  -- ---- the mark of the last post
 
   ends_with : (earlier : List Entry) (e : Entry) (ms : List Made) (c : Bool) (b : Bool)
       → last_succeeded_from c (map (try_made parts.job) (cond b (made_with parts earlier e ∷ []) [] ++ ms)) ≡ last_succeeded_from (cond b e.saved c) (map (try_made parts.job) ms)
@@ -274,7 +274,7 @@ module _ (parts : Parts) (plan : IsPlan parts) where
 
   -- ---- the saves so far
 
-  -- more ids change nothing of saves that are of no more ids than there are
+  -- more ids do not change saves that need only the first ids
   more_ids : (ids more : List ℕ) (n : ℕ) (place : Place) (ts : List Try) → ((k : ℕ) → k < length ts → (n + k) * v ≤ length ids)
       → AreSavesFrom parts.job parts.opening v ids n place ts → AreSavesFrom parts.job parts.opening v (ids ++ more) n place ts
   more_ids ids more n place [] enough goes = tt
@@ -285,7 +285,7 @@ module _ (parts : Parts) (plan : IsPlan parts) where
             (λ k less. subst (λ (m : ℕ). m * v ≤ length ids) (let same : n + suc k ≡ suc n + k = omega arith in same) (enough (suc k) (omega arith))) goes.1,
       )
 
-  -- what was tried with these posts is the first of the saves of a run that takes in their ids first
+  -- the attempts made with these posts are the first attempts of the run
   pub saves_so_far : (posted : List Entry) → OfTodo posted → tickets_of posted ≡ range_with_len 0 (length posted) → All (IsSound parts.job) (made parts posted) → AreDue parts posted
       → AreSavesSoFar parts.job parts.opening parts.save_every parts.place parts.todo (tries parts posted)
   saves_so_far posted of_todo tickets sound due =
@@ -326,7 +326,7 @@ module _ (parts : Parts) (plan : IsPlan parts) where
       more_groups : (more : List ℕ) → length posted / v ≤ length (ids_of posted ++ more) / v
       more_groups more = le-div (length posted / v) (length (ids_of posted ++ more)) v (omega (arith, plan.every)) (omega (arith, within, length-append (ids_of posted) more, long))
 
-  -- and so it is with a last save, of all
+  -- the attempts of the run, with a last save of all posts
   pub saves_with_last : (succeeded : Bool) (posted : List Entry) → OfTodo posted → tickets_of posted ≡ range_with_len 0 (length posted) → All (IsSound parts.job) (made parts posted)
       → AreDue parts posted → IsPermutation (ids_of posted) parts.todo → false ≡ ends_saved posted → IsSoundAt (moved (saves_made posted) parts.place).generation posted
       → AreSavesSoFar parts.job parts.opening parts.save_every parts.place parts.todo (run_tries false succeeded parts posted)

@@ -1,4 +1,4 @@
--- The saves of a desk are right and in turn.
+-- The saves of a desk are correct and follow each other.
 use Rattle.std.proofs.Common.{◌≡◌, ℕ, ◌+◌, ◌-◌, ◌%◌, ◌≤◌, Bool, true, false, cond, List, [], ◌∷◌, ◌++◌, map, refl, sym, ap, ◌∙◌, subst, append_assoc, arith}
 use Rattle.std.specs.List.{All}
 use Rattle.std.proofs.lemmas.Bool.{true≢false}
@@ -24,12 +24,12 @@ use Rattle.tally_desk.proofs.Marking.{next_turn}
 use Rattle.tally_desk.proofs.Righting.{saved_outcomes_are_right}
 
 module _ (parts : Parts) (plan : IsPlan parts) where
-  -- ---- right saves
+  -- ---- correct saves
 
   abbrev RightTry : Try → Type 0
   RightTry t = IsRightSave parts.job (draw parts.job.setting.key) (job_digest parts.job) t.bytes
 
-  -- the posts before another are posts of ids to do too
+  -- the posts before another are posts of ids to do
   fewer : (earlier posted : List Entry) (e : Entry) → ((id : ℕ) → times id (ids_of (earlier ++ e ∷ posted)) ≤ times id parts.todo)
       → (id : ℕ) → times id (ids_of (earlier ++ e ∷ [])) ≤ times id parts.todo
   fewer earlier posted e of_todo id =
@@ -83,7 +83,7 @@ module _ (parts : Parts) (plan : IsPlan parts) where
     fit = by_id_fit (fits parts.job) (total parts.job) (booked parts (earlier ++ e ∷ [])) (booked_fit parts plan (earlier ++ e ∷ []) of_todo);
   }
 
-  -- the place after this one
+  -- the place after one more post
   turn_rest : (earlier : List Entry) (e : Entry) (rest : List Made) (s : Bool) → e.saved ≡ s → InTurnFrom (saves_made (earlier ++ e ∷ [])) rest
       → (let at = moved (saves_made earlier) parts.place in
       AreInTurn parts.job (job_digest parts.job) (cond s (1 - at.slot) at.slot) (cond s ((at.generation + 1) % 3) at.generation) (map (try_made parts.job) rest))
@@ -117,13 +117,13 @@ module _ (parts : Parts) (plan : IsPlan parts) where
       (λ id. subst (λ (l : List Entry). times id (ids_of l) ≤ times id parts.todo) (sym (append_assoc earlier (e ∷ []) posted)) (of_todo id))
       rest_sound (All-tail (λ (x : Entry). x.saved ≡ true → is_due parts.save_every x ≡ true) e posted due))
 
--- the saves of a desk are right saves in turn
+-- the saves of a desk are correct saves in turn, which leave consistent slots
 pub stops_leave_honest_slots : SavesLeaveHonestSlots → RunStopsLeaveHonestSlots
 stops_leave_honest_slots law parts posted before after n posts opening out honest =
     law parts.job (draw parts.job.setting.key) (job_digest parts.job) before after (tries parts posted) n
     (right_tries parts posts.plan opening posted [] posts.of_todo posts.sound) out honest
 
--- and so keep the newest slot or make a newer one
+-- the saves of a desk keep the newest slot or make a newer one
 pub stops_keep_the_newest : SavesKeepTheNewest → RunStopsKeepTheNewest
 stops_keep_the_newest law parts posted before after n posts first out =
     law parts.job (job_digest parts.job) before after parts.place.slot parts.place.generation (tries parts posted) n first

@@ -1,4 +1,4 @@
--- Lists of posts of which each sum is the same are the same in another order.
+-- Two lists of posts with equal sums are permutations of each other.
 use Rattle.std.proofs.Common.{◌≡◌, ℕ, ◌<◌, ◌==◌, ◌&&◌, not, Bool, true, false, cond, List, [], ◌∷◌, ◌++◌, refl, sym, ap, subst, ⊎_elim, arith}
 use Rattle.std.specs.List.{sum_by}
 use Rattle.std.specs.List.Sorted.{IsPermutation}
@@ -7,18 +7,18 @@ use Rattle.std.proofs.lemmas.List.Sums.{sum_by-cons, sum_by-append}
 use Rattle.std.proofs.lemmas.List.Sorted.{IsPermutation-refl, IsPermutation-cons, IsPermutation-sym, IsPermutation-trans, IsPermutation-middle}
 use Rattle.tally_desk.specs.declared.entry.Entry.{Entry}
 
--- whether two marks are the same
+-- true if two marks are equal
 same_flag : Bool → Bool → Bool
 same_flag true b = b
 same_flag false b = not b
 
--- a mark is the same as itself
+-- a mark equals itself
 same_flag_self : (b : Bool) → same_flag b b ≡ true
 unfolding same_flag
 same_flag_self true = refl
 same_flag_self false = refl
 
--- marks that are found to be the same are
+-- marks that test as equal are equal
 same_flag_tells : (a b : Bool) → same_flag a b ≡ true → a ≡ b
 unfolding same_flag
 same_flag_tells true true e = refl
@@ -26,16 +26,16 @@ same_flag_tells true false e = cc
 same_flag_tells false true e = cc
 same_flag_tells false false e = refl
 
--- whether two posts are the same
+-- true if two posts are equal
 same : Entry → Entry → Bool
 same x y = (x.ticket == y.ticket) && ((x.id == y.id) && same_flag x.saved y.saved)
 
--- a post is the same as itself
+-- a post equals itself
 same_self : (x : Entry) → same x x ≡ true
 unfolding same
 same_self x = and_from _ _ (eq-eqb x.ticket x.ticket refl) (and_from _ _ (eq-eqb x.id x.id refl) (same_flag_self x.saved))
 
--- posts that are found to be the same are
+-- posts that test as equal are equal
 same_tells : (x y : Entry) → same x y ≡ true → x ≡ y
 unfolding same
 same_tells x y e =
@@ -53,7 +53,7 @@ one x y = cond (same x y) 1 0
 one_self : (x : Entry) → one x x ≡ 1
 one_self x = ap (λ (b : Bool). cond b 1 0) (same_self x)
 
--- a post that the list has, and what stands before and after it
+-- a member of the list, with the posts before and after it
 cut_at : (x : Entry) (ys : List Entry) → 0 < sum_by (one x) ys → (a : List Entry) × (b : List Entry) × (ys ≡ a ++ x ∷ b)
 cut_at x [] some_left = absurd (omega arith)
 cut_at x (y ∷ ys) some_left = ⊎_elim
@@ -61,7 +61,7 @@ cut_at x (y ∷ ys) some_left = ⊎_elim
     (λ apart. let none : one x y ≡ 0 = ap (λ (b : Bool). cond b 1 0) apart in let r = cut_at x ys (omega (arith, some_left, none, sum_by-cons (one x) y ys)) in (y ∷ r.0, r.1, λ k. y ∷ r.2 k))
     (cases_Bool (same x y))
 
--- lists over which each count has the same sum have the same posts
+-- lists over which each count has equal sums are permutations
 pub permutation_from_sums : (xs ys : List Entry) → ((h : Entry → ℕ) → sum_by h xs ≡ sum_by h ys) → IsPermutation xs ys
 permutation_from_sums [] [] sums = IsPermutation-refl []
 permutation_from_sums [] (y ∷ ys) sums = absurd (omega (arith, sums (one y), sum_by-cons (one y) y ys, one_self y))

@@ -1,4 +1,4 @@
--- A desk at which no save failed has saved after each whole group of posts.
+-- A desk without failed saves has saved after each full group of posts.
 use Rattle.std.proofs.Common.{◌≡◌, ℕ, zero, suc, ◌+◌, ◌*◌, ◌/◌, ◌%◌, ◌<◌, ◌≤◌, ◌==◌, ◌&&◌, nat_lt, not, Bool, true, false, cond, List, [], ◌∷◌, get_or, drop, length, refl, sym, ap, ◌∙◌, All, lt_of_not-le, suc-mul, arith}
 use Rattle.std.specs.List.{range_with_len}
 use Rattle.std.proofs.lemmas.Bool.{eq-eqb, ne_eqb, lt-ltb}
@@ -20,7 +20,7 @@ one_marked true due h none = sym (h refl)
 one_marked false true h none = absurd (omega arith)
 one_marked false false h none = refl
 
--- so it is of all posts of which none missed one
+-- all posts that missed no save are marked where one was due
 marked : (v : ℕ) (l : List Entry) → All (λ e. e.saved ≡ true → is_due v e ≡ true) l → missed v l ≡ 0 → Marked v l
 marked v [] due none = tt
 marked v (e ∷ l) due none =
@@ -33,12 +33,12 @@ marked v (e ∷ l) due none =
 pub first_ticket : (e : Entry) (l : List Entry) (a : ℕ) → tickets_of (e ∷ l) ≡ range_with_len a (length (e ∷ l)) → e.ticket ≡ a
 first_ticket e l a is = ap (λ (xs : List ℕ). get_or xs 0 0) is
 
--- and the others have those after it
+-- the posts after the first have the tickets after it
 pub other_tickets : (e : Entry) (l : List Entry) (a : ℕ) → tickets_of (e ∷ l) ≡ range_with_len a (length (e ∷ l)) → tickets_of l ≡ range_with_len (a + 1) (length l)
 other_tickets e l a is = ap (drop 1) is
 
 module _ (v : ℕ) (some_v : 1 ≤ v) where
-  -- after q whole groups and r posts, the next post completes a group or does not
+  -- the next post after q full groups and r posts completes a group if r + 1 posts do
   pub due_next : (e : Entry) (q r : ℕ) → e.ticket ≡ q * v + r → r + 1 ≡ v → is_due v e ≡ true
   due_next e q r ticket full =
       let turn : e.ticket + 1 ≡ suc q * v + 0 = omega (arith, ticket, full, suc-mul q v) in
@@ -110,12 +110,12 @@ module _ (v : ℕ) (some_v : 1 ≤ v) where
       ends e.saved (f ∷ l) (a + 1) (other_tickets e (f ∷ l) a tickets) all.1 (omega arith)
       ∙ ap (λ (z : ℕ). z % v == 0) (let same : a + 1 + length (f ∷ l) ≡ a + length (e ∷ f ∷ l) = omega arith in same)
 
--- without posts none is marked
+-- without posts, no post is marked
 no_posts : (v : ℕ) (l : List Entry) → length l ≡ 0 → ends_saved l ≡ (nat_lt 0 (length l) && (length l % v == 0))
 no_posts v [] none = refl
 no_posts v (e ∷ l) none = absurd (omega arith)
 
--- the law on posts of which none missed a save
+-- the law on posts without a missed save
 pub unfailed_posts_are_regular : UnfailedPostsAreRegular
 unfailed_posts_are_regular every posted some_every tickets due none =
     let all = marked every posted due none in

@@ -1,4 +1,4 @@
--- Where the opening is right, so is each checkpoint of a desk.
+-- If the initial outcomes are correct, so is each checkpoint of a desk.
 use Rattle.std.proofs.Common.{◌≡◌, ℕ, zero, suc, ◌<◌, List, map, Option, Some, None, refl, All, arith}
 use Rattle.std.specs.Prelude.{option_to_list}
 use Rattle.std.proofs.lemmas.List.Elements.{All-append}
@@ -16,7 +16,7 @@ use Rattle.claim_counter.proofs.Sharing.{found_id}
 use Rattle.tally_desk.proofs.Found.{found_right}
 use Rattle.tally_desk.proofs.Todo.{todo_within}
 
--- what holds of all outcomes holds of those by rising id
+-- a property of all outcomes holds for those by rising id
 by_id_all : (P : Outcome → Type 0) (n : ℕ) (os : List Outcome) → All P os → All P (by_id n os)
 by_id_all P zero os all = λ k d inside. absurd (omega arith)
 by_id_all P (suc n) os all = All-append P (by_id n os) (option_to_list (with_id os n)) (by_id_all P n os all) (last (with_id os n) refl)
@@ -26,7 +26,7 @@ by_id_all P (suc n) os all = All-append P (by_id n os) (option_to_list (with_id 
     last (Some o) e zero d inside = (found_in P os n o all e).0
     last (Some o) e (suc k) d inside = absurd (omega arith)
 
--- the law on saves of a right opening
+-- the law on saves from correct initial outcomes
 pub saved_outcomes_are_right : SavedOutcomesAreRight
 saved_outcomes_are_right parts posted plan of_todo right =
     let n = total parts.job in

@@ -29,7 +29,7 @@ five_place = refl
 five_last : ids_of (up_to_save 2 five) ≡ 0 ∷ 1 ∷ 2 ∷ 3 ∷ []
 five_last = refl
 
--- the one before it has two
+-- the save before it has two
 five_next : ids_of (up_to_save 1 five) ≡ 0 ∷ 1 ∷ []
 five_next = refl
 
@@ -37,15 +37,15 @@ five_next = refl
 five_missed : missed 2 five ≡ 0
 five_missed = refl
 
--- the last post has none
+-- the last post has no save
 five_ends : ends_saved five ≡ false
 five_ends = refl
 
--- resumed from there: the place is slot 1 with generation 0, and after five more a last save goes to slot 1 with generation 2
+-- resumed from there at slot 1 with generation 0: after five more posts, a last save goes to slot 1 with generation 2
 five_more : moved (saves_made five) (at 1 0) ≡ at 1 2
 five_more = refl
 
--- resumed again: two posts, and the save with the last of them goes to slot 0 with generation 0
+-- resumed again: two posts, and the save with the second goes to slot 0 with generation 0
 abbrev two : List Entry
 two = post 0 false ∷ post 1 true ∷ []
 
@@ -53,7 +53,7 @@ two = post 0 false ∷ post 1 true ∷ []
 two_place : moved (saves_made two) (at 0 0) ≡ at 1 1
 two_place = refl
 
--- the last post has one
+-- the last post has a save
 two_ends : ends_saved two ≡ true
 two_ends = refl
 
@@ -67,7 +67,7 @@ twelve =
     post 0 false ∷ post 1 true ∷ post 2 false ∷ post 3 true ∷ post 4 false ∷ post 5 false ∷ post 6 false ∷ post 7 true
     ∷ post 8 false ∷ post 9 true ∷ post 10 false ∷ post 11 true ∷ []
 
--- after the failed save nothing is said of the next slot
+-- after the failed save, the next slot may hold anything
 six_missed : missed 2 (after_save (saves_made six) six) ≡ 1
 six_missed = refl
 
@@ -75,7 +75,7 @@ six_missed = refl
 six_place : moved (saves_made six) (at 0 0) ≡ at 0 2
 six_place = refl
 
--- twelve posts with a save missed: five saves
+-- twelve posts with one missed save make five saves
 twelve_saves : saves_made twelve ≡ 5
 twelve_saves = refl
 
@@ -83,7 +83,7 @@ twelve_saves = refl
 twelve_missed : missed 2 twelve ≡ 1
 twelve_missed = refl
 
--- slot 0 has generation 1 and all twelve, and slot 1 has generation 0 and the first ten
+-- slot 0 has generation 1 and all twelve posts, and slot 1 has generation 0 and the first ten
 twelve_place : moved (saves_made twelve) (at 0 0) ≡ at 1 2
 twelve_place = refl
 
@@ -91,7 +91,7 @@ twelve_place = refl
 twelve_last : ids_of (up_to_save 5 twelve) ≡ range_with_len 0 12
 twelve_last = refl
 
--- the one before it has ten
+-- the save before it has ten
 twelve_next : ids_of (up_to_save 4 twelve) ≡ range_with_len 0 10
 twelve_next = refl
 
@@ -99,7 +99,7 @@ twelve_next = refl
 twelve_after : after_save 5 twelve ≡ []
 twelve_after = refl
 
--- the last post has one
+-- the last post has a save
 twelve_ends : ends_saved twelve ≡ true
 twelve_ends = refl
 
@@ -116,7 +116,7 @@ after_two = refl
 after_two_missed : missed 2 (three true false) ≡ 0
 after_two_missed = refl
 
--- the last post has none
+-- the last post has no save
 after_two_ends : ends_saved (three true false) ≡ false
 after_two_ends = refl
 
@@ -124,10 +124,10 @@ after_two_ends = refl
 after_three_missed : missed 3 (three false true) ≡ 0
 after_three_missed = refl
 
--- and the last post has it
+-- the last post has the save
 after_three_ends : ends_saved (three false true) ≡ true
 after_three_ends = refl
 
--- three posts of which the second missed its save
+-- three posts, the second with a missed save
 first_failed : missed 2 (three false false) ≡ 1
 first_failed = refl

@@ -1,4 +1,4 @@
--- What a seat knows when it comes out of a pass and goes back.
+-- The knowledge of a seat when it leaves a pass and comes back.
 use Rattle.std.proofs.Common.{◌≡◌, ℕ, ◌<◌, ◌≤◌, List, [], ◌∷◌, length, get_or, sym, ap, ◌∙◌, subst, Some}
 use Rattle.atomic_table.specs.Table.{Me, Step}
 use Rattle.claim_counter.specs.Records.{with_claim}
@@ -8,7 +8,7 @@ use Rattle.tally_desk.specs.Parts.{Parts}
 use Rattle.tally_desk.specs.Views.{PassView, view_in}
 use Rattle.audit_model.specs.Times.{times}
 
--- a badge of one view
+-- a badge has exactly one view
 pub only_view : (views : List PassView) (v : PassView) → views ≡ v ∷ [] → views ≡ view_in views ∷ []
 only_view views v is = is ∙ ap (λ (u : PassView). u ∷ []) (sym (ap view_in is))
 

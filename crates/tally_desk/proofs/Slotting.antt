@@ -1,4 +1,4 @@
--- What one more post does to what is known of the slots.
+-- The effect of one more post on the knowledge of the slots.
 use Rattle.std.proofs.Common.{◌≡◌, ℕ, zero, suc, ◌+◌, ◌-◌, ◌%◌, ◌<◌, ◌≤◌, Bool, true, false, cond, List, [], ◌∷◌, ◌++◌, Option, Some, None, refl, sym, ap, ◌∙◌, subst, arith}
 use Rattle.std.specs.List.{list_all}
 use Rattle.std.proofs.lemmas.Bool.{true≢false}
@@ -21,7 +21,7 @@ use Rattle.tally_desk.proofs.Marking.{saves-push, missed-push, up_to_save-kept, 
 
 -- ---- two slots and three generations
 
--- the place moves within two slots and three generations
+-- the place stays within two slots
 pub moved_slot : (n : ℕ) (p : Place) → p.slot < 2 → (moved n p).slot < 2
 moved_slot zero p below = below
 moved_slot (suc n) p below = omega arith
@@ -30,58 +30,58 @@ moved_slot (suc n) p below = omega arith
 mod_three : (g : ℕ) → (g + 1) % 3 < 3
 mod_three g = omega arith
 
--- so it is however often the place moved on
+-- the place stays within three generations
 pub moved_generation : (n : ℕ) (p : Place) → p.generation < 3 → (moved n p).generation < 3
 moved_generation zero p below = below
 moved_generation (suc n) p below = mod_three (moved n p).generation
 
--- beside a slot is the other one
+-- the other slot is the one beside the place
 pub other_is : (q : Pair) (at : ℕ) → at < 2 → other_stored q at ≡ stored q (1 - at)
 other_is q zero below = refl
 other_is q (suc zero) below = refl
 other_is q (suc (suc at)) below = absurd (omega arith)
 
--- the other slot of the other slot is the slot
+-- the other slot of the other slot is the slot itself
 pub twice_other : (at : ℕ) → at < 2 → 1 - (1 - at) ≡ at
 twice_other at below = omega arith
 
--- the generation before the next one is this one
+-- the generation before the next one is the current one
 pub before_next : (g : ℕ) → g < 3 → ((g + 1) % 3 + 2) % 3 ≡ g
 before_next zero below = refl
 before_next (suc zero) below = refl
 before_next (suc (suc zero)) below = refl
 before_next (suc (suc (suc g))) below = absurd (omega arith)
 
--- two before the next one is the one before this one
+-- two generations before the next one is the one before the current one
 pub two_before_next : (g : ℕ) → g < 3 → ((g + 1) % 3 + 1) % 3 ≡ (g + 2) % 3
 two_before_next zero below = refl
 two_before_next (suc zero) below = refl
 two_before_next (suc (suc zero)) below = refl
 two_before_next (suc (suc (suc g))) below = absurd (omega arith)
 
--- this one follows the one before it
+-- the current generation follows the one before it
 after_before : (g : ℕ) → g < 3 → g ≡ ((g + 2) % 3 + 1) % 3
 after_before zero below = refl
 after_before (suc zero) below = refl
 after_before (suc (suc zero)) below = refl
 after_before (suc (suc (suc g))) below = absurd (omega arith)
 
--- ---- told or not
+-- ---- known or unknown slots
 
--- what is told in other words
+-- an implication carries over to slots that may be unknown
 pub told_map : {A : Type 0} (a b : Option A) (P Q : A → A → Type 0) → ((x y : A) → P x y → Q x y) → IfBothTold a b P → IfBothTold a b Q
 told_map None b P Q f h = tt
 told_map (Some x) None P Q f h = h
 told_map (Some x) (Some y) P Q f h = f x y h
 
--- where nothing is counted, the condition does not hold
+-- if the count is zero, the condition is false
 cond_none : (b : Bool) → cond {A = ℕ} b 1 0 ≡ 0 → b ≡ false
 cond_none true none = absurd (omega arith)
 cond_none false none = refl
 
 -- ---- a post that is not marked
 
--- the last slot is as before, and both are where no save was due
+-- an unmarked post leaves the last slot, and both slots if no save was due
 pub unsaved_slots : (parts : Parts) (l : List Entry) (t i : ℕ) (before now after : Pair) (place : Place)
     → stored after (1 - place.slot) ≡ stored now (1 - place.slot)
     → (is_missed parts.save_every (post_of t i false) ≡ false → after ≡ now)
@@ -115,7 +115,7 @@ unsaved_slots parts l t i before now after place last same s =
 
 -- ---- a post that is marked
 
--- a checkpoint of any outcomes that fit, at the place and nowhere else, is the newest
+-- a checkpoint of fitting outcomes, written at the place and nowhere else, is the newest slot
 module _ (newest : SavedSlotsAreNewest) (ours : CheckpointsAreOurs) (parts : Parts) (plan : IsPlan parts) (l : List Entry) (before now after : Pair) (place : Place) (slot : place.slot < 2)
     (generation : place.generation < 3) (at : place ≡ moved (saves_made l) parts.place)
     (first : place_for parts.job (job_digest parts.job) before ≡ (parts.place.slot, parts.place.generation)) (of_todo : (id : ℕ) → times id (ids_of l) ≤ times id parts.todo)

@@ -1,4 +1,4 @@
--- Each step of a desk's table keeps its rule, whatever the slot is to hold.
+-- Each step of a desk's table keeps its rule, for any contents of the slot.
 use Rattle.std.proofs.Common.{◌≡◌, ℕ, ◌+◌, ◌%◌, ◌^◌, ◌<◌, ◌≤◌, min, Bool, true, false, List, [], ◌∷◌, ◌++◌, map, set, get_or, length, length-set, sym, refl, ap, ◌∙◌, subst, inr, ⊎_elim, arith, Some, Option, unwrap_or, lt_of_not-le, eqb, eq-eqb, ne_eqb}
 use mathlib.Core.Option as maybe
 use mathlib.Core.Logic.{dite}
@@ -43,7 +43,7 @@ abbrev last_of : List Entry → Entry → Entry
 last_of [] d = d
 last_of (e ∷ es) d = last_of es e
 
--- the last of posts is what was appended
+-- the last of the posts is the one appended
 last_of_push : (l : List Entry) (e d : Entry) → last_of (l ++ e ∷ []) d ≡ e
 last_of_push [] e d = refl
 last_of_push (x ∷ l) e d = last_of_push l e x
@@ -150,12 +150,12 @@ module _ {C : Type 0} (HomeAs : Parts → Home C → List Entry → Type 0) (par
         record { slots = refl; view = refl },
       )
 
-  -- the number of tickets given out stays
+  -- a step that gives out no ticket keeps the rule
   unmoved_given : (s : St) → Tallied HomeAs parts s → (id : ℕ) (me : Mine) → get_elem? s.views id ≡ maybe.some me.0 → Tallied HomeAs parts (stepped s 1 (get_or s.words 1 0) id me.1 me.0 keeps)
   unmoved_given s k id me at = after_second s k (get_or s.words 1 0) id me me.0
       (subst (KeepsTally HomeAs parts (get_or s.words 0 0) (get_or s.words 1 0) (get_or s.words 2 0) k.posted s.homes) (sym (set_again s.views id me.0 at)) k.tallied)
 
-  -- a try for a ticket takes it, or does nothing
+  -- an attempt to take a ticket takes it or changes nothing
   pub try_ticket : (slots id : ℕ) (me : Mine) (o old new : ℕ) → new ≡ (old + 1) % 2 ^ 64 → CanPost parts me.0 o
       → Allows (Tallied HomeAs parts) slots id me 1 (λ n. either (eqb n old) new n) (TriesTicket o (step slots 1 old new maybe.none) me)
   try_ticket slots id me o old new next can s k deep at small =
@@ -343,7 +343,7 @@ module _ {C : Type 0} (HomeAs : Parts → Home C → List Entry → Type 0) (par
         },
       )
 
-  -- what a pass in turn knows of the slot that it reads
+  -- a pass in its turn knows the contents of the slot that it reads
   pub held_home : (t i : ℕ) (me : Mine) (now : Home C) (turn : IsInTurn HomeAs parts t i me) → me.1 ≡ (0, now) ∷ rest me.1 → HomeAs parts now turn.posted
   held_home t i me now turn is = subst (λ (h : Home C). HomeAs parts h turn.posted) (ap (λ (l : List (ℕ × Home C)). home_in l turn.home) (sym turn.slots ∙ is)) turn.holds
 
@@ -368,7 +368,7 @@ module _ {C : Type 0} (HomeAs : Parts → Home C → List Entry → Type 0) (par
         awaits = b.awaits;
       }
 
-  -- where all was drawn and posted, the posts are those of the list, each once
+  -- once all is drawn and posted, the posts are the ids of the list, each once
   pub complete : (drawn : ℕ) (y : Home C) (v : PassView) (k : IsSettled HomeAs parts drawn y v) → v.own.ended ≡ true → HasPostedAll parts v → IsPermutation (ids_of k.posted) parts.todo
   complete drawn y v k is_ended all =
       let todo = parts.todo in

@@ -1,4 +1,4 @@
--- Each kind of step keeps the rule of a desk, over plain lists of words, views and posts, whatever the slot is to hold.
+-- Each kind of step keeps the rule of a desk, over plain lists of words, views and posts, for any contents of the slot.
 use Rattle.std.proofs.Common.{◌≡◌, ◌≢◌, ℕ, zero, suc, ◌+◌, ◌<◌, ◌≤◌, min, Bool, true, false, List, [], ◌∷◌, ◌++◌, map, set, get_or, length, length-append, sym, refl, ap, ◌∙◌, subst, inl, inr, ⊎_elim, arith, Some, append-nil}
 use mathlib.Core.Option as maybe
 use lib.ListN.{get_elem?}
@@ -25,49 +25,49 @@ use Rattle.tally_desk.proofs.Todo.{todo_once}
 use Rattle.audit_model.specs.Times.{times, once_below}
 use Rattle.audit_model.proofs.Times.{sum_set, sum_at, sum_le, times-cons, times-append, times_push, one, one_more_id, one_same, length-apart, length-le, below_from_once}
 
--- a turn has as many tickets as ids
+-- a turn has one ticket for each id
 one_ticket : (t : Turn) → length (turn_tickets t) ≡ length (turn_ids t)
 one_ticket no_turn = refl
 one_ticket (waiting t i) = refl
 one_ticket (in_turn t i l) = refl
 
--- the ticket that is given out is the next number
+-- the new ticket is the next number
 once_more : (x n : ℕ) → once_below x n + one x n ≡ once_below x (n + 1)
 once_more x n = grind arith
 
--- no number is counted twice
+-- no number occurs twice in a range
 once_at_most : (x n : ℕ) → once_below x n ≤ 1
 once_at_most x n = grind arith
 
--- what was put at a place stands there
+-- a list has the new value at the place that was set
 pub set_here_at : {A : Type 0} (xs : List A) (i : ℕ) (v w : A) → get_elem? xs i ≡ maybe.some v → get_elem? (set xs i w) i ≡ maybe.some w
 set_here_at [] i v w e = absurd (maybe.some-ne-none v (sym e))
 set_here_at (x ∷ xs) zero v w e = refl
 set_here_at (x ∷ xs) (suc i) v w e = set_here_at xs i v w e
 
--- each pass fits the desk after one changed
+-- each pass fits the desk after one of them changed
 each_set : (parts : Parts) (served : ℕ) (posted : List Entry) (vs : List PassView) (i : ℕ) (w : PassView)
     → ((j : ℕ) (v : PassView) → get_elem? vs j ≡ maybe.some v → FitsDesk parts served posted v) → FitsDesk parts served posted w
     → (j : ℕ) (v : PassView) → get_elem? (set vs i w) j ≡ maybe.some v → FitsDesk parts served posted v
 each_set parts served posted vs i w all here j v e = ⊎_elim (λ t. subst (FitsDesk parts served posted) t.1 here) (λ t. all j v t.1) (at_set vs i j w v e)
 
--- and after one more came
+-- each pass fits the desk after one was added
 each_push : (parts : Parts) (served : ℕ) (posted : List Entry) (vs : List PassView) (w : PassView)
     → ((j : ℕ) (v : PassView) → get_elem? vs j ≡ maybe.some v → FitsDesk parts served posted v) → FitsDesk parts served posted w
     → (j : ℕ) (v : PassView) → get_elem? (vs ++ w ∷ []) j ≡ maybe.some v → FitsDesk parts served posted v
 each_push parts served posted vs w all here j v e = ⊎_elim (λ t. all j v t) (λ t. subst (FitsDesk parts served posted) t here) (at_snoc vs w v j e)
 
--- what the counter knows stays where a pass changes nothing of it
+-- the counter's records are unchanged if a pass changes only its other fields
 own_same : (vs : List PassView) (i : ℕ) (v w : PassView) → get_elem? vs i ≡ maybe.some v → w.own ≡ v.own → map own_of (set vs i w) ≡ map own_of vs
 own_same vs i v w at same = map-set own_of vs i w ∙ ap (set (map own_of vs) i) same ∙ set_again (map own_of vs) i v.own (at_map own_of vs i v at)
 
--- no pass posts more than it claimed
+-- no pass posts more ids than it claimed
 within_claims : (parts : Parts) (served : ℕ) (posted : List Entry) (v : PassView) → FitsDesk parts served posted v → entry_sum (λ _. 1) v + turn_count v ≤ length v.own.claims
 within_claims parts served posted v fits = ⊎_elim (λ is. let n : entry_sum (λ _. 1) v + turn_count v ≡ 0 = ap (λ (u : PassView). entry_sum (λ _. 1) u + turn_count u) is in omega arith)
     (λ u. let most = length-le (posting v) (claimed_ids parts v) u.claimed in
     omega (arith, most, length-map v.own.claims (λ (p : ℕ). get_or parts.todo p 0), length-append (ids_of v.entries) (turn_ids v.turn), length-map v.entries posted_id, sum_ones v.entries, one_ticket v.turn)) fits
 
--- a pass that weighs is in use
+-- a pass with a positive weight is in use
 pub in_use : (parts : Parts) (served : ℕ) (posted : List Entry) (v : PassView) → FitsDesk parts served posted v → 0 < v.own.weight → IsInUse parts served posted v
 in_use parts served posted v fits weighs = ⊎_elim (λ is. let none : v.own.weight ≡ 0 = ap (λ (u : PassView). u.own.weight) is in absurd (omega arith)) (λ u. u) fits
 
@@ -78,27 +78,27 @@ posts_within parts served posted v x fits = ⊎_elim
     (λ is. let n : entry_sum (λ e. one x (posted_id e)) v + times x (turn_ids v.turn) ≡ 0 = ap (λ (u : PassView). entry_sum (λ e. one x (posted_id e)) u + times x (turn_ids u.turn)) is in omega arith)
     (λ u. omega (arith, u.claimed x, times-append x (ids_of v.entries) (turn_ids v.turn), sum_mapped (one x) posted_id v.entries)) fits
 
--- a pass in turn has the ticket that is served
+-- a pass in its turn has the ticket that is served
 held_is_served : (served : ℕ) (posted : List Entry) (x : Turn) → KnowsPosts served posted x → holding x ≤ times served (turn_tickets x)
 held_is_served served posted no_turn knows = omega arith
 held_is_served served posted (waiting t i) knows = omega arith
 held_is_served served posted (in_turn t i l) knows = omega (arith, times-cons served t [], ap (one served) knows.0, one_same served)
 
--- a pass in turn waits with the ticket that is served
+-- a pass in its turn waits with the ticket that is served
 in_turn_is_served : (parts : Parts) (served : ℕ) (posted : List Entry) (v : PassView) → FitsDesk parts served posted v → is_in_turn v ≤ waiting_at served v
 in_turn_is_served parts served posted v fits = ⊎_elim (λ is. let none : is_in_turn v ≡ 0 = ap is_in_turn is in omega arith) (λ u. held_is_served served posted v.turn u.knows) fits
 
--- of a pass that is not in turn, no more is known after a post
+-- a post adds no knowledge to a pass that is not in its turn
 still_fits : (served : ℕ) (posted after : List Entry) (x : Turn) → KnowsPosts served posted x → holding x ≡ 0 → KnowsPosts (served + 1) after x
 still_fits served posted after no_turn knows none = tt
 still_fits served posted after (waiting t i) knows none = tt
 still_fits served posted after (in_turn t i l) knows none = absurd (omega arith)
 
--- two passes count at most as much as all
+-- a sum over two passes is at most the sum over all
 two_at : (f : PassView → ℕ) → f spent_view ≡ 0 → (vs : List PassView) (i j : ℕ) (v u : PassView) → get_elem? vs i ≡ maybe.some v → get_elem? vs j ≡ maybe.some u → j ≢ i → f v + f u ≤ sum_by f vs
 two_at f none vs i j v u at at' apart = omega (arith, sum_set f vs i v spent_view at, sum_at f (set vs i spent_view) j u (set_else vs i j spent_view apart ∙ at'), none)
 
--- where a pass has no turn, its posts are all that it is posting
+-- without a ticket, a pass is posting only its posts
 posting_idle : (v : PassView) → v.turn ≡ no_turn → posting v ≡ ids_of v.entries
 posting_idle v idle = ap (λ (x : Turn). ids_of v.entries ++ turn_ids x) idle ∙ append-nil (ids_of v.entries)
 
@@ -123,7 +123,7 @@ module _ {C : Type 0} (HomeAs : Parts → Home C → List Entry → Type 0) (par
         length-range_with_len 0 c,
       )
 
-  -- how often an id stands among all posts
+  -- the number of times an id occurs among all posts
   posted_times : (x : ℕ) → times x (ids_of posted) ≡ sum_by (entry_sum (λ e. one x (posted_id e))) vs
   posted_times x = sum_mapped (one x) posted_id posted ∙ sym (t.posts (λ e. one x (posted_id e)))
 
@@ -131,7 +131,7 @@ module _ {C : Type 0} (HomeAs : Parts → Home C → List Entry → Type 0) (par
   all_claimed x = omega (arith, claimed_of_todo parts.todo parts.seats a (map own_of vs) t.counted x, sum_mapped (λ (p : PassRecord). times x (ids_at parts.todo p.claims)) own_of vs)
 
   module _ (id : ℕ) (v : PassView) (at : get_elem? vs id ≡ maybe.some v) where
-    -- what a pass claims is to do
+    -- a claimed id is an id to do
     claimed_to_do : (x : ℕ) → times x (claimed_ids parts v) ≤ times x parts.todo
     claimed_to_do x = omega (arith, all_claimed x, sum_at (λ (z : PassView). times x (claimed_ids parts z)) vs id v at)
 
@@ -155,7 +155,7 @@ module _ {C : Type 0} (HomeAs : Parts → Home C → List Entry → Type 0) (par
           home = λ none. t.home (sym (sum_same is_in_turn vs id v w at (ap holding can.idle)) ∙ none);
         }
 
-    -- while a pass waits for the ticket that is served, no pass is in turn
+    -- while a pass waits for the served ticket, no pass is in its turn
     pub none_in_turn : (i : ℕ) → v.turn ≡ waiting c i → sum_by is_in_turn vs ≡ 0
     none_in_turn i turn =
         let idle : is_in_turn v ≡ 0 = ap holding turn in
@@ -182,7 +182,7 @@ module _ {C : Type 0} (HomeAs : Parts → Home C → List Entry → Type 0) (par
           home = λ none. let before : is_in_turn v ≡ 0 = ap holding turn in absurd (omega (arith, sum_set is_in_turn vs id v w at, none, before));
         }
 
-    -- what a pass with a turn may post
+    -- a pass with a ticket may post its id
     pub awaits : (i : ℕ) → 0 < v.own.weight → turn_ids v.turn ≡ i ∷ [] → AwaitsPost parts c i posted
     awaits i weighs turn =
         let u = in_use parts c posted v (t.each id v at) weighs in
@@ -204,13 +204,13 @@ module _ {C : Type 0} (HomeAs : Parts → Home C → List Entry → Type 0) (par
           unposted = omega (arith, posted_times i, all_claimed i, unposted, todo_once parts t.plan i);
         }
 
-    -- a pass has at most as many claims as there are places
+    -- a pass has at most one claim for each place
     pub claims_few : length v.own.claims ≤ length parts.todo
     claims_few = length-apart (length parts.todo) v.own.claims
         (λ x. let more : once_below x (min a (length parts.todo)) ≤ once_below x (length parts.todo) = grind arith in
         omega (arith, more, t.counted.claims x, sum_at (λ (p : PassRecord). times x p.claims) (map own_of vs) id v.own (at_map own_of vs id v at)))
 
-    -- a place that is claimed was drawn
+    -- a claimed place was drawn
     pub place_drawn : (place : ℕ) → 0 < times place v.own.claims → place < min a (length parts.todo)
     place_drawn place has_it = below_from_once place (min a (length parts.todo))
         (omega (arith, has_it, t.counted.claims place, sum_at (λ (p : PassRecord). times place p.claims) (map own_of vs) id v.own (at_map own_of vs id v at)))
@@ -247,7 +247,7 @@ module _ {C : Type 0} (HomeAs : Parts → Home C → List Entry → Type 0) (par
           home = λ _. (y, refl, holds);
         }
 
-    -- a step that changes only what the pass drew
+    -- a step that changes only the draws of a pass keeps the rule
     with_draw : (n : ℕ) (p : PassRecord) → AreCounted (length parts.todo) parts.seats n (set (map own_of vs) id p) → FitsDesk parts c posted (with_own v p)
         → KeepsTally HomeAs parts n b c posted homes (set vs id (with_own v p))
     with_draw n p counted fits = let w = with_own v p in record {
@@ -280,7 +280,7 @@ module _ {C : Type 0} (HomeAs : Parts → Home C → List Entry → Type 0) (par
           with_draw (a + 1) (with_claim a v.own) (laws.number (length parts.todo) parts.seats a (map own_of vs) id v.own has below).0
           (inr (record { fixed = is; weighs = weighs; claimed = longer_claims (posting v) a u.claimed; knows = u.knows }))
 
-      -- the id of a new place is new, since the ids of the list differ
+      -- the id of a new place is new, since the ids to do differ
       pub new_id : a < length parts.todo → times (get_or parts.todo a 0) (claimed_ids parts v) ≡ 0
       new_id below =
           let x = get_or parts.todo a 0 in
@@ -297,7 +297,7 @@ module _ {C : Type 0} (HomeAs : Parts → Home C → List Entry → Type 0) (par
             one_same x,
           )
 
-      -- and nobody has posted it
+      -- the id of a new place is not posted yet
       pub new_unposted : a < length parts.todo → times (get_or parts.todo a 0) (ids_of posted) ≡ 0
       new_unposted below =
           let x = get_or parts.todo a 0 in

@@ -1,4 +1,5 @@
--- The ids to do: they differ, are below the total, and the opening lacks them. That they lie in the job's part is not needed here.
+-- The ids to do differ, are below the total and have no initial outcome. That they lie in the job's part is not needed
+-- here.
 use Rattle.std.proofs.Common.{◌≡◌, ℕ, zero, suc, ◌+◌, ◌<◌, ◌≤◌, not, Bool, true, false, cond, [], ◌∷◌, length, refl, sym, ap, ◌∙◌, ⊎_elim, arith}
 use Rattle.std.specs.Prelude.{◌==◌, ◌&&◌}
 use Rattle.std.proofs.lemmas.Bool.{and_parts, not-true, eqb-true, cases_Bool}
@@ -9,31 +10,31 @@ use Rattle.audit_model.specs.Times.{times, once_below}
 use Rattle.audit_model.proofs.Times.{one, times-append, times-cons, length-apart, below_from_once}
 use Rattle.tally_desk.specs.Parts.{Parts, IsPlan}
 
--- one number more
+-- a range extended by one number counts it once
 once_more : (x n : ℕ) → once_below x n + one x n ≡ once_below x (suc n)
 once_more x n = let next : n + 1 ≡ suc n = omega arith in let step : once_below x n + one x n ≡ once_below x (n + 1) = grind arith in step ∙ ap (once_below x) next
 
--- a number that may be taken is there at most once
+-- a number taken on a condition occurs at most once
 times_if : (x n : ℕ) (b : Bool) → times x (cond b (n ∷ []) []) ≤ one x n
 times_if x n true = omega (arith, times-cons x n [])
 times_if x n false = omega arith
 
--- each number below the bound that passes, once
+-- a filtered range has each number at most once
 filter_once : (x n : ℕ) (test : ℕ → Bool) → times x (filter_below n test) ≤ once_below x n
 filter_once x zero test = omega arith
 filter_once x (suc n) test =
     omega (arith, filter_once x n test, times-append x (filter_below n test) (cond (test n) (n ∷ []) []), times_if x n (test n), once_more x n)
 
--- what is counted for a number is that number
+-- a number that counts for x is x
 one_tells : (x y : ℕ) → 0 < one x y → y ≡ x
 one_tells x y some_one = ⊎_elim (λ same. eqb-true y x same) (λ differ. let none : one x y ≡ 0 = ap (λ (b : Bool). cond b 1 0) differ in absurd (omega arith)) (cases_Bool (y == x))
 
--- what was taken passes the test
+-- a number taken on a condition passes the test
 passes_if : (x n : ℕ) (test : ℕ → Bool) (b : Bool) → test n ≡ b → 0 < times x (cond b (n ∷ []) []) → test x ≡ true
 passes_if x n test true is some_here = ap test (sym (one_tells x n (omega (arith, some_here, times-cons x n [])))) ∙ is
 passes_if x n test false is some_here = absurd (omega arith)
 
--- so does each of all that were taken
+-- each number of a filtered range passes the test
 filter_passes : (x n : ℕ) (test : ℕ → Bool) → 0 < times x (filter_below n test) → test x ≡ true
 filter_passes x zero test some_here = absurd (omega arith)
 filter_passes x (suc n) test some_here = by (times x (filter_below n test)) refl (filter_passes x n test)

@@ -1,4 +1,4 @@
--- The saves that a run tried are in turn, and each is a checkpoint of the opening and of posts.
+-- The save attempts of a run follow each other, and each is a checkpoint of the initial outcomes and of posts.
 use Rattle.std.proofs.Common.{◌≡◌, ℕ, ◌+◌, ◌-◌, ◌%◌, ◌≤◌, Bool, true, false, cond, List, [], ◌∷◌, ◌++◌, map, refl, sym, ap, ◌∙◌, subst, append_assoc, arith}
 use Rattle.std.specs.List.{All}
 use Rattle.std.specs.Prelude.{◌==◌}
@@ -21,7 +21,7 @@ use Rattle.tally_desk.proofs.Booking.{booked_fit, by_id_fit}
 use Rattle.tally_desk.proofs.Marking.{next_turn}
 use Rattle.tally_desk.specs.Ran.{AreRunTries, IsRunTry}
 
--- all saves that a run over a desk tried: those of its desk, and where none was made with the last post, one of all posts, which succeeded or not
+-- all save attempts of a run over a desk: those of its desk, and one of all posts unless the last post saved
 abbrev pub rest_tries : Bool → Bool → Parts → List Entry → List Try
 rest_tries true succeeded parts posted = []
 rest_tries false succeeded parts posted =
@@ -35,7 +35,7 @@ module _ (parts : Parts) (plan : IsPlan parts) where
   abbrev InTurnFrom : ℕ → List Try → Type 0
   InTurnFrom n ts = AreInTurn parts.job (job_digest parts.job) (moved n parts.place).slot (moved n parts.place).generation ts
 
-  -- these are posts of ids to do
+  -- posts of ids to do
   abbrev OfTodo : List Entry → Type 0
   OfTodo posted = (id : ℕ) → times id (ids_of posted) ≤ times id parts.todo
 
@@ -73,7 +73,7 @@ module _ (parts : Parts) (plan : IsPlan parts) where
   turn_rest earlier e rest true is goes = subst (λ (n : ℕ). InTurnFrom n rest) (next_turn earlier e true is) goes
   turn_rest earlier e rest false is goes = subst (λ (n : ℕ). InTurnFrom n rest) (next_turn earlier e false is) goes
 
-  -- one more post, and what the run tries after it
+  -- the attempts of the run with one more post
   turn_with : (earlier : List Entry) (e : Entry) (ms : List Made) (rest : List Try) (b : Bool) → is_due parts.save_every e ≡ b → Due e → OfTodo (earlier ++ e ∷ [])
       → All (IsSound parts.job) (cond b (made_with parts earlier e ∷ []) [] ++ ms)
       → InTurnFrom (saves_made (earlier ++ e ∷ [])) (map (try_made parts.job) ms ++ rest)
@@ -99,7 +99,7 @@ module _ (parts : Parts) (plan : IsPlan parts) where
       (sound_rest (is_due parts.save_every e) (made_with parts earlier e) ms sound) (All-tail Due e posted due)
       (subst (λ (l : List Entry). InTurnFrom (saves_made l) rest) (sym (append_assoc earlier (e ∷ []) posted)) goes))
 
-  -- ---- each of them
+  -- ---- each attempt
 
   one_try : (earlier : List Entry) (e : Entry) → OfTodo (earlier ++ e ∷ []) → IsSound parts.job (made_with parts earlier e) → IsRunTry parts (try_made parts.job (made_with parts earlier e))
   one_try earlier e of_todo sound = record {
@@ -125,7 +125,7 @@ module _ (parts : Parts) (plan : IsPlan parts) where
       tries_with earlier e ms (is_due parts.save_every e) (fewer earlier posted e of_todo) sound
       (each_try posted (earlier ++ e ∷ []) (later earlier posted e of_todo) (sound_rest (is_due parts.save_every e) (made_with parts earlier e) ms sound))
 
-  -- ---- and the last save
+  -- ---- the last save
 
   abbrev IsSoundAt : ℕ → List Entry → Type 0
   IsSoundAt generation posted =

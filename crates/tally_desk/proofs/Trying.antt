@@ -1,4 +1,4 @@
--- What one more post does to the saves that were tried.
+-- The effect of one more post on the save attempts.
 use Rattle.std.proofs.Common.{◌≡◌, Bool, true, false, cond, List, [], ◌∷◌, ◌++◌, map, Option, refl, sym, ap, ◌∙◌, subst, append_assoc}
 use Rattle.std.specs.List.{All}
 use Rattle.std.proofs.lemmas.List.{append-nil, map-append}
@@ -9,7 +9,7 @@ use Rattle.tally_desk.specs.Entries.{is_due}
 use Rattle.tally_desk.specs.Homes.{IsSound, Made, made, made_after, made_with, tries, try_made}
 use Rattle.tally_desk.specs.Parts.{Parts}
 
--- saves that were tried one after the other
+-- attempts made one list after the other
 pub tried_then : (told : Option (List Try)) (xs ys : List Try) → tried_all told (xs ++ ys) ≡ tried_all (tried_all told xs) ys
 tried_then told [] ys = refl
 tried_then told (x ∷ xs) ys = tried_then (tried_too told x.slot x.bytes x.succeeded) xs ys
@@ -17,7 +17,7 @@ tried_then told (x ∷ xs) ys = tried_then (tried_too told x.slot x.bytes x.succ
 abbrev one : Parts → List Entry → Entry → List Made
 one parts earlier e = cond (is_due parts.save_every e) (made_with parts earlier e ∷ []) []
 
--- one post more tries its own saves after those before it
+-- one more post makes its own attempts after the earlier ones
 made_push : (parts : Parts) (earlier l : List Entry) (e : Entry) → made_after parts earlier (l ++ e ∷ []) ≡ made_after parts earlier l ++ one parts (earlier ++ l) e
 made_push parts earlier [] e = append-nil (one parts earlier e) ∙ ap (λ (xs : List Entry). one parts xs e) (sym (append-nil earlier))
 made_push parts earlier (x ∷ l) e =
@@ -26,27 +26,27 @@ made_push parts earlier (x ∷ l) e =
 
 -- ---- a post with which no save was due
 
--- a post with which no save is due tries none
+-- a post with which no save is due makes no attempt
 undue_made : (parts : Parts) (l : List Entry) (e : Entry) → is_due parts.save_every e ≡ false → made parts (l ++ e ∷ []) ≡ made parts l
 undue_made parts l e is = made_push parts [] l e ∙ ap (λ (b : Bool). made parts l ++ cond b (made_with parts l e ∷ []) []) is ∙ append-nil (made parts l)
 
--- so the saves that were tried stay
+-- the attempts are unchanged if no save was due
 pub undue_tries : (parts : Parts) (told : Option (List Try)) (l : List Entry) (e : Entry) → is_due parts.save_every e ≡ false
     → tried_all told (tries parts l) ≡ tried_all told (tries parts (l ++ e ∷ []))
 undue_tries parts told l e is = ap (λ (ms : List Made). tried_all told (map (try_made parts.job) ms)) (sym (undue_made parts l e is))
 
--- and stay sound
+-- the attempts stay sound if no save was due
 pub undue_sound : (parts : Parts) (l : List Entry) (e : Entry) → is_due parts.save_every e ≡ false
     → All (IsSound parts.job) (made parts l) → All (IsSound parts.job) (made parts (l ++ e ∷ []))
 undue_sound parts l e is sound = subst (All (IsSound parts.job)) (sym (undue_made parts l e is)) sound
 
--- ---- and one with which a save was due
+-- ---- a post with which a save was due
 
--- a post with which one is due tries one
+-- a post with which a save is due makes one attempt
 pub due_made : (parts : Parts) (l : List Entry) (e : Entry) → is_due parts.save_every e ≡ true → made parts (l ++ e ∷ []) ≡ made parts l ++ made_with parts l e ∷ []
 due_made parts l e is = made_push parts [] l e ∙ ap (λ (b : Bool). made parts l ++ cond b (made_with parts l e ∷ []) []) is
 
--- so there is one try more
+-- a due save adds one attempt
 pub due_tries : (parts : Parts) (told : Option (List Try)) (l : List Entry) (e : Entry) → is_due parts.save_every e ≡ true
     → (let t = try_made parts.job (made_with parts l e) in tried_too (tried_all told (tries parts l)) t.slot t.bytes t.succeeded ≡ tried_all told (tries parts (l ++ e ∷ [])))
 due_tries parts told l e is =
@@ -54,7 +54,7 @@ due_tries parts told l e is =
     ∙ ap (tried_all told) (map-append (try_made parts.job) (made parts l) (made_with parts l e ∷ []))
     ∙ tried_then told (tries parts l) (try_made parts.job (made_with parts l e) ∷ []))
 
--- and all are sound where this one is
+-- all attempts are sound if the new one is
 pub due_sound : (parts : Parts) (l : List Entry) (e : Entry) → is_due parts.save_every e ≡ true → IsSound parts.job (made_with parts l e)
     → All (IsSound parts.job) (made parts l) → All (IsSound parts.job) (made parts (l ++ e ∷ []))
 due_sound parts l e is one_sound sound =

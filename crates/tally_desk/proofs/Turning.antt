@@ -1,4 +1,4 @@
--- One turn keeps what the slot of a desk holds.
+-- One turn keeps the contents of a desk's slot.
 use Rattle.std.proofs.Common.{◌≡◌, ℕ, suc, ◌+◌, ◌-◌, ◌*◌, ◌%◌, ◌^◌, ◌<◌, ◌≤◌, ◌==◌, ◌&&◌, min, not, Bool, true, false, cond, List, [], ◌∷◌, ◌++◌, length, length-append, map, Option, Some, None, refl, sym, ap, ◌∙◌, subst, arith, vec_capacity}
 use Rattle.std.specs.List.{All, list_all, range_with_len}
 use Rattle.std.proofs.lemmas.List.{length-map, length_push, map-append}
@@ -43,21 +43,21 @@ use Rattle.tally_desk.proofs.Todo.{todo_small, todo_within}
 
 -- ---- counts of faults
 
--- a count that covers the saves that failed covers one more after it rose
+-- a count that covers the failed saves covers one more after it rose
 covered_more : (last start failed now after : ℕ) → min (start + failed) last ≤ now → min (now + 1) last ≤ after → min (start + (failed + 1)) last ≤ after
 covered_more last start failed now after covered rose = omega arith
 
--- a count that does not fall twice does not fall
+-- a count that does not fall in two steps does not fall
 pub counts_more : (start now after : ℕ) → Counts start now → Counts now after → Counts start after
 counts_more start now after c d = let first = c.later in let second = d.later in record { later = omega arith; within = λ small. d.within (c.within small) }
 
 -- ---- posts that are due
 
--- no save is missed where none is due
+-- no save is missed if none is due
 due_unmissed : (every : ℕ) (e : Entry) → is_due every e ≡ false → is_missed every e ≡ false
 due_unmissed every e not_due = ap (λ (b : Bool). b && not e.saved) not_due
 
--- nor where one succeeded
+-- no save is missed if it succeeded
 saved_unmissed : (every t i : ℕ) → is_missed every (post_of t i true) ≡ false
 saved_unmissed every t i = by (is_due every (post_of t i true))
   where
@@ -65,24 +65,24 @@ saved_unmissed every t i = by (is_due every (post_of t i true))
     by true = refl
     by false = refl
 
--- a save that was due and failed is missed
+-- a save that was due and failed counts as missed
 missed_one : (b : Bool) → b ≡ true → cond {A = ℕ} (b && not false) 1 0 ≡ 1
 missed_one true is = refl
 missed_one false is = cc
 
--- what does not hold is not counted
+-- a false condition counts zero
 count_none : (b : Bool) → b ≡ false → cond {A = ℕ} b 1 0 ≡ 0
 count_none true is = cc
 count_none false is = refl
 
--- ---- told or not
+-- ---- known or unknown slots
 
--- nothing was saved
+-- the slots after a post without a save
 told_as_before : (parts : Parts) (l : List Entry) (t i : ℕ) (place : Place) → is_missed parts.save_every (post_of t i false) ≡ false → (a b : Option Pair)
     → IfBothTold a b (λ before now. SlotsAs parts before now place l) → IfBothTold a b (λ before now. SlotsAs parts before now place (l ++ post_of t i false ∷ []))
 told_as_before parts l t i place unmissed a b h = told_map a b _ _ (λ before now s. unsaved_slots parts l t i before now now place refl (λ _. refl) s) h
 
--- a save failed
+-- the slots after a failed save
 told_failed : (parts : Parts) (l : List Entry) (t i : ℕ) (place : Place) → place.slot < 2 → is_missed parts.save_every (post_of t i false) ≡ true → (a b c : Option Pair)
     → IfBothTold a b (λ before now. SlotsAs parts before now place l) → KeepsOther b c place.slot
     → IfBothTold a c (λ before now. SlotsAs parts before now place (l ++ post_of t i false ∷ []))
@@ -93,7 +93,7 @@ told_failed parts l t i place slot is_one (Some p) (Some q) (Some r) h other =
     unsaved_slots parts l t i p q r place (sym (other_is r place.slot slot) ∙ other ∙ other_is q place.slot slot) (λ none. absurd (true≢false (sym is_one ∙ none))) h
 
 module _ (newest : SavedSlotsAreNewest) (ours : CheckpointsAreOurs) where
-  -- a save succeeded
+  -- the slots after a successful save
   told_saved : (parts : Parts) (plan : IsPlan parts) (l : List Entry) (t i : ℕ) (place : Place) → place ≡ moved (saves_made l) parts.place
       → ((id : ℕ) → times id (ids_of l) ≤ times id parts.todo)
       → (let all = by_id (total parts.job) (booked parts (l ++ post_of t i true ∷ [])) in
@@ -132,7 +132,7 @@ module _ {C : Type 0} (state : C → Kept) (lets : Lets) (parts : Parts) (y : Ho
       let most = length-le (ids_of l ++ o.id ∷ []) parts.todo (one_more_id (ids_of l) parts.todo o.id may.of_todo may.unposted may.to_do) in
       omega (arith, most, length-append (ids_of l) (o.id ∷ []), length-map l posted_id)
 
-  -- no more saves failed than there are posts
+  -- at most one save failed for each post, which fits 32 bits
   pub few_failed : y.failed_saves + 1 < 2 ^ 32
   few_failed =
       let left = some_left in let small = todo_small parts may.plan in
@@ -153,12 +153,12 @@ module _ {C : Type 0} (state : C → Kept) (lets : Lets) (parts : Parts) (y : Ho
   pub id_absent : has_id y.book.outcomes o.id ≡ false
   id_absent = ap (λ (b : Booked). has_id b.outcomes o.id) may.holds.kept.book_is ∙ absent_of_book parts may.plan l o.id may.to_do may.unposted
 
-  -- the outcome's bins are few enough for the book
+  -- the outcome's histogram is small enough for the book
   pub few_visits : ((job : Job) (draws : Draws) (id : ℕ) → IsJob job → HasFewVisits (outcome job draws id)) → HasFewVisits o
   few_visits law =
       subst HasFewVisits (sym (may.right ∙ found_is parts.job o.id)) (law parts.job (draw parts.job.setting.key) o.id may.plan.sound)
 
-  -- what is left to show of the value after the save
+  -- the rest of the proof after the save
   pub record Done (n : Home C) (saved : Bool) : Type 0 where
     pub kept : KeptAs state parts n.book n.keeper n.place n.failed_saves (next saved)
     pub due : saved ≡ true → is_due parts.save_every (post_of (length l) o.id saved) ≡ true
@@ -187,7 +187,7 @@ module _ {C : Type 0} (state : C → Kept) (lets : Lets) (parts : Parts) (y : Ho
         ∙ ap (λ (k : ℕ). range_with_len 0 (length l) ++ k ∷ []) (let same : length l ≡ 0 + length l = omega arith in same) ∙ sym (range_push 0 (length l))
         ∙ ap (range_with_len 0) (let one_more : suc (length l) ≡ length l + 1 = omega arith in one_more ∙ sym (length_push l (post_of (length l) o.id saved)))
 
-    -- the save that is due is the next of the run, so that a keeper lets it through that lets the run's saves through
+    -- a keeper that accepts the run's saves accepts the due save, which is the next of the run
     pub lets_next : is_due parts.save_every (post_of (length l) o.id true) ≡ true → LetsSave state lets m
     lets_next due sound =
         let e = post_of (length l) o.id true in
@@ -205,7 +205,7 @@ module _ {C : Type 0} (state : C → Kept) (lets : Lets) (parts : Parts) (y : Ho
         (may.holds.run_saves (state y.keeper) (tries parts l) (try_made parts.job (made_with parts l e)) k.tried_is
         (subst (AreSavesSoFar parts.job parts.opening parts.save_every parts.place parts.todo) one_more so_far))
 
-    -- nothing was saved, and nothing was due
+    -- no save was due, and none was made
     undone : is_due parts.save_every (post_of (length l) o.id false) ≡ false → Done m false
     undone not_due =
         let k = may.holds.kept in
@@ -233,7 +233,7 @@ module _ {C : Type 0} (state : C → Kept) (lets : Lets) (parts : Parts) (y : Ho
         }
 
     module _ (newest : SavedSlotsAreNewest) (ours : CheckpointsAreOurs) (n : Home C) (was_due : (saved : Bool) → is_due parts.save_every (post_of (length l) o.id saved) ≡ true) where
-      -- what a save leaves, and that it was due
+      -- the state after a save that was due
       rest_done : (saved : Bool) → TriedSave state m n saved → KeptAs state parts n.book n.keeper n.place n.failed_saves (next saved) → Done n saved
       rest_done saved tried kept = record {
         kept = kept;
@@ -254,7 +254,7 @@ module _ {C : Type 0} (state : C → Kept) (lets : Lets) (parts : Parts) (y : Ho
       sorted_is : sorted_of m ≡ all
       sorted_is = ap (λ (q : Booked). by_id q.total q.outcomes) (book_is true)
 
-      -- the history has this save too, whether it succeeded or not
+      -- the history has the new save too, whether it succeeded or not
       history_is : (saved : Bool) → TriedSave state m n saved → (state n.keeper).tried ≡ tried_all parts.keeper.tried (tries parts (next saved))
       history_is saved tried =
           let k = may.holds.kept in
@@ -336,7 +336,7 @@ module _ {C : Type 0} (state : C → Kept) (lets : Lets) (parts : Parts) (y : Ho
         by false not_due = let was = s.undue (due_by false not_due) in subst (λ (x : Home C × Bool). Done x.0 x.1) (λ k. (sym was.1 k, sym was.0 k)) (undone not_due)
         by true was_due = tried_done newest ours n (λ _. was_due) saved (s.due (due_by true was_due))
 
-  -- the entry was appended
+  -- the entry of the outcome was appended
   pub turned : (n z : Home C) (saved : Bool) → Done n saved → z.posted.items ≡ n.posted.items ++ post_of (length l) o.id saved ∷ []
       → vec_capacity z.posted ≡ vec_capacity n.posted → z.book ≡ n.book → z.keeper ≡ n.keeper → z.place ≡ n.place → z.failed_saves ≡ n.failed_saves
       → z.save_every ≡ n.save_every → z.digest ≡ n.digest → z.sorted ≡ n.sorted → z.room ≡ n.room → HasTurned state lets parts z l o saved

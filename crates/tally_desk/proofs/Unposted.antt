@@ -1,4 +1,4 @@
--- What a pass claimed is posted or held.
+-- Each claim of a pass is posted or buffered.
 use Rattle.std.proofs.Common.{◌≡◌, ℕ, ◌+◌, ◌<◌, ◌≤◌, All, Bool, true, false, cond, List, [], ◌∷◌, ◌++◌, get_or, length, length-append, nat_lt, refl, ap, subst, sym, ◌∙◌, ⊎_elim, arith, Vec}
 use Rattle.std.specs.Prelude.{if◌then◌else◌}
 use Rattle.std.proofs.lemmas.List.{get_or_append_left}
@@ -24,7 +24,7 @@ use Rattle.tally_desk.specs.Unposted.{AreRooms, HoldsRest, IsHolding, IsRoomFor,
 use Rattle.tally_desk.specs.Views.{PassView}
 use Rattle.tally_desk.proofs.Wholes.{claimed_more, same_entries}
 
--- where nothing is held, all is posted
+-- if nothing is buffered, all claims are posted
 pub nothing_held : (parts : Parts) (v : PassView) → HasPostedAll parts v → HoldsRest parts v []
 nothing_held parts v all = record {
   counted = λ id. omega (arith, all id);
@@ -35,15 +35,15 @@ nothing_held parts v all = record {
 pub all_posted : (parts : Parts) (v : PassView) → HoldsRest parts v [] → HasPostedAll parts v
 all_posted parts v h id = omega (arith, h.counted id)
 
--- a draw past the end changes neither
+-- a draw past the end changes neither posts nor buffer
 pub ended_held : (parts : Parts) (v : PassView) (held : List Outcome) → HoldsRest parts v held → HoldsRest parts (ended_view v) held
 ended_held parts v held h = record { counted = h.counted; once = h.once; right = h.right }
 
--- one outcome more that is held
+-- one more buffered outcome
 held_push : (x : ℕ) (held : List Outcome) (o : Outcome) → times x (held_ids (held ++ o ∷ [])) ≡ times x (held_ids held) + one x o.id
 held_push x held o = ap (times x) (map-append found_id held (o ∷ [])) ∙ times_push x (held_ids held) o.id
 
--- what was claimed and found is held
+-- a claimed and walked outcome is buffered
 pub claimed_held : (parts : Parts) (id : ℕ) (v w : PassView) (held : List Outcome) (o : Outcome) → HoldsRest parts v held → Claims parts id v w
     → o ≡ found parts.job o.id → o.id ≡ id → HoldsRest parts w (held ++ o ∷ [])
 claimed_held parts id v w held o h c right named = record {
@@ -63,7 +63,7 @@ claimed_held parts id v w held o h c right named = record {
     pushed : (x : ℕ) → times x (held_ids (held ++ o ∷ [])) ≡ times x (held_ids held) + one x id
     pushed x = held_push x held o ∙ ap (λ (k : ℕ). times x (held_ids held) + one x k) named
 
--- the last that is held may be posted
+-- the last buffered outcome may be posted
 pub may_post_held : (parts : Parts) (v : PassView) (held : List Outcome) (o : Outcome) → HoldsRest parts v (held ++ o ∷ []) → MayPost parts o.id v
 may_post_held parts v held o h =
     let some : 0 < times o.id (held_ids (held ++ o ∷ [])) = omega (arith, held_push o.id held o, one_same o.id) in
@@ -72,11 +72,11 @@ may_post_held parts v held o h =
       unposted = omega (arith, h.once o.id some, h.counted o.id, some);
     }
 
--- and is what its trajectory finds
+-- the last buffered outcome is that of its trajectory
 pub found_held : (parts : Parts) (v : PassView) (held : List Outcome) (o : Outcome) → HoldsRest parts v (held ++ o ∷ []) → o ≡ found parts.job o.id
 found_held parts v held o h = popped_last (λ u. u ≡ found parts.job u.id) (held ++ o ∷ []) held o h.right refl
 
--- after its post the others are held
+-- after a post, the others are still buffered
 pub posted_held : (parts : Parts) (v w : PassView) (held : List Outcome) (o : Outcome) → HoldsRest parts v (held ++ o ∷ []) → Posts o.id v w → HoldsRest parts w held
 posted_held parts v w held o h p = record {
   counted = λ x. omega (arith, h.counted x, entries x, claims x, held_push x held o);
@@ -91,25 +91,25 @@ posted_held parts v w held o h p = record {
     claims : (x : ℕ) → times x (claimed_ids parts w) ≡ times x (claimed_ids parts v)
     claims x = ap (λ (z : PassView). times x (claimed_ids parts z)) p.view
 
--- ---- the same of a pass
+-- ---- the buffer of a pass
 
--- the list that is held, said in another way
+-- the buffer may be replaced by an equal list
 pub same_held : (table : TableId) (parts : Parts) (p : DeskPass) (xs ys : List Outcome) → xs ≡ ys → IsHolding table parts p xs → IsHolding table parts p ys
 same_held table parts p xs ys same h = subst (IsHolding table parts p) same h
 
--- after a post of the last that is held
+-- the buffer after a post of its last outcome
 pub holds_fewer : (table : TableId) (parts : Parts) (p q : DeskPass) (held : List Outcome) (o : Outcome) → IsHolding table parts p (held ++ o ∷ []) → Belongs table parts q
     → Posts o.id (view_of p) (view_of q) → IsHolding table parts q held
 holds_fewer table parts p q held o h belongs posts = record { belongs = belongs; rest = posted_held parts (view_of p) (view_of q) held o h.rest posts }
 
--- ---- rooms by places
+-- ---- buffer capacities by place
 
 module _ {A : Type 0} (s : Setting) (workers : ℕ) where
-  -- no list has none
+  -- an empty list has no buffers
   pub no_rooms : (lists : List (Vec Outcome A)) → lists ≡ [] → AreRooms s workers lists
   no_rooms lists none place d inside = absurd (omega (arith, inside, ap length none))
 
-  -- one list more at the end
+  -- one more buffer at the end
   pub rooms_push : (lists : List (Vec Outcome A)) (h : Vec Outcome A) → AreRooms s workers lists → IsRoomFor (room_at s workers (length lists)) h → AreRooms s workers (lists ++ h ∷ [])
   rooms_push lists h rooms last place d inside = ⊎_elim
       (λ below. subst (IsRoomFor (room_at s workers place)) (sym (get_or_append_left lists (h ∷ []) d place below)) (rooms place d below))
@@ -117,7 +117,7 @@ module _ {A : Type 0} (s : Setting) (workers : ℕ) where
       subst (λ (k : ℕ). IsRoomFor (room_at s workers k) (get_or (lists ++ h ∷ []) k d)) (sym at)
       (subst (IsRoomFor (room_at s workers (length lists))) (sym (get_or-append_seam lists h [] d)) last)) (cases_lt place (length lists))
 
-  -- no worker has more room than those that may hold
+  -- no buffer is larger than the allowed capacity
   pub rooms_within : (lists : List (Vec Outcome A)) → AreRooms s workers lists → All (IsRoomWithin (held_room s workers)) lists
   rooms_within lists rooms place d inside = let r = rooms place d inside in record { blank = r.blank; few = omega (arith, r.room_is, at_most place) }
     where

@@ -1,4 +1,4 @@
--- A pass that posts what it claims has posted all.
+-- A pass that posts what it claims has posted all its claims.
 use Rattle.std.proofs.Common.{◌≡◌, ℕ, ◌+◌, List, [], ◌∷◌, ◌++◌, get_or, refl, sym, ap, ◌∙◌, arith}
 use mathlib.Core.List.{map-append}
 use Rattle.tally_desk.specs.declared.entry.Entry.{Entry}
@@ -10,7 +10,7 @@ use Rattle.tally_desk.specs.Views.{PassView}
 use Rattle.audit_model.specs.Times.{times}
 use Rattle.audit_model.proofs.Times.{one, one_same, times-append, times_push}
 
--- one more claim
+-- one more claim counts its id once more
 pub claimed_more : (parts : Parts) (id x : ℕ) (v w : PassView) (c : Claims parts id v w) → times x (claimed_ids parts w) ≡ times x (claimed_ids parts v) + one x id
 claimed_more parts id x v w c =
     ap (λ (u : PassView). times x (claimed_ids parts u)) c.view
@@ -21,14 +21,14 @@ claimed_more parts id x v w c =
 pub same_entries : (parts : Parts) (id : ℕ) (v w : PassView) → Claims parts id v w → w.entries ≡ v.entries
 same_entries parts id v w c = ap (λ (u : PassView). u.entries) c.view
 
--- what a whole pass has just claimed may be posted
+-- a pass that has posted all its claims may post the next one
 may_post : (parts : Parts) (id : ℕ) (v w : PassView) → HasPostedAll parts v → Claims parts id v w → MayPost parts id w
 may_post parts id v w all c = record {
   claimed = omega (arith, claimed_more parts id id v w c, one_same id);
   unposted = ap (λ (l : List Entry). times id (ids_of l)) (same_entries parts id v w c) ∙ all id ∙ c.unclaimed;
 }
 
--- and after its post the pass is whole again
+-- after that post, the pass has posted all its claims again
 posted_all : (parts : Parts) (id : ℕ) (v u w : PassView) → HasPostedAll parts v → Claims parts id v u → Posts id u w → HasPostedAll parts w
 posted_all parts id v u w all c p x =
     let entries : times x (ids_of w.entries) ≡ times x (ids_of v.entries) + one x id =
@@ -38,7 +38,7 @@ posted_all parts id v u w all c p x =
     let claims : times x (claimed_ids parts w) ≡ times x (claimed_ids parts u) = ap (λ (z : PassView). times x (claimed_ids parts z)) p.view in
     omega (arith, entries, claims, claimed_more parts id x v u c, all x)
 
--- two whole passes that are joined are whole
+-- joining two passes that have posted all gives one that has
 joined_all : (parts : Parts) (v w : PassView) → HasPostedAll parts v → HasPostedAll parts w → HasPostedAll parts (joined_view v w)
 joined_all parts v w all all' x = omega (
   arith,
@@ -50,7 +50,7 @@ joined_all parts v w all all' x = omega (
   times-append x (claimed_ids parts v) (claimed_ids parts w),
 )
 
--- the law on whole passes
+-- the law on passes that have posted all
 pub posts_stay_whole : PostsStayWhole
 posts_stay_whole = record {
   first = λ parts x. refl;

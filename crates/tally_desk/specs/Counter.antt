@@ -1,4 +1,4 @@
--- What the counter of the draws keeps, by its laws.
+-- The laws of the counter as one record.
 use Rattle.claim_counter.specs.RecordLaws.{StartIsCounted, NumberKeeps, EndKeeps, SplitKeeps, JoinKeeps, SoleHasAll, CountIsBounded}
 
 pub record CounterLaws : Type 0 where

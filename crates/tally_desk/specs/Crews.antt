@@ -1,4 +1,4 @@
--- What clauses say of workers at a desk.
+-- Predicates on the workers at a desk.
 use Rattle.std.specs.Prelude.{◌≡◌, ℕ, ◌-◌, ◌*◌, ◌<◌, ◌≤◌, true, false, List, [], length, vec_capacity, vec_len, Vec}
 use Rattle.std.specs.List.{All}
 use Rattle.atomic_table.specs.Seated.{TableId}
@@ -13,15 +13,15 @@ use Rattle.tally_desk.specs.declared.crew.Crew.{Crew}
 use Rattle.tally_desk.specs.declared.worker.DeskWorker.{DeskWorker}
 use Rattle.tally_desk.specs.Unposted.{AreRooms, IsHolding, IsRoomWithin, held_room, holders}
 
--- a walker of the job, by what it holds
+-- a walker of the job, by its current plan
 abbrev pub IsWalker : Job → Held → Type 0
 IsWalker job w = w.job ≡ job
 
 abbrev pub AreWalkers : Job → List Held → Type 0
 AreWalkers job walkers = All (IsWalker job) walkers
 
--- so many walkers of the job, with room for as many workers, for what each of them may hold, fewer outcomes in all than are posted between two
--- saves, and for the hub
+-- `count` walkers of the job, with capacity for as many workers, for the hub, and for the outcome buffers. All buffers
+-- together hold fewer outcomes than are posted between two saves.
 pub record IsDeskCrew {J : Type 0} (job : Job) (count : ℕ) (c : Crew J) : Type 0 where
   pub walkers_are : AreWalkers job c.walkers.items
   pub count_is : vec_len c.walkers ≡ count
@@ -32,7 +32,7 @@ pub record IsDeskCrew {J : Type 0} (job : Job) (count : ℕ) (c : Crew J) : Type
   pub held_few : holders count * held_room job.setting count ≤ job.setting.save_every - 1
   pub hub_units : length c.hub ≡ job.graph.units
 
--- a walker of the desk's job and an empty list with room for each seat, and room for as many workers
+-- a walker of the desk's job and an empty buffer for each seat, and capacity for as many workers
 pub record MaySeat {J A B D E : Type 0} (parts : Parts) (walkers : Vec Held A) (workers : Vec (DeskWorker J) B) (held : Vec (Vec Outcome D) E) : Type 0 where
   pub seats_are : parts.seats ≡ vec_len walkers
   pub some : 0 < vec_len walkers
@@ -42,13 +42,13 @@ pub record MaySeat {J A B D E : Type 0} (parts : Parts) (walkers : Vec Held A) (
   pub held_count : vec_len held ≡ vec_len walkers
   pub held_rooms : All (IsRoomWithin (held_room parts.job.setting parts.seats)) held.items
 
--- what workers walk at a desk: trajectories of its job, and the hub is there where one starts from it
+-- the trajectories walked at a desk are those of its job, and the hub is there if one starts from it
 pub record WalksAtDesk (job : Job) (parts : Parts) (units : List ℕ) : Type 0 where
   pub same : job ≡ parts.job
   pub within : IsWithin job parts.todo
   pub hub : ServesEnds job parts.todo units
 
--- between two claims: what the pass claimed is posted or held, and it has not ended
+-- a worker between two claims: each claim is posted or buffered, and the pass has not ended
 pub record IsAtDesk (table : TableId) (parts : Parts) (w : Held) (p : DeskPass) (held : List Outcome) : Type 0 where
   pub walks : IsWalker parts.job w
   pub holds : IsHolding table parts p held
@@ -56,12 +56,12 @@ pub record IsAtDesk (table : TableId) (parts : Parts) (w : Held) (p : DeskPass) 
   pub weight : (view_of p).own.weight ≡ 1
   pub spare : (view_of p).own.spare ≡ 0
 
--- before the first claim: nothing is held, and there is room for no more than the worker may hold
+-- a worker before the first claim: its buffer is empty and no larger than allowed
 pub record IsReadyAtDesk {J : Type 0} (table : TableId) (parts : Parts) (w : DeskWorker J) : Type 0 where
   pub at_desk : IsAtDesk table parts w.walker w.pass []
   pub held : IsRoomWithin (held_room parts.job.setting parts.seats) w.held
 
--- no id is left, and all that was claimed is posted
+-- a worker that found no id left and has posted all its claims
 pub record IsDeskWorkerDone {J : Type 0} (table : TableId) (parts : Parts) (w : DeskWorker J) : Type 0 where
   pub belongs : Belongs table parts w.pass
   pub ended : (view_of w.pass).own.ended ≡ true

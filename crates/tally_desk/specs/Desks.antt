@@ -1,5 +1,5 @@
--- The rule of a desk's table, and what its steps tell. Word 0 counts the draws, word 1 the tickets given out, and word 2 is the ticket that is
--- served, which is how many posts there are. The one slot holds the book and the keeper.
+-- The rule of a desk's table, and the effect of each step. Word 0 counts the draws, and word 1 counts the tickets given
+-- out. Word 2 is the ticket that is served, which is the number of posts. The one slot holds the book and the keeper.
 use Rattle.std.specs.Prelude.{◌≡◌, ◌≢◌, ◌⊎◌, ℕ, ◌+◌, ◌-◌, ◌<◌, ◌≤◌, Bool, true, List, [], ◌∷◌, ◌++◌, map, length, slice_index, sum_by, All, Some}
 use Rattle.std.specs.List.{range_with_len}
 use mathlib.Core.Option as maybe
@@ -14,9 +14,9 @@ use Rattle.tally_desk.specs.Parts.{Parts, IsPlan}
 use Rattle.tally_desk.specs.Views.{PassView, Turn, no_turn, waiting, in_turn, turn_tickets, turn_ids, spent_view}
 use Rattle.audit_model.specs.Times.{times, once_below}
 
--- ---- what is counted of a view
+-- ---- counts over a view
 
--- 1 in turn
+-- 1 if the pass has its turn, else 0
 abbrev pub holding : Turn → ℕ
 holding no_turn = 0
 holding (waiting t i) = 0
@@ -37,7 +37,7 @@ turn_count v = length (turn_tickets v.turn)
 abbrev pub is_in_turn : PassView → ℕ
 is_in_turn v = holding v.turn
 
--- the ids at places of the list
+-- the ids at these places of the list
 abbrev pub ids_at : List ℕ → List ℕ → List ℕ
 ids_at todo places = map (λ p. slice_index todo p) places
 
@@ -51,13 +51,13 @@ posting v = ids_of v.entries ++ turn_ids v.turn
 
 -- ---- the rule
 
--- a pass in turn has the ticket that is served, and knows all posts
+-- a pass in its turn has the ticket that is served, and knows all posts
 abbrev pub KnowsPosts : ℕ → List Entry → Turn → Type 0
 KnowsPosts served posted no_turn = Unit {0}
 KnowsPosts served posted (waiting t i) = Unit {0}
 KnowsPosts served posted (in_turn t i l) = (t ≡ served) × (l ≡ posted)
 
--- a pass in use knows what never changes, and posts ids that it claimed, each once
+-- a pass in use knows the desk's constants, and posts each id that it claimed at most once
 pub record IsInUse (parts : Parts) (served : ℕ) (posted : List Entry) (v : PassView) : Type 0 where
   pub fixed : v.parts ≡ Some parts
   pub weighs : 0 < v.own.weight
@@ -67,12 +67,13 @@ pub record IsInUse (parts : Parts) (served : ℕ) (posted : List Entry) (v : Pas
 abbrev pub FitsDesk : Parts → ℕ → List Entry → PassView → Type 0
 FitsDesk parts served posted v = (v ≡ spent_view) ⊎ IsInUse parts served posted v
 
--- only an entry with which a save was due is marked
+-- an entry is marked only if a save was due with it
 abbrev pub AreDue : Parts → List Entry → Type 0
 AreDue parts posted = All (λ e. e.saved ≡ true → is_due parts.save_every e ≡ true) posted
 
 module _ {C : Type 0} (HomeAs : Parts → Home C → List Entry → Type 0) where
-  -- `drawn`, `given` and `served` are the words, these are the posts of all passes by rising ticket, and all views that there ever were
+  -- `drawn`, `given` and `served` are the words, `posted` has the posts of all passes by rising ticket, and `views`
+  -- every view that ever existed
   pub record KeepsTally (parts : Parts) (drawn given served : ℕ) (posted : List Entry) (homes : List (maybe.Option (Home C))) (views : List PassView) : Type 0 where
     pub plan : IsPlan parts
     -- the draws
@@ -81,13 +82,13 @@ module _ {C : Type 0} (HomeAs : Parts → Home C → List Entry → Type 0) wher
     pub in_order : tickets_of posted ≡ range_with_len 0 served
     pub posts : (h : Entry → ℕ) → sum_by (entry_sum h) views ≡ sum_by h posted
     pub due : AreDue parts posted
-    -- each ticket below the one that is served has its post, and each of the others that were given out has its turn
+    -- each ticket below the served one has its post, and each other ticket given out has its turn
     pub within : served ≤ given
     pub tickets : (t : ℕ) → sum_by (waiting_at t) views + once_below t served ≡ once_below t given
     pub turns : served + sum_by turn_count views ≡ given
     -- the passes
     pub each : (i : ℕ) (v : PassView) → get_elem? views i ≡ maybe.some v → FitsDesk parts served posted v
-    -- where no pass is in turn, the slot is home
+    -- if no pass is in its turn, the slot is home
     pub home : sum_by is_in_turn views ≡ 0 → (y : Home C) × (homes ≡ maybe.some y ∷ []) × HomeAs parts y posted
 
   pub record Tallied (parts : Parts) (s : State (Home C) PassView) : Type 0 where
@@ -122,9 +123,9 @@ joined_view v w = record { parts = v.parts; own = joined_passes v.own w.own; ent
 abbrev pub ended_view : PassView → PassView
 ended_view v = with_own v (at_end v.own)
 
--- ---- what a pass knows
+-- ---- the knowledge of a pass
 
--- the id is claimed and not posted, and the pass has no turn
+-- the id is claimed and not posted, and the pass has no ticket
 pub record CanPost (parts : Parts) (v : PassView) (id : ℕ) : Type 0 where
   pub fixed : v.parts ≡ Some parts
   pub weighs : 0 < v.own.weight
@@ -132,14 +133,14 @@ pub record CanPost (parts : Parts) (v : PassView) (id : ℕ) : Type 0 where
   pub unposted : times id (ids_of v.entries) ≡ 0
   pub claimed : 0 < times id (claimed_ids parts v)
 
--- the pass waits
+-- the pass waits with a ticket
 pub record IsWaiting (parts : Parts) (t i : ℕ) (v : PassView) : Type 0 where
   pub fixed : v.parts ≡ Some parts
   pub weighs : 0 < v.own.weight
   pub turn : v.turn ≡ waiting t i
 
--- these posts may be followed by one of the id: the tickets of these are their places, their ids are ids to do, each once, without this one, and only those with
--- which a save was due are marked
+-- a post of the id may follow these posts. Their tickets are their places, and their ids are different ids to do,
+-- without this one. Only those with which a save was due are marked.
 pub record AwaitsPost (parts : Parts) (t i : ℕ) (posted : List Entry) : Type 0 where
   pub plan : IsPlan parts
   pub in_order : tickets_of posted ≡ range_with_len 0 t
@@ -149,7 +150,7 @@ pub record AwaitsPost (parts : Parts) (t i : ℕ) (posted : List Entry) : Type 0
   pub unposted : times i (ids_of posted) ≡ 0
 
 module _ {C : Type 0} where
-  -- the pass is in turn and holds the slot
+  -- the pass is in its turn and has the slot
   pub record IsInTurn (HomeAs : Parts → Home C → List Entry → Type 0) (parts : Parts) (t i : ℕ) (me : Me (Home C) PassView) : Type 0 where
     pub fixed : me.0.parts ≡ Some parts
     pub weighs : 0 < me.0.own.weight
@@ -160,14 +161,15 @@ module _ {C : Type 0} where
     pub holds : HomeAs parts home posted
     pub awaits : AwaitsPost parts t i posted
 
-  -- ---- what the steps tell
+  -- ---- the effect of the steps
 
-  -- a ticket for a post of this id
+  -- the pass takes a ticket for a post of this id
   pub record TakesTicket (id : ℕ) (st : Step (Home C)) (me : Me (Home C) PassView) (found : ℕ) (me' : Me (Home C) PassView) : Type 0 where
     pub slots : me'.1 ≡ me.1
     pub view : me'.0 ≡ with_turn me.0 (waiting found id)
 
-  -- a try for a ticket: it is the pass's where the number of tickets given out is the one that was asked for, and elsewhere nothing changes
+  -- an attempt to take a ticket: it succeeds if the number of tickets given out is the expected one, and otherwise
+  -- changes nothing
   pub record TriesTicket (id : ℕ) (st : Step (Home C)) (me : Me (Home C) PassView) (found : ℕ) (me' : Me (Home C) PassView) : Type 0 where
     pub takes : found ≡ st.first → TakesTicket id st me found me'
     pub misses : found ≢ st.first → me' ≡ me
@@ -181,17 +183,17 @@ module _ {C : Type 0} where
     pub holds : HomeAs parts home posted
     pub awaits : AwaitsPost parts t i posted
 
-  -- a look at the ticket that is served, which begins the turn of a pass that waits with it
+  -- a read of the served ticket, which begins the turn of the pass that waits with it
   pub record LooksForTurn (HomeAs : Parts → Home C → List Entry → Type 0) (st : Step (Home C)) (me : Me (Home C) PassView) (found : ℕ) (me' : Me (Home C) PassView) : Type 0 where
     pub waits : (parts : Parts) (t i : ℕ) → me.0.parts ≡ Some parts → me.0.turn ≡ waiting t i → found ≢ t → me' ≡ me
     pub begins : (parts : Parts) (t i : ℕ) → me.0.parts ≡ Some parts → me.0.turn ≡ waiting t i → found ≡ t → BeginsTurn HomeAs parts t i me me'
 
-  -- the turn becomes the last entry of what the slot holds, and the slot goes home
+  -- the turn becomes the last entry of the slot's posts, and the slot goes home
   pub record Serves (st : Step (Home C)) (me : Me (Home C) PassView) (stored : ℕ) (me' : Me (Home C) PassView) : Type 0 where
     pub slots : (y : ℕ × Home C) → me.1 ≡ y ∷ [] → me'.1 ≡ []
     pub view : (k : ℕ) (y : Home C) (l : List Entry) (e : Entry) → me.1 ≡ (k, y) ∷ [] → y.posted.items ≡ l ++ e ∷ [] → me'.0 ≡ with_entry me.0 e
 
-  -- a draw gives a place of the list that the pass did not have, with an id that it did not have, or ends the pass
+  -- a draw gives a place and an id that the pass did not have, or ends the pass
   pub record DrawsPlace (st : Step (Home C)) (me : Me (Home C) PassView) (found : ℕ) (me' : Me (Home C) PassView) : Type 0 where
     pub slots : me'.1 ≡ me.1
     pub place : (parts : Parts) → me.0.parts ≡ Some parts → found < length parts.todo
@@ -199,13 +201,13 @@ module _ {C : Type 0} where
     pub ends : (parts : Parts) → me.0.parts ≡ Some parts → length parts.todo ≤ found → me'.0 ≡ ended_view me.0
     pub few : (parts : Parts) → me.0.parts ≡ Some parts → length me'.0.own.claims ≤ length parts.todo
 
-  -- a look at the draws changes nothing; the pass has at most all seats, and there are few
+  -- a read of the draws changes nothing. The pass has at most all seats.
   pub record SeesSeats (st : Step (Home C)) (me : Me (Home C) PassView) (found : ℕ) (me' : Me (Home C) PassView) : Type 0 where
     pub same : me' ≡ me
     pub seats : (parts : Parts) → me.0.parts ≡ Some parts → me.0.own.weight + me.0.own.spare ≤ parts.seats
     pub few : me.0.own.weight + me.0.own.spare ≤ 33
 
-  -- the post is one of the pass's entries, and the pass has no turn
+  -- the pass has a post of this id, and no ticket
   pub record HasServed (t i : ℕ) (me me' : Me (Home C) PassView) : Type 0 where
     pub saved : Bool
     pub view : me'.0 ≡ with_entry me.0 (post_of t i saved)
@@ -213,7 +215,7 @@ module _ {C : Type 0} where
 
   -- ---- the end
 
-  -- what the only pass knows at the end: all posts are its own
+  -- the knowledge of the only pass at the end: all posts are its own
   pub record IsSettled (HomeAs : Parts → Home C → List Entry → Type 0) (parts : Parts) (drawn : ℕ) (y : Home C) (v : PassView) : Type 0 where
     pub plan : IsPlan parts
     pub sole : IsSole (length parts.todo) drawn v.own

@@ -1,4 +1,4 @@
--- Lists of the posts at a desk, by rising ticket.
+-- Lists of posts at a desk, by rising ticket.
 use Rattle.std.specs.Prelude.{◌≡◌, ℕ, zero, suc, ◌+◌, ◌*◌, ◌/◌, ◌%◌, ◌≤◌, ◌==◌, ◌&&◌, nat_lt, Bool, true, false, not, cond, List, [], ◌∷◌, map, length, count_by}
 use Rattle.std.specs.List.{All, range_with_len}
 use Rattle.tally_desk.specs.declared.entry.Entry.{Entry}
@@ -21,23 +21,23 @@ tickets_of posted = map ticket_of posted
 abbrev pub ids_of : List Entry → List ℕ
 ids_of posted = map posted_id posted
 
--- how many saves were made and succeeded
+-- the number of saves made that succeeded
 abbrev pub saves_made : List Entry → ℕ
 saves_made posted = count_by is_saved posted
 
--- the posts up to the n-th of those that are marked, this one included
+-- the posts up to and including the n-th marked one
 abbrev pub up_to_save : ℕ → List Entry → List Entry
 up_to_save zero posted = []
 up_to_save (suc n) [] = []
 up_to_save (suc n) (e ∷ posted) = e ∷ up_to_save (cond e.saved n (suc n)) posted
 
--- the posts after the n-th of those that are marked
+-- the posts after the n-th marked one
 abbrev pub after_save : ℕ → List Entry → List Entry
 after_save zero posted = posted
 after_save (suc n) [] = []
 after_save (suc n) (e ∷ posted) = after_save (cond e.saved n (suc n)) posted
 
--- whether the last of all posts is marked
+-- true if the last post is marked
 abbrev pub ends_saved_from : Bool → List Entry → Bool
 ends_saved_from last [] = last
 ends_saved_from last (e ∷ posted) = ends_saved_from e.saved posted
@@ -45,27 +45,27 @@ ends_saved_from last (e ∷ posted) = ends_saved_from e.saved posted
 abbrev pub ends_saved : List Entry → Bool
 ends_saved posted = ends_saved_from false posted
 
--- a save is due with the post: the number of posts is then a multiple
+-- a save is due with the post: the number of posts is then a multiple of `every`
 abbrev pub is_due : ℕ → Entry → Bool
 is_due every e = (e.ticket + 1) % every == 0
 
--- a save was due with the post, and none succeeded
+-- a save was due with the post and did not succeed
 abbrev pub is_missed : ℕ → Entry → Bool
 is_missed every e = is_due every e && not e.saved
 
--- how many saves were due and did not succeed
+-- the number of saves that were due and did not succeed
 abbrev pub missed : ℕ → List Entry → ℕ
 missed every posted = count_by (is_missed every) posted
 
 -- ---- a desk at which no save failed
 
--- so many saves were made, each after as many posts as were asked for, and the last post has one where the number of posts is a multiple
+-- one save was made for each full group of posts, and the last post has one if the number of posts is a multiple
 pub record AreRegular (every : ℕ) (posted : List Entry) : Type 0 where
   pub count : saves_made posted ≡ length posted / every
   pub sizes : (n : ℕ) → n ≤ saves_made posted → length (up_to_save n posted) ≡ n * every
   pub last : ends_saved posted ≡ (nat_lt 0 (length posted) && (length posted % every == 0))
 
--- posts by rising ticket, of which those are marked with which a save was due, and no others
+-- the law of posts by rising ticket that are marked exactly if a save was due
 abbrev pub UnfailedPostsAreRegular : Type 0
 UnfailedPostsAreRegular = (every : ℕ) (posted : List Entry) → 1 ≤ every → tickets_of posted ≡ range_with_len 0 (length posted)
     → All (λ e. e.saved ≡ true → is_due every e ≡ true) posted → missed every posted ≡ 0 → AreRegular every posted

@@ -1,4 +1,4 @@
--- What never changes at a desk, by what it was made of.
+-- The constants of a desk, from its initial state.
 use Rattle.audit_model.specs.State.{Kept}
 use Rattle.tally_desk.specs.declared.view.Founding.{Founding}
 use Rattle.tally_desk.specs.Parts.{Parts}

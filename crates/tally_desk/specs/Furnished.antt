@@ -1,4 +1,4 @@
--- What the slot of a desk holds at first.
+-- The initial contents of a desk's slot.
 use Rattle.std.specs.Prelude.{◌≡◌, ℕ, ◌+◌, ◌*◌, ◌≤◌, List, [], ◌∷◌, length, vec_capacity}
 use Rattle.audit_model.specs.Job.{Job}
 use Rattle.audit_model.specs.Run.{total}
@@ -6,7 +6,7 @@ use Rattle.outcome_book.specs.Booked.{Booked}
 use Rattle.tally_desk.specs.declared.handing.DeskPlan.{DeskPlan}
 use Rattle.tally_desk.specs.declared.home.Home.{Home}
 
--- the book and the keeper as they came, nothing posted, and room for all
+-- the book and the keeper as passed in, nothing posted, and all capacity allocated
 pub record IsFurnished {C : Type 0} (job : Job) (plan : DeskPlan) (count : ℕ) (book : Booked) (keeper : C) (home : Home C) : Type 0 where
   pub book_is : home.book ≡ book
   pub keeper_is : home.keeper ≡ keeper
@@ -19,6 +19,6 @@ pub record IsFurnished {C : Type 0} (job : Job) (plan : DeskPlan) (count : ℕ) 
   pub sorted_room : total job ≤ length home.sorted.items + home.sorted.spare
   pub save_room : 84 + 80 * total job ≤ length home.room.items + home.room.spare
 
--- the list has one element, of which this holds
+-- the list has one element, for which P holds
 abbrev pub HoldsOne : {A : Type 0} → List A → (A → Type 0) → Type 0
 HoldsOne {A} xs P = (x : A) × (xs ≡ x ∷ []) × P x

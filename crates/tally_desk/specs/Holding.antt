@@ -1,4 +1,4 @@
--- What the saves of a run hold.
+-- The contents of a run's saves.
 use Rattle.std.specs.Prelude.{◌≡◌, ℕ, ◌+◌, ◌<◌, ◌≤◌, ◌⊎◌, List, length}
 use Rattle.std.specs.List.{All, Contains}
 use Rattle.audit_model.specs.Tries.{Try}
@@ -15,18 +15,18 @@ use Rattle.claim_counter.specs.Walks.{found}
 use Rattle.tally_desk.specs.Parts.{IsPlan, Parts}
 use Rattle.tally_desk.specs.Ran.{IsRunTry}
 
--- these are all outcomes of the opening, and those of so many ids to do
+-- all initial outcomes, and those of `count` ids to do
 pub record HoldsOpeningAndPart (parts : Parts) (count : ℕ) (saved : List Outcome) : Type 0 where
   pub each : All (λ o. Contains parts.opening o ⊎ ((0 < times o.id parts.todo) × (o ≡ found parts.job o.id))) saved
   pub opening_kept : All (Contains saved) parts.opening
   pub counted : length saved ≡ length parts.opening + count
 
--- the checkpoint of the opening and of posts of ids to do holds these, by rising id
+-- the law that a checkpoint of posts of ids to do holds these outcomes by rising id
 abbrev pub SavesHoldParts : Type 0
 SavesHoldParts = (parts : Parts) (part : List Entry) → IsPlan parts → ((id : ℕ) → times id (ids_of part) ≤ times id parts.todo)
     → HoldsOpeningAndPart parts (length part) (by_id (total parts.job) (booked parts part))
 
--- where the opening is right, so is each save that was tried
+-- the law that every save attempt is correct if the initial outcomes are
 abbrev pub RunTriesAreRight : Type 0
 RunTriesAreRight = (parts : Parts) (t : Try) → IsPlan parts → IsRight parts.job (draw parts.job.setting.key) parts.opening → IsRunTry parts t
     → IsRightSave parts.job (draw parts.job.setting.key) (job_digest parts.job) t.bytes

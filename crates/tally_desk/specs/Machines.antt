@@ -1,4 +1,4 @@
--- The state of the run machine for which a desk stands, and the events that belong to each step.
+-- The state of the run machine that matches a desk, and the events of each step.
 use Rattle.std.specs.Prelude.{◌≡◌, ℕ, ◌+◌, ◌<◌, ◌≤◌, ◌==◌, ◌&&◌, nat_lt, min, Bool, true, false, cond, List, [], ◌∷◌, ◌++◌, map, length, slice_index, slice_set, Option, Some, None}
 use mathlib.Core.Option as maybe
 use lib.ListN.{get_elem?}
@@ -22,12 +22,12 @@ use Rattle.tally_desk.specs.Views.{PassView, in_turn, no_turn, spent_view, waiti
 abbrev pub opening_ids : Parts → List ℕ
 opening_ids parts = map (λ o. o.id) parts.opening
 
--- the id at a place of the list, where the place is claimed and the id is not posted
+-- the id at a place of the list, if the place is claimed and the id is not posted
 abbrev pub open_at : Parts → ℕ → List Entry → ℕ → Option ℕ
 open_at parts next posted place =
     cond (nat_lt place next && (times (slice_index parts.todo place) (ids_of posted) == 0)) (Some (slice_index parts.todo place)) None
 
--- the names are the places of the list; after so many draws and these posts
+-- the machine after these draws and posts. Its worker names are the places of the list.
 abbrev pub machine_of : Parts → ℕ → List Entry → Machine
 machine_of parts drawn posted = record {
   total = total parts.job;
@@ -43,22 +43,22 @@ machine_of parts drawn posted = record {
 
 -- ---- the steps
 
--- the events of a post: it is posted under the name of its place, and saved where it is marked
+-- the events of a post: a post under the name of its place, and a save if it is marked
 abbrev pub post_events : ℕ → Bool → List Event
 post_events place false = Post place ∷ []
 post_events place true = Post place ∷ Save ∷ []
 
 module _ {C : Type 0} (HomeAs : Parts → Home C → List Entry → Type 0) (parts : Parts) where
-  -- the desk stands for the state of the machine
+  -- the machine matches the state of the desk
   pub record StandsForMachine (s : State (Home C) PassView) (m : Machine) : Type 0 where
     pub rule : Tallied HomeAs parts s
     pub is : m ≡ machine_of parts (slice_index s.words 0) rule.posted
 
-  -- the words, what is at home and the views become these
+  -- the state after the words, the slot and the views have changed
   abbrev pub becomes : List ℕ → List (maybe.Option (Home C)) → List PassView → State (Home C) PassView
   becomes words homes views = record { words = words; homes = homes; views = views }
 
-  -- The kinds of step of a pass in use, after these posts of all passes, with the state after each and its events.
+  -- The kinds of step of a pass in use after these posts, with the state after each and its events.
   pub data IsDeskStep (s : State (Home C) PassView) (posted : List Entry) : State (Home C) PassView → List Event → Type 0 where
     -- a draw of the next place
     claims : (id : ℕ) (v : PassView) → get_elem? s.views id ≡ maybe.some v → v.parts ≡ Some parts → 0 < v.own.weight
@@ -72,13 +72,13 @@ module _ {C : Type 0} (HomeAs : Parts → Home C → List Entry → Type 0) (par
     -- a ticket for a post
     takes_ticket : (id : ℕ) (v : PassView) (o : ℕ) → get_elem? s.views id ≡ maybe.some v → CanPost parts v o
         → IsDeskStep s posted (becomes (slice_set s.words 1 (slice_index s.words 1 + 1)) s.homes (slice_set s.views id (with_turn v (waiting (slice_index s.words 1) o)))) []
-    -- a look at the ticket that is served, which is not the pass's
+    -- a read of the served ticket, which is not the pass's own
     looks : IsDeskStep s posted s []
-    -- the look that begins a turn: the pass learns all posts, and takes the slot
+    -- the read that begins a turn: the pass learns all posts and takes the slot
     begins : (id : ℕ) (v : PassView) (i : ℕ) → get_elem? s.views id ≡ maybe.some v → v.parts ≡ Some parts → 0 < v.own.weight
         → v.turn ≡ waiting (slice_index s.words 2) i
         → IsDeskStep s posted (becomes s.words (slice_set s.homes 0 maybe.none) (slice_set s.views id (with_turn v (in_turn (slice_index s.words 2) i posted)))) []
-    -- the end of a turn: it becomes a post, of an id that was claimed at this place, and the slot goes back as it is to be after this post
+    -- the end of a turn: it becomes a post of the id claimed at this place, and the slot goes home
     serves : (id : ℕ) (v : PassView) (i place : ℕ) (l : List Entry) (y : Home C) (saved : Bool) → get_elem? s.views id ≡ maybe.some v → v.parts ≡ Some parts → 0 < v.own.weight
         → v.turn ≡ in_turn (slice_index s.words 2) i l → 0 < times place v.own.claims → i ≡ slice_index parts.todo place
         → HomeAs parts y (l ++ post_of (slice_index s.words 2) i saved ∷ [])
@@ -93,6 +93,6 @@ module _ {C : Type 0} (HomeAs : Parts → Home C → List Entry → Type 0) (par
         → v.parts ≡ Some parts → 0 < v.own.weight → 0 < w.own.weight → v.turn ≡ no_turn → w.turn ≡ no_turn
         → IsDeskStep s posted (becomes s.words s.homes (slice_set (slice_set s.views id (joined_view v w)) other spent_view)) []
 
-  -- each step keeps the rule, and takes the state for which the desk stands to the state after its events
+  -- the law that each step keeps the rule, and takes the matching machine to the machine after its events
   abbrev pub StepsAreEvents : Type 0
   StepsAreEvents = (s s' : State (Home C) PassView) (events : List Event) (m : Machine) (stands : StandsForMachine s m) → IsDeskStep s stands.rule.posted s' events → StandsForMachine s' (state_after m events)

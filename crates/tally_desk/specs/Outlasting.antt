@@ -1,4 +1,4 @@
--- What the saves of a desk leave in the slots, however each ended, and wherever the run was stopped.
+-- The slots that a desk's saves leave, however each save ended and wherever the run was stopped.
 use Rattle.std.specs.Prelude.{◌≡◌, ℕ, ◌≤◌, List}
 use Rattle.std.specs.List.{All}
 use Rattle.audit_model.specs.Pair.{Pair}
@@ -14,14 +14,14 @@ use Rattle.tally_desk.specs.Entries.{ids_of}
 use Rattle.tally_desk.specs.Homes.{IsSound, made, tries}
 use Rattle.tally_desk.specs.Parts.{IsPlan, Parts}
 
--- these are posts of a desk
+-- the posts of a desk
 pub record ArePosts (parts : Parts) (posted : List Entry) : Type 0 where
   pub plan : IsPlan parts
   pub of_todo : (id : ℕ) → times id (ids_of posted) ≤ times id parts.todo
   pub due : AreDue parts posted
   pub sound : All (IsSound parts.job) (made parts posted)
 
--- where the opening is right, a stop anywhere in a run leaves honest slots, wherever each of its saves failed
+-- if the initial outcomes are correct, a stop anywhere in a run leaves consistent slots, wherever its saves failed
 abbrev pub RunStopsLeaveHonestSlots : Type 0
 RunStopsLeaveHonestSlots = (parts : Parts) (posted : List Entry) (before after : Pair) (n : ℕ)
     → ArePosts parts posted → IsRight parts.job (draw parts.job.setting.key) parts.opening
@@ -29,7 +29,8 @@ RunStopsLeaveHonestSlots = (parts : Parts) (posted : List Entry) (before after :
     → AreHonest parts.job (draw parts.job.setting.key) (job_digest parts.job) before
     → AreHonest parts.job (draw parts.job.setting.key) (job_digest parts.job) after
 
--- and it keeps the newest slot of before or leaves a newer one: the last that succeeded, or a later one that failed with all its bytes
+-- a stop keeps the newest slot from before or leaves a newer one: the last that succeeded, or a later one that failed
+-- after writing all its bytes
 abbrev pub RunStopsKeepTheNewest : Type 0
 RunStopsKeepTheNewest = (parts : Parts) (posted : List Entry) (before after : Pair) (n : ℕ)
     → ArePosts parts posted → place_for parts.job (job_digest parts.job) before ≡ (parts.place.slot, parts.place.generation)

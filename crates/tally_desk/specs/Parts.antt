@@ -1,4 +1,4 @@
--- What never changes at a desk, and what a desk may be made of.
+-- The constants of a desk, and the requirements on its initial state.
 use Rattle.std.specs.Prelude.{◌≡◌, ℕ, ◌<◌, ◌≤◌, IsTrue, List, length, Option}
 use Rattle.std.specs.List.{All}
 use Rattle.audit_model.specs.State.{Kept}
@@ -15,8 +15,8 @@ use Rattle.audit_statement.specs.Due.{Lets, LetsRun}
 use Rattle.tally_desk.specs.declared.handing.DeskPlan.{DeskPlan}
 use Rattle.outcome_book.specs.Booked.{Booked, IsBook}
 
--- the job, the outcomes of the book and the ids to do; after how many posts a save is due, how many passes there may be, and where the
--- first save goes; and what the keeper was when the desk was made
+-- the job, the book's outcomes and the ids to do, then the posts between saves, the number of seats, the place of the
+-- first save, and the initial state of the keeper
 pub record Parts : Type 0 where
   pub job : Job
   pub opening : List Outcome
@@ -26,15 +26,15 @@ pub record Parts : Type 0 where
   pub place : Place
   pub keeper : Kept
 
--- the place is where the next checkpoint of the job goes, where the slots are told
+-- the place of the job's next checkpoint, if the slots are known
 abbrev pub IsPlaceFor : Job → Option Pair → Place → Type 0
 IsPlaceFor job slots place = IfTold slots (λ p. place_for job (job_digest job) p ≡ (place.slot, place.generation))
 
--- the ids are the first of those below the job's total that the opening lacks and that lie in the job's part, by rising id
+-- the ids to do: by rising id, the first ids of the job's part without an initial outcome
 abbrev pub IsTodoFor : Job → List Outcome → List ℕ → Type 0
 IsTodoFor job opening todo = (budget : ℕ) × (todo ≡ run_ids job opening budget)
 
--- what a desk of the job may be made of, by what was told of the slots: a plan, ids to do and a book
+-- the requirements on a desk of the job, given the known slots: a plan, ids to do and a book
 pub record MayFound (job : Job) (slots : Option Pair) (plan : DeskPlan) (ids : List ℕ) (b : Booked) : Type 0 where
   pub digest : plan.digest ≡ job_digest job
   pub every : 1 ≤ plan.save_every
@@ -45,7 +45,7 @@ pub record MayFound (job : Job) (slots : Option Pair) (plan : DeskPlan) (ids : L
   pub fit : All (λ o. IsTrue (fits job o)) b.outcomes
   pub todo : IsTodoFor job b.outcomes ids
 
--- what a desk was made of
+-- the constants of a desk that meets its requirements
 pub record IsPlan (parts : Parts) : Type 0 where
   pub sound : IsJob parts.job
   pub few_asks : length parts.job.setting.asks ≤ 4
@@ -59,6 +59,6 @@ pub record IsPlan (parts : Parts) : Type 0 where
   pub generation : parts.place.generation < 3
   pub place : IsPlaceFor parts.job parts.keeper.slots parts.place
 
--- a keeper lets each save through that is due next at the desk
+-- the keeper accepts each due save of the desk
 abbrev pub LetsDesk : Lets → Parts → Type 0
 LetsDesk lets parts = LetsRun lets parts.keeper.tried parts.job parts.opening parts.save_every parts.place parts.todo

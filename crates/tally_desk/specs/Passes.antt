@@ -1,4 +1,4 @@
--- What clauses say of passes.
+-- Predicates on passes.
 use Rattle.std.specs.Prelude.{◌≡◌, ℕ, ◌<◌, Bool, List, length, slice_index, Some}
 use Rattle.std.specs.List.{range_with_len}
 use Rattle.std.specs.List.Sorted.{IsPermutation}
@@ -16,21 +16,21 @@ use Rattle.tally_desk.specs.Parts.{IsPlan, Parts}
 use Rattle.tally_desk.specs.Views.{PassView, view_in}
 use Rattle.audit_model.specs.Times.{times}
 
--- what the pass knows
+-- the knowledge of the pass
 abbrev pub view_of : DeskPass → PassView
 view_of p = view_in p.badge.views
 
--- the pass is one of the desk's with this table, which was made of these parts
+-- the pass belongs to the desk with this table and these constants
 pub record Belongs (table : TableId) (parts : Parts) (p : DeskPass) : Type 0 where
   pub of_table : p.badge.table_id ≡ table
   pub of_parts : (view_of p).parts ≡ Some parts
 
--- the pass is the first of the desk with this table, and has all seats
+-- the first pass of the desk with this table, which has all seats
 pub record IsFirstPass (table : TableId) (parts : Parts) (p : DeskPass) : Type 0 where
   pub belongs : Belongs table parts p
   pub first : view_of p ≡ first_view parts
 
--- the pass drew a place of the list that it did not have, and claims the id there
+-- the pass drew a new place of the list and claims the id there
 pub record Claims (parts : Parts) (id : ℕ) (before now : PassView) : Type 0 where
   pub place : ℕ
   pub below : place < length parts.todo
@@ -48,8 +48,8 @@ pub record Posts (id : ℕ) (before now : PassView) : Type 0 where
 abbrev pub HasPostedAll : Parts → PassView → Type 0
 HasPostedAll parts v = (id : ℕ) → times id (ids_of v.entries) ≡ times id (claimed_ids parts v)
 
--- What a desk leaves that is closed with its only pass, which posted all. These are its posts, by rising ticket: each id to do has one, only those
--- with which a save was due are marked, and what is handed back is what a desk keeps after them.
+-- The result of closing a desk with its only pass, which posted all. `posted` has its posts by rising ticket: one for
+-- each id to do, marked only if a save was due. The book and the keeper are those of a desk after these posts.
 pub record IsClosed {C : Type 0} (state : C → Kept) (parts : Parts) (v : PassView)
     (book : Booked) (keeper : C) (place : Place) (failed : ℕ) (last_saved : Bool) : Type 0 where
   pub plan : IsPlan parts
@@ -63,14 +63,14 @@ pub record IsClosed {C : Type 0} (state : C → Kept) (parts : Parts) (v : PassV
   pub kept : KeptAs state parts book keeper place failed posted
   pub last : last_saved ≡ ends_saved posted
 
--- ---- what stays true of a pass that posts what it claims
+-- ---- invariants of a pass that posts what it claims
 
--- what was claimed may be posted
+-- the claimed id may be posted
 pub record MayPost (parts : Parts) (id : ℕ) (v : PassView) : Type 0 where
   pub claimed : 0 < times id (claimed_ids parts v)
   pub unposted : times id (ids_of v.entries) ≡ 0
 
--- a pass that posts what it claims has posted all, also after others were joined to it
+-- a pass that posts what it claims has posted all, also after joins
 pub record PostsStayWhole : Type 0 where
   pub first : (parts : Parts) → HasPostedAll parts (first_view parts)
   pub right : (parts : Parts) (v : PassView) → HasPostedAll parts (right_view v)

@@ -1,4 +1,4 @@
--- What a run leaves that saves while it walks, in terms of the posts at its desk.
+-- The result of a run that saves while it walks, in terms of the posts at its desk.
 use Rattle.std.specs.Prelude.{◌≡◌, ℕ, ◌+◌, ◌-◌, ◌^◌, ◌<◌, ◌≤◌, ◌⊎◌, min, List, Result, OnOk, IsErr, IsOk, IsPermutation}
 use Rattle.std.specs.List.{All, AllPairs}
 use Rattle.audit_io.specs.declared.source.Failed.{Failed}
@@ -22,7 +22,7 @@ use Rattle.tally_desk.specs.Homes.{booked}
 use Rattle.tally_desk.specs.InTurn.{IsPartSave, RunSavesInTurn}
 use Rattle.tally_desk.specs.Parts.{IsPlan, Parts}
 
--- what never changes at the desk of a run, by what it starts with
+-- the constants of a run's desk
 abbrev pub starts : {C : Type 0} → (C → Kept) → Job → List Outcome → List ℕ → ℕ → ℕ → Place → C → Parts
 starts state job opening todo save_every seats place keeper = record {
   job = job;
@@ -34,18 +34,18 @@ starts state job opening todo save_every seats place keeper = record {
   keeper = state keeper;
 }
 
--- no save failed exactly where none did at the desk, nor the last one
+-- the result is Ok exactly if no save failed, neither at the desk nor at the end
 pub record BothSaved (failed : ℕ) (rest result : Result (Unit {0}) Failed) : Type 0 where
   pub ok : IsOk result → (failed ≡ 0) × IsOk rest
   pub err : IsErr result → (0 < failed) ⊎ IsErr rest
 
--- the slot beside the place of the first save is as it was, or a slot is a save of the opening and of posts
+-- the slot beside the place of the first save is unchanged, or a slot is a save of the initial outcomes and of posts
 abbrev pub KeepsSome : Parts → Pair → Pair → Type 0
 KeepsSome parts p q =
     (stored q (1 - parts.place.slot) ≡ stored p (1 - parts.place.slot))
     ⊎ ((at : ℕ) × ((generation : ℕ) × ((count : ℕ) × IsPartSave parts generation count (stored q at))))
 
--- a save that was tried is the checkpoint of the opening and of posts of ids to do
+-- a save attempt is the checkpoint of the initial outcomes and of posts of ids to do
 pub record IsRunTry (parts : Parts) (t : Try) : Type 0 where
   pub generation : ℕ
   pub part : List Entry
@@ -54,12 +54,13 @@ pub record IsRunTry (parts : Parts) (t : Try) : Type 0 where
   pub sound : IsCheckpoint (checkpoint 2 (job_digest parts.job) generation (by_id (total parts.job) (booked parts part)))
       2 (job_digest parts.job) generation (by_id (total parts.job) (booked parts part))
 
--- all saves of the run: each is a checkpoint of the opening and of posts, at the place after the last that succeeded
+-- all save attempts of the run: each is a checkpoint of the initial outcomes and of posts, at the place after the last
+-- that succeeded
 pub record AreRunTries (parts : Parts) (tries : List Try) : Type 0 where
   pub in_turn : AreInTurn parts.job (job_digest parts.job) parts.place.slot parts.place.generation tries
   pub each : All (IsRunTry parts) tries
 
--- what a run leaves: its posts, all outcomes by rising id, and what is known of the keeper
+-- the result of a run: its posts, all outcomes by rising id, and the state of the keeper
 pub record HasRun (parts : Parts) (keeper_now : Kept) (sorted : List Outcome)
     (result : Result (Unit {0}) Failed) : Type 0 where
   pub plan : IsPlan parts

@@ -17,12 +17,12 @@ use Rattle.tally_desk.specs.Parts.{Parts}
 use Rattle.tally_desk.specs.Passes.{IsClosed}
 use Rattle.tally_desk.specs.Views.{PassView}
 
--- this is what a desk left that was closed, and the digest is the job's
+-- the result of a closed desk, with the job's digest
 pub record IsClosedWith {C : Type 0} (state : C → KeeperState) (parts : Parts) (v : PassView) (kept : Kept C) (digest : List ℕ) : Type 0 where
   pub closed : IsClosed state parts v kept.book kept.keeper kept.place kept.failed_saves kept.last_saved
   pub digest_is : digest ≡ job_digest parts.job
 
--- the keeper lets a save of all outcomes by rising id through, which is a checkpoint
+-- the keeper accepts a save of all outcomes by rising id, which is a checkpoint
 abbrev pub LetsLastSave : {C : Type 0} → (C → KeeperState) → Lets → Kept C → List ℕ → Type 0
 LetsLastSave state lets kept digest =
     let outcomes = by_id kept.book.total kept.book.outcomes in
@@ -40,7 +40,7 @@ pub record SavesThese {C : Type 0} (state : C → KeeperState) (before now : C) 
   pub loads : (state now).load_faults ≡ (state before).load_faults
   pub tried : (state now).tried ≡ tried_too (state before).tried place.slot (checkpoint 2 digest place.generation outcomes) (is_ok result)
 
--- where a save was made with the last post nothing is done, and elsewhere a last one is made
+-- nothing is done if the last post saved, and otherwise a last save is made
 pub record MakesLastSave {C : Type 0} (state : C → KeeperState) (before now : Kept C) (digest : List ℕ)
     (outcomes : List Outcome) (result : Result (Unit {0}) Failed) : Type 0 where
   pub failed : now.failed_saves ≡ before.failed_saves

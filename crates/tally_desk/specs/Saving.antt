@@ -1,4 +1,4 @@
--- What a save of the book does to what the slot of a desk holds.
+-- The effect of a save of the book on the slot's contents.
 use Rattle.std.specs.Prelude.{◌≡◌, ℕ, ◌+◌, ◌%◌, ◌==◌, Bool, true, false, List, length}
 use Rattle.audit_model.specs.Faults.{Counts, Rose}
 use Rattle.audit_model.specs.State.{Kept}
@@ -18,11 +18,11 @@ module _ {C : Type 0} where
   abbrev pub sorted_of : Home C → List Outcome
   sorted_of home = by_id home.book.total home.book.outcomes
 
-  -- the checkpoint of them for the place
+  -- the checkpoint of those outcomes for the place
   abbrev pub bytes_of : Home C → List ℕ
   bytes_of home = checkpoint 2 home.digest home.place.generation (sorted_of home)
 
-  -- what a save leaves as it was
+  -- the fields that a save leaves unchanged
   pub record KeepsRest (before now : Home C) : Type 0 where
     pub book : now.book ≡ before.book
     pub posted : now.posted ≡ before.posted
@@ -32,7 +32,7 @@ module _ {C : Type 0} where
     pub save_room : length now.room.items + now.room.spare ≡ length before.room.items + before.room.spare
 
   module _ (state : C → Kept) where
-    -- the keeper lets a save of the book through, which is a checkpoint
+    -- the keeper accepts a save of the book, which is a checkpoint
     abbrev pub LetsSave : Lets → Home C → Type 0
     LetsSave lets home = IsCheckpoint (bytes_of home) 2 home.digest home.place.generation (sorted_of home) → lets (state home.keeper) home.place.slot (bytes_of home)
 
@@ -50,7 +50,7 @@ module _ {C : Type 0} where
       pub failed : now.failed_saves ≡ before.failed_saves + 1
       pub rose : Rose (state before.keeper).save_faults (state now.keeper).save_faults
 
-    -- a save was tried
+    -- a save was attempted
     pub record TriedSave (before now : Home C) (saved : Bool) : Type 0 where
       pub rest : KeepsRest before now
       pub loads : (state now.keeper).load_faults ≡ (state before.keeper).load_faults
@@ -61,7 +61,7 @@ module _ {C : Type 0} where
       pub on_ok : saved ≡ true → Saved before now
       pub on_err : saved ≡ false → FailedSave before now
 
-    -- where a save was due after so many posts, it was tried, and elsewhere nothing was done
+    -- a save was attempted if it was due after this number of posts, and otherwise nothing was done
     pub record SavedWhereDue (posts : ℕ) (before now : Home C) (saved : Bool) : Type 0 where
       pub undue : (posts % before.save_every == 0) ≡ false → (saved ≡ false) × (now ≡ before)
       pub due : (posts % before.save_every == 0) ≡ true → TriedSave before now saved

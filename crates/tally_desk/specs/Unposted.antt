@@ -1,4 +1,4 @@
--- What clauses say of outcomes that a worker found and has not posted yet.
+-- Predicates on outcomes that a worker has buffered and not yet posted.
 use Rattle.std.specs.Prelude.{◌≡◌, ℕ, ◌+◌, ◌-◌, ◌/◌, ◌<◌, ◌≤◌, min, max, nat_le, nat_lt, if◌then◌else◌, List, [], map, length, slice_index_or, Vec, vec_capacity}
 use Rattle.std.specs.List.{All}
 use Rattle.atomic_table.specs.Seated.{TableId}
@@ -16,59 +16,60 @@ use Rattle.tally_desk.specs.Views.{PassView}
 abbrev pub found_id : Outcome → ℕ
 found_id o = o.id
 
--- the ids of outcomes that are held
+-- the ids of the buffered outcomes
 abbrev pub held_ids : List Outcome → List ℕ
 held_ids held = map found_id held
 
--- each id that the pass claimed is posted or held, as often as it was claimed; one that is held was claimed once; and what is held is what the
--- trajectories find
+-- each claimed id is posted or buffered as often as it was claimed, a buffered one was claimed once, and each buffered
+-- outcome is that of its trajectory
 pub record HoldsRest (parts : Parts) (v : PassView) (held : List Outcome) : Type 0 where
   pub counted : (id : ℕ) → times id (ids_of v.entries) + times id (held_ids held) ≡ times id (claimed_ids parts v)
   pub once : (id : ℕ) → 0 < times id (held_ids held) → times id (claimed_ids parts v) ≡ 1
   pub right : All (λ o. o ≡ found parts.job o.id) held
 
--- the pass is one of the desk's with this table, and what it claimed and has not posted is held
+-- the pass belongs to the desk with this table, and all its claims that are not posted are buffered
 pub record IsHolding (table : TableId) (parts : Parts) (p : DeskPass) (held : List Outcome) : Type 0 where
   pub belongs : Belongs table parts p
   pub rest : HoldsRest parts (view_of p) held
 
--- ---- how much is held
+-- ---- buffer capacities
 
--- a trajectory is long that has so many steps
+-- the number of steps from which a trajectory is long
 abbrev pub long_steps : ℕ
 long_steps = 100000
 
--- one worker holds no more
+-- the largest capacity of one buffer
 abbrev pub most_held : ℕ
 most_held = 4096
 
--- of so many workers so many may hold
+-- the number of workers that have a buffer
 abbrev pub holders : ℕ → ℕ
 holders workers = min workers 4
 
--- for how many outcomes each of those has room, of trajectories that are not long: together they hold fewer than are posted between two saves
+-- the capacity of each buffer if trajectories are short: all buffers together hold fewer outcomes than are posted
+-- between two saves
 abbrev pub short_room : ℕ → ℕ → ℕ
 short_room every workers = min most_held ((every - 1) / max (holders workers) 1)
 
--- for how many outcomes each of those has room: for none where a trajectory is long
+-- the capacity of each buffer: none if trajectories are long
 abbrev pub held_room : Setting → ℕ → ℕ
 held_room s workers = if nat_le long_steps (max s.steps s.hub_steps) then 0 else short_room s.save_every workers
 
--- for how many outcomes the worker at this place of so many has room
+-- the buffer capacity of the worker at this place
 abbrev pub room_at : Setting → ℕ → ℕ → ℕ
 room_at s workers place = if nat_lt place (holders workers) then held_room s workers else 0
 
 module _ {A : Type 0} where
-  -- nothing is held, and there is room for so many outcomes
+  -- an empty buffer with exactly this capacity
   pub record IsRoomFor (room : ℕ) (held : Vec Outcome A) : Type 0 where
     pub blank : held.items ≡ []
     pub room_is : vec_capacity held ≡ room
 
-  -- nothing is held, and there is room for no more outcomes than these
+  -- an empty buffer with at most this capacity
   pub record IsRoomWithin (room : ℕ) (held : Vec Outcome A) : Type 0 where
     pub blank : held.items ≡ []
     pub few : vec_capacity held ≤ room
 
-  -- the room of each of so many workers, by its place
+  -- each buffer has the capacity of its place
   abbrev pub AreRooms : Setting → ℕ → List (Vec Outcome A) → Type 0
   AreRooms s workers lists = (place : ℕ) (d : Vec Outcome A) → place < length lists → IsRoomFor (room_at s workers place) (slice_index_or lists place d)

@@ -1,18 +1,19 @@
--- What a pass of a desk knows.
+-- The knowledge of a pass at a desk.
 use Rattle.std.specs.Prelude.{ℕ, List, [], ◌∷◌, Option, None}
 use Rattle.claim_counter.specs.declared.record.PassRecord.{PassRecord}
 use Rattle.claim_counter.specs.Records.{spent}
 use Rattle.tally_desk.specs.declared.entry.Entry.{Entry}
 use Rattle.tally_desk.specs.Parts.{Parts}
 
--- a pass has no turn, or waits with a ticket for the post of an id, or is in turn with both and knows all posts by rising ticket
+-- a pass has no ticket, waits with a ticket for the post of an id, or is in its turn with both and knows all posts by
+-- rising ticket
 pub data Turn : Type 0 where
   no_turn : Turn
   waiting : ℕ → ℕ → Turn
   in_turn : ℕ → ℕ → List Entry → Turn
 
--- what never changes, or nothing where the pass was taken into another; the places of the list that it drew, and what else it has of the
--- counter; what it posted; and its turn
+-- the desk's constants, absent once the pass was joined to another, then the pass's record at the counter, its posts,
+-- and its turn
 pub record PassView : Type 0 where
   pub parts : Option Parts
   pub own : PassRecord
@@ -30,7 +31,7 @@ turn_ids no_turn = []
 turn_ids (waiting t i) = i ∷ []
 turn_ids (in_turn t i l) = i ∷ []
 
--- a pass that was taken into another
+-- a pass that was joined to another
 abbrev pub spent_view : PassView
 spent_view = record { parts = None; own = spent; entries = []; turn = no_turn }
 

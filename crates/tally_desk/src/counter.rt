@@ -1,4 +1,4 @@
-//! The laws of the counter, together.
+//! The laws of the counter in one call.
 
 ghost use Rattle.tally_desk.specs.Counter.{CounterLaws};
 
@@ -7,7 +7,7 @@ use claim_counter::laws::{
     start_is_counted,
 };
 
-// What each kind of draw keeps.
+// Brings the laws of the counter into scope: each kind of draw keeps its rule.
 pub(crate) fn counter_laws()
     ensures { CounterLaws }
 {

@@ -1,4 +1,4 @@
-//! All workers of a run that saves while it walks.
+//! The workers of a run that saves while it walks.
 
 ghost use Rattle.std.specs.Prelude.{◌≡◌, ◌+◌, ◌-◌, ◌*◌, ◌<◌, ◌≤◌, ◌∷◌, [], ◌++◌, All, IfOk, vec_len};
 ghost use Rattle.tally_desk.specs.Founded.{parts_of};
@@ -21,7 +21,8 @@ use flip_guard::judge::Judge;
 use plan_core::job::Job;
 use std::alloc::Global;
 
-/// All that walking takes beside the desk: walkers, room for as many workers, room for what each of these may hold, and room for the hub.
+/// The workers of a run that saves, and their preallocated buffers: walkers, one outcome buffer per worker, and the
+/// hub.
 #[derive(Drop)]
 pub struct Crew<J: Judge> {
     pub(crate) walkers: Vec<GatedWalker<J>>,
@@ -30,16 +31,18 @@ pub struct Crew<J: Judge> {
     pub(crate) hub: UnitList,
 }
 
-/// Trajectories of so many steps are long.
+/// The number of steps from which a trajectory counts as long. Outcomes of long trajectories are not buffered.
 const LONG_STEPS: u32 = 100_000;
 
-/// The most outcomes for which a worker has room.
+/// The largest capacity of one outcome buffer.
 const MOST_HELD: usize = 4096;
 
-/// The most workers that have room for outcomes. More of them take so much of the processors that the one that saves is slower.
+/// The largest number of workers with an outcome buffer. With more buffering workers, the worker that saves would get
+/// too little of the processors.
 const MOST_HOLDERS: usize = 4;
 
-/// A worker for each judge, who judges by the rules of the job. The only error is want of memory, and walking takes no more of it.
+/// Makes a worker for each constraint, which must be that of the job. The only error is out of memory, and walking
+/// allocates nothing more.
 pub fn recruit<J: Judge>(alloc: Global, job: &Job, judges: Vec<J>) -> Result<Crew<J>, Memory>
     requires judges { AreJudges job.now J.judging judges.items }
     ensures { IfOk result (IsDeskCrew job.now (vec_len judges)) }
@@ -47,7 +50,7 @@ pub fn recruit<J: Judge>(alloc: Global, job: &Job, judges: Vec<J>) -> Result<Cre
     let room = Vec::with_capacity(alloc, judges.len())?;
     let hub = UnitList::zeros(alloc, job.units() as usize)?;
     let setting = job.setting();
-    // Called for what its contract says: together workers hold few outcomes.
+    // Called for its contract: the workers together buffer few outcomes.
     let _each = room_each(setting, judges.len());
     let held = make_rooms(alloc, setting, judges.len())?;
     let walkers = hire(alloc, job, judges)?;
@@ -59,14 +62,15 @@ pub fn recruit<J: Judge>(alloc: Global, job: &Job, judges: Vec<J>) -> Result<Cre
     })
 }
 
-// Of so many workers so many may hold.
+// Returns the number of workers that have an outcome buffer.
 fn holders(workers: usize) -> usize
     ensures { result ≡ holders workers }
 {
     workers.min(MOST_HOLDERS)
 }
 
-// For how many outcomes each of those has room. Together they hold fewer than are posted between two saves.
+// Returns the capacity of each outcome buffer. All buffers together hold fewer outcomes than are posted between two
+// saves.
 fn room_each(setting: &Setting, workers: usize) -> usize
     ensures room { result ≡ held_room setting.now workers }
     ensures few { holders workers * result ≤ setting.now.save_every - 1 }
@@ -78,7 +82,7 @@ fn room_each(setting: &Setting, workers: usize) -> usize
     MOST_HELD.min(few / holders(workers).max(1))
 }
 
-// For how many outcomes the worker at this place has room.
+// Returns the buffer capacity of the worker at this place.
 fn room_at(setting: &Setting, workers: usize, place: usize) -> usize
     ensures { result ≡ room_at setting.now workers place }
 {
@@ -89,7 +93,7 @@ fn room_at(setting: &Setting, workers: usize, place: usize) -> usize
     }
 }
 
-// An empty list for each of so many workers, with the room that it has.
+// Makes the outcome buffers, one per worker.
 fn make_rooms(alloc: Global, setting: &Setting, workers: usize) -> Result<Vec<Vec<Outcome>>, Memory>
     ensures count { IfOk result (λ h. vec_len h ≡ workers) }
     ensures rooms { IfOk result (λ h. AreRooms setting.now workers h.items) }
@@ -102,7 +106,7 @@ fn make_rooms(alloc: Global, setting: &Setting, workers: usize) -> Result<Vec<Ve
     Ok(held)
 }
 
-// A worker for each walker, with a pass and a list of its own.
+// Makes a worker of each walker, with its own pass and buffer.
 pub(crate) fn seat<C: Keeper, J: Judge>(
     desk: &Desk<C>,
     mut pass: DeskPass,
@@ -115,7 +119,7 @@ pub(crate) fn seat<C: Keeper, J: Judge>(
     ensures ready { All (IsReadyAtDesk desk.now.table.shared.table_id (parts_of C.state desk.now.table.shared.key)) result.items }
     ensures count { vec_len result ≡ vec_len walkers }
 {
-    // A law, called for what its contract says: a pass that posts what it claims has posted all that it claimed.
+    // Called for its contract: a pass that posts what it claims has posted all its claims.
     posts_stay_whole();
     let Some(last) = walkers.pop() else {
         unreachable!()
@@ -138,7 +142,7 @@ pub(crate) fn seat<C: Keeper, J: Judge>(
     workers
 }
 
-// Takes the last list.
+// Removes and returns the last buffer.
 fn take_last(lists: &mut Vec<Vec<Outcome>>) -> Vec<Outcome>
     requires { 0 < vec_len lists.old }
     ensures items { lists.old.items ≡ lists.new.items ++ result ∷ [] }
@@ -150,7 +154,7 @@ fn take_last(lists: &mut Vec<Vec<Outcome>>) -> Vec<Outcome>
     last
 }
 
-// A walker for each judge.
+// Makes a walker for each constraint.
 fn hire<J: Judge>(
     alloc: Global,
     job: &Job,

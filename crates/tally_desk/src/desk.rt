@@ -1,4 +1,4 @@
-//! The desk.
+//! The desk: a work queue with a checkpoint writer.
 ghost use Rattle.std.specs.Prelude.{◌≡◌, ◌≤◌};
 
 use crate::counter::counter_laws;
@@ -19,11 +19,11 @@ use std::sync::Wait;
 use std::thread;
 use std::time::Duration;
 
-/// A pass that waits for a save looks again after so many milliseconds, if nobody wakes it before.
+/// The longest sleep, in milliseconds, of a worker that waits for a save.
 const LONGEST_SLEEP: u64 = 100;
 
-/// Gives out the ids of a list to several passes, keeps the book of their outcomes, and saves a checkpoint of it each time that the number of
-/// posts is a multiple. Only a post waits for another.
+/// A work queue over a list of ids, shared by several passes. It collects the outcomes in a book and saves a checkpoint
+/// whenever the number of posts is a multiple of `save_every`. Claims are lock-free; only posts wait for each other.
 #[derive(Drop)]
 pub struct Desk<C: Keeper> {
     pub(crate) table: Table<Home<C>, View, Founding<C>, OneTally<C>, Global>,
@@ -49,11 +49,11 @@ impl<C: Keeper> Desk<C> {
     ghost use Rattle.tally_desk.specs.Ran.{starts};
     ghost use Rattle.tally_desk.specs.Views.{waiting};
 
-    /// A desk for the ids to do, which the book lacks, with at most `seats` passes, and the first of these.
+    /// Makes a desk for at most `seats` passes, and its first pass. The book must have no outcome for the ids to do.
     ///
     /// # Errors
     ///
-    /// There was no memory. Nothing was saved.
+    /// Out of memory. Nothing was saved, and the book and the keeper are returned.
     pub fn new(
         alloc: Global,
         job: &Job,
@@ -76,7 +76,7 @@ impl<C: Keeper> Desk<C> {
             Belongs d.0.table.shared.table_id parts d.1 × (view_of d.1 ≡ first_view parts)) }
         ensures refused { IfErr result (λ r. (r.book ≡ outset.book) × (r.keeper ≡ outset.keeper)) }
     {
-        // Called for what their contracts say: the job is within its limits, and the book holds no more than it has room for.
+        // Called for their contracts: the job is within its limits, and the book is within its capacity.
         let _units = job.units();
         let _len = outset.book.len();
         let founding = Founding {
@@ -116,8 +116,8 @@ impl<C: Keeper> Desk<C> {
         }
     }
 
-    /// Draws the next place of the list in one atomic step, and answers its id. No other pass of this desk has it, or ever gets it. `None` says
-    /// that no id was left, and the pass has ended.
+    /// Draws the next place of the list in one atomic step and returns its id. No other pass of this desk ever gets the
+    /// same place. Returns `None` if no id was left. The pass has then ended.
     pub fn claim(&self, pass: &mut DeskPass) -> Option<u32>
         requires pass { Belongs self.now.table.shared.table_id (parts_of C.state self.now.table.shared.key) pass.old }
         requires before_end { (view_of pass.old).own.ended ≡ false }
@@ -126,7 +126,7 @@ impl<C: Keeper> Desk<C> {
         ensures end { IfNone result (view_of pass.new ≡ ended_view (view_of pass.old)) }
         ensures few { length (view_of pass.new).own.claims ≤ length self.now.table.shared.key.todo.value }
     {
-        // Laws, called for what their contracts say: what each kind of draw keeps.
+        // Called for their contracts: each kind of draw keeps the rule.
         counter_laws();
         let mut seat = take_out(&mut pass.badge);
         let drawn = self.table.shared.fetch_add::<Draw>(&mut seat, 0, 1);
@@ -139,8 +139,8 @@ impl<C: Keeper> Desk<C> {
         }
     }
 
-    /// Posts the outcome of a claim, under a turn of its own: it looks again until no ticket is out and its own is served, and sleeps while another
-    /// pass saves. It takes no memory but the keeper's.
+    /// Posts the outcome of a claim. Retries until it gets a ticket and its turn comes, and sleeps while another pass
+    /// saves. Only the keeper may allocate.
     pub fn post<R: Wait>(&self, rt: &R, pass: &mut DeskPass, outcome: Outcome)
         requires pass { Belongs self.now.table.shared.table_id (parts_of C.state self.now.table.shared.key) pass.old }
         requires claimed { 0 < times outcome.id (claimed_ids (parts_of C.state self.now.table.shared.key) (view_of pass.old)) }
@@ -156,7 +156,7 @@ impl<C: Keeper> Desk<C> {
         pass.badge = seat.into_badge();
     }
 
-    /// Posts the outcome of a claim where no other pass is in turn, as `post` does. Whether it was posted.
+    /// Posts the outcome of a claim, as `post` does, unless another pass has its turn. Returns true if it was posted.
     pub fn try_post<R: Wait>(&self, rt: &R, pass: &mut DeskPass, outcome: Outcome) -> bool
         requires pass { Belongs self.now.table.shared.table_id (parts_of C.state self.now.table.shared.key) pass.old }
         requires claimed { 0 < times outcome.id (claimed_ids (parts_of C.state self.now.table.shared.key) (view_of pass.old)) }
@@ -181,8 +181,8 @@ impl<C: Keeper> Desk<C> {
         }
     }
 
-    // Takes a ticket for the post of this id, as soon as no ticket is out: then it is the one that is served. So the next turn is that of
-    // whichever pass asks first, and none waits for a pass whose thread does not run.
+    // Takes a ticket for a post of this id once no other ticket is out. The ticket taken is then the one served. Turns
+    // go to whichever pass asks first, so none waits for a pass whose thread is descheduled.
     fn take_ticket<R: Wait, B: Posting>(
         &self,
         rt: &R,
@@ -205,7 +205,8 @@ impl<C: Keeper> Desk<C> {
         unreachable!()
     }
 
-    // Lets other threads run while a ticket is out. Where its turn makes a save it sleeps until that is over; others are too short to sleep for.
+    // Lets other threads run while a ticket is out. Sleeps if the ticket's turn makes a save. Other turns are too short
+    // for sleeping.
     fn rest<R: Wait>(&self, rt: &R) {
         let words = &self.table.shared;
         let served = words.peek(2);
@@ -220,20 +221,20 @@ impl<C: Keeper> Desk<C> {
         }
     }
 
-    // Ends the sleep of all that wait for the turn of this ticket, which is over.
+    // Wakes all passes that sleep through the turn of this ticket.
     fn wake(&self, ticket: u64) {
         if self.makes_save(ticket) {
             self.table.shared.wake_all(2);
         }
     }
 
-    // Whether a save is due in the turn of this ticket.
+    // Returns true if a save is due in the turn of this ticket.
     #[inline]
     fn makes_save(&self, ticket: u64) -> bool {
         ticket.wrapping_add(1) % u64::from(self.save_every) == 0
     }
 
-    // Takes a ticket for the post of this id where none is out.
+    // Takes a ticket for a post of this id, if none is out.
     fn try_ticket<B: Posting>(&self, seat: &mut Seat<Home<C>, View>, id: u32) -> Option<u64>
         requires name { B.id ≡ id }
         requires table { seat.old.table_id ≡ self.now.table.shared.table_id }
@@ -253,7 +254,7 @@ impl<C: Keeper> Desk<C> {
         if found == served { Some(served) } else { None }
     }
 
-    // Looks until the ticket is served, and then has the slot.
+    // Spins until the ticket is served. The pass then owns the slot.
     fn await_turn<R: Wait>(&self, rt: &R, seat: &mut Seat<Home<C>, View>, ticket: u64, id: u32)
         requires table { seat.old.table_id ≡ self.now.table.shared.table_id }
         requires empty { seat.old.me.1 ≡ [] }
@@ -270,7 +271,7 @@ impl<C: Keeper> Desk<C> {
         unreachable!()
     }
 
-    // Posts the outcome under the turn, and serves the next ticket.
+    // Posts the outcome and serves the next ticket.
     fn serve(&self, seat: &mut Seat<Home<C>, View>, ticket: u64, outcome: Outcome)
         requires table { seat.old.table_id ≡ self.now.table.shared.table_id }
         requires right { outcome ≡ found self.now.table.shared.key.job.value outcome.id }
@@ -284,14 +285,14 @@ impl<C: Keeper> Desk<C> {
         self.wake(ticket);
     }
 
-    /// One more pass, which has claimed nothing. `pass` can then be split once less.
+    /// Splits off a pass that has claimed nothing. `pass` can then be split once less.
     pub fn split(&self, pass: &mut DeskPass) -> DeskPass
         requires pass { Belongs self.now.table.shared.table_id (parts_of C.state self.now.table.shared.key) pass.old }
         requires spare { 0 < (view_of pass.old).own.spare }
         ensures rest { Belongs self.now.table.shared.table_id (parts_of C.state self.now.table.shared.key) pass.new × (view_of pass.new ≡ left_view (view_of pass.old)) }
         ensures new { Belongs self.now.table.shared.table_id (parts_of C.state self.now.table.shared.key) result × (view_of result ≡ right_view (view_of pass.old)) }
     {
-        // Laws, called for what their contracts say: what each kind of draw keeps.
+        // Called for their contracts: each kind of draw keeps the rule.
         counter_laws();
         let mut seat = take_out(&mut pass.badge);
         let other = self.table.shared.split_seat::<OnePass>(&mut seat);
@@ -304,14 +305,14 @@ impl<C: Keeper> Desk<C> {
         }
     }
 
-    /// One pass for two, with the claims and the posts of both. It has ended where both have.
+    /// Joins two passes into one with the claims and posts of both. The result has ended if both have.
     pub fn join(&self, first: DeskPass, second: DeskPass) -> DeskPass
         requires first { Belongs self.now.table.shared.table_id (parts_of C.state self.now.table.shared.key) first }
         requires second { Belongs self.now.table.shared.table_id (parts_of C.state self.now.table.shared.key) second }
         ensures pass { Belongs self.now.table.shared.table_id (parts_of C.state self.now.table.shared.key) result }
         ensures both { view_of result ≡ joined_view (view_of first) (view_of second) }
     {
-        // Laws, called for what their contracts say: what each kind of draw keeps.
+        // Called for their contracts: each kind of draw keeps the rule.
         counter_laws();
         let DeskPass {
             mut badge,
@@ -326,7 +327,7 @@ impl<C: Keeper> Desk<C> {
         let mut seat = take_out(&mut badge);
         let other = take_out(&mut other_badge);
         self.table.shared.join_seat::<OnePass>(&mut seat, other);
-        // The step tells nothing of both together: a look does.
+        // Joining gives no fact about both passes together. Reading the counter afterwards does.
         self.table.shared.load::<See>(&mut seat, 0);
         DeskPass {
             badge: seat.into_badge(),
@@ -335,7 +336,7 @@ impl<C: Keeper> Desk<C> {
         }
     }
 
-    /// Ends the desk with its only pass, which has ended and has posted all that it claimed.
+    /// Closes the desk with its only pass, which must have ended and have posted all its claims.
     pub fn close(self, pass: DeskPass) -> Kept<C>
         requires pass { Belongs self.table.shared.table_id (parts_of C.state self.table.shared.key) pass }
         requires only { HasAllSeats (parts_of C.state self.table.shared.key).seats (view_of pass).own }
@@ -344,7 +345,7 @@ impl<C: Keeper> Desk<C> {
         ensures { IsClosed C.state (parts_of C.state self.table.shared.key) (view_of pass)
             result.book result.keeper result.place result.failed_saves result.last_saved }
     {
-        // Laws, called for what their contracts say: what each kind of draw keeps.
+        // Called for their contracts: each kind of draw keeps the rule.
         counter_laws();
         let Desk {
             table,

@@ -1,6 +1,6 @@
-//! A post at a desk.
+//! Posts at a desk.
 
-/// A post: its ticket, its id, and whether it is marked as saved, because a save was made with it and succeeded.
+/// A post: its ticket, its id, and `saved`, which is true if a save was made with this post and succeeded.
 #[derive(Clone, Copy, Debug, PartialEq, Eq)]
 pub struct Entry {
     pub ticket: u64,

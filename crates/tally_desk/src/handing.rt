@@ -1,4 +1,4 @@
-//! What a desk is made of, and what it leaves.
+//! The parts that a desk is made of, and the result of closing it.
 
 ghost use Rattle.std.specs.Prelude.{◌≡◌, ◌∷◌, [], IfOk, IfErr, vec_len};
 ghost use Rattle.audit_model.specs.Run.{total};
@@ -24,7 +24,7 @@ use outcome_book::book::Book;
 use plan_core::job::Job;
 use std::alloc::Global;
 
-/// How a desk saves: the job's digest, after how many posts each time, and where the first save goes.
+/// The save settings of a desk: the job's digest, the number of posts between saves, and the place of the first save.
 #[derive(Clone, Copy, Debug)]
 pub struct DeskPlan {
     pub digest: [u8; 32],
@@ -32,7 +32,7 @@ pub struct DeskPlan {
     pub place: Place,
 }
 
-/// What a desk is made of: how it saves, the ids to do, the book and the keeper.
+/// The initial state of a desk: save settings, ids to do, book and keeper.
 #[derive(Drop)]
 pub struct Outset<C> {
     pub plan: DeskPlan,
@@ -41,15 +41,15 @@ pub struct Outset<C> {
     pub keeper: C,
 }
 
-/// There was no memory for a desk. What it was to be made of comes back.
+/// The out-of-memory error of a desk, with the book and the keeper that were passed in.
 #[derive(Drop)]
 pub struct Refused<C> {
     pub book: Book,
     pub keeper: C,
 }
 
-/// What a desk leaves: the book, the keeper, where the next save goes, how many saves failed, and whether one was made with the last post and
-/// succeeded.
+/// The result of closing a desk: the book, the keeper, the place of the next save, and the number of failed saves.
+/// `last_saved` is true if a save was made with the last post and succeeded.
 #[derive(Drop)]
 pub struct Kept<C> {
     pub book: Book,
@@ -59,7 +59,7 @@ pub struct Kept<C> {
     pub last_saved: bool,
 }
 
-// All that the slot of a desk holds at first, with room for `count` posts.
+// Allocates the contents of a desk's slot, with capacity for `count` posts.
 pub(crate) fn furnish<C>(
     alloc: Global,
     job: &Job,
@@ -99,7 +99,7 @@ pub(crate) fn furnish<C>(
     })
 }
 
-// The table of a desk, and the first seat at it.
+// Makes the table of a desk and its first seat.
 pub(crate) fn open<C: Keeper>(
     alloc: Global,
     home: Home<C>,
@@ -118,7 +118,7 @@ pub(crate) fn open<C: Keeper>(
     ensures seat { IfOk result (λ t. (t.1.table_id ≡ t.0.shared.table_id) × (t.1.me ≡ (first_view (parts_of C.state founding.now), []))) }
     ensures refused { IfErr result (λ r. (r.book ≡ home.book) × (r.keeper ≡ home.keeper)) }
 {
-    // Laws, called for what their contracts say: what each kind of draw keeps.
+    // Called for their contracts: each kind of draw keeps the rule.
     counter_laws();
     let Ok(mut slots) = Vec::with_capacity(alloc, 1) else {
         return Err(give_back(home));
@@ -130,7 +130,7 @@ pub(crate) fn open<C: Keeper>(
     }
 }
 
-// What is handed over at the end.
+// Returns the result of a desk at its end.
 pub(crate) fn hand_over<C>(home: Home<C>) -> Kept<C>
     ensures book { result.book ≡ home.book }
     ensures keeper { result.keeper ≡ home.keeper }
@@ -190,7 +190,7 @@ fn give_back_only<C>(mut slots: Vec<Home<C>>) -> Refused<C>
     give_back(home)
 }
 
-// Whether a save was made with the last post and succeeded.
+// Returns true if a save was made with the last post and succeeded.
 fn ends_saved(posted: &[Entry]) -> bool
     ensures { result ≡ ends_saved posted.now }
 {

@@ -1,4 +1,4 @@
-//! What the slot of a desk holds.
+//! The contents of a desk's slot.
 
 use crate::entry::Entry;
 use crate::next_save::NextSave;
@@ -12,7 +12,7 @@ use ckpt_store::save;
 use outcome_book::book::Book;
 use outcome_book::laws::outcomes_have_few_visits;
 
-/// The book, the keeper and what was posted; and all that a save takes, so that posting and saving take no memory.
+/// The book, the keeper, the posts, and the buffers of a save, so that posting and saving allocate nothing.
 #[derive(Drop)]
 pub struct Home<C> {
     pub(crate) book: Book,
@@ -37,7 +37,7 @@ impl<C: Keeper> Home<C> {
     ghost use Rattle.tally_desk.specs.Rooms.{HasSaveRoom};
     ghost use Rattle.tally_desk.specs.Saving.{LetsSave, SavedWhereDue, TriedSave};
 
-    // Saves a checkpoint of the book. Whether the save succeeded.
+    // Saves a checkpoint of the book. Returns true if the save succeeded.
     fn save_book(&mut self) -> bool
         requires place { IsPlace self.old.place }
         requires count { self.old.failed_saves + 1 < 2 ^ 32 }
@@ -45,10 +45,10 @@ impl<C: Keeper> Home<C> {
         requires lets { LetsSave C.state C.lets self.old }
         ensures { TriedSave C.state self.old self.new result }
     {
-        // Called for what its contract says: the book holds no more than it has room for.
+        // Called for its contract: the book is within its capacity.
         let _count = self.book.len();
         self.book.sorted_into(&mut self.sorted);
-        // A law, called for what its contract says: outcomes by rising id are as a checkpoint asks for them.
+        // Called for its contract: outcomes by rising id meet the precondition of a checkpoint.
         rising_pairs_rise();
         let saved = save::save_with(
             &mut self.keeper,
@@ -67,7 +67,8 @@ impl<C: Keeper> Home<C> {
         }
     }
 
-    // Saves a checkpoint of the book where one is due after so many posts. Whether a save was made and succeeded.
+    // Saves a checkpoint of the book if one is due after this number of posts. Returns true if a save was made and
+    // succeeded.
     fn save_where_due(&mut self, posts: u64) -> bool
         requires every { 1 ≤ self.old.save_every }
         requires place { IsPlace self.old.place }
@@ -82,15 +83,16 @@ impl<C: Keeper> Home<C> {
         self.save_book()
     }
 
-    /// Appends an outcome, and saves a checkpoint of the book where one is due: each time that the number of posts is a multiple. Whether a
-    /// save was made and succeeded. `todo` are the ids of the run. It takes no memory but the keeper's.
+    /// Appends an outcome, and saves a checkpoint of the book if the number of posts is a multiple of `save_every`.
+    /// `todo` has the ids of the run. Returns true if a save was made and succeeded. Only the keeper may allocate.
     pub fn turn(&mut self, outcome: Outcome, todo: &[u32]) -> bool
         requires { (parts : Parts) × ((posted : List model.Entry) × MayTurn C.state C.lets parts self.old posted outcome) }
         ensures turned { (parts : Parts) (posted : List model.Entry) → MayTurn C.state C.lets parts self.old posted outcome
             → HasTurned C.state C.lets parts self.new posted outcome result }
         ensures entry { self.new.posted.items ≡ self.old.posted.items ++ post_of (length self.old.posted.items) outcome.id result ∷ [] }
     {
-        // Laws, called for what their contracts say: what is saved is in the newest slot and is the job's, and bins add up to few enough.
+        // Called for their contracts: a saved checkpoint is the newest slot and belongs to the job, and histograms are
+        // small enough for the book.
         saved_slots_are_newest();
         checkpoints_are_ours();
         outcomes_have_few_visits();
@@ -106,7 +108,8 @@ impl<C: Keeper> Home<C> {
         saved
     }
 
-    // Hashes a little of the next checkpoint, or begins with it where a save was due after so many posts and another is to come.
+    // Hashes a little more of the next checkpoint. After a due save it starts the next checkpoint instead, if another
+    // save will come.
     fn look_ahead(&mut self, posts: u64, todo: &[u32])
         ensures { self.new ≡ record self.old { next = self.new.next } }
     {

@@ -1,4 +1,4 @@
-//! The plan from which the trajectories of the parallel test start.
+//! The hub of a run that saves.
 
 ghost use Rattle.std.specs.Prelude.{◌≡◌, ◌<◌, ℕ, All, IsFalse, List, length};
 ghost use Rattle.tally_desk.specs.Crews.{IsWalker};
@@ -11,7 +11,8 @@ use claim_counter::gated::GatedWalker;
 use flip_guard::judge::Judge;
 use plan_core::job::Job;
 
-/// Writes the hub, exactly where it is needed. It is asked for beside a desk, so that it is walked only once all memory of the desk is taken.
+/// Computes the hub if it is needed. The desk is an argument so that the hub is computed only after the desk's memory
+/// is allocated.
 pub fn walk_hub<C: Keeper, J: Judge>(
     _desk: &Desk<C>,
     job: &Job,

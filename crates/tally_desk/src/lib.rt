@@ -1,5 +1,5 @@
-//! A desk where several callers draw the ids of a list, post each outcome once, and which saves a checkpoint now and then; and a run of workers over
-//! such a desk, with a last save at its end.
+//! A desk from which several callers draw the ids of a list and at which they post each outcome once. It saves
+//! checkpoints at a fixed interval. Also the run of workers over such a desk, with a last save at its end.
 #![tactic(auto)]
 
 mod counter;

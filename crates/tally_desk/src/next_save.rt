@@ -1,4 +1,5 @@
-//! What is hashed of the next checkpoint before it is due, a little with each post, so that a save is short and nobody waits long for it.
+//! Hashing the next checkpoint ahead of time, a little with each post. A save is then short, and the workers that wait
+//! for it wait briefly.
 
 use audit_model::memory::Memory;
 use audit_model::outcome::Outcome;
@@ -6,11 +7,12 @@ use audit_model::place::Place;
 use ckpt_format::ahead::Ahead;
 use std::alloc::Global;
 
-/// The most outcomes that are hashed with one post. Where it would take more, saves come so often that everybody waits for hashing in any case.
+/// The largest number of outcomes hashed with one post. If more were needed, saves come so often that workers wait for
+/// hashing in any case.
 const MOST_EACH: usize = 32;
 
-/// What the next checkpoint begins with: the first outcomes of the last one, up to the least id that is still to do. Nothing is proved of it, since a
-/// checkpoint that begins otherwise is hashed from its first byte.
+/// The prefix of the next checkpoint: the first outcomes of the last checkpoint, up to the least id still to do.
+/// Nothing is proved about it, since a checkpoint with another prefix is hashed from its first byte.
 #[derive(Drop)]
 pub(crate) struct NextSave {
     pub(crate) ahead: Ahead,
@@ -21,8 +23,8 @@ pub(crate) struct NextSave {
 }
 
 impl NextSave {
-    /// Nothing is known of the next checkpoint, which is due after so many posts. There is room for so many bytes. The only error is want of memory, and no
-    /// other call takes any.
+    /// Makes an empty prefix, with capacity for a checkpoint of `bytes` bytes. The only error is out of memory, and no
+    /// other call allocates.
     pub fn with_room(alloc: Global, save_every: u32, bytes: usize) -> Result<NextSave, Memory> {
         Ok(NextSave {
             ahead: Ahead::with_room(alloc, bytes)?,
@@ -33,7 +35,8 @@ impl NextSave {
         })
     }
 
-    /// Begins with the checkpoint that goes to this place, where these are the outcomes so far by rising id, and `todo` the ids of the run.
+    /// Starts the checkpoint for this place. `outcomes` are those so far by rising id, and `todo` has the ids of the
+    /// run.
     pub fn begin(&mut self, digest: &[u8; 32], place: Place, outcomes: &[Outcome], todo: &[u32]) {
         let count = outcomes.len().saturating_add(self.save_every as usize);
         self.ahead.begin(
@@ -47,7 +50,7 @@ impl NextSave {
         self.taken = 0;
     }
 
-    /// Takes in a few more outcomes of the last checkpoint.
+    /// Hashes a few more outcomes of the last checkpoint.
     pub fn go_on(&mut self, outcomes: &[Outcome]) {
         let end = self.sure.min(outcomes.len());
         for _ in 0..self.each {
@@ -60,7 +63,7 @@ impl NextSave {
     }
 }
 
-// How many outcomes come before the first id to do that has none.
+// Returns the number of outcomes before the first id to do without an outcome.
 fn count_sure(outcomes: &[Outcome], todo: &[u32]) -> usize {
     let mut done = 0;
     for (place, outcome) in outcomes.iter().enumerate() {

@@ -24,14 +24,14 @@ impl DeskPass {
     ghost use Rattle.std.specs.Prelude.{◌≡◌};
     ghost use Rattle.tally_desk.specs.Passes.{view_of};
 
-    /// Whether a claim of each pass in it found no id left.
+    /// Returns true if a claim of each joined pass found no id left.
     pub fn ended(&self) -> bool
         ensures { result ≡ (view_of self.now).own.ended }
     {
         self.ended
     }
 
-    /// How many passes can still be split off.
+    /// Returns the number of passes that can still be split off.
     pub fn spare(&self) -> u32
         ensures { result ≡ (view_of self.now).own.spare }
     {
@@ -39,7 +39,7 @@ impl DeskPass {
     }
 }
 
-// Takes the seat out of a badge, and leaves none.
+// Takes the seat out of a badge and leaves the badge empty.
 pub(crate) fn take_out<C>(badge: &mut Badge<View>) -> Seat<Home<C>, View>
     requires { badge.old.views ≡ view_in badge.old.views ∷ [] }
     ensures table { result.table_id ≡ badge.old.table_id }

@@ -1,4 +1,5 @@
-//! How a worker posts what it finds. While another worker is in turn it holds outcomes, as many as there is room for, and walks on.
+//! Posting with a buffer: while another worker has its turn, outcomes are buffered up to the capacity, and the worker
+//! walks on.
 
 ghost use Rattle.std.specs.Prelude.{◌≡◌, ◌∷◌, [], ◌++◌, vec_capacity};
 ghost use Rattle.tally_desk.specs.Founded.{parts_of};
@@ -11,8 +12,8 @@ use audit_io::keeper::Keeper;
 use audit_model::outcome::Outcome;
 use std::sync::Wait;
 
-/// Posts the outcome of the last claim, and then what is held, while no other pass is in turn. Where one is, the outcome is held; and where there is
-/// no room for it, its post waits.
+/// Posts the outcome of the last claim and then the buffered ones, until another pass has its turn. The outcome is then
+/// buffered, or waits for its turn if the buffer is full.
 pub fn hand_in<R: Wait, C: Keeper>(
     rt: &R,
     desk: &Desk<C>,
@@ -30,7 +31,7 @@ pub fn hand_in<R: Wait, C: Keeper>(
     }
 }
 
-/// Posts all that is held. Each post waits for its turn.
+/// Posts all buffered outcomes. Each post waits for its turn.
 pub fn post_all<R: Wait, C: Keeper>(
     rt: &R,
     desk: &Desk<C>,
@@ -47,7 +48,8 @@ pub fn post_all<R: Wait, C: Keeper>(
     }
 }
 
-// Posts the outcome, or holds it while another pass is in turn and there is room. Whether it was posted.
+// Posts the outcome, or buffers it if another pass has its turn and the buffer is not full. Returns true if it was
+// posted.
 fn post_or_hold<R: Wait, C: Keeper>(
     rt: &R,
     desk: &Desk<C>,
@@ -71,7 +73,7 @@ fn post_or_hold<R: Wait, C: Keeper>(
     false
 }
 
-// Posts what is held, one after another, until another pass is in turn.
+// Posts buffered outcomes until another pass has its turn.
 fn post_while_free<R: Wait, C: Keeper>(
     rt: &R,
     desk: &Desk<C>,

@@ -32,20 +32,21 @@ use plan_core::job::Job;
 use std::sync::Wait;
 use std::thread::Threads;
 
-/// What a run leaves that saved while it walked: the keeper, and whether no save failed.
+/// The result of a run that saved while it walked: the keeper, and an error if a save failed.
 #[derive(Drop)]
 pub struct Ran<C> {
     pub keeper: C,
     pub saved: Result<(), Failed>,
 }
 
-/// Walks the trajectories with these ids, and saves a checkpoint of all outcomes each time that as many were found as the plan says, and at the
-/// end. A save that fails stops nothing; the next one is tried as it would have been. Each worker is a thread, where one can be started, and
-/// each id goes to whichever of them asks next; before it walks an id it tells the gate. `sorted` becomes all outcomes by rising id.
+/// Walks the trajectories with these ids. Saves a checkpoint of all outcomes after each `save_every` posts and at the
+/// end. A failed save stops nothing, and the next save goes to the place of the failed one. Each worker is a thread, if
+/// one can be started. An id goes to the next worker that asks, and the gate learns each id before its walk. Fills
+/// `sorted` with all outcomes by rising id.
 ///
 /// # Errors
 ///
-/// There was no memory for the desk: nothing was walked or saved.
+/// Out of memory for the desk. Nothing was walked or saved.
 pub fn run_over<R: Threads + Wait + Sync, C: Keeper + Send, J: Judge + Send, G: Gate + Sync>(
     rt: &Runtime<R, G>,
     job: &Job,
@@ -72,7 +73,7 @@ pub fn run_over<R: Threads + Wait + Sync, C: Keeper + Send, J: Judge + Send, G: 
     }
 }
 
-// No save failed where none did at the desk, nor the last one.
+// Returns `Ok` if no save failed, neither at the desk nor at the end.
 fn both(failed: u32, rest: Result<(), Failed>) -> Result<(), Failed>
     ensures { BothSaved failed rest result }
 {
@@ -82,7 +83,7 @@ fn both(failed: u32, rest: Result<(), Failed>) -> Result<(), Failed>
     rest
 }
 
-// Walks all ids of the desk, and closes it. It takes no memory but the keeper's.
+// Walks all ids of the desk and closes it. Only the keeper may allocate.
 fn work<R: Threads + Wait + Sync, C: Keeper + Send, J: Judge + Send, G: Gate + Sync>(
     rt: &Runtime<R, G>,
     job: &Job,
@@ -108,7 +109,7 @@ fn work<R: Threads + Wait + Sync, C: Keeper + Send, J: Judge + Send, G: Gate + S
     desk.close(pass)
 }
 
-// Makes the desk of a run, and walks all its ids. Where there is no memory for the desk, nothing was walked.
+// Makes the desk of a run and walks all its ids. If the desk is out of memory, nothing is walked.
 fn walk_over<R: Threads + Wait + Sync, C: Keeper + Send, J: Judge + Send, G: Gate + Sync>(
     rt: &Runtime<R, G>,
     job: &Job,
@@ -137,7 +138,7 @@ fn walk_over<R: Threads + Wait + Sync, C: Keeper + Send, J: Judge + Send, G: Gat
     }
 }
 
-// Makes the last save of a run, where its desk made none with the last post.
+// Makes the last save of a run, unless its desk saved with the last post.
 fn finish<C: Keeper>(
     mut kept: Kept<C>,
     digest: &[u8; 32],
@@ -150,7 +151,7 @@ fn finish<C: Keeper>(
     ensures { (parts : Parts) (v : PassView) → IsClosedWith C.state parts v kept digest.now
         → HasRun parts (C.state result.keeper) sorted.new.items result.saved }
 {
-    // A law, called for what its contract says: where no save failed, the last one is whole and in turn.
+    // Called for its contract: if no save failed, the last save is complete and follows the one before.
     unfailed_runs_save_in_turn();
     let rest = save_rest(&mut kept, digest, sorted, room);
     let saved = both(kept.failed_saves, rest);

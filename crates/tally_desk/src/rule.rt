@@ -1,4 +1,4 @@
-//! What holds between any two steps of a desk, and what each step tells.
+//! The invariant of a desk's table, and the effect of each step.
 
 ghost use Rattle.std.specs.Prelude.{ℕ};
 
@@ -8,7 +8,7 @@ use atomic_table::{Join, Play, Split, TableRule};
 use audit_io::keeper::Keeper;
 use std::marker::{Brand, PhantomData};
 
-/// The rule.
+/// The rule of a desk: each id is claimed and posted once.
 pub struct OneTally<C> {
     keeper: PhantomData<C>,
 }
@@ -32,7 +32,7 @@ impl<C> Play<Home<C>, View> for Draw {
     ghost then = { DrawsPlace };
 }
 
-/// Names the id that a pass posts.
+/// The id that a pass posts, for proofs.
 pub(crate) trait Posting {
     ghost id: { ℕ };
 }
@@ -41,7 +41,7 @@ impl Posting for Brand {
     ghost id = { 0 };
 }
 
-/// A try for a ticket for a post.
+/// An attempt to take a ticket for a post.
 pub(crate) struct Take<B> {
     id: PhantomData<B>,
 }
@@ -52,7 +52,7 @@ impl<C, B: Posting> Play<Home<C>, View> for Take<B> {
     ghost then = { TriesTicket B.id };
 }
 
-/// A look at the ticket that is served.
+/// A read of the ticket that is served.
 pub(crate) struct Look;
 
 impl<C: Keeper> Play<Home<C>, View> for Look {
@@ -71,7 +71,7 @@ impl<C> Play<Home<C>, View> for Serve {
     ghost then = { Serves };
 }
 
-/// A look at how much was drawn, after two passes were joined.
+/// A read of the number of draws, after two passes are joined.
 pub(crate) struct See;
 
 impl<C> Play<Home<C>, View> for See {
@@ -80,7 +80,7 @@ impl<C> Play<Home<C>, View> for See {
     ghost then = { SeesSeats };
 }
 
-/// One pass of two, or two of one.
+/// A split of one pass, or a join of two.
 pub(crate) struct OnePass;
 
 impl Split<View> for OnePass {

@@ -1,4 +1,4 @@
-//! What a run does that saved while it walked, after its desk is closed.
+//! The last save of a run, after its desk is closed.
 
 ghost use Rattle.std.specs.Prelude.{◌≡◌, ◌<◌, AllPairs, IsPermutation, false};
 ghost use Rattle.outcome_book.specs.Booked.{IsBook};
@@ -14,12 +14,8 @@ use audit_model::buffers::{Bytes, OutcomeList};
 use ckpt_format::laws::rising_pairs_rise;
 use ckpt_store::save;
 
-/// Makes `sorted` all outcomes by rising id, and saves their checkpoint where none was saved with the last post. It takes no memory but the
-/// keeper's.
-///
-/// # Errors
-///
-/// The keeper failed.
+/// Fills `sorted` with all outcomes by rising id, and saves their checkpoint unless the last post saved one. Only the
+/// keeper may allocate.
 pub fn save_rest<C: Keeper>(
     kept: &mut Kept<C>,
     digest: &[u8; 32],
@@ -35,9 +31,9 @@ pub fn save_rest<C: Keeper>(
     ensures rising { AllPairs (λ a b. a.id < b.id) sorted.new.items }
     ensures rest { MakesLastSave C.state kept.old kept.new digest.now sorted.new.items result }
 {
-    // A law, called for what its contract says: outcomes by rising id are as a checkpoint asks for them.
+    // Called for its contract: outcomes by rising id meet the precondition of a checkpoint.
     rising_pairs_rise();
-    // Called for what its contract says: the book holds no more than it has room for.
+    // Called for its contract: the book is within its capacity.
     let _count = kept.book.len();
     kept.book.sorted_into(sorted);
     if kept.last_saved {

@@ -1,4 +1,4 @@
-//! What a pass of a desk knows, and what a desk is told once.
+//! The knowledge of a pass at a desk, and the desk's constants.
 
 use audit_model::lists::UnitList;
 use audit_model::place::Place;
@@ -7,7 +7,7 @@ use plan_core::job::Job;
 use std::marker::Model;
 use std::snapshot::Snapshot;
 
-/// What a pass knows. It is for proofs alone, and no value of it is made.
+/// The knowledge of a pass, for proofs only. No value is ever made at run time.
 pub struct View {
     nothing: (),
 }
@@ -20,7 +20,7 @@ impl Model for View {
     ghost view = { λ _. spent_view };
 }
 
-/// What a desk is made of, as it was handed in. It is for proofs alone.
+/// The initial state of a desk as it was passed in, for proofs only.
 #[derive(Drop)]
 pub struct Founding<C> {
     pub(crate) job: Snapshot<Job>,

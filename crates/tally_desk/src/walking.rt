@@ -1,4 +1,4 @@
-//! The trajectories of a run that saves, walked by several threads.
+//! Walks the trajectories of a run that saves, in several threads.
 
 ghost use Rattle.std.specs.Prelude.{◌≡◌, ◌+◌, ◌<◌, ℕ, All, true, vec_len};
 ghost use Rattle.tally_desk.specs.Founded.{parts_of};
@@ -18,7 +18,7 @@ use std::sync::Wait;
 use std::thread;
 use std::thread::Threads;
 
-/// Each worker in a thread of its own, where one can be started.
+/// Runs each worker in its own thread, if one can be started.
 pub fn walk_each<R: Threads + Wait + Sync, C: Keeper + Send, J: Judge + Send, G: Gate + Sync>(
     rt: &Runtime<R, G>,
     job: &Job,
@@ -45,7 +45,7 @@ pub fn walk_each<R: Threads + Wait + Sync, C: Keeper + Send, J: Judge + Send, G:
     );
 }
 
-/// One pass for all workers.
+/// Joins the passes of all workers into one.
 pub fn gather<C: Keeper, J: Judge>(desk: &Desk<C>, mut workers: Vec<DeskWorker<J>>) -> DeskPass
     requires workers { All (IsDeskWorkerDone desk.now.table.shared.table_id (parts_of C.state desk.now.table.shared.key)) workers.items }
     requires some { 0 < vec_len workers }
@@ -54,7 +54,7 @@ pub fn gather<C: Keeper, J: Judge>(desk: &Desk<C>, mut workers: Vec<DeskWorker<J
     ensures seats { (view_of result).own.weight + (view_of result).own.spare ≡ vec_len workers }
     ensures whole { HasPostedAll (parts_of C.state desk.now.table.shared.key) (view_of result) }
 {
-    // A law, called for what its contract says: a pass that posts what it claims has posted all that it claimed.
+    // Called for its contract: a pass that posts what it claims has posted all its claims.
     posts_stay_whole();
     let Some(first) = workers.pop() else {
         unreachable!()

@@ -1,4 +1,4 @@
-//! One thread's part of a run that saves.
+//! One thread of a run that saves.
 
 use crate::desk::Desk;
 use crate::pass::DeskPass;
@@ -11,7 +11,7 @@ use flip_guard::judge::Judge;
 use plan_core::job::Job;
 use std::sync::Wait;
 
-/// A walker, a pass, and what the walker found while another worker was in turn. It gets no more room for that.
+/// A walker, a pass, and the outcomes buffered while another worker had its turn. The buffer never grows.
 #[derive(Drop)]
 pub struct DeskWorker<J: Judge> {
     pub walker: GatedWalker<J>,
@@ -24,8 +24,8 @@ impl<J: Judge> DeskWorker<J> {
     ghost use Rattle.tally_desk.specs.Founded.{parts_of};
     ghost use Rattle.tally_desk.specs.Crews.{IsDeskWorkerDone, IsReadyAtDesk, WalksAtDesk};
 
-    /// Claims ids at the desk until none is left, walks the trajectory of each, and posts what it finds: at once, or, where another worker is in
-    /// turn and there is room, after a later walk.
+    /// Claims ids at the desk until none is left, walks each trajectory and posts its outcome. While another worker has
+    /// its turn, outcomes are buffered and posted after a later walk.
     pub fn run<R: Wait, C: Keeper, G: Gate>(
         &mut self,
         rt: &R,
