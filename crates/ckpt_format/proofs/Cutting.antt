@@ -1,4 +1,4 @@
--- Parts of a list, and lists that are put together from parts.
+-- Slices of a list, and lists joined from slices.
 use Rattle.std.proofs.Common.{◌≡◌, ℕ, zero, suc, ◌+◌, ◌-◌, ◌<◌, ◌≤◌, List, [], ◌∷◌, ◌++◌, length, get_or, take, drop, sym, ap, subst, ◌∙◌, arith, length-append, length-drop, inl, inr}
 use Rattle.std.specs.Prelude.{slice_range}
 use Rattle.std.proofs.lemmas.Bool.{cases_lt}
@@ -6,22 +6,22 @@ use Rattle.std.proofs.lemmas.List.{get_or-take, get_or-drop, get_or_past, length
 use Rattle.std.proofs.lemmas.List.Folds.{drop_split}
 use Rattle.audit_model.proofs.ListFacts.{part-front}
 
--- ---- parts
+-- ---- slices
 
--- how long a part of a list is
+-- the length of a slice
 pub length-part : {X : Type 0} (xs : List X) (a b : ℕ) → a ≤ b → b ≤ length xs → length (slice_range xs a b) ≡ b - a
 length-part xs a b l m = length-take-le (b - a) (drop a xs) (omega (arith, length-drop a xs))
 
--- the last part
+-- the last slice of a list
 pub part-back : {X : Type 0} (xs ys : List X) (a b : ℕ) → length xs ≡ a → a + length ys ≡ b → slice_range (xs ++ ys) a b ≡ ys
 part-back xs ys a b l m = ap (take (b - a)) (drop_at xs ys a l) ∙ take_all (b - a) ys (omega arith)
 
--- a part between two others
+-- a slice between two others
 pub part-mid : {X : Type 0} (p x q : List X) (a b : ℕ) → length p ≡ a → a + length x ≡ b → slice_range (p ++ x ++ q) a b ≡ x
 part-mid p x q a b l m =
     part-front (p ++ x) q a b (omega arith) (omega (arith, length-append p x)) ∙ part-back p x a b l m
 
--- two parts in a row
+-- two slices in a row join
 pub join-parts : {X : Type 0} (xs : List X) (a b c : ℕ) → a ≤ b → b ≤ c → c ≤ length xs → slice_range xs a b ++ slice_range xs b c ≡ slice_range xs a c
 join-parts xs a b c l m n =
     let first : length (slice_range xs a b) ≡ b - a = length-part xs a b l (omega arith) in
@@ -36,11 +36,11 @@ join-parts xs a b c l m n =
 
 -- ---- bytes
 
--- each is below 256, and 0 stands past the end
+-- each number is below 256, and past the end the list reads as 0
 abbrev pub AreBytes : List ℕ → Type 0
 AreBytes xs = (i : ℕ) → get_or xs i 0 < 256
 
--- a part of bytes is bytes
+-- a slice of bytes consists of bytes
 pub part-bytes : (xs : List ℕ) (a b : ℕ) → AreBytes xs → AreBytes (slice_range xs a b)
 part-bytes xs a b each i = elim (cases_lt i (b - a)) [
   | inl l ↦ subst (λ n. n < 256) (sym (get_or-take (b - a) (drop a xs) i 0 l ∙ get_or-drop a xs i 0)) (each (a + i))

@@ -1,4 +1,4 @@
--- The greater neighbours of a unit are those that its list of neighbours has, in the same order.
+-- The greater neighbors of a unit are those of its neighbor list, in the same order.
 use Rattle.std.proofs.Common.{◌≡◌, ℕ, zero, suc, ◌+◌, ◌<◌, ◌≤◌, Bool, true, false, cond, List, [], ◌∷◌, ◌++◌, length, get_or, take, refl, sym, ap, subst, inl, inr, ◌∙◌, arith, add-one, append-nil}
 use Rattle.std.specs.Prelude.{◌&&◌, nat_lt}
 use Rattle.std.specs.List.{filter, flat_map, slice_index_or}
@@ -13,11 +13,11 @@ use Rattle.audit_model.proofs.ListFacts.{has_at, at_has}
 use Rattle.ckpt_format.specs.Hashed.{Hashes, edges_from, pair_bytes}
 use Rattle.ckpt_format.proofs.Hashing.{hashes_same, hashes_then}
 
--- each number of the list is greater than the one before it
+-- each number of the list is above the one before it
 abbrev pub Rises : List ℕ → Type 0
 Rises row = (k : ℕ) → k + 1 < length row → get_or row k 0 < get_or row (k + 1) 0
 
--- in a rising row a later number is greater
+-- in a rising list a later number is greater
 rises_far : (row : List ℕ) (j k : ℕ) → Rises row → j < k → k < length row → get_or row j 0 < get_or row k 0
 rises_far row j zero rises l m = absurd (omega arith)
 rises_far row j (suc k) rises l m =
@@ -27,11 +27,11 @@ rises_far row j (suc k) rises l m =
       | inr off ↦ let before = rises_far row j k rises (omega arith) (omega arith) in omega (arith, before, one)
     ]
 
--- no place of the list has the number
+-- a number that stands at no place of the list is not a member
 lacks : (row : List ℕ) (n : ℕ) → ((k : ℕ) → k < length row → get_or row k 0 ≡ n → ⊥) → has row n ≡ false
 lacks row n none = false_from_ne_true (has row n) (λ h. let at = has_at row n h in none at.0 at.1 at.2)
 
--- the numbers below a bound that pass and are in the list, where the bound is between two places of the list
+-- the numbers below a bound that pass and are in the list, if the bound lies between two places
 listed_below : (test : ℕ → Bool) (row : List ℕ) (i b : ℕ) → Rises row → i ≤ length row → ((k : ℕ) → k < i → get_or row k 0 < b)
     → ((k : ℕ) → i ≤ k → k < length row → b ≤ get_or row k 0) → filter_below b (λ v. test v && has row v) ≡ filter test (take i row)
 listed_below test row zero b rises l below above =
@@ -65,18 +65,18 @@ listed_below test row (suc i) b rises l below above =
     and_true true = refl
     and_true false = refl
 
--- the numbers below a bound that pass and are in a list of numbers below it
+-- the numbers below a bound that pass and are in a list of smaller numbers
 pub filter_below-listed : (test : ℕ → Bool) (row : List ℕ) (n : ℕ) → Rises row → ((k : ℕ) → k < length row → get_or row k 0 < n)
     → filter_below n (λ v. test v && has row v) ≡ filter test row
 filter_below-listed test row n rises below =
     listed_below test row (length row) n rises (omega arith) below (λ k m r. absurd (omega arith)) ∙ ap (filter test) (take_all (length row) row (omega arith))
 
--- ---- the edges that a hasher took in so far
+-- ---- the edges hashed so far
 
 abbrev pub greater : ℕ → List ℕ → List ℕ
 greater u row = flat_map (pair_bytes u) (filter (nat_lt u) row)
 
--- a neighbour that is greater is taken in
+-- a greater neighbor is hashed
 pub hashes_edge : (u : ℕ) (row : List ℕ) (i : ℕ) (a b c : Sha256) → i < length row → u < get_or row i 0
     → Hashes a b (greater u (take i row)) → Hashes b c (pair_bytes u (get_or row i 0)) → Hashes a c (greater u (take (i + 1) row))
 hashes_edge u row i a b c l less first second =
@@ -86,7 +86,7 @@ hashes_edge u row i a b c l less first second =
     ∙ ap (flat_map (pair_bytes u)) (sym (filter_more (nat_lt u) row i 0 l ∙ ap (λ b. filter (nat_lt u) (take i row) ++ cond b (x ∷ []) []) (lt-ltb u x less))) in
     hashes_same a c _ _ next (hashes_then a b c (greater u (take i row)) (pair_bytes u x) first second)
 
--- one that is not greater is passed over
+-- a neighbor that is not greater is skipped
 pub hashes_no_edge : (u : ℕ) (row : List ℕ) (i : ℕ) (a b : Sha256) → i < length row → get_or row i 0 ≤ u
     → Hashes a b (greater u (take i row)) → Hashes a b (greater u (take (i + 1) row))
 hashes_no_edge u row i a b l less first =
@@ -95,7 +95,7 @@ hashes_no_edge u row i a b l less first =
     ap (flat_map (pair_bytes u)) (sym (filter_more (nat_lt u) row i 0 l ∙ ap (λ b. filter (nat_lt u) (take i row) ++ cond b (x ∷ []) []) (le-ltb u x less) ∙ append-nil (filter (nat_lt u) (take i row)))) in
     hashes_same a b _ _ next first
 
--- the greater neighbours of a unit in its row are its edges to greater units
+-- the greater neighbors in a unit's list are its edges to greater units
 pub edges_are_greater : (g : Graph) (u : ℕ) → IsGraph g → greater u (slice_index_or g.neighbours u []) ≡ edges_from g u
 edges_are_greater g u sound =
     let row = slice_index_or g.neighbours u [] in

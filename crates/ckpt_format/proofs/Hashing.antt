@@ -1,4 +1,4 @@
--- Bytes that a hasher takes in piece by piece.
+-- Hashing bytes piece by piece.
 use Rattle.std.proofs.Common.{◌≡◌, ℕ, ◌+◌, ◌<◌, true, List, [], ◌∷◌, ◌++◌, length, get_or, take, sym, ap, subst, ◌∙◌, add-one, append_assoc, append-nil}
 use Rattle.std.specs.List.{flat_map}
 use Rattle.std.specs.Int.{w32, to_be_bytes}
@@ -11,21 +11,21 @@ use Rattle.audit_model.specs.Graph.{count_edges}
 use Rattle.audit_statement.specs.Checkpoint.{digest_name, job_bytes, edge_bytes, has_further_rules, has_rules, rule_bytes, unit_bytes}
 use Rattle.ckpt_format.specs.Hashed.{Hashes, ask_bytes, counts_bytes, setting_bytes}
 
--- nothing taken in
+-- nothing was hashed
 pub hashes_none : (a : Sha256) → Hashes a a []
 hashes_none a = record { taken = λ before held. subst (Holds256 a) (sym (append-nil before)) held }
 
--- the same bytes, written in another way
+-- the hashed bytes may be replaced by an equal list
 pub hashes_same : (a b : Sha256) (xs ys : List ℕ) → xs ≡ ys → Hashes a b xs → Hashes a b ys
 hashes_same a b xs ys same one = subst (Hashes a b) same one
 
--- one part taken in after the other
+-- one part is hashed after the other
 pub hashes_then : (a b c : Sha256) (xs ys : List ℕ) → Hashes a b xs → Hashes b c ys → Hashes a c (xs ++ ys)
 hashes_then a b c xs ys first second = record {
   taken = λ before held. subst (Holds256 c) (append_assoc before xs ys) (second.taken (before ++ xs) (first.taken before held));
 }
 
--- one more piece of each item of a list
+-- one more piece is hashed for each item of a list
 pub hashes_more : {X : Type 0} (f : X → List ℕ) (xs : List X) (i : ℕ) (d : X) (a b c : Sha256) → i < length xs
     → Hashes a b (flat_map f (take i xs)) → Hashes b c (f (get_or xs i d)) → Hashes a c (flat_map f (take (i + 1) xs))
 hashes_more f xs i d a b c l first second =
@@ -33,7 +33,7 @@ hashes_more f xs i d a b c l first second =
     flat_map_more f [] (take i xs) (get_or xs i d) ∙ ap (flat_map f) (sym (take_more xs i d l)) in
     hashes_same a c _ _ next (hashes_then a b c (flat_map f (take i xs)) (f (get_or xs i d)) first second)
 
--- one more piece of each number
+-- one more piece is hashed for each number
 pub hashes_next : (f : ℕ → List ℕ) (n : ℕ) (a b c : Sha256) → Hashes a b (flat_map f (map_below n (λ u. u))) → Hashes b c (f n)
     → Hashes a c (flat_map f (map_below (n + 1) (λ u. u)))
 hashes_next f n a b c first second =
@@ -42,12 +42,12 @@ hashes_next f n a b c first second =
     flat_map_more f [] (map_below n (λ u. u)) n ∙ ap (flat_map f) (sym numbers) in
     hashes_same a c _ _ next (hashes_then a b c (flat_map f (map_below n (λ u. u))) (f n) first second)
 
--- the parts of a job's digest, with those of the counts and of the setting together or each alone
+-- the parts of a job's digest, with those of the counts and of the setting grouped or one by one
 grouped : (f x y z e u s k w t n h q a r : List ℕ)
     → f ++ (x ++ y ++ z) ++ e ++ u ++ (s ++ k ++ w ++ t ++ n ++ h ++ q ++ a) ++ r ≡ f ++ x ++ y ++ z ++ e ++ u ++ s ++ k ++ w ++ t ++ n ++ h ++ q ++ a ++ r
 grouped f x y z e u s k w t n h q a r = simp append_assoc
 
--- a hasher that took in all parts
+-- a hasher that took in all parts gives the job's digest
 pub digest_of_parts : (job : Job) (start named counts edges units asked end : Sha256) → Holds256 start []
     → Hashes start named (digest_name (has_rules (rules job)) (has_further_rules (rules job)))
     → Hashes named counts (counts_bytes job.graph.units (count_edges job.graph (λ u v. true)) job.districts)

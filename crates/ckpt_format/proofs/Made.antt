@@ -1,4 +1,4 @@
--- What stands in a checkpoint, by what it was made of.
+-- The parts of a checkpoint, each at its place.
 use Rattle.std.proofs.Common.{◌≡◌, ℕ, zero, suc, ◌+◌, ◌-◌, ◌*◌, ◌^◌, ◌<◌, ◌≤◌, ◌⊎◌, false, List, ◌++◌, length, get_or, take, drop, map, codes, None, refl, sym, ap, subst, inl, inr, ◌∙◌, arith, append_assoc, length-append}
 use Rattle.std.specs.Prelude.{slice_range, nat_lt, nat_le}
 use Rattle.std.specs.List.{flat_map, AllByRecursion}
@@ -23,46 +23,46 @@ use Rattle.ckpt_format.proofs.Sizes.{each_sized, length-checkpoint, length-check
 use Rattle.ckpt_format.proofs.Whole.{id_in, rising_at}
 use Rattle.ckpt_format.proofs.Faulting.{none-from_IsFaultless}
 
--- ---- the parts, each with what stands before it
+-- ---- each part, split from those before and after it
 
--- the digest between what stands before and behind it
+-- the digest, split out
 digest_apart : (m v d g c o s : List ℕ) → m ++ v ++ d ++ g ++ c ++ o ++ s ≡ (m ++ v) ++ d ++ (g ++ c ++ o ++ s)
 digest_apart m v d g c o s = simp append_assoc
 
--- the version, so
+-- the version, split out
 version_apart : (m v d g c o s : List ℕ) → m ++ v ++ d ++ g ++ c ++ o ++ s ≡ m ++ (v ++ (d ++ g ++ c ++ o ++ s))
 version_apart m v d g c o s = simp append_assoc
 
--- the generation, so
+-- the generation, split out
 generation_apart : (m v d g c o s : List ℕ) → m ++ v ++ d ++ g ++ c ++ o ++ s ≡ (m ++ v ++ d) ++ (g ++ (c ++ o ++ s))
 generation_apart m v d g c o s = simp append_assoc
 
--- the number of outcomes, so
+-- the number of outcomes, split out
 count_apart : (m v d g c o s : List ℕ) → m ++ v ++ d ++ g ++ c ++ o ++ s ≡ (m ++ v ++ d ++ g) ++ (c ++ (o ++ s))
 count_apart m v d g c o s = simp append_assoc
 
--- the outcomes, so
+-- the outcomes, split out
 outcomes_apart : (m v d g c o s : List ℕ) → m ++ v ++ d ++ g ++ c ++ o ++ s ≡ (m ++ v ++ d ++ g ++ c) ++ (o ++ s)
 outcomes_apart m v d g c o s = simp append_assoc
 
--- the format's name, so
+-- the name of the format, split out
 magic_apart : (m v d g c o s : List ℕ) → m ++ v ++ d ++ g ++ c ++ o ++ s ≡ m ++ (v ++ d ++ g ++ c ++ o ++ s)
 magic_apart m v d g c o s = simp append_assoc
 
 -- ---- the outcomes
 
--- bins that are not written are 0
+-- a histogram that is not written is 0
 held_at : (version : ℕ) (outcomes : List Outcome) (k : ℕ) (d : Outcome) → HoldsBins version outcomes → k < length outcomes → AreHeld (has_bins version) (get_or outcomes k d).bins
 held_at version outcomes k d (inl two) l = subst (λ v. AreHeld (has_bins v) (get_or outcomes k d).bins) (sym two) tt
 held_at version outcomes k d (inr (one, each)) l =
     subst (λ v. AreHeld (has_bins v) (get_or outcomes k d).bins) (sym one) (All-from_recursion (λ o. o.bins ≡ no_bins) outcomes each k d l)
 
--- a version with which bins are held or left out fits four bytes
+-- a version that fits the outcomes fits four bytes
 version_below : (version : ℕ) (outcomes : List Outcome) → HoldsBins version outcomes → version < 2 ^ 32
 version_below version outcomes (inl two) = omega (arith, two)
 version_below version outcomes (inr (one, each)) = omega (arith, one)
 
--- the outcomes that were written are read again
+-- written outcomes are read back
 outcomes_reread : (bytes p q : List ℕ) (version : ℕ) (outcomes : List Outcome) → bytes ≡ p ++ (flat_map (outcome_bytes version) outcomes ++ q) → length p ≡ 52
     → stated_version bytes ≡ version → HoldsBins version outcomes → AllByRecursion IsOutcome outcomes → map_below (length outcomes) (outcome_in bytes) ≡ outcomes
 outcomes_reread bytes p q version outcomes is e states held each =
@@ -77,7 +77,7 @@ outcomes_reread bytes p q version outcomes is e states held each =
     ∙ ap (λ (ys : List ℕ). outcome_by with_bins ys at) (is ∙ apart.spelled)
     ∙ reread_outcome with_bins apart.front apart.back (get_or outcomes k d) at (All-from_recursion IsOutcome outcomes each k d inside) (held_at version outcomes k d held inside) apart.size)
 
--- ---- all that stands in a checkpoint
+-- ---- the whole checkpoint
 
 pub record IsMade (bytes : List ℕ) (version : ℕ) (digest : List ℕ) (generation : ℕ) (outcomes : List Outcome) : Type 0 where
   pub size : length bytes ≡ 84 + outcome_size version * length outcomes
@@ -133,7 +133,7 @@ IsMade-from_checkpoint bytes version digest generation outcomes is =
 
 -- ---- no fault
 
--- rising ids that are stated have no fault of order
+-- rising ids have no fault of order
 in_order : (bytes : List ℕ) (ids : List ℕ) (place : ℕ) → AreRising ids → length ids ≡ stated_count bytes → ((k : ℕ) → k < stated_count bytes → get_or ids k 0 ≡ stated_id bytes k)
     → place < stated_count bytes → is_unordered bytes place ≡ false
 in_order bytes ids zero rising many each l = refl
@@ -149,7 +149,7 @@ known : (stated version : ℕ) (outcomes : List Outcome) → stated ≡ version 
 known stated version outcomes is (inl two) = inr (is ∙ two)
 known stated version outcomes is (inr (one, each)) = inl (is ∙ one)
 
--- so a checkpoint has no fault
+-- a checkpoint has no fault
 pub none-from_checkpoint : (bytes : List ℕ) (version : ℕ) (digest : List ℕ) (generation : ℕ) (outcomes : List Outcome)
     → IsCheckpoint bytes version digest generation outcomes → checkpoint_fault bytes ≡ None
 none-from_checkpoint bytes version digest generation outcomes is =

@@ -1,4 +1,4 @@
--- Numbers and outcomes at places of some bytes.
+-- Numbers and outcomes at offsets of some bytes.
 use Rattle.std.proofs.Common.{◌≡◌, ℕ, ℤ, ◌+◌, ◌*◌, ◌<◌, ◌≤◌, ◌^◌, Bool, true, false, List, [], ◌∷◌, ◌++◌, length, get_or, refl, sym, ap, subst, ◌∙◌, arith, add-one, append_assoc, append-nil, length-append, lit≤, take, drop, ◌-◌}
 use Rattle.std.specs.Prelude.{slice_range, FitsSigned, ⊤}
 use Rattle.std.specs.List.{flat_map, AllByRecursion}
@@ -19,7 +19,7 @@ use Rattle.ckpt_format.proofs.Cutting.{AreBytes, join-parts, length-part, part-b
 use Rattle.ckpt_format.proofs.Pieces.{piece_apart, pieces_joined}
 use Rattle.ckpt_format.proofs.Sizes.{few_bytes, length-even_pieces}
 
--- the outcome whose bytes begin at a place, by whether its bins are written
+-- the outcome at an offset, with or without a histogram
 abbrev pub outcome_by : Bool → List ℕ → ℕ → Outcome
 outcome_by with_bins bytes at = record {
   id = number_at w32 at bytes;
@@ -30,7 +30,7 @@ outcome_by with_bins bytes at = record {
   bins = bins_at with_bins bytes (at + 44);
 }
 
--- ---- bytes, read and written again
+-- ---- bytes that are read and written again
 
 -- four bytes are a number below 2 ^ 32
 number_below_32 : (bs : List ℕ) → AreBytes bs → from_be_bytes w32 bs < 2 ^ 32
@@ -40,33 +40,33 @@ number_below_32 bs each = omega (arith, each 0, each 1, each 2, each 3)
 number_below_64 : (bs : List ℕ) → AreBytes bs → from_be_bytes w64 bs < 2 ^ 64
 number_below_64 bs each = omega (arith, each 0, each 1, each 2, each 3, each 4, each 5, each 6, each 7)
 
--- so are four bytes at a place
+-- four bytes at an offset are a number below 2 ^ 32
 pub number_at-below_32 : (bytes : List ℕ) (at : ℕ) → AreBytes bytes → number_at w32 at bytes < 2 ^ 32
 number_at-below_32 bytes at each = number_below_32 (slice_range bytes at (at + 4)) (part-bytes bytes at (at + 4) each)
 
--- and eight
+-- eight bytes at an offset are a number below 2 ^ 64
 pub number_at-below_64 : (bytes : List ℕ) (at : ℕ) → AreBytes bytes → number_at w64 at bytes < 2 ^ 64
 number_at-below_64 bytes at each = number_below_64 (slice_range bytes at (at + 8)) (part-bytes bytes at (at + 8) each)
 
--- the number at a place, written again, is its four bytes
+-- a number read from four bytes is written as the same bytes
 pub rewritten_32 : (bytes : List ℕ) (a b : ℕ) → AreBytes bytes → a + 4 ≡ b → b ≤ length bytes → to_be_bytes w32 (number_at w32 a bytes) ≡ slice_range bytes a b
 rewritten_32 bytes a b each e l =
     let four : length (slice_range bytes a (a + 4)) ≡ 4 = length-part bytes a (a + 4) (omega arith) (omega arith) ∙ omega arith in
     be_bytes_4 (slice_range bytes a (a + 4)) (number_at w32 a bytes) four (part-bytes bytes a (a + 4) each) refl ∙ ap (slice_range bytes a) e
 
--- or its eight
+-- a number read from eight bytes is written as the same bytes
 pub rewritten_64 : (bytes : List ℕ) (a b : ℕ) → AreBytes bytes → a + 8 ≡ b → b ≤ length bytes → to_be_bytes w64 (number_at w64 a bytes) ≡ slice_range bytes a b
 rewritten_64 bytes a b each e l =
     let eight : length (slice_range bytes a (a + 8)) ≡ 8 = length-part bytes a (a + 8) (omega arith) (omega arith) ∙ omega arith in
     be_bytes_8 (slice_range bytes a (a + 8)) (number_at w64 a bytes) eight (part-bytes bytes a (a + 8) each) refl ∙ ap (slice_range bytes a) e
 
--- a number that may be negative
+-- a signed number read from eight bytes is written as the same bytes
 rewritten_signed : (bytes : List ℕ) (a b : ℕ) → AreBytes bytes → a + 8 ≡ b → b ≤ length bytes
     → to_be_bytes w64 (cast_unsigned w64 (cast_signed w64 (number_at w64 a bytes))) ≡ slice_range bytes a b
 rewritten_signed bytes a b each e l =
     ap (to_be_bytes w64) (of_z-to_z w64 (number_at w64 a bytes) (number_at-below_64 bytes a each)) ∙ rewritten_64 bytes a b each e l
 
--- four parts in a row
+-- four slices in a row join
 join_four : (xs : List ℕ) (a b c d e : ℕ) → a ≤ b → b ≤ c → c ≤ d → d ≤ e → e ≤ length xs
     → slice_range xs a b ++ (slice_range xs b c ++ (slice_range xs c d ++ (slice_range xs d e ++ []))) ≡ slice_range xs a e
 join_four xs a b c d e ab bc cd de l =
@@ -80,7 +80,7 @@ values_of_four : (f : ℤ → List ℕ) (v w x y : ℤ) (a b c d : List ℕ) →
     → flat_map f (v ∷ w ∷ x ∷ y ∷ []) ≡ a ++ (b ++ (c ++ (d ++ [])))
 values_of_four f v w x y a b c d p q r s = rw (p, q, r, s)
 
--- bins
+-- a histogram that is read is written as the same bytes
 rewritten_bins : (with_bins : Bool) (bytes : List ℕ) (a b : ℕ) → AreBytes bytes → a + 44 ≡ b → a + size_by with_bins ≤ length bytes
     → bin_bytes with_bins (bins_at with_bins bytes b) ≡ slice_range bytes b (a + size_by with_bins)
 rewritten_bins true bytes a b each e l =
@@ -90,7 +90,7 @@ rewritten_bins true bytes a b each e l =
     joined ∙ ap (slice_range bytes b) (omega arith)
 rewritten_bins false bytes a b each e l = let none : 0 ≡ a + 44 - b = omega arith in ap (λ m. take m (drop b bytes)) none
 
--- an outcome without its bins
+-- an outcome without its histogram is written as the same bytes
 rewritten_bare : (bytes : List ℕ) (a b : ℕ) → AreBytes bytes → a + 44 ≡ b → b ≤ length bytes
     → (let o = outcome_by false bytes a in to_be_bytes w32 o.id ++ to_be_bytes w64 o.moved ++ flat_map (λ v. to_be_bytes w64 (cast_unsigned w64 v)) o.values) ≡ slice_range bytes a b
 rewritten_bare bytes a b each e l =
@@ -110,7 +110,7 @@ rewritten_bare bytes a b each e l =
     joined : (x y z p q r : List ℕ) → x ≡ p → y ≡ q → z ≡ r → x ++ y ++ z ≡ p ++ q ++ r
     joined x y z p q r i m v = rw (i, m, v)
 
--- an outcome
+-- an outcome that is read is written as the same bytes
 pub rewritten_outcome : (with_bins : Bool) (bytes : List ℕ) (a b : ℕ) → AreBytes bytes → a + size_by with_bins ≡ b → b ≤ length bytes
     → bytes_by with_bins (outcome_by with_bins bytes a) ≡ slice_range bytes a b
 rewritten_outcome with_bins bytes a b each e l =
@@ -122,7 +122,7 @@ rewritten_outcome with_bins bytes a b each e l =
     ∙ join-parts bytes a (a + 44) (a + size_by with_bins) (omega arith) (omega (arith, few.0)) (omega arith)
     ∙ ap (slice_range bytes a) e
 
--- what its fields hold
+-- an outcome that is read has fields within their bounds
 pub outcome_by-IsOutcome : (with_bins : Bool) (bytes : List ℕ) (a : ℕ) → AreBytes bytes → IsOutcome (outcome_by with_bins bytes a)
 outcome_by-IsOutcome with_bins bytes a each = record {
   id = number_at-below_32 bytes a each;
@@ -148,15 +148,15 @@ outcome_by-IsOutcome with_bins bytes a each = record {
         recursion_from_All (λ n. n < 2 ^ 32) (map_below 9 number) (All-from_get_or (λ n. n < 2 ^ 32) (map_below 9 number) 0 each_below)
     below false = (lit≤ tt, (lit≤ tt, (lit≤ tt, (lit≤ tt, (lit≤ tt, (lit≤ tt, (lit≤ tt, (lit≤ tt, (lit≤ tt, tt)))))))))
 
--- ---- numbers, written and read again
+-- ---- numbers that are written and read again
 
--- a number that was written in four bytes is read again
+-- a number written as four bytes is read back
 pub reread_32 : (p q : List ℕ) (n a : ℕ) → n < 2 ^ 32 → length p ≡ a → number_at w32 a (p ++ (to_be_bytes w32 n ++ q)) ≡ n
 reread_32 p q n a l e =
     ap (number_at w32 a) (sym (append_assoc p (to_be_bytes w32 n) q))
     ∙ ap (from_be_bytes w32) (part-mid p (to_be_bytes w32 n) q a (a + 4) e refl) ∙ from_be_bytes-to_be_bytes_4 n l
 
--- or in eight
+-- a number written as eight bytes is read back
 pub reread_64 : (p q : List ℕ) (n a : ℕ) → n < 2 ^ 64 → length p ≡ a → number_at w64 a (p ++ (to_be_bytes w64 n ++ q)) ≡ n
 reread_64 p q n a l e =
     ap (number_at w64 a) (sym (append_assoc p (to_be_bytes w64 n) q))
@@ -168,29 +168,29 @@ spelled v = to_be_bytes w64 (cast_unsigned w64 v)
 abbrev value_at : ℕ → List ℕ → ℤ
 value_at a bytes = cast_signed w64 (number_at w64 a bytes)
 
--- so is a value, which may be negative
+-- a signed value is read back
 reread_value : (p q : List ℕ) (v : ℤ) (a : ℕ) → FitsSigned w64 v → length p ≡ a → value_at a (p ++ (spelled v ++ q)) ≡ v
 reread_value p q v a fits e =
     let small = (Fits-of_z {w = w64} {z = v} fits).fits in
     ap (cast_signed w64) (reread_64 p q (cast_unsigned w64 v) a small e) ∙ to_z-of_z w64 v fits
 
--- where each of four lists begins
+-- the second of four values, split from those around it
 second_of : (p v w x y q : List ℕ) → p ++ ((v ++ (w ++ (x ++ (y ++ [])))) ++ q) ≡ (p ++ v) ++ (w ++ (x ++ (y ++ q)))
 second_of p v w x y q = simp append_assoc
 
--- the third of four values between others
+-- the third of four values, split from those around it
 third_of : (p v w x y q : List ℕ) → p ++ ((v ++ (w ++ (x ++ (y ++ [])))) ++ q) ≡ (p ++ v ++ w) ++ (x ++ (y ++ q))
 third_of p v w x y q = simp append_assoc
 
--- the fourth
+-- the fourth of four values, split from those around it
 fourth_of : (p v w x y q : List ℕ) → p ++ ((v ++ (w ++ (x ++ (y ++ [])))) ++ q) ≡ (p ++ v ++ w ++ x) ++ (y ++ q)
 fourth_of p v w x y q = simp append_assoc
 
--- the first
+-- the first of four values, split from those around it
 first_of : (p v w x y q : List ℕ) → p ++ ((v ++ (w ++ (x ++ (y ++ [])))) ++ q) ≡ p ++ (v ++ (w ++ (x ++ (y ++ q))))
 first_of p v w x y q = simp append_assoc
 
--- four values
+-- four values are read back
 reread_values : (p q : List ℕ) (vs : List ℤ) (a b c d : ℕ) → length vs ≡ 4 → AllByRecursion (FitsSigned w64) vs → length p ≡ a → a + 8 ≡ b → b + 8 ≡ c → c + 8 ≡ d
     → value_at a (p ++ (flat_map spelled vs ++ q)) ∷ value_at b (p ++ (flat_map spelled vs ++ q)) ∷ value_at c (p ++ (flat_map spelled vs ++ q)) ∷ value_at d (p ++ (flat_map spelled vs ++ q)) ∷ [] ≡ vs
 reread_values p q [] a b c d four fits e f g h = absurd (omega arith)
@@ -214,7 +214,7 @@ reread_values p q (v ∷ w ∷ x ∷ y ∷ []) a b c d four fits e f g h =
     four_same : (a b c d v w x y : ℤ) → a ≡ v → b ≡ w → c ≡ x → d ≡ y → a ∷ b ∷ c ∷ d ∷ [] ≡ v ∷ w ∷ x ∷ y ∷ []
     four_same a b c d v w x y i j k l = rw (i, j, k, l)
 
--- numbers
+-- a list of numbers is read back
 reread_numbers : (p q ns : List ℕ) (a : ℕ) → AllByRecursion (λ n. n < 2 ^ 32) ns → length p ≡ a
     → map_below (length ns) (λ k. number_at w32 (a + 4 * k) (p ++ (flat_map (to_be_bytes w32) ns ++ q))) ≡ ns
 reread_numbers p q ns a each e =
@@ -231,40 +231,40 @@ reread_numbers p q ns a each e =
     all_four [] = tt
     all_four (n ∷ ns) = (refl, all_four ns)
 
--- bins that are not written are 0
+-- a histogram that is not written is 0
 abbrev pub AreHeld : Bool → List ℕ → Type 0
 AreHeld true bins = ⊤
 AreHeld false bins = bins ≡ no_bins
 
--- the bins that were written are read again, and are 0 where none were
+-- a written histogram is read back, and one that is not written is 0
 reread_bins : (with_bins : Bool) (p q bins : List ℕ) (a : ℕ) → length bins ≡ 9 → AllByRecursion (λ n. n < 2 ^ 32) bins → AreHeld with_bins bins → length p ≡ a
     → bins_at with_bins (p ++ (bin_bytes with_bins bins ++ q)) a ≡ bins
 reread_bins true p q bins a nine each held e =
     ap (λ n. map_below n (λ k. number_at w32 (a + 4 * k) (p ++ (flat_map (to_be_bytes w32) bins ++ q)))) (sym nine) ∙ reread_numbers p q bins a each e
 reread_bins false p q bins a nine each held e = sym held
 
--- an outcome
+-- the id of an outcome, split from the rest
 outcome_apart : (p i m v b q : List ℕ) → p ++ (i ++ m ++ v ++ b ++ q) ≡ p ++ (i ++ (m ++ (v ++ (b ++ q))))
 outcome_apart p i m v b q = simp append_assoc
 
--- the moves of an outcome between what stands before and behind them
+-- the moves of an outcome, split from the rest
 moved_apart : (p i m v b q : List ℕ) → p ++ (i ++ m ++ v ++ b ++ q) ≡ (p ++ i) ++ (m ++ (v ++ (b ++ q)))
 moved_apart p i m v b q = simp append_assoc
 
--- the values, so
+-- the values of an outcome, split from the rest
 values_apart : (p i m v b q : List ℕ) → p ++ (i ++ m ++ v ++ b ++ q) ≡ (p ++ i ++ m) ++ (v ++ (b ++ q))
 values_apart p i m v b q = simp append_assoc
 
--- the bins, so
+-- the histogram of an outcome, split from the rest
 bins_apart : (p i m v b q : List ℕ) → p ++ (i ++ m ++ v ++ b ++ q) ≡ (p ++ i ++ m ++ v) ++ (b ++ q)
 bins_apart p i m v b q = simp append_assoc
 
--- outcomes with the same parts are the same
+-- outcomes with equal parts are equal
 same_outcome : (i j m n : ℕ) (v w : List ℤ) (b c : List ℕ) → i ≡ j → m ≡ n → v ≡ w → b ≡ c
     → let left : Outcome = record { id = i; moved = m; values = v; bins = b } in let right : Outcome = record { id = j; moved = n; values = w; bins = c } in left ≡ right
 same_outcome i j m n v w b c e f g h = rw (e, f, g, h)
 
--- an outcome that was written is read again
+-- a written outcome is read back
 pub reread_outcome : (with_bins : Bool) (p q : List ℕ) (o : Outcome) (a : ℕ) → IsOutcome o → AreHeld with_bins o.bins → length p ≡ a
     → outcome_by with_bins (p ++ (bytes_by with_bins o ++ q)) a ≡ o
 reread_outcome with_bins p q o a is held e =

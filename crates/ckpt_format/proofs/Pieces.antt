@@ -1,4 +1,4 @@
--- Pieces of one length, one after another in a list.
+-- Pieces of equal length, one after another in a list.
 use Rattle.std.proofs.Common.{◌≡◌, ℕ, zero, suc, ◌+◌, ◌-◌, ◌*◌, ◌<◌, ◌≤◌, List, [], ◌∷◌, ◌++◌, length, get_or, take, drop, ap, ◌∙◌, arith, append_assoc, append-nil, length-append}
 use Rattle.std.specs.Prelude.{slice_range}
 use Rattle.std.specs.List.{flat_map, AllByRecursion}
@@ -6,7 +6,7 @@ use Rattle.std.proofs.lemmas.List.Concat.{flat_map-append}
 use Rattle.audit_model.specs.Below.{map_below}
 use Rattle.ckpt_format.proofs.Cutting.{join-parts}
 
--- a part of the list that is cut into pieces, put together again
+-- cutting a slice into pieces and joining them gives the slice
 pub pieces_joined : {X : Type 0} (f : X → List ℕ) (x : ℕ → X) (n a count : ℕ) (bytes : List ℕ)
     → ((k : ℕ) → k < count → f (x k) ≡ slice_range bytes (a + n * k) (a + n * suc k)) → a + n * count ≤ length bytes
     → flat_map f (map_below count x) ≡ slice_range bytes a (a + n * count)
@@ -19,14 +19,14 @@ pieces_joined f x n a (suc c) bytes each l =
     ∙ ap (λ (ys : List ℕ). ys ++ slice_range bytes (a + n * c) (a + n * suc c)) before
     ∙ join-parts bytes a (a + n * c) (a + n * suc c) (omega arith) (omega arith) l
 
--- a piece begins at a place, between all that stands before it and all behind it
+-- a piece at an offset, between the bytes before it and after it
 pub record IsApart (bytes : List ℕ) (at : ℕ) (piece : List ℕ) : Type 0 where
   pub front : List ℕ
   pub back : List ℕ
   pub spelled : bytes ≡ front ++ (piece ++ back)
   pub size : length front ≡ at
 
--- one of several pieces of one length between what stands before and behind it
+-- one of several pieces of equal length, between the bytes before it and after it
 pub piece_apart : {X : Type 0} (f : X → List ℕ) (n : ℕ) (p q : List ℕ) (xs : List X) (a k : ℕ) (d : X)
     → AllByRecursion (λ x. length (f x) ≡ n) xs → length p ≡ a → k < length xs
     → IsApart (p ++ (flat_map f xs ++ q)) (a + n * k) (f (get_or xs k d))

@@ -1,4 +1,4 @@
--- How many bytes the parts of a checkpoint have.
+-- The numbers of bytes of a checkpoint's parts.
 use Rattle.std.proofs.Common.{◌≡◌, ℕ, ◌+◌, ◌*◌, ◌<◌, ◌≤◌, Bool, true, false, List, [], ◌∷◌, ◌++◌, length, take, ap, refl, arith, length-append, ◌∙◌}
 use Rattle.std.proofs.lemmas.List.{length-take-le}
 use Rattle.std.proofs.Math.Nat.{mul-le-mul_left, mul-add}
@@ -11,7 +11,7 @@ use Rattle.audit_model.specs.declared.outcome.Outcome.{Outcome}
 use Rattle.audit_statement.specs.Checkpoint.{IsOutcome, bin_bytes, checkpoint, checkpoint_body, has_bins, outcome_bytes, outcome_size}
 use Rattle.ckpt_format.specs.Written.{AppendsBytes, bytes_by, head_bytes, size_by}
 
--- pieces of one length
+-- the length of joined pieces of equal length
 pub length-pieces : {X : Type 0} (f : X → List ℕ) (n : ℕ) (xs : List X) → AllByRecursion (λ x. length (f x) ≡ n) xs → length (flat_map f xs) ≡ n * length xs
 length-pieces f n [] each = omega arith
 length-pieces f n (x ∷ xs) each =
@@ -19,7 +19,7 @@ length-pieces f n (x ∷ xs) each =
     let one : length (f x) ≡ n = each.0 in
     omega (arith, rest, one, length-append (f x) (flat_map f xs))
 
--- pieces that all have one length
+-- the length of joined pieces whose length does not depend on the item
 pub length-even_pieces : {X : Type 0} (f : X → List ℕ) (n : ℕ) (xs : List X) → ((x : X) → length (f x) ≡ n) → length (flat_map f xs) ≡ n * length xs
 length-even_pieces f n [] each = omega arith
 length-even_pieces f n (x ∷ xs) each =
@@ -27,7 +27,7 @@ length-even_pieces f n (x ∷ xs) each =
     let one : length (f x) ≡ n = each x in
     omega (arith, rest, one, length-append (f x) (flat_map f xs))
 
--- the room that is left for the rest of the pieces
+-- the capacity left for the rest of the pieces
 pub room_for_next : {X : Type 0} (f : X → List ℕ) (n : ℕ) (xs : List X) (i : ℕ) (a b : RoomyBytes) → i < length xs
     → length (flat_map f (take i xs)) ≡ n * length (take i xs) → n * length xs ≤ a.spare → AppendsBytes a b (flat_map f (take i xs)) → n ≤ b.spare
 room_for_next f n xs i a b l even room done =
@@ -36,7 +36,7 @@ room_for_next f n xs i a b l even room done =
     let next : n * (i + 1) ≤ n * length xs = mul-le-mul_left n (omega arith) in
     omega (arith, used, next, mul-add n i 1, done.spare)
 
--- an outcome without its bins, and its bins
+-- the length of an outcome without its histogram
 pub length-bare_bytes : (o : Outcome) → length o.values ≡ 4
     → length (to_be_bytes w32 o.id ++ to_be_bytes w64 o.moved ++ flat_map (λ v. to_be_bytes w64 (cast_unsigned w64 v)) o.values) ≡ 44
 length-bare_bytes o four =
@@ -44,39 +44,39 @@ length-bare_bytes o four =
     let head : length (to_be_bytes w32 o.id ++ to_be_bytes w64 o.moved) ≡ 12 = refl in
     omega (arith, four, values, head, length-append (to_be_bytes w32 o.id ++ to_be_bytes w64 o.moved) (flat_map (λ v. to_be_bytes w64 (cast_unsigned w64 v)) o.values))
 
--- how many bytes an outcome has with its bins and without
+-- the length of a histogram, with the rest of an outcome
 length-bin_bytes : (with_bins : Bool) (bins : List ℕ) → length bins ≡ 9 → 44 + length (bin_bytes with_bins bins) ≡ size_by with_bins
 length-bin_bytes true bins nine = let numbers = length-even_pieces (to_be_bytes w32) 4 bins (λ n. refl) in omega (arith, nine, numbers)
 length-bin_bytes false bins nine = refl
 
--- an outcome of four values and nine bins
+-- the length of an outcome of four values and nine histogram counts
 pub length-bytes_of : (with_bins : Bool) (o : Outcome) → length o.values ≡ 4 → length o.bins ≡ 9 → length (bytes_by with_bins o) ≡ size_by with_bins
 length-bytes_of with_bins o four nine =
     let bare = length-bare_bytes o four in
     let bins = length-bin_bytes with_bins o.bins nine in
     omega (arith, bare, bins, length-append (to_be_bytes w32 o.id ++ to_be_bytes w64 o.moved ++ flat_map (λ v. to_be_bytes w64 (cast_unsigned w64 v)) o.values) (bin_bytes with_bins o.bins))
 
--- an outcome
+-- the length of an outcome
 pub length-bytes_by : (with_bins : Bool) (o : Outcome) → IsOutcome o → length (bytes_by with_bins o) ≡ size_by with_bins
 length-bytes_by with_bins o is = length-bytes_of with_bins o is.four is.nine
 
--- from 44 to 80 bytes
+-- an outcome has 44 to 80 bytes
 pub few_bytes : (with_bins : Bool) → (44 ≤ size_by with_bins) × (size_by with_bins ≤ 80)
 few_bytes true = (omega arith, omega arith)
 few_bytes false = (omega arith, omega arith)
 
--- each of some outcomes
+-- the lengths of several outcomes
 pub each_sized : (with_bins : Bool) (outcomes : List Outcome) → AllByRecursion IsOutcome outcomes → AllByRecursion (λ o. length (bytes_by with_bins o) ≡ size_by with_bins) outcomes
 each_sized with_bins [] each = tt
 each_sized with_bins (o ∷ os) each = (length-bytes_by with_bins o each.0, each_sized with_bins os each.1)
 
--- outcomes
+-- the length of all outcomes
 pub length-outcomes : (version : ℕ) (outcomes : List Outcome) → AllByRecursion IsOutcome outcomes
     → length (flat_map (outcome_bytes version) outcomes) ≡ outcome_size version * length outcomes
 length-outcomes version outcomes each =
     length-pieces (outcome_bytes version) (outcome_size version) outcomes (each_sized (has_bins version) outcomes each)
 
--- what stands before the outcomes
+-- the length of the head
 pub length-head_bytes : (version : ℕ) (digest : List ℕ) (generation count : ℕ) → length digest ≡ 32 → length (head_bytes version digest generation count) ≡ 52
 length-head_bytes version digest generation count wide =
     let first : length (digest ++ to_be_bytes w32 generation) ≡ 36 = length-append digest (to_be_bytes w32 generation) ∙ ap (λ n. n + 4) wide in
@@ -84,14 +84,14 @@ length-head_bytes version digest generation count wide =
     length-append (digest ++ to_be_bytes w32 generation) (to_be_bytes w32 count) ∙ ap (λ n. n + 4) first in
     omega (arith, both)
 
--- a checkpoint
+-- the length of a checkpoint without its digest
 pub length-checkpoint_body : (version : ℕ) (digest : List ℕ) (generation : ℕ) (outcomes : List Outcome) → length digest ≡ 32 → AllByRecursion IsOutcome outcomes
     → length (checkpoint_body version digest generation outcomes) ≡ 52 + outcome_size version * length outcomes
 length-checkpoint_body version digest generation outcomes wide each =
     let whole = length-append (head_bytes version digest generation (length outcomes)) (flat_map (outcome_bytes version) outcomes) in
     omega (arith, whole, length-head_bytes version digest generation (length outcomes) wide, length-outcomes version outcomes each)
 
--- how many bytes a checkpoint has
+-- the length of a checkpoint
 pub length-checkpoint : (version : ℕ) (digest : List ℕ) (generation : ℕ) (outcomes : List Outcome) → length digest ≡ 32 → AllByRecursion IsOutcome outcomes
     → length (checkpoint version digest generation outcomes) ≡ 84 + outcome_size version * length outcomes
 unfolding checkpoint

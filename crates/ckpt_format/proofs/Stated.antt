@@ -16,7 +16,7 @@ use Rattle.ckpt_format.proofs.Made.{IsMade-from_checkpoint, none-from_checkpoint
 use Rattle.ckpt_format.proofs.Sizes.{few_bytes}
 use Rattle.ckpt_format.proofs.Whole.{read_as_checkpoint, rising_from_places}
 
--- numbers that are each below 256 are bytes
+-- numbers each below 256 are bytes
 AreBytes-from_All : (bytes : List ℕ) → All (λ b. b < 256) bytes → AreBytes bytes
 AreBytes-from_All bytes each k = elim (cases_lt k (length bytes)) [
   | inl l ↦ each k 0 l
@@ -32,11 +32,11 @@ faultless_are_checkpoints bytes each = (
   λ some. none-from_checkpoint bytes some.0 some.1 some.2 some.3 some.4,
 )
 
--- the law on what stands at the places
+-- the law on the parts at their places
 pub checkpoints_are_read : CheckpointsAreRead
 checkpoints_are_read bytes version digest generation outcomes is = (IsMade-from_checkpoint bytes version digest generation outcomes is).stands
 
--- two checkpoints of the same bytes have the same parts, since both are read from them
+-- two checkpoints of equal bytes have equal parts, since both are read from the bytes
 pub checkpoints_are_determined : CheckpointsAreDetermined
 checkpoints_are_determined bytes version version' digest digest' generation generation' outcomes outcomes' is is' =
     let stands = checkpoints_are_read bytes version digest generation outcomes is in
@@ -51,7 +51,7 @@ checkpoints_have_length bytes version digest generation outcomes is =
     let most : outcome_size version * length outcomes ≤ outcome_size version * 100000 = mul-le-mul_left (outcome_size version) is.few in
     (size, omega (arith, few.1, most))
 
--- the law on ids of which each is below all later ones
+-- the law on ids each below all later ones
 pub rising_pairs_rise : RisingPairsRise
 rising_pairs_rise outcomes pairs =
     let id = λ (o : Outcome). o.id in

@@ -1,4 +1,4 @@
--- Bytes without a fault are a checkpoint, and a checkpoint gives back what was written.
+-- Bytes without a fault are a checkpoint, and decoding it returns the encoded parts.
 use Rattle.std.proofs.Common.{◌≡◌, ℕ, zero, suc, ◌+◌, ◌-◌, ◌*◌, ◌<◌, ◌≤◌, ◌⊎◌, false, List, [], ◌∷◌, ◌++◌, length, get_or, take, drop, map, codes, None, refl, sym, ap, subst, inl, inr, ◌∙◌, arith}
 use Rattle.std.specs.Prelude.{slice_range, nat_lt, nat_le}
 use Rattle.std.specs.List.{flat_map, AllByRecursion}
@@ -23,24 +23,24 @@ use Rattle.ckpt_format.proofs.Faulting.{HasHead}
 use Rattle.ckpt_format.proofs.Numbers.{outcome_by-IsOutcome, rewritten_32, rewritten_outcome}
 use Rattle.ckpt_format.proofs.Pieces.{pieces_joined}
 
--- ---- ids that rise
+-- ---- rising ids
 
--- ids rise where each is below the one behind it
+-- ids rise if each is below the next
 pub rising_from_places : (ids : List ℕ) → ((k : ℕ) → suc k < length ids → get_or ids k 0 < get_or ids (suc k) 0) → AreRising ids
 rising_from_places [] each = tt
 rising_from_places (x ∷ []) each = tt
 rising_from_places (x ∷ y ∷ rest) each = (each 0 (omega arith), rising_from_places (y ∷ rest) (λ k l. each (suc k) (omega arith)))
 
--- and where they rise, each is
+-- in rising ids each is below the next
 pub rising_at : (ids : List ℕ) (k : ℕ) → AreRising ids → suc k < length ids → get_or ids k 0 < get_or ids (suc k) 0
 rising_at [] k rising l = absurd (omega arith)
 rising_at (x ∷ []) k rising l = absurd (omega arith)
 rising_at (x ∷ y ∷ rest) zero rising l = rising.0
 rising_at (x ∷ y ∷ rest) (suc k) rising l = rising_at (y ∷ rest) k rising.1 (omega arith)
 
--- ---- from bytes
+-- ---- checkpoints from bytes
 
--- the outcomes
+-- the outcomes that are read are written as the same bytes
 outcomes_rewritten : (bytes : List ℕ) (count : ℕ) → AreBytes bytes → outcome_start bytes count ≤ length bytes
     → flat_map (outcome_bytes (stated_version bytes)) (map_below count (outcome_in bytes)) ≡ slice_range bytes 52 (outcome_start bytes count)
 outcomes_rewritten bytes count each l =
@@ -50,7 +50,7 @@ outcomes_rewritten bytes count each l =
     let next : size * suc k ≤ size * count = mul-le-mul_left size m in
     rewritten_outcome (has_bins version) bytes (52 + size * k) (52 + size * suc k) each (omega arith) (omega (arith, next))) l
 
--- six parts in a row
+-- six slices in a row join
 join_six : (xs m v d g c o : List ℕ) (end : ℕ) → 52 ≤ end → end ≤ length xs → m ≡ slice_range xs 0 8 → v ≡ slice_range xs 8 12 → d ≡ slice_range xs 12 44
     → g ≡ slice_range xs 44 48 → c ≡ slice_range xs 48 52 → o ≡ slice_range xs 52 end → m ++ v ++ d ++ g ++ c ++ o ≡ take end xs
 join_six xs m v d g c o end low high em ev ed eg ec eo =
@@ -63,7 +63,7 @@ join_six xs m v d g c o end low high em ev ed eg ec eo =
     same_both : (a b c d : List ℕ) → a ≡ c → b ≡ d → a ++ b ≡ c ++ d
     same_both a b c d e f = rw (e, f)
 
--- all but the digest at the end
+-- the body, up to the digest at the end, is written as the same bytes
 body_rewritten : (bytes : List ℕ) → AreBytes bytes → HasHead bytes
     → checkpoint_body (stated_version bytes) (slice_range bytes 12 44) (number_at w32 44 bytes) (outcomes_in bytes) ≡ take (outcome_start bytes (stated_count bytes)) bytes
 body_rewritten bytes each head =
@@ -76,7 +76,7 @@ body_rewritten bytes each head =
     join_six bytes (codes "DISTCKPT") (to_be_bytes w32 (stated_version bytes)) (slice_range bytes 12 44) (to_be_bytes w32 (number_at w32 44 bytes)) (to_be_bytes w32 (length (outcomes_in bytes)))
     (flat_map (outcome_bytes (stated_version bytes)) (outcomes_in bytes)) (outcome_start bytes (stated_count bytes)) (omega arith) (omega arith) (sym head.magic) version refl generation counted outcomes
 
--- the bytes of a head that is right are those of a checkpoint of what they state
+-- bytes with a valid head and digest are the checkpoint of the parts they state
 rewritten : (bytes : List ℕ) → AreBytes bytes → HasHead bytes → drop (length bytes - 32) bytes ≡ sha256 (take (length bytes - 32) bytes)
     → bytes ≡ checkpoint (stated_version bytes) (slice_range bytes 12 44) (number_at w32 44 bytes) (outcomes_in bytes)
 unfolding checkpoint
@@ -97,7 +97,7 @@ id_in bytes k l =
     get_or-map id (outcomes_in bytes) k (outcome 0) 0 (omega (arith, length-map_below (stated_count bytes) outcome))
     ∙ ap id (get_or-map_below (stated_count bytes) outcome k (outcome 0) l)
 
--- the ids rise where no place is out of order
+-- the ids rise if no place is out of order
 ids_rise : (bytes : List ℕ) → first_below (stated_count bytes) (is_unordered bytes) ≡ None → AreRising (map (λ o. o.id) (outcomes_in bytes))
 ids_rise bytes none =
     let count = stated_count bytes in
@@ -119,7 +119,7 @@ ids_rise bytes none =
         ] in
         leb-false (stated_id bytes n) (stated_id bytes k) (subst (λ m. nat_le (stated_id bytes n) (stated_id bytes m) ≡ false) before later)
 
--- each outcome that is read is one
+-- each outcome that is read has fields within their bounds
 outcomes_in-IsOutcome : (bytes : List ℕ) → AreBytes bytes → AllByRecursion IsOutcome (outcomes_in bytes)
 outcomes_in-IsOutcome bytes each =
     let outcome = outcome_in bytes in
@@ -127,7 +127,7 @@ outcomes_in-IsOutcome bytes each =
     subst IsOutcome (sym (get_or-map_below (stated_count bytes) outcome k (outcome 0) (omega (arith, length-map_below (stated_count bytes) outcome))))
     (outcome_by-IsOutcome (has_bins (stated_version bytes)) bytes (outcome_start bytes k) each)))
 
--- in the first version no bins are read
+-- in the first version no histogram is read
 outcomes_in-bare : (bytes : List ℕ) → stated_version bytes ≡ 1 → AllByRecursion (λ o. o.bins ≡ no_bins) (outcomes_in bytes)
 outcomes_in-bare bytes one =
     let outcome = outcome_in bytes in
@@ -136,12 +136,12 @@ outcomes_in-bare bytes one =
     ap (λ (o : Outcome). o.bins) (get_or-map_below count outcome k (outcome 0) (omega (arith, length-map_below count outcome)))
     ∙ ap (λ v. bins_at (has_bins v) bytes (outcome_start bytes k + 44)) one))
 
--- what is read has bins in the second version, and none in the first
+-- the outcomes read have histograms in the second version and none in the first
 bins_held : (bytes : List ℕ) → (stated_version bytes ≡ 1) ⊎ (stated_version bytes ≡ 2) → HoldsBins (stated_version bytes) (outcomes_in bytes)
 bins_held bytes (inl one) = inr (one, outcomes_in-bare bytes one)
 bins_held bytes (inr two) = inl two
 
--- what is read of bytes without a fault
+-- bytes without a fault are the checkpoint of the parts read from them
 pub read_as_checkpoint : (bytes : List ℕ) → AreBytes bytes → HasHead bytes → first_below (stated_count bytes) (is_unordered bytes) ≡ None
     → drop (length bytes - 32) bytes ≡ sha256 (take (length bytes - 32) bytes)
     → IsCheckpoint bytes (stated_version bytes) (slice_range bytes 12 44) (number_at w32 44 bytes) (outcomes_in bytes)

@@ -1,4 +1,4 @@
--- A checkpoint that is written part by part.
+-- Writing a checkpoint part by part.
 use Rattle.std.proofs.Common.{◌≡◌, ℕ, true, List, [], ◌∷◌, ◌++◌, length, refl, ap, ap₂, ◌∙◌}
 use Rattle.std.specs.Prelude.{◌==◌, IsTrue, replicate}
 use Rattle.std.specs.List.{flat_map, list_all, AllByRecursion}
@@ -11,7 +11,7 @@ use Rattle.audit_model.specs.Trajectory.{no_bins}
 use Rattle.audit_statement.specs.Checkpoint.{IsOutcome, checkpoint, checkpoint_body, outcome_bytes}
 use Rattle.ckpt_format.specs.Written.{AppendsBytes, head_bytes}
 
--- head, outcomes and digest, appended in turn, are the checkpoint
+-- head, outcomes and digest, appended in turn, make the checkpoint
 pub written : (start a b c : RoomyBytes) (version : ℕ) (digest : List ℕ) (generation : ℕ) (outcomes : List Outcome) → start.items ≡ []
     → AppendsBytes start a (head_bytes version digest generation (length outcomes)) → AppendsBytes a b (flat_map (outcome_bytes version) outcomes)
     → AppendsBytes b c (sha256 b.items) → c.items ≡ checkpoint version digest generation outcomes
@@ -23,14 +23,14 @@ written start a b c version digest generation outcomes empty head rest last =
     rest.items ∙ ap (λ (xs : List ℕ). xs ++ flat_map (outcome_bytes version) outcomes) front in
     last.items ∙ ap (λ (xs : List ℕ). xs ++ sha256 xs) body
 
--- numbers of which each is 0
+-- a list in which each number is 0
 zeros : (ns : List ℕ) → list_all (λ n. n == 0) ns ≡ true → ns ≡ replicate (length ns) 0
 zeros [] all = refl
 zeros (n ∷ ns) all =
     let parts = and_parts (n == 0) (list_all (λ n. n == 0) ns) all in
     ap₂ (λ m ms. m ∷ ms) (eqb-true n 0 parts.0) (zeros ns parts.1)
 
--- outcomes whose bins are all 0
+-- outcomes whose histograms are all 0
 pub all_bare : (outcomes : List Outcome) → AllByRecursion IsOutcome outcomes → IsTrue (list_all is_bare outcomes) → AllByRecursion (λ o. o.bins ≡ no_bins) outcomes
 all_bare [] each bare = tt
 all_bare (o ∷ os) each bare =

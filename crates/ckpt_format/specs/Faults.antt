@@ -1,4 +1,4 @@
--- The reasons why bytes are no checkpoint, each alone.
+-- The faults of bytes that are no checkpoint, one definition each.
 use Rattle.std.specs.Prelude.{ℕ, ◌+◌, ◌-◌, ◌*◌, ◌==◌, ◌&&◌, ◌||◌, Bool, not, cond, nat_lt, nat_le, List, [], ◌∷◌, length, take, drop, codes, bytes_eq, Option, Some, None, option_map}
 use Rattle.std.specs.Int.{w32}
 use Rattle.sha2.specs.Sha256.{sha256}
@@ -23,7 +23,7 @@ generation_fault generation = cond (nat_lt 2 generation) (Some (BadGeneration ge
 abbrev pub outcome_count_fault : ℕ → ℕ → ℕ → Option CkptFault
 outcome_count_fault version count size = cond (nat_lt most_trajectories count || not (size == bare_length + outcome_size version * count)) (Some (BadCount count size)) None
 
--- the outcome at a place has an id that is not greater than the one before it
+-- the id of the outcome at a place is not above the one before it
 abbrev pub is_unordered : List ℕ → ℕ → Bool
 is_unordered bytes place = nat_lt 0 place && nat_le (stated_id bytes place) (stated_id bytes (place - 1))
 
@@ -36,7 +36,7 @@ mismatch found computed = cond (bytes_eq found computed) None (Some (BadDigest f
 abbrev pub digest_fault : List ℕ → Option CkptFault
 digest_fault bytes = mismatch (drop (length bytes - 32) bytes) (sha256 (take (length bytes - 32) bytes))
 
--- the first fault of what stands before the outcomes
+-- the first fault of the head, which stands before the outcomes
 abbrev pub head_fault : List ℕ → Option CkptFault
 head_fault bytes = first_some (
     magic_fault bytes

@@ -1,4 +1,4 @@
--- What holds of checkpoints, whoever wrote them.
+-- Laws of checkpoints, whoever wrote them.
 use Rattle.std.specs.Prelude.{◌≡◌, ℕ, ◌+◌, ◌*◌, ◌<◌, ◌≤◌, ◌↔◌, List, length, map, slice_range, None}
 use Rattle.std.specs.Int.{w32}
 use Rattle.std.specs.List.{All, AllPairs}
@@ -11,18 +11,18 @@ abbrev pub IsSomeCheckpoint : List ℕ → Type 0
 IsSomeCheckpoint bytes =
     (version : ℕ) × (digest : List ℕ) × (generation : ℕ) × (outcomes : List Outcome) × IsCheckpoint bytes version digest generation outcomes
 
--- bytes have no fault exactly where they are a checkpoint
+-- bytes have no fault exactly if they are a checkpoint
 abbrev pub FaultlessAreCheckpoints : Type 0
 FaultlessAreCheckpoints = (bytes : List ℕ) → All (λ b. b < 256) bytes → (checkpoint_fault bytes ≡ None) ↔ IsSomeCheckpoint bytes
 
--- what stands at the places of a checkpoint
+-- each part of a checkpoint, read at its place
 pub record StandsIn (bytes : List ℕ) (version : ℕ) (digest : List ℕ) (generation : ℕ) (outcomes : List Outcome) : Type 0 where
   pub version_at : stated_version bytes ≡ version
   pub digest_at : slice_range bytes digest_place generation_place ≡ digest
   pub generation_at : number_at w32 generation_place bytes ≡ generation
   pub outcomes_at : outcomes_in bytes ≡ outcomes
 
--- what a checkpoint was made of stands at its places
+-- each part of a checkpoint is read back at its place
 abbrev pub CheckpointsAreRead : Type 0
 CheckpointsAreRead = (bytes : List ℕ) (version : ℕ) (digest : List ℕ) (generation : ℕ) (outcomes : List Outcome)
     → IsCheckpoint bytes version digest generation outcomes → StandsIn bytes version digest generation outcomes
@@ -34,12 +34,12 @@ CheckpointsAreDetermined =
     → IsCheckpoint bytes version digest generation outcomes → IsCheckpoint bytes version' digest' generation' outcomes'
     → (version ≡ version') × (digest ≡ digest') × (generation ≡ generation') × (outcomes ≡ outcomes')
 
--- how many bytes a checkpoint has, and that they are within the limit
+-- the number of bytes of a checkpoint, which is within the limit
 abbrev pub CheckpointsHaveLength : Type 0
 CheckpointsHaveLength = (bytes : List ℕ) (version : ℕ) (digest : List ℕ) (generation : ℕ) (outcomes : List Outcome)
     → IsCheckpoint bytes version digest generation outcomes
     → (length bytes ≡ bare_length + outcome_size version * length outcomes) × (length bytes ≤ checkpoint_limit)
 
--- ids of which each is below all later ones rise
+-- ids each below all later ones rise
 abbrev pub RisingPairsRise : Type 0
 RisingPairsRise = (outcomes : List Outcome) → AllPairs (λ a b. a.id < b.id) outcomes → AreRising (map (λ o. o.id) outcomes)

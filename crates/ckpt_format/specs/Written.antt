@@ -1,21 +1,21 @@
--- What is written of a checkpoint, part by part.
+-- The bytes of a checkpoint, part by part.
 use Rattle.std.specs.Prelude.{◌≡◌, ℕ, ◌+◌, Bool, cond, List, ◌++◌, length, codes, flat_map}
 use Rattle.std.specs.Int.{w32, w64, to_be_bytes, cast_unsigned}
 use Rattle.audit_model.specs.Room.{RoomyBytes}
 use Rattle.audit_model.specs.declared.outcome.Outcome.{Outcome}
 use Rattle.audit_statement.specs.Checkpoint.{bin_bytes}
 
--- the bytes were appended, and took no more than the room that there was
+-- the bytes were appended within the capacity
 pub record AppendsBytes (old new : RoomyBytes) (bytes : List ℕ) : Type 0 where
   pub items : new.items ≡ old.items ++ bytes
   pub spare : new.spare + length bytes ≡ old.spare
 
--- what stands before the outcomes
+-- the head, which stands before the outcomes
 abbrev pub head_bytes : ℕ → List ℕ → ℕ → ℕ → List ℕ
 head_bytes version digest generation count =
     codes "DISTCKPT" ++ to_be_bytes w32 version ++ digest ++ to_be_bytes w32 generation ++ to_be_bytes w32 count
 
--- an outcome, by whether its bins are written, and how many bytes it has then
+-- the bytes of an outcome, and their number, with or without its histogram
 abbrev pub bytes_by : Bool → Outcome → List ℕ
 bytes_by with_bins o =
     to_be_bytes w32 o.id ++ to_be_bytes w64 o.moved ++ flat_map (λ v. to_be_bytes w64 (cast_unsigned w64 v)) o.values ++ bin_bytes with_bins o.bins

@@ -1,4 +1,4 @@
-//! The digest of a checkpoint that is begun before all of its outcomes are there.
+//! The digest of a checkpoint, started before all of its outcomes are there.
 
 ghost use Rattle.std.specs.Prelude.{◌≡◌};
 ghost use Rattle.sha2.specs.Hashers.{Holds256};
@@ -13,8 +13,8 @@ use sha2::{Digest, Sha256};
 use std::alloc::Global;
 use std::mem;
 
-/// What a checkpoint to come is thought to begin with, and a hasher that has taken it in. Where the checkpoint begins otherwise, it is hashed from
-/// its first byte: so what was thought costs time at most, and nothing is asked of it.
+/// The predicted prefix of the next checkpoint, and a hasher that has taken it in. A checkpoint with another prefix is
+/// hashed from its first byte. A wrong prediction thus only costs time, and no precondition is needed.
 #[derive(Drop)]
 pub struct Ahead {
     bytes: Bytes,
@@ -23,7 +23,8 @@ pub struct Ahead {
 }
 
 impl Ahead {
-    /// Nothing is thought of a checkpoint yet. There is room for so many bytes. The only error is want of memory, and no other call takes any.
+    /// Makes an empty prediction with capacity for `count` bytes. The only error is out of memory, and no other call
+    /// allocates.
     pub fn with_room(alloc: Global, count: usize) -> Result<Ahead, Memory> {
         Ok(Ahead {
             bytes: Bytes::with_room(alloc, count)?,
@@ -31,7 +32,7 @@ impl Ahead {
         })
     }
 
-    /// Begins anew, with what stands before the outcomes of a checkpoint of the second version.
+    /// Starts a new prediction with the head of a checkpoint of the second version.
     pub fn begin(&mut self, digest: &[u8; 32], generation: u8, count: u32) {
         self.bytes.clear();
         self.hasher = Sha256::new();
@@ -41,7 +42,7 @@ impl Ahead {
         }
     }
 
-    /// Goes on with an outcome, where there is room for it.
+    /// Adds an outcome to the prediction, if the capacity allows it.
     pub fn go_on(&mut self, outcome: &Outcome) {
         if self.bytes.spare() >= outcome_size(2) {
             let before = self.bytes.len();
@@ -50,7 +51,8 @@ impl Ahead {
         }
     }
 
-    /// The SHA-256 of bytes, which is begun anew only where they do not begin with what was thought. Then nothing is thought of a checkpoint any more.
+    /// Returns the SHA-256 of the bytes, and clears the prediction. Hashes from the first byte only if the bytes do not
+    /// begin with the prediction.
     pub fn digest_of(&mut self, bytes: &[u8]) -> [u8; 32]
         ensures { result ≡ sha256 bytes.now }
     {

@@ -13,8 +13,8 @@ use audit_model::fault::CkptFault;
 use audit_model::memory::Memory;
 use std::alloc::Global;
 
-/// What a checkpoint holds: the version of its format, the digest of its job, its generation, and outcomes by rising id. In the first
-/// version all bins are 0.
+/// A decoded checkpoint: the version of its format, the digest of its job, its generation, and outcomes by rising id.
+/// In the first version all histograms are 0.
 #[derive(Drop)]
 pub struct Checkpoint {
     pub version: u32,
@@ -23,17 +23,17 @@ pub struct Checkpoint {
     pub outcomes: OutcomeList,
 }
 
-/// The checkpoint that the bytes are.
+/// Decodes a checkpoint.
 ///
 /// # Errors
 ///
 /// - `TooShort`: there are fewer bytes than in a checkpoint without outcomes.
 /// - `BadMagic`, `BadVersion`, `BadGeneration`: the bytes do not begin as a checkpoint of either version, or the
 ///   generation is above 2.
-/// - `BadCount`: there are too many outcomes, or not as many bytes as they take.
-/// - `BadOrder`: the outcome at this place, the least such, has no greater id than the one before it.
+/// - `BadCount`: there are too many outcomes, or the number of bytes does not fit the number of outcomes.
+/// - `BadOrder`: the id at this place is not above the one before. The place is the least such.
 /// - `BadDigest`: the last 32 bytes are not the digest of those before them.
-/// - `Memory`: the bytes are a checkpoint, and there was no memory for its outcomes.
+/// - `Memory`: the bytes are a checkpoint, but its outcomes do not fit into memory.
 pub fn decode(alloc: Global, bytes: &[u8]) -> Result<Checkpoint, CkptFault>
     ensures ok { IfOk result (λ c. IsCheckpoint bytes.now c.version c.digest c.generation c.outcomes.items) }
     ensures faultless { OnOk result (checkpoint_fault bytes.now ≡ None) }
@@ -46,7 +46,7 @@ pub fn decode(alloc: Global, bytes: &[u8]) -> Result<Checkpoint, CkptFault>
     }
 }
 
-/// The checkpoint that the bytes without a fault are.
+/// Reads a checkpoint from bytes without a fault.
 fn read(alloc: Global, bytes: &[u8]) -> Result<Checkpoint, CkptFault>
     requires { checkpoint_fault bytes.now ≡ None }
     ensures ok { IfOk result (λ c. IsCheckpoint bytes.now c.version c.digest c.generation c.outcomes.items) }
@@ -61,7 +61,7 @@ fn read(alloc: Global, bytes: &[u8]) -> Result<Checkpoint, CkptFault>
     })
 }
 
-/// The first outcomes.
+/// Reads the first `count` outcomes.
 fn outcomes_in(alloc: Global, bytes: &[u8], count: u32) -> Result<OutcomeList, Memory>
     requires { outcome_start bytes.now count ≤ length bytes.now }
     ensures { IfOk result (λ l. l.items ≡ map_below count (outcome_in bytes.now)) }

@@ -1,4 +1,4 @@
-//! The digest of a job.
+//! The job digest.
 
 ghost use Rattle.std.specs.Prelude.{◌≡◌, ◌<◌, ◌≤◌, flat_map, length, true};
 ghost use Rattle.std.specs.Int.{w32, w64, to_be_bytes};
@@ -16,7 +16,7 @@ use dual_graph::graph::Graph;
 use plan_core::job::Job;
 use sha2::{Digest, Sha256};
 
-/// The digest of all that a job's outcomes depend on. It takes no memory.
+/// Returns the SHA-256 of everything that a job's outcomes depend on. Allocates nothing.
 pub fn job_digest(job: &Job) -> [u8; 32]
     ensures { result ≡ definition.job_digest job.now }
 {
@@ -32,35 +32,35 @@ pub fn job_digest(job: &Job) -> [u8; 32]
     hasher.finalize()
 }
 
-/// Whether the rules limit the cut edges, or have regions, or a group.
+/// Returns true if the rules limit the cut edges or have regions or a group.
 fn has_rules(rules: &Rules) -> bool
     ensures { result ≡ has_rules rules.now }
 {
     rules.max_cut < 400_000 || rules.regions.len() != 0 || has_group(rules)
 }
 
-/// Whether the rules are further ones: whether they limit splits in all or split regions, or have a group.
+/// Returns true if the rules limit splits in all or split regions, or have a group. The digest then has its third form.
 fn has_further_rules(rules: &Rules) -> bool
     ensures { result ≡ has_further_rules rules.now }
 {
     limits_splits(rules) || has_group(rules)
 }
 
-/// Whether there are regions, and how often they are split in all, or how many of them, is limited.
+/// Returns true if there are regions and the splits in all or the split regions are limited.
 fn limits_splits(rules: &Rules) -> bool
     ensures { result ≡ limits_splits rules.now }
 {
     (rules.max_splits < 995_000 || rules.max_split_regions < 5_000) && rules.regions.len() != 0
 }
 
-/// Whether there is a group.
+/// Returns true if there is a group.
 fn has_group(rules: &Rules) -> bool
     ensures { result ≡ has_group rules.now }
 {
     rules.group.members.len() != 0
 }
 
-/// Takes in the name of the format: the second where there are limits, and the third where there are further ones.
+/// Hashes the name of the format: the second with limits, the third with further rules, else the first.
 fn hash_name(hasher: &mut Sha256, limited: bool, further: bool)
     ensures { Hashes hasher.old hasher.new (digest_name limited further) }
 {
@@ -73,7 +73,7 @@ fn hash_name(hasher: &mut Sha256, limited: bool, further: bool)
     }
 }
 
-/// Takes in how many units, edges and districts there are.
+/// Hashes the numbers of units, edges and districts.
 fn hash_counts(hasher: &mut Sha256, job: &Job)
     ensures bytes { Hashes hasher.old hasher.new (counts_bytes job.now.graph.units (count_edges job.now.graph (λ u v. true)) job.now.districts) }
     ensures sound { IsJob job.now }
@@ -83,7 +83,7 @@ fn hash_counts(hasher: &mut Sha256, job: &Job)
     hash_u32(hasher, job.districts());
 }
 
-/// Takes in each edge, its smaller end first.
+/// Hashes each edge, its smaller end first.
 fn hash_edges(hasher: &mut Sha256, graph: &Graph)
     ensures { Hashes hasher.old hasher.new (edge_bytes graph.now) }
 {
@@ -92,7 +92,7 @@ fn hash_edges(hasher: &mut Sha256, graph: &Graph)
     }
 }
 
-/// Takes in the edges from a unit to greater ones.
+/// Hashes the edges from a unit to greater ones.
 fn hash_edges_from(hasher: &mut Sha256, graph: &Graph, unit: u32)
     requires unit { unit < graph.now.units }
     requires sound { IsGraph graph.now }
@@ -106,7 +106,7 @@ fn hash_edges_from(hasher: &mut Sha256, graph: &Graph, unit: u32)
     }
 }
 
-/// Takes in the counts of each unit, and its district at the start.
+/// Hashes the counts of each unit and its district in the start plan.
 fn hash_units(hasher: &mut Sha256, job: &Job)
     ensures { Hashes hasher.old hasher.new (flat_map (unit_bytes job.now) (map_below job.now.graph.units (λ u. u))) }
 {
@@ -115,12 +115,12 @@ fn hash_units(hasher: &mut Sha256, job: &Job)
     }
 }
 
-/// Takes in the counts of a unit, and its district at the start.
+/// Hashes the counts of a unit and its district in the start plan.
 fn hash_unit(hasher: &mut Sha256, job: &Job, unit: usize)
     requires { unit < job.now.graph.units }
     ensures { Hashes hasher.old hasher.new (unit_bytes job.now unit) }
 {
-    // Called for what its contract says: the job is within its limits, and its start plan is legal.
+    // Called for its contract: the job is within its limits, and its start plan is legal.
     let _units = job.units();
     let counts = job.counts();
     hash_u64(hasher, counts.population.as_slice()[unit]);
@@ -129,7 +129,7 @@ fn hash_unit(hasher: &mut Sha256, job: &Job, unit: usize)
     hash_u32(hasher, job.start().as_slice()[unit]);
 }
 
-/// Takes in what a run is asked to do.
+/// Hashes the parts of the setting that outcomes depend on.
 fn hash_setting(hasher: &mut Sha256, setting: &Setting)
     requires { length setting.now.asks ≤ 4 }
     ensures { Hashes hasher.old hasher.new (setting_bytes setting.now) }
@@ -144,7 +144,7 @@ fn hash_setting(hasher: &mut Sha256, setting: &Setting)
     hash_asks(hasher, setting.asks.as_slice());
 }
 
-/// Takes in the limits of the rules, where there are any.
+/// Hashes the limits of the rules, if there are any.
 fn hash_rules(hasher: &mut Sha256, limited: bool, units: u32, rules: &Rules)
     requires group { IsGroup units rules.now.group }
     ensures { Hashes hasher.old hasher.new (rule_bytes limited units rules.now) }
@@ -157,7 +157,7 @@ fn hash_rules(hasher: &mut Sha256, limited: bool, units: u32, rules: &Rules)
     }
 }
 
-/// Takes in the limit of the regions and the region of each unit, where there are regions.
+/// Hashes the limit on split regions and the region of each unit, if there are regions.
 fn hash_regions(hasher: &mut Sha256, max_split: u32, regions: &[u32])
     ensures { Hashes hasher.old hasher.new (region_bytes max_split regions.now) }
 {
@@ -167,7 +167,7 @@ fn hash_regions(hasher: &mut Sha256, max_split: u32, regions: &[u32])
     }
 }
 
-/// Takes in the limits of splits in all and of split regions, where one is set.
+/// Hashes the limits on splits in all and on split regions, if one is set.
 fn hash_splits(hasher: &mut Sha256, rules: &Rules)
     ensures { Hashes hasher.old hasher.new (split_bytes rules.now) }
 {
@@ -177,7 +177,7 @@ fn hash_splits(hasher: &mut Sha256, rules: &Rules)
     }
 }
 
-/// Takes in in how many districts the group is to have a majority, and its numbers, where there is a group.
+/// Hashes the required number of majority districts and the group, if there is a group.
 fn hash_group(hasher: &mut Sha256, units: u32, rules: &Rules)
     requires { IsGroup units rules.now.group }
     ensures { Hashes hasher.old hasher.new (group_bytes units rules.now) }
@@ -188,7 +188,7 @@ fn hash_group(hasher: &mut Sha256, units: u32, rules: &Rules)
     }
 }
 
-/// Takes in how many of the group, and of its whole, are in each unit.
+/// Hashes the group's members and its base population in each unit.
 fn hash_members(hasher: &mut Sha256, units: u32, group: &Group)
     requires members { length group.now.members ≡ units }
     requires whole { length group.now.whole ≡ units }
@@ -200,7 +200,7 @@ fn hash_members(hasher: &mut Sha256, units: u32, group: &Group)
     }
 }
 
-/// Takes in numbers, four bytes each.
+/// Hashes numbers of four bytes each.
 fn hash_numbers(hasher: &mut Sha256, numbers: &[u32])
     ensures { Hashes hasher.old hasher.new (flat_map (to_be_bytes w32) numbers.now) }
 {
@@ -209,7 +209,7 @@ fn hash_numbers(hasher: &mut Sha256, numbers: &[u32])
     }
 }
 
-/// Takes in the score and the tail of each ask.
+/// Hashes the score and the tail of each ask.
 fn hash_asks(hasher: &mut Sha256, asks: &[Ask])
     ensures { Hashes hasher.old hasher.new (flat_map ask_bytes asks.now) }
 {
@@ -218,7 +218,7 @@ fn hash_asks(hasher: &mut Sha256, asks: &[Ask])
     }
 }
 
-/// Takes in a score and a tail.
+/// Hashes a score and a tail.
 fn hash_ask(hasher: &mut Sha256, ask: Ask)
     ensures { Hashes hasher.old hasher.new (ask_bytes ask) }
 {
@@ -246,14 +246,14 @@ fn tail_code(tail: Tail) -> u32
     }
 }
 
-/// Takes in the four bytes of a number.
+/// Hashes a number as four bytes, big-endian.
 fn hash_u32(hasher: &mut Sha256, number: u32)
     ensures { Hashes hasher.old hasher.new (to_be_bytes w32 number) }
 {
     hasher.update(number.to_be_bytes());
 }
 
-/// Takes in the eight bytes of a number.
+/// Hashes a number as eight bytes, big-endian.
 fn hash_u64(hasher: &mut Sha256, number: u64)
     ensures { Hashes hasher.old hasher.new (to_be_bytes w64 number) }
 {

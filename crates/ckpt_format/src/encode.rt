@@ -1,4 +1,4 @@
-//! Writing a checkpoint.
+//! Encoding a checkpoint.
 
 ghost use Rattle.std.specs.Prelude.{◌≡◌, ◌+◌, ◌*◌, ◌^◌, ◌<◌, ◌≤◌, IsTrue, length, map, flat_map, FitsSigned};
 ghost use Rattle.std.specs.List.{AllByRecursion, list_all};
@@ -18,7 +18,8 @@ use sha2::{Digest, Sha256};
 /// The bytes with which each checkpoint begins.
 pub(crate) const MAGIC: [u8; 8] = *b"DISTCKPT";
 
-/// Makes `out` the checkpoint of a job's digest, a generation and outcomes, in the second version of the format. It takes no memory.
+/// Fills `out` with the checkpoint of a digest, a generation and outcomes, in the second version of the format.
+/// Allocates nothing.
 pub fn encode(digest: &[u8; 32], generation: u8, outcomes: &[Outcome], out: &mut Bytes)
     requires generation { generation < 3 }
     requires few { length outcomes.now ≤ most_trajectories }
@@ -32,7 +33,7 @@ pub fn encode(digest: &[u8; 32], generation: u8, outcomes: &[Outcome], out: &mut
     encode_with(digest, generation, outcomes, out, None);
 }
 
-/// Does what `encode` does, and goes on with a digest where one was begun.
+/// Encodes as `encode` does, and continues a digest that was started ahead.
 pub fn encode_with(
     digest: &[u8; 32],
     generation: u8,
@@ -52,8 +53,8 @@ pub fn encode_with(
     encode_as(2, digest, generation, outcomes, out, ahead);
 }
 
-/// Makes `out` the checkpoint of a job's digest, a generation and outcomes without bins, in the first version of the format. It takes no
-/// memory.
+/// Fills `out` with the checkpoint of a digest, a generation and outcomes without histograms, in the first version of
+/// the format. Allocates nothing.
 pub fn encode_old(digest: &[u8; 32], generation: u8, outcomes: &[Outcome], out: &mut Bytes)
     requires generation { generation < 3 }
     requires few { length outcomes.now ≤ most_trajectories }
@@ -68,7 +69,7 @@ pub fn encode_old(digest: &[u8; 32], generation: u8, outcomes: &[Outcome], out: 
     encode_as(1, digest, generation, outcomes, out, None);
 }
 
-/// Makes `out` the checkpoint of a version. Of versions but the second the bins are left out.
+/// Fills `out` with a checkpoint of this version. Only the second version has histograms.
 fn encode_as(
     version: u32,
     digest: &[u8; 32],
@@ -93,7 +94,7 @@ fn encode_as(
     append_digest(out, ahead);
 }
 
-/// Appends what stands before the outcomes.
+/// Appends the head, which stands before the outcomes.
 pub(crate) fn append_head(
     out: &mut Bytes,
     version: u32,
@@ -124,7 +125,7 @@ fn append_outcomes(out: &mut Bytes, version: u32, outcomes: &[Outcome])
     }
 }
 
-/// Appends an outcome: its id, its moves and its values, and its bins where they are written.
+/// Appends an outcome: its id, its moves, its values, and its histogram if the version has one.
 pub(crate) fn append_outcome(out: &mut Bytes, with_bins: bool, outcome: &Outcome)
     requires { size_by with_bins ≤ out.old.spare }
     ensures bytes { AppendsBytes out.old out.new (bytes_by with_bins outcome.now) }
@@ -138,7 +139,7 @@ pub(crate) fn append_outcome(out: &mut Bytes, with_bins: bool, outcome: &Outcome
     append(out, piece.as_slice());
 }
 
-/// Appends bins where they are written.
+/// Appends a histogram if the version has one.
 fn append_bins(piece: &mut Piece, with_bins: bool, bins: &[u32; 9])
     requires { IsTrue with_bins → 36 ≤ piece.old.spare }
     ensures bytes { AppendsBytes piece.old piece.new (bin_bytes with_bins bins.now) }
@@ -170,7 +171,7 @@ fn append_values(piece: &mut Piece, values: &[i64])
     }
 }
 
-/// Appends the four bytes of a number.
+/// Appends a number as four bytes, big-endian.
 fn append_u32(piece: &mut Piece, number: u32)
     requires { 4 ≤ piece.old.spare }
     ensures { AppendsBytes piece.old piece.new (to_be_bytes w32 number) }
@@ -178,7 +179,7 @@ fn append_u32(piece: &mut Piece, number: u32)
     piece.append(&number.to_be_bytes());
 }
 
-/// Appends the eight bytes of a number.
+/// Appends a number as eight bytes, big-endian.
 fn append_u64(piece: &mut Piece, number: u64)
     requires { 8 ≤ piece.old.spare }
     ensures { AppendsBytes piece.old piece.new (to_be_bytes w64 number) }
@@ -186,7 +187,7 @@ fn append_u64(piece: &mut Piece, number: u64)
     piece.append(&number.to_be_bytes());
 }
 
-/// Appends the eight bytes of a number, which may be negative.
+/// Appends a signed number as eight bytes, big-endian, in two's complement.
 fn append_i64(piece: &mut Piece, number: i64)
     requires { 8 ≤ piece.old.spare }
     ensures { AppendsBytes piece.old piece.new (to_be_bytes w64 (cast_unsigned w64 number)) }
@@ -206,11 +207,11 @@ fn append_digest(out: &mut Bytes, ahead: Option<&mut Ahead>)
     append(out, &digest);
 }
 
-/// Appends bytes for which there is room.
+/// Appends bytes within the capacity.
 fn append(out: &mut Bytes, bytes: &[u8])
     requires { length bytes.now ≤ out.old.spare }
     ensures { AppendsBytes out.old out.new bytes.now }
 {
-    // There is room, so it takes no memory and cannot fail.
+    // The capacity is reserved: appending allocates nothing and cannot fail.
     let _ = out.append(bytes);
 }

@@ -1,4 +1,4 @@
-//! Why bytes are no checkpoint.
+//! The faults of bytes that are no checkpoint.
 
 ghost use Rattle.std.specs.Prelude.{◌≡◌, ◌+◌, ◌≤◌, length};
 ghost use Rattle.audit_model.specs.First.{first_below};
@@ -10,7 +10,7 @@ use crate::places::{COUNT, GENERATION, VERSION, array_at, outcome_size, outcome_
 use audit_model::fault::CkptFault;
 use sha2::{Digest, Sha256};
 
-/// The first reason why the bytes are no checkpoint, where there is one. It takes no memory.
+/// Returns the first reason that the bytes are no checkpoint, if there is one. Allocates nothing.
 pub(crate) fn fault_of(bytes: &[u8]) -> Option<CkptFault>
     ensures { result ≡ checkpoint_fault bytes.now }
 {
@@ -26,7 +26,7 @@ pub(crate) fn fault_of(bytes: &[u8]) -> Option<CkptFault>
     }
 }
 
-/// The first fault of what stands before the outcomes.
+/// Returns the first fault of the head, which stands before the outcomes.
 fn head_fault(bytes: &[u8]) -> Option<CkptFault>
     requires { bare_length ≤ length bytes.now }
     ensures { result ≡ head_fault bytes.now }
@@ -45,7 +45,7 @@ fn head_fault(bytes: &[u8]) -> Option<CkptFault>
     count_fault(version, u32_at(bytes, COUNT), bytes.len() as u64)
 }
 
-/// The fault of a number of outcomes in so many bytes.
+/// Returns a fault if this number of outcomes is too large or does not fit this number of bytes.
 fn count_fault(version: u32, count: u32, length: u64) -> Option<CkptFault>
     ensures { result ≡ outcome_count_fault version count length }
 {
@@ -56,7 +56,7 @@ fn count_fault(version: u32, count: u32, length: u64) -> Option<CkptFault>
     }
 }
 
-/// The fault of the least place whose id is not greater than the one before it.
+/// Returns the fault of the least place whose id is not above the one before it.
 fn order_fault(bytes: &[u8], count: u32) -> Option<CkptFault>
     requires { outcome_start bytes.now count ≤ length bytes.now }
     ensures { result ≡ order_fault bytes.now count }
@@ -64,7 +64,7 @@ fn order_fault(bytes: &[u8], count: u32) -> Option<CkptFault>
     first_unordered(bytes, count).map(CkptFault::BadOrder)
 }
 
-/// The least place whose id is not greater than the one before it.
+/// Returns the least place whose id is not above the one before it.
 fn first_unordered(bytes: &[u8], count: u32) -> Option<u32>
     requires { outcome_start bytes.now count ≤ length bytes.now }
     ensures { result ≡ first_below count (is_unordered bytes.now) }
@@ -77,7 +77,7 @@ fn first_unordered(bytes: &[u8], count: u32) -> Option<u32>
     None
 }
 
-/// The id of the outcome at a place.
+/// Returns the id of the outcome at a place.
 fn id_at(bytes: &[u8], place: u32) -> u32
     requires { outcome_start bytes.now (place + 1) ≤ length bytes.now }
     ensures { result ≡ stated_id bytes.now place }
@@ -85,7 +85,7 @@ fn id_at(bytes: &[u8], place: u32) -> u32
     u32_at(bytes, outcome_start(bytes, place))
 }
 
-/// The fault of a digest that is not that of all bytes before it.
+/// Returns a fault if the last 32 bytes are not the digest of those before them.
 fn digest_fault(bytes: &[u8]) -> Option<CkptFault>
     requires { 32 ≤ length bytes.now }
     ensures { result ≡ digest_fault bytes.now }

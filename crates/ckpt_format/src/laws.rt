@@ -1,13 +1,13 @@
-//! Laws of checkpoints, each the contract of a function that does nothing.
+//! Laws of checkpoints, each the contract of an empty function.
 
 ghost use Rattle.ckpt_format.specs.Laws.{FaultlessAreCheckpoints, CheckpointsAreRead, CheckpointsAreDetermined, CheckpointsHaveLength, RisingPairsRise};
 
-/// Bytes have no fault exactly where they are the checkpoint of some version, digest, generation and outcomes.
+/// Bytes have no fault exactly if they are the checkpoint of some version, digest, generation and outcomes.
 pub fn faultless_bytes_are_checkpoints()
     ensures { FaultlessAreCheckpoints }
 {}
 
-/// What a checkpoint was made of stands at its places, so that what `encode` or `encode_old` wrote is what `decode` reads.
+/// Each part of a checkpoint stands at its place: `decode` reads what `encode` or `encode_old` wrote.
 pub fn checkpoints_are_read()
     ensures { CheckpointsAreRead }
 {}
@@ -17,12 +17,13 @@ pub fn checkpoints_are_determined()
     ensures { CheckpointsAreDetermined }
 {}
 
-/// A checkpoint has 84 bytes and for each outcome 44 in the first version and 80 in the second, at most 8,000,084.
+/// A checkpoint has 84 bytes, and 44 more for each outcome in the first version or 80 in the second. The most is
+/// 8,000,084.
 pub fn checkpoints_have_a_length()
     ensures { CheckpointsHaveLength }
 {}
 
-/// Outcomes of which each has a smaller id than all later ones have rising ids, as `encode` asks for.
+/// Outcomes each with a smaller id than all later ones have rising ids, as `encode` requires.
 pub fn rising_pairs_rise()
     ensures { RisingPairsRise }
 {}

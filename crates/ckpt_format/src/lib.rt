@@ -1,4 +1,4 @@
-//! The bytes of a checkpoint, read and written, and the digests of a job and of what it comes from.
+//! The bytes of a checkpoint, and the digests of a job and of its origin.
 #![tactic(auto)]
 
 pub mod ahead;

@@ -7,7 +7,8 @@ use audit_model::origin::Origin;
 use audit_model::setting::Setting;
 use sha2::{Digest, Sha256};
 
-/// The digest of the bytes and how many they are, where the setting asks for it; else nothing is hashed. It takes no memory.
+/// Returns the SHA-256 and the number of the bytes if the setting has `source`, else `None` without hashing. Allocates
+/// nothing.
 pub fn origin_of(setting: &Setting, bytes: &[u8]) -> Option<Origin>
     ensures { result ≡ definition.origin_of setting.now bytes.now }
 {

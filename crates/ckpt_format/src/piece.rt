@@ -1,11 +1,11 @@
-//! A few bytes that are put together before they are appended at once, since each call that appends takes its time.
+//! A small buffer for the fields of one outcome, so that they are appended in one call.
 
 ghost use Rattle.std.specs.Prelude.{◌≡◌, ◌≤◌, [], length};
 ghost use Rattle.ckpt_format.specs.Written.{AppendsBytes};
 
 use std::marker::Model;
 
-/// At most as many bytes as an outcome has, seen as bytes with the room for more.
+/// A buffer of up to 80 bytes, the size of the largest outcome.
 #[derive(Drop)]
 pub(crate) struct Piece {
     bytes: [u8; 80],
@@ -27,7 +27,7 @@ impl Model for Piece {
 }
 
 impl Piece {
-    /// No bytes, with room for eighty.
+    /// Makes an empty buffer.
     pub fn new() -> Piece
         ensures { result ≡ record { items = []; spare = 80 } }
     {
@@ -37,14 +37,14 @@ impl Piece {
         }
     }
 
-    /// The bytes.
+    /// Returns the bytes.
     pub fn as_slice(&self) -> &[u8]
         ensures { result.now ≡ self.now.items }
     {
         &self.bytes[..self.len]
     }
 
-    /// Appends bytes for which there is room.
+    /// Appends bytes within the capacity.
     pub fn append(&mut self, bytes: &[u8])
         requires { length bytes.now ≤ self.old.spare }
         ensures { AppendsBytes self.old self.new bytes.now }

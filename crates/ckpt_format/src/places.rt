@@ -1,4 +1,4 @@
-//! What stands at a place of some bytes.
+//! Offsets and fields of a checkpoint's bytes.
 
 ghost use Rattle.std.specs.Prelude.{◌≡◌, ◌+◌, ◌*◌, ◌≤◌, IsTrue, length, slice_range};
 ghost use Rattle.std.specs.Int.{w32, w64, cast_signed};
@@ -8,22 +8,22 @@ ghost use Rattle.audit_statement.specs.Slots.{bins_at, outcome_at, outcome_in};
 
 use audit_model::outcome::Outcome;
 
-/// The place of the version, behind the format's name.
+/// The offset of the version, behind the format's name.
 pub(crate) const VERSION: usize = 8;
 
-/// The place of the job's digest.
+/// The offset of the job's digest.
 pub(crate) const DIGEST: usize = 12;
 
-/// The place of the generation.
+/// The offset of the generation.
 pub(crate) const GENERATION: usize = 44;
 
-/// The place of the number of outcomes.
+/// The offset of the number of outcomes.
 pub(crate) const COUNT: usize = 48;
 
-/// The place of the first outcome.
+/// The offset of the first outcome.
 pub(crate) const OUTCOMES: usize = 52;
 
-/// The bytes from a place on.
+/// Returns the `N` bytes at an offset.
 pub(crate) fn array_at<const N: usize>(bytes: &[u8], at: usize) -> [u8; N]
     requires { at + N ≤ length bytes.now }
     ensures { result ≡ slice_range bytes.now at (at + N) }
@@ -33,7 +33,7 @@ pub(crate) fn array_at<const N: usize>(bytes: &[u8], at: usize) -> [u8; N]
     part
 }
 
-/// The number of four bytes.
+/// Returns the big-endian number of four bytes at an offset.
 pub(crate) fn u32_at(bytes: &[u8], at: usize) -> u32
     requires { at + 4 ≤ length bytes.now }
     ensures { result ≡ number_at w32 at bytes.now }
@@ -41,7 +41,7 @@ pub(crate) fn u32_at(bytes: &[u8], at: usize) -> u32
     u32::from_be_bytes(array_at(bytes, at))
 }
 
-/// How many bytes an outcome has in a version of the format.
+/// Returns the number of bytes of an outcome in a version of the format.
 pub(crate) fn outcome_size(version: u32) -> usize
     ensures value { result ≡ outcome_size version }
     ensures few { result ≤ 80 }
@@ -49,7 +49,7 @@ pub(crate) fn outcome_size(version: u32) -> usize
     if version == 2 { 80 } else { 44 }
 }
 
-/// Where the outcome at a place begins.
+/// Returns the offset of the outcome at a place.
 pub(crate) fn outcome_start(bytes: &[u8], place: u32) -> usize
     requires { digest_place ≤ length bytes.now }
     ensures { result ≡ outcome_start bytes.now place }
@@ -57,7 +57,7 @@ pub(crate) fn outcome_start(bytes: &[u8], place: u32) -> usize
     OUTCOMES + outcome_size(u32_at(bytes, VERSION)) * place as usize
 }
 
-/// The outcome at a place of a checkpoint, from 0.
+/// Returns the outcome at a place of a checkpoint, counted from 0.
 pub(crate) fn outcome_in(bytes: &[u8], place: u32) -> Outcome
     requires { outcome_start bytes.now (place + 1) ≤ length bytes.now }
     ensures { result ≡ outcome_in bytes.now place }
@@ -65,7 +65,7 @@ pub(crate) fn outcome_in(bytes: &[u8], place: u32) -> Outcome
     outcome_at(bytes, outcome_start(bytes, place))
 }
 
-/// The number of eight bytes.
+/// Returns the big-endian number of eight bytes at an offset.
 fn u64_at(bytes: &[u8], at: usize) -> u64
     requires { at + 8 ≤ length bytes.now }
     ensures { result ≡ number_at w64 at bytes.now }
@@ -73,7 +73,7 @@ fn u64_at(bytes: &[u8], at: usize) -> u64
     u64::from_be_bytes(array_at(bytes, at))
 }
 
-/// The number of eight bytes, in two's complement.
+/// Returns the number of eight bytes at an offset, in two's complement.
 fn i64_at(bytes: &[u8], at: usize) -> i64
     requires { at + 8 ≤ length bytes.now }
     ensures { result ≡ cast_signed w64 (number_at w64 at bytes.now) }
@@ -81,7 +81,7 @@ fn i64_at(bytes: &[u8], at: usize) -> i64
     u64_at(bytes, at).cast_signed()
 }
 
-/// The outcome whose bytes begin at a place.
+/// Returns the outcome at an offset.
 fn outcome_at(bytes: &[u8], at: usize) -> Outcome
     requires version { digest_place ≤ length bytes.now }
     requires room { at + outcome_size (stated_version bytes.now) ≤ length bytes.now }
@@ -100,7 +100,7 @@ fn outcome_at(bytes: &[u8], at: usize) -> Outcome
     }
 }
 
-/// The bins that begin at a place, where there are any.
+/// Returns the histogram at an offset, or zeros if the version has none.
 fn bins_of(bytes: &[u8], present: bool, at: usize) -> [u32; 9]
     requires { IsTrue present → at + 36 ≤ length bytes.now }
     ensures { result ≡ bins_at present bytes.now at }
@@ -108,7 +108,7 @@ fn bins_of(bytes: &[u8], present: bool, at: usize) -> [u32; 9]
     if present { bins_at(bytes, at) } else { [0; 9] }
 }
 
-/// The nine numbers of four bytes from a place on.
+/// Returns the nine numbers of four bytes at an offset.
 fn bins_at(bytes: &[u8], at: usize) -> [u32; 9]
     requires { at + 36 ≤ length bytes.now }
     ensures { result ≡ map_below 9 (λ k. number_at w32 (at + 4 * k) bytes.now) }
