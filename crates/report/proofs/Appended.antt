@@ -1,4 +1,4 @@
--- Bytes written in turns.
+-- Writing bytes in several calls.
 use Rattle.std.proofs.Common.{ℕ, ◌+◌, ◌≤◌, List, ◌++◌, length, take, drop, Option, Some, None, ap, sym, subst, ◌-◌, ◌∙◌, append_assoc, length-append, arith}
 use Rattle.std.proofs.lemmas.List.{take-take, take-append-le}
 use Rattle.std.proofs.Math.Seq.{take-add, take-append-add}
@@ -7,7 +7,7 @@ use Rattle.std.proofs.KnownBytes.{Appends-trans}
 pub use Rattle.std.proofs.KnownBytes.{Appends-trans as appends_more, Appends-nil as appends_nothing}
 use Rattle.audit_statement.specs.Endings.{AppendsPart}
 
--- a piece of a text and the piece behind it are appended as one
+-- a piece of a text and the piece after it are appended as one
 pub appends_then : (a b c : Option (List ℕ)) (text : List ℕ) (at n : ℕ) → Appends a b (take at text) → Appends b c (take n (drop at text)) → Appends a c (take (at + n) text)
 appends_then None b c text at n p q = tt
 appends_then (Some u) None c text at n p q = absurd p
@@ -15,7 +15,7 @@ appends_then (Some u) (Some v) None text at n p q = absurd q
 appends_then (Some u) (Some v) (Some w) text at n p q =
     rw take-add (q ∙ ap (λ r. r ++ take n (drop at text)) p ∙ append_assoc u (take at text) (take n (drop at text)))
 
--- a write of the rest of a text goes on from its front
+-- writing the rest of a text continues from its front
 pub appends_rest : (a b c : Option (List ℕ)) (text : List ℕ) (at n : ℕ) → Appends a b (take at text) → n ≤ length text - at
     → Appends b c (take n (take (length text - at) (drop at text))) → Appends a c (take (at + n) text)
 appends_rest a b c text at n p few q =
@@ -26,7 +26,7 @@ pub part_of_more : (a b : Option (List ℕ)) (xs ys : List ℕ) → AppendsPart 
 part_of_more a b xs ys (n, few, p) =
     (n, omega (arith, length-append xs ys, few), subst (λ (zs : List ℕ). Appends a b zs) (sym (take-append-le n xs ys few)) p)
 
--- a whole text and a part of the next are a part of both
+-- a whole text and a part of the next one are a part of both
 pub part_after : (a b c : Option (List ℕ)) (xs ys : List ℕ) → Appends a b xs → AppendsPart b c ys → AppendsPart a c (xs ++ ys)
 part_after a b c xs ys p (n, few, q) = (
   length xs + n,

@@ -1,4 +1,4 @@
--- The changed units of a plan's line, one by one; and the greatest length of a line.
+-- The changed units of a plan's line, one by one, and the greatest length of a line.
 use Rattle.std.proofs.Common.{◌≡◌, ℕ, zero, suc, ◌+◌, ◌*◌, ◌^◌, ◌<◌, ◌≤◌, Bool, true, false, cond, List, [], ◌∷◌, ◌++◌, length, map, refl, ap, sym, ◌∙◌, arith, append-nil, append_assoc, add-one, decimal, ℤ, ◌-◌, Ok, Err, codes}
 use Rattle.std.proofs.lemmas.List.{map-append, length-append, length-map}
 use Rattle.std.proofs.lemmas.Grind.{flat_map-append}
@@ -26,11 +26,11 @@ pub appends-none : (out : RoomyBytes) → AppendsText out out [] (Ok tt)
 appends-none out = record { ok = sym (append-nil out.items); room = λ _. (refl, omega arith) }
 
 module _ (word : ℕ → List ℕ) (test : ℕ → Bool) where
-  -- what is told of the numbers below the bound that pass
+  -- the words of the numbers below n that pass
   abbrev pub told : ℕ → List ℕ
   told n = spaced (map word (filter_below n test))
 
-  -- of one more that passes
+  -- the words of one more number, which passes
   pub told_more : (n : ℕ) → test n ≡ true → told (n + 1) ≡ told n ++ (32 ∷ word n)
   told_more n is_true =
       rw (add-one n, is_true)
@@ -38,11 +38,11 @@ module _ (word : ℕ → List ℕ) (test : ℕ → Bool) where
       ∙ flat_map-append (λ (w : List ℕ). 32 ∷ w) (map word (filter_below n test)) (word n ∷ [])
       ∙ ap (λ (t : List ℕ). told n ++ t) (append-nil (32 ∷ word n)))
 
-  -- of one more that does not
+  -- the words of one more number, which does not pass
   pub told_same : (n : ℕ) → test n ≡ false → told (n + 1) ≡ told n
   told_same n is_false = rw (add-one n, is_false) (ap (λ (ns : List ℕ). spaced (map word ns)) (append-nil (filter_below n test)))
 
-  -- what is told of more numbers begins with that
+  -- the words of more numbers begin with those of fewer
   pub told_front : (n more : ℕ) → (rest : List ℕ) × (told (n + more) ≡ told n ++ rest)
   told_front n zero = ([], ap told (let e : n + 0 ≡ n = omega arith in e) ∙ sym (append-nil (told n)))
   told_front n (suc more) = let before = told_front n more in let at : n + suc more ≡ (n + more) + 1 = omega arith in by (test (n + more)) refl before at
@@ -52,7 +52,7 @@ module _ (word : ℕ → List ℕ) (test : ℕ → Bool) where
       by true e (rest, is) at = (rest ++ (32 ∷ word (n + more)), ap told at ∙ told_more (n + more) e ∙ ap (λ (t : List ℕ). t ++ (32 ∷ word (n + more))) is ∙ append_assoc (told n) rest (32 ∷ word (n + more)))
       by false e (rest, is) at = (rest, ap told at ∙ told_same (n + more) e ∙ is)
 
-  -- where one cannot be told, all cannot
+  -- if one word cannot be appended, the whole cannot
   pub told_err : (old now new : RoomyBytes) (n all : ℕ) (e : Memory) → n < all → test n ≡ true → AppendsText old now (told n) (Ok tt)
       → AppendsText now new (32 ∷ word n) (Err e) → AppendsText old new (told all) (Err e)
   told_err old now new n all e below is_true before failed =
@@ -62,7 +62,7 @@ module _ (word : ℕ → List ℕ) (test : ℕ → Bool) where
       appends-by old new ((told n ++ (32 ∷ word n)) ++ front.0) (told all) (Err e) (sym whole)
       (appends-err old new (told n ++ (32 ∷ word n)) front.0 e (appends-two old now new (told n) (32 ∷ word n) (Err e) before failed))
 
--- ---- how long a line is at most
+-- ---- the greatest length of a line
 
 -- a unit with its district takes at most nine bytes
 length-change : (plan : List ℕ) (u : ℕ) → u < 100000 → slice_index plan u < 1000 → length (change_word plan u) ≤ 9
@@ -74,7 +74,7 @@ length-change plan u few small =
       length-decimal-le 3 (slice_index plan u) (omega arith) (omega arith) (omega arith),
     )
 
--- all of them at most ten each, with the spaces
+-- all changes take at most ten bytes each, with the spaces
 width-changes : (plan : List ℕ) (test : ℕ → Bool) (n : ℕ) → n ≤ 100000 → ((u : ℕ) → u < n → slice_index plan u < 1000)
     → width (map (change_word plan) (filter_below n test)) ≤ n * 10
 width-changes plan test zero few small = omega arith
@@ -94,7 +94,7 @@ width-values : (zs : List ℤ) → width (map signed_decimal zs) ≤ length zs *
 width-values [] = omega arith
 width-values (z ∷ zs) = omega (arith, length-signed_any z, width-values zs)
 
--- the line of a legal plan
+-- the length of the line of a legal plan
 pub plan_line_le : (job : Job) (step moved : ℕ) (before plan : List ℕ) → IsJob job → IsLegal job plan → (units : ℕ) → units ≡ job.graph.units
     → length (plan_line step moved (ask_values job plan) before plan) ≤ 400 + units * 10
 plan_line_le job step moved before plan sound legal units is =
@@ -110,7 +110,7 @@ plan_line_le job step moved before plan sound legal units is =
     (omega (arith, legal.complete, units_few)) (λ u l. omega (arith, legal.in_range u (omega (arith, legal.complete)), sound.within.input.few)) in
     omega (arith, whole, parts, numbers, asks, few, told_units, legal.complete, length-decimal_any step, length-decimal_any moved)
 
--- the line that starts a trajectory
+-- the length of the line that starts a trajectory
 pub trace_id_line_le : (job : Job) (id thin units : ℕ) → length (trace_id_line job id thin) ≤ 400 + units * 10
 trace_id_line_le job id thin units =
     let whole = length-line (codes "trace") (codes "id" ∷ decimal id ∷ codes "steps" ∷ decimal (own_steps job id) ∷ codes "thin" ∷ decimal thin ∷ []) in

@@ -1,4 +1,4 @@
--- A text as JSON writes it.
+-- The escaped form of a text.
 use Rattle.std.proofs.Common.{◌≡◌, ℕ, ◌+◌, ◌*◌, ◌<◌, ◌≤◌, ◌/◌, ◌%◌, List, [], ◌∷◌, ◌∙◌, length, get_or, refl, ap, sym, arith, length-append}
 use Rattle.std.specs.Prelude.{cond, nat_lt}
 use Rattle.std.specs.Char.{digit_char}
@@ -6,7 +6,7 @@ use Rattle.std.proofs.lemmas.Bool.{cond-true, cond-false, cond_both, le-ltb, lt-
 use Rattle.json.specs.Print.{escape, escape_byte, escape_letter, quoted}
 use Rattle.report.proofs.Widths.{length-flat_map-le}
 
--- what stands for a byte where there is no short escape
+-- the form of a byte without a short escape
 abbrev pub plainly : ℕ → List ℕ
 plainly x = cond (nat_lt x 32) (92 ∷ 117 ∷ 48 ∷ 48 ∷ digit_char (x / 16) ∷ digit_char (x % 16) ∷ []) (x ∷ [])
 
@@ -17,13 +17,13 @@ escaped_shortly x letter e some =
     ap (λ l. 92 ∷ l ∷ []) e
     ∙ sym (cond-true (nat_lt 0 (escape_letter x)) (92 ∷ escape_letter x ∷ []) (plainly x) (ap (nat_lt 0) (sym e) ∙ lt-ltb 0 letter some))
 
--- a byte without one
+-- a byte without a short escape
 not_shortly : (x letter : ℕ) → letter ≡ escape_letter x → letter ≤ 0 → plainly x ≡ escape_byte x
 unfolding escape_byte
 not_shortly x letter e none =
     sym (cond-false (nat_lt 0 (escape_letter x)) (92 ∷ escape_letter x ∷ []) (plainly x) (ap (nat_lt 0) (sym e) ∙ le-ltb 0 letter none))
 
--- a byte that is told by its number
+-- a byte escaped by its number
 pub escaped_by_number : (x letter high low : ℕ) → letter ≡ escape_letter x → letter ≤ 0 → x < 32 → high ≡ digit_char (x / 16) → low ≡ digit_char (x % 16)
     → 92 ∷ 117 ∷ 48 ∷ 48 ∷ high ∷ low ∷ [] ≡ escape_byte x
 escaped_by_number x letter high low e none small h l =
@@ -31,15 +31,15 @@ escaped_by_number x letter high low e none small h l =
     ∙ sym (cond-true (nat_lt x 32) (92 ∷ 117 ∷ 48 ∷ 48 ∷ digit_char (x / 16) ∷ digit_char (x % 16) ∷ []) (x ∷ []) (lt-ltb x 32 small))
     ∙ not_shortly x letter e none
 
--- a byte that stands as it is
+-- a byte written as it is
 pub as_it_is : (x letter : ℕ) → letter ≡ escape_letter x → letter ≤ 0 → 32 ≤ x → x ∷ [] ≡ escape_byte x
 as_it_is x letter e none large =
     sym (cond-false (nat_lt x 32) (92 ∷ 117 ∷ 48 ∷ 48 ∷ digit_char (x / 16) ∷ digit_char (x % 16) ∷ []) (x ∷ []) (le-ltb x 32 large))
     ∙ not_shortly x letter e none
 
--- ---- how long it is
+-- ---- the length of the escaped form
 
--- a byte takes at most six
+-- a byte takes at most six bytes
 pub length-escape_byte : (x : ℕ) → length (escape_byte x) ≤ 6
 unfolding escape_byte
 length-escape_byte x =

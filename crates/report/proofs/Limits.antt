@@ -8,7 +8,7 @@ use Rattle.audit_model.specs.Job.{Job, total_votes}
 use Rattle.audit_model.specs.JobOf.{IsJob}
 use Rattle.audit_model.specs.Limits.{IsRunSetting, IsSettingOf, IsColumn}
 
--- a setting's numbers, which are 0 for a check
+-- bounds on a setting's numbers, which are 0 for a check
 pub record IsSmall (s : Setting) : Type 0 where
   pub few : s.walks + s.ends ≤ 100000
   pub few_steps : s.steps ≤ 10 ^ 9
@@ -31,7 +31,7 @@ of_command Trace s h = of_run s h.run
 pub small : (job : Job) → IsJob job → IsSmall job.setting
 small job h = of_command job.setting.command job.setting h.within.setting.command
 
--- a column's sum
+-- the sum of a column
 column_sum : (units : ℕ) (numbers : List ℕ) → IsColumn units numbers → sum numbers ≤ units * 10 ^ 9
 column_sum units numbers h =
     let within : sum numbers ≤ length numbers * 10 ^ 9 = sum_by-le (λ n. n) (10 ^ 9) numbers h.small in

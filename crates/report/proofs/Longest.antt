@@ -1,4 +1,4 @@
--- How many bytes a report has at most.
+-- The greatest length of a report.
 use Rattle.std.proofs.Common.{◌≡◌, ℕ, zero, suc, ◌+◌, ◌-◌, ◌*◌, ◌^◌, ◌<◌, ◌≤◌, true, List, [], ◌∷◌, ◌++◌, length, flat_map, filter, refl, ap, sym, ◌∙◌, subst, arith, length-append, codes, decimal, get_or, take, zero-add, ℤ, pos, negsuc, unsigned_abs}
 use Rattle.std.specs.Prelude.{◌||◌, nat_lt, nat_le, slice_index, sum_by, zip, Bool, false, Option, Some, None}
 use Rattle.std.specs.Fmt.{signed_decimal}
@@ -77,7 +77,7 @@ length-start job score h =
 
 -- ---- a line of an outlier trajectory
 
--- a count of visits is at most the number of steps and one
+-- a count of visits is at most the number of steps plus one
 count-le : (steps : ℕ) (v : ℤ) → IsCount steps v → unsigned_abs v ≤ steps + 1
 count-le steps (pos n) h = leb_yes h.few.le
 count-le steps (negsuc n) h = absurd (h.some.le)
@@ -95,7 +95,7 @@ bound-lt n all l =
     let least = (bound_is_least n all l).least 2000000000 (le-leb (2 * n * 10 ^ 18) (2000000000 * 2000000000 * all) (omega arith)) in
     omega (arith, least)
 
--- what a line of an outlier trajectory needs to be short
+-- the bounds that keep a walk's line short
 record IsShort (job : Job) (found : Outcome) : Type 0 where
   id : found.id < 100000
   moved : found.moved ≤ 10 ^ 9
@@ -129,7 +129,7 @@ walk_line-le job found place ask h o l =
 p_value-lt : (r all : ℕ) → r ≤ 100001 → all ≤ 100001 → p_value r all < 10 ^ 18
 p_value-lt r all few most = let quotient = div-le_self (r * 10 ^ 9 + all - 1) all in omega (arith, quotient)
 
--- a rank is at most the number of ends and one
+-- a rank is at most the number of endpoints plus one
 rank-le : (job : Job) (os : List Outcome) (place : ℕ) (ask : Ask) → job.setting.stop ≡ 0 → AreOutcomesOf job os → rank job ask place os ≤ job.setting.ends + 1
 rank-le job os place ask none h =
     let ends = filter (λ o. nat_le job.setting.walks o.id) os in
@@ -158,7 +158,7 @@ ends_line-le job os place ask h none all_of =
 
 -- ---- all lines
 
--- what holds of each ask at its place holds of all placed asks
+-- a property of each ask at its place holds for all placed asks
 each_placed : (job : Job) (P : ℕ → Ask → Type 0) → ((k : ℕ) (ask : Ask) → k < length job.setting.asks → P k ask) → All (λ a. P a.0 a.1) (placed_asks job)
 each_placed job P each k d l =
     let within : k < length job.setting.asks = omega (arith, length-enumerate_from 0 job.setting.asks) in
@@ -172,7 +172,7 @@ lines_of-le job found h o =
     (each_placed job (λ k ask. length (walk_line job found (k, ask)) ≤ 200) (λ k ask l. walk_line-le job found k ask h o l)) in
     subst (λ (n : ℕ). length (lines_of job found) ≤ n * 200) (length-enumerate_from 0 job.setting.asks) many
 
--- each outlier trajectory has an id and counts that are short
+-- each outlier walk has a short id and short counts
 short : (job : Job) (os : List Outcome) (k : ℕ) (d : Outcome) → IsJob job → AreOutcomesOf job os → k < length (take job.setting.walks os)
     → IsShort job (get_or (take job.setting.walks os) k d)
 short job os k d h all_of l =
@@ -243,7 +243,7 @@ stopped_lines-le job stops h are =
     (stopped_line-le job (get_or asks k d.0) (get_or stops k d.1) h (are.each k d.1 within))) in
     subst (λ (n : ℕ). length (flat_map (stopped_line job) (zip asks stops)) ≤ n * 200) count many
 
--- the lines of the tests have at most 200 bytes for each ask, whether these stop early or not
+-- the lines of the tests have at most 200 bytes for each ask, with or without an early stop
 test_lines-le : (n : ℕ) (job : Job) (os : List Outcome) (stops : List (List ℕ)) → IsJob job → job.setting.stop ≡ n → AreOutcomesOf job os → AreStopsBy n job stops
     → length (test_lines n job os stops) ≤ length job.setting.asks * 200
 test_lines-le zero job os stops h is all_of none = ends_lines-le job.setting.ends job os h is all_of
@@ -251,7 +251,7 @@ test_lines-le (suc n) job os stops h is all_of are = stopped_lines-le job stops 
 
 -- ---- a line of the serial test
 
--- the part is at most 1
+-- a p-value is at most 1
 p_value-small : (r all : ℕ) → 1 ≤ all → r ≤ all → p_value r all < 10 ^ 18
 p_value-small r all some within =
     let least = (quotient_up_is_least (r * 10 ^ 9) all (omega (arith, some))).least (10 ^ 9) (le-leb (r * 10 ^ 9) (10 ^ 9 * all) (omega (arith, within))) in
@@ -378,7 +378,7 @@ length-stop_line : (n : ℕ) → length (stop_line n) ≤ 70
 length-stop_line zero = omega arith
 length-stop_line (suc n) = let whole = length-line (codes "stop") (decimal (suc n) ∷ []) in omega (arith, whole, length-decimal_any (suc n))
 
--- the line of the bins is at most 591 bytes long
+-- the line of the histogram is at most 591 bytes long
 length-shift_line : (b : Bool) (os : List Outcome) → length (shift_line b os) ≤ 591
 length-shift_line false os = omega arith
 length-shift_line true os =
@@ -401,7 +401,7 @@ length-shift_line true os =
 
 -- ---- the lines of an origin
 
--- the line of the bytes that were read has at most 86 bytes, and two for each byte of the digest
+-- the source line has at most 86 bytes, and two for each byte of the digest
 pub length-source_line : (origin : Origin) → length (source_line origin) ≤ 86 + 2 * length origin.sha256
 length-source_line origin =
     let whole = length-line (codes "source") (codes "sha256" ∷ encode_lower origin.sha256 ∷ codes "bytes" ∷ decimal origin.bytes ∷ []) in
@@ -439,11 +439,11 @@ length-columns_line columns region =
       length-quoted columns.district,
     )
 
--- eight texts that are short together are short as one
+-- eight texts with a bounded total length are joined within that bound
 joined-le : (a b c d e f g h : List ℕ) (n : ℕ) → length a + length b + length c + length d + length e + length f + length g + length h ≤ n → length (a ++ b ++ c ++ d ++ e ++ f ++ g ++ h) ≤ n
 joined-le a b c d e f g h n few = simp length-append few
 
--- the lines before those of the asks are at most 1508 bytes long, beside those of an origin
+-- the head is at most 1508 bytes long, without the lines of the origin
 length-head : (job : Job) → IsJob job → length (head job) ≤ 1508 + length (origin_lines job job.origin)
 length-head job h =
     joined-le (title_line job.setting.shift) (origin_lines job job.origin) (key_line job) (graph_line job) (population_line job) (rule_lines job) (setting_line job) (stop_line job.setting.stop)
@@ -452,17 +452,17 @@ length-head job h =
 
 -- ---- all of it
 
--- a text that is no longer than a sum has room where the sum is told
+-- a text that is no longer than a sum has capacity if the sum does not overflow
 pub told : (text : List ℕ) (sum : ℕ) (fits : Type 0) (answer : Option ℕ) → length text ≤ sum → SomeIff answer fits sum → IfSome answer (λ room. length text ≤ room)
 told text sum fits None short is = tt
 told text sum fits (Some room) short is = omega (arith, short, is.1)
 
--- so it is with two texts, and the sum of what they take
+-- two texts have capacity if the sum of their lengths does not overflow
 pub both_told : (first second : List ℕ) (one two : ℕ) (fits : Type 0) (answer : Option ℕ) → length first ≤ one → length second ≤ two → SomeIff answer fits (two + one)
     → IfSome answer (λ room. length (first ++ second) ≤ room)
 both_told first second one two fits answer short brief is = told (first ++ second) (two + one) fits answer (omega (arith, short, brief, length-append first second)) is
 
--- the six parts of a report that are short are short as one
+-- the six parts of a report, each within its bound, are joined within the sum
 parts-le : (a b c d e f : List ℕ) (h l m n k : ℕ) → length a ≤ 1508 + h → length b ≤ l → length c ≤ 591 → length d ≤ m → length e ≤ n → length f ≤ 4 → 2103 + h + l + m + n ≤ k
     → length (a ++ b ++ c ++ d ++ e ++ f) ≤ k
 parts-le a b c d e f h l m n k la lb lc ld le lf most = simp length-append (omega arith)
@@ -483,7 +483,7 @@ report-le job os stops serial h all_of stopped found =
     products : (w a h : ℕ) → 2103 + h + w * (a * 200) + a * 200 + a * 200 ≤ 2560 + (w + 2) * a * 200 + h
     products w a h = grind arith
 
--- what is enough for any report beside the lines of its origin is below 90 million bytes
+-- the bound without the origin is below 90 million bytes
 pub enough-le : (walks asks : ℕ) → walks ≤ 100000 → asks ≤ 4 → 2560 + (walks + 2) * asks * 200 ≤ 90000000
 enough-le walks asks few four =
     let product = mul-le (walks + 2) asks 100002 4 (omega arith) four in

@@ -11,39 +11,39 @@ use Rattle.audit_statement.specs.Note.{as_line}
 use Rattle.audit_model.specs.State.{Stream}
 use Rattle.report.proofs.Appended.{part_after}
 
--- a line is added where its text is
+-- an equal text is the added line
 pub adds_line : {n m : Stream} {said line : List ℕ} → AddsLine n m said → said ≡ line → AddsLine n m line
 adds_line {n = n} {m = m} a e = subst (λ (text : List ℕ). AddsLine n m text) e a
 
--- what was said of a text, all of it or a front, is added to the line
+-- a text written in whole or in part is added to the line
 pub said_adds : (n m : Stream) (text : List ℕ) (whole : Bool) → IsSaid n m text whole → AddsLine n m text
 said_adds n m text true s = record { added = inl s }
 said_adds n m text false s = record { added = inr s }
 
--- before its first piece, nothing of a line is said
+-- before its first piece, nothing of a line is written
 pub said_nothing : (n : Stream) → IsSaid n n [] true
 said_nothing n = (Appends-nil n.bytes, refl)
 
--- a piece that was taken in part ends the line
+-- a piece that was written in part ends the line
 pub fails_after : (start old new : Stream) (said piece : List ℕ) (going : Bool) → going ≡ true
     → AppendsPart old.bytes new.bytes piece → Rose old.faults new.faults → IsSaid start old said going → IsSaid start new (said ++ piece) false
 fails_after start old new said piece true e part rose s =
     (part_after start.bytes old.bytes new.bytes said piece s.0 part, subst (λ (k : ℕ). Rose k new.faults) s.1 rose)
 fails_after start old new said piece false e part rose s = cc
 
--- ---- a line of which some pieces are written
+-- ---- a line with some pieces written
 
--- a front of the whole line was said, and this is left of it
+-- a front of the whole line was written, and this rest is left
 pub record IsOnTheWay (start now : Stream) (going : Bool) (whole left : List ℕ) : Type 0 where
   pub said : List ℕ
   pub is_said : IsSaid start now said going
   pub split : said ++ left ≡ whole
 
--- a line whose first piece was said is on its way
+-- the state after the first piece of a line
 pub begun : (start now : Stream) (first left : List ℕ) (going : Bool) → IsSaid start now first going → IsOnTheWay start now going (first ++ left) left
 begun start now first left going s = record { said = first; is_said = s; split = refl }
 
--- one piece more
+-- the state after one more piece
 pub goes_on : (start now next : Stream) (going then : Bool) (whole piece left : List ℕ) → IsOnTheWay start now going whole (piece ++ left)
     → ((from : Stream) (said : List ℕ) → IsSaid from now said going → IsSaid from next (said ++ piece) then) → IsOnTheWay start next then whole left
 goes_on start now next going then whole piece left w more = record {
@@ -52,18 +52,18 @@ goes_on start now next going then whole piece left w more = record {
   split = append_assoc w.said piece left ∙ w.split;
 }
 
--- where nothing is left, the whole was said
+-- if nothing is left, the whole line was written
 pub all_said : (start now : Stream) (going : Bool) (whole : List ℕ) → IsOnTheWay start now going whole [] → IsSaid start now whole going
 all_said start now going whole w = subst (λ (text : List ℕ). IsSaid start now text going) (sym (append-nil w.said) ∙ w.split) w.is_said
 
 -- ---- the texts of pieces
 
--- the pieces from a place on are the piece there and those behind it
+-- the pieces from a place on are the piece there and those after it
 pub one_piece_more : (pieces : List Piece) (i : ℕ) (blank : Piece) → i < length pieces
     → flat_map piece_text (drop i pieces) ≡ piece_text (get_or pieces i blank) ++ flat_map piece_text (drop (i + 1) pieces)
 one_piece_more pieces i blank l = rw (add-one, drop-cons pieces i blank) refl
 
--- behind the last piece stands nothing
+-- after the last piece nothing is left
 pub no_piece_left : (pieces : List Piece) (i : ℕ) → length pieces ≤ i → flat_map piece_text (drop i pieces) ≡ []
 no_piece_left pieces i over = ap (flat_map piece_text) (drop_all i pieces over)
 
@@ -79,19 +79,19 @@ two_texts first pieces =
     ∙ ap (λ t. flat_map piece_text first ++ t) (sym (ap as_line (sym (append-nil (map piece_text pieces))) ∙ line_begins pieces []))
     ∙ sym (line_begins first (map piece_text pieces))
 
--- texts of nothing say nothing
+-- empty texts write nothing
 pub blanks_say_nothing : (blank : Piece) (count : ℕ) → piece_text blank ≡ [] → as_line (map piece_text (replicate count blank)) ≡ 10 ∷ []
 blanks_say_nothing blank zero none = refl
 blanks_say_nothing blank (suc count) none = ap (λ t. t ++ as_line (map piece_text (replicate count blank))) none ∙ blanks_say_nothing blank count none
 
--- so do those of them that are left behind a place
+-- empty texts from a place on write nothing
 pub dropped_say_nothing : (blank : Piece) (place count : ℕ) → piece_text blank ≡ [] → as_line (map piece_text (drop place (replicate count blank))) ≡ 10 ∷ []
 dropped_say_nothing blank zero zero none = refl
 dropped_say_nothing blank zero (suc count) none = blanks_say_nothing blank (suc count) none
 dropped_say_nothing blank (suc place) zero none = refl
 dropped_say_nothing blank (suc place) (suc count) none = dropped_say_nothing blank place count none
 
--- pieces behind which nothing is said
+-- a line may end with pieces that write nothing
 pub filled_line : (pieces start rest : List Piece) → start ≡ pieces → as_line (map piece_text rest) ≡ 10 ∷ [] → as_line (map piece_text (start ++ rest)) ≡ as_line (map piece_text pieces)
 filled_line pieces start rest is none =
     ap (λ (ps : List Piece). as_line (map piece_text (ps ++ rest))) is

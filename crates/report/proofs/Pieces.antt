@@ -14,21 +14,21 @@ use Rattle.report.specs.Lines.{AppendsText}
 use Rattle.audit_model.specs.Stopping.{placed_asks}
 use Rattle.report.proofs.Written.{IsWritten, written-none, written-more, written-err}
 
--- of the pieces the first are appended
+-- the first i pieces are appended
 pub record ArePieces {X : Type 0} (piece : X → List ℕ) (xs : List X) (i : ℕ) (old now : RoomyBytes) : Type 0 where
   pub written : IsWritten old now (flat_map piece xs) (flat_map piece (drop i xs))
 
--- what is left is the next piece and what is left after it
+-- the rest is the next piece and the rest after it
 pieces-step : {X : Type 0} (piece : X → List ℕ) (xs : List X) (i : ℕ) (x d : X) → i < length xs → get_or xs i d ≡ x
     → flat_map piece (drop i xs) ≡ piece x ++ flat_map piece (drop (i + 1) xs)
 pieces-step piece xs i x d below is =
     rw (add-one, drop-cons xs i d) (ap (λ y. piece y ++ flat_map piece (drop (suc i) xs)) is)
 
--- at first no piece is appended
+-- before the first step no piece is appended
 pub pieces-none : {X : Type 0} (piece : X → List ℕ) (xs : List X) (old : RoomyBytes) → ArePieces piece xs 0 old old
 pieces-none piece xs old = record { written = written-none old (flat_map piece xs) (flat_map piece xs) refl }
 
--- one piece more is appended
+-- one more piece is appended
 pub pieces-more : {X : Type 0} (piece : X → List ℕ) (xs : List X) (i : ℕ) (x d : X) (old now new : RoomyBytes)
     → i < length xs → get_or xs i d ≡ x → ArePieces piece xs i old now → AppendsText now new (piece x) (Ok tt) → ArePieces piece xs (i + 1) old new
 pieces-more piece xs i x d old now new below is before more = record {
@@ -36,14 +36,14 @@ pieces-more piece xs i x d old now new below is before more = record {
       (subst (λ t. IsWritten old now (flat_map piece xs) t) (pieces-step piece xs i x d below is) before.written) more;
 }
 
--- where a piece cannot be appended, the whole cannot
+-- if a piece cannot be appended, the whole cannot
 pub pieces-err : {X : Type 0} (piece : X → List ℕ) (xs : List X) (i : ℕ) (x d : X) (old now new : RoomyBytes) (e : Memory)
     → i < length xs → get_or xs i d ≡ x → ArePieces piece xs i old now → AppendsText now new (piece x) (Err e) → AppendsText old new (flat_map piece xs) (Err e)
 pieces-err piece xs i x d old now new e below is before failed =
     written-err old now new (flat_map piece xs) (piece x) (flat_map piece (drop (i + 1) xs)) e
     (subst (λ t. IsWritten old now (flat_map piece xs) t) (pieces-step piece xs i x d below is) before.written) failed
 
--- where each piece is appended, the whole is
+-- if each piece is appended, the whole is
 pub pieces-all : {X : Type 0} (piece : X → List ℕ) (xs : List X) (i : ℕ) (old now : RoomyBytes)
     → length xs ≤ i → ArePieces piece xs i old now → AppendsText old now (flat_map piece xs) (Ok tt)
 pieces-all piece xs i old now over before =
@@ -59,7 +59,7 @@ pieces-all piece xs i old now over before =
 
 -- ---- the asks, each with its place
 
--- what stands for an ask where there is none
+-- the default for a missing ask
 abbrev pub no_ask : Ask
 no_ask = record { score = Seats; tail = Low }
 
@@ -75,13 +75,13 @@ placed job asks place e l =
 pub placed_within : (job : Job) (asks : List Ask) (place : ℕ) → asks ≡ job.setting.asks → place < length asks → place < length (placed_asks job)
 placed_within job asks place e l = omega (arith, length-enumerate_from 0 job.setting.asks, ap length e)
 
--- behind the last ask there is no ask with its place
+-- after the last ask there is no placed ask
 pub placed_all : (job : Job) (asks : List Ask) (place : ℕ) → asks ≡ job.setting.asks → length asks ≤ place → length (placed_asks job) ≤ place
 placed_all job asks place e l = omega (arith, length-enumerate_from 0 job.setting.asks, ap length e)
 
 -- ---- the asks, each with the stop of its test
 
--- at each place stand the ask and the stop of this place
+-- each place has the ask and the stop of that place
 pub zipped : (job : Job) (asks : List Ask) (stops : List (List ℕ)) (place : ℕ) → asks ≡ job.setting.asks → length stops ≡ length job.setting.asks → place < length asks
     → get_or (zip job.setting.asks stops) place (no_ask, []) ≡ (get_or asks place no_ask, get_or stops place [])
 zipped job asks stops place e count l =
@@ -89,7 +89,7 @@ zipped job asks stops place e count l =
     get_or-zip job.setting.asks stops place (no_ask, []) inside (omega (arith, inside, count))
     ∙ ap (λ xs. (get_or xs place no_ask, get_or stops place [])) (sym e)
 
--- asks with as many stops are as many as the asks
+-- with as many stops as asks, zipping keeps the number
 zipped_length : (job : Job) (stops : List (List ℕ)) → length stops ≡ length job.setting.asks → length (zip job.setting.asks stops) ≡ length job.setting.asks
 zipped_length job stops count = length-zip job.setting.asks stops ∙ omega (arith, count)
 
@@ -98,7 +98,7 @@ pub zipped_within : (job : Job) (asks : List Ask) (stops : List (List ℕ)) (pla
     → place < length (zip job.setting.asks stops)
 zipped_within job asks stops place e count l = omega (arith, zipped_length job stops count, ap length e)
 
--- behind the last ask there is no ask with its stop
+-- after the last ask there is no ask with its stop
 pub zipped_all : (job : Job) (asks : List Ask) (stops : List (List ℕ)) (place : ℕ) → asks ≡ job.setting.asks → length stops ≡ length job.setting.asks → length asks ≤ place
     → length (zip job.setting.asks stops) ≤ place
 zipped_all job asks stops place e count l = omega (arith, zipped_length job stops count, ap length e)

@@ -1,4 +1,4 @@
--- How many regions there are, counted by marks, and the line of their splits in all.
+-- The number of regions, counted by marks, and the line of splits in all.
 use Rattle.std.proofs.Common.{◌≡◌, ℕ, suc, ◌<◌, ◌≤◌, Bool, true, false, ◌||◌, List, [], ◌∷◌, ◌++◌, length, All, refl, sym, ap, ◌∙◌, subst, inl, inr, arith, set, get_or-set_same, get_or-set_other}
 use Rattle.std.specs.Prelude.{◌==◌, codes, decimal, nat_lt}
 use Rattle.std.specs.List.{slice_index_or}
@@ -12,7 +12,7 @@ use Rattle.audit_statement.specs.Report.{line, splits_line}
 
 -- ---- the marks
 
--- a longer list has a number where the shorter has it or it is the last
+-- a list extended by a number has that number and those from before
 has_more : (xs : List ℕ) (x r : ℕ) → has (xs ++ x ∷ []) r ≡ (has xs r || (x == r))
 has_more [] x r = or_false (x == r)
 has_more (y ∷ xs) x r = or_both (y == r) (has (xs ++ x ∷ []) r) (has xs r) (x == r) (has_more xs x r)
@@ -21,12 +21,12 @@ has_more (y ∷ xs) x r = or_both (y == r) (has (xs ++ x ∷ []) r) (has xs r) (
     or_both true b c d h = refl
     or_both false b c d h = h
 
--- an 'or' with what is true is true
+-- an 'or' with a true operand is true
 or_yes : (b : Bool) → (b || true) ≡ true
 or_yes true = refl
 or_yes false = refl
 
--- a region that is marked is one of the longer list
+-- the marks after one more region are those of the longer list
 pub seen_more : (seen : List Bool) (xs : List ℕ) (x r : ℕ) → x < length seen → slice_index_or seen r false ≡ has xs r → slice_index_or (set seen x true) r false ≡ has (xs ++ x ∷ []) r
 seen_more seen xs x r below so_far = elim (cases_eq r x) [
   | inl e ↦
@@ -36,11 +36,11 @@ seen_more seen xs x r below so_far = elim (cases_eq r x) [
       get_or-set_other seen x r true false off ∙ so_far ∙ sym (has_more xs x r ∙ ap (λ b. has xs r || b) (ne_eqb x r (λ e. off (sym e))) ∙ or_false (has xs r))
 ]
 
--- ---- how many marks
+-- ---- the number of marks
 
--- ---- no region has a number past the marks
+-- ---- every region has a mark
 
--- each number of a list is below the one above all
+-- each member of a list is below the least number above all
 below_above : (xs : List ℕ) (r : ℕ) → has xs r ≡ true → r < above_all xs
 below_above [] r h = cc
 below_above (x ∷ xs) r h = elim (cases_Bool (x == r)) [
@@ -48,7 +48,7 @@ below_above (x ∷ xs) r h = elim (cases_Bool (x == r)) [
   | inr there ↦ let later : has xs r ≡ true = subst (λ b. (b || has xs r) ≡ true) there h in omega (arith, below_above xs r later)
 ]
 
--- the number above all is at most any bound on each
+-- the least number above all is at most any bound on the members
 above_most : (xs : List ℕ) (n : ℕ) → All (λ r. r < n) xs → above_all xs ≤ n
 above_most [] n each = omega arith
 above_most (x ∷ xs) n each =
@@ -68,7 +68,7 @@ regions_counted regions few =
 
 -- ---- the line of splits in all
 
--- it is told where there are regions and splits are limited
+-- the line is written if there are regions and splits are limited
 pub splits_are_told : (splits most : ℕ) (regions : List ℕ) → (length regions == 0) ≡ false → (nat_lt splits 995000 || nat_lt most 5000) ≡ true
     → line (codes "max-splits" ∷ decimal splits ∷ codes "max-split-regions" ∷ decimal most ∷ []) ≡ splits_line splits most regions
 splits_are_told splits most [] some limited = cc

@@ -1,4 +1,4 @@
--- Outcomes in the order of their ids, which are the numbers from 0 on.
+-- Outcomes by rising id, whose ids are the numbers from 0 on.
 use Rattle.std.proofs.Common.{◌≡◌, ℕ, zero, suc, ◌+◌, ◌-◌, ◌<◌, ◌≤◌, Bool, true, false, ◌&&◌, ◌||◌, not, List, [], ◌∷◌, ◌++◌, length, map, take, drop, refl, ap, sym, ◌∙◌, subst, inl, inr, arith, add-one, zero-add, get_or, length-drop, ℤ, pos}
 use Rattle.std.proofs.Math.Nat.{sub-zero}
 use Rattle.std.specs.Prelude.{nat_lt, nat_le, filter, int_le}
@@ -26,15 +26,15 @@ map_below-is (suc n) =
     ap (λ ids. ids ++ n ∷ []) (map_below-is n ∙ sym (map-id (range_with_len 0 n)))
     ∙ sym more ∙ map-id (range_with_len 0 (n + 1)) ∙ ap (range_with_len 0) (add-one n)
 
--- one that is picked, or not
+-- an outcome that passes a test is kept
 filter_yes : (p : Outcome → Bool) (o : Outcome) (os : List Outcome) → p o ≡ true → filter p (o ∷ os) ≡ o ∷ filter p os
 filter_yes p o os e = cond-true {A = List Outcome} (p o) (o ∷ filter p os) (filter p os) e
 
--- an outcome that fails a test is left out
+-- an outcome that fails a test is dropped
 filter_no : (p : Outcome → Bool) (o : Outcome) (os : List Outcome) → p o ≡ false → filter p (o ∷ os) ≡ filter p os
 filter_no p o os e = cond-false {A = List Outcome} (p o) (o ∷ filter p os) (filter p os) e
 
--- of outcomes whose ids are the numbers from a on, those below w come first
+-- if the ids are the numbers from a on, those below w come first
 pub firsts : (w a n : ℕ) (os : List Outcome) → map (λ o. o.id) os ≡ range_with_len a n → filter (λ o. nat_lt o.id w) os ≡ take (w - a) os
 firsts w a n [] e = sym (take_all {A = Outcome} (w - a) [] (omega arith))
 firsts w a zero (o ∷ os) e = absurd (cc)
@@ -52,7 +52,7 @@ firsts w a (suc n) (o ∷ os) e =
           filter_no (λ o. nat_lt o.id w) o os (le-ltb o.id w (omega (arith, id))) ∙ later ∙ ap (λ k. take k os) none_later ∙ ap (λ k. take k (o ∷ os)) (sym none)
     ]
 
--- and those from w on come last
+-- if the ids are the numbers from a on, those from w on come last
 pub lasts : (w a n : ℕ) (os : List Outcome) → map (λ o. o.id) os ≡ range_with_len a n → filter (λ o. nat_le w o.id) os ≡ drop (w - a) os
 lasts w a n [] e = sym (drop_all {X = Outcome} (w - a) [] (omega arith))
 lasts w a zero (o ∷ os) e = absurd (cc)
@@ -71,7 +71,7 @@ lasts w a (suc n) (o ∷ os) e =
           ∙ ap (λ k. o ∷ drop k os) none_later ∙ ap (λ k. drop k (o ∷ os)) (sym none)
     ]
 
--- the outlier trajectories are among those that are reported
+-- the outlier walks are among the reported trajectories
 walks_reported : (h : ℕ) (job : Job) → job.setting.walks ≤ reported_by h job
 walks_reported zero job = omega arith
 walks_reported (suc h) job = omega arith
@@ -85,46 +85,46 @@ reported_within (suc h) job = omega arith
 ids : (job : Job) (os : List Outcome) → AreOutcomesOf job os → map (λ o. o.id) os ≡ range_with_len 0 (reported job)
 ids job os h = h.ids ∙ map_below-is (reported job)
 
--- there are as many as trajectories that are reported
+-- there is one outcome for each reported trajectory
 count : (job : Job) (os : List Outcome) → AreOutcomesOf job os → length os ≡ reported job
 count job os h = sym (length-map os (λ (o : Outcome). o.id)) ∙ ap length (ids job os h) ∙ length-range_with_len 0 (reported job)
 
--- no more than trajectories
+-- there are no more outcomes than trajectories
 pub few : (job : Job) (os : List Outcome) → AreOutcomesOf job os → length os ≤ total job
 few job os h = let all = count job os h in omega (arith, all, reported_within job.setting.stop job)
 
--- the outcome at a place has it as its id
+-- the outcome at a place has the place as its id
 pub id_at : (job : Job) (os : List Outcome) (k : ℕ) (d : Outcome) → AreOutcomesOf job os → k < length os → (get_or os k d).id ≡ k
 id_at job os k d h l =
     let mapped = get_or-map (λ o. o.id) os k d 0 l in
     let numbered = get_or-range_with_len 0 (reported job) k 0 (subst (λ n. k < n) (count job os h) l) in
     sym mapped ∙ ap (λ ids. get_or ids k 0) (ids job os h) ∙ numbered ∙ zero-add k
 
--- the outlier trajectories stand first
+-- the outlier walks stand first
 pub walks_first : (job : Job) (os : List Outcome) → AreOutcomesOf job os → filter (λ o. nat_lt o.id job.setting.walks) os ≡ take job.setting.walks os
 walks_first job os h = firsts job.setting.walks 0 (reported job) os (ids job os h) ∙ ap (λ k. take k os) (sub-zero job.setting.walks)
 
--- the trajectories of the parallel test stand last
+-- the endpoint trajectories stand last
 pub ends_last : (job : Job) (os : List Outcome) → AreOutcomesOf job os → filter (λ o. nat_le job.setting.walks o.id) os ≡ drop job.setting.walks os
 ends_last job os h = lasts job.setting.walks 0 (reported job) os (ids job os h) ∙ ap (λ k. drop k os) (sub-zero job.setting.walks)
 
--- there is an outcome at least for each that is not of the parallel test
+-- there is at least one outcome for each outlier walk
 pub walks_within : (job : Job) (os : List Outcome) → AreOutcomesOf job os → job.setting.walks ≤ length os
 walks_within job os h = let all = count job os h in omega (arith, all, walks_reported job.setting.stop job)
 
--- what fits has a number of visits for each ask
+-- a plausible value is a number of visits
 is_count : (steps : ℕ) (v : ℤ) → (int_le (pos 1) v && int_le v (pos (steps + 1))) ≡ true → IsCount steps v
 is_count steps v h =
     let parts = and_parts (int_le (pos 1) v) (int_le v (pos (steps + 1))) h in
     record { some = le_z_yes (T_from_true (int_le (pos 1) v) parts.0); few = le_z_yes (T_from_true (int_le v (pos (steps + 1))) parts.1) }
 
--- the parts of what fits
+-- the parts of a plausible outcome
 pub record Fits (job : Job) (o : Outcome) : Type 0 where
   pub id : o.id < total job
   pub moved : o.moved ≤ steps_of (nat_lt o.id job.setting.walks) job
   pub counts : nat_lt o.id job.setting.walks ≡ true → HasCounts job o
 
--- an outcome that fits meets each part of the test
+-- a plausible outcome meets each part of the test
 pub fits_parts : (job : Job) (o : Outcome) → fits job o ≡ true → Fits job o
 fits_parts job o h =
     let is_walk = nat_lt o.id job.setting.walks in
@@ -146,11 +146,11 @@ fits_parts job o h =
       ];
     }
 
--- each of the outcomes fits
+-- each outcome is plausible
 pub fit_at : (job : Job) (os : List Outcome) (k : ℕ) (d : Outcome) → AreOutcomesOf job os → k < length os → Fits job (get_or os k d)
 fit_at job os k d h l = fits_parts job (get_or os k d) (AllPass-from_list_all (fits job) os h.fitting k d l)
 
--- each outlier trajectory has counts of visits
+-- each outlier walk has numbers of visits
 pub walks_counted : (job : Job) (os : List Outcome) → AreOutcomesOf job os → All (HasCounts job) (take job.setting.walks os)
 walks_counted job os h k d l =
     let all = walks_within job os h in
@@ -160,7 +160,7 @@ walks_counted job os h k d l =
     subst (HasCounts job) (sym (get_or-take job.setting.walks os k d below))
     ((fit_at job os k d h (omega arith)).counts (lt-ltb (get_or os k d).id job.setting.walks (omega arith)))
 
--- where no test stops early, the last outcomes are all those of the parallel test
+-- without an early stop, the last outcomes are all those of the parallel test
 pub ends_sound : (job : Job) (os : List Outcome) → job.setting.stop ≡ 0 → AreOutcomesOf job os → AreEndsOf job (drop job.setting.walks os)
 ends_sound job os none h =
     let all : length os ≡ total job = count job os h ∙ ap (λ n. reported_by n job) none in
@@ -173,7 +173,7 @@ ends_sound job os none h =
           subst (λ (o : Outcome). job.setting.walks ≤ o.id) (sym moved) (omega arith);
     }
 
--- no end is left out
+-- no endpoint is left out
 pub ends_all : (w : ℕ) (os : List Outcome) → All (λ o. w ≤ o.id) os → filter (λ o. nat_le w o.id) os ≡ os
 ends_all w [] h = refl
 ends_all w (o ∷ os) h =

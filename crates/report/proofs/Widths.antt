@@ -1,4 +1,4 @@
--- How many bytes a word, a line and a list of lines have at most.
+-- The greatest lengths of a word, a line and a list of lines.
 use Rattle.std.proofs.Common.{◌≡◌, ℕ, zero, suc, ◌+◌, ◌-◌, ◌*◌, ◌/◌, ◌%◌, ◌^◌, ◌<◌, ◌≤◌, Bool, false, List, [], ◌∷◌, ◌++◌, length, flat_map, refl, ap, arith, length-append, replicate, decimal, ℤ, pos, negsuc}
 use Rattle.std.proofs.lemmas.Bool.{cond_both}
 use Rattle.std.proofs.lemmas.Fmt.{length-decimal-le}
@@ -21,7 +21,7 @@ length-digits_onto (suc k) base upper n acc =
     (λ t. length t ≤ suc k + length acc) (λ _. omega arith)
     (λ _. let rest = length-digits_onto k base upper (n / base) (digit_glyph upper (n % base) ∷ acc) in omega (arith, rest))
 
--- of any number
+-- any number takes at most 64 bytes
 pub length-decimal_any : (n : ℕ) → length (decimal n) ≤ 64
 unfolding digits
 length-decimal_any n = length-digits_onto 64 10 false n []
@@ -55,17 +55,17 @@ length-billionths n small =
 
 -- ---- lines
 
--- the bytes of the words, with one after each
+-- the length of the words, with one more byte for each
 abbrev pub width : List (List ℕ) → ℕ
 width [] = 0
 width (word ∷ words) = length word + 1 + width words
 
--- words are as wide as the first of them and the rest
+-- the width of two lists of words is the sum
 pub width-append : (words more : List (List ℕ)) → width (words ++ more) ≡ width words + width more
 width-append [] more = omega arith
 width-append (word ∷ words) more = let rest = width-append words more in omega (arith, rest)
 
--- the words behind the first have as many bytes as they are wide, and one for the line's end
+-- the words after the first take their width and one byte for the line's end
 length-tail_of : (words : List (List ℕ)) → length (tail_of words) ≡ 1 + width words
 length-tail_of [] = refl
 length-tail_of (word ∷ words) =
@@ -73,14 +73,14 @@ length-tail_of (word ∷ words) =
     let rest = length-tail_of words in
     omega (arith, whole, rest)
 
--- a line has as many bytes as its words are wide
+-- the length of a line is the width of its words
 pub length-line : (word : List ℕ) (words : List (List ℕ)) → length (line (word ∷ words)) ≡ width (word ∷ words)
 length-line word words =
     let whole = length-append word (tail_of words) in
     let rest = length-tail_of words in
     omega (arith, ap length (line-cons word words), whole, rest)
 
--- pieces that are short have together at most the bound for each
+-- joined pieces, each within a bound, are at most that bound for each
 pub length-flat_map-le : {X : Type 0} (piece : X → List ℕ) (most : ℕ) (xs : List X) → All (λ x. length (piece x) ≤ most) xs
     → length (flat_map piece xs) ≤ length xs * most
 length-flat_map-le piece most xs each =

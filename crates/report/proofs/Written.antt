@@ -1,4 +1,4 @@
--- A text that is appended piece by piece.
+-- Appending a text piece by piece.
 use Rattle.std.proofs.Common.{◌≡◌, ◌∙◌, ℕ, ◌+◌, ◌≤◌, subst, append-nil, List, [], ◌∷◌, ◌++◌, length, refl, ap, sym, arith, append_assoc, Result, Ok, Err}
 use Rattle.std.proofs.lemmas.Bool.{false≢true}
 use Rattle.std.proofs.lemmas.List.{length-append}
@@ -8,28 +8,28 @@ use Rattle.audit_model.specs.declared.memory.Memory.{Memory}
 use Rattle.report.specs.Lines.{AppendsText, spaced, tail_of}
 use Rattle.audit_statement.specs.Report.{line}
 
--- a line is its first word and what stands after it
+-- a line is its first word and the rest
 pub line-cons : (word : List ℕ) (words : List (List ℕ)) → line (word ∷ words) ≡ word ++ tail_of words
 line-cons word [] = refl
 line-cons word (next ∷ words) = ap (λ t. word ++ 32 ∷ t) (line-cons next words)
 
--- of the whole text all but what is left is appended, and where there was room for it the bytes and the room add up as before
+-- all of the text but the rest is appended, and within the capacity the total stays as before
 pub record IsWritten (old now : RoomyBytes) (whole left : List ℕ) : Type 0 where
   pub items : now.items ++ left ≡ old.items ++ whole
   pub room : length whole ≤ old.spare → now.spare + length now.items ≡ old.spare + length old.items
 
--- at first nothing is written, and the whole is left
+-- before the first piece nothing is written, and the whole is left
 pub written-none : (old : RoomyBytes) (whole left : List ℕ) → whole ≡ left → IsWritten old old whole left
 written-none old whole left e = record { items = ap (λ t. old.items ++ t) (sym e); room = λ _. refl }
 
--- there is room for the next piece
+-- there is capacity for the next piece
 has_room : (old now : RoomyBytes) (whole piece left : List ℕ) → IsWritten old now whole (piece ++ left) → length whole ≤ old.spare → length piece ≤ now.spare
 has_room old now whole piece left w enough =
     let sum : now.spare + length now.items ≡ old.spare + length old.items = w.room enough in
     let count : length now.items + (length piece + length left) ≡ length old.items + length whole = simp length-append at (ap length w.items) in
     omega arith
 
--- one piece more is written
+-- one more piece is written
 pub written-more : (old now new : RoomyBytes) (whole piece left : List ℕ) → IsWritten old now whole (piece ++ left) → AppendsText now new piece (Ok tt) → IsWritten old new whole left
 written-more old now new whole piece left w more = record {
   items = ap (λ t. t ++ left) more.ok ∙ append_assoc now.items piece left ∙ w.items;
@@ -40,14 +40,14 @@ written-more old now new whole piece left w more = record {
       omega (arith, spent.1);
 }
 
--- where a piece cannot be written, the whole cannot
+-- if a piece cannot be written, the whole cannot
 pub written-err : (old now new : RoomyBytes) (whole piece left : List ℕ) (e : Memory) → IsWritten old now whole (piece ++ left) → AppendsText now new piece (Err e) → AppendsText old new whole (Err e)
 written-err old now new whole piece left e w more = record {
   ok = tt;
   room = λ enough. absurd (false≢true (more.room (has_room old now whole piece left w enough)).0);
 }
 
--- with the last piece the whole is written, or it cannot be
+-- after the last piece the whole is written, or it cannot be
 pub written-last : (old now new : RoomyBytes) (whole piece : List ℕ) (r : Result (Unit {0}) Memory) → IsWritten old now whole piece → AppendsText now new piece r → AppendsText old new whole r
 written-last old now new whole piece (Ok u) w more =
     let done = written-more old now new whole piece [] (subst (λ t. IsWritten old now whole t) (sym (append-nil piece)) w) more in
@@ -61,12 +61,12 @@ written-last old now new whole piece (Ok u) w more =
     }
 written-last old now new whole piece (Err e) w more = written-err old now new whole piece [] e (subst (λ t. IsWritten old now whole t) (sym (append-nil piece)) w) more
 
--- what stands in a line after its first word, and the line's end
+-- the rest of a line after its first word, and the line's end
 pub tail-spaced : (words : List (List ℕ)) → tail_of words ≡ spaced words ++ 10 ∷ []
 tail-spaced [] = refl
 tail-spaced (word ∷ words) = ap (λ t. 32 ∷ (word ++ t)) (tail-spaced words) ∙ ap (λ t. 32 ∷ t) (sym (append_assoc word (spaced words) (10 ∷ [])))
 
--- a line of its first word, of some more, and of two lists of words
+-- a line from its first word and three lists of words
 pub line-parts : (word : List ℕ) (words more last : List (List ℕ)) → (((word ++ spaced words) ++ spaced more) ++ spaced last) ++ 10 ∷ [] ≡ line (word ∷ ((words ++ more) ++ last))
 line-parts word words more last =
     sym (line-cons word ((words ++ more) ++ last)
@@ -78,15 +78,15 @@ line-parts word words more last =
     joined : (a b c d : List ℕ) → a ++ (((b ++ c) ++ d) ++ 10 ∷ []) ≡ (((a ++ b) ++ c) ++ d) ++ 10 ∷ []
     joined a b c d = simp append_assoc
 
--- one text after another
+-- two texts are appended one after the other
 pub appends-two : (old mid new : RoomyBytes) (a b : List ℕ) (r : Result (Unit {0}) Memory) → AppendsText old mid a (Ok tt) → AppendsText mid new b r → AppendsText old new (a ++ b) r
 appends-two old mid new a b r first second = written-last old mid new (a ++ b) b r (written-more old old mid (a ++ b) a b (written-none old (a ++ b) (a ++ b) refl) first) second
 
--- a text whose front cannot be appended cannot be
+-- a text whose front cannot be appended cannot be appended
 pub appends-err : (old new : RoomyBytes) (a b : List ℕ) (e : Memory) → AppendsText old new a (Err e) → AppendsText old new (a ++ b) (Err e)
 appends-err old new a b e first = written-err old old new (a ++ b) a b e (written-none old (a ++ b) (a ++ b) refl) first
 
--- six texts in turn, appended at once
+-- six texts appended in turn are appended at once
 pub appended-six : (start one two three four five last out new a b c d e f : List ℕ) → start ≡ [] → one ≡ start ++ a → two ≡ one ++ b → three ≡ two ++ c → four ≡ three ++ d
     → five ≡ four ++ e → last ≡ five ++ f → new ≡ out ++ last → new ≡ out ++ (((((a ++ b) ++ c) ++ d) ++ e) ++ f)
 appended-six start one two three four five last out new a b c d e f hs h1 h2 h3 h4 h5 h6 h =
@@ -94,6 +94,6 @@ appended-six start one two three four five last out new a b c d e f hs h1 h2 h3 
     let all : (((((start ++ a) ++ b) ++ c) ++ d) ++ e) ++ f ≡ ((((a ++ b) ++ c) ++ d) ++ e) ++ f = rw hs refl in
     h ∙ ap (λ t. out ++ t) (whole ∙ all)
 
--- the same text, given otherwise
+-- the appended text may be replaced by an equal one
 pub appends-by : (old new : RoomyBytes) (a b : List ℕ) (r : Result (Unit {0}) Memory) → a ≡ b → AppendsText old new a r → AppendsText old new b r
 appends-by old new a b r e h = subst (λ t. AppendsText old new t r) e h

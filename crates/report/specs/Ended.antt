@@ -1,4 +1,4 @@
--- Why a call ended, as its body tells it, and as the definitions name it.
+-- The reasons why a call ended, from the code's type to the definitions.
 use Rattle.std.specs.Prelude.{ℕ, List, Option, Some, None}
 use Rattle.audit_model.specs.declared.fault.GraphFault.{GraphFault}
 use Rattle.audit_model.specs.declared.fault.GraphFault.TheVariants as graph
@@ -15,7 +15,7 @@ use Rattle.audit_model.specs.declared.setting.Columns.{Columns}
 use Rattle.ckpt_store.specs.View.{slot_view}
 use Rattle.audit_statement.specs.Accepted.{no_columns}
 
--- a refusal of a lower layer, of which want of memory is merged with every other
+-- a refusal of a lower layer, with out of memory as one reason
 abbrev pub word_ended : WordFault → Ended
 word_ended word.Memory = ended.NoMemory
 word_ended f = ended.BadWords f
@@ -32,7 +32,7 @@ abbrev pub plan_ended : PlanFault → Ended
 plan_ended plan.Memory = ended.NoMemory
 plan_ended f = ended.BadPlan f
 
--- the reason, and none where all was done
+-- the reason, or none if the call did all its work
 abbrev pub ending_of : Ended → Option Ending
 ending_of ended.Done = None
 ending_of (ended.BadWords f) = Some (bad_words f)
@@ -52,7 +52,7 @@ ending_of (ended.Damaged slots) = Some (damaged (slot_view slots.zero) (slot_vie
 ending_of (ended.OtherJob found wanted) = Some (other_job found wanted)
 ending_of ended.SaveFault = Some save_fault
 
--- the columns that the body keeps for the line
+-- the columns that the code keeps for the diagnostic
 abbrev pub columns_kept : Ended → Columns
 columns_kept ended.Done = no_columns
 columns_kept (ended.BadWords f) = no_columns

@@ -1,4 +1,4 @@
--- The words of a line, and what appending a text to a list with room does.
+-- The words of a line, and the effect of appending a text to a buffer.
 use Rattle.std.specs.Prelude.{◌≡◌, ◌≤◌, ℕ, ◌+◌, List, [], ◌∷◌, ◌++◌, length, flat_map, decimal, Result, OnOk, IsOk}
 use Rattle.std.specs.Fmt.{signed_decimal}
 use Rattle.hex.specs.Hex.{encode_lower}
@@ -9,7 +9,7 @@ use Rattle.report.specs.declared.lines.Word.{Word}
 use Rattle.report.specs.declared.lines.Word.TheVariants.{Text, Number, Signed, Fraction, Billionths, Key, Quoted}
 use Rattle.audit_statement.specs.Report.{fraction, billionths}
 
--- how a word is written
+-- the text of a word
 abbrev pub word_text : Word → List ℕ
 word_text (Text text) = text.now
 word_text (Number n) = decimal n
@@ -23,12 +23,12 @@ word_text (Quoted text) = quoted text.now
 abbrev pub spaced : List (List ℕ) → List ℕ
 spaced = flat_map (λ word. 32 ∷ word)
 
--- what stands in a line after its first word
+-- the rest of a line after its first word
 abbrev pub tail_of : List (List ℕ) → List ℕ
 tail_of [] = 10 ∷ []
 tail_of (word ∷ words) = 32 ∷ (word ++ tail_of words)
 
--- the text is appended; where there is room for it, it takes no memory
+-- the text is appended, and within the capacity this does not fail
 pub record AppendsText (old new : RoomyBytes) (text : List ℕ) (result : Result (Unit {0}) Memory) : Type 0 where
   pub ok : OnOk result (new.items ≡ old.items ++ text)
   pub room : length text ≤ old.spare → IsOk result × (new.spare + length text ≡ old.spare)

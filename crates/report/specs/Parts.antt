@@ -10,11 +10,11 @@ use Rattle.audit_model.specs.Test.{p_value}
 use Rattle.audit_model.specs.Stopping.{placed_asks}
 use Rattle.audit_statement.specs.Report.{line, ask_words, billionths, graph_line, origin_lines, population_line, rule_lines, serial_lines, setting_line, shift_line, stop_line, test_lines, title_line, walk_line, walk_lines}
 
--- the line with the digest of the bytes that were read, and how many they were
+-- the line with the digest and the number of the bytes that were read
 abbrev pub source_line : Origin → List ℕ
 source_line origin = line (codes "source" ∷ codes "sha256" ∷ encode_lower origin.sha256 ∷ codes "bytes" ∷ decimal origin.bytes ∷ [])
 
--- how many bytes the names of the columns have together
+-- the total number of bytes of the column names
 abbrev pub names_length : Columns → List ℕ → ℕ
 names_length columns region =
     length columns.population + length columns.first + length columns.second + length columns.district + length columns.group + length columns.whole
@@ -36,18 +36,18 @@ head job =
     ++ setting_line job
     ++ stop_line job.setting.stop
 
--- the lines of an outlier trajectory, one for each ask
+-- the lines of an outlier walk, one for each ask
 abbrev pub lines_of : Job → Outcome → List ℕ
 lines_of job found = flat_map (walk_line job found) (placed_asks job)
 
--- the line of an ask, whose value at the start has this rank
+-- the line of an ask with this rank of the start plan's value
 abbrev pub rank_line : Job → Ask → ℕ → List ℕ
 rank_line job ask start_rank = line (
     (codes "ends" ∷ []) ++ ask_words job ask
     ++ codes "rank" ∷ decimal start_rank ∷ codes "of" ∷ decimal (job.setting.ends + 1)
     ∷ codes "p" ∷ billionths (p_value start_rank (job.setting.ends + 1)) ∷ [])
 
--- the line of an ask, whose start plan stands at this place of the serial test's run and has this rank
+-- the line of an ask with this place of the start plan in the serial test's run, and this rank
 abbrev pub place_line : Job → ℕ → Ask → ℕ → List ℕ
 place_line job place ask rank = line (
     (codes "serial" ∷ []) ++ ask_words job ask

@@ -1,4 +1,4 @@
--- A text that is written whole, and a line that is written piece by piece.
+-- The effect of writing a whole text, and of writing a line piece by piece.
 use Rattle.std.specs.Prelude.{◌≡◌, ℕ, Bool, true, false, List, ◌++◌, Result, Ok, Err}
 use Rattle.std.specs.Io.KnownBytes.{Appends}
 use Rattle.audit_io.specs.declared.source.Failed.{Failed}
@@ -6,16 +6,16 @@ use Rattle.audit_model.specs.Faults.{Rose}
 use Rattle.audit_statement.specs.Endings.{AppendsPart}
 use Rattle.audit_model.specs.State.{Stream}
 
--- the text was taken whole, or in part where the sink failed
+-- the sink took the whole text, or a part if it failed
 abbrev pub IsSaid : Stream → Stream → List ℕ → Bool → Type 0
 IsSaid before after text true = Appends before.bytes after.bytes text × (after.faults ≡ before.faults)
 IsSaid before after text false = AppendsPart before.bytes after.bytes text × Rose before.faults after.faults
 
--- the whole text was taken, or a part where the sink failed
+-- the sink took the whole text, or a part if it failed
 abbrev pub WritesAllOf : Stream → Stream → List ℕ → Result (Unit {0}) Failed → Type 0
 WritesAllOf before after text (Ok done) = Appends before.bytes after.bytes text × (after.faults ≡ before.faults)
 WritesAllOf before after text (Err failed) = AppendsPart before.bytes after.bytes text × Rose before.faults after.faults
 
--- whatever was said before, this text was said behind it, where nothing had failed; `going` and `result` say whether nothing had failed before and after
+-- this text was written after the earlier text. `going` and `result` say that nothing had failed before and after.
 pub record AddsText (before after : Stream) (going : Bool) (text : List ℕ) (result : Bool) : Type 0 where
   pub adds : (start : Stream) (said : List ℕ) → IsSaid start before said going → IsSaid start after (said ++ text) result

@@ -19,9 +19,10 @@ use audit_model::memory::Memory;
 use audit_model::outcome::Outcome;
 use plan_core::job::Job;
 
-/// Appends the report on the outcomes, which are in the order of their ids: of all trajectories, or where the test stops early of
-/// the outlier trajectories alone. The stops have a place, and a p-value's numerator and denominator, for each ask, and the
-/// serial test a place and a rank for each ask. It takes no memory: `reserve` makes the room.
+/// Appends the report on outcomes in the order of their ids. These are all outcomes, or only those of the outlier walks
+/// if the parallel test stops early. `stops` has a stopping place and the numerator and denominator of a p-value for
+/// each ask. `serial` has the start plan's place and a rank for each ask. Allocates nothing: `reserve` allocates the
+/// capacity.
 #[tactic(auto, using(crate::proofs::Wholly::report_is_whole))]
 pub fn text(
     job: &Job,
@@ -40,7 +41,7 @@ pub fn text(
     push_report(job, sorted, stops, serial, out).unwrap();
 }
 
-/// Appends the report.
+/// Appends the report, or reports out of memory.
 fn push_report(
     job: &Job,
     sorted: &[Outcome],
@@ -75,7 +76,7 @@ fn push_head(job: &Job, out: &mut Bytes) -> Result<(), Memory>
     push_stop_line(job, out)
 }
 
-/// Appends the first line, which tells whether there is one of seats.
+/// Appends the title line, whose form depends on the line of seats.
 fn push_title_line(job: &Job, out: &mut Bytes) -> Result<(), Memory>
     ensures { AppendsText out.old out.new (definition.title_line job.now.setting.shift) result }
 {
@@ -94,7 +95,7 @@ pub fn push_key_line(job: &Job, out: &mut Bytes) -> Result<(), Memory>
     push_line(out, &[Word::Text("key"), Word::Key(&job.setting().key)])
 }
 
-/// Appends the line with the numbers and the lengths of the trajectories.
+/// Appends the line with the counts and lengths of the trajectories.
 pub fn push_setting_line(job: &Job, out: &mut Bytes) -> Result<(), Memory>
     ensures { AppendsText out.old out.new (definition.setting_line job.now) result }
 {
@@ -114,7 +115,7 @@ pub fn push_setting_line(job: &Job, out: &mut Bytes) -> Result<(), Memory>
     )
 }
 
-/// Appends the line with the number of ends at which a test stops, where one stops early.
+/// Appends the line with the number of endpoints in the tail at which a test stops, if tests stop early.
 fn push_stop_line(job: &Job, out: &mut Bytes) -> Result<(), Memory>
     ensures { AppendsText out.old out.new (definition.stop_line job.now.setting.stop) result }
 {

@@ -12,7 +12,7 @@ use audit_model::memory::Memory;
 use plan_core::job::Job;
 use std::alloc::Global;
 
-/// Appends the text of a check. After want of memory `out` is as before.
+/// Appends the text of a check. If out of memory, `out` is unchanged.
 pub fn check_text(alloc: Global, job: &Job, out: &mut Bytes) -> Result<(), Memory>
     ensures ok { OnOk result (out.new.items ≡ out.old.items ++ definition.check_text job.now) }
     ensures err { OnErr result (out.new ≡ out.old) }
@@ -44,7 +44,7 @@ pub fn push_graph_line(job: &Job, out: &mut Bytes) -> Result<(), Memory>
     )
 }
 
-/// Appends the line with the whole population, the slack, and the bounds of a district's population.
+/// Appends the line with the total population, the slack, and the bounds on a district's population.
 pub fn push_population_line(job: &Job, out: &mut Bytes) -> Result<(), Memory>
     ensures { AppendsText out.old out.new (definition.population_line job.now) result }
 {

@@ -1,36 +1,36 @@
-//! Why a call ended.
+//! The reasons why a call ended.
 
 use audit_model::fault::{GraphFault, PlanFault, RegionFault, TableFault, WordFault};
 use audit_model::setting::Columns;
 use audit_model::text::Text;
 use ckpt_store::slots::Slots;
 
-/// Why a call ended.
+/// The reason why a call ended.
 #[derive(Drop)]
 pub enum Ended {
-    /// All was done.
+    /// The call did all its work.
     Done,
     BadWords(WordFault),
     TooManyBytes,
-    /// With the columns that the words name, for the line that tells it.
+    /// A refused graph, with the names of its columns for the diagnostic.
     BadGraph(GraphFault, Columns),
-    /// With the column that the words name.
+    /// Refused regions, with the name of their column.
     BadRegions(RegionFault, Text),
     BadPlan(PlanFault),
     BadTable(TableFault),
-    /// With the name of the plan.
+    /// A refused plan of a table, with its name.
     BadPlanNamed(Text, PlanFault),
     NoMemory,
     ReadFault,
     WriteFault,
     LoadFault,
-    /// Another process holds the folder of the slots.
+    /// Another process has locked the folder of the slots.
     FolderTaken,
-    /// So many of all trajectories are done, and the rest is left to another run.
+    /// The run stopped after `done` trajectories in all. The rest is left to another run.
     Stopped { done: u32, total: u32 },
-    /// No slot is intact, and one is not absent.
+    /// No slot is valid, and at least one is not empty.
     Damaged(Slots),
-    /// The newest slot is another job's.
+    /// The newest slot belongs to another job.
     OtherJob { found: [u8; 32], wanted: [u8; 32] },
     SaveFault,
 }

@@ -19,7 +19,7 @@ use audit_model::setting::Ask;
 use outlier_tests::{p_value, rank};
 use plan_core::job::Job;
 
-/// Appends a line for each ask, where there are trajectories of the parallel test.
+/// Appends a line for each ask, if there are endpoint trajectories.
 pub fn push_ends_lines(job: &Job, sorted: &[Outcome], out: &mut Bytes) -> Result<(), Memory>
     requires outcomes { AreOutcomesOf job.now sorted.now }
     requires all { job.now.setting.stop ≡ 0 }
@@ -43,7 +43,7 @@ fn push_ends(job: &Job, ends: &[Outcome], out: &mut Bytes) -> Result<(), Memory>
     Ok(())
 }
 
-/// Appends the line of the ask at this place, which has this value at the start.
+/// Appends the line of the ask at this place. `start` is the start plan's value.
 fn push_ends_line(
     job: &Job,
     ends: &[Outcome],
@@ -61,7 +61,7 @@ fn push_ends_line(
     push_rank_line(job, ask, start, start_rank, out)
 }
 
-/// Appends the line of an ask, whose value at the start has this rank.
+/// Appends the line of an ask. `start_rank` is the rank of the start plan's value.
 fn push_rank_line(
     job: &Job,
     ask: Ask,

@@ -1,4 +1,4 @@
-//! The texts that an audit writes: the report, the text of a check, and the line that tells why a call ended, with its status.
+//! The texts that an audit writes: the report, the text of a check, and the diagnostic with the exit status.
 #![tactic(auto)]
 
 mod audit;

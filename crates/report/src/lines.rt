@@ -1,4 +1,4 @@
-//! Lines of words.
+//! Lines of space-separated words.
 
 ghost use Rattle.std.specs.Prelude.{◌≡◌, ◌∷◌, map};
 ghost use Rattle.report.specs.Lines.{AppendsText, spaced, tail_of, word_text};
@@ -19,9 +19,9 @@ pub enum Word<'a> {
     Fraction(i64, u64),
     /// A number of billionths.
     Billionths(u64),
-    /// A key or a digest, as hexadecimal digits.
+    /// A key or a digest, written as hexadecimal digits.
     Key(&'a [u8; 32]),
-    /// A text, as JSON writes it.
+    /// A text, written as a JSON string.
     Quoted(&'a str),
 }
 
@@ -40,7 +40,7 @@ pub fn push_word(out: &mut Bytes, word: &Word) -> Result<(), Memory>
     }
 }
 
-/// Appends the words with a space between each two, and a line feed.
+/// Appends the words with a space between them, and a line feed.
 pub fn push_line(out: &mut Bytes, words: &[Word]) -> Result<(), Memory>
     ensures { AppendsText out.old out.new (line (map word_text words.now)) result }
 {

@@ -1,11 +1,11 @@
-//! How scores and tails are written.
+//! The written names of scores and tails.
 
 ghost use Rattle.std.specs.Prelude.{◌≡◌};
 ghost use Rattle.audit_statement.specs.Names.{score_name, tail_name};
 
 use audit_model::setting::{Score, Tail};
 
-/// The name of a score.
+/// Returns the name of a score.
 pub fn score_text(score: Score) -> &'static str
     ensures { result.now ≡ score_name score }
 {
@@ -17,7 +17,7 @@ pub fn score_text(score: Score) -> &'static str
     }
 }
 
-/// The name of a tail.
+/// Returns the name of a tail.
 pub fn tail_text(tail: Tail) -> &'static str
     ensures { result.now ≡ tail_name tail }
 {

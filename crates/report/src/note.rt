@@ -1,4 +1,4 @@
-//! The line that tells why a call ended. It takes no memory.
+//! The diagnostic of a call: one line that says why it ended. Allocates nothing.
 
 ghost use Rattle.std.specs.Prelude.{◌≡◌, ◌++◌, ◌∷◌, ◌≤◌, List, ℕ, codes, decimal, flat_map, length, map, []};
 ghost use Rattle.ckpt_store.specs.View.{slot_view};
@@ -26,7 +26,7 @@ use ckpt_store::slots::{Slot, Slots};
 use hex::encode_to_slice;
 use itoa::Buffer;
 
-/// Writes why the call ended, and answers its status.
+/// Writes the diagnostic and returns the exit status.
 pub fn tell<N: Sink>(why: &Ended, note: &mut N) -> u8
     ensures status { result ≡ status_of (ending_of why.now) }
     ensures told { TellsWhy (columns_kept why.now) (N.state note.old) (N.state note.new) (ending_of why.now) }
@@ -35,7 +35,7 @@ pub fn tell<N: Sink>(why: &Ended, note: &mut N) -> u8
     status(why)
 }
 
-// Goes on with a line by these pieces, where none before failed.
+// Writes these pieces of a line, unless an earlier piece failed.
 fn add_pieces<N: Sink>(note: &mut N, going: bool, pieces: &[Piece]) -> bool
     ensures { (start : Stream) (said : List ℕ) → IsSaid start (N.state note.old) said going
         → IsSaid start (N.state note.new) (said ++ flat_map piece_text pieces.now) result }
@@ -47,7 +47,7 @@ fn add_pieces<N: Sink>(note: &mut N, going: bool, pieces: &[Piece]) -> bool
     going
 }
 
-/// Goes on with the line of these pieces, where nothing before it failed. Returns whether nothing failed.
+/// Writes the line of these pieces, unless an earlier write failed. Returns true if nothing failed.
 pub fn add_line<N: Sink>(note: &mut N, going: bool, first: &[Piece], pieces: &[Piece]) -> bool
     ensures { AddsText (N.state note.old) (N.state note.new) going (terms.as_line (map piece_text first.now ++ map piece_text pieces.now)) result }
 {
@@ -56,22 +56,22 @@ pub fn add_line<N: Sink>(note: &mut N, going: bool, first: &[Piece], pieces: &[P
     add(note, going, b"\n")
 }
 
-// Writes the line that begins with these texts and goes on with the pieces.
+// Writes the line of these pieces.
 fn say<N: Sink>(note: &mut N, first: &[Piece], pieces: &[Piece])
     ensures { AddsLine (N.state note.old) (N.state note.new) (terms.as_line (map piece_text first.now ++ map piece_text pieces.now)) }
 {
-    // Nothing follows, whether the whole line was written or a front of it.
+    // Nothing follows the line, so a failure needs no answer.
     let _ended = add_line(note, true, first, pieces);
 }
 
-// Writes the line that is this text.
+// Writes this text as a line.
 fn say_text<N: Sink>(note: &mut N, text: &str)
     ensures { AddsLine (N.state note.old) (N.state note.new) (terms.as_line (text.now ∷ [])) }
 {
     say(note, &[Text(text)], &[]);
 }
 
-// Writes the line of a plan of a table that is refused.
+// Writes the diagnostic of a refused plan of a table.
 fn say_named<N: Sink>(note: &mut N, name: &text::Text, fault: &PlanFault)
     ensures { AddsLine (N.state note.old) (N.state note.new) (terms.as_line (codes "plan " ∷ name.now ∷ codes ": " ∷ terms.plan_note fault.now)) }
 {
@@ -83,7 +83,7 @@ fn say_named<N: Sink>(note: &mut N, name: &text::Text, fault: &PlanFault)
     );
 }
 
-// Goes on with a line by this piece, where none before failed.
+// Writes this piece of a line, unless an earlier piece failed.
 fn add_piece<N: Sink>(note: &mut N, going: bool, piece: &Piece) -> bool
     ensures { (start : Stream) (said : List ℕ) → IsSaid start (N.state note.old) said going
         → IsSaid start (N.state note.new) (said ++ piece_text piece.now) result }
@@ -98,7 +98,7 @@ fn add_piece<N: Sink>(note: &mut N, going: bool, piece: &Piece) -> bool
     }
 }
 
-// Goes on with a line by these bytes, where no piece before failed.
+// Writes these bytes of a line, unless an earlier piece failed.
 fn add<N: Sink>(note: &mut N, going: bool, piece: &[u8]) -> bool
     ensures { (start : Stream) (said : List ℕ) → IsSaid start (N.state note.old) said going
         → IsSaid start (N.state note.new) (said ++ piece.now) result }
@@ -112,12 +112,12 @@ fn add<N: Sink>(note: &mut N, going: bool, piece: &[u8]) -> bool
     }
 }
 
-// The hexadecimal digits of a digest.
+// Returns the hexadecimal digits of a digest.
 fn digits_of(digest: &[u8; 32]) -> [u8; 64]
     ensures { result ≡ encode_lower digest.now }
 {
     let mut digits = [0; 64];
-    // It fails only where the room is not twice the length, and here it is.
+    // Fails only if the buffer is not twice as long as the digest, which it is.
     let _ = encode_to_slice(digest.as_slice(), &mut digits);
     digits
 }
@@ -154,10 +154,10 @@ fn tell_line<N: Sink>(why: &Ended, note: &mut N)
     }
 }
 
-/// The pieces of what a line tells, of which there are at most eight. Behind them stand empty texts.
+/// The pieces of a diagnostic, at most eight. Unused pieces are empty texts.
 pub type Line<'a> = [Piece<'a>; 8];
 
-/// The line of these pieces.
+/// Makes a diagnostic of these pieces.
 pub fn line_of<'a>(pieces: &[Piece<'a>]) -> Line<'a>
     requires { length pieces.now ≤ 8 }
     ensures { terms.as_line (map piece_text result) ≡ terms.as_line (map piece_text pieces.now) }
@@ -167,21 +167,21 @@ pub fn line_of<'a>(pieces: &[Piece<'a>]) -> Line<'a>
     line
 }
 
-// The line of this text.
+// Makes a diagnostic of this text.
 fn text_line(text: &str) -> Line<'_>
     ensures { terms.as_line (map piece_text result) ≡ terms.as_line (text.now ∷ []) }
 {
     line_of(&[Text(text)])
 }
 
-// How a name is spelled.
+// Returns the spelling of an argument name.
 fn spelled<'a>(name: &Name) -> &'a str
     ensures { result.now ≡ name_text name.now }
 {
     name.text()
 }
 
-// Of a fault of the words.
+// Returns the diagnostic of a fault of the arguments.
 fn word_line(fault: &WordFault) -> Line<'_>
     ensures { terms.as_line (map piece_text result) ≡ terms.as_line (terms.word_note fault.now) }
 {
@@ -200,7 +200,7 @@ fn word_line(fault: &WordFault) -> Line<'_>
     }
 }
 
-// Of a fault of the graph.
+// Returns the diagnostic of a fault of the graph.
 fn graph_line<'a>(fault: &GraphFault, columns: &'a Columns) -> Line<'a>
     ensures { terms.as_line (map piece_text result) ≡ terms.as_line (terms.graph_note columns.now fault.now) }
 {
@@ -264,7 +264,7 @@ fn graph_line<'a>(fault: &GraphFault, columns: &'a Columns) -> Line<'a>
     }
 }
 
-// Of a fault of the regions.
+// Returns the diagnostic of a fault of the regions.
 fn region_line<'a>(fault: &RegionFault, column: &'a text::Text) -> Line<'a>
     ensures { terms.as_line (map piece_text result) ≡ terms.as_line (terms.region_note column.now fault.now) }
 {
@@ -286,7 +286,7 @@ fn region_line<'a>(fault: &RegionFault, column: &'a text::Text) -> Line<'a>
     }
 }
 
-// Of a fault of a plan.
+// Returns the diagnostic of a fault of a plan.
 fn plan_line(fault: &PlanFault) -> Line<'static>
     ensures { terms.as_line (map piece_text result) ≡ terms.as_line (terms.plan_note fault.now) }
 {
@@ -356,7 +356,7 @@ fn plan_line(fault: &PlanFault) -> Line<'static>
     }
 }
 
-// Of a fault of the table.
+// Returns the diagnostic of a fault of the table.
 fn table_line(fault: &TableFault) -> Line<'static>
     ensures { terms.as_line (map piece_text result) ≡ terms.as_line (terms.table_note fault.now) }
 {
@@ -470,7 +470,7 @@ fn column_name(columns: &Columns, column: Column) -> &str
     }
 }
 
-/// Why a slot is no checkpoint, in a word or two.
+/// Returns a short name for the fault of a slot's bytes.
 pub fn fault_name(fault: &CkptFault) -> &'static str
     ensures { result.now ≡ terms.fault_name fault.now }
 {

@@ -1,4 +1,4 @@
-//! Numbers as they are written in a line.
+//! Numbers as they are written in lines.
 
 ghost use Rattle.std.specs.Prelude.{◌≡◌, ◌<◌, ◌≤◌, ◌^◌, ◌∷◌, decimal, replicate};
 ghost use Rattle.std.specs.Fmt.{signed_decimal};
@@ -15,21 +15,21 @@ const BILLION: u64 = 1_000_000_000;
 
 const ZEROS: &str = "000000000";
 
-/// Appends a number.
+/// Appends a number in decimal digits.
 pub fn push_number(out: &mut Bytes, number: u64) -> Result<(), Memory>
     ensures { AppendsText out.old out.new (decimal number) result }
 {
     out.append(Buffer::new().format(number).as_bytes())
 }
 
-/// Appends a number, with a minus sign where it is negative.
+/// Appends a number in decimal digits, with a minus sign if it is negative.
 pub fn push_signed(out: &mut Bytes, number: i64) -> Result<(), Memory>
     ensures { AppendsText out.old out.new (signed_decimal number) result }
 {
     out.append(Buffer::new().format(number).as_bytes())
 }
 
-/// Appends a numerator, a stroke and a denominator.
+/// Appends a numerator, a slash and a denominator.
 pub fn push_fraction(out: &mut Bytes, top: i64, bottom: u64) -> Result<(), Memory>
     ensures { AppendsText out.old out.new (fraction top bottom) result }
 {
@@ -37,7 +37,7 @@ pub fn push_fraction(out: &mut Bytes, top: i64, bottom: u64) -> Result<(), Memor
     push_denominator(out, bottom)
 }
 
-/// Appends a number of billionths: the whole part, a point and nine digits.
+/// Appends a number of billionths as the whole part, a point and nine digits.
 pub fn push_billionths(out: &mut Bytes, number: u64) -> Result<(), Memory>
     ensures { AppendsText out.old out.new (billionths number) result }
 {
@@ -50,12 +50,12 @@ pub fn push_key(out: &mut Bytes, key: &[u8; 32]) -> Result<(), Memory>
     ensures { AppendsText out.old out.new (encode_lower key.now) result }
 {
     let mut digits = [0; 64];
-    // It fails only where the room is not twice the length, and here it is.
+    // Fails only if the buffer is not twice as long as the key, which it is.
     let _ = encode_to_slice(key.as_slice(), &mut digits);
     out.append(&digits)
 }
 
-/// Appends a stroke and the denominator.
+/// Appends a slash and the denominator.
 fn push_denominator(out: &mut Bytes, bottom: u64) -> Result<(), Memory>
     ensures { AppendsText out.old out.new (47 ∷ decimal bottom) result }
 {
@@ -72,7 +72,7 @@ fn push_decimals(out: &mut Bytes, number: u64) -> Result<(), Memory>
     push_nine_digits(out, number)
 }
 
-/// Appends the number with as many zeros in front as make nine digits.
+/// Appends the number, padded with zeros to nine digits.
 fn push_nine_digits(out: &mut Bytes, number: u64) -> Result<(), Memory>
     requires { number < 10 ^ 9 }
     ensures { AppendsText out.old out.new (nine_digits number) result }
@@ -83,7 +83,7 @@ fn push_nine_digits(out: &mut Bytes, number: u64) -> Result<(), Memory>
     out.append(digits.as_bytes())
 }
 
-/// This many zeros, of which there are at most nine.
+/// Returns `count` zeros, at most nine.
 fn zeros(count: usize) -> &'static [u8]
     requires { count ≤ 9 }
     ensures { result.now ≡ replicate count 48 }

@@ -1,4 +1,4 @@
-//! The lines that tell where a job comes from.
+//! The lines on the origin of a job.
 
 ghost use Rattle.std.specs.Prelude.{◌≡◌, ◌++◌};
 ghost use Rattle.report.specs.Lines.{AppendsText, spaced};
@@ -13,7 +13,7 @@ use audit_model::setting::{Columns, Setting};
 use audit_model::text::Text;
 use plan_core::job::Job;
 
-/// Appends the line of the bytes that were read and the line of the columns, where the job tells its origin.
+/// Appends the source line and the columns line, if the job has an origin.
 pub fn push_origin_lines(job: &Job, out: &mut Bytes) -> Result<(), Memory>
     ensures { AppendsText out.old out.new (definition.origin_lines job.now job.now.origin) result }
 {
@@ -31,7 +31,7 @@ fn push_origin(setting: &Setting, origin: &Origin, out: &mut Bytes) -> Result<()
     push_columns_line(&setting.columns, &setting.region, out)
 }
 
-/// Appends the line with the digest of the bytes that were read, and how many they were.
+/// Appends the line with the digest and the number of the bytes that were read.
 fn push_source_line(origin: &Origin, out: &mut Bytes) -> Result<(), Memory>
     ensures { AppendsText out.old out.new (source_line origin.now) result }
 {
@@ -66,7 +66,7 @@ fn push_columns_line(columns: &Columns, region: &Text, out: &mut Bytes) -> Resul
     out.push(b'\n')
 }
 
-/// Appends the column of the regions, where one is named.
+/// Appends the column of the regions, if one is named.
 fn push_region_words(region: &Text, out: &mut Bytes) -> Result<(), Memory>
     ensures { AppendsText out.old out.new (spaced (definition.region_words region.now)) result }
 {
@@ -77,7 +77,7 @@ fn push_region_words(region: &Text, out: &mut Bytes) -> Result<(), Memory>
     push_words(out, &[Word::Text("region"), Word::Quoted(name)])
 }
 
-/// Appends the columns of a group, where one is named.
+/// Appends the columns of a group, if one is named.
 fn push_group_words(columns: &Columns, out: &mut Bytes) -> Result<(), Memory>
     ensures { AppendsText out.old out.new (spaced (definition.group_words columns.now.group columns.now.whole)) result }
 {

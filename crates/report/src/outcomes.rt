@@ -1,4 +1,4 @@
-//! The outcomes of a job by kind of trajectory.
+//! Outcomes of a job by the kind of trajectory.
 
 ghost use Rattle.std.specs.Prelude.{◌≡◌, nat_lt, nat_le, filter};
 ghost use Rattle.std.specs.List.{All};
@@ -7,7 +7,7 @@ ghost use Rattle.report.specs.Outcomes.{AreEndsOf, AreOutcomesOf, HasCounts};
 use audit_model::outcome::Outcome;
 use plan_core::job::Job;
 
-/// The outcomes of the outlier trajectories.
+/// Returns the outcomes of the outlier walks.
 pub fn walks_of<'a>(job: &Job, sorted: &'a [Outcome]) -> &'a [Outcome]
     requires { AreOutcomesOf job.now sorted.now }
     ensures all { result.now ≡ filter (λ o. nat_lt o.id job.now.setting.walks) sorted.now }
@@ -16,7 +16,7 @@ pub fn walks_of<'a>(job: &Job, sorted: &'a [Outcome]) -> &'a [Outcome]
     sorted.split_at(job.setting().walks as usize).0
 }
 
-/// The outcomes of the trajectories of the parallel test.
+/// Returns the outcomes of the endpoint trajectories.
 pub fn ends_of<'a>(job: &Job, sorted: &'a [Outcome]) -> &'a [Outcome]
     requires outcomes { AreOutcomesOf job.now sorted.now }
     requires all { job.now.setting.stop ≡ 0 }

@@ -1,12 +1,12 @@
-//! The pieces of a line.
+//! Pieces of a diagnostic.
 
-/// A piece of a line.
+/// A piece of a diagnostic.
 #[derive(Clone, Copy)]
 pub enum Piece<'a> {
-    /// A text, as it is.
+    /// A text, written as it is.
     Text(&'a str),
-    /// A number, in decimal digits.
+    /// A number, written in decimal digits.
     Number(u64),
-    /// A digest, in hexadecimal digits.
+    /// A digest, written in hexadecimal digits.
     Digest(&'a [u8; 32]),
 }

@@ -1,4 +1,4 @@
-//! Texts as JSON writes them.
+//! JSON strings (RFC 8259).
 
 ghost use Rattle.std.specs.Prelude.{◌≡◌, ◌<◌};
 ghost use Rattle.std.specs.Char.{digit_char};
@@ -8,7 +8,7 @@ ghost use Rattle.report.specs.Lines.{AppendsText};
 use audit_model::buffers::Bytes;
 use audit_model::memory::Memory;
 
-/// Appends a text between quotes, with an escape for each byte that JSON does not take as it is.
+/// Appends a text in quotes, with an escape for each byte that JSON does not allow as it is.
 pub fn push_quoted(out: &mut Bytes, text: &str) -> Result<(), Memory>
     ensures { AppendsText out.old out.new (definition.quoted text.now) result }
 {
@@ -17,7 +17,7 @@ pub fn push_quoted(out: &mut Bytes, text: &str) -> Result<(), Memory>
     out.push(b'"')
 }
 
-/// Appends what stands in a JSON text for these bytes.
+/// Appends the escaped form of these bytes.
 fn push_escaped(out: &mut Bytes, bytes: &[u8]) -> Result<(), Memory>
     ensures { AppendsText out.old out.new (definition.escape bytes.now) result }
 {
@@ -27,7 +27,7 @@ fn push_escaped(out: &mut Bytes, bytes: &[u8]) -> Result<(), Memory>
     Ok(())
 }
 
-/// Appends what stands in a JSON text for a byte: itself, a short escape, or its number.
+/// Appends a byte as itself, as a short escape, or by its number.
 fn push_byte(out: &mut Bytes, byte: u8) -> Result<(), Memory>
     ensures { AppendsText out.old out.new (definition.escape_byte byte) result }
 {
@@ -41,7 +41,7 @@ fn push_byte(out: &mut Bytes, byte: u8) -> Result<(), Memory>
     out.push(byte)
 }
 
-/// The letter of a byte's short escape, or 0 where it has none.
+/// Returns the letter of a byte's short escape, or 0 if it has none.
 fn escape_letter(byte: u8) -> u8
     ensures { result ≡ definition.escape_letter byte }
 {
@@ -56,7 +56,7 @@ fn escape_letter(byte: u8) -> u8
     }
 }
 
-/// A hexadecimal digit.
+/// Returns a hexadecimal digit.
 fn digit(value: u8) -> u8
     requires { value < 16 }
     ensures { result ≡ digit_char value }

@@ -1,4 +1,4 @@
-//! The room that a report takes.
+//! The capacity that a report needs.
 
 ghost use Rattle.std.specs.Prelude.{◌≡◌, ◌+◌, ◌*◌, ◌^◌, ◌≤◌, ℕ, List, length, Option, None, Some, IfSome, OnOk, OnErr};
 ghost use Rattle.audit_model.specs.declared.outcome.Outcome.{Outcome};
@@ -14,26 +14,26 @@ use audit_model::setting::Setting;
 use plan_core::job::Job;
 use std::alloc::Global;
 
-/// More bytes than the lines of a report have that are of no ask and of no origin.
+/// A bound on the bytes of all lines that belong to no ask and no origin.
 const FRAME_ROOM: usize = 2560;
 
-/// More bytes than a line of an ask has.
+/// A bound on the bytes of one line of an ask.
 const LINE_ROOM: usize = 200;
 
-/// More bytes than the line of the bytes that were read has beside the digest.
+/// A bound on the bytes of the source line without the digest.
 const SOURCE_ROOM: usize = 100;
 
-/// More bytes than the line of the columns has beside their names.
+/// A bound on the bytes of the columns line without the names.
 const COLUMNS_ROOM: usize = 50;
 
-/// The most bytes that stand for a byte of a name.
+/// The largest number of bytes that one byte of a name is escaped to.
 const ESCAPE_ROOM: usize = 6;
 
-/// Makes room for the job's report, whatever is found. The bytes of `out` stay as they are.
+/// Reserves capacity for the job's report, whatever the outcomes. The contents of `out` are unchanged.
 ///
 /// # Errors
 ///
-/// `Memory`: there was no memory for it, and `out` is as before.
+/// `Memory`: out of memory. `out` is unchanged.
 pub fn reserve(alloc: Global, job: &Job, out: &mut Bytes) -> Result<(), Memory>
     ensures bytes { out.new.items ≡ out.old.items }
     ensures room { OnOk result ((outcomes : List Outcome) (stops : List (List ℕ)) (serial : Option (ℕ × List ℕ)) →
@@ -53,7 +53,8 @@ pub fn reserve(alloc: Global, job: &Job, out: &mut Bytes) -> Result<(), Memory>
     Ok(())
 }
 
-/// At least as many bytes as any report on the job has. It is none only where the names of the columns are longer than any memory.
+/// Returns an upper bound on the bytes of any report on the job, or `None` if the names of the columns would exceed any
+/// memory.
 fn report_room(job: &Job) -> Option<usize>
     ensures enough { IfSome result (λ room. (outcomes : List Outcome) (stops : List (List ℕ)) (serial : Option (ℕ × List ℕ)) →
         AreOutcomesOf job.now outcomes → AreStopsOf job.now stops → IsSerialOf job.now serial →
@@ -63,20 +64,20 @@ fn report_room(job: &Job) -> Option<usize>
     lines_room(job).checked_add(origin_room(job)?)
 }
 
-/// At least as many bytes as any report on the job has beside the lines of its origin.
+/// Returns an upper bound on the bytes of any report on the job, without the lines of its origin.
 fn lines_room(job: &Job) -> usize
     ensures enough { (outcomes : List Outcome) (stops : List (List ℕ)) (serial : Option (ℕ × List ℕ)) →
         AreOutcomesOf job.now outcomes → AreStopsOf job.now stops → IsSerialOf job.now serial →
         length (definition.report job.now outcomes stops serial) ≤ result + length (definition.origin_lines job.now job.now.origin) }
     ensures few { result ≤ 90000000 }
 {
-    // Called for what its contract says: the job is within its limits, and its start plan is legal.
+    // Called for its contract: the job is within its limits, and its start plan is legal.
     let _units = job.units();
     let lines_of_ask = job.setting().walks as usize + 2;
     FRAME_ROOM + lines_of_ask * asks_of(job).len() * LINE_ROOM
 }
 
-/// At least as many bytes as the lines of the job's origin have.
+/// Returns an upper bound on the bytes of the lines of the job's origin.
 fn origin_room(job: &Job) -> Option<usize>
     ensures enough { IfSome result (λ room. length (definition.origin_lines job.now job.now.origin) ≤ room) }
     ensures untold { job.now.origin ≡ None → result ≡ Some 0 }
@@ -89,7 +90,7 @@ fn origin_room(job: &Job) -> Option<usize>
     }
 }
 
-/// At least as many bytes as the line of the bytes that were read has.
+/// Returns an upper bound on the bytes of the source line.
 fn source_room(origin: &Origin) -> usize
     ensures enough { length (source_line origin.now) ≤ result }
     ensures few { result ≤ 200 }
@@ -97,7 +98,7 @@ fn source_room(origin: &Origin) -> usize
     SOURCE_ROOM + 2 * digest_len(&origin.sha256)
 }
 
-/// How many bytes a digest has.
+/// Returns the number of bytes of a digest.
 fn digest_len(digest: &[u8; 32]) -> usize
     ensures value { result ≡ length digest.now }
     ensures few { result ≡ 32 }
@@ -105,7 +106,7 @@ fn digest_len(digest: &[u8; 32]) -> usize
     digest.len()
 }
 
-/// At least as many bytes as the line of the columns has.
+/// Returns an upper bound on the bytes of the columns line.
 fn columns_room(setting: &Setting) -> Option<usize>
     ensures enough { IfSome result (λ room. length (definition.columns_line setting.now.columns setting.now.region) ≤ room) }
     ensures few { IfSome result (λ room. room ≤ names_length setting.now.columns setting.now.region * 6 + 100) }
@@ -116,7 +117,7 @@ fn columns_room(setting: &Setting) -> Option<usize>
         .checked_add(COLUMNS_ROOM)
 }
 
-/// How many bytes the names of the columns have together.
+/// Returns the total number of bytes of the column names.
 fn names_len(setting: &Setting) -> Option<usize>
     ensures value { IfSome result (λ count. count ≡ names_length setting.now.columns setting.now.region) }
     ensures none { result ≡ None → 2 ^ 61 ≤ names_length setting.now.columns setting.now.region }

@@ -1,4 +1,4 @@
-//! The lines of the rules that plans are to meet.
+//! The lines of the rules on plans.
 
 ghost use Rattle.std.specs.Prelude.{◌≡◌, ◌<◌, ℕ, ◌||◌, false, nat_lt, length, All};
 ghost use Rattle.std.specs.List.{slice_index_or};
@@ -15,7 +15,7 @@ use audit_model::memory::Memory;
 use audit_model::setting::Setting;
 use plan_core::job::Job;
 
-/// More than any region's number.
+/// An upper bound on the number of a region.
 const REGIONS: usize = 5000;
 
 /// Appends a line for each rule that limits the plans.
@@ -28,7 +28,7 @@ pub fn push_rule_lines(job: &Job, out: &mut Bytes) -> Result<(), Memory>
     push_group_line(job, out)
 }
 
-/// Appends the line with the most cut edges, where they are limited.
+/// Appends the line with the most cut edges, if they are limited.
 fn push_cut_line(job: &Job, out: &mut Bytes) -> Result<(), Memory>
     ensures { AppendsText out.old out.new (definition.cut_line job.now) result }
 {
@@ -39,7 +39,7 @@ fn push_cut_line(job: &Job, out: &mut Bytes) -> Result<(), Memory>
     push_line(out, &[Word::Text("max-cut"), Word::Number(u64::from(most))])
 }
 
-/// Appends the line with the limit on splits and the number of regions, where there are any.
+/// Appends the line with the limit on splits and the number of regions, if there are any.
 fn push_split_line(job: &Job, out: &mut Bytes) -> Result<(), Memory>
     ensures { AppendsText out.old out.new (definition.split_line job.now.setting.max_split job.now.regions) result }
 {
@@ -58,7 +58,8 @@ fn push_split_line(job: &Job, out: &mut Bytes) -> Result<(), Memory>
     )
 }
 
-/// Appends the line with the limits on splits in all and on split regions, where there are regions and one of these is limited.
+/// Appends the line with the limits on splits in all and on split regions, if there are regions and one of these is
+/// limited.
 fn push_splits_line(job: &Job, out: &mut Bytes) -> Result<(), Memory>
     ensures { AppendsText out.old out.new (definition.splits_line job.now.setting.max_splits job.now.setting.max_split_regions job.now.regions) result }
 {
@@ -77,14 +78,15 @@ fn push_splits_line(job: &Job, out: &mut Bytes) -> Result<(), Memory>
     )
 }
 
-/// Splits in all are limited, or how many regions are split.
+/// Returns true if splits in all or split regions are limited.
 fn limits_splits(setting: &Setting) -> bool
     ensures { result ≡ (nat_lt setting.now.max_splits most_splits || nat_lt setting.now.max_split_regions most_regions) }
 {
     setting.max_splits < 995_000 || setting.max_split_regions < 5_000
 }
 
-/// Appends the line with the least number of districts in which a group is to have a majority, and the start plan's, where there is a group.
+/// Appends the line of the group, if there is one: the required number of majority districts, and that of the start
+/// plan.
 fn push_group_line(job: &Job, out: &mut Bytes) -> Result<(), Memory>
     ensures { AppendsText out.old out.new (definition.group_line job.now.setting.group_districts (majorities job.now.group job.now.start) job.now.group.members) result }
 {
@@ -102,17 +104,17 @@ fn push_group_line(job: &Job, out: &mut Bytes) -> Result<(), Memory>
     )
 }
 
-/// The regions of the units.
+/// Returns the region of each unit.
 fn regions_of(job: &Job) -> &[u32]
     ensures value { result.now ≡ job.now.regions }
     ensures few { All (λ r. r < most_regions) result.now }
 {
-    // Called for what its contract says: the job is within its limits, and its start plan is legal.
+    // Called for its contract: the job is within its limits, and its start plan is legal.
     let _units = job.units();
     job.rules().regions.as_slice()
 }
 
-/// How many regions there are.
+/// Returns the number of different regions.
 fn count_regions(regions: &[u32]) -> u32
     requires { All (λ r. r < most_regions) regions.now }
     ensures { result ≡ region_count regions.now }
@@ -120,7 +122,7 @@ fn count_regions(regions: &[u32]) -> u32
     count_marked(&marked(regions))
 }
 
-/// The numbers that are those of regions.
+/// Marks the numbers of the regions.
 fn marked(regions: &[u32]) -> [bool; REGIONS]
     requires { All (λ r. r < most_regions) regions.now }
     ensures { (r : ℕ) → r < most_regions → slice_index_or result r false ≡ has regions.now r }
@@ -132,7 +134,7 @@ fn marked(regions: &[u32]) -> [bool; REGIONS]
     seen
 }
 
-/// How many numbers are marked.
+/// Returns the number of marks.
 fn count_marked(seen: &[bool; REGIONS]) -> u32
     ensures { result ≡ count_below most_regions (λ r. slice_index_or seen.now r false) }
 {

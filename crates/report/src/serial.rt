@@ -17,7 +17,7 @@ use audit_model::setting::Ask;
 use outlier_tests::p_value;
 use plan_core::job::Job;
 
-/// Appends a line for each ask, where the serial test was asked for: it has the place of the start plan and its ranks.
+/// Appends a line for each ask, if the serial test was requested. `serial` has the start plan's place and its ranks.
 pub fn push_serial_lines(
     job: &Job,
     serial: Option<(u32, [u64; 4])>,
@@ -46,7 +46,7 @@ fn push_ranks(job: &Job, place: u32, ranks: &[u64; 4], out: &mut Bytes) -> Resul
     Ok(())
 }
 
-/// Appends the line of an ask, which has this value at the start and whose start has this rank.
+/// Appends the line of an ask. `start` is the start plan's value, and `rank` its rank.
 fn push_serial_line(
     job: &Job,
     place: u32,

@@ -1,4 +1,4 @@
-//! The line of the seats of the visited plans.
+//! The histogram of seats over all visited plans.
 
 ghost use Rattle.std.specs.Prelude.{◌≡◌, ◌<◌, ◌≤◌, true, length, slice_index, sum_by};
 ghost use Rattle.report.specs.Lines.{AppendsText};
@@ -12,12 +12,12 @@ use audit_model::memory::Memory;
 use audit_model::outcome::Outcome;
 use plan_core::job::Job;
 
-/// Appends the sum of each bin, where bins are asked for.
+/// Appends the sum of each histogram count, if a histogram was requested.
 pub fn push_shift_line(job: &Job, sorted: &[Outcome], out: &mut Bytes) -> Result<(), Memory>
     requires { AreOutcomesOf job.now sorted.now }
     ensures { AppendsText out.old out.new (definition.shift_line job.now.setting.shift sorted.now) result }
 {
-    // Called for what its contract says: the job is within its limits, and its start plan is legal.
+    // Called for its contract: the job is within its limits, and its start plan is legal.
     let _units = job.units();
     if !job.setting().shift {
         return Ok(());
@@ -47,7 +47,7 @@ fn push_tally(sorted: &[Outcome], out: &mut Bytes) -> Result<(), Memory>
     )
 }
 
-/// The sum of a bin.
+/// Returns the sum of one histogram count.
 fn bin_sum(sorted: &[Outcome], bin: usize) -> u64
     requires few { length sorted.now ≤ most_trajectories }
     requires bin { bin < 9 }

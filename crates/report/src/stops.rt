@@ -1,4 +1,4 @@
-//! The lines of the parallel test: of all ends, or of those up to the stop.
+//! The lines of the parallel test, over all endpoints or with an early stop.
 
 ghost use Rattle.std.specs.Prelude.{◌≡◌, ◌<◌, zip, flat_map};
 ghost use Rattle.audit_model.specs.Trajectory.{plan_value};
@@ -17,7 +17,7 @@ use audit_model::setting::Ask;
 use outlier_tests::p_value;
 use plan_core::job::Job;
 
-/// Appends a line for each ask, where there are trajectories of the parallel test.
+/// Appends a line for each ask, if there are endpoint trajectories.
 pub fn push_test_lines(
     job: &Job,
     sorted: &[Outcome],
@@ -45,7 +45,7 @@ fn push_stops(job: &Job, stops: &[[u32; 3]], out: &mut Bytes) -> Result<(), Memo
     Ok(())
 }
 
-/// Appends the line of an ask, which has this value at the start and whose test stopped there.
+/// Appends the line of an ask. `start` is the start plan's value, and `stop` the stop of its test.
 #[tactic(auto, using(crate::proofs::Limits::small))]
 fn push_stopped_line(
     job: &Job,
@@ -58,7 +58,7 @@ fn push_stopped_line(
     requires stop { IsStopOf job.now.setting.ends stop }
     ensures { AppendsText out.old out.new (definition.stopped_line job.now (ask, stop)) result }
 {
-    // Called for what its contract says: the job is within its limits, and its start plan is legal.
+    // Called for its contract: the job is within its limits, and its start plan is legal.
     let _units = job.units();
     let [place, top, of] = stop;
     push_line(

@@ -1,4 +1,4 @@
-//! The lines of a trace: those before the first trajectory, the line that starts a trajectory, and the line of a plan.
+//! The lines of a trace: the head, the line that starts a trajectory, and the line of a plan.
 
 ghost use Rattle.std.specs.Prelude.{◌≡◌, ◌+◌, ◌<◌, ◌≤◌, ◌∷◌, ◌++◌, ℕ, List, length, decimal, flat_map, map, pos};
 ghost use Rattle.std.specs.List.{slice_index_or};
@@ -27,7 +27,7 @@ use plan_core::job::Job;
 /// An upper bound on the bytes of a plan's line without its units, and of the line that starts a trajectory.
 const PLAN_ROOM: usize = 400;
 
-/// The most bytes that a unit and its district take, with a space and a colon.
+/// The largest number of bytes for a unit and its district, with a space and a colon.
 const UNIT_ROOM: usize = 10;
 
 /// Appends the lines before the first trajectory.
@@ -44,7 +44,8 @@ pub fn push_trace_head(job: &Job, out: &mut Bytes) -> Result<(), Memory>
     push_ask_lines(job, out)
 }
 
-/// Returns an upper bound on the bytes of a line: of any legal plan, whatever the plan before it, and of the line that starts a trajectory.
+/// Returns an upper bound on the bytes of a plan's line, for any legal plan after any other, and of the line that
+/// starts a trajectory.
 pub fn plan_line_room(job: &Job) -> usize
     ensures start { (id thin : ℕ) → length (definition.trace_id_line job.now id thin) ≤ result }
     ensures plan { (step moved : ℕ) (before plan : List ℕ) → IsLegal job.now plan → length (definition.plan_line step moved (ask_values job.now plan) before plan) ≤ result }
@@ -52,8 +53,8 @@ pub fn plan_line_room(job: &Job) -> usize
     PLAN_ROOM + job.units() as usize * UNIT_ROOM
 }
 
-/// Appends the line of a plan: the step, the moves so far, the numerators of the scores, and each unit whose district differs from the plan
-/// before. It takes no memory.
+/// Appends the line of a plan: the step, the moves so far, the numerators of the scores, and each unit whose district
+/// differs from the plan before. Allocates nothing.
 pub fn plan_line(
     step: u32,
     moved: u32,
@@ -70,7 +71,7 @@ pub fn plan_line(
     push_plan_line(step, moved, values, before, plan, out).unwrap();
 }
 
-/// Appends the line of a plan.
+/// Appends the line of a plan, or reports out of memory.
 fn push_plan_line(
     step: u32,
     moved: u32,
@@ -89,7 +90,7 @@ fn push_plan_line(
     out.push(b'\n')
 }
 
-/// Appends numbers, each behind a space.
+/// Appends numbers with a space before each.
 fn push_values(values: &[i64], out: &mut Bytes) -> Result<(), Memory>
     ensures { AppendsText out.old out.new (spaced (map signed_decimal values.now)) result }
 {
@@ -139,7 +140,7 @@ fn push_ask_lines(job: &Job, out: &mut Bytes) -> Result<(), Memory>
     Ok(())
 }
 
-/// Appends the line of an ask, which has this value at the start.
+/// Appends the line of an ask. `start` is the start plan's value.
 fn push_ask_line(job: &Job, ask: Ask, start: i64, out: &mut Bytes) -> Result<(), Memory>
     requires { start ≡ plan_value job.now job.now.start ask.score }
     ensures { AppendsText out.old out.new (definition.ask_line job.now (0, ask)) result }
@@ -156,7 +157,8 @@ fn push_ask_line(job: &Job, ask: Ask, start: i64, out: &mut Bytes) -> Result<(),
     )
 }
 
-/// Appends the line that starts a trajectory: its id, its number of steps, and how many steps apart its plans are. It takes no memory.
+/// Appends the line that starts a trajectory: its id, its number of steps, and the number of steps between two of its
+/// plans. Allocates nothing.
 pub fn trajectory_line(job: &Job, id: u32, thin: u32, out: &mut Bytes)
     requires room { length (definition.trace_id_line job.now id thin) ≤ out.old.spare }
     ensures items { out.new.items ≡ out.old.items ++ definition.trace_id_line job.now id thin }
@@ -165,7 +167,7 @@ pub fn trajectory_line(job: &Job, id: u32, thin: u32, out: &mut Bytes)
     push_trace_id_line(job, id, thin, out).unwrap();
 }
 
-/// Appends the line that starts a trajectory.
+/// Appends the line that starts a trajectory, or reports out of memory.
 fn push_trace_id_line(job: &Job, id: u32, thin: u32, out: &mut Bytes) -> Result<(), Memory>
     ensures { AppendsText out.old out.new (definition.trace_id_line job.now id thin) result }
 {

@@ -1,4 +1,4 @@
-//! Numbers of a job that stand in its lines.
+//! Numbers of a job that its lines need.
 
 ghost use Rattle.std.specs.Prelude.{◌≡◌, ◌+◌, ◌≤◌, length};
 ghost use Rattle.audit_model.specs.Job.{total_votes};
@@ -8,45 +8,45 @@ use audit_model::setting::{Ask, Score};
 use plan_core::job::Job;
 use scores::denominator;
 
-/// The denominator of a score of the job's plans.
+/// Returns the denominator of a score of the job's plans.
 #[tactic(auto, using(crate::proofs::Limits::votes))]
 pub fn denominator_of(job: &Job, score: Score) -> u64
     ensures { result ≡ definition.denominator score job.now.districts (total_votes job.now) }
 {
-    // Called for what its contract says: the job is within its limits, and its start plan is legal.
+    // Called for its contract: the job is within its limits, and its start plan is legal.
     let _units = job.units();
     denominator(score, job.districts(), job.votes())
 }
 
-/// How many plans an outlier trajectory visits.
+/// Returns the number of plans that an outlier walk visits.
 #[tactic(auto, using(crate::proofs::Limits::small))]
 pub fn visits(job: &Job) -> u64
     ensures value { result ≡ job.now.setting.steps + 1 }
     ensures few { result ≤ 1000000001 }
 {
-    // Called for what its contract says: the job is within its limits, and its start plan is legal.
+    // Called for its contract: the job is within its limits, and its start plan is legal.
     let _units = job.units();
     u64::from(job.setting().steps) + 1
 }
 
-/// How many values the start's rank is among: its own and those of the ends.
+/// Returns the number of ranked values: the start plan's and those of the endpoints.
 #[tactic(auto, using(crate::proofs::Limits::small))]
 pub fn ranked(job: &Job) -> u64
     ensures value { result ≡ job.now.setting.ends + 1 }
     ensures few { result ≤ 100001 }
 {
-    // Called for what its contract says: the job is within its limits, and its start plan is legal.
+    // Called for its contract: the job is within its limits, and its start plan is legal.
     let _units = job.units();
     u64::from(job.setting().ends) + 1
 }
 
-/// The asks in order, of which there are at most four.
+/// Returns the asks in order, at most four.
 #[tactic(auto, using(crate::proofs::Limits::small))]
 pub fn asks_of(job: &Job) -> &[Ask]
     ensures value { result.now ≡ job.now.setting.asks }
     ensures few { length result.now ≤ 4 }
 {
-    // Called for what its contract says: the job is within its limits, and its start plan is legal.
+    // Called for its contract: the job is within its limits, and its start plan is legal.
     let _units = job.units();
     job.setting().asks.as_slice()
 }

@@ -1,4 +1,4 @@
-//! The lines of the outlier trajectories.
+//! The lines of the outlier walks.
 
 ghost use Rattle.std.specs.Prelude.{◌≡◌, ◌<◌, length, Some, slice_get, flat_map};
 ghost use Rattle.std.specs.List.{All};
@@ -19,7 +19,7 @@ use audit_model::setting::Ask;
 use outlier_tests::bound;
 use plan_core::job::Job;
 
-/// Appends a line for each outlier trajectory and each ask.
+/// Appends a line for each outlier walk and each ask.
 pub fn push_walk_lines(job: &Job, sorted: &[Outcome], out: &mut Bytes) -> Result<(), Memory>
     requires { AreOutcomesOf job.now sorted.now }
     ensures { AppendsText out.old out.new (walk_lines job.now sorted.now) result }
@@ -38,7 +38,7 @@ fn push_walks(job: &Job, walks: &[Outcome], out: &mut Bytes) -> Result<(), Memor
     Ok(())
 }
 
-/// Appends a line for each ask.
+/// Appends a line for each ask of one outcome.
 fn push_walk(job: &Job, found: &Outcome, out: &mut Bytes) -> Result<(), Memory>
     requires { HasCounts job.now found.now }
     ensures { AppendsText out.old out.new (lines_of job.now found.now) result }
@@ -49,7 +49,7 @@ fn push_walk(job: &Job, found: &Outcome, out: &mut Bytes) -> Result<(), Memory>
     Ok(())
 }
 
-/// Appends the line of the ask at this place, which has this value at the start.
+/// Appends the line of the ask at this place. `start` is the start plan's value.
 fn push_walk_line(
     job: &Job,
     found: &Outcome,

@@ -1,11 +1,11 @@
-//! A text, written whole.
+//! Writing a whole text to a sink.
 
 ghost use Rattle.report.specs.Said.{WritesAllOf};
 
 use audit_io::sink::Sink;
 use audit_io::source::Failed;
 
-/// Writes all of the text, or as much as the sink takes before it fails.
+/// Writes all of the text, or the part that the sink takes before it fails.
 pub fn write_all<K: Sink>(out: &mut K, text: &[u8]) -> Result<(), Failed>
     ensures { WritesAllOf (K.state out.old) (K.state out.new) text.now result }
 {

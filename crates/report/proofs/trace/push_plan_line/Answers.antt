@@ -9,7 +9,7 @@ use Rattle.audit_model.specs.declared.memory.Memory.{Memory}
 use Rattle.report.proofs.trace.push_plan_line.Goals as goal
 
 module _ (step moved : ℕ) (values : List ℤ) (before plan : List ℕ) where
-  -- the line up to its moves, up to its values, and up to its changes
+  -- the line up to its moves
   abbrev first : List ℕ
   first = decimal step ++ spaced (decimal moved ∷ [])
 
@@ -19,7 +19,7 @@ module _ (step moved : ℕ) (values : List ℤ) (before plan : List ℕ) where
   abbrev third : List ℕ
   third = second ++ spaced (change_words before plan)
 
-  -- and the whole
+  -- the three parts and the line feed are the whole line
   whole : third ++ 10 ∷ [] ≡ plan_line step moved values before plan
   whole = line-parts (decimal step) (decimal moved ∷ []) (map signed_decimal values) (change_words before plan)
 
@@ -30,14 +30,14 @@ module _ (step moved : ℕ) (values : List ℤ) (before plan : List ℕ) where
       appends-two out one two (decimal step) (spaced (decimal moved ∷ [])) r (appends-by out one (decimal s) (decimal step) (Ok tt) (ap decimal is) a)
       (appends-by one two (32 ∷ decimal m) (spaced (decimal moved ∷ [])) r (ap (λ (n : ℕ). 32 ∷ decimal n) its ∙ sym (append-nil (32 ∷ decimal moved))) b)
 
-  -- where the values cannot be, the line cannot
+  -- if the values cannot be appended, the line cannot
   no_values : (out two three : RoomyBytes) (e : Memory) → AppendsText out two first (Ok tt) → AppendsText two three (spaced (map signed_decimal values)) (Err e)
       → AppendsText out three (plan_line step moved values before plan) (Err e)
   no_values out two three e a b =
       appends-by out three (third ++ 10 ∷ []) (plan_line step moved values before plan) (Err e) whole
       (appends-err out three third (10 ∷ []) e (appends-err out three second (spaced (change_words before plan)) e (appends-two out two three first (spaced (map signed_decimal values)) (Err e) a b)))
 
-  -- and where the changes cannot be
+  -- if the changes cannot be appended, the line cannot
   no_changes : (out two three four : RoomyBytes) (e : Memory) → AppendsText out two first (Ok tt) → AppendsText two three (spaced (map signed_decimal values)) (Ok tt)
       → AppendsText three four (spaced (change_words before plan)) (Err e) → AppendsText out four (plan_line step moved values before plan) (Err e)
   no_changes out two three four e a b d =
