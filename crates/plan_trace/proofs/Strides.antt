@@ -17,20 +17,20 @@ use Rattle.report.specs.Said.{WritesAllOf}
 use Rattle.report.proofs.Appended.{appends_more, appends_nothing, part_after, part_of_more}
 use Rattle.report.proofs.Limits.{small}
 
--- ---- texts in turn
+-- ---- one text after another
 
--- a text that was taken whole, and then another
+-- a text that was written in full, followed by another
 pub wrote_then : (a b c : Stream) (xs ys : List ℕ) (r : Result (Unit {0}) Failed) → WritesAllOf a b xs (Ok tt) → WritesAllOf b c ys r → WritesAllOf a c (xs ++ ys) r
 wrote_then a b c xs ys (Ok done) p q = (appends_more a.bytes b.bytes c.bytes xs ys p.0 q.0, q.1 ∙ p.1)
 wrote_then a b c xs ys (Err failed) p q = (part_after a.bytes b.bytes c.bytes xs ys p.0 q.0, subst (λ (k : ℕ). Rose k c.faults) p.1 q.1)
 
--- a text that was taken in part
+-- a text that was written in part
 pub wrote_part : (a b : Stream) (xs ys : List ℕ) (failed other : Failed) → WritesAllOf a b xs (Err failed) → WritesAllOf a b (xs ++ ys) (Err other)
 wrote_part a b xs ys failed other p = (part_of_more a.bytes b.bytes xs ys p.0, p.1)
 
 -- ---- strides
 
--- one stride more comes to the next shown step
+-- one more stride reaches the next shown step
 pub shown_next : (thin steps place step : ℕ) → step ≡ shown thin steps place → step + min thin (steps - step) ≡ shown thin steps (place + 1)
 shown_next thin steps place step at =
     let more : (place + 1) * thin ≡ place * thin + thin = grind arith in
@@ -69,7 +69,7 @@ values_of_four values few = elim_four values few
 -- ---- lines
 
 module _ (job : Job) (draws : Draws) (id thin : ℕ) where
-  -- before the first step
+  -- the lines before the first step
   pub first_line : first_lines job draws id thin 1 ≡ line_at job draws id job.start 0
   unfolding first_lines trace_line
   first_line = ap (line_at job draws id job.start) (at_first (own_steps job id))
@@ -77,7 +77,7 @@ module _ (job : Job) (draws : Draws) (id thin : ℕ) where
       at_first : (steps : ℕ) → min (0 * thin) steps ≡ 0
       at_first steps = omega arith
 
-  -- one line more
+  -- one more line
   pub lines_more : (place step next : ℕ) → step ≡ shown thin (own_steps job id) place → next ≡ shown thin (own_steps job id) (place + 1)
       → first_lines job draws id thin (place + 1) ++ line_at job draws id (plan_after job draws id step) next ≡ first_lines job draws id thin (place + 1 + 1)
   unfolding first_lines trace_line
@@ -90,7 +90,7 @@ module _ (job : Job) (draws : Draws) (id thin : ℕ) where
           ≡ first_lines job draws id thin (place + 1 + 1)
       again = rw (add-one (place + 1), add-one place) refl
 
-  -- the first lines are the front of all
+  -- the first lines are a front of all lines
   pub lines_front : (n more : ℕ) → (rest : List ℕ) × (first_lines job draws id thin (n + more) ≡ first_lines job draws id thin n ++ rest)
   unfolding first_lines
   lines_front n zero = ([], ap (first_lines job draws id thin) (let e : n + 0 ≡ n = omega arith in e) ∙ sym (append-nil (first_lines job draws id thin n)))
@@ -102,7 +102,7 @@ module _ (job : Job) (draws : Draws) (id thin : ℕ) where
             ∙ append_assoc (first_lines job draws id thin n) before.0 (trace_line job draws id thin (n + more)),
       )
 
-  -- where the first lines are cut off, all are
+  -- if the first lines are cut off, all lines are
   pub lines_cut : (before after : Stream) (n all : ℕ) (failed other : Failed) → n ≤ all → WritesAllOf before after (first_lines job draws id thin n) (Err failed)
       → WritesAllOf before after (first_lines job draws id thin all) (Err other)
   lines_cut before after n all failed other few cut =
@@ -111,7 +111,7 @@ module _ (job : Job) (draws : Draws) (id thin : ℕ) where
       ap (first_lines job draws id thin) (let at : all ≡ n + (all - n) = omega arith in at) ∙ front.1 in
       subst (λ (t : List ℕ). WritesAllOf before after t (Err other)) (sym whole) (wrote_part before after (first_lines job draws id thin n) front.0 failed other cut)
 
-  -- the lines so far, and the next
+  -- the lines so far, followed by the next one
   pub lines_then : (before here after : Stream) (place step next : ℕ) (held : List ℕ) (r : Result (Unit {0}) Failed)
       → step ≡ shown thin (own_steps job id) place → next ≡ shown thin (own_steps job id) (place + 1) → held ≡ plan_after job draws id step
       → WritesAllOf before here (first_lines job draws id thin (place + 1)) (Ok tt) → WritesAllOf here after (line_at job draws id held next) r
@@ -121,7 +121,7 @@ module _ (job : Job) (draws : Draws) (id thin : ℕ) where
       (wrote_then before here after (first_lines job draws id thin (place + 1)) (line_at job draws id (plan_after job draws id step) next) r so_far
       (subst (λ (q : List ℕ). WritesAllOf here after (line_at job draws id q next) r) is line))
 
-  -- the line that starts a trajectory, and its plans
+  -- a trajectory's lines are the line that starts it and those of its plans
   pub trajectory_parts : trajectory_lines job draws thin id ≡ trace_id_line job id thin ++ first_lines job draws id thin (count_shown thin (own_steps job id))
   unfolding trajectory_lines
   trajectory_parts = refl
@@ -129,17 +129,17 @@ module _ (job : Job) (draws : Draws) (id thin : ℕ) where
 -- ---- ranges
 
 module _ (job : Job) (draws : Draws) (thin first : ℕ) where
-  -- before the first trajectory
+  -- the lines before the first trajectory
   pub range_none : range_lines job draws thin first 0 ≡ []
   unfolding range_lines
   range_none = refl
 
-  -- one trajectory more
+  -- one more trajectory
   pub range_more : (count : ℕ) → range_lines job draws thin first (count + 1) ≡ range_lines job draws thin first count ++ trajectory_lines job draws thin (first + count)
   unfolding range_lines
   range_more count = rw (add-one count) refl
 
-  -- the first trajectories are the front of all
+  -- the lines of the first trajectories are a front of all lines
   pub range_front : (n more : ℕ) → (rest : List ℕ) × (range_lines job draws thin first (n + more) ≡ range_lines job draws thin first n ++ rest)
   unfolding range_lines
   range_front n zero = ([], ap (range_lines job draws thin first) (let e : n + 0 ≡ n = omega arith in e) ∙ sym (append-nil (range_lines job draws thin first n)))
@@ -160,14 +160,14 @@ module _ (job : Job) (draws : Draws) (thin first : ℕ) where
       ap (range_lines job draws thin first) (let at : all ≡ n + (all - n) = omega arith in at) ∙ front.1 in
       subst (λ (t : List ℕ). WritesAllOf before after t (Err other)) (sym whole) (wrote_part before after (range_lines job draws thin first n) front.0 failed other cut)
 
-  -- the trajectories so far, and the next
+  -- the trajectories so far, followed by the next one
   pub range_then : (before here after : Stream) (count : ℕ) (r : Result (Unit {0}) Failed) → WritesAllOf before here (range_lines job draws thin first count) (Ok tt)
       → WritesAllOf here after (trajectory_lines job draws thin (first + count)) r → WritesAllOf before after (range_lines job draws thin first (count + 1)) r
   range_then before here after count r so_far next =
       subst (λ (t : List ℕ). WritesAllOf before after t r) (sym (range_more count))
       (wrote_then before here after (range_lines job draws thin first count) (trajectory_lines job draws thin (first + count)) r so_far next)
 
-  -- nothing was written before the first
+  -- nothing is written before the first trajectory
   pub range_begun : (here : Stream) → WritesAllOf here here (range_lines job draws thin first 0) (Ok tt)
   range_begun here = subst (λ (t : List ℕ). WritesAllOf here here t (Ok tt)) (sym range_none) (appends_nothing here.bytes, refl)
 

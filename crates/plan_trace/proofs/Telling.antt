@@ -1,4 +1,4 @@
--- The line of the plan that a walker holds.
+-- The line of a walker's current plan.
 use Rattle.std.proofs.Common.{◌≡◌, ℕ, ◌≤◌, List, length, take, map, ℤ, sym, ap, ◌∙◌, subst, arith}
 use Rattle.std.proofs.lemmas.List.{length-map}
 use Rattle.audit_model.specs.declared.setting.Ask.{Ask}
@@ -22,11 +22,11 @@ taken job plan n values sound count is =
     ∙ values_of_four (ask_values job plan) (omega (arith, width, (small job sound).few_asks))
 
 module _ (job : Job) (held now : Held) (same : now ≡ held) (made : held.job ≡ job) where
-  -- the plan that is held is legal for the job
+  -- the current plan is legal for the job
   pub legal_held : IsLegal now.job now.plan → IsLegal job held.plan
   legal_held legal = subst (λ (j : Job). IsLegal j held.plan) made (subst (λ (h : Held). IsLegal h.job h.plan) same legal)
 
-  -- what is told is its line
+  -- the written line is the line of the current plan
   pub line_told : (step moved n : ℕ) (values : List ℤ) (before kept plan : List ℕ) → IsJob job → n ≡ length job.setting.asks → values ≡ four_values (ask_values job held.plan)
       → kept ≡ before → plan ≡ now.plan → plan_line step moved (take n values) kept plan ≡ plan_line step moved (ask_values job held.plan) before held.plan
   line_told step moved n values before kept plan sound count is b p =

@@ -1,4 +1,4 @@
--- What a trace allocates before its first write, and how it ends.
+-- The memory that a trace allocates before its first write, and the ways a trace can end.
 use Rattle.std.specs.Prelude.{◌≡◌, ℕ, List, [], ◌∷◌, codes, length}
 use Rattle.std.specs.Io.KnownBytes.{Appends}
 use Rattle.audit_model.specs.Faults.{Rose}
@@ -23,7 +23,7 @@ pub record IsTracer {J : Type 0} (job : Job) (t : Tracer J) : Type 0 where
   pub made : t.walker.job ≡ job
   pub pen : IsPen job t.pen
 
--- these, room for the hub, and the lines before the first trajectory
+-- a tracer, the hub's memory, and the lines before the first trajectory
 pub record IsReady {J : Type 0} (job : Job) (r : Ready J) : Type 0 where
   pub tracer : IsTracer job r.tracer
   pub hub : length r.hub ≡ job.graph.units
@@ -34,7 +34,7 @@ pub record IsHeldAt (job : Job) (id step : ℕ) (held : Held) (moved : ℕ) : Ty
   pub plan : held.plan ≡ plan_after job (draw job.setting.key) id step
   pub counted : moved ≡ moves_after job (draw job.setting.key) id step
 
--- the lines of all plans that are shown of a trajectory
+-- the lines of all plans of a trajectory that are shown
 abbrev pub all_lines : Job → Traced → List ℕ
 all_lines job traced = first_lines job (draw job.setting.key) traced.id traced.thin (count_shown traced.thin (own_steps job traced.id))
 
@@ -50,7 +50,7 @@ lines_of_range job range count = range_lines job (draw job.setting.key) range.th
 abbrev pub text_of_range : Job → TraceRange → List ℕ
 text_of_range job range = trace_text job (draw job.setting.key) range.first range.last range.thin
 
--- how a trace ends: it was written whole, or in part if a write failed, or nothing was written if memory ran out
+-- the end of a trace: it was written in full, or in part if a write failed, or nothing was written if memory ran out
 abbrev pub TracesJob : Job → TraceRange → Stream → Stream → Ended → Type 0
 TracesJob job range before after ended.Done = Appends before.bytes after.bytes (text_of_range job range) × (after.faults ≡ before.faults)
 TracesJob job range before after ended.WriteFault = AppendsPart before.bytes after.bytes (text_of_range job range) × Rose before.faults after.faults

@@ -1,4 +1,4 @@
-//! The line that a trace writes next.
+//! The next line of a trace.
 
 ghost use Rattle.std.specs.Prelude.{◌≡◌, ◌≤◌, ◌+◌, length, IfOk};
 ghost use Rattle.audit_statement.specs.Along.{ask_values};
@@ -14,7 +14,7 @@ use report::trace::{plan_line, plan_line_room, trajectory_line};
 use std::alloc::Global;
 use walker::walker::Walker;
 
-/// The plan of the line before, and the next line, with room for that of any legal plan.
+/// The previous plan, and a buffer for the next line with capacity for any legal plan.
 #[derive(Drop)]
 pub struct Pen {
     pub before: UnitList,
@@ -38,7 +38,8 @@ fn keep(before: &mut UnitList, plan: &[u32])
     before.as_mut_slice().copy_from_slice(plan);
 }
 
-/// Makes the line that starts a trajectory, whose first plan is compared with the start plan. It takes no memory.
+/// Fills the buffer with the line that starts a trajectory. The trajectory's first plan is compared with the start
+/// plan. Allocates nothing.
 pub fn start_trajectory(job: &Job, id: u32, thin: u32, pen: &mut Pen)
     requires { IsPen job.now pen.old }
     ensures pen { IsPen job.now pen.new }
@@ -50,7 +51,7 @@ pub fn start_trajectory(job: &Job, id: u32, thin: u32, pen: &mut Pen)
     keep(&mut pen.before, job.start().as_slice());
 }
 
-/// Makes the line of the walker's current plan, after this many steps and moves. It takes no memory.
+/// Fills the buffer with the line of the walker's current plan, after this many steps and moves. Allocates nothing.
 pub fn put_plan<J: Judge>(job: &Job, walker: &mut Walker<J>, step: u32, moved: u32, pen: &mut Pen)
     requires made { walker.old.job ≡ job.now }
     requires pen { IsPen job.now pen.old }
@@ -59,7 +60,7 @@ pub fn put_plan<J: Judge>(job: &Job, walker: &mut Walker<J>, step: u32, moved: u
     ensures before { pen.new.before ≡ walker.old.plan }
     ensures same { walker.new ≡ walker.old }
 {
-    // Called for what its contract says: the job is within its limits.
+    // Called for its contract: the job is within its limits.
     let _units = job.units();
     let values = walker.values(job);
     let asks = job.setting().asks.len();

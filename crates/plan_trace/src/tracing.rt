@@ -28,7 +28,7 @@ use std::alloc::Global;
 use walker::walker::Walker;
 use walker::way::Way;
 
-/// The first and the last trajectory of a trace, and how many steps apart their plans are shown.
+/// The ids of the first and the last trajectory of a trace, and the number of steps between two of its plans.
 #[derive(Clone, Copy)]
 pub struct TraceRange {
     pub first: u32,
@@ -36,14 +36,14 @@ pub struct TraceRange {
     pub thin: u32,
 }
 
-/// One trajectory of a trace.
+/// One trajectory of a trace, and the number of steps between two of its plans.
 #[derive(Clone, Copy)]
 pub struct Traced {
     pub id: u32,
     pub thin: u32,
 }
 
-/// A walker, and the line that is written next.
+/// A walker, and the next line to write.
 #[derive(Drop)]
 pub struct Tracer<J: Judge> {
     pub walker: Walker<J>,
@@ -77,14 +77,14 @@ fn make_tracer<J: Judge>(alloc: Global, job: &Job, judge: J) -> Result<Tracer<J>
     Ok(Tracer { walker, pen })
 }
 
-/// Allocates room for the hub.
+/// Allocates the hub.
 fn make_hub(job: &Job) -> Result<UnitList, Memory>
     ensures { IfOk result (λ h. length h ≡ job.now.graph.units) }
 {
     job.start().copy()
 }
 
-/// Allocates all that a trace takes.
+/// Allocates everything that a trace needs.
 fn make_ready<J: Judge>(alloc: Global, job: &Job, judge: J) -> Result<Ready<J>, Memory>
     requires judge { IsJudgeFor job.now (J.judging judge) }
     ensures { IfOk result (λ r. IsReady job.now r) }
@@ -124,7 +124,8 @@ fn strides_of(steps: u32, thin: u32) -> u64
     (u64::from(steps) + u64::from(thin) - 1) / u64::from(thin)
 }
 
-/// Walks a trajectory stride by stride, and writes the line of the plan after each, behind the line of its first plan.
+/// Walks a trajectory stride by stride, and writes a line after each stride. The line of the first plan is written
+/// before.
 fn write_strides<J: Judge, K: Sink>(
     job: &Job,
     traced: Traced,
@@ -140,7 +141,7 @@ fn write_strides<J: Judge, K: Sink>(
     ensures written { (before : Stream) → WritesAllOf before (K.state out.old) (definition.first_lines job.now (draw job.now.setting.key) traced.id traced.thin 1) (Ok tt)
         → WritesAllOf before (K.state out.new) (all_lines job.now traced) result }
 {
-    // Called for what its contract says: the job is within its limits.
+    // Called for its contract: the job is within its limits.
     let _units = job.units();
     let steps = steps_of(job, traced.id);
     let mut step = 0;
@@ -163,7 +164,7 @@ fn write_strides<J: Judge, K: Sink>(
     Ok(())
 }
 
-/// Writes the lines of all plans of a trajectory, from its first on.
+/// Writes the lines of a trajectory's plans, from its first plan on.
 fn write_lines<J: Judge, K: Sink>(
     job: &Job,
     traced: Traced,
@@ -191,7 +192,7 @@ fn write_lines<J: Judge, K: Sink>(
     }
 }
 
-/// Walks a trajectory, and writes its lines.
+/// Walks a trajectory and writes its lines.
 fn write_trajectory<J: Judge, K: Sink>(
     job: &Job,
     traced: Traced,
@@ -241,7 +242,7 @@ fn write_range<J: Judge, K: Sink>(
     Ok(())
 }
 
-/// Walks to the hub, once for the whole range, if the range has an endpoint trajectory.
+/// Computes the hub once for the whole range, if the range has an endpoint trajectory.
 fn find_hub<J: Judge>(job: &Job, last: u32, walker: &mut Walker<J>, hub: &mut UnitList)
     requires made { walker.old.job ≡ job.now }
     requires units { length hub.old ≡ job.now.graph.units }
@@ -273,7 +274,7 @@ fn write_body<J: Judge, K: Sink>(
     }
 }
 
-/// Writes the trace of a range while it is walked. It takes no memory.
+/// Writes the trace of a range while walking it. Allocates nothing.
 fn write_trace<J: Judge, K: Sink>(
     job: &Job,
     range: TraceRange,
@@ -292,7 +293,8 @@ fn write_trace<J: Judge, K: Sink>(
     }
 }
 
-/// Allocates all memory of a trace, walks its range with this constraint, and writes the plans while it walks.
+/// Walks a range of trajectories with this constraint and writes their plans while walking. All memory is allocated
+/// before the first write.
 pub fn trace<J: Judge, K: Sink>(
     alloc: Global,
     job: &Job,
