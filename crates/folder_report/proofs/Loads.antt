@@ -1,4 +1,4 @@
--- Both slots, one after the other.
+-- Loading both slots, one after the other.
 use Rattle.std.proofs.Common.{◌≡◌, Option, Some, None, ap, subst, ◌∙◌}
 use Rattle.audit_model.specs.Pair.{Pair}
 use Rattle.ckpt_store.specs.Holding.{HasLoaded}

@@ -8,39 +8,39 @@ use Rattle.ckpt_store.specs.declared.finding.Finding.{Finding}
 use Rattle.folder_report.specs.FolderLines.{name_of, of_each}
 use Rattle.report.specs.Said.{AddsText, IsSaid}
 
--- the name of a folder behind the working folder
+-- the name of a folder other than the working folder
 pub name_behind : (names : List (List ℕ)) (n : ℕ) → (n ≡ 0 → ⊥) → name_of names n ≡ get_or names (n - 1) []
 name_behind names zero other = absurd (other refl)
 name_behind names (suc n) other = ap (λ m. get_or names m []) (omega arith)
 
--- ---- texts that are added
+-- ---- appended texts
 
 module _ {before after : Stream} {going result : Bool} where
-  -- another text that is the same
+  -- the appended text may be replaced by an equal one
   pub adds_as : {one other : List ℕ} → AddsText before after going one result → one ≡ other → AddsText before after going other result
   adds_as a e = subst (λ (t : List ℕ). AddsText before after going t result) e a
 
--- no text
+-- nothing was appended
 pub adds_none : {s : Stream} {going : Bool} → AddsText s s going [] going
 adds_none {s = s} {going = going} = record { adds = λ start said h. subst (λ (t : List ℕ). IsSaid start s t going) (sym (append-nil said)) h }
 
--- one text and another
+-- one text was appended after another
 pub adds_both : {a b c : Stream} {first then last : Bool} {one other : List ℕ} → AddsText a b first one then → AddsText b c then other last → AddsText a c first (one ++ other) last
 adds_both {c = c} {last = last} {one = one} {other = other} x y = record {
   adds = λ start said s. subst (λ (t : List ℕ). IsSaid start c t last) (append_assoc said one other) (y.adds start (said ++ one) (x.adds start said s));
 }
 
--- a text that is added to nothing was said
+-- a text appended to nothing was written
 pub said_of : {a b : Stream} {text : List ℕ} {result : Bool} → AddsText a b true text result → IsSaid a b text result
 said_of {a = a} x = x.adds a [] (Appends-nil a.bytes, refl)
 
--- what was said, all of it or a front, was added
+-- a text written in full or in part was appended
 pub added_line : {a b : Stream} {text : List ℕ} (result : Bool) → IsSaid a b text result → AddsLine a b text
 added_line true s = record { added = inl s }
 added_line false s = record { added = inr s }
 
 module _ (say : List ℕ → Finding → List ℕ) where
-  -- one folder more
+  -- the text of one more folder
   each_suc : (names : List (List ℕ)) (found : List Finding) (i : ℕ) (name : List ℕ) (what : Finding) → i < length names → i < length found
       → of_each say (take (suc i) names) (take (suc i) found) ≡ of_each say (take i names) (take i found) ++ say (get_or names i name) (get_or found i what)
   each_suc [] found i name what l m = absurd (omega (arith, l))
@@ -56,13 +56,13 @@ module _ (say : List ℕ → Finding → List ℕ) where
       let one : next ≡ suc i = omega (arith, is) in
       ap (λ k. of_each say (take k names) (take k found)) one ∙ each_suc names found i name what l m
 
-  -- one folder more, by a name that is the one there
+  -- the text of one more folder, with its name given by an equation
   pub each_next : (names : List (List ℕ)) (found : List Finding) (i next : ℕ) (seen : List ℕ) (what : Finding) → seen ≡ get_or names i [] → next ≡ i + 1 → i < length names
       → i < length found → of_each say (take i names) (take i found) ++ say seen (get_or found i what) ≡ of_each say (take next names) (take next found)
   each_next names found i next seen what name is l m =
       ap (λ (n : List ℕ). of_each say (take i names) (take i found) ++ say n (get_or found i what)) name ∙ sym (each_more names found i next [] what is l m)
 
-  -- all of them
+  -- the texts of all folders
   pub each_all : (names : List (List ℕ)) (found : List Finding) (i : ℕ) → (length names ≤ i) ⊎ (length found ≤ i)
       → of_each say (take i names) (take i found) ≡ of_each say names found
   each_all [] [] i all = ends i

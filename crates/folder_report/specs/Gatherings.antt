@@ -1,5 +1,5 @@
--- How a call ends that gathers folders, or only looks at them.
--- This project's. Its status, what it writes, and what it leaves in the slots, all by the one gathering that it makes.
+-- The end of a call that gathers folders or only looks at them. The clauses give its status, its outputs and the slots
+-- that it leaves, all by the one gathering that it makes.
 use Rattle.std.specs.Prelude.{◌≡◌, ◌⊎◌, ℕ, Bool, true, false, not, ◌||◌, List, Result, Ok, Err, IfOk, IfErr}
 use Rattle.std.specs.Io.KnownBytes.{Appends}
 use Rattle.audit_model.specs.Faults.{Rose}
@@ -16,7 +16,7 @@ use Rattle.ckpt_store.specs.declared.told.Ungathered.TheVariants as ungathered
 use Rattle.ckpt_store.specs.Whole.{HasFailed, IsGathering, IsUnsaved}
 use Rattle.folder_report.specs.FolderLines.{refusals, told_text}
 
--- why a gathering told nothing, as the line and the status of a run say it
+-- the ending of a run that fails for the same reason as this gathering
 abbrev pub ending_of : Ungathered → Ending
 ending_of ungathered.Memory = no_memory
 ending_of ungathered.Unread = load_fault
@@ -29,11 +29,11 @@ failed_status ungathered.Unread = 6
 failed_status ungathered.Taken = 6
 failed_status ungathered.Unsaved = 9
 
--- the status where a folder cannot be gathered
+-- the exit status if a folder cannot be gathered
 abbrev pub refused_status : ℕ
 refused_status = 10
 
--- what the two outputs had before a call, and have after it
+-- the contents of both outputs
 pub record Outputs : Type 0 where
   pub out : Stream
   pub note : Stream
@@ -44,19 +44,20 @@ pub record IsWhole (before after : Outputs) (text : List ℕ) (status : ℕ) : T
   pub written : Appends before.out.bytes after.out.bytes text
   pub same : after.note ≡ before.note
 
--- writing it failed: a front of it was written, and the line of a write fault
+-- writing the text failed: a front of it was written, and the diagnostic of a write fault
 pub record IsCutOff (before after : Outputs) (text : List ℕ) (status : ℕ) : Type 0 where
   pub status_is : status ≡ 5
   pub written : AppendsPart before.out.bytes after.out.bytes text
   pub rose : Rose before.out.faults after.out.faults
   pub line : AddsLine before.note after.note (note no_columns write_fault)
 
--- nothing was written to standard output, and these lines to standard error, or a front of them where that failed
+-- nothing was written to standard output, and these lines to standard error, or a front of them if that failed
 pub record IsNoted (before after : Outputs) (lines : List ℕ) : Type 0 where
   pub same : after.out ≡ before.out
   pub lines_added : AddsLine before.note after.note lines
 
--- A gathering that told what it found: it is written where it was only to look, or saved. Else the lines say why it did not save.
+-- The end of a gathering with findings. They are written if it was only to look, or if it saved. Otherwise the lines
+-- say why it did not save.
 abbrev pub TellsFound : Bool → List (List ℕ) → ℕ → Told → Outputs → Outputs → ℕ → Type 0
 TellsFound true names total told before after status =
     IsWhole before after (told_text names told total) status ⊎ IsCutOff before after (told_text names told total) status
@@ -67,7 +68,8 @@ TellsGathering saves names total (Ok told) before after status = TellsFound (not
 TellsGathering saves names total (Err why) before after status =
     (status ≡ failed_status why) × IsNoted before after (note no_columns (ending_of why))
 
--- There was one gathering: what it found, saved and left is what a gathering does, where it failed it left what such a failure leaves, and the status and both outputs tell it.
+-- One gathering was made. If it has findings, they, the saves and the slots are those of a gathering. If it failed, it
+-- left the slots of such a failure. The status and both outputs report it.
 pub record EndsGathering (job : Job) (saves : Bool) (names : List (List ℕ)) (before after : Kept) (folders folders_now : List Kept) (outputs outputs_now : Outputs) (status : ℕ)
     : Type 0 where
   pub answer : Result Told Ungathered

@@ -1,4 +1,4 @@
--- What is told of two slots, as it is kept until it is written.
+-- The report on two slots, before it is written.
 use Rattle.std.specs.Prelude.{◌≡◌, ℕ, List, ◌++◌, Option, option_map}
 use Rattle.audit_model.specs.Job.{Job}
 use Rattle.audit_model.specs.Pair.{Pair}
@@ -9,14 +9,14 @@ use Rattle.ckpt_store.specs.declared.held.Loaded.{Loaded}
 use Rattle.folder_report.specs.declared.slots.Shown.{Shown}
 use Rattle.folder_report.specs.SlotLines.{both_text, job_text, total_of}
 
--- there are two slots, the told ones where the keeper tells, of which this was loaded
+-- there are two slots, the known ones if the keeper is observable, and both were loaded
 pub record HasLoadedBoth (told : Option Pair) (zero one : Loaded) : Type 0 where
   pub pair : Pair
   pub same : IfTold told (λ p. pair ≡ p)
   pub first : IsLoadedFrom zero pair.zero_slot
   pub second : IsLoadedFrom one pair.one_slot
 
--- this is to be told of these slots
+-- the report on these slots
 pub record IsShownOf (job : Option Job) (p : Pair) (shown : Shown) : Type 0 where
   pub zero : HoldsStored p.zero_slot shown.first
   pub one : HoldsStored p.one_slot shown.second

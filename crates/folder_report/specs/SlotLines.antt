@@ -1,5 +1,5 @@
--- The lines that tell of slots, and how a call ends that tells of them.
--- This project's formats. A line is a list of texts, put together.
+-- The lines about slots, and the end of a call that reports them, in this project's formats. A line is a list of texts,
+-- put together.
 use Rattle.std.specs.Prelude.{◌≡◌, ◌⊎◌, ℕ, List, [], ◌∷◌, ◌++◌, codes, decimal, length, Option, Some, None, option_map}
 use Rattle.audit_model.specs.Faults.{Rose}
 use Rattle.audit_model.specs.Job.{Job}
@@ -18,7 +18,7 @@ use Rattle.ckpt_store.specs.declared.progress.Progress.{Progress}
 use Rattle.ckpt_store.specs.declared.progress.Progress.TheVariants as progress
 use Rattle.folder_report.specs.Gatherings.{IsCutOff, IsNoted, IsWhole, Outputs}
 
--- what stands behind the number of a slot
+-- the text after the number of a slot
 abbrev pub held_texts : Held → List (List ℕ)
 held_texts held.Absent = codes ": absent" ∷ []
 held_texts (held.Broken fault) = codes ": " ∷ fault_name fault ∷ []
@@ -38,11 +38,11 @@ progress_texts (progress.Done done) total = codes "done: " ∷ decimal done ∷ 
 progress_texts progress.OtherJob total = codes "done: the newest is another job's" ∷ []
 progress_texts progress.Damaged total = codes "done: no slot is intact" ∷ []
 
--- what both slots hold, and which is the newest
+-- the contents of both slots, and the newest of them
 abbrev pub both_text : Held → Held → List ℕ
 both_text first second = (slot_line 0 first ++ slot_line 1 second) ++ as_line (newest_texts (newest_in first second))
 
--- how far the job is, where there is one
+-- the progress of the job, if there is one
 abbrev pub job_text : Option Progress → ℕ → List ℕ
 job_text None total = []
 job_text (Some done) total = as_line (progress_texts done total)
@@ -51,11 +51,11 @@ abbrev pub total_of : Option Job → ℕ
 total_of None = 0
 total_of (Some job) = total job
 
--- all that is told of two slots
+-- the whole report on two slots
 abbrev pub slots_text : Option Job → Pair → Held → Held → List ℕ
 slots_text job p first second = both_text first second ++ job_text (option_map (λ j. definition.progress j p.zero_slot p.one_slot) job) (total_of job)
 
--- Both slots were loaded, the told ones where the keeper tells, and what they hold was written, or a front of it.
+-- Both slots were loaded, the known ones if the keeper is observable, and the report was written, or a front of it.
 pub record HasShown (job : Option Job) (told : Option Pair) (before after : Outputs) (status : ℕ) : Type 0 where
   pub pair : Pair
   pub same : IfTold told (λ p. pair ≡ p)
@@ -65,14 +65,14 @@ pub record HasShown (job : Option Job) (told : Option Pair) (before after : Outp
   pub one : HoldsStored pair.one_slot second
   pub written : IsWhole before after (slots_text job pair first second) status ⊎ IsCutOff before after (slots_text job pair first second) status
 
--- Nothing was told but why: there was no memory, a load failed, or it failed since another process holds the slots.
+-- Only the reason for a failure was written: memory ran out, a load failed, or another process has locked the slots.
 abbrev pub HasFailedToShow : Kept → Kept → Outputs → Outputs → ℕ → Type 0
 HasFailedToShow before after outputs outputs_now status =
     ((status ≡ 3) × IsNoted outputs outputs_now (note no_columns no_memory))
     ⊎ (((status ≡ 6) × Rose before.load_faults.all after.load_faults.all × IsNoted outputs outputs_now (note no_columns load_fault))
     ⊎ ((status ≡ 6) × Rose before.load_faults.taken after.load_faults.taken × IsNoted outputs outputs_now (note no_columns folder_taken)))
 
--- how a call ends that tells of two slots; it saves nothing
+-- the end of a call that reports two slots, which saves nothing
 pub record EndsShowing (job : Option Job) (before after : Kept) (outputs outputs_now : Outputs) (status : ℕ) : Type 0 where
   pub slots : after.slots ≡ before.slots
   pub tried : after.tried ≡ before.tried

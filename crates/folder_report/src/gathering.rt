@@ -1,4 +1,4 @@
-//! A gathering, and what is told of it.
+//! Gathering folders, and the report on a gathering.
 
 ghost use Rattle.std.specs.Prelude.{◌≡◌, ◌++◌, ◌≤◌, List, ℕ, ◌||◌, length, map, not, string_bytes, true};
 ghost use Rattle.audit_model.specs.Limits.{most_trajectories};
@@ -24,13 +24,15 @@ use report::note::{add_line, tell};
 use report::piece::Piece::{Number, Text};
 use std::alloc::Global;
 
-/// The status where a folder cannot be gathered.
+/// The exit status if a folder cannot be gathered.
 pub const REFUSED: u8 = 10;
 
-/// Gathers folders into the slots of `keeper`, or, where `saves` is not set, only looks at them, and tells what was found. Returns the status.
+/// Gathers folders into the slots of `keeper` and reports the findings. Without `saves` it only looks at the folders.
+/// Returns the exit status.
 ///
-/// What was found is written to `out` where the union was saved or was not to be saved. Else a line on `note` says why for each folder, and the status is
-/// `REFUSED`. Where the gathering failed, or writing what was found, the line and the status are those of a run that fails for this reason.
+/// The findings go to `out` if the union was saved or was not to be saved. Otherwise a line on `note` gives the reason
+/// for each refused folder, and the status is `REFUSED`. If the gathering or writing the findings failed, the
+/// diagnostic and the status are those of a run that fails for that reason.
 pub fn gather_and_tell<C: Keeper, F: Keeper, O: Sink, N: Sink>(
     alloc: Global,
     job: &Job,
@@ -53,7 +55,7 @@ pub fn gather_and_tell<C: Keeper, F: Keeper, O: Sink, N: Sink>(
     }
 }
 
-// Tells why a gathering failed.
+// Writes the diagnostic of a failed gathering and returns its status.
 fn tell_failed<N: Sink>(why: Ungathered, note: &mut N) -> u8
     ensures status { result ≡ failed_status why }
     ensures told { AddsLine (N.state note.old) (N.state note.new) (terms.note no_columns (ending_of why)) }
@@ -66,7 +68,7 @@ fn tell_failed<N: Sink>(why: Ungathered, note: &mut N) -> u8
     }
 }
 
-// Tells what was found, or why it was not saved.
+// Writes the findings, or the reasons why nothing was saved. Returns the status.
 fn tell_found<O: Sink, N: Sink>(
     job: &Job,
     names: &[String],
@@ -88,7 +90,7 @@ fn tell_found<O: Sink, N: Sink>(
     tell(&Ended::WriteFault, note)
 }
 
-// Writes what was found. Returns whether nothing failed.
+// Writes the findings. Returns true if nothing failed.
 fn write_told<O: Sink>(total: u32, names: &[String], told: &Told, out: &mut O) -> bool
     ensures { IsSaid (O.state out.old) (O.state out.new) (told_text (map string_bytes names.now) told.now total) result }
 {
@@ -104,7 +106,7 @@ fn write_told<O: Sink>(total: u32, names: &[String], told: &Told, out: &mut O) -
     )
 }
 
-// Writes a line for each folder, where nothing before it failed.
+// Writes a line for each folder, unless an earlier write failed.
 fn add_folders<O: Sink>(names: &[String], findings: &[Finding], going: bool, out: &mut O) -> bool
     ensures { AddsText (O.state out.old) (O.state out.new) going (of_each (folder_line (map string_bytes names.now)) (map string_bytes names.now) findings.now) result }
 {
@@ -117,16 +119,16 @@ fn add_folders<O: Sink>(names: &[String], findings: &[Finding], going: bool, out
     going
 }
 
-// Writes why nothing was saved.
+// Writes the reasons why nothing was saved.
 fn write_refusals<N: Sink>(names: &[String], told: &Told, note: &mut N)
     ensures { AddsLine (N.state note.old) (N.state note.new) (refusals (map string_bytes names.now) told.now) }
 {
     let going = add_own_refusal(&told.own, note);
-    // Nothing follows, whether all lines were written or a front of them.
+    // Nothing follows these lines, so a failure needs no answer.
     let _ended = add_refusals(names, told.folders.as_slice(), going, note);
 }
 
-// Writes why the working folder cannot be gathered into, if it cannot.
+// Writes the reason why the working folder cannot be gathered into, if there is one.
 fn add_own_refusal<N: Sink>(own: &Finding, note: &mut N) -> bool
     ensures { AddsText (N.state note.old) (N.state note.new) true (own_refusal own.now) result }
 {
@@ -136,7 +138,7 @@ fn add_own_refusal<N: Sink>(own: &Finding, note: &mut N) -> bool
     add_own_line(note, true, &[Text("gather: ")], own)
 }
 
-// Writes a line for each folder that cannot be gathered, where nothing before it failed.
+// Writes a line for each folder that cannot be gathered, unless an earlier write failed.
 fn add_refusals<N: Sink>(names: &[String], findings: &[Finding], going: bool, note: &mut N) -> bool
     ensures { AddsText (N.state note.old) (N.state note.new) going (of_each (folder_refusal (map string_bytes names.now)) (map string_bytes names.now) findings.now) result }
 {
@@ -149,7 +151,7 @@ fn add_refusals<N: Sink>(names: &[String], findings: &[Finding], going: bool, no
     going
 }
 
-// Writes why a folder cannot be gathered, if it cannot.
+// Writes the reason why a folder cannot be gathered, if there is one.
 fn add_refusal<'x, N: Sink>(
     names: &'x [String],
     name: &'x str,

@@ -1,4 +1,4 @@
-//! What is told of folders with checkpoints: how a gathering ends, and what the slots of a folder hold.
+//! The reports on folders with checkpoints: the result of a gathering, and the contents of a folder's slots.
 #![tactic(auto)]
 
 pub mod gathering;

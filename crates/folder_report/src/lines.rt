@@ -1,4 +1,4 @@
-//! The lines that tell of folders.
+//! The lines about folders.
 
 ghost use Rattle.std.specs.Prelude.{◌≡◌, ◌++◌, [], List, ℕ, map, string_bytes};
 ghost use Rattle.ckpt_store.specs.declared.finding.Finding.TheVariants as what;
@@ -13,14 +13,14 @@ use report::note::add_line;
 use report::piece::Piece;
 use report::piece::Piece::{Number, Text};
 
-// Returns what stands behind the count of outcomes.
+// Returns the text after the number of outcomes.
 fn beside_of(beside: bool) -> &'static str
     ensures { result.now ≡ beside_text beside }
 {
     if beside { ", one slot is damaged" } else { "" }
 }
 
-// Returns the name of the folder with this number: 0 is the working folder.
+// Returns the name of the folder with this number. The working folder has number 0.
 fn name_of(names: &[String], number: usize) -> &str
     ensures { result.now ≡ name_of (map string_bytes names.now) number }
 {
@@ -33,7 +33,8 @@ fn name_of(names: &[String], number: usize) -> &str
     }
 }
 
-/// Goes on with the line of the working folder behind these pieces, where nothing before it failed. Returns whether nothing failed.
+/// Writes the line of the working folder after these pieces, unless an earlier write failed. Returns true if nothing
+/// failed.
 pub(crate) fn add_own_line<N: Sink>(
     out: &mut N,
     going: bool,
@@ -82,7 +83,7 @@ pub(crate) fn add_own_line<N: Sink>(
     }
 }
 
-// Goes on with the line of a folder whose outcomes were added.
+// Writes the line of a folder whose outcomes were added.
 fn add_added_line<N: Sink>(
     out: &mut N,
     going: bool,
@@ -114,7 +115,7 @@ fn add_added_line<N: Sink>(
     )
 }
 
-/// Goes on with the line of a folder behind these pieces, where nothing before it failed. Returns whether nothing failed.
+/// Writes the line of a folder after these pieces, unless an earlier write failed. Returns true if nothing failed.
 pub(crate) fn add_folder_line<'x, N: Sink>(
     out: &mut N,
     going: bool,

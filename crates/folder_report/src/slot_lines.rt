@@ -1,4 +1,4 @@
-//! The lines that tell of slots.
+//! The lines about slots.
 
 ghost use Rattle.std.specs.Prelude.{◌≡◌, ◌++◌, ◌∷◌, [], List, ℕ};
 ghost use Rattle.audit_statement.specs.Note.{as_line, fault_name};
@@ -31,7 +31,7 @@ fn name_of(fault: &CkptFault) -> &'static str
     }
 }
 
-// Goes on with the line of a slot that holds a checkpoint.
+// Writes the line of a slot that holds a checkpoint.
 fn add_whole_line<N: Sink>(out: &mut N, going: bool, slot: u8, checkpoint: &Checkpoint) -> bool
     ensures { AddsText (N.state out.old) (N.state out.new) going (slot_line slot (what.Whole checkpoint.now)) result }
 {
@@ -57,7 +57,7 @@ fn add_whole_line<N: Sink>(out: &mut N, going: bool, slot: u8, checkpoint: &Chec
     )
 }
 
-/// Goes on with the line of a slot, where nothing before it failed. Returns whether nothing failed.
+/// Writes the line of a slot, unless an earlier write failed. Returns true if nothing failed.
 pub(crate) fn add_slot_line<N: Sink>(out: &mut N, going: bool, slot: u8, held: &Held) -> bool
     ensures { AddsText (N.state out.old) (N.state out.new) going (slot_line slot held.now) result }
 {
@@ -75,7 +75,7 @@ pub(crate) fn add_slot_line<N: Sink>(out: &mut N, going: bool, slot: u8, held: &
     }
 }
 
-/// Goes on with the line of the newest slot.
+/// Writes the line of the newest slot, unless an earlier write failed.
 pub(crate) fn add_newest_line<N: Sink>(out: &mut N, going: bool, newest: Option<u8>) -> bool
     ensures { AddsText (N.state out.old) (N.state out.new) going (as_line (newest_texts newest)) result }
 {
@@ -88,7 +88,7 @@ pub(crate) fn add_newest_line<N: Sink>(out: &mut N, going: bool, newest: Option<
     }
 }
 
-/// Goes on with the line of a job's progress.
+/// Writes the line of a job's progress, unless an earlier write failed.
 pub(crate) fn add_progress_line<N: Sink>(
     out: &mut N,
     going: bool,

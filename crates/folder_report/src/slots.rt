@@ -1,4 +1,4 @@
-//! What is told of the slots of a folder.
+//! The report on the slots of a folder.
 
 ghost use Rattle.std.specs.Prelude.{◌≡◌, ◌⊎◌, ◌++◌, List, ℕ, Option, Some, None, IfErr, IfOk, option_map};
 ghost use Rattle.audit_model.specs.Pair.{Pair};
@@ -22,14 +22,14 @@ use report::ended::Ended;
 use report::note::tell;
 use std::alloc::Global;
 
-/// What was loaded of both slots.
+/// Both slots as they were loaded.
 #[derive(Drop)]
 struct Both {
     zero: Loaded,
     one: Loaded,
 }
 
-/// What is told of both slots.
+/// The report on both slots, before it is written.
 #[derive(Drop)]
 struct Shown {
     first: Held,
@@ -38,9 +38,10 @@ struct Shown {
     total: u32,
 }
 
-/// Tells what the two slots of a folder hold, which is the newest and, where there is a job, how far it is. Returns the status. It saves nothing.
+/// Reports the contents of a folder's two slots and the newest of them. With a job it also reports the job's progress.
+/// Saves nothing. Returns the exit status.
 ///
-/// Nothing is written to `out` where a slot cannot be loaded or there is no memory; then a line on `note` says why.
+/// If a slot cannot be loaded or memory runs out, nothing is written to `out`, and a line on `note` gives the reason.
 pub fn tell_slots<C: Keeper, O: Sink, N: Sink>(
     alloc: Global,
     keeper: &mut C,
@@ -74,7 +75,7 @@ fn load_both<C: Keeper>(alloc: Global, keeper: &mut C) -> Result<Both, LookFault
     Ok(Both { zero, one })
 }
 
-// Returns what is to be told of the slots. The only error is out of memory.
+// Returns the report on the slots. The only error is out of memory.
 fn shown_of(alloc: Global, job: Option<&Job>, both: &Both) -> Result<Shown, Memory>
     ensures { IfOk result (λ s. (p : Pair) → IsLoadedFrom both.now.zero p.zero_slot → IsLoadedFrom both.now.one p.one_slot → IsShownOf (option_map (λ j. j.now) job.entry) p s) }
 {
@@ -99,7 +100,7 @@ fn shown_of(alloc: Global, job: Option<&Job>, both: &Both) -> Result<Shown, Memo
     }
 }
 
-// Writes what is to be told. Returns the status.
+// Writes the report and returns the status.
 fn show<O: Sink, N: Sink>(shown: &Shown, out: &mut O, note: &mut N) -> u8
     ensures { IsWhole (record { out = O.state out.old; note = N.state note.old }) (record { out = O.state out.new; note = N.state note.new }) (shown_text shown.now) result
         ⊎ IsCutOff (record { out = O.state out.old; note = N.state note.old }) (record { out = O.state out.new; note = N.state note.new }) (shown_text shown.now) result }
@@ -110,7 +111,7 @@ fn show<O: Sink, N: Sink>(shown: &Shown, out: &mut O, note: &mut N) -> u8
     tell(&Ended::WriteFault, note)
 }
 
-// Writes the lines. Returns whether nothing failed.
+// Writes the lines. Returns true if nothing failed.
 fn write_shown<O: Sink>(shown: &Shown, out: &mut O) -> bool
     ensures { IsSaid (O.state out.old) (O.state out.new) (shown_text shown.now) result }
 {
@@ -121,7 +122,7 @@ fn write_shown<O: Sink>(shown: &Shown, out: &mut O) -> bool
     add_progress(out, going, shown)
 }
 
-// Writes how far the job is, if there is one.
+// Writes the progress of the job, if there is one.
 fn add_progress<O: Sink>(out: &mut O, going: bool, shown: &Shown) -> bool
     ensures { AddsText (O.state out.old) (O.state out.new) going (job_text shown.now.progress shown.now.total) result }
 {
