@@ -1,4 +1,4 @@
--- What a run leaves that saved while it walked, in the words of the call's contract.
+-- The result of a run that saved while it walked, in the terms of the contract of `audit`.
 use Rattle.std.proofs.Common.{◌≡◌, ◌⊎◌, inl, inr, ℕ, ◌+◌, ◌-◌, ◌*◌, ◌%◌, ◌^◌, ◌<◌, ◌≤◌, ◌==◌, min, cond, List, [], ◌∷◌, ◌++◌, length, map, Option, Some, None, Result, Ok, Err, refl, sym, subst, ap, ◌∙◌, append_assoc, All, Contains, IsPermutation, arith}
 use Rattle.std.specs.Prelude.{IsFalse, IsTrue, OnOk}
 use Rattle.std.specs.List.{list_all}
@@ -43,23 +43,23 @@ use Rattle.claim_counter.specs.Walks.{found}
 use Rattle.audit_laws.proofs.Running.{are_all, rising_apart}
 use Rattle.audit_saving.proofs.Saved.{newest_below, place_is_beside}
 
--- what holds of both where the first is told
+-- a relation between slots follows from a property of the first, if they are known
 known_map : (a b : Option Pair) (R : Pair → Type 0) (P Q : Pair → Pair → Type 0) → IfTold a R → ((p q : Pair) → R p → P p q → Q p q) → IfBothTold a b P → IfBothTold a b Q
 known_map None b R P Q r f h = tt
 known_map (Some p) None R P Q r f h = h
 known_map (Some p) (Some q) R P Q r f h = f p q r h
 
--- what follows where all went well
+-- a consequence of an Ok result
 on_ok : {A B : Type 0} (result : Result (Unit {0}) Failed) → (A → B) → OnOk result A → OnOk result B
 on_ok (Ok done) f a = f a
 on_ok (Err failed) f a = tt
 
--- more tries are appended
+-- more attempts are appended
 tried_some : (told : List Try) (tries : List Try) → tried_all (Some told) tries ≡ Some (told ++ tries)
 tried_some told [] = ap (λ (ts : List Try). Some ts) (sym (append-nil told))
 tried_some told (t ∷ tries) = tried_some (told ++ t ∷ []) tries ∙ ap (λ (ts : List Try). Some ts) (append_assoc told (t ∷ []) tries)
 
--- what is counted in a list is there
+-- a number with a positive count is in the list
 contains_at : (x : ℕ) (xs : List ℕ) → 0 < times x xs → Contains xs x
 contains_at x xs some_here =
     let cut = cut_at x xs some_here in
@@ -80,7 +80,7 @@ module _ (parts : Parts) (plan : IsPlan parts) (todo_is : parts.todo ≡ run_ids
   unfolding found
   is_found o is = is
 
-  -- ---- what a save holds
+  -- ---- the contents of a save
 
   of_desk : (o : Outcome) → Contains opening o ⊎ ((0 < times o.id parts.todo) × (o ≡ found job o.id)) → IsOpeningOrFound job opening o
   of_desk o (inl has) = inl has
@@ -112,7 +112,7 @@ module _ (parts : Parts) (plan : IsPlan parts) (todo_is : parts.todo ≡ run_ids
     holds = holds_part count (saved_of s.part) (subst (λ (n : ℕ). crew.HoldsOpeningAndPart parts n (saved_of s.part)) s.counted (hold parts s.part plan s.of_todo));
   }
 
-  -- ---- a slot is kept
+  -- ---- a slot is unchanged
 
   abbrev IsAt : Pair → Type 0
   IsAt p = (parts.place.slot, parts.place.generation) ≡ place_of job p
@@ -130,7 +130,7 @@ module _ (parts : Parts) (plan : IsPlan parts) (todo_is : parts.todo ≡ run_ids
       (n, inl (subst (λ (k : ℕ). stored q k ≡ stored p k) here same))
   keeps_a_slot p q at (inr (m, (generation, (count, s)))) n e = (m, inr (count, (generation, partly generation count (stored q m) s)))
 
-  -- ---- saves in turn
+  -- ---- saves follow each other
 
   module _ (posted : List Entry) (all : IsPermutation (ids_of posted) parts.todo) (whole : saved_of posted ≡ full_of job opening) where
     of_todo : (id : ℕ) → times id (ids_of posted) ≤ times id parts.todo
@@ -167,7 +167,7 @@ module _ (parts : Parts) (plan : IsPlan parts) (todo_is : parts.todo ≡ run_ids
       let last = last_place job opening p in
       (last.slot, s.newest_is, (last.generation, moved_generation (count_of_saves job opening - 1) (record { slot = (place_of job p).0; generation = (place_of job p).1 }) first, s.last))
 
-  -- ---- what was tried
+  -- ---- the save attempts
 
   of_try : (t : Try) → IsRunTry parts t → IsTryOf job opening t
   of_try t s = record {
@@ -213,7 +213,7 @@ module _ (parts : Parts) (plan : IsPlan parts) (todo_is : parts.todo ≡ run_ids
     tries_told None slots_now a b loads loads_now at is = tt
     tries_told (Some p) slots_now a b loads loads_now at is = tries_by p at a b is
 
--- ---- all of it
+-- ---- the whole result
 
 module _ (parts : Parts) (keeper_now : Kept) (sorted : List Outcome) (result : Result (Unit {0}) Failed)
     (h : HasRun parts keeper_now sorted result) (todo_is : parts.todo ≡ run_ids parts.job parts.opening parts.job.setting.budget) where

@@ -1,4 +1,4 @@
--- Where a run saves.
+-- The place of a run's saves.
 use Rattle.std.proofs.Common.{◌≡◌, ℕ, zero, suc, ◌≤◌, Bool, true, false, Option, Some, None, refl, sym, arith}
 use Rattle.audit_model.specs.Told.{IfTold}
 use Rattle.audit_model.specs.Pair.{Pair}
@@ -10,7 +10,7 @@ use Rattle.audit_input.specs.Opening.{IsTargetFor}
 use Rattle.audit_laws.specs.Runs.{IsRunJob}
 use Rattle.audit_laws.proofs.Starting.{saves_not}
 
--- a run that saves has a number after which it does
+-- a run that saves has a save interval of at least 1
 pub saves_every : (job : Job) → saves job.setting ≡ true → 1 ≤ job.setting.save_every
 saves_every job is = by job.setting.save_every refl
   where
@@ -22,12 +22,12 @@ saves_every job is = by job.setting.save_every refl
         both false e f = cc
     by (suc n) e = omega arith
 
--- the place that was told
+-- the place of the first save, if the slots are known
 pub place_told_for : (job : Job) (slots : Option Pair) (t : Target) → IsTargetFor job slots t → IfTold slots (λ p. place_of job p ≡ (t.place.slot, t.place.generation))
 place_told_for job None t placed = tt
 place_told_for job (Some p) t placed = sym placed.told
 
--- the run's first save goes there
+-- the first save of the run goes to the target's place
 pub first_place_for : (job : Job) (slots : Option Pair) (t : Target) → IsTargetFor job slots t → IsFirstPlace job slots t.place
 first_place_for job slots t placed = record { slot = placed.slot_below; generation = placed.generation_below; told = by slots placed.told }
   where
@@ -35,11 +35,11 @@ first_place_for job slots t placed = record { slot = placed.slot_below; generati
     by None told = tt
     by (Some p) told = λ i. record { slot = (told i).0; generation = (told i).1 }
 
--- the place is the one that the keeper tells
+-- the place matches the known slots
 pub placed_known : (job : Job) (slots : Option Pair) (t : Target) → IsTargetFor job slots t → IfTold slots (λ p. (t.place.slot, t.place.generation) ≡ place_of job p)
 placed_known job slots t placed = placed.told
 
--- of a run that saves no test stops early
+-- in a run that saves, no test stops early
 pub saved_plain : (job : Job) → IsRunJob job → saves job.setting ≡ true → job.setting.stop ≡ 0
 saved_plain job run is = by job.setting.stop refl
   where

@@ -25,58 +25,58 @@ use Rattle.audit_walks.specs.Found.{HasFound, TellsAll, listed_in, told_in}
 use Rattle.audit_walks.proofs.Telling.{length-listed}
 use Rattle.audit_saving.specs.Plans.{RunsAlone}
 
--- ---- texts in turn
+-- ---- one text after another
 
--- a text that was taken whole, and then another
+-- a text that was written in full, followed by another
 pub writes_then : (a b c : Stream) (xs ys : List ℕ) (r : Result (Unit {0}) Failed) → WritesAllOf a b xs (Ok tt) → WritesAllOf b c ys r → WritesAllOf a c (xs ++ ys) r
 writes_then a b c xs ys (Ok done) p q = (appends_more a.bytes b.bytes c.bytes xs ys p.0 q.0, q.1 ∙ p.1)
 writes_then a b c xs ys (Err failed) p q =
     (part_after a.bytes b.bytes c.bytes xs ys p.0 q.0, subst (λ (k : ℕ). Rose k c.faults) p.1 q.1)
 
--- a text that was taken in part
+-- a text that was written in part
 pub writes_part : (a b : Stream) (xs ys : List ℕ) (failed other : Failed) → WritesAllOf a b xs (Err failed) → WritesAllOf a b (xs ++ ys) (Err other)
 writes_part a b xs ys failed other p = (part_of_more a.bytes b.bytes xs ys p.0, p.1)
 
--- ---- the reports of all
+-- ---- the reports of all plans
 
--- of no plans nothing is written
+-- without plans nothing is written
 pub texts_none : (draws : Draws) → plans_text draws [] ≡ []
 unfolding plans_text
 texts_none draws = refl
 
--- the first of several, and the others
+-- the text of the first plan, followed by those of the others
 pub texts_first : (draws : Draws) (plan : List ℕ × Job) (rest : List (List ℕ × Job)) → plans_text draws (plan ∷ rest) ≡ plan_text draws plan ++ plans_text draws rest
 unfolding plans_text
 texts_first draws plan rest = refl
 
--- what is written of plans, of which the first was taken whole, or in part, or of none
+-- the texts of the plans, if the first was written in full
 pub plans_go_on : (draws : Draws) (a b c : Stream) (left rest : List (List ℕ × Job)) (plan : List ℕ × Job) (r : Result (Unit {0}) Failed) → left ≡ plan ∷ rest
     → WritesAllOf a b (plan_text draws plan) (Ok tt) → WritesAllOf b c (plans_text draws rest) r → WritesAllOf a c (plans_text draws left) r
 plans_go_on draws a b c left rest plan r is p q =
     subst (λ (text : List ℕ). WritesAllOf a c text r) (sym (ap (plans_text draws) is ∙ texts_first draws plan rest))
     (writes_then a b c (plan_text draws plan) (plans_text draws rest) r p q)
 
--- where the first was not taken whole, no more is
+-- if the first text was not written in full, nothing follows it
 pub plans_break : (draws : Draws) (a b : Stream) (left rest : List (List ℕ × Job)) (plan : List ℕ × Job) (failed other : Failed) → left ≡ plan ∷ rest
     → WritesAllOf a b (plan_text draws plan) (Err failed) → WritesAllOf a b (plans_text draws left) (Err other)
 plans_break draws a b left rest plan failed other is p =
     subst (λ (text : List ℕ). WritesAllOf a b text (Err other)) (sym (ap (plans_text draws) is ∙ texts_first draws plan rest))
     (writes_part a b (plan_text draws plan) (plans_text draws rest) failed other p)
 
--- where none is left, nothing more is
+-- if no plan is left, the text is complete
 pub plans_end : (draws : Draws) (a : Stream) (left : List (List ℕ × Job)) → left ≡ [] → WritesAllOf a a (plans_text draws left) (Ok tt)
 plans_end draws a left is =
     subst (λ (text : List ℕ). WritesAllOf a a text (Ok tt)) (sym (ap (plans_text draws) is ∙ texts_none draws)) (appends_nothing a.bytes, refl)
 
 -- ---- the report of one plan
 
--- a function below a number gives as many values
+-- the table of a function below n has n entries
 length-below : {A : Type 0} (n : ℕ) (f : ℕ → A) → length (map_below n f) ≡ n
 length-below zero f = refl
 length-below (suc n) f = omega (arith, length-append (map_below n f) (f n ∷ []), length-below n f)
 
 module _ (job : Job) (by : RunsAlone job) where
-  -- all outcomes of a run that starts with none are those that one thread finds
+  -- all outcomes of a run without initial outcomes are those of one thread
   all_are_one : (outcomes : List Outcome) → AreAll job [] outcomes → outcomes ≡ sequence job (draw job.setting.key)
   all_are_one outcomes all =
       let draws = draw job.setting.key in
@@ -84,12 +84,12 @@ module _ (job : Job) (by : RunsAlone job) where
       full_is_sequence job draws [] (none_right job draws) job.setting.budget (every_id job [] (leaves_none job [] by.run by.unsaved)) in
       all.full ∙ whole
 
-  -- so they are as many as its trajectories
+  -- the number of outcomes is the number of trajectories
   all_told : (outcomes : List Outcome) → AreAll job [] outcomes → total job ≤ length outcomes
   unfolding sequence
   all_told outcomes all = omega (arith, ap length (all_are_one outcomes all), length-below (total job) (outcome job (draw job.setting.key)))
 
-  -- nothing is left of what the report is on
+  -- no outcome of the report is missing
   pub none_short : (f : Found) → HasFound job [] f → reported job ≤ f.listed
   none_short f has = by_order (cases_lt f.listed (reported job))
     where
@@ -99,7 +99,7 @@ module _ (job : Job) (by : RunsAlone job) where
           absurd (omega (arith, less, left.due, length-listed f has.tellable.enough, all_told (listed_in f) left.all))
       by_order (inr enough) = enough
 
-  -- and the report on what was found is the one of one thread
+  -- the report on the outcomes is the report of one thread
   pub thread_told : (f : Found) → TellsAll job [] f → report job (listed_in f) (told_in f) (serial_told job (draw job.setting.key)) ≡ thread_report job (draw job.setting.key)
   unfolding thread_report
   thread_told f tells =

@@ -20,6 +20,6 @@ newest_below first second n e = by (generation_of first) (generation_of second) 
     by (Some a) None h = inl (sym (number 0 h))
     by (Some a) (Some b) h = by_flag (b == (a + 1) % 3) h
 
--- the place is beside the newest slot
+-- the place of the next save is beside the newest slot
 pub place_is_beside : (first second : Slot) (n : ℕ) → newest first second ≡ Some n → (save_place first second).0 ≡ 1 - n
 place_is_beside first second n e = ap (λ o. (place_beside first second o).0) e

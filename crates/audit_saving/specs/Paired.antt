@@ -1,4 +1,4 @@
--- Two lists of which each element of one goes with one of the other.
+-- Two lists whose elements correspond in order.
 use Rattle.std.specs.Prelude.{List, [], ◌∷◌, ⊤}
 
 abbrev pub ArePaired : {A B : Type 0} → (A → B → Type 0) → List A → List B → Type 0

@@ -1,4 +1,4 @@
--- What several plans take before the first of them is walked, and how their reports are written.
+-- The resources of several plans before the first walk, and the form of their reports.
 use Rattle.std.specs.Prelude.{◌≡◌, ℕ, false, List, [], ◌∷◌, map, Vec, codes}
 use Rattle.std.specs.List.{All}
 use Rattle.std.specs.Io.KnownBytes.{Appends}
@@ -29,27 +29,27 @@ pub record RunsAlone (job : Job) : Type 0 where
 abbrev pub plan_title : List ℕ → List ℕ
 plan_title name = line (codes "plan" ∷ name ∷ [])
 
--- a name and its job
+-- the name and the job of a plan
 abbrev pub walk_pair : {J : Type 0} → PlanWalk J → List ℕ × Job
 walk_pair w = pair_of w.plan
 
--- each plan has judges of its own
+-- each plan has its own constraints
 abbrev pub AreBenches : {J A : Type 0} → (J → Judging) → List Named → List (Vec J A) → Type 0
 AreBenches by named benches = ArePaired (λ n judges. IsBench by n.job judges) named benches
 
 module _ {J : Type 0} where
-  -- a plan that runs alone, and all that walking it takes
+  -- a plan that runs alone, and the resources to walk it
   pub record IsWalkOf (w : PlanWalk J) : Type 0 where
     pub run : RunsAlone w.plan.job
     pub means : IsMeansFor w.plan.job w.means
     pub fresh : w.means.ready.book.outcomes ≡ []
 
-  -- of each of these jobs in order
+  -- resources for each of these jobs, in order
   pub record AreWalksFor (jobs : Jobs) (walks : List (PlanWalk J)) : Type 0 where
     pub pairs : map walk_pair walks ≡ jobs
     pub each : All IsWalkOf walks
 
--- how the reports of these jobs were written, by draws of this key
+-- the end of writing the reports of these jobs, by the draws of this key
 abbrev pub ReportsPlans : List ℕ → Jobs → Stream → Stream → Ended → Type 0
 ReportsPlans key jobs before after ended.Done = Appends before.bytes after.bytes (plans_text (draw key) jobs) × (after.faults ≡ before.faults)
 ReportsPlans key jobs before after ended.WriteFault = AppendsPart before.bytes after.bytes (plans_text (draw key) jobs) × Rose before.faults after.faults

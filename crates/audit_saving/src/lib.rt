@@ -1,7 +1,7 @@
-//! The runs that save, and the runs of several plans.
+//! Runs that save, and runs of several plans.
 //!
-//! `saving`: a run that saves takes its memory, walks over a desk, and ends as any run does. `plans`: of several plans each takes its memory before the first is
-//! walked; then one after the other is walked and told.
+//! `saving`: a run that saves allocates its memory, walks over a desk, and ends like any run. `plans`: memory for all
+//! plans is allocated before the first is walked. The plans are then walked and reported one after the other.
 #![tactic(auto)]
 
 pub mod plans;

@@ -1,4 +1,4 @@
-//! What several plans take before the first of them is walked, and their reports, one after the other.
+//! Several plans: their memory, allocated before the first walk, and their reports, one after the other.
 
 ghost use Rattle.std.specs.Prelude.{◌≡◌, ◌++◌, ℕ, [], List, All, IfOk, map};
 ghost use Rattle.report.specs.Said.{WritesAllOf};
@@ -25,14 +25,14 @@ use report::writing::write_all;
 use std::alloc::Global;
 use std::thread::Threads;
 
-/// A plan, and all that walking it takes.
+/// A plan, and the resources to walk it.
 #[derive(Drop)]
 pub struct PlanWalk<J: Judge> {
     pub plan: Named,
     pub means: Means<J>,
 }
 
-// The plan, and all that walking it takes, with a judge for each worker and one for the serial test.
+// Makes the resources of one plan. `judges` has a constraint for each worker and one for the serial test.
 fn make_walk<J: Judge>(alloc: Global, plan: Named, judges: Vec<J>) -> Result<PlanWalk<J>, Memory>
     requires run { RunsAlone plan.job }
     requires judges { IsBench J.judging plan.job judges }
@@ -48,7 +48,7 @@ fn make_walk<J: Judge>(alloc: Global, plan: Named, judges: Vec<J>) -> Result<Pla
     }
 }
 
-// All that walking each of the plans takes, with the judges of each.
+// Makes the resources of all plans, with the constraints of each.
 fn make_walks<J: Judge>(
     alloc: Global,
     plans: Vec<Named>,
@@ -67,7 +67,7 @@ fn make_walks<J: Judge>(
     Ok(walks)
 }
 
-// The line that names a plan.
+// Writes the line that names a plan.
 fn write_title<K: Sink>(out: &mut K, name: &str) -> Result<(), Failed>
     ensures { WritesAllOf (K.state out.old) (K.state out.new) (plan_title name.now) result }
 {
@@ -80,7 +80,7 @@ fn write_title<K: Sink>(out: &mut K, name: &str) -> Result<(), Failed>
     }
 }
 
-// Walks a plan, and makes its report. It takes no memory.
+// Walks a plan and returns its report. Allocates nothing.
 fn walk_plan<R: Threads + Sync, J: Judge + Send, G: Gate + Sync>(
     rt: &Runtime<'_, R, G>,
     job: &Job,
@@ -110,7 +110,7 @@ fn write_plan<K: Sink>(out: &mut K, name: &str, text: &[u8]) -> Result<(), Faile
     }
 }
 
-// Walks a plan, and writes its name and its report. It takes no memory.
+// Walks a plan, and writes its name and its report. Allocates nothing.
 fn report_plan<R: Threads + Sync, K: Sink, J: Judge + Send, G: Gate + Sync>(
     rt: &Runtime<'_, R, G>,
     walk: PlanWalk<J>,
@@ -126,7 +126,7 @@ fn report_plan<R: Threads + Sync, K: Sink, J: Judge + Send, G: Gate + Sync>(
     written
 }
 
-// Walks one plan after the other, and writes their names and reports. It takes no memory.
+// Walks one plan after the other, and writes their names and reports. Allocates nothing.
 fn report_each<R: Threads + Sync, K: Sink, J: Judge + Send, G: Gate + Sync>(
     rt: &Runtime<'_, R, G>,
     walks: Vec<PlanWalk<J>>,
@@ -145,7 +145,8 @@ fn report_each<R: Threads + Sync, K: Sink, J: Judge + Send, G: Gate + Sync>(
     Ok(())
 }
 
-/// Takes all memory that the plans need, with the judges of each, walks one after the other, and writes their names and reports.
+/// Allocates all memory of the plans with the constraints of each, walks one after the other, and writes their names
+/// and reports.
 pub fn report_plans<R: Threads + Sync, K: Sink, J: Judge + Send, G: Gate + Sync>(
     rt: &Runtime<'_, R, G>,
     plans: Vec<Named>,

@@ -1,4 +1,5 @@
-//! A run that saves: it takes its memory, walks over a desk that saves now and then and at the end, and writes the report.
+//! A run that saves: it allocates its memory, walks over a desk that saves at intervals and at the end, and writes the
+//! report.
 
 ghost use Rattle.std.specs.Prelude.{◌≡◌, ◌+◌, ◌*◌, ◌≤◌, length, IfOk, true};
 ghost use Rattle.audit_model.specs.Run.{total};
@@ -38,8 +39,8 @@ use tally_desk::ran::{Ran, run_over};
 use tally_desk::run_laws::{run_tries_are_right, saves_hold_parts};
 use walker::walker::Walker;
 
-/// All that a run takes that saves: what each run holds before it walks, where it saves, its workers, room for a checkpoint, and what makes its serial test
-/// where it is asked for.
+/// The resources of a run that saves: the initial state, the place of the first save, the workers, a checkpoint buffer,
+/// and the walker of the serial test if there is one.
 #[derive(Drop)]
 pub struct SavedMeans<J: Judge> {
     pub ready: Ready,
@@ -49,7 +50,7 @@ pub struct SavedMeans<J: Judge> {
     pub tester: Option<Walker<J>>,
 }
 
-// What the run holds before it walks, and room for a checkpoint of all outcomes.
+// Makes the initial state of a run, and a buffer for the checkpoint of all outcomes.
 fn make_rooms(alloc: Global, job: &Job, outcomes: &[Outcome]) -> Result<(Ready, Bytes), Memory>
     requires { IsStartOf job.now outcomes.now }
     ensures ready { IfOk result (λ r. IsReadyFor job.now r.0) }
@@ -63,7 +64,7 @@ fn make_rooms(alloc: Global, job: &Job, outcomes: &[Outcome]) -> Result<(Ready, 
     }
 }
 
-// A worker for each judge but the last, and what makes the serial test with this one.
+// Makes a worker for each constraint but the last, and the walker of the serial test with the last.
 fn hire<J: Judge>(
     alloc: Global,
     job: &Job,
@@ -81,8 +82,8 @@ fn hire<J: Judge>(
     Ok((crew, tester))
 }
 
-/// All that a run takes that starts with these outcomes and saves here, with a judge for each worker and one for the serial test. The only error is want of
-/// memory.
+/// Makes the resources of a run that starts with these outcomes and saves at `target`. `judges` has a constraint for
+/// each worker and one for the serial test. The only error is out of memory.
 pub fn make_saved_means<J: Judge>(
     alloc: Global,
     job: &Job,
@@ -107,7 +108,8 @@ pub fn make_saved_means<J: Judge>(
     })
 }
 
-/// Walks what is to be walked and saves, and writes the report where nothing is left. Where there is no memory for the desk, nothing was walked or saved.
+/// Runs the workers with checkpoints, then writes the report if no trajectory is pending. Out of memory is reported
+/// before any step is taken.
 pub fn finish_saved<
     R: Threads + Wait + Sync,
     K: Sink,
@@ -123,7 +125,7 @@ pub fn finish_saved<
     ensures { Finishes job.now (K.state out.old) (K.state out.new)
         (C.state keeper) (C.state result.1) result.0 }
 {
-    // Laws, called for what their contracts say: what was tried to be saved is right and is the job's, and the outcomes by id are all.
+    // Called for their contracts: save attempts are correct and belong to the job, and the outcomes by id are complete.
     run_tries_are_right();
     saves_hold_parts();
     checkpoints_are_ours();
