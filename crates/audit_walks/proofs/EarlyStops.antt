@@ -1,4 +1,4 @@
--- Runs whose tests stop early: what they find, and what the report on them is on.
+-- Runs whose tests stop early: their outcomes, and the part that the report covers.
 use Rattle.std.proofs.Common.{◌≡◌, ◌∙◌, ℕ, zero, suc, ◌+◌, ◌<◌, ◌≤◌, ◌||◌, inl, inr, min, Bool, true, false, cond, List, [], ◌∷◌, ◌++◌, length, map, take, get_or, Option, refl, sym, ap, subst, append-nil, AllPairs, arith}
 use Rattle.std.specs.Prelude.{IsPermutation, codes, decimal, filter, flat_map, nat_lt, replicate, slice_index, sum_by}
 use Rattle.std.proofs.Math.Path.{fun_ext}
@@ -30,12 +30,12 @@ use Rattle.audit_laws.proofs.Running.{are_all, fit_list, leaves_none, one_part, 
 
 -- ---- lists by place
 
--- a map of what a function gives below a number
+-- mapping over a table is the table of the composed function
 map-below : {A B : Type 0} (n : ℕ) (g : A → B) (f : ℕ → A) → map g (map_below n f) ≡ map_below n (λ k. g (f k))
 map-below zero g f = refl
 map-below (suc n) g f = map-append g (map_below n f) (f n ∷ []) ∙ ap (λ xs. xs ++ g (f n) ∷ []) (map-below n g f)
 
--- the first of what a function gives
+-- a prefix of a table is the shorter table
 take-below : {A : Type 0} (w n : ℕ) (f : ℕ → A) → take w (map_below (w + n) f) ≡ map_below w f
 take-below w zero f =
     ap (λ k. take w (map_below k f)) (let e : w + zero ≡ w = omega arith in e)
@@ -45,9 +45,9 @@ take-below w (suc n) f =
     ∙ take-append-le w (map_below (w + n) f) (f (w + n) ∷ []) (omega (arith, length-map_below (w + n) f))
     ∙ take-below w n f
 
--- ---- what ends add to a report whose tests stop early: nothing
+-- ---- endpoints add nothing to a report with early stops
 
--- no bin of an end counts
+-- the histogram of an endpoint is zero
 zeros : (n bin : ℕ) → get_or {A = ℕ} (replicate n 0) bin 0 ≡ 0
 zeros zero bin = refl
 zeros (suc n) zero = refl
@@ -102,7 +102,7 @@ module _ (job : Job) (draws : Draws) where
   tests_alike zero some os ps stops = absurd (omega (arith, some))
   tests_alike (suc h) some os ps stops = refl
 
-  -- the report is the same whether it is on the outlier trajectories alone or on the ends too
+  -- the report on the outlier walks alone is the report on all outcomes
   pub walks_tell_all : 1 ≤ job.setting.stop → (stops : List (List ℕ)) (serial : Option (ℕ × List ℕ))
       → report job (map_below job.setting.walks f) stops serial ≡ report job (sequence job draws) stops serial
   unfolding report sequence
@@ -134,14 +134,14 @@ module _ (job : Job) (draws : Draws) where
           ++ serial_lines job serial
           ++ line (codes "end" ∷ [])
 
--- ---- all that one thread finds
+-- ---- the outcomes of one thread
 
--- a test that all pass keeps all
+-- a filter that all numbers pass keeps all
 all_below-filter : (n : ℕ) → filter_below n (λ id. true) ≡ map_below n (λ id. id)
 all_below-filter zero = refl
 all_below-filter (suc n) = ap (λ xs. xs ++ n ∷ []) (all_below-filter n)
 
--- with nothing to start with, one part and a budget for all, every id is walked
+-- without initial outcomes, with one part and a budget for all, every id is walked
 all_ids_walked : (job : Job) → job.setting.parts ≡ 1 → job.setting.part ≡ 0 → total job ≤ job.setting.budget → run_ids job [] job.setting.budget ≡ map_below (total job) (λ id. id)
 all_ids_walked job one first enough =
     ap (λ n. part_ids n job.setting.part job [] job.setting.budget) one
@@ -174,7 +174,7 @@ module _ (job : Job) (run : IsRunJob job) (some : 1 ≤ job.setting.stop) where
       subst (λ (xs : List ℕ). (has_id [] id || has xs id) ≡ true) (all_walked ∙ ids)
       (every_id job [] (leaves_none job [] run (run.alone some).no_saves) id inside)))
 
-  -- what one thread finds are all outcomes of a run that starts with none
+  -- the outcomes of one thread are all outcomes of a run without initial outcomes
   pub one_finds_all : AreAll job [] (sequence job (draw job.setting.key))
   one_finds_all =
       are_all job run [] [] (map_below (total job) (λ id. id)) (sequence job (draw job.setting.key)) refl (none_fit job)
@@ -188,7 +188,7 @@ module _ (job : Job) (run : IsRunJob job) (some : 1 ≤ job.setting.stop) where
   unfolding sequence
   one_is_whole = omega (arith, length-map_below (total job) (outcome job (draw job.setting.key)))
 
-  -- ---- what the report is on
+  -- ---- the part that the report covers
 
   pub reports_walks : reported_by job.setting.stop job ≡ job.setting.walks
   reports_walks = by job.setting.stop some
@@ -197,7 +197,7 @@ module _ (job : Job) (run : IsRunJob job) (some : 1 ≤ job.setting.stop) where
       by zero few = absurd (omega (arith, few))
       by (suc h) few = refl
 
-  -- the outlier trajectories are what the report is on
+  -- the report covers the outlier walks
   pub walks_fit : (outcomes : List Outcome) → outcomes ≡ map_below job.setting.walks (outcome job (draw job.setting.key)) → AreOutcomesOf job outcomes
   walks_fit outcomes is = subst (AreOutcomesOf job) (sym is) (record {
     ids = map-below job.setting.walks (λ (o : Outcome). o.id) (outcome job (draw job.setting.key))
@@ -209,7 +209,7 @@ module _ (job : Job) (run : IsRunJob job) (some : 1 ≤ job.setting.stop) where
         (fitting.found_fits job (draw job.setting.key) job.setting.shift (run_setting job run).few_asks k (omega (arith, inside, long))));
   })
 
-  -- the stops are such as a report tells
+  -- the stops are in the form that a report needs
   pub stops_told : (stops : List (List ℕ)) → length job.setting.asks ≤ length stops → AreParts job.setting.ends (length job.setting.asks) stops
       → AreStopsOf job (take (length job.setting.asks) stops)
   stops_told stops enough parts = by job.setting.stop some
@@ -226,7 +226,7 @@ module _ (job : Job) (run : IsRunJob job) (some : 1 ≤ job.setting.stop) where
             (record { place = p.place; some = p.some; part = p.part; of = p.of });
       }
 
-  -- the first of what was found are the outlier trajectories
+  -- the first outcomes are those of the outlier walks
   pub walks_first : (outcomes : List Outcome) → StopsInTime job outcomes
       → (job.setting.walks ≤ length outcomes) × (take job.setting.walks outcomes ≡ map_below job.setting.walks (outcome job (draw job.setting.key)))
   unfolding found_below

@@ -1,4 +1,4 @@
--- How a run ends.
+-- The end of a run.
 use Rattle.std.proofs.Common.{◌≡◌, ℕ, ◌<◌, ◌≤◌, Bool, true, false, List, length, Result, Ok, Err, refl, sym, subst, ap, ◌∙◌}
 use Rattle.std.specs.Prelude.{⊤}
 use Rattle.std.specs.Io.KnownBytes.{Appends}
@@ -25,7 +25,7 @@ use Rattle.audit_laws.proofs.Leaving.{left, saved_left}
 
 -- ---- runs that walk
 
--- what a command that walks writes is the report
+-- a command that walks writes the report
 walking_text : (command : Command) (whole : Bool) (job : Job) (before after : World) → is_walking command ≡ true
     → WritesReport whole job before after → WritesText command whole job before after
 walking_text Check whole job before after w r = cc
@@ -49,7 +49,7 @@ module _ (job : Job) (run : IsRunJob job) (opening outcomes : List Outcome) (all
   text_written whole before after none w =
       walking_text job.setting.command whole job (world before out k) (world after out' l) run.walking (report_written whole before after none w)
 
-  -- what the last save leaves in the slots, as the ends tell it
+  -- the slots after the last save, in the terms of the definition of endings
   saves_all : (before after : Stream) (made : Type 0) (result : Result (Unit {0}) Failed) → (made → result ≡ Ok tt) → SavesLast job opening k l result
       → SavesAll made job (world before out k) (world after out' l)
   saves_all before after made (Ok done) e s = record { outcomes = opening; opened = opened; kept = s.kept; in_turn = λ _. s.in_turn; newest_is = λ _. s.newest_is; tried = s.tried }
@@ -70,7 +70,7 @@ module _ (job : Job) (run : IsRunJob job) (opening outcomes : List Outcome) (all
   saves_where before after made false result e s = ap (λ (x : Kept). x.slots) s.0
   saves_where before after made true result e s = saves_all before after made result e s
 
-  -- the counts and the slots that a run leaves as they were
+  -- the counts and the slots that a run leaves unchanged
   slots_left : (b : Bool) (result : Result (Unit {0}) Failed) → SavedBy b job opening k l result → SameUnless b k.slots l.slots
   slots_left false result s = ap (λ (x : Kept). x.slots) s.0
   slots_left true result s = tt
@@ -96,12 +96,12 @@ module _ (job : Job) (run : IsRunJob job) (opening outcomes : List Outcome) (all
   made_by true (Ok done) s calm = refl
   made_by true (Err failed) s calm = absurd (calm s.cause.failed)
 
-  -- a save failed only where there was one
+  -- a save can only fail in a run that saves
   failed_saves : (b : Bool) (f : Failed) → SavedBy b job opening k l (Err f) → b ≡ true
   failed_saves true f s = refl
   failed_saves false f s = let never : Err f ≡ Ok tt = s.1 in cc
 
-  -- the report was written whole
+  -- the end after the report was written in full
   done_ends : total job ≤ length outcomes → Appends out.bytes out'.bytes (full_report job (draw job.setting.key) outcomes) → out'.faults ≡ out.faults → SavedBy (saves job.setting) job opening k l (Ok tt)
       → Finishes job out out' k l ended.Done
   done_ends whole w writes s = λ words before after p. record {
@@ -117,7 +117,7 @@ module _ (job : Job) (run : IsRunJob job) (opening outcomes : List Outcome) (all
     line_is = refl;
   }
 
-  -- a part of it was
+  -- the end after a part of the report was written
   write_fault_ends : (result : Result (Unit {0}) Failed) → total job ≤ length outcomes → AppendsPart out.bytes out'.bytes (full_report job (draw job.setting.key) outcomes) → Rose out.faults out'.faults
       → SavedBy (saves job.setting) job opening k l result → Finishes job out out' k l ended.WriteFault
   write_fault_ends result whole w writes s = λ words before after p. record {
@@ -134,7 +134,7 @@ module _ (job : Job) (run : IsRunJob job) (opening outcomes : List Outcome) (all
     line_is = refl;
   }
 
-  -- the report was written whole, and the save had failed
+  -- the end after the report was written in full but a save had failed
   save_fault_ends : (f : Failed) → total job ≤ length outcomes → Appends out.bytes out'.bytes (full_report job (draw job.setting.key) outcomes) → out'.faults ≡ out.faults
       → SavedBy (saves job.setting) job opening k l (Err f) → Finishes job out out' k l ended.SaveFault
   save_fault_ends f whole w writes s = λ words before after p.
@@ -159,7 +159,7 @@ module _ (job : Job) (run : IsRunJob job) (opening outcomes : List Outcome) (all
         line_is = refl;
       }
 
-  -- the end of a run that wrote its report, or a part
+  -- the end of a run that wrote its report, in full or in part
   pub written_ends : (text : List ℕ) (written saved : Result (Unit {0}) Failed) → total job ≤ length outcomes → text ≡ full_report job (draw job.setting.key) outcomes → WritesAllOf out out' text written
       → SavedBy (saves job.setting) job opening k l saved → Finishes job out out' k l (ended_as (ended_by written saved))
   written_ends text (Ok done) (Ok saved) whole is w s =
@@ -169,10 +169,10 @@ module _ (job : Job) (run : IsRunJob job) (opening outcomes : List Outcome) (all
   written_ends text (Err failed) saved whole is w s =
       write_fault_ends saved whole (subst (λ t. AppendsPart out.bytes out'.bytes t) is w.0) w.1 s
 
--- ---- runs that leave work
+-- ---- runs that leave trajectories pending
 
 module _ (job : Job) (run : IsRunJob job) (opening outcomes : List Outcome) (all : AreAll job opening outcomes) (out : Stream) (k l : Kept) (opened : IsOpening job k.slots opening) (short : length outcomes < total job) where
-  -- only a run that saves leaves work
+  -- only a run that saves leaves trajectories pending
   saving : saves job.setting ≡ true
   saving = saves_some job run (λ e. true_false (sym (short_leaves job opening outcomes all short) ∙ leaves_none job opening run e))
     where
@@ -227,7 +227,7 @@ module _ (job : Job) (run : IsRunJob job) (opening outcomes : List Outcome) (all
         line_is = refl;
       }
 
-  -- the end of a run that leaves work
+  -- the end of a run that leaves trajectories pending
   pub short_ends : (saved : Result (Unit {0}) Failed) → SavedBy (saves job.setting) job opening k l saved → Finishes job out out k l (ended_as (stopped_by (length outcomes) (total job) saved))
   short_ends (Ok saved) s = stopped_ends s
   short_ends (Err failed) s = failed_ends failed s

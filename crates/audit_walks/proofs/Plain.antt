@@ -7,7 +7,7 @@ use Rattle.audit_model.specs.Stopping.{stops_by, stops_of}
 use Rattle.audit_model.specs.Trajectory.{Draws}
 use Rattle.audit_statement.specs.Report.{full_report, report}
 
--- no test stops early
+-- the report if no test stops early
 pub plain_report : (job : Job) → job.setting.stop ≡ 0 → (draws : Draws) (outcomes : List Outcome)
     → report job outcomes [] (serial_told job draws) ≡ full_report job draws outcomes
 plain_report job plain draws outcomes =

@@ -1,4 +1,4 @@
--- Judges of all rules take the plans of a job.
+-- A constraint with all rules takes the plans of a job.
 use Rattle.std.proofs.Common.{◌≡◌, ◌∙◌, ℕ, ◌≤◌, Bool, true, ◌||◌, List, [], length, ap, refl, sym, inl, inr, arith}
 use Rattle.std.specs.Prelude.{◌==◌, ◌⊎◌}
 use Rattle.std.proofs.lemmas.Bool.{and_from, eq-eqb, le-leb, or_right}
@@ -9,7 +9,7 @@ use Rattle.audit_model.specs.Limits.{IsGroup, IsWithinLimits}
 use Rattle.flip_kernel.specs.Judged.{TakesPlansOf}
 use Rattle.region_guard.specs.Standing.{is_fitting, is_for}
 
--- a list that is empty, or has an entry for each unit, is for the units
+-- a list fits the units if it is empty or has an entry for each unit
 for_units : (units : ℕ) (entries : List ℕ) → ((entries ≡ []) ⊎ (length entries ≡ units)) → is_for units entries ≡ true
 for_units units entries (inl none) = rw none refl
 for_units units entries (inr long) = or_right (length entries == 0) (length entries == units) (eq-eqb (length entries) units long)
@@ -19,7 +19,7 @@ group_for : (units : ℕ) (group : Group) → IsGroup units group → (group.mem
 group_for units group (inl none) = inl none.0
 group_for units group (inr columns) = inr columns.0.width
 
--- a group of some units is one of as many as it has entries, and these are no more
+-- a group of some units fits its own number of entries, which is at most the number of units
 pub own_group : (units : ℕ) (group : Group) → IsGroup units group → IsGroup (length group.members) group × (length group.members ≤ units)
 own_group units group (inl none) = (inl none, rw none.0 (omega arith))
 own_group units group (inr columns) = (
@@ -27,7 +27,7 @@ own_group units group (inr columns) = (
   omega (arith, columns.0.width),
 )
 
--- so plans of the job fit
+-- the plans of the job fit the constraint
 pub takes_plans : (job : Job) (by : Rules) (districts : ℕ) → IsWithinLimits job → by ≡ rules job → districts ≡ job.districts
     → TakesPlansOf job (is_fitting by districts)
 takes_plans job by districts within same count above few =

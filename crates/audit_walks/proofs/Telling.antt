@@ -1,4 +1,4 @@
--- What a run has found is what its report is to tell.
+-- The outcomes of a run are those that its report covers.
 use Rattle.std.proofs.Common.{◌≡◌, ◌∙◌, ℕ, ◌<◌, ◌≤◌, List, [], length, take, refl, sym, ap, subst, arith}
 use Rattle.std.proofs.lemmas.List.{length-take, take_all}
 use Rattle.audit_model.specs.declared.outcome.Outcome.{Outcome}
@@ -19,11 +19,11 @@ use Rattle.audit_walks.specs.Ready.{HasReportRoom}
 use Rattle.audit_walks.proofs.EarlyStops.{one_finds_all, one_is_whole, reports_walks, stops_told, walks_first, walks_fit, walks_tell_all}
 use Rattle.audit_walks.proofs.Plain.{plain_report}
 
--- the outcomes that are listed are as many as the number says
+-- the number of covered outcomes is the recorded number
 pub length-listed : (f : Found) → f.listed ≤ length f.sorted.items → length (listed_in f) ≡ f.listed
 length-listed f enough = omega (arith, length-take f.listed f.sorted.items, enough)
 
--- a run of which no test stops early has found all outcomes, of which the report tells each
+-- a run without early stops has all outcomes, and the report covers each
 pub all_found : (job : Job) → IsRunJob job → job.setting.stop ≡ 0 → (opening : List Outcome) (f : Found) → AreAll job opening f.sorted.items → f.listed ≡ length f.sorted.items
     → f.told ≡ 0 → f.text.items ≡ [] → HasReportRoom job f.text.spare → HasFound job opening f
 all_found job run plain opening f all listed told blank room =
@@ -53,7 +53,7 @@ all_found job run plain opening f all listed told blank room =
       short = λ less. record { all = here; due = due };
     }
 
--- a run whose tests stop early has found the outlier trajectories and all stops
+-- a run with early stops has the outlier walks and all stops
 pub early_found : (job : Job) → IsRunJob job → 1 ≤ job.setting.stop → (opening : List Outcome) → opening ≡ [] → (f : Found) → StopsInTime job f.sorted.items → f.listed ≡ job.setting.walks
     → f.told ≡ length job.setting.asks → take (length job.setting.asks) f.stops ≡ stops_of job (sequence job (draw job.setting.key))
     → AreParts job.setting.ends (length job.setting.asks) f.stops → length f.stops ≡ 4 → f.text.items ≡ [] → HasReportRoom job f.text.spare → HasFound job opening f

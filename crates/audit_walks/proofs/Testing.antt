@@ -13,11 +13,11 @@ module _ (job : Job) (w : Held) where
   asked_by true t = (refl, t)
   asked_by false t = absurd t
 
-  -- where there is a walker for it, the test is asked for
+  -- if there is a walker for it, the test was requested
   pub asked : IsTester job (Some w) → (job.setting.serial ≡ true) × (w.job ≡ job)
   asked t = asked_by job.setting.serial t
 
--- what the test finds is a place and ranks of the job
+-- the result of the test is a place and ranks of the job
 pub fits_some : (job : Job) (found : Serial) → job.setting.serial ≡ true → found.place ≤ job.setting.steps → HasRanks job found.ranks
     → IsSerialOf job (Some (place_and_ranks found))
 fits_some job found e place ranks =

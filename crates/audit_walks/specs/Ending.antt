@@ -1,4 +1,4 @@
--- What a run leaves in the slots, and how it ends.
+-- The slots that a run leaves, and the ways it can end.
 use Rattle.std.specs.Prelude.{◌≡◌, ℕ, Bool, true, false, List, Result, Ok, Err, OnOk}
 use Rattle.audit_io.specs.declared.source.Failed.{Failed}
 use Rattle.audit_model.specs.Faults.{HasCause}
@@ -13,18 +13,18 @@ use Rattle.audit_model.specs.State.{Kept}
 use Rattle.audit_model.specs.Told.{IfBothTold}
 use Rattle.audit_statement.specs.Endings.{IsNewest, KeepsASlot, SavesInTurn, TriesTold, full_of}
 
--- how a run ends that leaves work
+-- the end of a run that leaves trajectories pending
 abbrev pub stopped_by : ℕ → ℕ → Result (Unit {0}) Failed → Finished
 stopped_by done total (Ok saved) = finished.Stopped done total
 stopped_by done total (Err failed) = finished.SaveFault
 
--- how a run ends that has written its report, or a part
+-- the end of a run that wrote its report, in full or in part
 abbrev pub ended_by : Result (Unit {0}) Failed → Result (Unit {0}) Failed → Finished
 ended_by (Err failed) saved = finished.WriteFault
 ended_by (Ok written) (Err failed) = finished.SaveFault
 ended_by (Ok written) (Ok saved) = finished.Done
 
--- how the call ends then
+-- the reason with which the call then ends
 abbrev pub ended_as : Finished → Ended
 ended_as finished.Done = ended.Done
 ended_as finished.WriteFault = ended.WriteFault
@@ -40,7 +40,7 @@ pub record SavesLast (job : Job) (opening : List Outcome) (before after : Kept) 
   pub loads : after.load_faults ≡ before.load_faults
   pub tried : TriesTold job opening before after
 
--- nothing was to be saved, or all was saved that was due
+-- the run saves nothing, or it saved everything that was due
 abbrev pub SavedBy : Bool → Job → List Outcome → Kept → Kept → Result (Unit {0}) Failed → Type 0
 SavedBy false job opening before after result = (after ≡ before) × (result ≡ Ok tt)
 SavedBy true job opening before after result = SavesLast job opening before after result

@@ -1,4 +1,4 @@
--- What a run has found.
+-- The outcomes of a run.
 use Rattle.std.specs.Prelude.{◌≡◌, ℕ, ◌<◌, ◌≤◌, List, [], length, take}
 use Rattle.audit_model.specs.declared.outcome.Outcome.{Outcome}
 use Rattle.audit_model.specs.Job.{Job}
@@ -11,15 +11,16 @@ use Rattle.audit_laws.specs.Runs.{AreAll, IsRunJob}
 use Rattle.audit_walks.specs.declared.found.Found.{Found}
 use Rattle.audit_walks.specs.Ready.{HasReportRoom}
 
--- the outcomes of which the report tells
+-- the outcomes that the report covers
 abbrev pub listed_in : Found → List Outcome
 listed_in f = take f.listed f.sorted.items
 
--- the stops of which it tells
+-- the stops that the report covers
 abbrev pub told_in : Found → List (List ℕ)
 told_in f = take f.told f.stops
 
--- of a run, the stops can be told, and the outcomes where as many are there as the report is on; and there is room for the report
+-- the report can be made: the stops are complete, as are the outcomes if there are as many as the report covers, and
+-- the buffer is large enough
 pub record IsTellable (job : Job) (f : Found) : Type 0 where
   pub run : IsRunJob job
   pub enough : f.listed ≤ length f.sorted.items
@@ -29,19 +30,19 @@ pub record IsTellable (job : Job) (f : Found) : Type 0 where
   pub blank : f.text.items ≡ []
   pub report_room : HasReportRoom job f.text.spare
 
--- the report on what was found is the report on all outcomes of a run that started with the opening's
+-- the report on this part is the report on all outcomes of a run with these initial outcomes
 pub record TellsAll (job : Job) (opening : List Outcome) (f : Found) : Type 0 where
   pub outcomes : List Outcome
   pub all : AreAll job opening outcomes
   pub whole : total job ≤ length outcomes
   pub same : report job (listed_in f) (told_in f) (serial_told job (draw job.setting.key)) ≡ full_report job (draw job.setting.key) outcomes
 
--- all outcomes of such a run are there, and they are fewer than the job has trajectories
+-- all outcomes of such a run are there, and some of the job's trajectories are pending
 pub record LeavesSome (job : Job) (opening : List Outcome) (f : Found) : Type 0 where
   pub all : AreAll job opening (listed_in f)
   pub due : reported job ≡ total job
 
--- what a run found that started with the opening's outcomes: as many as the report is on, or fewer
+-- the outcomes of a run with these initial outcomes: as many as the report covers, or fewer
 pub record HasFound (job : Job) (opening : List Outcome) (f : Found) : Type 0 where
   pub tellable : IsTellable job f
   pub whole : reported job ≤ f.listed → TellsAll job opening f

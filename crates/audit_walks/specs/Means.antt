@@ -1,4 +1,4 @@
--- What a run takes that saves nothing.
+-- The resources of a run that saves nothing.
 use Rattle.std.specs.Prelude.{◌≡◌, ℕ, ◌+◌, ◌≤◌, Bool, List, length, Vec, vec_len}
 use Rattle.flip_guard.specs.Judging.{Judging}
 use Rattle.audit_model.specs.Job.{Job}
@@ -13,28 +13,28 @@ use Rattle.audit_walks.specs.declared.means.Workers.TheVariants as workers
 use Rattle.audit_walks.specs.Ready.{IsReadyFor}
 use Rattle.audit_walks.specs.Serially.{IsTester}
 
--- a judge for each worker of the job, and one for its serial test
+-- a constraint for each worker of the job, and one for its serial test
 pub record IsBench {J A : Type 0} (by : J → Judging) (job : Job) (judges : Vec J A) : Type 0 where
   pub judges_are : AreJudges job by judges.items
   pub count_is : vec_len judges ≡ job.setting.workers + 1
 
 module _ {J : Type 0} where
-  -- workers for a run that walks all its trajectories, of which so many are left
+  -- the workers of a run of all trajectories, with `count` of them pending
   pub record AreWorkersForAll (job : Job) (count : ℕ) (c : Crew J) : Type 0 where
     pub plain : job.setting.stop ≡ 0
     pub crew : IsCrew job count job.setting.workers c
 
-  -- workers for a run whose tests stop early
+  -- the workers of a run whose tests stop early
   pub record AreWorkersForStops (job : Job) (c : StoppingCrew J) : Type 0 where
     pub early : 1 ≤ job.setting.stop
     pub crew : IsStoppingCrew job job.setting.workers c
 
-  -- the workers that the job asks for, with so many trajectories left
+  -- the workers that the job requires, with `count` trajectories pending
   abbrev pub AreWorkersFor : Job → ℕ → Workers J → Type 0
   AreWorkersFor job count (workers.All c) = AreWorkersForAll job count c
   AreWorkersFor job count (workers.Early c) = AreWorkersForStops job c
 
-  -- all that a run of the job takes is there
+  -- all resources of a run of the job
   pub record IsMeansFor (job : Job) (m : Means J) : Type 0 where
     pub ready : IsReadyFor job m.ready
     pub workers : AreWorkersFor job (length m.ready.todo) m.workers

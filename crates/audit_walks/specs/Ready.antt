@@ -1,4 +1,4 @@
--- What a run holds before it walks.
+-- The initial state of a run.
 use Rattle.std.specs.Prelude.{◌≡◌, ℕ, ◌+◌, ◌≤◌, List, [], length, Option}
 use Rattle.audit_model.specs.declared.outcome.Outcome.{Outcome}
 use Rattle.audit_model.specs.Job.{Job}
@@ -10,18 +10,18 @@ use Rattle.ckpt_store.specs.Fitting.{AreFit}
 use Rattle.audit_laws.specs.Runs.{IsRunJob}
 use Rattle.claim_counter.specs.Walks.{IsTodo}
 
--- the list has room for the report on any outcomes of the job, on wherever its tests stop, and on whatever its serial test finds
+-- the buffer is large enough for any report on the job, wherever its tests stop and whatever its serial test finds
 abbrev pub HasReportRoom : Job → ℕ → Type 0
 HasReportRoom job spare = (outcomes : List Outcome) (stops : List (List ℕ)) (serial : Option (ℕ × List ℕ)) → AreOutcomesOf job outcomes → AreStopsOf job stops
     → IsSerialOf job serial → length (report job outcomes stops serial) ≤ spare
 
--- outcomes with which a run of the job may start: each could be its trajectory's, and there are none where its tests stop early
+-- initial outcomes of a run of the job: each is plausible, and there are none if its tests stop early
 pub record IsStartOf (job : Job) (outcomes : List Outcome) : Type 0 where
   pub run : IsRunJob job
   pub fit : AreFit job outcomes
   pub fresh : 1 ≤ job.setting.stop → outcomes ≡ []
 
--- a book of the outcomes with which the run starts, the ids that are walked, and room for all outcomes and for the report on them
+-- a book of the initial outcomes, the ids to walk, and buffers for all outcomes and for the report
 pub record IsReadyFor (job : Job) (ready : Ready) : Type 0 where
   pub total_is : ready.book.total ≡ total job
   pub start : IsStartOf job ready.book.outcomes

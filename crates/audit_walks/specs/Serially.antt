@@ -1,9 +1,9 @@
--- What makes the serial test of a run.
+-- The walker of a run's serial test.
 use Rattle.std.specs.Prelude.{◌≡◌, Bool, true, false, ⊤, Option, Some, None}
 use Rattle.audit_model.specs.Job.{Job}
 use Rattle.flip_kernel.specs.Held.{Held}
 
--- there is a walker of the job exactly where the test is asked for
+-- there is a walker of the job exactly if the test was requested
 abbrev pub IsTesterBy : Bool → Job → Option Held → Type 0
 IsTesterBy false job None = ⊤
 IsTesterBy false job (Some w) = ⊥

@@ -1,4 +1,4 @@
-//! How a run ends that has walked.
+//! The end of a run after its walks.
 
 ghost use Rattle.std.specs.Prelude.{◌≡◌, ◌≤◌, List};
 ghost use Rattle.audit_model.specs.declared.outcome.Outcome as model;
@@ -24,21 +24,21 @@ use report::ended::Ended;
 use report::writing::write_all;
 use walker::walker::Walker;
 
-/// How a run ends that has walked: for want of memory it no longer can.
+/// The ways a run can end after its walks. Out of memory is not among them: all memory is allocated before.
 #[derive(Clone, Copy)]
 pub enum Finished {
-    /// The report was written.
+    /// The report was written in full.
     Done,
-    /// The report was not written whole.
+    /// The report was not written in full.
     WriteFault,
-    /// So many of all trajectories are done, and the rest is left to another run.
+    /// The run stopped after `done` trajectories in all. The rest is left to another run.
     Stopped { done: u32, total: u32 },
     /// A save failed.
     SaveFault,
 }
 
 impl Finished {
-    /// How the call ends.
+    /// Returns the reason with which the call ends.
     pub fn ended(self) -> Ended
         ensures { result ≡ ended_as self }
     {
@@ -51,7 +51,7 @@ impl Finished {
     }
 }
 
-// How a run ends that leaves work.
+// Returns the end of a run that leaves trajectories pending.
 fn stop(done: u32, total: u32, saved: Result<(), Failed>) -> Finished
     ensures { result ≡ stopped_by done total saved }
 {
@@ -61,7 +61,7 @@ fn stop(done: u32, total: u32, saved: Result<(), Failed>) -> Finished
     }
 }
 
-/// How a run ends that has written its report, or a part.
+/// Returns the end of a run that wrote its report, in full or in part.
 pub fn end(written: Result<(), Failed>, saved: Result<(), Failed>) -> Finished
     ensures { result ≡ ended_by written saved }
 {
@@ -72,7 +72,7 @@ pub fn end(written: Result<(), Failed>, saved: Result<(), Failed>) -> Finished
     }
 }
 
-// How many outcomes the report is on.
+// Returns the number of outcomes in the report.
 fn due(job: &Job) -> u32
     ensures { result ≡ reported job.now }
 {
@@ -83,7 +83,7 @@ fn due(job: &Job) -> u32
     }
 }
 
-/// Makes the serial test where it is asked for, and the report on what was found. It takes no memory.
+/// Makes the serial test if it was requested, and the report on the outcomes. Allocates nothing.
 pub fn text_of<J: Judge>(job: &Job, found: Found, tester: Option<Walker<J>>) -> Bytes
     requires tellable { IsTellable job.now found }
     requires whole { reported job.now ≤ found.listed }
@@ -104,7 +104,8 @@ pub fn text_of<J: Judge>(job: &Job, found: Found, tester: Option<Walker<J>>) -> 
     text
 }
 
-/// How a run ends that has found this: where nothing is left it makes the serial test where it is asked for, and writes the report. It takes no memory.
+/// Ends a run with these outcomes. If no trajectory is pending, makes the serial test if it was requested, and writes
+/// the report. Allocates nothing.
 pub fn end_run<K: Sink, J: Judge>(
     job: &Job,
     found: Found,

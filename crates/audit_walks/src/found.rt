@@ -1,26 +1,26 @@
-//! What a run has found.
+//! The outcomes of a run.
 
 ghost use Rattle.std.specs.Prelude.{◌≡◌, ◌≤◌, [], length, take};
 
 use audit_model::buffers::{Bytes, OutcomeList};
 use audit_model::outcome::Outcome;
 
-/// What a run has found, by rising id, and what of it the report tells: of each outcome and of no stop, or of the outlier trajectories, which come first,
-/// and of where each test stopped.
+/// The outcomes of a run by rising id, and the part of them that the report covers. It covers each outcome and no stop,
+/// or the outlier walks, which come first, and the stop of each test.
 #[derive(Drop)]
 pub struct Found {
     pub sorted: OutcomeList,
-    /// Of how many of the outcomes the report tells.
+    /// The number of outcomes that the report covers.
     pub listed: usize,
     pub stops: [[u32; 3]; 4],
-    /// Of how many of the stops it tells.
+    /// The number of stops that the report covers.
     pub told: usize,
-    /// Room for the report.
+    /// The buffer for the report.
     pub text: Bytes,
 }
 
 impl Found {
-    /// What a run has found of which no test stops early: the report is on each outcome.
+    /// Makes the outcomes of a run without an early stop. The report covers each of them.
     pub fn all(sorted: OutcomeList, text: Bytes) -> Found
         ensures sorted { result.sorted ≡ sorted }
         ensures listed { result.listed ≡ length sorted.items }
@@ -38,7 +38,7 @@ impl Found {
     }
 }
 
-/// The first of the outcomes.
+/// Returns the first `count` outcomes.
 pub fn first_outcomes(sorted: &[Outcome], count: usize) -> &[Outcome]
     requires { count ≤ length sorted.now }
     ensures { result.now ≡ take count sorted.now }
@@ -46,7 +46,7 @@ pub fn first_outcomes(sorted: &[Outcome], count: usize) -> &[Outcome]
     &sorted[..count]
 }
 
-/// The first of the stops.
+/// Returns the first `count` stops.
 pub fn first_stops(stops: &[[u32; 3]], count: usize) -> &[[u32; 3]]
     requires { count ≤ length stops.now }
     ensures { result.now ≡ take count stops.now }

@@ -1,4 +1,4 @@
-//! Judges of the limit on cut edges.
+//! The constraint on cut edges.
 
 ghost use Rattle.std.specs.Prelude.{◌≡◌, ◌<◌, ◌^◌, [], nat_le, Bool, IfOk, vec_len};
 ghost use Rattle.std.specs.Fn.{FnReturnsAt};
@@ -11,8 +11,8 @@ use audit_model::rules::Rules;
 use flip_guard::guard::Guard;
 use std::alloc::Global;
 
-/// So many judges by one test of whether the cut edges are no more than the rules allow, which name no regions and ask for no majority. The only
-/// error is want of memory.
+/// Makes `count` constraints from one test of the number of cut edges. The rules must name no regions and require no
+/// majorities. The only error is out of memory.
 pub fn guards<F: Fn(&SumsView) -> bool + Copy + Drop>(
     alloc: Global,
     test: F,

@@ -1,8 +1,9 @@
-//! What each run holds before it walks, its walk where it saves nothing, and how any run ends that has walked.
+//! The memory of a run, its walks if it saves nothing, and the end of any run.
 //!
-//! A run goes in three steps. All its memory is taken (`means`); then it walks, in one piece or until its tests have stopped (`walking`), and what it
-//! found is a `Found` either way; then it ends (`ending`): the serial test is made, the report is made of what was found and written, or the run says
-//! how much is left. A run that saves takes its own means and walks over a desk, but what it found is a `Found` too and it ends by the same call.
+//! A run has three steps. First all its memory is allocated (`means`). Then it walks, in one part or until its tests
+//! have stopped (`walking`). The outcomes are a `Found` in both cases. Finally it ends (`ending`): it makes the serial
+//! test and writes the report, or says how much is pending. A run that saves has its own resources and walks over a
+//! desk. It also has a `Found` and ends by the same call.
 #![tactic(auto)]
 
 pub mod ending;

@@ -1,4 +1,4 @@
-//! All that a run takes that saves nothing, made before it walks.
+//! The resources of a run that saves nothing, allocated before it walks.
 
 ghost use Rattle.std.specs.Prelude.{◌≡◌, IfOk, length, vec_len};
 ghost use Rattle.walker.specs.Judges.{AreJudges};
@@ -17,14 +17,15 @@ use sequential_test::crew::StoppingCrew;
 use std::alloc::Global;
 use walker::walker::Walker;
 
-/// The workers of a run that saves nothing: of one that walks all its trajectories, or of one whose tests stop early.
+/// The workers of a run that saves nothing: for a run of all trajectories, or for one whose tests stop early.
 #[derive(Drop)]
 pub enum Workers<J: Judge> {
     All(Crew<J>),
     Early(StoppingCrew<J>),
 }
 
-/// All that a run takes that saves nothing: what each run holds before it walks, its workers, and what makes its serial test where it is asked for.
+/// The resources of a run that saves nothing: the initial state, the workers, and the walker of the serial test if
+/// there is one.
 #[derive(Drop)]
 pub struct Means<J: Judge> {
     pub ready: Ready,
@@ -32,7 +33,7 @@ pub struct Means<J: Judge> {
     pub tester: Option<Walker<J>>,
 }
 
-// The workers of a run that holds this, one for each judge.
+// Makes a worker for each constraint, for a run with this initial state.
 fn make_workers<J: Judge>(
     alloc: Global,
     job: &Job,
@@ -52,7 +53,7 @@ fn make_workers<J: Judge>(
     Ok(Workers::All(crew))
 }
 
-// What a run holds that starts with these outcomes, and its workers.
+// Makes the initial state of a run that starts with these outcomes, and its workers.
 fn make_ready_workers<J: Judge>(
     alloc: Global,
     job: &Job,
@@ -76,7 +77,7 @@ fn make_ready_workers<J: Judge>(
     }
 }
 
-// All that a run takes, with what makes its serial test.
+// Makes the resources of a run, with the walker of its serial test.
 fn make_with<J: Judge>(
     alloc: Global,
     job: &Job,
@@ -101,8 +102,8 @@ fn make_with<J: Judge>(
     }
 }
 
-/// All that a run takes that starts with these outcomes and saves nothing, with a judge for each worker and one for the serial test. The only error is want of
-/// memory.
+/// Makes the resources of a run that starts with these outcomes and saves nothing. `judges` has a constraint for each
+/// worker and one for the serial test. The only error is out of memory.
 pub fn make_means<J: Judge>(
     alloc: Global,
     job: &Job,

@@ -1,4 +1,4 @@
-//! What a run holds before it walks.
+//! The initial state of a run.
 
 ghost use Rattle.std.specs.Prelude.{◌≡◌, ◌<◌, IfOk};
 ghost use Rattle.audit_model.specs.Run.{total};
@@ -14,8 +14,8 @@ use outcome_book::laws::outcomes_have_few_visits;
 use plan_core::job::Job;
 use std::alloc::Global;
 
-/// What each run holds before it walks: a book of the outcomes with which it starts, the ids to walk, and room for the outcomes by rising id
-/// and for the report on them.
+/// The initial state of a run: a book of the initial outcomes, the ids to walk, and buffers for the outcomes by rising
+/// id and for the report.
 #[derive(Drop)]
 pub struct Ready {
     pub book: Book,
@@ -24,20 +24,20 @@ pub struct Ready {
     pub text: Bytes,
 }
 
-// The book of a run that starts with these outcomes.
+// Makes the book of a run that starts with these outcomes.
 fn book_of(alloc: Global, job: &Job, outcomes: &[Outcome]) -> Result<Book, Memory>
     requires { IsStartOf job.now outcomes.now }
     ensures total { IfOk result (λ b. b.total ≡ total job.now) }
     ensures outcomes { IfOk result (λ b. b.outcomes ≡ outcomes.now) }
 {
-    // A law, called for what its contract says: the bins of what fits a job add up to few enough for a book.
+    // Called for its contract: the histograms of plausible outcomes are small enough for a book.
     outcomes_have_few_visits();
     let mut book = Book::with_room(alloc, job.total())?;
     book.merge(outcomes);
     Ok(book)
 }
 
-/// What a run holds that starts with these outcomes. The only error is want of memory.
+/// Makes the initial state of a run that starts with these outcomes. The only error is out of memory.
 pub fn make_ready(alloc: Global, job: &Job, outcomes: &[Outcome]) -> Result<Ready, Memory>
     requires { IsStartOf job.now outcomes.now }
     ensures ready { IfOk result (IsReadyFor job.now) }

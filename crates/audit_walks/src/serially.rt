@@ -15,7 +15,7 @@ use serial_test::run::serial;
 use std::alloc::Global;
 use walker::walker::Walker;
 
-/// All that the serial test takes, where it is asked for. The only error is want of memory.
+/// Makes the walker of the serial test, if the test was requested. The only error is out of memory.
 pub fn make_tester<J: Judge>(
     alloc: Global,
     job: &Job,
@@ -31,7 +31,7 @@ pub fn make_tester<J: Judge>(
     Ok(Some(tester))
 }
 
-/// The place and the ranks that the serial test finds, where it is asked for. It takes no memory.
+/// Returns the place and the ranks of the serial test, if it was requested. Allocates nothing.
 pub fn test_serially<J: Judge>(job: &Job, tester: Option<Walker<J>>) -> Option<(u32, [u64; 4])>
     requires run { IsRunJob job.now }
     requires tester { IsTester job.now tester }

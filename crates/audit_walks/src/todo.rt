@@ -1,4 +1,4 @@
-//! What is left to walk.
+//! The trajectories that are pending.
 
 ghost use Rattle.std.specs.Prelude.{◌≡◌, ◌≤◌, IfOk};
 ghost use Rattle.audit_model.specs.JobOf.{IsJob};
@@ -12,7 +12,7 @@ use outcome_book::book::Book;
 use plan_core::job::Job;
 use std::alloc::Global;
 
-// Whether an id lies in the part that a run walks.
+// Returns true if an id lies in the part that the run walks.
 fn lies_in_part(setting: &Setting, id: u32) -> bool
     requires { 1 ≤ setting.now.parts }
     ensures { result ≡ is_in_part setting.now.parts setting.now.part id }
@@ -20,8 +20,8 @@ fn lies_in_part(setting: &Setting, id: u32) -> bool
     id % setting.parts == setting.part
 }
 
-/// The ids of the job's trajectories that the book lacks and that lie in the job's part, by rising id, and no more of them than `budget`.
-/// The only error is want of memory.
+/// Returns the ids of the job's part without an outcome in the book, by rising id, at most `budget` of them. The only
+/// error is out of memory.
 pub fn todo_of(alloc: Global, job: &Job, book: &Book, budget: u32) -> Result<UnitList, Memory>
     requires sound { IsJob job.now }
     ensures ids { IfOk result (λ ids. ids ≡ run_ids job.now book.now.outcomes budget) }

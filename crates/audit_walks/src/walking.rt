@@ -1,4 +1,4 @@
-//! Walks a run that saves nothing: in one piece, or until each of its tests has stopped.
+//! Walks a run that saves nothing, in one part or until each of its tests has stopped.
 
 ghost use Rattle.std.specs.Prelude.{◌≡◌, false, length};
 ghost use Rattle.audit_statement.specs.Endings.{IsOpening, saves};
@@ -24,7 +24,7 @@ use sequential_test::crew::StoppingCrew;
 use sequential_test::walking::walk_to_stops;
 use std::thread::Threads;
 
-// Walks all that is to be walked.
+// Walks all pending trajectories.
 fn walk_all<R: Threads + Sync, J: Judge + Send, G: Gate + Sync>(
     rt: &Runtime<'_, R, G>,
     job: &Job,
@@ -45,7 +45,7 @@ fn walk_all<R: Threads + Sync, J: Judge + Send, G: Gate + Sync>(
     Found::all(sorted, text)
 }
 
-// Walks all outlier trajectories, and then ends in rounds, until every test has stopped.
+// Walks all outlier trajectories, then endpoint trajectories in rounds, until every test has stopped.
 fn walk_early<R: Threads + Sync, J: Judge + Send, G: Gate + Sync>(
     rt: &Runtime<'_, R, G>,
     job: &Job,
@@ -73,7 +73,7 @@ fn walk_early<R: Threads + Sync, J: Judge + Send, G: Gate + Sync>(
     }
 }
 
-/// Walks what is to be walked, with these workers. It takes no memory.
+/// Walks the pending trajectories with these workers. Allocates nothing.
 pub fn walk<R: Threads + Sync, J: Judge + Send, G: Gate + Sync>(
     rt: &Runtime<'_, R, G>,
     job: &Job,
@@ -90,7 +90,7 @@ pub fn walk<R: Threads + Sync, J: Judge + Send, G: Gate + Sync>(
     }
 }
 
-/// Walks what is to be walked of a run that saves nothing, and writes the report. It takes no memory.
+/// Walks a run that saves nothing, and writes the report. Allocates nothing.
 pub fn finish_unsaved<R: Threads + Sync, K: Sink, J: Judge + Send, G: Gate + Sync>(
     rt: &Runtime<'_, R, G>,
     job: &Job,
