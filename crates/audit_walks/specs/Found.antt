@@ -19,8 +19,8 @@ listed_in f = take f.listed f.sorted.items
 abbrev pub told_in : Found → List (List ℕ)
 told_in f = take f.told f.stops
 
--- the report can be made: the stops are complete, as are the outcomes if there are as many as the report covers, and
--- the buffer is large enough
+-- the report can be made: the stops are complete, the outcomes are too once their number is the one that the report
+-- covers, and the buffer is large enough
 pub record IsTellable (job : Job) (f : Found) : Type 0 where
   pub run : IsRunJob job
   pub enough : f.listed ≤ length f.sorted.items
@@ -42,7 +42,7 @@ pub record LeavesSome (job : Job) (opening : List Outcome) (f : Found) : Type 0 
   pub all : AreAll job opening (listed_in f)
   pub due : reported job ≡ total job
 
--- the outcomes of a run with these initial outcomes: as many as the report covers, or fewer
+-- the outcomes of a run with these initial outcomes: all that the report covers, or fewer
 pub record HasFound (job : Job) (opening : List Outcome) (f : Found) : Type 0 where
   pub tellable : IsTellable job f
   pub whole : reported job ≤ f.listed → TellsAll job opening f
