@@ -1,4 +1,4 @@
-//! A small book.
+//! A small outcome book.
 
 use audit_model::memory::Memory;
 use audit_model::outcome::Outcome;
@@ -6,7 +6,7 @@ use outcome_book::book::Book;
 use std::alloc::Global;
 use std::io;
 
-// A book after two posts and a merge.
+// Makes a book with two posts and a merge.
 fn book(alloc: Global) -> Result<Book, Memory> {
     let mut book = Book::with_room(alloc, 3)?;
     book.post(Outcome {
@@ -38,7 +38,7 @@ fn show_tally(rt: &HostRuntime, book: &Book) -> io::Result<()> {
     rt.println("")
 }
 
-/// Shows how many outcomes the book has, and the sum of their bins.
+/// Prints the number of the book's outcomes and the sum of their histograms.
 pub fn show_book(rt: &HostRuntime) -> io::Result<()> {
     match book(rt.alloc()) {
         Ok(book) => show_tally(rt, &book),

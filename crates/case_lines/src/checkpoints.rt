@@ -9,7 +9,7 @@ use sha2::{Digest, Sha256};
 use std::alloc::Global;
 use std::io;
 
-// The one outcome of the checkpoint.
+// The only outcome of the checkpoint.
 const FOUND: Outcome = Outcome {
     id: 7,
     moved: 5,
@@ -17,14 +17,14 @@ const FOUND: Outcome = Outcome {
     bins: [0; 9],
 };
 
-// The checkpoint of a digest of zeros, generation 2 and that outcome.
+// Makes a checkpoint of that outcome, with a digest of zeros and generation 2.
 fn checkpoint(alloc: Global) -> Result<Bytes, Memory> {
     let mut out = Bytes::with_room(alloc, 128)?;
     encode_old(&[0; 32], 2, &[FOUND], &mut out);
     Ok(out)
 }
 
-/// Shows the digest of the checkpoint's bytes, and what is read of them.
+/// Prints the digest of the checkpoint's bytes, and its decoded contents.
 pub fn show_checkpoint(rt: &HostRuntime) -> io::Result<()> {
     match checkpoint(rt.alloc()) {
         Ok(out) => show_bytes(rt, out.as_slice()),

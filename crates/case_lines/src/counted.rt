@@ -1,4 +1,5 @@
-//! The gate of a run, and a keeper that shares its count: how many ids the gate was told, and whether the keeper was asked to save more than those.
+//! A gate that counts the announced ids, and a keeper that shares the count. The keeper checks that no save holds more
+//! outcomes than ids were announced.
 
 use crate::crowd::CrowdGate;
 use crate::gate::NotingGate;
@@ -12,26 +13,26 @@ use std::alloc::{AllocError, Global};
 use std::sync::Arc;
 use std::sync::atomic::{AtomicU64, Ordering};
 
-/// What a gate does besides counting.
+/// The work of a gate besides counting.
 #[derive(Drop)]
 pub enum Watch {
-    /// Nothing.
+    /// No other work.
     Nothing,
-    /// It notes the ids, and may hold the first.
+    /// Notes the ids, and may hold the first caller.
     Noting(NotingGate),
-    /// It holds everyone until enough have begun.
+    /// Holds every caller until enough have begun.
     Crowd(CrowdGate),
-    /// It looks at the clock.
+    /// Notes the time of the first id.
     Timed(TimedGate),
 }
 
-/// Counts the ids that it is told.
+/// A gate that counts the announced ids.
 pub struct CountingGate {
     told: Arc<AtomicU64, Global>,
     watch: Watch,
 }
 
-// Written out, so that a function that drops a gate has one step for it, and not one for each field.
+// Written out, so that a function that drops a gate has one step for it and not one for each field.
 impl Drop for CountingGate {
     fn drop(self) {
         let CountingGate {
@@ -42,23 +43,23 @@ impl Drop for CountingGate {
 }
 
 impl CountingGate {
-    /// A gate that was told of nothing.
+    /// Makes a gate with a count of 0.
     pub fn new(alloc: Global, watch: Watch) -> Result<CountingGate, AllocError> {
         let told = Arc::new(alloc, AtomicU64::new(0))?;
         Ok(CountingGate { told, watch })
     }
 
-    /// What it does besides counting.
+    /// Returns the gate's work besides counting.
     pub fn watch(&self) -> &Watch {
         &self.watch
     }
 
-    /// How many ids it was told.
+    /// Returns the number of announced ids.
     pub fn told(&self) -> u64 {
         self.told.load(Ordering::SeqCst)
     }
 
-    /// A keeper that looks at this count at each save.
+    /// Makes a keeper that compares each save with this count.
     pub fn keeper<K>(&self, inner: K) -> Result<CountedKeeper<K>, AllocError>
     where
         K: Drop,
@@ -84,14 +85,14 @@ impl Gate for CountingGate {
     }
 }
 
-/// How many saves a keeper was asked for, and how many of them came before as many ids were told.
+/// The number of saves, and the number of early ones. A save is early if fewer ids were announced than it has outcomes.
 #[derive(Clone, Copy)]
 pub struct Saves {
     pub all: u64,
     pub early: u64,
 }
 
-/// A keeper that counts the saves, and of a run that saves with each post those before which fewer ids were told than outcomes posted.
+/// A keeper that counts saves. In a run that saves with each post, it also counts early saves.
 pub struct CountedKeeper<K> {
     inner: K,
     told: Arc<AtomicU64, Global>,
@@ -101,7 +102,7 @@ pub struct CountedKeeper<K> {
 /// The keeper of a run.
 pub type RunKeeper = CountedKeeper<StopKeeper>;
 
-// Written out as that of the gate.
+// Written out for the same reason as that of the gate.
 impl<K: Drop> Drop for CountedKeeper<K> {
     fn drop(self) {
         let CountedKeeper {
@@ -113,12 +114,12 @@ impl<K: Drop> Drop for CountedKeeper<K> {
 }
 
 impl<K> CountedKeeper<K> {
-    /// The saves that it was asked for.
+    /// Returns the counts of saves.
     pub fn saves(&self) -> Saves {
         self.saves
     }
 
-    /// The keeper that it counted for.
+    /// Returns the wrapped keeper.
     pub fn into_inner(self) -> K {
         let CountedKeeper {
             inner,

@@ -1,10 +1,11 @@
-//! A gate that holds everyone until enough have begun.
+//! A gate that holds every caller until enough have begun.
 
 use audit_io::gate::Gate;
 use std::sync::atomic::{AtomicU64, Ordering};
 use std::thread;
 
-/// Holds each caller until so many have begun, its own trajectory among them, or until it has looked ten million times.
+/// A gate that holds each caller until `wanted` have begun, its own trajectory among them. It gives up after ten
+/// million looks.
 #[derive(Drop)]
 pub struct CrowdGate {
     wanted: u64,
@@ -13,7 +14,7 @@ pub struct CrowdGate {
 }
 
 impl CrowdGate {
-    /// A gate at which nobody has been.
+    /// Makes a gate that nobody has called yet.
     pub fn new(wanted: u64) -> CrowdGate {
         CrowdGate {
             wanted,
@@ -22,12 +23,12 @@ impl CrowdGate {
         }
     }
 
-    /// How often it was told of an id.
+    /// Returns the number of announced ids.
     pub fn begun(&self) -> u64 {
         self.begun.load(Ordering::SeqCst)
     }
 
-    /// How many callers it let go before so many had begun.
+    /// Returns the number of callers that were let go too early.
     pub fn given_up(&self) -> u64 {
         self.given_up.load(Ordering::SeqCst)
     }

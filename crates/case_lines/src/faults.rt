@@ -1,8 +1,9 @@
-//! Runs of which one call after the other fails, for each line of a file.
+//! Runs in which each call fails in turn, for each line of a file.
 //!
-//! A line has the calls that fail (`reads`, `writes`, `saves`, `loads` or `none`), the most bytes of a
-//! read and of a write, what is in slot 0 and in slot 1 before each run, as in `keeping`, the file of the graph, and the words of the audit. The
-//! first of these calls fails in the first run, the second in the second, and so on, until a run ends with status 0 or 7.
+//! A line has the kind of failing calls (`reads`, `writes`, `saves`, `loads` or `none`), the most bytes of a read and
+//! of a write, and the contents of slots 0 and 1 before each run, as in `keeping`. Then come the file of the graph and
+//! the arguments of the audit. The first such call fails in the first run, the second in the second, and so on, until a
+//! run ends with status 0 or 7.
 
 use crate::given::{Given, Origin, Watched};
 use crate::held::{Held, saves_failing};
@@ -11,13 +12,13 @@ use crate::streams::{number, word};
 use std::str::SplitWhitespace;
 use std::test::Fail;
 
-/// The number that no run of a line has any more.
+/// The first run number that no line reaches.
 pub const PAST_RUNS: u64 = 1000;
 
-/// The room for the output.
+/// The capacity of the output.
 const ROOM: usize = 4000;
 
-/// What a line says of each of its runs.
+/// The part of a line that each of its runs shares.
 #[derive(Clone, Copy)]
 pub struct Setup<'a> {
     pub calls: &'a str,
@@ -27,7 +28,7 @@ pub struct Setup<'a> {
     pub file: &'a str,
 }
 
-/// What a line says before the words of its audits.
+/// Parses the part of a line before the arguments.
 pub fn setup_of<'a>(parts: &mut SplitWhitespace<'a>) -> Result<Setup<'a>, Fail> {
     let calls = word(parts);
     let most = number(parts)? as usize;
@@ -40,7 +41,7 @@ pub fn setup_of<'a>(parts: &mut SplitWhitespace<'a>) -> Result<Setup<'a>, Fail> 
     })
 }
 
-// The number of the one of these calls that fails in this run, 0 where none does.
+// Returns the number of the call that fails in this run, or 0 if calls of this kind do not fail.
 fn failing_call(setup: &Setup<'_>, calls: &str, run: u64) -> u64 {
     if setup.calls == calls { run } else { 0 }
 }
@@ -57,7 +58,7 @@ fn given_in<'a>(setup: &Setup<'a>, run: u64) -> Given<'a> {
     }
 }
 
-/// What is said of the run with this number.
+/// Returns the setup of the run with this number.
 pub fn said_in<'a>(setup: &Setup<'a>, run: u64) -> Said<'a> {
     Said {
         held: Held {

@@ -1,13 +1,14 @@
-//! A gate that notes the ids that it is told, and may hold the first of them until others have begun.
+//! A gate that notes the announced ids, and may hold the first caller until others have begun.
 
 use audit_io::gate::Gate;
 use std::sync::atomic::{AtomicU64, Ordering};
 use std::thread;
 
-/// How many ids have a bit of their own.
+/// The number of ids with their own bit.
 const NOTED: u32 = 64;
 
-/// Notes each id, and holds its first caller until so many have begun, its own among them, or until it has looked ten million times.
+/// A gate that notes each id, and holds its first caller until `wanted` have begun, its own among them. It gives up
+/// after ten million looks.
 #[derive(Drop)]
 pub struct NotingGate {
     wanted: u64,
@@ -17,7 +18,8 @@ pub struct NotingGate {
 }
 
 impl NotingGate {
-    /// A gate at which nobody has been, which holds nobody where it wants less than two, and is not shown where it wants none.
+    /// Makes a gate that nobody has called yet. It holds nobody if `wanted` is below 2, and is not shown if `wanted` is
+    /// 0.
     pub fn new(wanted: u64) -> NotingGate {
         NotingGate {
             wanted,
@@ -27,32 +29,32 @@ impl NotingGate {
         }
     }
 
-    /// Whether it is shown what it was told.
+    /// Returns true if the noted ids are to be printed.
     pub fn is_shown(&self) -> bool {
         self.wanted > 0
     }
 
-    /// Whether it holds its first caller.
+    /// Returns true if the gate holds its first caller.
     pub fn holds(&self) -> bool {
         self.wanted > 1
     }
 
-    /// Whether the first caller saw so many.
+    /// Returns true if the first caller saw enough others begin.
     pub fn has_seen(&self) -> bool {
         self.seen.load(Ordering::SeqCst) == 1
     }
 
-    /// How often it was told of an id.
+    /// Returns the number of announced ids.
     pub fn begun(&self) -> u64 {
         self.begun.load(Ordering::SeqCst)
     }
 
-    /// Whether it was told of this id; of those from 64 on it does not know.
+    /// Returns true if this id was announced. Ids from 64 on are not noted.
     pub fn was_told(&self, id: u32) -> bool {
         id < NOTED && self.ids.load(Ordering::SeqCst) & (1 << id) != 0
     }
 
-    // Waits until as many have begun as are wanted.
+    // Waits until `wanted` have begun.
     fn hold(&self) {
         for _ in 0..10_000_000 {
             if self.begun() >= self.wanted {

@@ -1,5 +1,6 @@
-//! Runs at gates of other kinds, one for each line of a file: one that holds everyone until three have begun, one that shares a count with the
-//! keeper, and one with a clock. A line has the file of the graph and the words of the audit. Of the run the status is shown, and what the gate noted.
+//! Runs at other kinds of gates, one for each line of a file: one holds every caller until three have begun, one shares
+//! a count with the keeper, and one has a clock. A line has the file of the graph and the arguments of the audit. The
+//! status and the notes of the gate are printed.
 
 use crate::counted::Saves;
 use crate::crowd::CrowdGate;
@@ -11,7 +12,7 @@ use crate::timed::TimedGate;
 use std::io;
 use std::str::SplitWhitespace;
 
-/// What a line says of its run at such a gate.
+/// Parses a line for a run at such a gate.
 pub fn said_of<'a>(parts: &mut SplitWhitespace<'a>, watched: Watched) -> Said<'a> {
     let given = Given {
         graph: Origin::File(word(parts)),
@@ -30,15 +31,15 @@ pub fn said_of<'a>(parts: &mut SplitWhitespace<'a>, watched: Watched) -> Said<'a
     }
 }
 
-/// Shows the status, of how many ids the gate was told, and how many callers it let go before three had begun.
+/// Prints the status, the number of announced ids, and the number of callers let go before three had begun.
 pub fn show_crowd(rt: &HostRuntime, status: u8, gate: &CrowdGate) -> io::Result<()> {
     let told = gate.begun();
     let given_up = gate.given_up();
     println!(rt; "status {status} told {told} given up {given_up}")
 }
 
-/// Shows the status of a run that saves with each post, of how many ids the gate was told, how many saves there were, and how many before the gate
-/// was told of what they saved.
+/// Prints the result of a run that saves with each post: its status, the number of announced ids, and the numbers of
+/// saves and of early saves.
 pub fn show_counted(rt: &HostRuntime, status: u8, told: u64, saves: Saves) -> io::Result<()> {
     println!(rt;
         "status {status} told {told} saves {} early {}",
@@ -46,7 +47,8 @@ pub fn show_counted(rt: &HostRuntime, status: u8, told: u64, saves: Saves) -> io
     )
 }
 
-/// Shows the status of a run of one long walk, of how many ids the gate was told, and whether the first of them came in the first half of the time.
+/// Prints the result of a run of one long walk: its status, the number of announced ids, and whether the first came in
+/// the first half of the time.
 pub fn show_timed(rt: &HostRuntime, status: u8, gate: &TimedGate) -> io::Result<()> {
     let early = gate.was_told_early();
     let told = gate.told();

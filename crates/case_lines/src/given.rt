@@ -1,4 +1,4 @@
-//! What a line gives to a run besides its keeper.
+//! The inputs of a run besides its keeper.
 
 use crate::counted::{CountingGate, Watch};
 use crate::crowd::CrowdGate;
@@ -15,16 +15,16 @@ use std::io;
 use std::str::SplitWhitespace;
 use std::test::Fail;
 
-/// The most bytes of a read, where a line does not say it.
+/// The most bytes of a read, unless a line gives a number.
 pub const READ: usize = 100;
 
-/// The most bytes of a write, where a line does not say it.
+/// The most bytes of a write, unless a line gives a number.
 pub const WRITE: usize = 10;
 
-/// The room of the notes.
+/// The capacity of the diagnostic.
 const NOTE_ROOM: usize = 1000;
 
-/// Where the graph of a run is: the whole of a file, the whole of a line, or the bytes of hexadecimal digits.
+/// The source of a run's graph: a whole file, a whole line, or bytes in hexadecimal digits.
 #[derive(Clone, Copy)]
 pub enum Origin<'a> {
     File(&'a str),
@@ -32,8 +32,8 @@ pub enum Origin<'a> {
     Hex(&'a str),
 }
 
-/// What the gate of a run does: it notes the ids, and lets the first trajectory walk once so many have begun; it holds each until three have
-/// begun; it looks at the clock; or it counts the ids alone.
+/// The work of a run's gate. It notes the ids and lets the first trajectory walk once enough have begun, holds each
+/// until three have begun, looks at the clock, or only counts.
 #[derive(Clone, Copy)]
 pub enum Watched {
     Noted(u64),
@@ -42,8 +42,8 @@ pub enum Watched {
     Counted,
 }
 
-/// The source and the sink of a run: where the graph is, the most bytes of each read, the number of the one that fails or 0, the room for
-/// the output, the most bytes of each write, and the number of the one that fails or 0; and what its gate does.
+/// The source, the sink and the gate of a run: the graph, the most bytes of each read and of each write, and the
+/// capacity of the output. The number of a failing read or write is 0 if none fails.
 #[derive(Clone, Copy)]
 pub struct Given<'a> {
     pub graph: Origin<'a>,
@@ -70,7 +70,7 @@ fn gate_of(rt: &HostRuntime, watched: Watched) -> Result<CountingGate, Fail> {
     Ok(gate)
 }
 
-/// What a run is given, with the words that are left of a line.
+/// Makes the inputs of a run from the setup and the rest of a line.
 pub fn case_of(
     rt: &HostRuntime,
     given: &Given<'_>,
@@ -82,7 +82,7 @@ pub fn case_of(
     }
 }
 
-// What a run at this gate is given.
+// Makes the inputs of a run at this gate.
 fn case_at(
     rt: &HostRuntime,
     gate: CountingGate,
@@ -116,7 +116,7 @@ fn bytes_source(alloc: Global, bytes: &[u8], given: &Given<'_>) -> Result<MemSou
     Ok(source_of(alloc, bytes, given.most_read, given.failing_read)?)
 }
 
-// What a run at this gate and over this source is given.
+// Makes the inputs of a run at this gate with this source.
 fn case_over(
     alloc: Global,
     source: MemSource,
@@ -146,7 +146,7 @@ fn out_of(alloc: Global, given: &Given<'_>) -> Result<MemSink, Memory> {
     MemSink::new(alloc, given.room, given.most_write.max(1), fails)
 }
 
-/// A sink for the notes.
+/// Makes a sink for the diagnostic.
 pub fn note_of(alloc: Global) -> Result<MemSink, Memory> {
     MemSink::new(alloc, NOTE_ROOM, WRITE, failing(alloc, 0)?)
 }

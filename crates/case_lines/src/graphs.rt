@@ -1,11 +1,12 @@
-//! Checks of graphs, one for each line of a file, which is the whole text of a graph, or `hex` and the hexadecimal digits of its bytes.
+//! Checks of graphs, one for each line of a file. A line is the whole text of a graph, or `hex` and its bytes in
+//! hexadecimal digits.
 
 use crate::given::{Given, Origin, READ, WRITE, Watched};
 use crate::held::{ABSENT, UNSTOPPED};
 use crate::said::Said;
 use crate::streams::word;
 
-/// The words of each check.
+/// The arguments of each check.
 pub const WORDS: &str = "check --pop pop --first a --second b --district d --slack 1000";
 
 fn graph_of(line: &str) -> Origin<'_> {
@@ -17,7 +18,7 @@ fn graph_of(line: &str) -> Origin<'_> {
     }
 }
 
-/// What a line says of its check.
+/// Returns the setup of a line's check.
 pub fn said_of(line: &str) -> Said<'_> {
     let given = Given {
         graph: graph_of(line),

@@ -1,4 +1,4 @@
-//! What a line says of the keeper of a run.
+//! The setup of a run's keeper.
 
 use crate::counted::{CountingGate, RunKeeper, Watch};
 use crate::slots::slot_of;
@@ -10,7 +10,7 @@ use audit_model::memory::Memory;
 use std::alloc::Global;
 use std::test::Fail;
 
-/// What is in both slots, and the number of the load that fails, or 0.
+/// The contents of both slots, and the number of the load that fails, or 0.
 #[derive(Clone, Copy)]
 pub struct Held<'a> {
     pub zero: &'a str,
@@ -18,7 +18,8 @@ pub struct Held<'a> {
     pub failing_load: u64,
 }
 
-/// The number of the save that fails, or 0; and that of the save within which the run is stopped, and how many bytes this leaves.
+/// The number of the save that fails, or 0. Also the number of the save within which the run is stopped, and the number
+/// of bytes that the stop leaves.
 #[derive(Clone, Copy)]
 pub struct Saves {
     pub failing: u64,
@@ -26,21 +27,21 @@ pub struct Saves {
     pub kept: u32,
 }
 
-/// Both are absent, and no load fails.
+/// Two empty slots and no failing load.
 pub const ABSENT: Held<'static> = Held {
     zero: "absent",
     one: "absent",
     failing_load: 0,
 };
 
-/// No save fails, and nothing stops the run.
+/// No failing save and no stop.
 pub const UNSTOPPED: Saves = Saves {
     failing: 0,
     stop_at: u32::MAX,
     kept: 0,
 };
 
-/// Of which one save may fail, and within none of which the run is stopped.
+/// Makes a setup in which the save with this number fails and nothing stops the run.
 pub fn saves_failing(failing: u64) -> Saves {
     Saves {
         failing,
@@ -49,7 +50,7 @@ pub fn saves_failing(failing: u64) -> Saves {
     }
 }
 
-/// The keeper of a run at this gate, where it is the `same` over what a run before left in both slots.
+/// Makes the keeper of a run at this gate. `same` stands for the contents that the run before left.
 pub fn keeper_of(
     rt: &HostRuntime,
     held: &Held<'_>,
@@ -86,19 +87,19 @@ fn keeper_over(
     MemKeeper::new(alloc, zero, one, loads, saves)
 }
 
-/// Two absent slots, of which no call fails.
+/// Makes a keeper with two empty slots whose calls never fail.
 pub fn absent(alloc: Global) -> Result<MemKeeper, Memory> {
     keeper_over(alloc, None, None, 0, 0)
 }
 
-// The keeper over absent slots, of which this save fails, or none where it is 0.
+// Makes a keeper with empty slots whose save with this number fails, or none for 0.
 fn keeper_at(alloc: Global, gate: &CountingGate, save: u64) -> Result<RunKeeper, Memory> {
     let keeper = keeper_over(alloc, None, None, 0, save)?;
     let keeper = gate.keeper(StopKeeper::new(keeper, u32::MAX, 0))?;
     Ok(keeper)
 }
 
-/// A keeper over absent slots that counts its saves, of which this one fails, or none where it is 0.
+/// Makes a counting keeper with empty slots whose save with this number fails, or none for 0.
 pub fn counting_keeper(alloc: Global, save: u64) -> Result<RunKeeper, Memory> {
     match CountingGate::new(alloc, Watch::Nothing) {
         Ok(gate) => keeper_at(alloc, &gate, save),

@@ -1,9 +1,10 @@
-//! Runs over what the run before left in the slots, one for each line of a file.
+//! Runs that start from the slots of the run before, one for each line of a file.
 //!
-//! A line has what is in slot 0 and in slot 1 before the run: `absent`, the `same` as after the run before, that with its last byte
-//! changed (`spoilt`), one byte more than a slot may have (`long`), or a file of hexadecimal digits. After these come the number of the load
-//! that fails and that of the save, 0 for none, then the room of the sink in bytes, the file of the graph, and the words of the audit. In place
-//! of the number of a save, `2/40` is a stop within the second save that leaves 40 of its bytes; no later save changes anything.
+//! A line has the contents of slots 0 and 1 before the run: `absent`, the `same` as after the run before, that with its
+//! last byte changed (`spoilt`), one byte more than a slot may have (`long`), or a file of hexadecimal digits. Then
+//! come the number of the load that fails and that of the save, 0 for none, the capacity of the sink in bytes, the file
+//! of the graph, and the arguments of the audit. In place of the number of a save, `2/40` is a stop within the second
+//! save that leaves 40 of its bytes. No later save changes anything.
 
 use crate::given::{Given, Origin, READ, WRITE, Watched};
 use crate::held::{Held, Saves, saves_failing};
@@ -45,7 +46,7 @@ fn held_of<'a>(parts: &mut SplitWhitespace<'a>) -> Result<Held<'a>, Fail> {
     })
 }
 
-/// What a line says before the words of its audit.
+/// Parses the part of a line before the arguments.
 pub fn said_of<'a>(parts: &mut SplitWhitespace<'a>) -> Result<Said<'a>, Fail> {
     let held = held_of(parts)?;
     let saves = saves_of(word(parts))?;

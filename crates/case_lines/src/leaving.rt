@@ -1,4 +1,4 @@
-//! Whether a unit may leave its district, as its neighbours tell, as a search tells, and as both do.
+//! Tests of a unit that leaves its district: by its neighbors, by a search, and by both.
 
 ghost use Rattle.std.specs.Prelude.{◌≡◌, ◌<◌};
 
@@ -12,7 +12,7 @@ use std::io;
 use std::marker::Brand;
 use std::sync::ledger::{Blank, Ledger};
 
-// What each of the three calls answers, where the plan is one of the graph and has the unit.
+// Returns the answers of the three calls, if the plan fits the graph and has the unit.
 fn answers<L: Ledger>(
     alloc: Global,
     graph: &Graph,
@@ -45,7 +45,8 @@ fn show_unit(rt: &HostRuntime, graph: &Graph, plan: &[u32], unit: u32) -> io::Re
     }
 }
 
-// Unit 0 of a ring of six, beside which another district's unit lies; and the same unit where it is the only one of its district.
+// Prints the answers for unit 0 of a ring of six with a neighbor in another district, and for unit 0 as the only one of
+// its district.
 fn show_ring(rt: &HostRuntime) -> io::Result<()> {
     let pairs = [(0, 1), (0, 5), (0, 6), (1, 2), (2, 3), (3, 4), (4, 5)];
     match Graph::from_pairs(rt.alloc(), 7, &pairs) {
@@ -57,7 +58,7 @@ fn show_ring(rt: &HostRuntime) -> io::Result<()> {
     }
 }
 
-// The middle one of three units in a row.
+// Prints the answers for the middle one of three units in a row.
 fn show_row(rt: &HostRuntime) -> io::Result<()> {
     match Graph::from_pairs(rt.alloc(), 3, &[(0, 1), (1, 2)]) {
         Ok(graph) => show_unit(rt, &graph, &[0, 0, 0], 1),
@@ -65,7 +66,8 @@ fn show_row(rt: &HostRuntime) -> io::Result<()> {
     }
 }
 
-// The last unit of two rows of three, all but the first unit in one district: its two neighbours do not touch, so that only the search tells.
+// Prints the answers for the last unit of two rows of three, with all but the first unit in one district. Its two
+// neighbors are not adjacent, so only the search decides.
 fn show_grid(rt: &HostRuntime) -> io::Result<()> {
     let pairs = [(0, 1), (0, 3), (1, 2), (1, 4), (2, 5), (3, 4), (4, 5)];
     match Graph::from_pairs(rt.alloc(), 6, &pairs) {
@@ -74,7 +76,8 @@ fn show_grid(rt: &HostRuntime) -> io::Result<()> {
     }
 }
 
-// A corner of a triangle, beside which another district's unit lies: its two neighbours touch, so that no search is needed.
+// Prints the answers for a corner of a triangle with a neighbor in another district. Its two neighbors are adjacent, so
+// no search is needed.
 fn show_triangle(rt: &HostRuntime) -> io::Result<()> {
     match Graph::from_pairs(rt.alloc(), 4, &[(0, 1), (0, 2), (0, 3), (1, 2)]) {
         Ok(graph) => show_unit(rt, &graph, &[0, 0, 0, 1], 0),
@@ -82,7 +85,7 @@ fn show_triangle(rt: &HostRuntime) -> io::Result<()> {
     }
 }
 
-/// Shows of a unit of each of these graphs whether its neighbours tell that it may leave, whether a search does, and whether it may leave.
+/// Prints the three answers for a unit of each of these graphs.
 pub fn show_leaving(rt: &HostRuntime) -> io::Result<()> {
     show_ring(rt)?;
     show_row(rt)?;

@@ -1,14 +1,16 @@
-//! What `audit_cases` prints: the lines of files, each of which tells of one whole audit or of many over sources, sinks and keepers in memory;
-//! and calls that no command makes, or whose answer no contract says.
+//! The lines that `audit_cases` prints. Each line of its files describes one audit or many, over sources, sinks and
+//! keepers in memory. Calls that no command makes, or whose answer no contract states, are also here.
 //!
-//! `plain` says what a line of `cases` has, `graphs` what one of `graphs` has, `keeping` what one of `slots` has, `faults` what one of `faults`
-//! has, `gated` what one of `crowds`, `counted` and `timed` has, and `sure` what one of `sure` has. `lines` makes the runs of all but the last.
+//! The modules describe the files: `plain` describes `cases`, `graphs` describes `graphs`, `keeping` describes `slots`,
+//! `faults` describes `faults`, `gated` describes `crowds`, `counted` and `timed`, and `sure` describes `sure`. `lines`
+//! runs all but the last.
 //!
-//! The calls need no job: `books` posts outcomes, `checkpoints` writes one of the first version, `machine` gives events to the run machine,
-//! `outside` saves in real files, `rings` looks for faces, `leaving` asks whether units may leave, and `texts` reads graphs. Those on jobs stand in `audit_cases`.
+//! The calls need no job. `books` posts outcomes, `checkpoints` writes one of the first version, `machine` gives events
+//! to the run machine, `outside` saves in real files, `rings` looks for faces, `leaving` tests units that leave, and
+//! `texts` reads graphs. Calls on jobs are in `audit_cases`.
 //!
-//! A proof takes the longer the more values there are to be dropped where a function may end early, and the more types and traits a function is
-//! generic over, so what can fail is done in small functions, and they take the `HostRuntime`.
+//! Proofs take longer with more values to drop at an early return, and with more generic types and traits. Fallible
+//! work is therefore done in small functions that take a `HostRuntime`.
 #![tactic(auto)]
 
 pub mod books;

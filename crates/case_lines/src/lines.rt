@@ -16,7 +16,7 @@ use std::mem::replace;
 use std::str::SplitWhitespace;
 use std::test::Fail;
 
-/// What a line of a file says: as in `plain`, as in `keeping`, as in `graphs`, as in `faults`, or as in `gated`, at one of its gates.
+/// The format of a file's lines.
 #[derive(Clone, Copy)]
 pub enum Kind {
     Plain,
@@ -33,7 +33,7 @@ fn faulty<'a>(parts: &mut SplitWhitespace<'a>, run: u64) -> Result<Said<'a>, Fai
     Ok(said_in(&setup, run))
 }
 
-// What is said of the run with this number, and the words that are left for its audit.
+// Parses the setup of a run of this line, and returns it with the arguments of the audit.
 fn said_of<'a>(
     kind: Kind,
     line: &'a str,
@@ -54,7 +54,7 @@ fn said_of<'a>(
     }
 }
 
-// Makes a run over what the run before left, and leaves there what is in its slots.
+// Runs one audit over the slots that the run before left, and stores the new contents there.
 fn run_case<A: Fn(&mut Case, RunKeeper) -> (u8, RunKeeper)>(
     rt: &HostRuntime,
     audit: &A,
@@ -88,7 +88,7 @@ fn run_said<A: Fn(&mut Case, RunKeeper) -> (u8, RunKeeper)>(
     }
 }
 
-// The number that no run of a line has any more; the first has number 1.
+// Returns the first run number that no line of this kind reaches. The first run has number 1.
 fn past_runs(kind: Kind) -> u64 {
     match kind {
         Kind::Faults => PAST_RUNS,
@@ -96,7 +96,7 @@ fn past_runs(kind: Kind) -> u64 {
     }
 }
 
-// Shows the number of a run, where a line has many.
+// Prints the number of a run, if a line of this kind has many runs.
 fn show_number(rt: &HostRuntime, kind: Kind, run: u64) -> io::Result<()> {
     match kind {
         Kind::Faults => println!(rt; "run {run}"),

@@ -1,4 +1,4 @@
-//! The run machine over events.
+//! The run machine over some events.
 
 ghost use Rattle.std.specs.Prelude.{◌≤◌};
 ghost use Rattle.audit_model.specs.Limits.{most_trajectories};
@@ -7,7 +7,7 @@ use audit_model::outcome::{Did, Event};
 use run_core::machine::Core;
 use std::io;
 
-// Shows what an event did.
+// Prints the result of an event.
 fn show_answer(rt: &HostRuntime, did: Did) -> io::Result<()> {
     match did {
         Did::Claimed(id) => print!(rt; " claimed {id}"),
@@ -19,7 +19,7 @@ fn show_answer(rt: &HostRuntime, did: Did) -> io::Result<()> {
     }
 }
 
-// Shows what each event did, and how many ids are done and saved at the end.
+// Prints the result of each event, and the numbers of done and saved ids at the end.
 fn show_events(rt: &HostRuntime, core: &mut Core, events: &[Event]) -> io::Result<()> {
     rt.print("machine")?;
     for event in events {
@@ -29,7 +29,7 @@ fn show_events(rt: &HostRuntime, core: &mut Core, events: &[Event]) -> io::Resul
     println!(rt; "done {} saved {}", core.done().len(), core.saved().len())
 }
 
-// Shows the events of a machine of its own.
+// Prints the events of a new machine.
 fn show_run(rt: &HostRuntime, total: u32, events: &[Event]) -> io::Result<()>
     requires { total ≤ most_trajectories }
 {
@@ -39,7 +39,7 @@ fn show_run(rt: &HostRuntime, total: u32, events: &[Event]) -> io::Result<()>
     }
 }
 
-// Two workers, a save and a halt.
+// Prints a run of two workers with a save and a halt.
 fn show_two(rt: &HostRuntime) -> io::Result<()> {
     let events = [
         Event::Claim(0),
@@ -54,7 +54,7 @@ fn show_two(rt: &HostRuntime) -> io::Result<()> {
     show_run(rt, 2, &events)
 }
 
-// An open id that comes again after a halt.
+// Prints a run in which an open id is claimed again after a halt.
 fn show_again(rt: &HostRuntime) -> io::Result<()> {
     let events = [
         Event::Claim(32),
@@ -71,7 +71,7 @@ fn show_again(rt: &HostRuntime) -> io::Result<()> {
     show_run(rt, 1, &events)
 }
 
-/// Shows two workers, a save and a halt, and an open id that comes again after a halt.
+/// Prints both runs.
 pub fn show_machine(rt: &HostRuntime) -> io::Result<()> {
     show_two(rt)?;
     show_again(rt)

@@ -1,4 +1,4 @@
-//! The outside that never fails, and slots in real files.
+//! Sources and sinks that never fail, and slots in real files.
 
 ghost use Rattle.std.specs.Prelude.{ℕ, List, ◌<◌, length};
 ghost use Rattle.audit_model.specs.State.{Kept};
@@ -12,7 +12,7 @@ use audit_model::buffers::Bytes;
 use std::alloc::Global;
 use std::io;
 
-// Reads three bytes.
+// Reads three bytes and returns their number.
 fn read_three(alloc: Global, room: &mut [u8]) -> usize
     requires { 0 < length room.old }
 {
@@ -23,7 +23,7 @@ fn read_three(alloc: Global, room: &mut [u8]) -> usize
     SureSource::new(text).read(room).unwrap_or(0)
 }
 
-// Reads three bytes with room for four, and writes them.
+// Reads three bytes into a buffer of four, and writes them.
 fn show_sure(rt: &HostRuntime) -> io::Result<()> {
     let mut room = [0; 4];
     let read = read_three(rt.alloc(), &mut room);
@@ -31,7 +31,7 @@ fn show_sure(rt: &HostRuntime) -> io::Result<()> {
     println!(rt; "source {read} sink {written}")
 }
 
-// Shows what is loaded from a slot.
+// Prints the contents of a slot.
 fn show_slot<C: Keeper>(
     rt: &HostRuntime,
     keeper: &mut C,
@@ -47,7 +47,7 @@ fn show_slot<C: Keeper>(
     }
 }
 
-// Saves in both slots of a keeper that permits each save, and in the first once more.
+// Saves in both slots of a keeper that accepts each save, and in the first once more.
 fn show_saves<C: Keeper>(rt: &HostRuntime, keeper: &mut C) -> io::Result<()>
     requires { (kept : Kept) (slot : ℕ) (bytes : List ℕ) → C.lets kept slot bytes }
 {
@@ -56,7 +56,7 @@ fn show_saves<C: Keeper>(rt: &HostRuntime, keeper: &mut C) -> io::Result<()>
     println!(rt; "saved {saved} {again}")
 }
 
-// Saves in both slots, of which the first is shown before, too.
+// Saves in both slots, and prints the first before and after.
 fn show_keeper<C: Keeper>(rt: &HostRuntime, keeper: &mut C, room: &mut Bytes) -> io::Result<()>
     requires { (kept : Kept) (slot : ℕ) (bytes : List ℕ) → C.lets kept slot bytes }
 {
@@ -66,7 +66,8 @@ fn show_keeper<C: Keeper>(rt: &HostRuntime, keeper: &mut C, room: &mut Bytes) ->
     show_slot(rt, keeper, 1, room)
 }
 
-/// Shows what a source and a sink that never fail answer, and saves in both slots of the folder, of which the first is shown before, too.
+/// Prints the answers of a source and a sink that never fail. Then saves in both slots of the folder, and prints the
+/// first before and after.
 pub fn show_outside(rt: &HostRuntime) -> io::Result<()> {
     show_sure(rt)?;
     let mut keeper = FileKeeper::new(rt);

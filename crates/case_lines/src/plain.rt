@@ -1,7 +1,8 @@
 //! Runs over empty slots, one for each line of a file.
 //!
-//! A line has the number of the read that fails, 0 for none, then the room of the sink in bytes, then how many trajectories have to
-//! begin before the first one may walk, 0 for a gate that holds nobody and is not shown, then the file of the graph, and the words of the audit.
+//! A line has the number of the read that fails, 0 for none, and the capacity of the sink in bytes. Then comes the
+//! number of trajectories that have to begin before the first one may walk, 0 for a gate that holds nobody and is not
+//! shown. The file of the graph and the arguments of the audit follow.
 
 use crate::given::{Given, Origin, READ, WRITE, Watched};
 use crate::held::{ABSENT, UNSTOPPED};
@@ -10,7 +11,7 @@ use crate::streams::{number, word};
 use std::str::SplitWhitespace;
 use std::test::Fail;
 
-/// What a line says before the words of its audit.
+/// Parses the part of a line before the arguments.
 pub fn said_of<'a>(parts: &mut SplitWhitespace<'a>) -> Result<Said<'a>, Fail> {
     let failing_read = number(parts)?;
     let room = number(parts)? as usize;

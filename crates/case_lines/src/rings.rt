@@ -1,4 +1,4 @@
-//! Faces of small graphs: how many are found, and which of a list are kept.
+//! Faces of small graphs: the number found, and the number kept of a list.
 
 use audit_model::memory::Memory;
 use contig::face::Face;
@@ -8,17 +8,18 @@ use dual_graph::graph::Graph;
 use std::alloc::Global;
 use std::io;
 
-// How many faces are found.
+// Returns the number of faces found.
 fn found(alloc: Global, graph: &Graph) -> Result<usize, Memory> {
     Ok(faces_of(alloc, graph)?.faces().len())
 }
 
-// How many of these are kept.
+// Returns the number of the listed faces that are kept.
 fn kept(alloc: Global, graph: &Graph, listed: &[Face]) -> Result<usize, Memory> {
     Ok(list_faces(alloc, graph, listed)?.faces().len())
 }
 
-// A triangle all of whose sides are shared with triangles of smaller units is found: four in all.
+// Returns the number of faces of a triangle whose sides are all shared with triangles of smaller units. It is found
+// too: four in all.
 fn faces_amid_three(alloc: Global) -> Result<usize, Memory> {
     let pairs = [
         (0, 3),
@@ -35,7 +36,8 @@ fn faces_amid_three(alloc: Global) -> Result<usize, Memory> {
     found(alloc, &graph)
 }
 
-// A square and a triangle are kept once each of a list that has them twice, and one that is none.
+// Returns the number kept of a list with a square and a triangle twice each and a ring that is no face. Each face is
+// kept once.
 fn faces_kept(alloc: Global) -> Result<usize, Memory> {
     let pairs = [(0, 1), (0, 2), (1, 3), (2, 3), (2, 4), (3, 4)];
     let graph = Graph::from_pairs(alloc, 5, &pairs)?;
@@ -49,7 +51,8 @@ fn faces_kept(alloc: Global) -> Result<usize, Memory> {
     kept(alloc, &graph, &listed)
 }
 
-// A unit with five others round it, but for one side: the four triangles are found though it has more than four neighbours.
+// Returns the number of faces of a unit with five others around it, without one side. The four triangles are found
+// although it has more than four neighbors.
 fn faces_of_fan(alloc: Global) -> Result<usize, Memory> {
     let pairs = [
         (0, 1),
@@ -66,14 +69,15 @@ fn faces_of_fan(alloc: Global) -> Result<usize, Memory> {
     found(alloc, &graph)
 }
 
-// A ring of five units round nothing: one pentagon.
+// Returns the number of faces of an empty ring of five units: one pentagon.
 fn faces_of_five(alloc: Global) -> Result<usize, Memory> {
     let pairs = [(0, 1), (0, 4), (1, 2), (2, 3), (3, 4)];
     let graph = Graph::from_pairs(alloc, 5, &pairs)?;
     found(alloc, &graph)
 }
 
-// Five units round a sixth, but for one side: three triangles and a square, and not the ring round them.
+// Returns the number of faces of five units around a sixth, without one side: three triangles and a square, but not the
+// outer ring.
 fn faces_round_hub(alloc: Global) -> Result<usize, Memory> {
     let pairs = [
         (0, 1),
@@ -90,14 +94,15 @@ fn faces_round_hub(alloc: Global) -> Result<usize, Memory> {
     found(alloc, &graph)
 }
 
-// A triangle on a side of a ring of five: both.
+// Returns the number of faces of a triangle on a side of a ring of five: two.
 fn faces_of_house(alloc: Global) -> Result<usize, Memory> {
     let pairs = [(0, 1), (0, 4), (0, 5), (1, 2), (1, 5), (2, 3), (3, 4)];
     let graph = Graph::from_pairs(alloc, 6, &pairs)?;
     found(alloc, &graph)
 }
 
-// Of a list a pentagon is kept once, whichever of its units is named first, and none that has a unit twice or a side that is no edge.
+// Returns the number of pentagons kept of a list. A pentagon is kept once, whichever unit comes first. A list with a
+// unit twice or a side that is no edge is not kept.
 fn pentagons_kept(alloc: Global) -> Result<usize, Memory> {
     let pairs = [(0, 1), (0, 2), (0, 4), (1, 2), (2, 3), (3, 4)];
     let graph = Graph::from_pairs(alloc, 5, &pairs)?;
@@ -111,7 +116,7 @@ fn pentagons_kept(alloc: Global) -> Result<usize, Memory> {
     kept(alloc, &graph, &listed)
 }
 
-/// Shows how many faces the graphs have.
+/// Prints the number of faces of each graph.
 pub fn show_rings(rt: &HostRuntime) -> io::Result<()> {
     let amid = faces_amid_three(rt.alloc()).unwrap_or(0);
     let kept = faces_kept(rt.alloc()).unwrap_or(0);

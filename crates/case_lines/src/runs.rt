@@ -1,4 +1,4 @@
-//! Over what a run is made.
+//! The inputs of a run and its outputs.
 
 use crate::counted::CountingGate;
 use crate::gate::NotingGate;
@@ -6,7 +6,7 @@ use audit_io::mem_sink::MemSink;
 use audit_io::mem_source::MemSource;
 use audit_io::sure::{SureSink, SureSource};
 
-/// What a run is given besides its keeper, and what it leaves there.
+/// The inputs of a run besides its keeper, and its outputs.
 pub struct Case {
     pub words: Vec<String>,
     pub source: MemSource,
@@ -15,7 +15,7 @@ pub struct Case {
     pub gate: CountingGate,
 }
 
-// Written out, so that a function that drops a case has one step for it, and not one for each part of a field.
+// Written out, so that a function that drops a case has one step for it and not one for each part of a field.
 impl Drop for Case {
     fn drop(self) {
         let Case {
@@ -28,7 +28,7 @@ impl Drop for Case {
     }
 }
 
-/// What a run is given where nothing outside fails, and what it leaves there.
+/// The inputs and outputs of a run in which nothing outside fails.
 pub struct SureCase {
     pub words: Vec<String>,
     pub source: SureSource,
@@ -37,7 +37,7 @@ pub struct SureCase {
     pub gate: NotingGate,
 }
 
-// Written out as that of the other.
+// Written out for the same reason as that of the other.
 impl Drop for SureCase {
     fn drop(self) {
         let SureCase {

@@ -1,9 +1,10 @@
-//! What a line says of a run, besides the words of its audit.
+//! The setup of a run, which a line gives besides the arguments.
 
 use crate::given::Given;
 use crate::held::{Held, Saves};
 
-/// The slots before the run, the saves, what the run is given, and whether its gate and both slots are shown in any case.
+/// The slots before the run, the failing saves, the other inputs, and a flag that prints the gate and both slots in any
+/// case.
 #[derive(Clone, Copy)]
 pub struct Said<'a> {
     pub held: Held<'a>,

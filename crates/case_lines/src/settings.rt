@@ -1,4 +1,4 @@
-//! The setting of a run over small graphs.
+//! The settings of runs over small graphs.
 
 use audit_model::memory::Memory;
 use audit_model::setting::{Columns, Setting};
@@ -7,11 +7,11 @@ use audit_words::read;
 use std::alloc::{AllocError, Global};
 use std::marker::Model;
 
-/// The words of a run.
+/// The arguments of a run.
 const WORDS: &str =
     "run --pop pop --first a --second b --district district --slack 5000 --key 0000000000000000000000000000000000000000000000000000000000000000 --ask gap:low";
 
-/// The words of a run of five ends, and no walks.
+/// The arguments of a run of five endpoint trajectories and no walks.
 const FIVE_ENDS: &str =
     "run --pop pop --first a --second b --district district --slack 5000 --key 0000000000000000000000000000000000000000000000000000000000000000 --ask gap:low --walks 0 --ends 5";
 
@@ -20,7 +20,7 @@ pub struct Accepted {
     setting: Setting,
 }
 
-// Written out, so that a function that drops a setting has one step for it, and not one for each of its texts.
+// Written out, so that a function that drops a setting has one step for it and not one for each of its texts.
 impl Drop for Accepted {
     fn drop(self) {
         let Accepted { setting: _setting } = self;
@@ -42,14 +42,14 @@ impl Accepted {
     ghost use Rattle.std.specs.Prelude.{◌≡◌};
     ghost use Rattle.audit_model.specs.Limits.{IsSetting};
 
-    /// The columns.
+    /// Returns the columns.
     pub fn columns(&self) -> &Columns
         ensures { result.now ≡ self.now.columns }
     {
         &self.setting.columns
     }
 
-    /// The same, where no region may lie in two districts.
+    /// Forbids regions that lie in two districts.
     pub fn strict(self) -> Accepted {
         let Accepted { setting } = self;
         Accepted {
@@ -60,7 +60,7 @@ impl Accepted {
         }
     }
 
-    /// The setting itself.
+    /// Returns the setting itself.
     pub fn into_setting(self) -> Setting
         ensures same { result ≡ self }
         ensures limits { IsSetting result }
@@ -92,17 +92,17 @@ fn read_setting(alloc: Global, text: &str) -> Option<Accepted> {
     }
 }
 
-/// The setting of a run.
+/// Returns the setting of a run.
 pub fn setting(alloc: Global) -> Option<Accepted> {
     read_setting(alloc, WORDS)
 }
 
-/// The setting of a run of five ends, and no walks.
+/// Returns the setting of a run of five endpoint trajectories and no walks.
 pub fn setting_of_ends(alloc: Global) -> Option<Accepted> {
     read_setting(alloc, FIVE_ENDS)
 }
 
-/// The name of a column.
+/// Returns the name of a column.
 pub fn column_of(alloc: Global, name: &str) -> Result<Text, Memory> {
     let mut column = Text::new(alloc);
     column.push_str(name)?;

@@ -1,4 +1,4 @@
-//! What a run leaves, as it is printed.
+//! The printed result of a run.
 
 use crate::counted::{Saves, Watch};
 use crate::gate::NotingGate;
@@ -8,7 +8,7 @@ use crate::slots::show_slots;
 use audit_io::mem_keeper::MemKeeper;
 use std::io;
 
-/// Shows what is asked for of a run at its gate.
+/// Prints the result of a run in the form of its gate.
 pub fn show_run(
     rt: &HostRuntime,
     status: u8,
@@ -25,8 +25,8 @@ pub fn show_run(
     }
 }
 
-// Shows the end of a run and both texts, and where it is asked for the ids that the gate was told and both slots; those ids also of a gate
-// that is shown.
+// Prints the status and both outputs of a run. With `is_told` it also prints the announced ids and both slots. The ids
+// are printed too if the gate is shown.
 fn show_noted(
     rt: &HostRuntime,
     status: u8,
@@ -43,7 +43,7 @@ fn show_noted(
     Ok(())
 }
 
-/// Shows the status, and where they are asked for the ids that the gate was told.
+/// Prints the status, and with `is_told` the announced ids.
 pub fn show_end(rt: &HostRuntime, status: u8, is_told: bool, gate: &NotingGate) -> io::Result<()> {
     println!(rt; "status {status}")?;
     if is_told {
@@ -57,7 +57,7 @@ fn show_texts(rt: &HostRuntime, case: &Case) -> io::Result<()> {
     rt.write_all(case.note.bytes())
 }
 
-// Shows whether the gate held an id until enough others had begun, how often it was told of one, and the ids from least to greatest.
+// Prints whether the gate saw enough others begin, the number of announced ids, and the ids in rising order.
 fn show_told(rt: &HostRuntime, gate: &NotingGate) -> io::Result<()> {
     if gate.has_seen() {
         rt.print("held, ")?;

@@ -1,4 +1,4 @@
-//! What is in a slot before a run, and how a slot is shown after it.
+//! The contents of a slot before a run, and the printed slots after it.
 
 ghost use Rattle.std.specs.Prelude.{◌<◌, ◌≤◌};
 
@@ -15,8 +15,8 @@ use std::test::Fail;
 /// One byte more than a checkpoint can have.
 const TOO_LONG: usize = 8_000_085;
 
-/// What is in a slot where a line says so: nothing, the bytes of the run before, these with another last byte, too many zeros, or the
-/// bytes whose hexadecimal digits are in a file.
+/// Returns the contents of a slot that a line names: nothing, the bytes of the run before, those with another last
+/// byte, too many zeros, or the bytes of a file of hexadecimal digits.
 pub fn slot_of(rt: &HostRuntime, said: &str, before: Option<&[u8]>) -> Result<Option<Bytes>, Fail> {
     let alloc = rt.alloc();
     match said {
@@ -50,7 +50,7 @@ fn held_file(rt: &HostRuntime, file: &str) -> Result<Option<Bytes>, Fail> {
     Ok(Some(decoded(rt, file)?))
 }
 
-// The bytes whose hexadecimal digits are in a file.
+// Reads bytes from a file of hexadecimal digits.
 fn decoded(rt: &HostRuntime, file: &str) -> Result<Bytes, Fail> {
     let digits = text_of(rt, file)?;
     let bytes = decode(rt.alloc(), digits.trim())?;
@@ -66,7 +66,7 @@ fn zeros(alloc: Global, count: usize) -> Result<Bytes, Memory> {
     Ok(bytes)
 }
 
-// The bytes with each bit of the last one changed.
+// Copies the bytes with each bit of the last one flipped.
 fn spoilt(alloc: Global, bytes: &[u8]) -> Result<Bytes, Memory> {
     let mut copy = Bytes::new(alloc);
     if let Some((last, front)) = bytes.split_last() {
@@ -76,7 +76,8 @@ fn spoilt(alloc: Global, bytes: &[u8]) -> Result<Bytes, Memory> {
     Ok(copy)
 }
 
-/// Shows both slots: their lengths, of a checkpoint its version, its generation and the ids of its outcomes, and the digest of the bytes.
+/// Prints both slots: the length and the digest of the bytes, and for a checkpoint its version, its generation and the
+/// ids of its outcomes.
 pub fn show_slots(rt: &HostRuntime, keeper: &MemKeeper) -> io::Result<()> {
     show_slot(rt, 0, keeper.slot(0))?;
     show_slot(rt, 1, keeper.slot(1))
@@ -108,7 +109,7 @@ fn show_digest(rt: &HostRuntime, bytes: &[u8]) -> io::Result<()> {
     println!(rt; " sha256 {digest}")
 }
 
-// How many bytes an outcome has in a version.
+// Returns the number of bytes of an outcome in a version.
 fn width_of(version: u32) -> usize
     ensures some { 1 ≤ result }
     ensures few { result ≤ 80 }
@@ -116,7 +117,7 @@ fn width_of(version: u32) -> usize
     if version == 2 { 80 } else { 44 }
 }
 
-// The records of outcomes, where there are as many bytes as their number says.
+// Returns the bytes of the outcomes, if their number fits the header.
 fn records_of(bytes: &[u8]) -> Option<&[u8]> {
     let width = width_of(number_at(bytes, 8)?);
     let count = number_at(bytes, 48)? as usize;
@@ -129,7 +130,7 @@ fn records_of(bytes: &[u8]) -> Option<&[u8]> {
     }
 }
 
-// The number of the four bytes at this place.
+// Returns the number of four bytes at this place.
 fn number_at(bytes: &[u8], place: usize) -> Option<u32> {
     let four = bytes.get(place..)?.first_chunk::<4>()?;
     Some(u32::from_be_bytes(*four))

@@ -1,4 +1,4 @@
-//! What the words of a line stand for: numbers, bytes, sources and the words of an audit.
+//! The words of a line as numbers, bytes, sources and arguments.
 
 use audit_io::mem_source::MemSource;
 use audit_model::buffers::Bytes;
@@ -10,17 +10,17 @@ use std::num::ParseIntError;
 use std::str::SplitWhitespace;
 use std::test::Fail;
 
-/// The next word of a line, which is empty where there is none: as a number it is refused, and as a file it is not found.
+/// Returns the next word of a line, or an empty one. An empty word is refused as a number and not found as a file.
 pub fn word<'a>(parts: &mut SplitWhitespace<'a>) -> &'a str {
     parts.next().unwrap_or("")
 }
 
-/// The next word of a line, which is a number.
+/// Parses the next word of a line as a number.
 pub fn number(parts: &mut SplitWhitespace<'_>) -> Result<u64, ParseIntError> {
     word(parts).parse::<u64>()
 }
 
-/// The number of the one call that fails, or of none.
+/// Makes the list of failing calls from the number of one call, or 0 for none.
 pub fn failing(alloc: Global, number: u64) -> Result<NumList, Memory> {
     let mut numbers = NumList::new(alloc);
     if number > 0 {
@@ -29,7 +29,7 @@ pub fn failing(alloc: Global, number: u64) -> Result<NumList, Memory> {
     Ok(numbers)
 }
 
-/// Bytes, at most so many in each read, of which one may fail.
+/// Makes a source of bytes with at most `most` bytes in each read. One read may fail.
 pub fn source_of(
     alloc: Global,
     given: &[u8],
@@ -41,20 +41,20 @@ pub fn source_of(
     Ok(MemSource::new(bytes, most.max(1), fails))
 }
 
-/// A copy of bytes.
+/// Copies bytes.
 pub fn bytes_of(alloc: Global, given: &[u8]) -> Result<Bytes, Memory> {
     let mut bytes = Bytes::new(alloc);
     bytes.append(given)?;
     Ok(bytes)
 }
 
-/// The text of a file.
+/// Reads the text of a file.
 pub fn text_of(rt: &HostRuntime, file: &str) -> Result<String, Fail> {
     let text = fs::read_to_string(rt, file)?;
     Ok(text)
 }
 
-/// The words that are left of a line.
+/// Returns the rest of a line as arguments.
 pub fn words_of(alloc: Global, parts: SplitWhitespace<'_>) -> Result<Vec<String>, AllocError> {
     let mut words = Vec::new(alloc);
     for word in parts {

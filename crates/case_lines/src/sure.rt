@@ -1,7 +1,7 @@
-//! Runs where nothing outside can fail, one for each line of a file.
+//! Runs in which nothing outside can fail, one for each line of a file.
 //!
-//! A line has what is in slot 0 and in slot 1 before the run, as in `keeping`, the file of the graph, and the words of the audit. The output
-//! is not kept.
+//! A line has the contents of slots 0 and 1 before the run, as in `keeping`, the file of the graph, and the arguments
+//! of the audit. The output is dropped.
 
 use crate::gate::NotingGate;
 use crate::given::note_of;
@@ -42,7 +42,7 @@ fn case_of(rt: &HostRuntime, file: &str, parts: SplitWhitespace<'_>) -> Result<S
     case_over(rt.alloc(), source, parts)
 }
 
-// The keeper whose slots hold what these words say.
+// Makes the keeper with the slot contents that these words name.
 fn keeper_of(rt: &HostRuntime, zero: &str, one: &str) -> Result<SureKeeper, Fail> {
     let zero = slot_of(rt, zero, None)?;
     let one = slot_of(rt, one, None)?;
@@ -50,14 +50,14 @@ fn keeper_of(rt: &HostRuntime, zero: &str, one: &str) -> Result<SureKeeper, Fail
     Ok(keeper)
 }
 
-// Shows the status, the ids that the gate was told, and the note.
+// Prints the status, the announced ids, and the diagnostic.
 fn show(rt: &HostRuntime, status: u8, case: &SureCase) -> Result<(), Fail> {
     show_end(rt, status, true, &case.gate)?;
     rt.write_all(case.note.bytes())?;
     Ok(())
 }
 
-// Makes the run of a line whose slots hold what these words say.
+// Makes the run of a line whose slots have the contents that these words name.
 fn run_case<A: Fn(&mut SureCase, SureKeeper) -> (u8, SureKeeper)>(
     rt: &HostRuntime,
     audit: &A,

@@ -1,4 +1,4 @@
-//! What is read of the texts of graphs.
+//! Graphs read from texts.
 
 ghost use Rattle.dual_json.specs.Numbered.{IsGraphText};
 
@@ -12,7 +12,7 @@ use dual_json::{read_graph, read_ids, read_regions};
 use grid_maker::make;
 use std::io;
 
-// Bytes that are no text are no graph.
+// Prints the refusal of bytes that are not text.
 fn show_no_text(rt: &HostRuntime, columns: &Columns) -> io::Result<()> {
     match read_graph(rt.alloc(), b"{\"nodes\":[\"\xff\"]}", columns) {
         Err(GraphFault::NotJson) => rt.println("not JSON"),
@@ -20,7 +20,7 @@ fn show_no_text(rt: &HostRuntime, columns: &Columns) -> io::Result<()> {
     }
 }
 
-// Shows how many units, edges, districts and faces a graph has.
+// Prints the numbers of units, edges, districts and faces of a graph.
 fn show_graph(rt: &HostRuntime, graph: &Graph, districts: usize) -> io::Result<()> {
     match faces_of(rt.alloc(), graph) {
         Ok(faces) => println!(rt;
@@ -40,7 +40,7 @@ fn show_read(rt: &HostRuntime, text: &[u8], columns: &Columns) -> io::Result<()>
     }
 }
 
-// Shows the greatest grid, whose districts are in the column `district`.
+// Prints the numbers of the largest grid, with its districts in the column `district`.
 fn show_grid(rt: &HostRuntime, columns: &Columns) -> io::Result<()> {
     match make(rt.alloc(), 30, [0; 32]) {
         Ok(grid) => show_read(rt, grid.as_slice(), columns),
@@ -56,7 +56,7 @@ fn show_numbers(rt: &HostRuntime, numbers: &[u32]) -> io::Result<()> {
     rt.println("")
 }
 
-// Shows the regions of a column.
+// Prints the regions of a column.
 fn show_regions(rt: &HostRuntime, text: &[u8], column: &Text) -> io::Result<()>
     requires graph { IsGraphText text.now }
 {
@@ -87,7 +87,7 @@ fn show_labels(rt: &HostRuntime, labels: &[Label]) -> io::Result<()> {
     rt.println("")
 }
 
-// Shows the ids, of which each is a number.
+// Prints the ids, which are all numbers.
 fn show_ids(rt: &HostRuntime, text: &[u8]) -> io::Result<()>
     requires graph { IsGraphText text.now }
 {
@@ -97,7 +97,8 @@ fn show_ids(rt: &HostRuntime, text: &[u8]) -> io::Result<()>
     }
 }
 
-// Shows the regions of the first party's votes and of the districts, those of a column that only the first unit has, and the ids.
+// Prints the regions of the first party's votes, of the districts and of a column that only the first unit has. Then
+// prints the ids.
 fn show_graph_text(rt: &HostRuntime, text: &[u8]) -> io::Result<()>
     requires graph { IsGraphText text.now }
 {
@@ -120,7 +121,7 @@ fn show_with(rt: &HostRuntime, text: &[u8], columns: &Columns) -> io::Result<()>
     show_text(rt, text, columns)
 }
 
-/// Shows bytes that are no graph, the greatest grid, and regions and ids of a graph's text.
+/// Prints the refusal of bytes that are no graph, the largest grid, and regions and ids of a graph's text.
 pub fn show_texts(rt: &HostRuntime, text: &[u8]) -> io::Result<()> {
     match setting(rt.alloc()) {
         Some(setting) => show_with(rt, text, setting.columns()),

@@ -1,11 +1,11 @@
-//! A gate with a clock: it notes how much time had passed when it was first told of an id.
+//! A gate with a clock, which notes the time of the first id.
 
 use audit_io::gate::Gate;
 use std::io;
 use std::sync::atomic::{AtomicU64, Ordering};
 use std::time::Instant;
 
-/// Counts the ids that it is told, and notes how many microseconds after it was made the first of them came.
+/// A gate that counts the announced ids and notes the microseconds from its making to the first one.
 #[derive(Drop)]
 pub struct TimedGate {
     rt: HostRuntime,
@@ -15,7 +15,7 @@ pub struct TimedGate {
 }
 
 impl TimedGate {
-    /// A gate that was told of nothing, whose time begins now.
+    /// Makes a gate with a count of 0. Its time starts now.
     pub fn new(rt: HostRuntime) -> io::Result<TimedGate> {
         let start = Instant::now(&rt)?;
         Ok(TimedGate {
@@ -26,18 +26,18 @@ impl TimedGate {
         })
     }
 
-    /// How many ids it was told.
+    /// Returns the number of announced ids.
     pub fn told(&self) -> u64 {
         self.told.load(Ordering::SeqCst)
     }
 
-    // How many microseconds have passed since it was made, if the clock tells.
+    // Returns the microseconds since the gate was made, if the clock works.
     fn passed(&self) -> Option<u64> {
         let passed = self.start.elapsed(&self.rt).ok()?;
         u64::try_from(passed.as_micros()).ok()
     }
 
-    /// Whether it was first told in the first half of the time that has passed since it was made.
+    /// Returns true if the first id came in the first half of the time since the gate was made.
     pub fn was_told_early(&self) -> bool {
         match self.passed() {
             Some(passed) => self.first.load(Ordering::SeqCst) < passed / 2,
