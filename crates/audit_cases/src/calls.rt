@@ -1,4 +1,4 @@
-//! The calls that are made directly.
+//! Public calls that are made directly.
 
 use crate::flips::show_proposals;
 use crate::jobs::{grid_job, other_job, plain_job, strict_job};
@@ -18,19 +18,20 @@ fn show_path_text(rt: &HostRuntime, text: &[u8]) -> io::Result<()> {
     show_job(rt, plain_job(rt.alloc(), text), Shown::Flips)
 }
 
-// Four units in a row.
+// Prints the calls on four units in a row.
 fn show_path(rt: &HostRuntime) -> io::Result<()> {
     let text = fs::read(rt, "four_in_a_row.json")?;
     show_path_text(rt, text.as_slice())
 }
 
-// A ring of six units with one beside it: its district has a hole, so that counting alone does not tell.
+// Prints the calls on a ring of six units with a seventh beside it. The ring's district has a hole, so counting alone
+// does not decide.
 fn show_ring(rt: &HostRuntime) -> io::Result<()> {
     let text = fs::read(rt, "ring_and_one.json")?;
     show_job(rt, plain_job(rt.alloc(), text.as_slice()), Shown::Flips)
 }
 
-/// Makes each call, and shows what it answers.
+/// Makes each call and prints its answer.
 pub fn show_calls(rt: &HostRuntime) -> io::Result<()> {
     show_outside(rt)?;
     show_saves(rt)?;

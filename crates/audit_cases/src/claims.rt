@@ -1,4 +1,4 @@
-//! Passes that draw numbers from a counter: in turn, and each in a thread of its own.
+//! Passes that draw numbers from a counter, in turn and in threads.
 
 ghost use Rattle.std.specs.Prelude.{◌≡◌, false, All, IfOk};
 ghost use Rattle.claim_counter.specs.Passes.{own, BelongsTo};
@@ -9,10 +9,10 @@ use std::alloc::Global;
 use std::thread::Threads;
 use std::{io, thread};
 
-/// How many numbers the threads draw.
+/// The number of numbers that the threads draw.
 const LIMIT: u32 = 100_000;
 
-// Draws once more, where the pass has not ended.
+// Draws once more, unless the pass has ended.
 fn draw(claims: &Claims, pass: &mut Pass) -> Option<u32>
     requires { BelongsTo claims.now pass.old }
     ensures pass { BelongsTo claims.now pass.new }
@@ -26,7 +26,7 @@ fn draw(claims: &Claims, pass: &mut Pass) -> Option<u32>
     }
 }
 
-// What passes drew in turn, whether all have ended, and how many numbers were given out.
+// The numbers drawn in turn, whether all passes have ended, and the number of numbers given out.
 #[derive(Drop)]
 struct Turns {
     drawn: [Option<u32>; 6],
@@ -34,7 +34,7 @@ struct Turns {
     closed: u32,
 }
 
-// Three passes draw in turn, twice each, of three numbers.
+// Lets three passes draw in turn, twice each, from three numbers.
 fn draw_in_turn(alloc: Global) -> Result<Turns, Memory> {
     let (claims, mut first) = Claims::new(alloc, 3, 3)?;
     let mut second = claims.split(&mut first);
@@ -80,7 +80,7 @@ fn show_turns(rt: &HostRuntime) -> io::Result<()> {
     }
 }
 
-// A thread's pass, and how often it drew each number.
+// The pass of one thread, and the number of times it drew each number.
 #[derive(Drop)]
 struct Drawer {
     pass: Pass,
@@ -112,7 +112,7 @@ fn count(times: &mut [u32], number: usize) {
     }
 }
 
-// A pass for each seat.
+// Makes a pass for each seat.
 fn recruit(alloc: Global, claims: &Claims, mut pass: Pass) -> Result<Vec<Drawer>, Memory>
     requires pass { BelongsTo claims.now pass }
     requires before_end { (own pass).ended ≡ false }
@@ -126,7 +126,7 @@ fn recruit(alloc: Global, claims: &Claims, mut pass: Pass) -> Result<Vec<Drawer>
     Ok(crew)
 }
 
-// Each pass draws in a thread of its own, where one can be started.
+// Lets each pass draw in its own thread, if one can be started.
 fn draw_each<R: Threads + Sync>(rt: &R, claims: &Claims, crew: &mut [Drawer])
     requires { All (λ d. BelongsTo claims.now d.pass × ((own d.pass).ended ≡ false)) crew.old }
 {
@@ -141,7 +141,7 @@ fn draw_each<R: Threads + Sync>(rt: &R, claims: &Claims, crew: &mut [Drawer])
     );
 }
 
-// How often the number was drawn by all together.
+// Returns the number of times that all passes together drew the number.
 fn times_of(crew: &[Drawer], number: usize) -> u32 {
     let mut all = 0u32;
     for drawer in crew.iter() {
@@ -152,14 +152,14 @@ fn times_of(crew: &[Drawer], number: usize) -> u32 {
     all
 }
 
-// How many of the numbers were drawn once by all together.
+// Returns the number of numbers drawn exactly once by all passes together.
 fn drawn_once(crew: &[Drawer]) -> usize {
     (0..LIMIT as usize)
         .filter(|number| times_of(crew, *number) == 1)
         .count()
 }
 
-// The passes that stem from this one draw: how many there are, and how many of the numbers they draw once.
+// Lets the passes split off this one draw. Returns their number, and the number of numbers drawn exactly once.
 fn draw_from<R: Threads + Sync>(
     rt: &R,
     alloc: Global,
@@ -174,7 +174,7 @@ fn draw_from<R: Threads + Sync>(
     Ok((crew.len(), drawn_once(crew.as_slice())))
 }
 
-// How many passes there were of so many seats, and how many of the numbers they drew once.
+// Lets passes for these seats draw. Returns their number, and the number of numbers drawn exactly once.
 fn draw_all<R: Threads + Sync>(
     rt: &R,
     alloc: Global,
@@ -193,7 +193,7 @@ fn show_drawn(rt: &HostRuntime, drawn: Result<(usize, usize), Memory>) -> io::Re
     }
 }
 
-/// Shows what three passes draw in turn, and what passes draw in threads.
+/// Prints the draws of three passes in turn, and those of passes in threads.
 pub fn show_claims<R: Threads + Sync>(rt: &HostRuntime, threads: &R) -> io::Result<()> {
     show_turns(rt)?;
     for seats in [1, 4, 32] {

@@ -1,4 +1,4 @@
-//! Desks at which two passes claim the first three ids of a job in turn, and what such a desk keeps.
+//! Desks at which two passes claim the first three ids of a job in turn, and the results of closing them.
 
 ghost use Rattle.std.specs.Prelude.{◌≡◌, ℕ, ◌≤◌, List, [], IfOk, IfSome};
 ghost use Rattle.audit_cases.specs.Passes.{OwesNothing};
@@ -40,14 +40,14 @@ use tally_desk::laws::posts_stay_whole;
 use tally_desk::pass::DeskPass;
 use walker::walker::Walker;
 
-/// The words of a run of twelve walks of eight steps.
+/// The arguments of a run of twelve walks of eight steps.
 const WORDS: &str =
     "run --pop pop --first a --second b --district d --slack 5000 --key 0000000000000000000000000000000000000000000000000000000000000000 --walks 12 --steps 8 --ask gap:low";
 
-/// How many ids a desk has.
+/// The number of ids of a desk.
 const IDS: u32 = 3;
 
-// The pass claims an id, unless it has ended, walks its trajectory, and posts what this finds.
+// Claims an id, walks its trajectory and posts the outcome, unless the pass has ended.
 fn take_turn<R: Wait, C: Keeper, J: Judge>(
     rt: &R,
     job: &Job,
@@ -61,7 +61,7 @@ fn take_turn<R: Wait, C: Keeper, J: Judge>(
     ensures walks { IsWalker job.now walker.new }
     ensures pass { OwesNothing desk.now.table.shared.table_id (parts_of C.state desk.now.table.shared.key) pass.new }
 {
-    // A law, called for what its contract says: a pass that posts what it claims has posted all that it claimed.
+    // Called for its contract: a pass that posts what it claims has posted all its claims.
     posts_stay_whole();
     if pass.ended() {
         return;
@@ -71,7 +71,7 @@ fn take_turn<R: Wait, C: Keeper, J: Judge>(
     }
 }
 
-// Two passes claim in turn, as often as it takes until both have ended.
+// Lets two passes claim in turn until both have ended.
 fn take_turns<R: Wait, C: Keeper, J: Judge>(
     rt: &R,
     job: &Job,
@@ -106,7 +106,7 @@ fn serve<R: Wait, C: Keeper + Drop, J: Judge>(
     requires pass { IsFirstPass desk.table.shared.table_id (parts_of C.state desk.table.shared.key) pass }
     requires two { (parts_of C.state desk.table.shared.key).seats ≡ 2 }
 {
-    // A law, called for what its contract says: a pass that posts what it claims has posted all that it claimed.
+    // Called for its contract: a pass that posts what it claims has posted all its claims.
     posts_stay_whole();
     let mut first = pass;
     let mut second = desk.split(&mut first);
@@ -120,7 +120,7 @@ fn serve<R: Wait, C: Keeper + Drop, J: Judge>(
     }
 }
 
-// How a desk saves: by a look at the slots, and as often as is said.
+// Makes the save settings of a desk, with the first place taken from the slots.
 fn plan_of<C: Keeper>(alloc: Global, job: &Job, keeper: &mut C, every: u32) -> Option<DeskPlan>
     ensures digest { IfSome result (λ p. p.digest ≡ definition.job_digest job.now) }
     ensures every { IfSome result (λ p. p.save_every ≡ every) }
@@ -139,21 +139,21 @@ fn plan_of<C: Keeper>(alloc: Global, job: &Job, keeper: &mut C, every: u32) -> O
     }
 }
 
-// An empty book, and the first ids of the job.
+// Makes an empty book, and the first ids of the job.
 fn ids_of(alloc: Global, job: &Job) -> Result<(Book, UnitList), Memory>
     ensures total { IfOk result (λ b. b.0.total ≡ total job.now) }
     ensures empty { IfOk result (λ b. b.0.outcomes ≡ []) }
     ensures ids { IfOk result (λ b. b.1 ≡ run_ids job.now [] 3) }
     ensures within { IfOk result (λ b. IsWithin job.now b.1) }
 {
-    // Called for what its contract says: the job is within its limits.
+    // Called for its contract: the job is within its limits.
     let _units = job.units();
     let book = Book::with_room(alloc, job.total())?;
     let ids = todo_of(alloc, job, &book, IDS)?;
     Ok((book, ids))
 }
 
-// What a desk is made of.
+// Makes the initial state of a desk.
 fn outset_of<C: Keeper + Drop>(
     alloc: Global,
     job: &Job,
@@ -178,7 +178,7 @@ fn outset_of<C: Keeper + Drop>(
     }
 }
 
-// The desk, and its first pass of two. As in the functions below, the keeper permits each save.
+// Makes the desk and the first of its two passes. Here and in the functions below, the keeper accepts each save.
 fn open<C: Keeper + Drop>(
     alloc: Global,
     job: &Job,
@@ -198,7 +198,7 @@ fn open<C: Keeper + Drop>(
     }
 }
 
-// The same by the keeper, and by how often the desk saves.
+// Makes the desk from the keeper and the save interval.
 fn open_with<C: Keeper + Drop>(
     alloc: Global,
     job: &Job,
@@ -218,7 +218,7 @@ fn open_with<C: Keeper + Drop>(
     }
 }
 
-// Opens the desk, and serves the passes.
+// Makes the desk, runs both passes with this walker, and closes it.
 fn run_walker<R: Wait, C: Keeper + Drop, J: Judge>(
     rt: &R,
     alloc: Global,
@@ -238,7 +238,7 @@ fn run_walker<R: Wait, C: Keeper + Drop, J: Judge>(
     }
 }
 
-// The same by a judge.
+// Runs the desk with a walker of this constraint.
 fn run_judge<R: Wait, C: Keeper + Drop, J: Judge>(
     rt: &R,
     alloc: Global,
@@ -262,7 +262,7 @@ fn run_judge<R: Wait, C: Keeper + Drop, J: Judge>(
     }
 }
 
-// The same by the rules of the job.
+// Runs the desk with the constraint of the job's rules.
 fn run_ruled<R: Wait, C: Keeper + Drop>(
     rt: &R,
     alloc: Global,
@@ -283,8 +283,8 @@ fn run_ruled<R: Wait, C: Keeper + Drop>(
     run_judge(rt, alloc, job, judge, keeper, every)
 }
 
-// What a desk keeps at which two passes claim the first three ids of a job in turn. None where the job is not one of walks alone and without
-// regions and majorities, and where there is no memory.
+// Runs a desk at which two passes claim the first three ids of a job in turn. Returns `None` if out of memory, or if
+// the job has endpoint trajectories, regions or required majorities.
 fn run_desk<R: Wait, C: Keeper + Drop>(
     rt: &R,
     alloc: Global,
@@ -311,8 +311,8 @@ fn show_id(rt: &HostRuntime, book: &Book, id: u32) -> io::Result<()> {
     Ok(())
 }
 
-// Shows the ids of the book and how many outcomes it has, how many saves were tried and how many of them failed, and whether one was made with
-// the last post.
+// Prints the ids of the book, the numbers of outcomes, save attempts and failed saves, and whether the last post was
+// saved.
 fn show_kept(rt: &HostRuntime, every: u32, kept: &Kept<RunKeeper>) -> io::Result<()> {
     print!(rt; "desk save-every {every} ids")?;
     for id in 0..12 {
@@ -333,7 +333,7 @@ fn show_closed(rt: &HostRuntime, every: u32, kept: Option<Kept<RunKeeper>>) -> i
     }
 }
 
-// Shows what a desk keeps that saves so often, where the save with this number fails.
+// Prints the result of a desk with this save interval, at which the save with this number fails.
 fn show_desk<R: Wait>(
     rt: &HostRuntime,
     waiting: &R,
@@ -368,7 +368,7 @@ fn job_by(alloc: Global, text: &[u8], words: &[String]) -> Result<Job, PlanFault
     }
 }
 
-// The job of a graph's text, by the words.
+// Makes the job of a graph's text with the arguments.
 fn job_of(alloc: Global, text: &[u8]) -> Result<Job, PlanFault> {
     match words(alloc) {
         Ok(words) => job_by(alloc, text, words.as_slice()),
@@ -376,7 +376,8 @@ fn job_of(alloc: Global, text: &[u8]) -> Result<Job, PlanFault> {
     }
 }
 
-/// Shows what a desk of three ids keeps that saves after each second post, after each third, and after each second where the first save fails.
+/// Prints the results of desks of three ids: saves after each second post, after each third, and after each second with
+/// a failing first save.
 pub fn show_desks<R: Wait>(rt: &HostRuntime, waiting: &R) -> io::Result<()> {
     let text = fs::read(rt, "cycle.json")?;
     match job_of(rt.alloc(), text.as_slice()) {

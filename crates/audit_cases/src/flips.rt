@@ -1,4 +1,4 @@
-//! Proposals near the last draw, the draw that leads back, and walks whose searches are counted.
+//! Proposals of the largest draws, a draw and its mirror, and walks whose searches are counted.
 
 ghost use Rattle.std.specs.Prelude.{◌≡◌, ◌<◌, ◌≤◌, []};
 ghost use Rattle.audit_model.specs.Job.{rules};
@@ -17,7 +17,7 @@ use std::io;
 use std::marker::Brand;
 use std::sync::ledger::Blank;
 
-// Shows what a draw proposes, of three units and three districts.
+// Prints the proposal of a draw, for three units and three districts.
 fn show_proposal(rt: &HostRuntime, draw: u64) -> io::Result<()> {
     match propose(draw, 3, 3) {
         Some((unit, district)) => println!(rt; "draw {draw} unit {unit} district {district}"),
@@ -25,7 +25,7 @@ fn show_proposal(rt: &HostRuntime, draw: u64) -> io::Result<()> {
     }
 }
 
-/// Shows proposals of the last draws.
+/// Prints the proposals of the largest draws.
 pub fn show_proposals(rt: &HostRuntime) -> io::Result<()> {
     for draw in [u64::MAX, u64::MAX - 6, u64::MAX - 7] {
         show_proposal(rt, draw)?;
@@ -33,7 +33,7 @@ pub fn show_proposals(rt: &HostRuntime) -> io::Result<()> {
     Ok(())
 }
 
-// Shows the mirrored draw of one that moves a unit of the path, and a walk.
+// Prints the mirrored draw of one that moves a unit of the path, and a walk.
 fn show_state<J: Judge>(rt: &HostRuntime, job: &Job, state: &mut State<J>) -> io::Result<()>
     requires made { state.old.job ≡ job.now }
 {
@@ -68,7 +68,7 @@ fn show_guarded(rt: &HostRuntime, job: &Job, of_job: Rules) -> io::Result<()>
     )
 }
 
-/// Shows flips of a job without regions that asks for no majority.
+/// Prints flips of a job without regions and without required majorities.
 pub fn show_flips(rt: &HostRuntime, job: &Job) -> io::Result<()> {
     let rules = job.rules();
     if rules.regions.len() > 0 || rules.group_districts > 0 {

@@ -1,4 +1,4 @@
-//! Jobs with regions and without.
+//! Jobs with and without regions.
 
 ghost use Rattle.std.specs.Prelude.{◌≡◌, length, IfOk};
 
@@ -20,7 +20,7 @@ fn job_of(alloc: Global, text: &[u8], setting: Accepted) -> Result<Job, PlanFaul
     }
 }
 
-/// The job of a graph's text.
+/// Makes the job of a graph's text.
 pub fn plain_job(alloc: Global, text: &[u8]) -> Result<Job, PlanFault> {
     match setting(alloc) {
         Some(setting) => job_of(alloc, text, setting),
@@ -35,7 +35,7 @@ fn grid_with(alloc: Global, setting: Accepted) -> Result<Job, PlanFault> {
     }
 }
 
-/// The job of the grid of 900 units in ten districts.
+/// Makes the job of the grid of 900 units in ten districts.
 pub fn grid_job(alloc: Global) -> Result<Job, PlanFault> {
     match setting(alloc) {
         Some(setting) => grid_with(alloc, setting),
@@ -43,7 +43,7 @@ pub fn grid_job(alloc: Global) -> Result<Job, PlanFault> {
     }
 }
 
-// The job of a graph's text and of the regions of a column.
+// Makes the job of a graph's text and the regions of a column.
 fn job_with(
     alloc: Global,
     text: &[u8],
@@ -60,7 +60,7 @@ fn job_with(
     Job::with_regions(alloc, parsed, setting.into_setting(), regions)
 }
 
-/// The job with the regions of a column of this name, of which none may lie in two districts.
+/// Makes the job with the regions of this column, none of which may lie in two districts.
 pub fn strict_job(alloc: Global, text: &[u8], name: &str) -> Result<Job, PlanFault> {
     match setting(alloc) {
         Some(setting) => named_job(alloc, text, setting.strict(), name),
@@ -75,7 +75,7 @@ fn named_job(alloc: Global, text: &[u8], setting: Accepted, name: &str) -> Resul
     }
 }
 
-// Two labels.
+// Makes two labels.
 fn two_labels(alloc: Global) -> Result<LabelList, Memory>
     ensures { IfOk result (λ labels. length labels ≡ 2) }
 {
@@ -85,7 +85,7 @@ fn two_labels(alloc: Global) -> Result<LabelList, Memory>
     Ok(labels)
 }
 
-// The job of two districts again, by its own plan as another one.
+// Makes the job of two districts again, with its own plan as another plan.
 fn again(alloc: Global, job: &Job) -> Result<Job, PlanFault> {
     let labels = two_labels(alloc)?;
     if job.districts() as usize != labels.len() {
@@ -94,7 +94,7 @@ fn again(alloc: Global, job: &Job) -> Result<Job, PlanFault> {
     job.with_plan(alloc, job.start().copy()?, labels)
 }
 
-/// The job of a graph's text of two districts, and of its own plan as another one.
+/// Makes the job of a graph's text of two districts, with its own plan as another plan.
 pub fn other_job(alloc: Global, text: &[u8]) -> Result<Job, PlanFault> {
     match plain_job(alloc, text) {
         Ok(job) => {

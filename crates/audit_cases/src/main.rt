@@ -1,10 +1,10 @@
-//! Whole audits over sources, sinks and keepers in memory: one for each line of the files `cases`, `slots`, `graphs` and `sure`, and many for
-//! each line of `faults`, with what they answer. The crate `case_lines` says what a line has, and what is printed for it.
+//! Whole audits over sources, sinks and keepers in memory: one for each line of the files `cases`, `slots`, `graphs`
+//! and `sure`, and many for each line of `faults`. The crate `case_lines` describes the lines and the output.
 //!
-//! After them public calls that no command of the auditor makes, calls whose answer no contract says, and the auditor's outside over real files:
-//! each call is made once, and what it answers is printed. Then walks of which it is shown how many steps searched, counters that passes draw
-//! from in turn and in threads, desks at which two passes claim and post in turn, and tests that stop early. At last audits at gates of other
-//! kinds: one for each line of the files `crowds`, `counted` and `timed`.
+//! Then come public calls that no command of the auditor makes, calls whose answer no contract states, and the
+//! auditor's I/O over real files. Each call is made once and its answer printed. The next tests count the searches of
+//! walks, draw from counters in turn and in threads, claim and post at desks with two passes, and stop tests early. At
+//! last come audits at other kinds of gates: one for each line of the files `crowds`, `counted` and `timed`.
 #![tactic(auto)]
 
 mod calls;
@@ -33,7 +33,7 @@ use std::sync::Wait;
 use std::test::Fail;
 use std::thread::Threads;
 
-/// The files of the lines whose audits come before the calls.
+/// The files whose audits come before the calls.
 const BEFORE_CALLS: [(Kind, &str); 4] = [
     (Kind::Plain, "cases"),
     (Kind::Keeping, "slots"),
@@ -41,7 +41,7 @@ const BEFORE_CALLS: [(Kind, &str); 4] = [
     (Kind::Faults, "faults"),
 ];
 
-/// The files of the lines whose audits come after the calls.
+/// The files whose audits come after the calls.
 const AFTER_CALLS: [(Kind, &str); 3] = [
     (Kind::Crowd, "crowds"),
     (Kind::Counted, "counted"),
@@ -90,7 +90,7 @@ fn run_surely<R: Threads + Wait + Sync>(
     )
 }
 
-// Makes the audits of the lines of these files. The runtime that prints is the one that has threads.
+// Runs the audits of the lines of these files. `rt` prints, and `threads` has the threads.
 fn run_lines<R: Threads + Wait + Sync>(
     rt: &HostRuntime,
     threads: &R,
@@ -113,7 +113,7 @@ fn run_sure_lines<R: Threads + Wait + Sync>(rt: &HostRuntime, threads: &R) -> Re
     )
 }
 
-// Makes the calls, and shows what they answer.
+// Makes the calls and prints their answers.
 fn show_all<R: Threads + Wait + Sync>(rt: &HostRuntime, threads: &R) -> io::Result<()> {
     show_calls(rt)?;
     show_claims(rt, threads)?;

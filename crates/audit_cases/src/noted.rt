@@ -1,4 +1,4 @@
-//! Real files of which each call is told that opens, writes or stores one.
+//! Real files that print each call that opens, writes or stores a file.
 
 use std::alloc::Allocator;
 use std::fs::{File, Metadata, OpenFile, OpenOptions};
@@ -6,13 +6,14 @@ use std::io;
 use std::io::{ErrorKind, Read, Seek, SeekFrom, Write};
 use std::rt::Files;
 
-/// The files of the system. Each that is opened is told of, and each call on it that writes or stores. What no save does is refused.
+/// The files of the system. Prints each opened file, and each call on it that writes or stores. Refuses every operation
+/// that no save needs.
 #[derive(Drop)]
 pub struct NotedFiles<'a> {
     pub rt: &'a HostRuntime,
 }
 
-/// An open file or folder, and how it is called.
+/// An open file or folder, and its printed name.
 #[derive(Drop)]
 pub struct NotedFile<'a> {
     rt: &'a HostRuntime,
@@ -20,7 +21,7 @@ pub struct NotedFile<'a> {
     file: File,
 }
 
-// How a file of the working folder is called.
+// Returns the printed name of a file of the working folder.
 fn name_of(path: &str) -> &'static str {
     match path {
         "." => "folder",
@@ -30,7 +31,7 @@ fn name_of(path: &str) -> &'static str {
     }
 }
 
-// How it is opened.
+// Returns the printed name of the way a file is opened.
 fn way_of(how: &OpenOptions) -> &'static str {
     if how.asks_create_new() {
         return "make";
@@ -38,7 +39,7 @@ fn way_of(how: &OpenOptions) -> &'static str {
     if how.asks_write() { "empty" } else { "open" }
 }
 
-// What no save does.
+// Returns the error of an operation that no save needs.
 fn refusal() -> io::Error {
     io::Error::from(ErrorKind::Unsupported)
 }

@@ -1,4 +1,4 @@
-//! In which order a save writes and stores.
+//! The order in which a save writes and stores.
 
 ghost use Rattle.std.specs.Prelude.{◌<◌};
 
@@ -6,7 +6,7 @@ use crate::noted::NotedFiles;
 use audit_io::slot_files::{Known, save_slot};
 use std::{fs, io};
 
-// Saves in a slot, each call of which is told.
+// Saves in a slot, and prints each call.
 fn show_save(rt: &HostRuntime, slot: u8, known: &mut Known) -> io::Result<()>
     requires { slot < 2 }
 {
@@ -27,7 +27,8 @@ fn show_process(rt: &HostRuntime, first: u8, second: u8, third: u8) -> io::Resul
     show_save(rt, third, &mut known)
 }
 
-/// Shows in which order saves write and store: in a folder without slots, in one with both, and in one where the first has gone.
+/// Prints the order in which saves write and store: in a folder without slots, in one with both, and in one whose first
+/// slot is gone.
 pub fn show_saves(rt: &HostRuntime) -> io::Result<()> {
     fs::remove_file(rt, "audit-0.ckpt")?;
     fs::remove_file(rt, "audit-1.ckpt")?;

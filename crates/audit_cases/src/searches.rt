@@ -11,10 +11,11 @@ use plan_core::job::Job;
 use std::io;
 use std::sync::ledger::{Blank, Ledger};
 
-/// How many steps a walk has.
+/// The number of steps of the walk.
 const STEPS: u32 = 100_000;
 
-// Makes the steps of the job's first walk, and answers how many changed the plan and how many searched: of each the state is asked before.
+// Makes the steps of the job's first walk. Returns the number of steps that changed the plan and the number that
+// searched. The state is asked before each step.
 fn walk<J: Judge, L: Ledger>(job: &Job, state: &mut State<J>, steps: &mut Steps<L>) -> (u32, u32)
     requires made { state.old.job ≡ job.now }
 {
@@ -29,7 +30,8 @@ fn walk<J: Judge, L: Ledger>(job: &Job, state: &mut State<J>, steps: &mut Steps<
     (moved, searched)
 }
 
-/// Shows how many steps of a walk changed the plan and how many searched, and whether these were at most one of a thousand.
+/// Prints the number of steps that changed the plan and the number that searched, and whether at most one in a thousand
+/// searched.
 pub fn show_walk<J: Judge, L: Ledger>(
     rt: &HostRuntime,
     job: &Job,

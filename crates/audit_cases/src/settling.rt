@@ -1,7 +1,7 @@
-//! Where the test of five ends stops, as far as the ends tell that are there.
+//! The stopping place of a test of five endpoints, from the outcomes so far.
 //!
-//! The start plan of the four units in a row has the gap -1 (over 26), and the ends have -7, 5, -1, 5 and -7: of these -7, -1 and -7 are in the
-//! tail, at the places 1, 3 and 5.
+//! The start plan of the four units in a row has the gap -1 (over 26). The endpoints have -7, 5, -1, 5 and -7. Of
+//! these, -7, -1 and -7 are in the tail, at the places 1, 3 and 5.
 
 ghost use Rattle.std.specs.Prelude.{◌≡◌, ◌≤◌, ◌<◌, IfSome};
 ghost use Rattle.std.specs.List.{AllPairs};
@@ -17,7 +17,7 @@ use sequential_test::settle::settle;
 use std::alloc::Global;
 use std::{fs, io};
 
-/// The job of a graph's text.
+/// Makes the job of a graph's text.
 pub fn job_with(alloc: Global, text: &[u8], setting: Setting) -> Result<Job, PlanFault>
     requires { IsSetting setting }
 {
@@ -45,7 +45,7 @@ fn end(id: u32, value: i64) -> Outcome
     }
 }
 
-// Shows where the test stops that needs so many ends in the tail.
+// Prints the stopping place of the test that needs `hits` endpoints in the tail.
 fn show_stop(rt: &HostRuntime, job: &Job, hits: u32, posted: &[Outcome]) -> io::Result<()>
     requires some { 1 ≤ hits }
     requires apart { AllPairs (λ a b. a.id ≡ b.id → ⊥) posted.now }
@@ -62,7 +62,8 @@ fn show_stop(rt: &HostRuntime, job: &Job, hits: u32, posted: &[Outcome]) -> io::
     }
 }
 
-// Shows where tests stop that need one, two and four ends in the tail, where all five are there in some order.
+// Prints the stopping places of tests that need one, two and four endpoints in the tail, with all five outcomes in some
+// order.
 fn show_all(rt: &HostRuntime, job: &Job) -> io::Result<()> {
     let ends = [end(2, -1), end(4, -7), end(0, -7), end(3, 5), end(1, 5)];
     show_stop(rt, job, 1, &ends)?;
@@ -70,7 +71,7 @@ fn show_all(rt: &HostRuntime, job: &Job) -> io::Result<()> {
     show_stop(rt, job, 4, &ends)
 }
 
-// Shows that a test settles nothing where the second end is missing.
+// Prints that a test is not settled while the second endpoint is missing.
 fn show_gap(rt: &HostRuntime, job: &Job) -> io::Result<()> {
     let ends = [end(0, -7), end(2, -1), end(3, 5), end(4, -7)];
     show_stop(rt, job, 2, &ends)
@@ -81,7 +82,7 @@ fn show_job(rt: &HostRuntime, job: &Job) -> io::Result<()> {
     show_gap(rt, job)
 }
 
-/// Shows where tests of five ends stop, on the four units in a row.
+/// Prints the stopping places of tests of five endpoints, on the four units in a row.
 pub fn show_ends(rt: &HostRuntime) -> io::Result<()> {
     let text = fs::read(rt, "four_in_a_row.json")?;
     match job_of(rt.alloc(), text.as_slice()) {

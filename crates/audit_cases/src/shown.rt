@@ -1,4 +1,4 @@
-//! What is shown of a job, or why there is none.
+//! The printed facts about a job, or the reason why there is none.
 
 use crate::flips::show_flips;
 use audit_model::fault::PlanFault;
@@ -6,12 +6,12 @@ use dual_graph::marks::Marks;
 use plan_core::job::Job;
 use std::io;
 
-/// What is shown of a job.
+/// The fact to print about a job.
 #[derive(Clone, Copy)]
 pub enum Shown {
-    /// Whether its start plan is legal.
+    /// The legality of its start plan.
     Legal,
-    /// Flips.
+    /// Its flips.
     Flips,
 }
 
@@ -43,7 +43,7 @@ fn show_made(rt: &HostRuntime, job: &Job, shown: Shown) -> io::Result<()> {
     }
 }
 
-/// Shows a job, or why there is none.
+/// Prints a fact about a job, or the reason why there is none.
 pub fn show_job(rt: &HostRuntime, job: Result<Job, PlanFault>, shown: Shown) -> io::Result<()> {
     match job {
         Ok(job) => {
