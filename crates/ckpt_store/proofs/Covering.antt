@@ -1,4 +1,4 @@
--- What was gathered agrees with whatever each folder agrees with, and where it does not there is a first folder that does not.
+-- The union agrees with an outcome if each folder does, and otherwise some folder is the first that does not.
 use Rattle.std.proofs.Common.{◌≡◌, ℕ, zero, suc, ◌+◌, ◌<◌, ◌≤◌, Bool, true, false, cond, List, [], ◌∷◌, ◌++◌, length, map, get_or, Option, Some, None, All, inl, inr, refl, sym, ap, ◌∙◌, subst, arith, length-append}
 use Rattle.std.specs.Prelude.{◌==◌, bytes_eq, OnOk, Result, Ok, Err}
 use Rattle.std.proofs.lemmas.List.{get_or-map, map-append}
@@ -13,16 +13,16 @@ use Rattle.outcome_book.specs.Union.{Agree, AgreeIf, AgreesWith, AreById, IsFirs
 use Rattle.ckpt_store.specs.Collected.{Collected, IsCovered, IsFirstOther, no_collected, passed_over}
 use Rattle.ckpt_store.specs.Findings.{IsLeftOut}
 
--- of no folder nothing was gathered
+-- without folders nothing is gathered
 pub covered_none : (total : ℕ) → IsCovered (no_collected total)
 covered_none total o all = tt
 
--- a folder more that adds nothing
+-- one more folder that adds nothing
 pub covered_passed : (c : Collected) → IsCovered c → IsCovered (passed_over c)
 covered_passed c covered o all = covered o (λ k l. subst (λ (os : List Outcome). AgreesWith os o) (get_or-append c.lists ([] ∷ []) [] k l)
     (all k (omega (arith, l, length-append c.lists ([] ∷ [])))))
 
--- who agrees with two outcomes agrees with the one of them that is kept
+-- an outcome that agrees with two agrees with the one of them that is kept
 joined_agrees : (a b : Option Outcome) (o : Outcome) → AgreeIf a (Some o) → AgreeIf b (Some o) → AgreeIf (fuller_if a b) (Some o)
 joined_agrees None b o ha hb = hb
 joined_agrees (Some a) None o ha hb = ha
@@ -32,7 +32,7 @@ joined_agrees (Some a) (Some b) o ha hb = by (bytes_eq a.bins no_bins)
     by true = hb
     by false = ha
 
--- a folder more whose outcomes are added
+-- one more folder whose outcomes are added
 pub covered_union : (before after : Collected) (found : List Outcome) → IsUnion before.outcomes found after.outcomes → after.lists ≡ before.lists ++ found ∷ []
     → IsCovered before → IsCovered after
 covered_union before after found u is covered o all =
@@ -44,7 +44,7 @@ covered_union before after found u is covered o all =
     (covered o (λ k l. subst (λ (os : List Outcome). AgreesWith os o) (get_or-append before.lists (found ∷ []) [] k l) (each k (omega (arith, l, long)))))
     (subst (λ (os : List Outcome). AgreesWith os o) (get_or-append_seam before.lists found [] []) (each (length before.lists) (omega (arith, long)))))
 
--- among outcomes by rising id each is the one of its id
+-- in a list by rising id, each outcome is the one of its id
 found_at : (xs : List Outcome) (k : ℕ) (d : Outcome) → AreById xs → k < length xs → with_id xs (get_or xs k d).id ≡ Some (get_or xs k d)
 found_at [] k d rising l = absurd (omega (arith, l))
 found_at (x ∷ xs) zero d rising l = ap (λ b. cond b (Some x) (with_id xs x.id)) (eq-eqb x.id x.id refl)
@@ -53,15 +53,15 @@ found_at (x ∷ xs) (suc k) d rising l =
     (ne_eqb x.id (get_or xs k d).id (λ e. absurd (omega (arith, rising 0 (suc k) d (omega arith) l, e))))
     ∙ found_at xs k d (λ i j e lt within. rising (suc i) (suc j) e (omega (arith, lt)) (omega (arith, within))) (omega (arith, l))
 
--- the outcome of the least id that differs is the one that is found
+-- the outcome of the least id that differs is found in the list
 pub difference_found : (xs found : List Outcome) (id : ℕ) (f : IsFirstDifference xs found id) → AreById found → with_id found id ≡ Some f.other
 difference_found xs found id f rising =
     let there = f.is_there in
     ap (with_id found) (sym f.id_is ∙ ap (λ (o : Outcome). o.id) (sym there.2)) ∙ found_at found there.0 f.other rising there.1 ∙ ap Some there.2
 
--- ---- lists that are kept in another form
+-- ---- lists kept in another form
 
--- a list more that is empty
+-- one more empty list
 pub pushed_none : {A : Type 0} (f : A → List Outcome) (total : ℕ) (outcomes : List Outcome) (ls now : List A) (item : A) → f item ≡ [] → now ≡ ls ++ item ∷ []
     → IsCovered (record { total = total; outcomes = outcomes; lists = map f ls }) → IsCovered (record { total = total; outcomes = outcomes; lists = map f now })
 pushed_none f total outcomes ls now item none is covered =
@@ -69,19 +69,19 @@ pushed_none f total outcomes ls now item none is covered =
     (sym (ap (map f) is ∙ map-append f ls (item ∷ []) ∙ ap (λ (x : List Outcome). map f ls ++ x ∷ []) none))
     (covered_passed (record { total = total; outcomes = outcomes; lists = map f ls }) covered)
 
--- a list more that is added
+-- one more added list
 pub pushed_union : {A : Type 0} (f : A → List Outcome) (total then : ℕ) (outcomes both : List Outcome) (ls now : List A) (item : A) → IsUnion outcomes (f item) both → now ≡ ls ++ item ∷ []
     → IsCovered (record { total = total; outcomes = outcomes; lists = map f ls }) → IsCovered (record { total = then; outcomes = both; lists = map f now })
 pushed_union f total then outcomes both ls now item union is covered =
     covered_union (record { total = total; outcomes = outcomes; lists = map f ls }) (record { total = then; outcomes = both; lists = map f now }) (f item) union
     (ap (map f) is ∙ map-append f ls (item ∷ [])) covered
 
--- what holds after a call that succeeded follows from what does
+-- an implication carries over to a call that succeeded
 pub on_ok : {A E : Type 0} (P Q : Type 0) → (P → Q) → (r : Result A E) → OnOk r P → OnOk r Q
 on_ok P Q f (Ok a) p = f p
 on_ok P Q f (Err e) p = p
 
--- one list more that agrees
+-- one more list agrees
 pub one_more : {A : Type 0} (f : A → List Outcome) (ls : List A) (o : Outcome) (n : ℕ) (d : A) → n < length ls → ((k : ℕ) → k < n → AgreesWith (get_or (map f ls) k []) o)
     → AgreesWith (f (get_or ls n d)) o → (k : ℕ) → k < n + 1 → AgreesWith (get_or (map f ls) k []) o
 one_more f ls o n d inside before here k l = elim (cases_eq k n) [
@@ -91,7 +91,7 @@ one_more f ls o n d inside before here k l = elim (cases_eq k n) [
   | inr off ↦ before k (omega (arith, l, off))
 ]
 
--- outcomes that are left out, of what was the same before and after they were compared
+-- the outcomes are left out, with equal collections before and after the comparison
 pub left_out : (before now after then : Collected) (found seen again : List Outcome) (id other : ℕ) → now ≡ before → then ≡ before → seen ≡ found → again ≡ found
     → IsFirstDifference now.outcomes seen id → ((first : IsFirstDifference then.outcomes again id) → IsFirstOther then.lists first.other other) → after ≡ passed_over then
     → IsLeftOut before found id other after

@@ -1,4 +1,4 @@
--- Outcomes of which one does not fit, and values that are all within bounds.
+-- Outcomes that are not all plausible, and values that are all within bounds.
 use Rattle.std.proofs.Common.{◌≡◌, ℕ, zero, suc, ◌+◌, ◌<◌, ◌≤◌, Bool, true, false, not, ◌&&◌, ◌||◌, List, length, get_or, take, None, refl, sym, ap, ◌∙◌, subst, arith, add-one}
 use Rattle.std.specs.Prelude.{IsTrue, ℤ, pos, int_le}
 use Rattle.std.specs.List.{All, list_all}
@@ -14,7 +14,7 @@ use Rattle.audit_model.specs.Trajectory.{value_at}
 use Rattle.audit_model.proofs.First.{first_below_none}
 use Rattle.ckpt_store.specs.Fitting.{is_unfit, is_unfit_one}
 
--- the first elements all pass where the elements at the first places do
+-- the first n members pass exactly if those at the first n places do
 pub all_taken : {A : Type 0} (p : A → Bool) (xs : List A) (d : A) (n : ℕ) → n ≤ length xs → list_all p (take n xs) ≡ all_below n (λ k. p (get_or xs k d))
 all_taken p xs d zero l = refl
 all_taken p xs d (suc n) l =
@@ -22,24 +22,24 @@ all_taken p xs d (suc n) l =
     ∙ list_all_more p xs n d (omega arith)
     ∙ ap (λ b. b && p (get_or xs n d)) (all_taken p xs d n (omega arith))
 
--- the outcome at a place is unfit where it does not fit the job
+-- the outcome at a place is marked exactly if it is not plausible
 pub is_unfit_at : (job : Job) (outcomes : List Outcome) (k : ℕ) (d : Outcome) → k < length outcomes → is_unfit job outcomes k ≡ not (fits job (get_or outcomes k d))
 is_unfit_at job outcomes k d l = ap (is_unfit_one job) (slice_get-get_or outcomes k d l)
 
--- where none does not fit, all fit
+-- if no outcome is marked, all are plausible
 pub all_fit : (job : Job) (outcomes : List Outcome) → first_below (length outcomes) (is_unfit job outcomes) ≡ None → All (λ o. IsTrue (fits job o)) outcomes
 all_fit job outcomes none k d l =
     not-false (fits job (get_or outcomes k d)) (sym (is_unfit_at job outcomes k d l) ∙ first_below_none (length outcomes) (is_unfit job outcomes) k none l)
 
--- the place of an outcome that does not fit, and one that does
+-- an outcome that is not plausible is marked
 pub unfit_here : (job : Job) (outcomes : List Outcome) (k : ℕ) (d : Outcome) (fit : Bool) → k < length outcomes → fit ≡ fits job (get_or outcomes k d) → fit ≡ false → is_unfit job outcomes k ≡ true
 unfit_here job outcomes k d fit l is fails = is_unfit_at job outcomes k d l ∙ ap not (sym is ∙ fails)
 
--- it is not unfit where it fits
+-- a plausible outcome is not marked
 pub fit_here : (job : Job) (outcomes : List Outcome) (k : ℕ) (d : Outcome) (fit : Bool) → k < length outcomes → fit ≡ fits job (get_or outcomes k d) → fit ≡ true → is_unfit job outcomes k ≡ false
 fit_here job outcomes k d fit l is passes = is_unfit_at job outcomes k d l ∙ ap not (sym is ∙ passes)
 
--- where no place is unfit, all outcomes fit
+-- if no place is marked, all outcomes are plausible
 pub all_fit_of : (job : Job) (xs ys : List Outcome) → ys ≡ xs → None ≡ first_below (length ys) (is_unfit job ys) → All (λ o. IsTrue (fits job o)) xs
 all_fit_of job xs ys e none = all_fit job xs (subst (λ (os : List Outcome). first_below (length os) (is_unfit job os) ≡ None) e (sym none))
 

@@ -1,4 +1,4 @@
--- What a slot says of its bytes.
+-- The claim of a slot about its bytes.
 use Rattle.std.proofs.Common.{◌≡◌, ℕ, ◌<◌, Bool, true, false, not, List, length, Option, Some, None, refl, sym, ap, subst, ◌∙◌, arith}
 use Rattle.std.specs.Prelude.{IsTrue, bytes_eq, nat_lt, slice_range}
 use Rattle.std.specs.Int.{w32}
@@ -18,7 +18,7 @@ use Rattle.ckpt_format.specs.Laws.{CheckpointsAreRead, FaultlessAreCheckpoints, 
 use Rattle.ckpt_store.specs.Laws.{IsReadFrom, SlotsAreWhatTheyAre}
 use Rattle.ckpt_store.proofs.Ours.{checkpoints_are_ours}
 
--- where no place is of one that does not fit, all fit
+-- if no place is marked, all outcomes are plausible
 all_fit : (job : Job) (bytes : List ℕ) → first_below (stated_count bytes) (λ place. not (fits job (outcome_in bytes place))) ≡ None
     → IsTrue (list_all (fits job) (outcomes_in bytes))
 all_fit job bytes none =
@@ -32,7 +32,7 @@ all_fit job bytes none =
     passes false e = cc
 
 module _ (faultless : FaultlessAreCheckpoints) (read : CheckpointsAreRead) (job : Job) (digest bytes : List ℕ) (each : All (λ b. b < 256) bytes) where
-  -- what is read of bytes without a fault
+  -- bytes without a fault are the checkpoint read from them
   read_is : checkpoint_fault bytes ≡ None → IsCheckpoint bytes (stated_version bytes) (slice_range bytes 12 44) (number_at w32 44 bytes) (outcomes_in bytes)
   read_is none = by ((faultless bytes each).0 none)
     where
@@ -68,6 +68,6 @@ module _ (faultless : FaultlessAreCheckpoints) (read : CheckpointsAreRead) (job 
   from_length true e = is_broken (TooLong checkpoint_limit) e
   from_length false e = from_fault (checkpoint_fault bytes) refl e
 
--- each kind of slot says what its bytes are
+-- each kind of slot makes a true claim about its bytes
 pub slots_are_what_they_are : FaultlessAreCheckpoints → CheckpointsAreRead → SlotsAreWhatTheyAre
 slots_are_what_they_are faultless read job digest bytes each = from_length faultless read job digest bytes each (nat_lt checkpoint_limit (length bytes)) refl

@@ -1,4 +1,4 @@
--- One folder more.
+-- The findings with one more folder.
 use Rattle.std.proofs.Common.{◌≡◌, ℕ, suc, ◌+◌, ◌<◌, List, [], ◌∷◌, ◌++◌, length, map, take, drop, get_or, set, Option, refl, sym, ap, ◌∙◌, subst, arith, take-suc}
 use Rattle.std.proofs.Math.Seq.{drop-cons}
 use Rattle.std.proofs.lemmas.List.{drop-set-lt, map-append, take_more_set}
@@ -8,7 +8,7 @@ use Rattle.audit_model.specs.Job.{Job}
 use Rattle.ckpt_store.specs.declared.finding.Finding.{Finding}
 use Rattle.ckpt_store.specs.Findings.{AreFound, IsFound}
 
--- one folder more
+-- the findings with one more folder
 pub found_more : (job : Job) (digest : List ℕ) (folders folders_now : List Kept) (folder folder_now : Kept) (before between after : Collected) (findings : List Finding) (what : Finding)
     → AreFound job digest folders folders_now before findings between → IsFound job digest folder folder_now between what after
     → AreFound job digest (folders ++ folder ∷ []) (folders_now ++ folder_now ∷ []) before (findings ++ what ∷ []) after
@@ -20,7 +20,7 @@ found_more job digest (k ∷ folders) (l ∷ folders_now) folder folder_now befo
 found_more job digest (k ∷ folders) (l ∷ folders_now) folder folder_now before between after (f ∷ findings) what e found =
     (e.0, e.1, found_more job digest folders folders_now folder folder_now e.0 between after findings what e.2 found)
 
--- ---- the folders that were not looked at yet are as at first
+-- ---- folders not looked at yet are unchanged
 
 module _ {F : Type 0} (told : F → Kept) (now first : List F) (place : ℕ) (long : length now ≡ length first) (l : place < length now) (rest : drop place now ≡ drop place first) (d : F) where
   both : get_or now place d ∷ drop (suc place) now ≡ get_or first place d ∷ drop (suc place) first
@@ -45,6 +45,6 @@ module _ {F : Type 0} (told : F → Kept) (now first : List F) (place : ℕ) (lo
       ∙ map-append told (take place first) (get_or first place d ∷ [])
       ∙ ap (λ x. map told (take place first) ++ told x ∷ []) (sym here)
 
-  -- and this one is as it was left
+  -- the folder just looked at has its new state
   pub left_next : (new : F) → map told (take (place + 1) (set now place new)) ≡ map told (take place now) ++ told new ∷ []
   left_next new = ap (map told) (take_more_set now place new l) ∙ map-append told (take place now) (new ∷ [])

@@ -1,4 +1,4 @@
--- Gathered slots are honest.
+-- Gathered slots are consistent.
 use Rattle.std.proofs.Common.{◌≡◌, ℕ, zero, suc, ◌∙◌, List, [], Option, Some, None, sym, ap, subst, inr, arith}
 use Rattle.std.proofs.lemmas.Option.{none-some, same_Some}
 use Rattle.audit_model.specs.declared.outcome.Outcome.{Outcome}
@@ -11,7 +11,7 @@ use Rattle.ckpt_store.specs.Laws.{CheckpointsAreOurs, StopsLeaveHonestSlots}
 use Rattle.outcome_book.specs.Laws.{UnionsAreHonest}
 use Rattle.ckpt_store.specs.GatheredLaws.{GatheredSlotsAreHonest, HonestSlotsGiveHonestOutcomes}
 
--- no outcomes are honest
+-- an empty list of outcomes is consistent
 none_honest : (job : Job) (draws : Draws) → IsHonest job draws []
 none_honest job draws = record {
   apart = λ i j d lt within. absurd (omega (arith, within));
@@ -19,14 +19,14 @@ none_honest job draws = record {
   found = λ k d l. absurd (omega (arith, l));
 }
 
--- what an honest slot of the job holds is honest
+-- the outcomes of a consistent slot of the job are consistent
 of_slot : (job : Job) (draws : Draws) (slot : Slot) (outcomes : List Outcome) → IsHonestSlot job draws slot → outcomes_of_slot slot ≡ Some outcomes → IsHonest job draws outcomes
 of_slot job draws absent outcomes honest e = subst (IsHonest job draws) (same_Some [] outcomes e) (none_honest job draws)
 of_slot job draws (broken f) outcomes honest e = absurd (none-some outcomes e)
 of_slot job draws (other digest generation) outcomes honest e = absurd (none-some outcomes e)
 of_slot job draws (ours generation kept) outcomes honest e = subst (IsHonest job draws) (same_Some kept outcomes e) honest
 
--- so is what the newest of two honest slots holds
+-- the outcomes of the newest of two consistent slots are consistent
 of_newest : (job : Job) (draws : Draws) (first second : Slot) (n : Option ℕ) (outcomes : List Outcome)
     → IsHonestSlot job draws first → IsHonestSlot job draws second → opening_of first second n ≡ Some outcomes → IsHonest job draws outcomes
 of_newest job draws first second (Some zero) outcomes h k e = of_slot job draws first outcomes h e
@@ -39,11 +39,11 @@ of_newest job draws (broken f) second None outcomes h k e = absurd (none-some ou
 of_newest job draws (other d g) second None outcomes h k e = absurd (none-some outcomes e)
 of_newest job draws (ours g os) second None outcomes h k e = absurd (none-some outcomes e)
 
--- the law on what is taken from honest slots
+-- the law on outcomes taken from consistent slots
 pub honest_slots_give_honest_outcomes : HonestSlotsGiveHonestOutcomes
 honest_slots_give_honest_outcomes job draws first second outcomes h k e = of_newest job draws first second (newest first second) outcomes h k e
 
--- the law on a save of what was gathered
+-- the law on saving the union
 pub gathered_slots_are_honest : StopsLeaveHonestSlots → CheckpointsAreOurs → UnionsAreHonest → GatheredSlotsAreHonest
 gathered_slots_are_honest stops reads unions job draws digest gathered held both before after number generation hg hh is honest =
     let slot : slot_of job digest (stored after number) ≡ ours generation both =

@@ -1,4 +1,4 @@
--- What honest slots give, and when they stay honest.
+-- The outcomes of consistent slots, and the changes that keep slots consistent.
 use Rattle.std.proofs.Common.{◌≡◌, ℕ, zero, suc, ◌<◌, ◌⊎◌, Bool, true, false, List, [], get_or, Option, Some, None, refl, sym, subst, inl, inr, ◌∙◌, arith}
 use Rattle.std.specs.Prelude.{option_map}
 use Rattle.std.proofs.lemmas.List.Elements.{All-nil}
@@ -11,7 +11,7 @@ use Rattle.audit_model.specs.Trajectory.{Draws, bare, outcome_with, whole}
 use Rattle.audit_statement.specs.Slots.{IsHonestSlot, Slot, absent, broken, newest, opening_of, other, ours, outcomes_of_slot, slot_of, IsNotOurs}
 use Rattle.ckpt_store.specs.Laws.{HonestSlotsOpenRight, RightIsHonest, StopsLeaveHonestSlots}
 
--- no outcomes are honest
+-- an empty list of outcomes is consistent
 nothing_is_honest : (job : Job) (draws : Draws) → IsHonest job draws []
 nothing_is_honest job draws = record {
   apart = λ i j d l m. absurd (omega arith);
@@ -19,14 +19,14 @@ nothing_is_honest job draws = record {
   found = All-nil (λ o. (o ≡ whole job draws o.id) ⊎ (o ≡ bare (whole job draws o.id)));
 }
 
--- the outcomes of an honest slot
+-- the outcomes of a consistent slot are consistent
 honest_from_slot : (job : Job) (draws : Draws) (slot : Slot) (outcomes : List Outcome) → IsHonestSlot job draws slot → outcomes_of_slot slot ≡ Some outcomes → IsHonest job draws outcomes
 honest_from_slot job draws absent outcomes honest is = subst (IsHonest job draws) (same_Some [] outcomes is) (nothing_is_honest job draws)
 honest_from_slot job draws (broken f) outcomes honest is = absurd (none-some outcomes is)
 honest_from_slot job draws (other d g) outcomes honest is = absurd (none-some outcomes is)
 honest_from_slot job draws (ours g os) outcomes honest is = subst (IsHonest job draws) (same_Some os outcomes is) honest
 
--- what is taken from honest slots is honest
+-- the outcomes taken from consistent slots are consistent
 honest_from_opening : (job : Job) (draws : Draws) (first second : Slot) (number : Option ℕ) (outcomes : List Outcome)
     → IsHonestSlot job draws first → IsHonestSlot job draws second → opening_of first second number ≡ Some outcomes → IsHonest job draws outcomes
 honest_from_opening job draws first second (Some zero) outcomes one two is = honest_from_slot job draws first outcomes one is
@@ -39,12 +39,12 @@ honest_from_opening job draws (broken f) second None outcomes one two is = absur
 honest_from_opening job draws (other d g) second None outcomes one two is = absurd (none-some outcomes is)
 honest_from_opening job draws (ours g os) second None outcomes one two is = absurd (none-some outcomes is)
 
--- what a run goes on from, of honest outcomes, is right
+-- the law that a run goes on correctly from consistent outcomes
 abbrev pub GoesOnRightly : Type 0
 GoesOnRightly = (job : Job) (draws : Draws) (outcomes : List Outcome) → IsHonest job draws outcomes
     → IsRight job draws (taken_up job.setting.shift job.setting.walks outcomes)
 
--- what a run may start with of honest outcomes is right
+-- a run that starts with consistent outcomes starts correctly
 right_from_taken : GoesOnRightly → (job : Job) (draws : Draws) (held : Option (List Outcome)) (outcomes : List Outcome)
     → ((os : List Outcome) → held ≡ Some os → IsHonest job draws os) → option_map (taken_up job.setting.shift job.setting.walks) held ≡ Some outcomes
     → IsRight job draws outcomes
@@ -52,25 +52,25 @@ right_from_taken law job draws None outcomes honest is = absurd (none-some outco
 right_from_taken law job draws (Some os) outcomes honest is =
     subst (IsRight job draws) (same_Some (taken_up job.setting.shift job.setting.walks os) outcomes is) (law job draws os (honest os refl))
 
--- the law on what a run starts with
+-- the law on the initial outcomes of a run
 pub honest_slots_open_right : GoesOnRightly → HonestSlotsOpenRight
 honest_slots_open_right law job draws first second outcomes one two is =
     right_from_taken law job draws (opening_of first second (newest first second)) outcomes
     (λ os held. honest_from_opening job draws first second (newest first second) os one two held) is
 
--- ---- what is right is honest
+-- ---- correct outcomes are consistent
 
--- an outcome that is found with bins or without
+-- the law that an outcome without a histogram has zeros
 abbrev pub BareHaveNoBins : Type 0
 BareHaveNoBins = (job : Job) (draws : Draws) (id : ℕ) → bare (whole job draws id) ≡ outcome_with false job draws id
 
--- what a trajectory finds is honest, whether it has bins or not
+-- the outcome of a trajectory is consistent, with or without a histogram
 found_by : BareHaveNoBins → (job : Job) (draws : Draws) (shift : Bool) (o : Outcome) → o ≡ outcome_with shift job draws o.id
     → (o ≡ whole job draws o.id) ⊎ (o ≡ bare (whole job draws o.id))
 found_by law job draws true o is = inl is
 found_by law job draws false o is = inr (is ∙ sym (law job draws o.id))
 
--- so what all find is honest
+-- the outcomes of all trajectories are consistent
 pub right_is_honest : BareHaveNoBins → RightIsHonest
 right_is_honest law job draws outcomes right = record {
   apart = right.apart;
@@ -78,16 +78,16 @@ right_is_honest law job draws outcomes right = record {
   found = λ k d l. found_by law job draws job.setting.shift (get_or outcomes k d) (right.found k d l);
 }
 
--- ---- a stop in a save
+-- ---- a stop within a save
 
--- a slot without a checkpoint of the job is honest
+-- a slot without a checkpoint of the job is consistent
 honest_where_not_ours : (job : Job) (draws : Draws) (slot : Slot) → IsNotOurs slot → IsHonestSlot job draws slot
 honest_where_not_ours job draws absent none = tt
 honest_where_not_ours job draws (broken f) none = tt
 honest_where_not_ours job draws (other d g) none = tt
 honest_where_not_ours job draws (ours g os) none = absurd none
 
--- a slot that is as before
+-- an unchanged slot stays consistent
 same_is_honest : (job : Job) (draws : Draws) (digest : List ℕ) (before after : Stored) → after ≡ before
     → IsHonestSlot job draws (slot_of job digest before) → IsHonestSlot job draws (slot_of job digest after)
 same_is_honest job draws digest before after same honest = subst (λ (s : Stored). IsHonestSlot job draws (slot_of job digest s)) (sym same) honest

@@ -1,4 +1,4 @@
--- Saves in turn keep the newest slot of before or make a newer one.
+-- Saves in turn keep the newest slot from before or make a newer one.
 use Rattle.std.proofs.Common.{◌≡◌, ℕ, zero, suc, ◌+◌, ◌-◌, ◌%◌, ◌<◌, ◌⊎◌, Bool, true, false, cond, List, [], ◌∷◌, length, take, Option, Some, None, option_map, refl, sym, ap, ap₂, ◌∙◌, subst, inl, inr, arith}
 use Rattle.std.specs.Prelude.{◌==◌, IsTrue}
 use Rattle.std.specs.List.{All, list_all}
@@ -19,7 +19,7 @@ use Rattle.ckpt_store.proofs.Turns.{place_by_generations, place_of, saved_slots_
 
 -- ---- the place and the newest
 
--- the one that is not at the place
+-- the generation of the slot that is not at the place
 abbrev beside_of : ℕ → Option ℕ → Option ℕ → Option ℕ
 beside_of zero first second = second
 beside_of (suc n) first second = first
@@ -27,13 +27,13 @@ beside_of (suc n) first second = first
 abbrev number_if : ℕ → Option ℕ → Option ℕ
 number_if n generation = option_map (λ (_ : ℕ). n) generation
 
--- of two slots in turn the newest is the one beside the place of the next save
+-- of two valid slots, the newest is the one beside the place of the next save
 newest_by_turn : (g h : ℕ) (follows : Bool) → let at : ℕ × ℕ = cond follows (0, (h + 1) % 3) (1, (g + 1) % 3) in
     cond follows (Some 1) (Some 0) ≡ number_if (1 - at.0) (beside_of at.0 (Some g) (Some h))
 newest_by_turn g h true = refl
 newest_by_turn g h false = refl
 
--- the newest is the one that is not at the place, where it is intact
+-- the newest slot is the one that is not at the place, if that is valid
 newest_by_place : (first second : Option ℕ) → let at = place_of first second in newest_of first second ≡ number_if (1 - at.0) (beside_of at.0 first second)
 newest_by_place None None = refl
 newest_by_place None (Some h) = refl
@@ -45,24 +45,24 @@ below_two : (g h : ℕ) (follows : Bool) → let at : ℕ × ℕ = cond follows 
 below_two g h true = omega arith
 below_two g h false = omega arith
 
--- so it is whatever the slots are
+-- the place is slot 0 or slot 1, whatever the slots are
 place_below : (first second : Option ℕ) → (place_of first second).0 < 2
 place_below None None = omega arith
 place_below None (Some h) = omega arith
 place_below (Some g) None = omega arith
 place_below (Some g) (Some h) = below_two g h (h == (g + 1) % 3)
 
--- where slot 0 is not intact, slot 1 is the newest if it is
+-- if slot 0 is not valid, slot 1 is the newest if it is valid
 alone_first : (g : Option ℕ) → newest_of None g ≡ number_if 1 g
 alone_first None = refl
 alone_first (Some g) = refl
 
--- where slot 1 is not intact, slot 0 is
+-- if slot 1 is not valid, slot 0 is the newest if it is valid
 alone_second : (g : Option ℕ) → newest_of g None ≡ number_if 0 g
 alone_second None = refl
 alone_second (Some g) = refl
 
--- the newest bytes of two pairs are the same where their slots are
+-- equal slots have equal newest bytes
 bytes_where : (p q : Pair) (n : ℕ) (g : Option ℕ) → stored p n ≡ stored q n → bytes_at p (number_if n g) ≡ bytes_at q (number_if n g)
 bytes_where p q n None same = refl
 bytes_where p q n (Some g) same = same
@@ -77,7 +77,7 @@ module _ (job : Job) (digest : List ℕ) where
   abbrev newest : Pair → Stored
   newest p = newest_bytes job digest p
 
-  -- the place by the generations
+  -- the place as a function of the generations
   at_place : (p : Pair) (number generation : ℕ) → place_for job digest p ≡ (number, generation) → place_of (gen p.zero_slot) (gen p.one_slot) ≡ (number, generation)
   at_place p number generation is = sym (place_by_generations (slot p.zero_slot) (slot p.one_slot)) ∙ is
 
@@ -91,9 +91,9 @@ module _ (job : Job) (digest : List ℕ) where
       subst (λ (at : ℕ × ℕ). newest_for job digest p ≡ number_if (1 - at.0) (beside_of at.0 (gen p.zero_slot) (gen p.one_slot)))
       (at_place p number generation is) (newest_by_place (gen p.zero_slot) (gen p.one_slot))
 
-  -- ---- what a slot at the place does to the newest
+  -- ---- the effect of a write at the place on the newest slot
 
-  -- a slot that is not intact
+  -- the newest slot after a write that is not valid
   spoiled : (base p : Pair) (number generation : ℕ) → number < 2 → place_for job digest base ≡ (number, generation)
       → stored p (1 - number) ≡ stored base (1 - number) → gen (stored p number) ≡ None → newest p ≡ newest base
   spoiled base p zero generation below at beside none =
@@ -106,7 +106,7 @@ module _ (job : Job) (digest : List ℕ) where
       ap (bytes_at p) of_p ∙ bytes_where p base 0 (gen base.zero_slot) beside ∙ ap (bytes_at base) (sym of_base)
   spoiled base p (suc (suc n)) generation below at beside none = absurd (omega (arith, below))
 
-  -- both slots as before
+  -- both slots are unchanged
   both_same : (p q : Pair) (number : ℕ) → number < 2 → stored q (1 - number) ≡ stored p (1 - number) → stored q number ≡ stored p number → q ≡ p
   both_same p q zero below beside here = λ k. record { zero_slot = here k; one_slot = beside k }
   both_same p q (suc zero) below beside here = λ k. record { zero_slot = beside k; one_slot = here k }
@@ -116,7 +116,7 @@ module _ (job : Job) (digest : List ℕ) where
   slot_at_is p zero = refl
   slot_at_is p (suc n) = refl
 
-  -- a whole checkpoint
+  -- the newest slot after a valid checkpoint
   module _ (base p : Pair) (number generation : ℕ) (at : place_for job digest base ≡ (number, generation)) (beside : stored p (1 - number) ≡ stored base (1 - number))
       (version : ℕ) (outcomes : List Outcome) (sound : IsCheckpoint (checkpoint version digest generation outcomes) version digest generation outcomes) (fit : IsTrue (list_all (fits job) outcomes))
       (whole : stored p number ≡ Some (checkpoint version digest generation outcomes)) where
@@ -138,18 +138,18 @@ module _ (job : Job) (digest : List ℕ) where
   beside_stop (suc zero) p q below stop = stop
   beside_stop (suc (suc n)) p q below stop = absurd (omega (arith, below))
 
-  -- the place was reached at the first slots, and since then no save succeeded
+  -- the place is that of the first slots, and no save has succeeded since
   record Stands (base p : Pair) (number generation : ℕ) : Type 0 where
     at : place_for job digest base ≡ (number, generation)
     beside : stored p (1 - number) ≡ stored base (1 - number)
 
-  -- what the newest is after more saves
+  -- the newest slot after more saves
   abbrev Ends : Pair → Pair → List Try → Pair → Type 0
   Ends base p carried after =
       (All HasFailed carried × ((newest after ≡ newest p) ⊎ (newest after ≡ newest base)))
       ⊎ ((bytes : List ℕ) × IsLatest carried bytes × (newest after ≡ Some bytes))
 
-  -- what a save that failed does to the newest
+  -- the effect of a failed save on the newest slot
   abbrev Steps : Pair → Pair → Pair → List ℕ → Type 0
   Steps base p m bytes = (newest m ≡ newest p) ⊎ (newest m ≡ newest base) ⊎ (newest m ≡ Some bytes)
 
@@ -184,7 +184,7 @@ module _ (job : Job) (digest : List ℕ) where
     failed_step (inr (inl first)) = first_step first.0 first.1
     failed_step (inr (inr none)) = inr (inl (spoiled_step none))
 
-  -- after a save that failed
+  -- the newest slot after a failed save
   after_failed : (base p m after : Pair) (c : Try) (rest : List Try) (wrote : List ℕ) → c.succeeded ≡ false → c.bytes ≡ wrote
       → Steps base p m wrote → Ends base m rest after → Ends base p (c ∷ rest) after
   after_failed base p m after c rest wrote fails same step (inr late) = inr (late.0, more_latest c rest late.0 late.1, late.2)
@@ -193,14 +193,14 @@ module _ (job : Job) (digest : List ℕ) where
   after_failed base p m after c rest wrote fails same (inr (inl step)) (inl (failed, inl is)) = inl (All-cons HasFailed c rest fails failed, inr (is ∙ step))
   after_failed base p m after c rest wrote fails same (inr (inr step)) (inl (failed, inl is)) = inr (wrote, this_latest c rest wrote failed same, is ∙ step)
 
-  -- after one that succeeded
+  -- the newest slot after a successful save
   after_saved : (base p m after : Pair) (c : Try) (rest : List Try) (wrote : List ℕ) → c.bytes ≡ wrote
       → newest m ≡ Some wrote → Ends m m rest after → Ends base p (c ∷ rest) after
   after_saved base p m after c rest wrote same step (inr late) = inr (late.0, more_latest c rest late.0 late.1, late.2)
   after_saved base p m after c rest wrote same step (inl (failed, inl is)) = inr (wrote, this_latest c rest wrote failed same, is ∙ step)
   after_saved base p m after c rest wrote same step (inl (failed, inr is)) = inr (wrote, this_latest c rest wrote failed same, is ∙ step)
 
-  -- the save, by whether it succeeded, at the place
+  -- the effect of a save at the place, by its success
   ended_at : (number : ℕ) (p m : Pair) (c : Try) (wrote : List ℕ) → c.slot ≡ number → c.bytes ≡ wrote → IsCarriedOut IsNotIntact job digest p m c
       → IsEnded IsNotIntact job digest c.succeeded (stored p number) wrote (stored m number)
   ended_at number p m c wrote slot same out =
@@ -247,7 +247,7 @@ module _ (job : Job) (digest : List ℕ) where
   ended_keep before after carried (inl (failed, inr is)) = inl (failed, is)
   ended_keep before after carried (inr late) = inr late
 
--- saves in turn are in turn where they were stopped
+-- a front of saves in turn is in turn
 stopped_in_turn : (job : Job) (digest : List ℕ) (n : ℕ) (tries : List Try) (number generation : ℕ) → AreInTurn job digest number generation tries
     → AreInTurn job digest number generation (stopped_in n tries)
 stopped_in_turn job digest n [] number generation turn = tt

@@ -1,4 +1,4 @@
--- A slot that has more bytes than a checkpoint can have.
+-- A slot with more bytes than a checkpoint can have.
 use Rattle.std.proofs.Common.{◌≡◌, ℕ, ◌+◌, ◌<◌, List, length, Option, Some, None, refl, sym, arith}
 use Rattle.std.specs.Prelude.{Err, replicate}
 use Rattle.std.proofs.lemmas.List.{length-replicate}
@@ -10,7 +10,7 @@ use Rattle.audit_statement.specs.Slots.{checkpoint_limit}
 use Rattle.ckpt_store.specs.Holding.{HasLoaded}
 use Rattle.ckpt_store.specs.declared.held.Loaded.TheVariants as loaded
 
--- there are bytes beyond each limit
+-- for each limit there is a longer list of bytes
 longer : (n : ℕ) → (bytes : List ℕ) × (n < length bytes)
 longer n = (replicate (n + 1) 0, omega (arith, length-replicate {A = ℕ} (n + 1) 0))
 

@@ -1,4 +1,4 @@
--- Right saves leave honest slots honest, wherever each failed or was stopped.
+-- Correct saves leave consistent slots consistent, wherever each failed or was stopped.
 use Rattle.std.proofs.Common.{◌≡◌, ℕ, zero, suc, ◌⊎◌, Bool, true, false, List, [], ◌∷◌, length, take, Some, sym, ap, ◌∙◌, subst, inl, inr}
 use Rattle.std.specs.List.{All}
 use Rattle.std.proofs.lemmas.Bool.{cases_lt}
@@ -19,7 +19,7 @@ module _ (honest : RightIsHonest) (job : Job) (draws : Draws) (digest : List ℕ
   abbrev slot : Stored → Slot
   slot s = slot_of job digest s
 
-  -- what a stop may leave
+  -- the contents that a stop may leave
   abbrev Leaves : Stored → Stored → Type 0
   Leaves before after = (after ≡ before) ⊎ IsNotOurs (slot after) ⊎ IsHonestSlot job draws (slot after)
 
@@ -53,7 +53,7 @@ module _ (honest : RightIsHonest) (job : Job) (draws : Draws) (digest : List ℕ
       (stops_leave_honest_slots job draws digest before out.0 c.slot one.beside
       (ended_leave c.succeeded c.bytes (stored before c.slot) (stored out.0 c.slot) r one.ended) slots)
 
--- right saves are right where they were stopped
+-- a front of correct saves is correct
 stopped_right : (job : Job) (draws : Draws) (digest : List ℕ) (n : ℕ) (tries : List Try) → All (λ (t : Try). IsRightSave job draws digest t.bytes) tries
     → All (λ (t : Try). IsRightSave job draws digest t.bytes) (stopped_in n tries)
 stopped_right job draws digest n [] right = All-nil (λ (t : Try). IsRightSave job draws digest t.bytes)
@@ -64,7 +64,7 @@ stopped_right job draws digest (suc n) (t ∷ rest) right =
     let Right : Try → Type 0 = λ (x : Try). IsRightSave job draws digest x.bytes in
     All-cons Right t (stopped_in n rest) (All-head Right t rest right) (stopped_right job draws digest n rest (All-tail Right t rest right))
 
--- one save after the other leaves honest slots
+-- one save after the other leaves consistent slots
 pub saves_leave_honest_slots : RightIsHonest → SavesLeaveHonestSlots
 saves_leave_honest_slots law job draws digest before after tries n right out honest =
     outlast law job draws digest (stopped_in n tries) before after (stopped_right job draws digest n tries right) out honest

@@ -1,4 +1,4 @@
--- The first bytes of a checkpoint are no checkpoint.
+-- A proper prefix of a checkpoint is no checkpoint.
 use Rattle.std.proofs.Common.{◌≡◌, ℕ, ◌+◌, ◌*◌, ◌<◌, ◌≤◌, Bool, true, false, List, length, take, drop, Option, Some, None, refl, sym, ap, ap₂, ◌∙◌, arith}
 use Rattle.std.specs.Int.{w32, from_be_bytes}
 use Rattle.std.specs.Prelude.{nat_lt, slice_range}
@@ -12,17 +12,17 @@ use Rattle.audit_statement.specs.Slots.{broken, checkpoint_limit, slot_of, slot_
 use Rattle.ckpt_format.proofs.Faulting.{IsFaultless-from_none}
 use Rattle.ckpt_format.proofs.Made.{none-from_checkpoint}
 
--- a part of the first bytes
+-- a slice within a prefix is the slice of the whole
 same_part : (n a b : ℕ) (bytes : List ℕ) → a ≤ b → b ≤ n → n ≤ length bytes → slice_range (take n bytes) a b ≡ slice_range bytes a b
 same_part n a b bytes l m short =
     sym (part-front (take n bytes) (drop n bytes) a b l (omega (arith, length-take-le n bytes short)))
     ∙ ap (λ xs. slice_range xs a b) (take-append-drop n bytes)
 
--- the first bytes state the same version and the same count
+-- a prefix states the version of the whole
 same_version : (n : ℕ) (bytes : List ℕ) → 52 ≤ n → n ≤ length bytes → stated_version (take n bytes) ≡ stated_version bytes
 same_version n bytes l m = ap (from_be_bytes w32) (same_part n 8 12 bytes (omega arith) (omega arith) m)
 
--- the first bytes of a checkpoint state how many outcomes it has
+-- a prefix states the number of outcomes of the whole
 same_count : (n : ℕ) (bytes : List ℕ) → 52 ≤ n → n ≤ length bytes → stated_count (take n bytes) ≡ stated_count bytes
 same_count n bytes l m = ap (from_be_bytes w32) (same_part n 48 52 bytes (omega arith) (omega arith) m)
 
@@ -44,12 +44,12 @@ broken_by_fault : (job : Job) (digest bytes : List ℕ) (f : Option CkptFault) �
 broken_by_fault job digest bytes None some = absurd (some refl)
 broken_by_fault job digest bytes (Some g) some = (g, refl)
 
--- so they are whether they are too long or not
+-- bytes with a fault are a broken slot, of any length
 broken_by_length : (job : Job) (digest bytes : List ℕ) (long : Bool) → (checkpoint_fault bytes ≡ None → ⊥) → (g : CkptFault) × (slot_of_bytes job digest bytes long ≡ broken g)
 broken_by_length job digest bytes true some = (_, refl)
 broken_by_length job digest bytes false some = broken_by_fault job digest bytes (checkpoint_fault bytes) some
 
--- so a checkpoint that was cut short is a broken slot
+-- a checkpoint that was cut short is a broken slot
 pub cut_is_broken : (job : Job) (bytes : List ℕ) (version : ℕ) (digest : List ℕ) (generation : ℕ) (outcomes : List Outcome) (n : ℕ)
     → IsCheckpoint bytes version digest generation outcomes → n < length bytes → (g : CkptFault) × (slot_of job digest (Some (take n bytes)) ≡ broken g)
 cut_is_broken job bytes version digest generation outcomes n is short =

@@ -1,4 +1,4 @@
--- What is taken from the slots is the progress that they say.
+-- The progress computed from the loaded slots is the job's progress.
 use Rattle.std.proofs.Common.{◌≡◌, ℕ, zero, suc, ◌&&◌, cond, List, Option, Some, None, Result, Ok, Err, refl, ap, ◌∙◌}
 use Rattle.audit_model.specs.Job.{Job}
 use Rattle.audit_statement.specs.Checkpoint.{job_digest}
@@ -48,7 +48,7 @@ newest_told : (slots : Slots) (wanted : List ℕ) → progress_by (newest_answer
 unfolding progress_of
 newest_told slots wanted = answer_told slots wanted (newest_seen slots)
 
--- of two slots of a job, what is taken from the newest is the job's progress
+-- the answer of two slots, as progress, is the job's progress
 pub progress_told : (job : Job) (digest : List ℕ) (slots : Slots) (first second : Option (List ℕ)) (answer : Result (Option Checkpoint) StoreFault) (p : Progress)
     → digest ≡ job_digest job → slot_view slots.zero ≡ slot_of job digest first → slot_view slots.one ≡ slot_of job digest second
     → answer ≡ newest_answer slots digest → p ≡ progress_by answer → p ≡ progress job first second

@@ -1,4 +1,4 @@
--- What was seen of the slots of a keeper, whatever it tells.
+-- The slots that were seen, known or not.
 use Rattle.std.proofs.Common.{◌≡◌, ℕ, ◌+◌, ◌<◌, List, length, Option, Some, None, sym, ap, ◌∙◌, subst, arith}
 use Rattle.std.specs.Prelude.{Err, IfOk, replicate}
 use Rattle.std.proofs.lemmas.Bool.{lt-ltb}
@@ -14,16 +14,16 @@ use Rattle.audit_statement.specs.Slots.{broken, checkpoint_limit, slot_of, slot_
 use Rattle.ckpt_store.specs.Looked.{SawSlot, SawSlots, unloaded}
 use Rattle.ckpt_store.specs.declared.slots.Slot.{Slot}
 
--- there are bytes beyond each limit
+-- for each limit there is a longer list of bytes
 longer : (n : ℕ) → (bytes : List ℕ) × (n < length bytes)
 longer n = (replicate (n + 1) 0, omega (arith, length-replicate {A = ℕ} (n + 1) 0))
 
--- bytes beyond the limit are broken for that
+-- a slot with too many bytes is broken for that reason
 too_long : (job : Job) (digest bytes : List ℕ) (n : ℕ) → n ≡ checkpoint_limit → n < length bytes → broken (TooLong n) ≡ slot_of job digest (Some bytes)
 too_long job digest bytes n is long =
     ap (λ m. broken (TooLong m)) is ∙ sym (ap (slot_of_bytes job digest bytes) (lt-ltb checkpoint_limit (length bytes) (omega (arith, is, long))))
 
--- a slot that was not loaded for its length is seen as broken for that
+-- a slot that was too long to load is seen as broken for that reason
 pub unloaded_seen : (job : Job) (digest : List ℕ) (told : Option Pair) (number : ℕ) (room : List ℕ) (e : LoadError)
     → IfTold told (λ p. Loads (stored p number) checkpoint_limit room (Err e)) → LoadsWithin checkpoint_limit room (Err e)
     → IfOk (unloaded e) (SawSlot job digest told number)

@@ -1,4 +1,4 @@
--- What an answer that tells nothing says of a keeper that was only looked at before.
+-- The effect of a failed gathering on a keeper that was only looked at before.
 use Rattle.std.proofs.Common.{◌≡◌, ◌∙◌, Bool, List, ℕ, true, false, ◌&&◌, refl, sym, subst, Option, Result, Ok, Err, IfErr}
 use Rattle.audit_model.specs.Faults.{Rose}
 use Rattle.audit_model.specs.Pair.{Pair, KeepsOther}
@@ -12,11 +12,11 @@ use Rattle.ckpt_store.specs.declared.told.Ungathered.TheVariants as ungathered
 use Rattle.audit_statement.specs.Due.{Lets}
 use Rattle.ckpt_store.specs.Whole.{HasBegun, HasFailed, IsUnsaved, IsUnsavedUnion, IsUntouched, LetsGathering, MayBeSaved}
 
--- untouched twice is untouched
+-- two looks in a row leave the keeper untouched
 more : (before between after : Kept) → IsUntouched before between → IsUntouched between after → IsUntouched before after
 more before between after h k = record { slots = k.slots ∙ h.slots; tried = k.tried ∙ h.tried; saves = k.saves ∙ h.saves }
 
--- what an answer says after something that touched nothing
+-- the effect of a failure after a look
 of_one : (P Q : Type 0) → (P → Q) → (before between after : Kept) (why : Ungathered) → IsUntouched before between → between.load_faults ≡ before.load_faults
     → IsUnsaved P between after why → IsUnsaved Q before after why
 of_one P Q from before between after ungathered.Memory h loads k = more before between after h k
@@ -28,7 +28,7 @@ of_one P Q from before between after ungathered.Taken h loads k = (
 )
 of_one P Q from before between after ungathered.Unsaved h loads k = from k
 
--- a save that failed after it failed after what was before it
+-- a failed save after a look
 failed_from : (digest : List ℕ) (place : ℕ × ℕ) (outcomes : List Outcome) (before between after : Kept) → IsUntouched before between
     → IsUnsavedUnion digest place outcomes between after → IsUnsavedUnion digest place outcomes before after
 failed_from digest place outcomes before between after h u = record {
@@ -38,12 +38,12 @@ failed_from digest place outcomes before between after h u = record {
   rose = subst (λ n. Rose n after.save_faults) h.saves u.rose;
 }
 
--- what may be saved of slots that were told may be saved of the same slots
+-- a union that may be saved may be saved for equal slots
 pub may_from : (job : Job) (digest : List ℕ) (told other : Option Pair) (folders folders_now : List Kept) (place : ℕ × ℕ) (all : List Outcome) → told ≡ other
     → MayBeSaved job digest told folders folders_now place all → MayBeSaved job digest other folders folders_now place all
 may_from job digest told other folders folders_now place all same may = subst (λ (o : Option Pair). MayBeSaved job digest o folders folders_now place all) same may
 
--- so a failure after it says the same of the keeper before it
+-- a failed save after a look, in terms of the keeper before the look
 pub unsaved_from : {A : Type 0} (job : Job) (digest : List ℕ) (saves : Bool) (folders folders_now : List Kept) (before between after : Kept) (r : Result A Ungathered)
     → IsUntouched before between → between.load_faults ≡ before.load_faults
     → IfErr r (IsUnsaved (HasFailed job digest saves between after folders folders_now) between after) → IfErr r (IsUnsaved (HasFailed job digest saves before after folders folders_now) before after)
@@ -59,14 +59,14 @@ unsaved_from job digest saves folders folders_now before between after (Err why)
     })
     before between after why h loads k
 
--- a look that fails is no save that failed
+-- a failed look is not a failed save
 pub never_failed : (Q : Type 0) (before after : Kept) (why : Ungathered) → IsUnsaved ⊥ before after why → IsUnsaved Q before after why
 never_failed Q before after ungathered.Memory k = k
 never_failed Q before after ungathered.Unread k = k
 never_failed Q before after ungathered.Taken k = k
 never_failed Q before after ungathered.Unsaved k = absurd k
 
--- what was said of the save that failed follows from what was said of a part of it
+-- an implication carries over to the statement on the failed save
 pub failed_as : (P Q : Type 0) → (P → Q) → (before after : Kept) (why : Ungathered) → IsUnsaved P before after why → IsUnsaved Q before after why
 failed_as P Q from before after ungathered.Memory k = k
 failed_as P Q from before after ungathered.Unread k = k

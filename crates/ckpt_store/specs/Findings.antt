@@ -1,5 +1,5 @@
--- What was found in folders, one after the other, and what was gathered of it.
--- This project's. A folder whose outcomes are not added leaves what was gathered.
+-- The findings in folders, one after the other, and the outcomes gathered from them.
+-- Source: this project. A folder whose outcomes are not added leaves the collection unchanged.
 use Rattle.std.specs.Prelude.{◌≡◌, ℕ, Bool, true, false, not, ◌&&◌, List, [], ◌∷◌, ◌++◌, length, count_by, Option}
 use Rattle.std.specs.List.{list_all}
 use Rattle.audit_model.specs.Faults.{Rose}
@@ -15,7 +15,7 @@ use Rattle.ckpt_store.specs.declared.finding.Finding.{Finding}
 use Rattle.ckpt_store.specs.declared.finding.Finding.TheVariants as finding
 use Rattle.ckpt_store.specs.Gives.{Gives, outcomes, nothing, other_job, damaged, gives, has_broken}
 
--- outcomes that agree with what was gathered were added: how many there are, and how many have ids of which none was gathered
+-- outcomes that agree with the collection were added: their number, and the number with new ids
 pub record IsAdded (before : Collected) (found : List Outcome) (count new : ℕ) (after : Collected) : Type 0 where
   pub agreed : AreAgreed before.outcomes found
   pub union : IsUnion before.outcomes found after.outcomes
@@ -23,13 +23,13 @@ pub record IsAdded (before : Collected) (found : List Outcome) (count new : ℕ)
   pub count_is : count ≡ length found
   pub new_is : new ≡ count_by (λ o. not (has_id before.outcomes o.id)) found
 
--- the least id of which they say something else, and the first folder before that says something else of it than they: nothing was added
+-- the least id whose outcome differs, and the first earlier folder that has another outcome for it: nothing was added
 pub record IsLeftOut (before : Collected) (found : List Outcome) (id other : ℕ) (after : Collected) : Type 0 where
   pub first : IsFirstDifference before.outcomes found id
   pub named : IsFirstOther before.lists first.other other
   pub same : after ≡ passed_over before
 
--- what is found of what a folder gives, of which a slot may be broken, and what was gathered before and is gathered after
+-- the finding for a folder's offer, with the state of its other slot, and the collection before and after
 abbrev pub Finds : Collected → Gives → Bool → Finding → Collected → Type 0
 Finds before (outcomes found) bad (finding.Added count new beside) after = IsAdded before found count new after × (beside ≡ bad)
 Finds before (outcomes found) bad (finding.Differs id other) after = IsLeftOut before found id other after
@@ -38,14 +38,14 @@ Finds before other_job bad finding.OtherJob after = after ≡ passed_over before
 Finds before damaged bad finding.Damaged after = after ≡ passed_over before
 Finds before given bad what after = ⊥
 
--- there are two slots that were seen, those that are told where they are told, and this is found of them
+-- two slots were seen, the known ones if the keeper is observable, and this is the finding in them
 pub record HasSeen (job : Job) (digest : List ℕ) (told : Option Pair) (before : Collected) (what : Finding) (after : Collected) : Type 0 where
   pub pair : Pair
   pub same : IfTold told (λ p. pair ≡ p)
   pub finds : Finds before (gives job digest pair) (has_broken job digest pair) what after
 
--- A folder could not be read only where a load of its keeper failed, whose count rose, and is held by another process exactly where the keeper says so; elsewhere its slots were
--- seen.
+-- A folder is unread only if a load of its keeper failed, whose count rose. It is taken exactly if the keeper reports a
+-- lock. Otherwise its slots were seen.
 abbrev pub IsFound : Job → List ℕ → Kept → Kept → Collected → Finding → Collected → Type 0
 IsFound job digest folder folder_now before finding.Unread after =
     (after ≡ passed_over before) × Rose folder.load_faults.all folder_now.load_faults.all × (folder_now.load_faults.taken ≡ folder.load_faults.taken)
@@ -53,7 +53,7 @@ IsFound job digest folder folder_now before finding.Taken after =
     (after ≡ passed_over before) × Rose folder.load_faults.all folder_now.load_faults.all × Rose folder.load_faults.taken folder_now.load_faults.taken
 IsFound job digest folder folder_now before what after = HasSeen job digest folder.slots before what after
 
--- what is found in each of several folders, one after the other, by what their keepers were before and after the look
+-- the findings in several folders, one after the other, by the states of their keepers before and after
 abbrev pub AreFound : Job → List ℕ → List Kept → List Kept → Collected → List Finding → Collected → Type 0
 AreFound job digest [] [] before [] after = after ≡ before
 AreFound job digest (folder ∷ folders) (folder_now ∷ folders_now) before (what ∷ findings) after =
@@ -69,6 +69,6 @@ abbrev pub is_start : Finding → Bool
 is_start finding.Nothing = true
 is_start what = is_added what
 
--- the findings of the working folder and of the folders let the union be saved
+-- the findings of the working folder and of the other folders allow the union to be saved
 abbrev pub may_save : Finding → List Finding → Bool
 may_save own findings = is_start own && list_all is_added findings

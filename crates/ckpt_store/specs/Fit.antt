@@ -1,11 +1,11 @@
--- What fits a job of what folders give.
+-- The plausibility of a folder's offer.
 use Rattle.std.specs.Prelude.{⊤}
 use Rattle.audit_model.specs.Job.{Job}
 use Rattle.ckpt_store.specs.Fitting.{AreFit}
 use Rattle.ckpt_store.specs.declared.given.Given.{Given}
 use Rattle.ckpt_store.specs.declared.given.Given.TheVariants as given
 
--- outcomes that a folder gives fit the job, and rise
+-- offered outcomes are plausible for the job and have rising ids
 abbrev pub IsFitGiven : Job → Given → Type 0
 IsFitGiven job (given.Outcomes l) = AreFit job l.items
 IsFitGiven job given.Nothing = ⊤

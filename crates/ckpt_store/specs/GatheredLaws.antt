@@ -1,5 +1,6 @@
 -- Slots into which the outcomes of several folders are gathered.
--- This project's. What is gathered may have bins for some ids and none for others, as what honest slots hold.
+-- Source: this project. Gathered outcomes may have histograms for some ids and none for others, as those of consistent
+-- slots.
 use Rattle.std.specs.Prelude.{◌≡◌, ℕ, IsTrue, List, Some}
 use Rattle.std.specs.List.{list_all}
 use Rattle.audit_model.specs.Pair.{Pair, stored}
@@ -11,13 +12,14 @@ use Rattle.audit_statement.specs.Checkpoint.{IsCheckpoint, checkpoint}
 use Rattle.audit_statement.specs.Slots.{IsAfterStop, IsHonestSlot, Slot, newest, opening_of, AreHonest}
 use Rattle.outcome_book.specs.Union.{IsUnion}
 
--- the outcomes that the newest slot holds of the job are honest, where both slots are
+-- if both slots are consistent, the outcomes that the newest holds of the job are
 abbrev pub HonestSlotsGiveHonestOutcomes : Type 0
 HonestSlotsGiveHonestOutcomes = (job : Job) (draws : Draws) (first second : Slot) (outcomes : List Outcome)
     → IsHonestSlot job draws first → IsHonestSlot job draws second → opening_of first second (newest first second) ≡ Some outcomes
     → IsHonest job draws outcomes
 
--- one slot was written: it is the checkpoint of the union of what was gathered before and of what a folder held, which all fits the job
+-- one slot was written: the checkpoint of the union of the gathered outcomes and those of a folder, all plausible for
+-- the job
 pub record IsGathered (job : Job) (digest : List ℕ) (gathered held both : List Outcome) (before after : Pair) (number generation : ℕ) : Type 0 where
   pub union : IsUnion gathered held both
   pub fit : IsTrue (list_all (fits job) both)
@@ -25,7 +27,7 @@ pub record IsGathered (job : Job) (digest : List ℕ) (gathered held both : List
   pub bytes : stored after number ≡ Some (checkpoint 2 digest generation both)
   pub beside : IsAfterStop number before.zero_slot before.one_slot after.zero_slot after.one_slot
 
--- of honest outcomes, saved over honest slots, it leaves honest slots
+-- saving consistent outcomes over consistent slots leaves consistent slots
 abbrev pub GatheredSlotsAreHonest : Type 0
 GatheredSlotsAreHonest = (job : Job) (draws : Draws) (digest : List ℕ) (gathered held both : List Outcome) (before after : Pair) (number generation : ℕ)
     → IsHonest job draws gathered → IsHonest job draws held → IsGathered job digest gathered held both before after number generation

@@ -1,5 +1,5 @@
--- What the file of a slot holds, whatever the job, and which slot is the newest.
--- This project's. A job's digest is not looked at: a checkpoint of any job is whole.
+-- The contents of a slot's file for any job, and the newest slot.
+-- Source: this project. A job's digest is not looked at: a checkpoint of any job is whole.
 use Rattle.std.specs.Prelude.{◌≡◌, ◌⊎◌, ℕ, ◌<◌, ◌≤◌, List, length, Option, Some, None}
 use Rattle.audit_model.specs.Pair.{Pair, stored}
 use Rattle.audit_model.specs.Told.{IfTold}
@@ -12,34 +12,34 @@ use Rattle.ckpt_store.specs.declared.held.Held.TheVariants as held
 use Rattle.ckpt_store.specs.declared.held.Loaded.{Loaded}
 use Rattle.ckpt_store.specs.declared.held.Loaded.TheVariants as loaded
 
--- the bytes are no checkpoint, and this is why: they are too many, or this is their first fault
+-- the bytes are no checkpoint for this reason: they are too many, or this is their first fault
 abbrev pub IsFault : List ℕ → CkptFault → Type 0
 IsFault bytes fault = ((checkpoint_limit < length bytes) × (fault ≡ TooLong checkpoint_limit)) ⊎ ((length bytes ≤ checkpoint_limit) × (checkpoint_fault bytes ≡ Some fault))
 
--- what the bytes of a slot are
+-- the contents of a slot with these bytes
 abbrev pub Holds : List ℕ → Held → Type 0
 Holds bytes held.Absent = ⊥
 Holds bytes (held.Broken fault) = IsFault bytes fault
 Holds bytes (held.Whole c) = (length bytes ≤ checkpoint_limit) × IsCheckpoint bytes c.version c.digest c.generation c.outcomes.items
 
--- what a slot holds, whose file may be absent
+-- the contents of a slot, whose file may not exist
 abbrev pub HoldsStored : Option (List ℕ) → Held → Type 0
 HoldsStored None h = h ≡ held.Absent
 HoldsStored (Some bytes) h = Holds bytes h
 
--- what was loaded of a slot that holds this: of too many bytes only that there are too many
+-- the result of loading a slot with these contents. Of too many bytes only their excess is known.
 abbrev pub IsLoadedFrom : Loaded → Option (List ℕ) → Type 0
 IsLoadedFrom loaded.Absent slot = slot ≡ None
 IsLoadedFrom loaded.Long slot = (bytes : List ℕ) × (slot ≡ Some bytes) × (checkpoint_limit < length bytes)
 IsLoadedFrom (loaded.Bytes bytes) slot = (slot ≡ Some bytes.items) × (length bytes.items ≤ checkpoint_limit)
 
--- there is something that the slot held, what is told of it where the keeper tells, and this was loaded of it
+-- the slot had some contents, the known ones if the keeper is observable, and this was loaded from them
 pub record HasLoaded (told : Option Pair) (number : ℕ) (what : Loaded) : Type 0 where
   pub slot : Option (List ℕ)
   pub same : IfTold told (λ p. slot ≡ stored p number)
   pub is : IsLoadedFrom what slot
 
--- the generation of an intact slot
+-- the generation of a valid slot
 abbrev pub generation_in : Held → Option ℕ
 generation_in held.Absent = None
 generation_in (held.Broken fault) = None

@@ -1,4 +1,4 @@
--- What holds of the slots of a keeper, whoever wrote them.
+-- Laws of a keeper's slots, whoever wrote them.
 use Rattle.std.specs.Prelude.{◌≡◌, ◌≢◌, ℕ, zero, suc, ◌+◌, ◌-◌, ◌%◌, ◌<◌, ◌⊎◌, true, IsTrue, List, Option, Some, None}
 use Rattle.std.specs.List.{All, list_all}
 use Rattle.audit_model.specs.Pair.{Pair, other_stored, stored}
@@ -22,14 +22,15 @@ replaced (suc n) new first second = (first, new)
 abbrev pub newest_of_both : Slot × Slot → Option ℕ
 newest_of_both (first, second) = newest first second
 
--- a checkpoint of outcomes that all fit a job is the job's, where the job is looked for by the checkpoint's digest
+-- a checkpoint of outcomes that are all plausible for a job belongs to the job, if it has the job's digest
 abbrev pub CheckpointsAreOurs : Type 0
 CheckpointsAreOurs = (job : Job) (bytes : List ℕ) (version : ℕ) (digest : List ℕ) (generation : ℕ) (outcomes : List Outcome)
     → IsCheckpoint bytes version digest generation outcomes → IsTrue (list_all (fits job) outcomes)
     → slot_of job digest (Some bytes) ≡ ours generation outcomes
 
--- what a slot says of its bytes: the job's is a checkpoint of the digest that is looked for, of this generation and these outcomes, which all fit the job;
--- another's is a checkpoint of another digest; and a broken one is no checkpoint of the digest of which all outcomes fit
+-- the claim of a slot about its bytes. A slot of the job is a checkpoint of the job's digest, with this generation and
+-- these plausible outcomes. A slot of another job is a checkpoint of another digest. A broken one is no checkpoint of
+-- the job's digest with plausible outcomes.
 abbrev pub IsReadFrom : Job → List ℕ → List ℕ → Slot → Type 0
 IsReadFrom job digest bytes absent = ⊥
 IsReadFrom job digest bytes (broken fault) = (version generation : ℕ) (outcomes : List Outcome)
@@ -37,23 +38,23 @@ IsReadFrom job digest bytes (broken fault) = (version generation : ℕ) (outcome
 IsReadFrom job digest bytes (other found generation) = (found ≢ digest) × ((version : ℕ) × ((outcomes : List Outcome) × IsCheckpoint bytes version found generation outcomes))
 IsReadFrom job digest bytes (ours generation outcomes) = ((version : ℕ) × IsCheckpoint bytes version digest generation outcomes) × IsTrue (list_all (fits job) outcomes)
 
--- bytes are read as what they are
+-- each slot makes a true claim about its bytes
 abbrev pub SlotsAreWhatTheyAre : Type 0
 SlotsAreWhatTheyAre = (job : Job) (digest bytes : List ℕ) → All (λ b. b < 256) bytes → IsReadFrom job digest bytes (slot_of job digest (Some bytes))
 
--- whatever both slots are, an intact slot of the generation and in the slot of the place is the newest
+-- a valid slot with the place's generation in the place's slot is the newest, whatever both slots are
 abbrev pub WrittenSlotsAreNewest : Type 0
 WrittenSlotsAreNewest = (first second new : Slot) (number generation : ℕ)
     → save_place first second ≡ (number, generation) → generation_of new ≡ Some generation
     → newest_of_both (replaced number new first second) ≡ Some number
 
--- the slot that was written is the job's, with these outcomes, and the newest
+-- the slot that was written belongs to the job, holds these outcomes, and is the newest
 pub record IsSavedAs (job : Job) (version : ℕ) (digest : List ℕ) (number generation : ℕ) (outcomes : List Outcome) (after : Pair) : Type 0 where
   pub bytes : stored after number ≡ Some (checkpoint version digest generation outcomes)
   pub slot : slot_of job digest (stored after number) ≡ ours generation outcomes
   pub newest : newest_for job digest after ≡ Some number
 
--- a checkpoint that was written to the place of a job's slots, and no other slot, is in the newest slot
+-- a checkpoint that is written to the place of a job's slots, and to no other slot, is in the newest slot
 abbrev pub SavedSlotsAreNewest : Type 0
 SavedSlotsAreNewest = (job : Job) (version : ℕ) (digest : List ℕ) (before after : Pair) (number generation : ℕ) (outcomes : List Outcome)
     → place_for job digest before ≡ (number, generation)
@@ -61,29 +62,30 @@ SavedSlotsAreNewest = (job : Job) (version : ℕ) (digest : List ℕ) (before af
     → stored after number ≡ Some (checkpoint version digest generation outcomes) → stored after (1 - number) ≡ stored before (1 - number)
     → IsSavedAs job version digest number generation outcomes after
 
--- the slot with this number is the newest for the job where the other one is not intact, and where it has the generation before this one
+-- the slot with this number is the newest for the job if the other one is not valid, or has the generation before this
+-- one
 pub record IsNewestWhere (job : Job) (digest : List ℕ) (number generation : ℕ) (other_slot : Slot) (after : Pair) : Type 0 where
   pub alone : generation_of other_slot ≡ None → newest_for job digest after ≡ Some number
   pub later : (before : ℕ) → generation_of other_slot ≡ Some before → generation ≡ (before + 1) % 3 → newest_for job digest after ≡ Some number
 
--- the same for every job that the outcomes fit
+-- the slot is the newest for every job for which the outcomes are plausible
 abbrev pub IsNewestForFitJobs : List ℕ → ℕ → ℕ → List Outcome → Pair → Type 0
 IsNewestForFitJobs digest number generation outcomes after = (job : Job) → IsTrue (list_all (fits job) outcomes)
     → IsNewestWhere job digest number generation (slot_of job digest (other_stored after number)) after
 
--- ---- honest slots
+-- ---- consistent slots
 
--- what the job's trajectories find is honest
+-- the outcomes of the job's trajectories are consistent
 abbrev pub RightIsHonest : Type 0
 RightIsHonest = (job : Job) (draws : Draws) (outcomes : List Outcome) → IsRight job draws outcomes → IsHonest job draws outcomes
 
--- outcomes from honest slots with which a run may start are what the job's trajectories find
+-- outcomes from consistent slots with which a run may start are those of the job's trajectories
 abbrev pub HonestSlotsOpenRight : Type 0
 HonestSlotsOpenRight = (job : Job) (draws : Draws) (first second : Slot) (outcomes : List Outcome)
     → IsHonestSlot job draws first → IsHonestSlot job draws second → opening true job.setting first second ≡ Some outcomes
     → IsRight job draws outcomes
 
--- a stop in a save leaves honest slots honest, where its own slot is as before, or is none of the job's, or is honest
+-- a stop within a save leaves consistent slots if its slot is unchanged, does not belong to the job, or is consistent
 abbrev pub StopsLeaveHonestSlots : Type 0
 StopsLeaveHonestSlots = (job : Job) (draws : Draws) (digest : List ℕ) (before after : Pair) (number : ℕ)
     → IsAfterStop number before.zero_slot before.one_slot after.zero_slot after.one_slot
@@ -91,13 +93,14 @@ StopsLeaveHonestSlots = (job : Job) (draws : Draws) (digest : List ℕ) (before 
     ⊎ IsHonestSlot job draws (slot_of job digest (stored after number))
     → AreHonest job draws digest before → AreHonest job draws digest after
 
--- right saves leave honest slots honest, wherever each failed, and wherever the run was stopped
+-- correct saves leave consistent slots consistent, wherever each failed and wherever the run was stopped
 abbrev pub SavesLeaveHonestSlots : Type 0
 SavesLeaveHonestSlots = (job : Job) (draws : Draws) (digest : List ℕ) (before after : Pair) (tries : List Try) (n : ℕ)
     → All (λ t. IsRightSave job draws digest t.bytes) tries → AreCarriedOut IsNotOurs job digest before (stopped_in n tries) after
     → AreHonest job draws digest before → AreHonest job draws digest after
 
--- saves in turn keep the newest slot of before or make a newer one, wherever each failed, and wherever the run was stopped
+-- saves in turn keep the newest slot from before or make a newer one, wherever each failed and wherever the run was
+-- stopped
 abbrev pub SavesKeepTheNewest : Type 0
 SavesKeepTheNewest = (job : Job) (digest : List ℕ) (before after : Pair) (number generation : ℕ) (tries : List Try) (n : ℕ)
     → place_for job digest before ≡ (number, generation) → AreInTurn job digest number generation tries

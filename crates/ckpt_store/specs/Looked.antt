@@ -1,4 +1,4 @@
--- What a look at the slots says.
+-- The result of looking at the slots.
 use Rattle.std.specs.Prelude.{◌≡◌, ℕ, List, Option, Result, Ok, Err}
 use Rattle.audit_model.specs.Faults.{Counts, Rose}
 use Rattle.audit_model.specs.State.{LoadFaults}
@@ -16,31 +16,33 @@ use Rattle.ckpt_store.specs.declared.slots.Slot.TheVariants as slot
 use Rattle.ckpt_store.specs.declared.slots.Slots.{Slots}
 use Rattle.ckpt_store.specs.View.{slot_view}
 
--- each slot is what the stored one is for the job
+-- each slot is that of the stored bytes for the job
 pub record AreSlots (job : Job) (digest : List ℕ) (p : Pair) (slots : Slots) : Type 0 where
   pub zero : slot_view slots.zero ≡ slot_of job digest p.zero_slot
   pub one : slot_view slots.one ≡ slot_of job digest p.one_slot
 
--- a slot as it was seen: what is stored there, which is what is told where the keeper tells, and that the slot is this for the job
+-- a slot as it was seen: its stored bytes, which are the known ones if the keeper is observable, and their slot for the
+-- job
 pub record SawSlot (job : Job) (digest : List ℕ) (told : Option Pair) (number : ℕ) (slot : Slot) : Type 0 where
   pub bytes : Stored
   pub same : IfTold told (λ p. bytes ≡ stored p number)
   pub is : slot_view slot ≡ slot_of job digest bytes
 
--- both slots as they were seen: the pair, which is the told one where the keeper tells, and that the slots are this for the job
+-- both slots as they were seen: the stored pair, which is the known one if the keeper is observable, and its slots for
+-- the job
 pub record SawSlots (job : Job) (digest : List ℕ) (told : Option Pair) (slots : Slots) : Type 0 where
   pub pair : Pair
   pub same : IfTold told (λ p. pair ≡ p)
   pub are : AreSlots job digest pair slots
 
--- a slot is broken for its bytes, and never for want of memory
+-- a slot is broken because of its bytes, never because memory ran out
 abbrev pub IsByBytes : Slot → Type 0
 IsByBytes slot.Absent = Unit {0}
 IsByBytes (slot.Broken fault) = fault ≡ Memory → ⊥
 IsByBytes (slot.Other found generation) = Unit {0}
 IsByBytes (slot.Ours checkpoint) = Unit {0}
 
--- what a fault of a look says of the counts of loads that failed
+-- the effect of a fault on the counts of failed loads
 abbrev pub FaultCause : LoadFaults → LoadFaults → LookFault → Type 0
 FaultCause before now look.Failed = Rose before.all now.all × (now.taken ≡ before.taken)
 FaultCause before now look.Taken = Rose before.all now.all × Rose before.taken now.taken
@@ -50,13 +52,14 @@ abbrev pub LookCause : {T : Type 0} → LoadFaults → LoadFaults → Result T L
 LookCause before now (Ok slots) = now ≡ before
 LookCause before now (Err fault) = FaultCause before now fault
 
--- the look failed only where the count rose, and since another process holds the slots where it answers so; any other answer leaves both counts
+-- the look failed only if the count rose, and because of a lock exactly if the keeper reported one. Any other answer
+-- leaves both counts unchanged.
 pub record HasLookCause {T : Type 0} (before now : LoadFaults) (result : Result T LookFault) : Type 0 where
   pub counts : Counts before.all now.all
   pub takings : Counts before.taken now.taken
   pub cause : LookCause before now result
 
--- what a slot is that was not loaded
+-- the slot of a failed load
 abbrev pub unloaded : LoadError → Result Slot LookFault
 unloaded load.Failed = Err look.Failed
 unloaded load.Taken = Err look.Taken

@@ -1,4 +1,4 @@
--- Where a checkpoint may go.
+-- The places that a checkpoint may go to.
 use Rattle.std.specs.Prelude.{◌<◌}
 use Rattle.audit_model.specs.declared.place.Place.{Place}
 

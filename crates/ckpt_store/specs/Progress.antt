@@ -1,5 +1,5 @@
--- How far a job is, by what its two slots hold.
--- This project's. It is the number of the newest slot's outcomes, and nothing of what they found.
+-- The progress of a job, by the contents of its two slots.
+-- Source: this project. Progress is the number of the newest slot's outcomes, and does not depend on their values.
 use Rattle.std.specs.Prelude.{ℕ, List, length, Option, Some, None, Result, Ok, Err}
 use Rattle.audit_model.specs.Job.{Job}
 use Rattle.audit_statement.specs.Checkpoint.{job_digest}
@@ -10,21 +10,21 @@ use Rattle.ckpt_store.specs.declared.slots.StoreFault.TheVariants.{Damaged, Othe
 use Rattle.ckpt_store.specs.declared.progress.Progress.{Progress}
 use Rattle.ckpt_store.specs.declared.progress.Progress.TheVariants as told
 
--- what is taken from the newest slot, as progress
+-- the progress from the newest slot
 abbrev pub progress_by : Result (Option Checkpoint) StoreFault → Progress
 progress_by (Ok None) = told.Done 0
 progress_by (Ok (Some c)) = told.Done (length c.outcomes.items)
 progress_by (Err (Damaged s)) = told.Damaged
 progress_by (Err (OtherJob found wanted)) = told.OtherJob
 
--- of a slot that is the newest
+-- the progress from the slot that is the newest
 abbrev pub progress_in : slots.Slot → Progress
 progress_in slots.absent = told.Done 0
 progress_in (slots.broken fault) = told.Done 0
 progress_in (slots.other digest generation) = told.OtherJob
 progress_in (slots.ours generation outcomes) = told.Done (length outcomes)
 
--- where no slot is intact
+-- the progress if no slot is valid
 abbrev pub progress_without : slots.Slot → slots.Slot → Progress
 progress_without slots.absent slots.absent = told.Done 0
 progress_without slots.absent second = told.Damaged
@@ -34,7 +34,7 @@ abbrev pub progress_at : slots.Slot → slots.Slot → Option ℕ → Progress
 progress_at first second (Some n) = progress_in (slots.slot_at first second n)
 progress_at first second None = progress_without first second
 
--- by both slots, as the job sees them: its newest slot's number of outcomes, and none where both are absent
+-- the number of outcomes in the newest slot as the job sees both slots, or 0 if both are empty
 unfoldable pub progress_of : slots.Slot → slots.Slot → Progress
 progress_of first second = progress_at first second (slots.newest first second)
 

@@ -1,4 +1,4 @@
--- What the slots that were looked at are, in the words of the definitions, and what is taken from them.
+-- The slots that were looked at, in the terms of the definitions, and the checkpoint taken from them.
 use Rattle.std.specs.Prelude.{ℕ, zero, suc, Bool, true, false, ◌&&◌, cond, List, [], Option, Some, None, Result, Ok, Err}
 use Rattle.audit_model.specs.declared.outcome.Outcome.{Outcome}
 use Rattle.ckpt_format.specs.declared.decode.Checkpoint.{Checkpoint}
@@ -9,7 +9,7 @@ use Rattle.ckpt_store.specs.declared.slots.StoreFault.{StoreFault}
 use Rattle.ckpt_store.specs.declared.slots.StoreFault.TheVariants.{Damaged, OtherJob}
 use Rattle.audit_statement.specs.Slots as definition
 
--- what a slot holds
+-- the contents of a slot
 abbrev pub slot_view : Slot → definition.Slot
 slot_view slot.Absent = definition.absent
 slot_view (slot.Broken fault) = definition.broken fault
@@ -22,7 +22,7 @@ newest_seen slots = definition.newest (slot_view slots.zero) (slot_view slots.on
 abbrev pub place_seen : Slots → ℕ × ℕ
 place_seen slots = definition.save_place (slot_view slots.zero) (slot_view slots.one)
 
--- the outcomes of the newest slot, where they may be taken, and none where both slots are absent
+-- the outcomes of the newest slot if they may be taken, and none if both slots are empty
 abbrev pub held_seen : Slots → Option (List Outcome)
 held_seen slots = definition.opening_of (slot_view slots.zero) (slot_view slots.one) (newest_seen slots)
 
@@ -36,14 +36,14 @@ is_absent (slot.Broken fault) = false
 is_absent (slot.Other found generation) = false
 is_absent (slot.Ours checkpoint) = false
 
--- what is taken from the newest slot
+-- the checkpoint taken from the newest slot
 abbrev pub opened : Slot → List ℕ → Result (Option Checkpoint) StoreFault
 opened slot.Absent wanted = Ok None
 opened (slot.Broken fault) wanted = Ok None
 opened (slot.Other found generation) wanted = Err (OtherJob found wanted)
 opened (slot.Ours checkpoint) wanted = Ok (Some checkpoint)
 
--- what is taken from slots of which none is intact
+-- the answer for slots of which none is valid
 abbrev pub without_intact : Slots → Result (Option Checkpoint) StoreFault
 without_intact slots = cond (is_absent slots.zero && is_absent slots.one) (Ok None) (Err (Damaged slots))
 
@@ -55,6 +55,6 @@ abbrev pub answer_at : Slots → List ℕ → Option ℕ → Result (Option Chec
 answer_at slots wanted (Some n) = opened (numbered slots n) wanted
 answer_at slots wanted None = without_intact slots
 
--- what is taken from the slots: what the newest one holds, nothing where both are absent, and damaged where none is intact
+-- the answer of the slots: the checkpoint of the newest, nothing if both are empty, or damaged if none is valid
 abbrev pub newest_answer : Slots → List ℕ → Result (Option Checkpoint) StoreFault
 newest_answer slots wanted = answer_at slots wanted (newest_seen slots)

@@ -1,5 +1,5 @@
--- What a whole gathering does.
--- This project's. It says what stands in the slots by what was found; the code looks at one folder after the other.
+-- The effect of a whole gathering.
+-- Source: this project. The slots are stated from the findings, while the code looks at one folder after the other.
 use Rattle.std.specs.Prelude.{◌≡◌, ℕ, Bool, true, false, ◌&&◌, List, [], length, Option}
 use Rattle.audit_model.specs.Faults.{Rose}
 use Rattle.audit_model.specs.Pair.{HoldsBytes, KeepsOther, Pair}
@@ -20,27 +20,29 @@ use Rattle.ckpt_store.specs.Findings.{AreFound, Finds, may_save}
 use Rattle.ckpt_store.specs.Gives.{gives, has_broken}
 use Rattle.audit_statement.specs.Slots.{place_for}
 
--- one save put the checkpoint of the outcomes into the slot of a place, with the place's generation, and the other slot is as before
+-- one save put the checkpoint of the outcomes into the slot of a place, with the place's generation, and left the other
+-- slot unchanged
 pub record IsSavedUnion (digest : List ℕ) (place : ℕ × ℕ) (outcomes : List Outcome) (before after : Kept) : Type 0 where
   pub bytes : HoldsBytes after.slots place.0 (checkpoint 2 digest place.1 outcomes)
   pub sound : IsCheckpoint (checkpoint 2 digest place.1 outcomes) 2 digest place.1 outcomes
   pub other : KeepsOther before.slots after.slots place.0
   pub tried : after.tried ≡ tried_too before.tried place.0 (checkpoint 2 digest place.1 outcomes) true
 
--- nothing was saved, and no save was tried
+-- nothing was saved, and no save was attempted
 pub record IsUntouched (before after : Kept) : Type 0 where
   pub slots : after.slots ≡ before.slots
   pub tried : after.tried ≡ before.tried
   pub saves : after.save_faults ≡ before.save_faults
 
--- one save of this checkpoint was tried there, which failed: it may have left anything in its slot, and the other slot is as before
+-- one save of this checkpoint was attempted there and failed. It may have left anything in its slot, and the other slot
+-- is unchanged.
 pub record IsUnsavedUnion (digest : List ℕ) (place : ℕ × ℕ) (outcomes : List Outcome) (before after : Kept) : Type 0 where
   pub sound : IsCheckpoint (checkpoint 2 digest place.1 outcomes) 2 digest place.1 outcomes
   pub other : KeepsOther before.slots after.slots place.0
   pub tried : after.tried ≡ tried_too before.tried place.0 (checkpoint 2 digest place.1 outcomes) false
   pub rose : Rose before.save_faults after.save_faults
 
--- what an answer that tells nothing says of the keeper, where the last says this
+-- the effect of a failed gathering on the keeper, with the given statement for a failed save
 abbrev pub IsUnsaved : Type 0 → Kept → Kept → Ungathered → Type 0
 IsUnsaved Failed before after ungathered.Memory = IsUntouched before after
 IsUnsaved Failed before after ungathered.Unread = IsUntouched before after × Rose before.load_faults.all after.load_faults.all
@@ -51,15 +53,16 @@ abbrev pub IsSavedIf : Bool → List ℕ → ℕ × ℕ → List Outcome → Kep
 IsSavedIf true digest place outcomes before after = IsSavedUnion digest place outcomes before after
 IsSavedIf false digest place outcomes before after = IsUntouched before after
 
--- what a gathering found in the slots of the working folder
+-- the findings of a gathering in the slots of the working folder
 pub record HasBegun (job : Job) (digest : List ℕ) (told : Option Pair) (place : ℕ × ℕ) (own : Finding) (start : Collected) : Type 0 where
   pub pair : Pair
   pub same : IfTold told (λ p. pair ≡ p)
   pub finds : Finds (no_collected (total job)) (gives job digest pair) (has_broken job digest pair) own start
   pub place_is : place ≡ place_for job digest pair
 
--- The union of all that was found in the working folder and then in each folder may be saved at this place, the one for the next checkpoint of the working folder: it has no
--- checkpoint or an intact newest one of this job, each folder has an intact newest one of this job, and no two outcomes of an id differ.
+-- The union of all findings may be saved at this place, that of the working folder's next checkpoint. The working
+-- folder has no checkpoint or a valid newest one of this job. Each other folder has a valid newest one of this job, and
+-- no two outcomes of an id differ.
 pub record MayBeSaved (job : Job) (digest : List ℕ) (told : Option Pair) (folders folders_now : List Kept) (place : ℕ × ℕ) (all : List Outcome) : Type 0 where
   pub own : Finding
   pub start : Collected
@@ -78,16 +81,17 @@ pub record HasFailed (job : Job) (digest : List ℕ) (saves : Bool) (before afte
   pub may : MayBeSaved job digest before.slots folders folders_now place all
   pub unsaved : IsUnsavedUnion digest place all before after
 
--- A keeper with these slots and tries lets the one save of a gathering through, where it is to save: of the union of all that is found, where that may be saved, at its place,
--- and as long as no save was tried.
+-- A keeper with these slots and attempts accepts the one save of a gathering that is to save: the union of all
+-- findings, if it may be saved, at its place, as long as no save was attempted.
 abbrev pub LetsGathering : Lets → Job → List ℕ → Bool → Option Pair → Option (List Try) → List Kept → Type 0
 LetsGathering lets job digest saves told tried folders =
     (k : Kept) (folders_now : List Kept) (place : ℕ × ℕ) (all : List Outcome) → k.tried ≡ tried → saves ≡ true → MayBeSaved job digest told folders folders_now place all
     → LetsCheckpoint lets k digest place.0 place.1 all
 
--- the whole: what was found in the working folder and then in each folder, one after the other. The union of it all is saved at the place for the next
--- checkpoint of the working folder exactly where it is asked for, the working folder has no checkpoint or an intact newest one of this job, each folder
--- has an intact newest one of this job, and no two outcomes of an id differ. Else nothing is saved
+-- The whole gathering. The findings are those in the working folder and then in each other folder, one after the other.
+-- The union is saved at the place of the working folder's next checkpoint exactly under four conditions. Saving was
+-- requested. The working folder has no checkpoint or a valid newest one of this job. Each other folder has a valid
+-- newest one of this job. No two outcomes of an id differ. Otherwise nothing is saved.
 pub record IsGathering (job : Job) (digest : List ℕ) (saves : Bool) (before after : Kept) (folders folders_now : List Kept) (told : Told) : Type 0 where
   pub place : ℕ × ℕ
   pub start : Collected

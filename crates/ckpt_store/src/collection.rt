@@ -1,4 +1,4 @@
-//! What was gathered of several folders, and what each of them added.
+//! The union of several folders' outcomes, and the outcomes that each folder added.
 
 ghost use Rattle.std.specs.Prelude.{◌≡◌, ◌++◌, ◌∷◌, [], ◌<◌, ◌≤◌, ℕ, IfErr, IfNone, IfOk, IfSome, OnOk, count_by, get_or, length, map, not};
 ghost use Rattle.audit_model.specs.Limits.{most_trajectories};
@@ -23,7 +23,7 @@ use plan_core::job::Job;
 use std::alloc::Global;
 use std::marker::Model;
 
-/// The union of what several folders hold of a job, and the outcomes that each folder added.
+/// The union of several folders' outcomes for a job, and the outcomes that each folder added.
 #[derive(Drop)]
 pub struct Collection {
     gathering: Gathering,
@@ -40,7 +40,7 @@ impl Model for Collection {
 }
 
 impl Collection {
-    /// Makes an empty collection, with room for one outcome of each id below `total`.
+    /// Makes an empty collection, with capacity for one outcome of each id below `total`.
     pub fn with_room(alloc: Global, total: u32) -> Result<Collection, Memory>
         requires { total ≤ most_trajectories }
         ensures { IfOk result (λ c. c ≡ no_collected total) }
@@ -52,11 +52,11 @@ impl Collection {
         })
     }
 
-    /// Adds what the next folder gives, unless it differs, and returns what was found.
+    /// Adds the outcomes of the next folder, unless they differ, and returns the finding.
     ///
     /// # Errors
     ///
-    /// There was no memory. The collection is of no more use.
+    /// Out of memory. The collection must not be used any more.
     pub fn add(
         &mut self,
         alloc: Global,
@@ -88,7 +88,7 @@ impl Collection {
         }
     }
 
-    /// Notes that the next folder adds nothing.
+    /// Records that the next folder adds nothing.
     pub fn pass_over(&mut self, alloc: Global) -> Result<(), Memory>
         requires covered { IsCovered self.old }
         ensures covered { OnOk result (IsCovered self.new) }
@@ -126,7 +126,7 @@ impl Collection {
         }
     }
 
-    /// Returns the number of the first folder that says something else of the least id that differs.
+    /// Returns the number of the first folder that has another outcome for the least id that differs.
     fn other_of(&self, job: &Job, found: &[Outcome], id: u32) -> usize
         requires fit { AreFit job.now found.now }
         requires covered { IsCovered self.now }
@@ -136,15 +136,15 @@ impl Collection {
         match outcome_with(found, id) {
             Some(outcome) => match first_other(self.lists.as_slice(), &outcome) {
                 Some(number) => number,
-                // No outcome differs from what was gathered that differs from no folder.
+                // Unreachable: an outcome that differs from the union differs from a folder.
                 None => 0,
             },
-            // There is one.
+            // Unreachable: an outcome with this id exists.
             None => 0,
         }
     }
 
-    /// Copies the union, by rising id. The only error is out of memory.
+    /// Copies the union by rising id. The only error is out of memory.
     pub fn to_list(&self, alloc: Global) -> Result<OutcomeList, Memory>
         ensures items { IfOk result (λ l. l.items ≡ self.now.outcomes) }
         ensures rising { IfOk result (λ l. AreById l.items) }
@@ -154,7 +154,7 @@ impl Collection {
     }
 }
 
-// Returns the number of the first list that says something else of the outcome's id.
+// Returns the number of the first list that has another outcome for the same id.
 fn first_other(lists: &[OutcomeList], outcome: &Outcome) -> Option<usize>
     ensures some { IfSome result (λ number. IsFirstOther (map (λ l. l.items) lists.now) outcome.now number) }
     ensures none { IfNone result ((k : ℕ) → k < length lists.now → AgreesWith (get_or (map (λ l. l.items) lists.now) k []) outcome.now) }

@@ -1,4 +1,4 @@
-//! What is found in a folder, and added to what was gathered.
+//! The finding in a folder, while outcomes are gathered.
 
 ghost use Rattle.std.specs.Prelude.{◌≡◌, IfOk};
 ghost use Rattle.audit_model.specs.Run.{total};
@@ -14,28 +14,29 @@ use audit_model::memory::Memory;
 use plan_core::job::Job;
 use std::alloc::Global;
 
-/// What is found in a folder.
+/// The finding in a folder.
 #[derive(Clone, Copy, Debug, PartialEq, Eq)]
 pub enum Finding {
-    /// So many outcomes, which were added; so many of them have ids of which none was gathered. `beside` says whether the other slot is broken.
+    /// The folder's `count` outcomes were added. Of these, `new` have ids that no earlier folder had. `beside` is true
+    /// if the other slot is broken.
     Added { count: u32, new: u32, beside: bool },
     /// There is no checkpoint.
     Nothing,
     /// The newest checkpoint is another job's.
     OtherJob,
-    /// No slot is intact, and one is not absent.
+    /// No slot is valid, and at least one is not empty.
     Damaged,
-    /// Of this id it says something else than what was gathered before it, and of none below it. The first folder before it that does so has the number
-    /// `other`: 0 for the working folder, and from 1 for those behind it.
+    /// The outcome of this id differs from that of an earlier folder, and no lower id differs. `other` is the number of
+    /// the first such folder: 0 for the working folder, and from 1 for those after it.
     Differs { id: u32, other: usize },
     /// A slot could not be loaded.
     Unread,
-    /// It could not, since another process holds the folder.
+    /// A slot could not be loaded because another process has locked the folder.
     Taken,
 }
 
 impl Finding {
-    /// Its outcomes were added.
+    /// Returns true if the folder's outcomes were added.
     pub fn is_added(&self) -> bool
         ensures { result ≡ is_added self.now }
     {
@@ -50,7 +51,7 @@ impl Finding {
         }
     }
 
-    /// Its outcomes were added, or there were none.
+    /// Returns true if the folder's outcomes were added or it had no checkpoint.
     pub fn is_start(&self) -> bool
         ensures { result ≡ is_start self.now }
     {
@@ -65,11 +66,11 @@ impl Finding {
     }
 }
 
-/// Looks at the slots of a folder, and adds what they give, unless it differs.
+/// Looks at the slots of a folder, and adds their outcomes unless they differ.
 ///
 /// # Errors
 ///
-/// There was no memory. The collection is of no more use.
+/// Out of memory. The collection must not be used any more.
 pub fn find_in<F: Keeper>(
     alloc: Global,
     collection: &mut Collection,

@@ -1,4 +1,4 @@
-//! Whether outcomes could be those of a job.
+//! The test of whether outcomes are plausible for a job.
 
 ghost use Rattle.std.specs.Prelude.{◌≡◌, ◌+◌, ◌≤◌, ◌&&◌, ◌||◌, not, nat_lt, nat_le, pos, int_le, drop, length, sum};
 ghost use Rattle.std.specs.List.{list_all};
@@ -13,7 +13,7 @@ ghost use Rattle.audit_model.specs.Limits.{most_trajectories};
 use audit_model::outcome::Outcome;
 use plan_core::job::Job;
 
-/// The least place of an outcome that does not fit the job.
+/// Returns the least place of an outcome that is not plausible for the job.
 pub(crate) fn first_unfit(job: &Job, outcomes: &[Outcome]) -> Option<u32>
     requires { length outcomes.now ≤ most_trajectories }
     ensures { result ≡ first_below (length outcomes.now) (is_unfit job.now outcomes.now) }
@@ -26,7 +26,7 @@ pub(crate) fn first_unfit(job: &Job, outcomes: &[Outcome]) -> Option<u32>
     None
 }
 
-/// Whether the outcome could be one of the job's.
+/// Returns true if the outcome is plausible for the job.
 fn fits(job: &Job, outcome: &Outcome) -> bool
     ensures { result ≡ fits job.now outcome.now }
 {
@@ -36,7 +36,7 @@ fn fits(job: &Job, outcome: &Outcome) -> bool
         && has_fit_bins(job, outcome)
 }
 
-/// Whether the id is one of the job's, with no more moves than its trajectory has steps.
+/// Returns true if the job has the id, and the moves do not exceed the steps of its trajectory.
 fn is_within(job: &Job, outcome: &Outcome) -> bool
     ensures { result ≡ (nat_lt outcome.now.id (total job.now)
         && nat_le outcome.now.moved (steps_of (nat_lt outcome.now.id job.now.setting.walks) job.now)) }
@@ -45,7 +45,7 @@ fn is_within(job: &Job, outcome: &Outcome) -> bool
     outcome.id < job.total() && outcome.moved <= u64::from(steps)
 }
 
-/// How many steps a walk has, or another trajectory.
+/// Returns the number of steps of a walk, or of an endpoint trajectory.
 fn steps_of(job: &Job, is_walk: bool) -> u32
     ensures { result ≡ steps_of is_walk job.now }
 {
@@ -56,7 +56,7 @@ fn steps_of(job: &Job, is_walk: bool) -> u32
     }
 }
 
-/// Whether the values past the asks are 0.
+/// Returns true if the values past the asks are 0.
 fn ends_in_zeros(job: &Job, outcome: &Outcome) -> bool
     ensures { result ≡ list_all (λ v. int_eq v (pos 0)) (drop (length job.now.setting.asks) outcome.now.values) }
 {
@@ -64,12 +64,12 @@ fn ends_in_zeros(job: &Job, outcome: &Outcome) -> bool
     are_zeros(&outcome.values[asks..])
 }
 
-/// How many asks there are.
+/// Returns the number of asks.
 fn asks_of(job: &Job) -> usize
     ensures asks { result ≡ length job.now.setting.asks }
     ensures few { result ≤ 4 }
 {
-    // Called for what its contract says: the job is within its limits, and its start plan is legal.
+    // Called for its contract: the job is within its limits, and its start plan is legal.
     let _units = job.units();
     job.setting().asks.len()
 }
@@ -80,7 +80,7 @@ fn are_zeros(values: &[i64]) -> bool
     values.iter().all(|value| *value == 0)
 }
 
-/// Whether each value of a walk is a number of visits.
+/// Returns true if each value of a walk is a number of visits.
 fn counts_visits(job: &Job, outcome: &Outcome) -> bool
     ensures { result ≡ (not (nat_lt outcome.now.id job.now.setting.walks) || all_below (length job.now.setting.asks)
         (λ k. int_le (pos 1) (value_at outcome.now k) && int_le (value_at outcome.now k) (pos (job.now.setting.steps + 1)))) }
@@ -90,7 +90,7 @@ fn counts_visits(job: &Job, outcome: &Outcome) -> bool
     outcome.id >= setting.walks || are_visits(&outcome.values[..asks], setting.steps)
 }
 
-/// Whether each value is from 1 to the number of visits.
+/// Returns true if each value is from 1 to the number of visits.
 fn are_visits(values: &[i64], steps: u32) -> bool
     ensures { result ≡ list_all (λ v. int_le (pos 1) v && int_le v (pos (steps + 1))) values.now }
 {
@@ -103,7 +103,7 @@ fn is_visit(value: i64, steps: u32) -> bool
     1 <= value && value <= i64::from(steps) + 1
 }
 
-/// Whether the bins are all 0, or those of a walk that add up to its number of visits.
+/// Returns true if the histogram is all 0, or that of a walk and adds up to its number of visits.
 fn has_fit_bins(job: &Job, outcome: &Outcome) -> bool
     ensures { result ≡ bins_fit (nat_lt outcome.now.id job.now.setting.walks) job.now outcome.now }
 {
@@ -118,7 +118,7 @@ fn is_bare(outcome: &Outcome) -> bool
     outcome.bins.iter().all(|bin| *bin == 0)
 }
 
-/// The sum of bins.
+/// Returns the sum of a histogram.
 fn sum_of(bins: &[u32; 9]) -> u64
     ensures { result ≡ sum bins.now }
 {

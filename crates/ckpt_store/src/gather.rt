@@ -1,4 +1,4 @@
-//! What a folder's slots hold, and the save of what was gathered.
+//! Adding a folder's outcomes, and saving the union.
 
 ghost use Rattle.std.specs.Prelude.{◌≡◌, ◌≤◌, IfErr, IfOk, OnErr, OnOk, length, count_by, not};
 ghost use Rattle.audit_model.specs.Limits.{most_trajectories};
@@ -19,11 +19,11 @@ use outcome_book::gathering::Gathering;
 use plan_core::job::Job;
 use std::alloc::Global;
 
-/// Adds what a folder holds of the job, and says how many of its outcomes have ids of which none was gathered.
+/// Adds the outcomes of a folder. Returns the number of its outcomes with new ids.
 ///
 /// # Errors
 ///
-/// The least id of which it says something else than what was gathered: then nothing is added.
+/// The least id whose outcome differs from the gathered one. Nothing is added then.
 pub fn add(gathering: &mut Gathering, job: &Job, found: &[Outcome]) -> Result<u32, u32>
     requires total { gathering.old.total ≡ total job.now }
     requires fit { AreFit job.now found.now }
@@ -41,8 +41,8 @@ pub fn add(gathering: &mut Gathering, job: &Job, found: &[Outcome]) -> Result<u3
 ///
 /// # Errors
 ///
-/// - `Memory`: there was no memory for their bytes, and no save was tried.
-/// - `Unsaved`: the keeper failed, and the slot of the place may hold anything; the save was tried once.
+/// - `Memory`: out of memory for the bytes. No save was attempted.
+/// - `Unsaved`: the keeper failed. The save was attempted once, and the slot of the place may hold anything.
 pub fn save_list<C: Keeper>(
     alloc: Global,
     keeper: &mut C,

@@ -1,4 +1,4 @@
-//! What the slots of a folder give of a job.
+//! The outcomes that a folder's slots offer for a job.
 
 ghost use Rattle.std.specs.Prelude.{◌≡◌, ◌||◌};
 ghost use Rattle.ckpt_store.specs.Fitting.{HasFitOutcomes};
@@ -10,20 +10,20 @@ use crate::slots::{Slot, Slots, StoreFault};
 use audit_model::buffers::OutcomeList;
 use plan_core::job::Job;
 
-/// What a folder gives.
+/// The offer of a folder.
 #[derive(Drop)]
 pub enum Given {
-    /// The outcomes of the newest checkpoint, which is of this job.
+    /// The outcomes of the newest checkpoint, which belongs to this job.
     Outcomes(OutcomeList),
     /// There is no checkpoint.
     Nothing,
     /// The newest checkpoint is another job's.
     OtherJob,
-    /// No slot is intact, and one is not absent.
+    /// No slot is valid, and at least one is not empty.
     Damaged,
 }
 
-/// What slots that were looked at give.
+/// Returns the offer of slots that were looked at.
 pub fn given_by(job: &Job, digest: &[u8; 32], slots: Slots) -> Given
     requires zero { HasFitOutcomes job.now slots.zero }
     requires one { HasFitOutcomes job.now slots.one }
@@ -38,7 +38,7 @@ pub fn given_by(job: &Job, digest: &[u8; 32], slots: Slots) -> Given
     }
 }
 
-/// Whether one of the slots is broken.
+/// Returns true if one of the slots is broken.
 pub fn has_broken(slots: &Slots) -> bool
     ensures { result ≡ (is_broken (slot_view slots.now.zero) || is_broken (slot_view slots.now.one)) }
 {

@@ -1,4 +1,4 @@
-//! What the file of a slot holds, whatever the job, and which slot is the newest.
+//! The contents of a slot's file for any job, and the newest slot.
 
 ghost use Rattle.std.specs.Prelude.{◌≡◌, ◌<◌, ℕ, List, Option, Some, IfOk, OnOk};
 ghost use Rattle.audit_model.specs.declared.fault.CkptFault.TheVariants as variant;
@@ -14,28 +14,28 @@ use audit_model::memory::Memory;
 use ckpt_format::decode::{Checkpoint, decode};
 use std::alloc::Global;
 
-/// The most bytes of a checkpoint.
+/// The largest number of bytes of a checkpoint.
 pub const LIMIT: u64 = 8_000_084;
 
-/// What a slot holds, whatever the job.
+/// The contents of a slot, for any job.
 #[derive(Drop)]
 pub enum Held {
-    /// There is no such file.
+    /// The file does not exist.
     Absent,
-    /// It is no checkpoint.
+    /// The bytes are no checkpoint, with this fault.
     Broken(CkptFault),
-    /// It is a checkpoint.
+    /// The bytes are a checkpoint.
     Whole(Checkpoint),
 }
 
-/// What was loaded of a slot.
+/// The result of loading a slot.
 #[derive(Drop)]
 pub enum Loaded {
-    /// There is no such file.
+    /// The file does not exist.
     Absent,
-    /// It has more bytes than a checkpoint can have.
+    /// The file has more bytes than a checkpoint can have.
     Long,
-    /// It has these.
+    /// The bytes of the file.
     Bytes(Bytes),
 }
 
@@ -44,8 +44,8 @@ pub enum Loaded {
 /// # Errors
 ///
 /// - `Failed`: the load failed.
-/// - `Taken`: it failed, since another process holds the slots.
-/// - `Memory`: there was no memory for its bytes.
+/// - `Taken`: the load failed because another process has locked the slots.
+/// - `Memory`: out of memory for the bytes.
 pub fn load_slot<C: Keeper>(alloc: Global, keeper: &mut C, slot: u8) -> Result<Loaded, LookFault>
     requires { slot < 2 }
     ensures loaded { IfOk result (HasLoaded (C.state keeper.old).slots slot) }
@@ -65,11 +65,11 @@ pub fn load_slot<C: Keeper>(alloc: Global, keeper: &mut C, slot: u8) -> Result<L
     }
 }
 
-/// What a slot holds: nothing, bytes that are too many or no checkpoint, for the first of their faults, or a checkpoint.
+/// Returns the contents of a loaded slot: nothing, a checkpoint, or bytes that are too many or have a fault.
 ///
 /// # Errors
 ///
-/// There was no memory for the outcomes of a checkpoint.
+/// Out of memory for the outcomes of a checkpoint.
 pub fn held_of(alloc: Global, loaded: &Loaded) -> Result<Held, Memory>
     ensures { IfOk result (λ h. (slot : Option (List ℕ)) → IsLoadedFrom loaded.now slot → HoldsStored slot h) }
 {
@@ -80,7 +80,7 @@ pub fn held_of(alloc: Global, loaded: &Loaded) -> Result<Held, Memory>
     }
 }
 
-/// What the bytes of a slot are.
+/// Returns the contents of a slot with these bytes.
 fn held_in(alloc: Global, bytes: &[u8]) -> Result<Held, Memory>
     ensures { IfOk result (Holds bytes.now) }
 {
@@ -93,7 +93,7 @@ fn held_in(alloc: Global, bytes: &[u8]) -> Result<Held, Memory>
     }
 }
 
-/// The slot of a fault, which may be want of memory.
+/// Returns the slot of a fault, which may be out of memory.
 fn broken(fault: CkptFault) -> Result<Held, Memory>
     ensures slot { IfOk result (λ h. h ≡ Held.Broken fault) }
     ensures known { OnOk result (fault ≡ variant.Memory → ⊥) }
@@ -105,7 +105,7 @@ fn broken(fault: CkptFault) -> Result<Held, Memory>
 }
 
 impl Held {
-    /// The generation, where the slot is intact.
+    /// Returns the generation of a valid slot.
     fn generation(&self) -> Option<u8>
         ensures { result ≡ generation_in self.now }
     {
@@ -116,8 +116,8 @@ impl Held {
     }
 }
 
-/// The number of the newest slot: of two intact ones the second where its generation follows the first's, else the first; none where
-/// none is intact.
+/// Returns the number of the newest slot, or `None` if no slot is valid. Of two valid slots it is slot 1 if its
+/// generation follows that of slot 0, else slot 0.
 pub fn newest(zero: &Held, one: &Held) -> Option<u8>
     ensures { result ≡ newest_in zero.now one.now }
 {

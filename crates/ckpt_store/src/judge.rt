@@ -1,4 +1,4 @@
-//! What the bytes of a slot are for a job.
+//! The meaning of a slot's bytes for a job.
 
 ghost use Rattle.std.specs.Prelude.{◌≡◌, ◌≤◌, Some, IfOk, OnOk, length, map};
 ghost use Rattle.audit_model.specs.declared.fault.CkptFault.TheVariants as variant;
@@ -18,11 +18,11 @@ use ckpt_format::laws::checkpoints_are_read;
 use plan_core::job::Job;
 use std::alloc::Global;
 
-/// What the bytes of a slot are for the job with this digest.
+/// Decodes the bytes of a slot for the job with this digest.
 ///
 /// # Errors
 ///
-/// There was no memory for the outcomes of a checkpoint.
+/// Out of memory for the outcomes of a checkpoint.
 pub fn judge_bytes(
     alloc: Global,
     job: &Job,
@@ -36,7 +36,7 @@ pub fn judge_bytes(
 {
     match decode(alloc, bytes) {
         Ok(checkpoint) => {
-            // A law, called for what its contract says: what a checkpoint was made of stands at its places.
+            // Called for its contract: the parts of a checkpoint stand at their places.
             checkpoints_are_read();
             Ok(judge(job, digest, checkpoint))
         }
@@ -44,7 +44,7 @@ pub fn judge_bytes(
     }
 }
 
-/// The slot of a fault, which may be want of memory.
+/// Returns the slot of a fault, which may be out of memory.
 fn broken(fault: CkptFault) -> Result<Slot, Memory>
     ensures slot { IfOk result (λ s. s ≡ Slot.Broken fault) }
     ensures known { OnOk result (fault ≡ variant.Memory → ⊥) }
@@ -56,7 +56,7 @@ fn broken(fault: CkptFault) -> Result<Slot, Memory>
     }
 }
 
-/// What a checkpoint is for the job with this digest.
+/// Returns the slot of a checkpoint, for the job with this digest.
 fn judge(job: &Job, digest: &[u8; 32], checkpoint: Checkpoint) -> Slot
     requires few { length checkpoint.outcomes.items ≤ most_trajectories }
     requires rising { AreRising (map (λ o. o.id) checkpoint.outcomes.items) }

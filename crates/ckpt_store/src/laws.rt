@@ -1,17 +1,18 @@
-//! Laws of the slots of a keeper, each the contract of a function that does nothing.
+//! Laws of a keeper's slots, each the contract of an empty function.
 
 ghost use Rattle.ckpt_store.specs.Laws.{SavesKeepTheNewest, SavesLeaveHonestSlots, CheckpointsAreOurs, HonestSlotsOpenRight, RightIsHonest, SavedSlotsAreNewest, SlotsAreWhatTheyAre, StopsLeaveHonestSlots, WrittenSlotsAreNewest};
 
 use audit_model::laws::{bare_outcomes_have_no_bins, honest_runs_go_on_rightly};
 use ckpt_format::laws::{checkpoints_are_read, faultless_bytes_are_checkpoints};
 
-/// A checkpoint is the job's where the job is looked for by its digest and all its outcomes fit the job.
+/// A checkpoint belongs to the job if it has the job's digest and its outcomes are all plausible for the job.
 pub fn checkpoints_are_ours()
     ensures { CheckpointsAreOurs }
 {}
 
-/// A slot is what its bytes are: one that is read as the job's is a checkpoint of the digest with what was read, one that is read as another's is a
-/// checkpoint of another digest, and one that is broken is no checkpoint of the digest of which all outcomes fit the job.
+/// A slot matches its bytes. A slot of the job is a checkpoint of the job's digest with these outcomes. A slot of
+/// another job is a checkpoint of another digest. A broken slot is no checkpoint of the job's digest with plausible
+/// outcomes.
 pub fn slots_are_what_they_are()
     ensures { SlotsAreWhatTheyAre }
 {
@@ -19,43 +20,43 @@ pub fn slots_are_what_they_are()
     checkpoints_are_read();
 }
 
-/// An intact slot of the place's generation in the place's slot is the newest, whatever both slots were.
+/// A valid slot with the place's generation in the place's slot is the newest, whatever both slots were before.
 pub fn written_slots_are_newest()
     ensures { WrittenSlotsAreNewest }
 {}
 
-/// A checkpoint of a job that was written to the place of its slots is in the newest slot.
+/// A checkpoint of a job that is written to the place of its slots is in the newest slot.
 pub fn saved_slots_are_newest()
     ensures { SavedSlotsAreNewest }
 {}
 
-/// What a job's trajectories find is honest: each outcome is whole or without its bins.
+/// The outcomes of a job's trajectories are consistent, with or without a histogram.
 pub fn right_outcomes_are_honest()
     ensures { RightIsHonest }
 {
     bare_outcomes_have_no_bins();
 }
 
-/// Outcomes from honest slots with which a run may start are what the job's trajectories find.
+/// Outcomes from consistent slots with which a run may start are those of the job's trajectories.
 pub fn honest_slots_open_right()
     ensures { HonestSlotsOpenRight }
 {
     honest_runs_go_on_rightly();
 }
 
-/// A stop in a save leaves honest slots, where its own slot is as before, or is none of the job's, or is honest.
+/// A stop within a save leaves consistent slots if its slot is unchanged, does not belong to the job, or is consistent.
 pub fn a_stop_in_a_save_leaves_honest_slots()
     ensures { StopsLeaveHonestSlots }
 {}
 
-/// However many of right saves were carried out, and wherever each failed or was stopped, they leave honest slots honest.
+/// Correct saves leave consistent slots consistent, however many were made and wherever each failed or was stopped.
 pub fn saves_leave_honest_slots()
     ensures { SavesLeaveHonestSlots }
 {
     right_outcomes_are_honest();
 }
 
-/// Saves in turn keep the newest slot of before or make a newer one, wherever each failed or was stopped.
+/// Saves in turn keep the newest slot from before or make a newer one, wherever each failed or was stopped.
 pub fn saves_keep_the_newest()
     ensures { SavesKeepTheNewest }
 {}

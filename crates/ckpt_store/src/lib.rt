@@ -1,4 +1,4 @@
-//! The two slots of a keeper: what they hold for a job, which is the newest, and where the next checkpoint goes.
+//! The two slots of a keeper: their contents for a job, the newest of them, and the place of the next checkpoint.
 #![tactic(auto)]
 
 pub mod collection;

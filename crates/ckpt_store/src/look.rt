@@ -1,4 +1,4 @@
-//! Looking at both slots of a keeper.
+//! Loading and decoding both slots of a keeper.
 
 ghost use Rattle.std.specs.Prelude.{◌≡◌, ◌<◌, ◌≤◌, IfErr, IfOk, length};
 ghost use Rattle.audit_model.specs.Pair.{stored_if};
@@ -17,17 +17,17 @@ use audit_model::memory::Memory;
 use plan_core::job::Job;
 use std::alloc::Global;
 
-/// The most bytes of a checkpoint.
+/// The largest number of bytes of a checkpoint.
 const LIMIT: u64 = 8_000_084;
 
-/// Why a slot was not looked at.
+/// The reason why a slot could not be looked at.
 #[derive(Clone, Copy, Debug, PartialEq, Eq)]
 pub enum LookFault {
     /// The keeper failed.
     Failed,
-    /// It failed, since another process holds the slots.
+    /// The keeper failed because another process has locked the slots.
     Taken,
-    /// There was no memory for a slot's bytes or its outcomes.
+    /// Out of memory for a slot's bytes or its outcomes.
     Memory,
 }
 
@@ -39,14 +39,14 @@ impl From<Memory> for LookFault {
     }
 }
 
-/// What both slots are for the job with this digest: slot 0 is looked at first. No slot is changed. Whatever the keeper tells, there are two
-/// slots that were seen, and what is answered is what these are for the job.
+/// Loads both slots for the job with this digest, slot 0 first. No slot is changed. Even if the keeper's slots are not
+/// observable, the answer is that of two slots that were seen.
 ///
 /// # Errors
 ///
 /// - `Failed`: a load of the keeper failed.
-/// - `Taken`: it failed, since another process holds the slots.
-/// - `Memory`: there was no memory for a slot's bytes or for the outcomes of its checkpoint.
+/// - `Taken`: a load failed because another process has locked the slots.
+/// - `Memory`: out of memory for a slot's bytes or for the outcomes of its checkpoint.
 pub fn look<C: Keeper>(
     alloc: Global,
     keeper: &mut C,
@@ -67,7 +67,7 @@ pub fn look<C: Keeper>(
     Ok(Slots { zero, one })
 }
 
-/// What one slot is for the job with this digest.
+/// Loads one slot for the job with this digest.
 fn look_at<C: Keeper>(
     alloc: Global,
     keeper: &mut C,
@@ -91,7 +91,7 @@ fn look_at<C: Keeper>(
     }
 }
 
-/// What a slot that was loaded is, where its bytes were found, or that it is absent.
+/// Returns the slot of a load: that of the loaded bytes, or an empty one.
 fn judge_loaded(
     alloc: Global,
     job: &Job,
@@ -111,7 +111,7 @@ fn judge_loaded(
     Ok(judge_bytes(alloc, job, digest, bytes)?)
 }
 
-/// What a slot that was not loaded is.
+/// Returns the slot of a failed load.
 fn unloaded(error: LoadError) -> Result<Slot, LookFault>
     ensures { result ≡ unloaded error }
 {

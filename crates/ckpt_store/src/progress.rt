@@ -1,4 +1,4 @@
-//! How far a job is, by its slots.
+//! The progress of a job, from its slots.
 
 ghost use Rattle.std.specs.Prelude.{◌≡◌, ℕ, List, Option, IfOk};
 ghost use Rattle.audit_statement.specs.Slots.{slot_of};
@@ -16,18 +16,18 @@ use ckpt_format::digest::job_digest;
 use plan_core::job::Job;
 use std::alloc::Global;
 
-/// How far a job is.
+/// The progress of a job.
 #[derive(Clone, Copy, Debug, PartialEq, Eq)]
 pub enum Progress {
-    /// So many of its trajectories are in the newest slot.
+    /// The number of the job's outcomes in the newest slot.
     Done(u64),
     /// The newest slot is another job's.
     OtherJob,
-    /// No slot is intact, and one is not absent.
+    /// No slot is valid, and at least one is not empty.
     Damaged,
 }
 
-// What a loaded slot is for the job with this digest. The only error is want of memory.
+// Returns the slot of a load for the job with this digest. The only error is out of memory.
 fn slot_for(alloc: Global, job: &Job, digest: &[u8; 32], loaded: &Loaded) -> Result<Slot, Memory>
     ensures { IfOk result (λ s. (slot : Option (List ℕ)) → IsLoadedFrom loaded.now slot → slot_view s ≡ slot_of job.now digest.now slot) }
 {
@@ -35,7 +35,7 @@ fn slot_for(alloc: Global, job: &Job, digest: &[u8; 32], loaded: &Loaded) -> Res
         Loaded::Absent => Ok(Slot::Absent),
         Loaded::Long => Ok(Slot::Broken(CkptFault::TooLong(LIMIT))),
         Loaded::Bytes(bytes) => {
-            // No more were loaded.
+            // A longer file was never loaded.
             if bytes.len() as u64 > LIMIT {
                 return Ok(Slot::Broken(CkptFault::TooLong(LIMIT)));
             }
@@ -44,7 +44,7 @@ fn slot_for(alloc: Global, job: &Job, digest: &[u8; 32], loaded: &Loaded) -> Res
     }
 }
 
-// What is taken from the newest slot, as progress.
+// Returns the progress from the newest slot.
 fn progress_by(answer: Result<Option<Checkpoint>, StoreFault>) -> Progress
     ensures { result ≡ definition.progress_by answer }
 {
@@ -56,7 +56,7 @@ fn progress_by(answer: Result<Option<Checkpoint>, StoreFault>) -> Progress
     }
 }
 
-/// How far the job is by what was loaded of its two slots. The only error is want of memory.
+/// Returns the progress of the job from its two loaded slots. The only error is out of memory.
 pub fn progress_of(
     alloc: Global,
     job: &Job,

@@ -19,12 +19,12 @@ use audit_model::place::Place;
 use ckpt_format::ahead::Ahead;
 use ckpt_format::encode::encode_with;
 
-/// Saves the checkpoint of outcomes, with bins or without, which the keeper is to let through, in the slot of a place, in the second version of the format, and moves the
-/// place on to the other slot and the next generation. It takes no memory but the keeper's.
+/// Saves a checkpoint of outcomes in the slot of a place, in the second version of the format. The keeper must accept
+/// the save. Afterwards the place moves on to the other slot and the next generation. Only the keeper may allocate.
 ///
 /// # Errors
 ///
-/// The keeper failed: the place is as before, and its slot may hold anything.
+/// The keeper failed. The place is unchanged, and its slot may hold anything.
 pub fn save<C: Keeper>(
     keeper: &mut C,
     place: &mut Place,
@@ -52,11 +52,11 @@ pub fn save<C: Keeper>(
     save_with(keeper, place, digest, outcomes, room, None)
 }
 
-/// Does what `save` does, and goes on with a digest where one was begun.
+/// Saves as `save` does, and continues a digest that was started ahead.
 ///
 /// # Errors
 ///
-/// The keeper failed: the place is as before, and its slot may hold anything.
+/// The keeper failed. The place is unchanged, and its slot may hold anything.
 pub fn save_with<C: Keeper>(
     keeper: &mut C,
     place: &mut Place,

@@ -1,4 +1,4 @@
-//! What two slots are for a job.
+//! The two slots of a job.
 
 ghost use Rattle.std.specs.Prelude.{◌≡◌, ◌<◌, Some, None, MatchResult};
 ghost use Rattle.audit_statement.specs.Slots as definition;
@@ -8,36 +8,36 @@ use audit_model::fault::CkptFault;
 use audit_model::place::Place;
 use ckpt_format::decode::Checkpoint;
 
-/// What a slot is for a job.
+/// A slot, as seen by a job.
 #[derive(Drop)]
 pub enum Slot {
-    /// It holds nothing.
+    /// The slot is empty.
     Absent,
-    /// It holds no checkpoint, or one of this job with an outcome that the job cannot have.
+    /// The slot holds no checkpoint, or one of this job with an outcome that is not plausible.
     Broken(CkptFault),
-    /// It holds a checkpoint of the job with another digest.
+    /// The slot holds a checkpoint of another job, with this digest.
     Other { found: [u8; 32], generation: u8 },
-    /// It holds a checkpoint of this job.
+    /// The slot holds a checkpoint of this job.
     Ours(Checkpoint),
 }
 
-/// What both slots are for a job.
+/// Both slots, as seen by a job.
 #[derive(Drop)]
 pub struct Slots {
     pub zero: Slot,
     pub one: Slot,
 }
 
-/// Why no checkpoint is taken from the slots.
+/// The reason why no checkpoint is taken from the slots.
 #[derive(Drop)]
 pub enum StoreFault {
-    /// No slot holds a checkpoint, and one is not absent.
+    /// No slot is valid, and at least one is not empty.
     Damaged(Slots),
     /// The newest slot holds a checkpoint of another job.
     OtherJob { found: [u8; 32], wanted: [u8; 32] },
 }
 
-/// The generation that follows, of three in turn.
+/// Returns the next of three generations in turn.
 pub(crate) fn generation_after(generation: u8) -> u8
     ensures next { result ≡ definition.generation_after (Some generation) }
     ensures below { result < 3 }
@@ -46,7 +46,7 @@ pub(crate) fn generation_after(generation: u8) -> u8
 }
 
 impl Slot {
-    /// The generation, where the slot is intact.
+    /// Returns the generation of a valid slot.
     fn generation(&self) -> Option<u8>
         ensures { result ≡ definition.generation_of (slot_view self.now) }
     {
@@ -66,7 +66,7 @@ impl Slot {
         }
     }
 
-    /// The checkpoint of an intact slot, where it is of the wanted job.
+    /// Returns the checkpoint of a valid slot, if it belongs to the wanted job.
     fn opened(self, wanted: &[u8; 32]) -> Result<Option<Checkpoint>, StoreFault>
         ensures { result ≡ opened self wanted.now }
     {
@@ -82,7 +82,8 @@ impl Slot {
 }
 
 impl Slots {
-    /// The number of the newest slot: of two intact ones the second where its generation follows the first's.
+    /// Returns the number of the newest slot. Of two valid slots it is slot 1 if its generation follows that of slot 0,
+    /// else slot 0.
     fn newest_number(&self) -> Option<u8>
         ensures { result ≡ newest_seen self.now }
     {
@@ -94,7 +95,8 @@ impl Slots {
         }
     }
 
-    /// Where the next checkpoint goes: the slot that is not the newest, with the generation after the newest's.
+    /// Returns the place of the next checkpoint: the slot that is not the newest, with the generation after the
+    /// newest's.
     pub fn place(&self) -> Place
         ensures place { (result.slot, result.generation) ≡ place_seen self.now }
         ensures slot { result.slot < 2 }
@@ -110,11 +112,11 @@ impl Slots {
         }
     }
 
-    /// The checkpoint of the newest slot. None where both slots are absent.
+    /// Returns the checkpoint of the newest slot, or `None` if both slots are empty.
     ///
     /// # Errors
     ///
-    /// - `Damaged`: no slot is intact, and one is not absent.
+    /// - `Damaged`: no slot is valid, and at least one is not empty.
     /// - `OtherJob`: the newest slot holds a checkpoint of another job.
     pub fn newest(self, wanted: &[u8; 32]) -> Result<Option<Checkpoint>, StoreFault>
         ensures answer { result ≡ newest_answer self wanted.now }
@@ -127,7 +129,7 @@ impl Slots {
         }
     }
 
-    /// The answer where no slot is intact.
+    /// Returns the answer if no slot is valid.
     fn without_intact(self) -> Result<Option<Checkpoint>, StoreFault>
         ensures { result ≡ without_intact self }
     {
@@ -139,7 +141,7 @@ impl Slots {
     }
 }
 
-/// The place in a slot beside an intact one.
+/// Returns the place beside a valid slot.
 fn beside(slot: u8, newest: &Slot) -> Place
     ensures place { result ≡ record { slot = slot; generation = definition.generation_after (definition.generation_of (slot_view newest.now)) } }
     ensures generation { result.generation < 3 }

@@ -1,4 +1,4 @@
-//! What a gathering tells.
+//! The result of a gathering.
 
 ghost use Rattle.std.specs.Prelude.{◌≡◌};
 ghost use Rattle.ckpt_store.specs.declared.told.Ungathered.TheVariants as ungathered;
@@ -10,7 +10,8 @@ use audit_model::memory::Memory;
 /// A list of findings.
 pub type FindingList = PlainList<Finding>;
 
-/// What was found in the working folder and in each folder, how many outcomes there are in all, and whether they were saved.
+/// The findings in the working folder and in each other folder, the total number of outcomes, and whether they were
+/// saved.
 #[derive(Drop)]
 pub struct Told {
     pub own: Finding,
@@ -19,14 +20,14 @@ pub struct Told {
     pub saved: bool,
 }
 
-/// Why a gathering ended without telling.
+/// The reason why a gathering failed.
 #[derive(Clone, Copy, Debug, PartialEq, Eq)]
 pub enum Ungathered {
-    /// There was no memory; no save was tried.
+    /// Out of memory. No save was attempted.
     Memory,
-    /// A slot of the working folder could not be loaded; no save was tried.
+    /// A slot of the working folder could not be loaded. No save was attempted.
     Unread,
-    /// It could not, since another process holds the folder; no save was tried.
+    /// A slot could not be loaded because another process has locked the folder. No save was attempted.
     Taken,
     /// The save failed, and its slot may hold anything.
     Unsaved,

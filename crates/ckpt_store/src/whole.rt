@@ -29,7 +29,7 @@ use ckpt_format::digest::job_digest;
 use plan_core::job::Job;
 use std::alloc::Global;
 
-/// What the slots of the working folder give, and where its next checkpoint goes.
+/// The initial state of a gathering: the outcomes of the working folder, and the place of its next checkpoint.
 #[derive(Drop)]
 struct Begun {
     place: Place,
@@ -37,16 +37,17 @@ struct Begun {
     collection: Collection,
 }
 
-/// Gathers what the working folder's slots and those of each folder hold of the job. They are looked at one after the other, the working folder's
-/// first. Where `saves` is set, the union is saved at the place for the next checkpoint of the working folder, unless it has a checkpoint that cannot be
-/// taken, or a folder has none that can, or says something else of an id than one before it; then nothing is saved.
+/// Gathers the job's outcomes from the slots of the working folder and then of each other folder. With `saves`, the
+/// union is saved at the place of the working folder's next checkpoint. It is not saved if the working folder has a
+/// checkpoint that cannot be taken, or if another folder has none that can. Neither is it saved if two folders have
+/// different outcomes for one id.
 ///
 /// # Errors
 ///
-/// - `Memory`: there was no memory; no save was tried.
-/// - `Unread`: a slot of the working folder could not be loaded; no save was tried.
-/// - `Taken`: it could not, since another process holds the folder; no save was tried.
-/// - `Unsaved`: the one save that was tried, of the union at its place, failed.
+/// - `Memory`: out of memory. No save was attempted.
+/// - `Unread`: a slot of the working folder could not be loaded. No save was attempted.
+/// - `Taken`: the slot could not be loaded because another process has locked the folder. No save was attempted.
+/// - `Unsaved`: the only save, of the union at its place, failed.
 pub fn gather<C: Keeper, F: Keeper>(
     alloc: Global,
     keeper: &mut C,
@@ -67,7 +68,7 @@ pub fn gather<C: Keeper, F: Keeper>(
     }
 }
 
-// The same, once the slots of the working folder were looked at.
+// Gathers from the folders after the working folder's slots were looked at.
 fn gather_from<C: Keeper, F: Keeper>(
     alloc: Global,
     keeper: &mut C,
@@ -133,7 +134,7 @@ fn begin<C: Keeper>(
     }
 }
 
-// Takes what the slots of the working folder give.
+// Takes the outcomes that the slots of the working folder offer.
 fn begin_with(
     alloc: Global,
     job: &Job,
@@ -163,7 +164,7 @@ fn begin_with(
     })
 }
 
-// Looks at the slots of each folder, and adds what they give.
+// Looks at the slots of each folder, and adds their outcomes.
 fn find_each<F: Keeper>(
     alloc: Global,
     collection: &mut Collection,
@@ -191,7 +192,7 @@ fn find_each<F: Keeper>(
     Ok(findings)
 }
 
-// Whether the findings let the union be saved.
+// Returns true if the findings allow the union to be saved.
 fn may_save(own: Finding, folders: &[Finding]) -> bool
     ensures { result ≡ may_save own folders.now }
 {
@@ -209,7 +210,7 @@ fn are_added(folders: &[Finding]) -> bool
     true
 }
 
-// Saves what was gathered, where that is wanted, and says how many outcomes it is.
+// Saves the union if that is wanted, and returns the number of its outcomes.
 fn finish<C: Keeper>(
     alloc: Global,
     keeper: &mut C,

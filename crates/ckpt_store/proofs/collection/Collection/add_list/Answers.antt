@@ -7,7 +7,7 @@ use Rattle.ckpt_store.specs.Collected.{Collected, IsCovered}
 use Rattle.ckpt_store.proofs.Covering.{left_out, pushed_union}
 use Rattle.ckpt_store.proofs.collection.Collection.add_list.Goals as goal
 
--- what is collected of these
+-- the collection of this union and these lists
 of : Gathered → List (RoomyList Outcome) → Collected
 of g lists = record { total = g.total; outcomes = g.outcomes; lists = map (λ l. l.items) lists }
 
