@@ -1,6 +1,6 @@
--- The lines about a gathering, in this project's formats. A line is a list of texts, put together. Names are those of
--- the folders, in the order of the arguments. The number of a folder is 0 for the working folder, and counts from 1 for
--- the others.
+-- The lines about a gathering.
+-- Source: this project's formats. A line is a list of texts, put together. Names are those of the folders, in the order
+-- of the arguments. The number of a folder is 0 for the working folder, and counts from 1 for the others.
 use Rattle.std.specs.Prelude.{ℕ, zero, suc, Bool, true, false, List, [], ◌∷◌, ◌++◌, cond, codes, decimal, get_or}
 use Rattle.audit_statement.specs.Note.{as_line}
 use Rattle.ckpt_store.specs.Findings.{is_added, is_start}

@@ -1,5 +1,6 @@
--- The end of a call that gathers folders or only looks at them. The clauses give its status, its outputs and the slots
--- that it leaves, all by the one gathering that it makes.
+-- The end of a call that gathers folders or only looks at them.
+-- Source: this project. The clauses give its status, its outputs and the slots that it leaves, all by the one gathering
+-- that it makes.
 use Rattle.std.specs.Prelude.{◌≡◌, ◌⊎◌, ℕ, Bool, true, false, not, ◌||◌, List, Result, Ok, Err, IfOk, IfErr}
 use Rattle.std.specs.Io.KnownBytes.{Appends}
 use Rattle.audit_model.specs.Faults.{Rose}

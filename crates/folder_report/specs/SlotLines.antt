@@ -1,5 +1,5 @@
--- The lines about slots, and the end of a call that reports them, in this project's formats. A line is a list of texts,
--- put together.
+-- The lines about slots, and the end of a call that reports them.
+-- Source: this project's formats. A line is a list of texts, put together.
 use Rattle.std.specs.Prelude.{◌≡◌, ◌⊎◌, ℕ, List, [], ◌∷◌, ◌++◌, codes, decimal, length, Option, Some, None, option_map}
 use Rattle.audit_model.specs.Faults.{Rose}
 use Rattle.audit_model.specs.Job.{Job}
