@@ -1,9 +1,9 @@
--- What opening a file and reading it to its end say, and the files' names.
+-- The results of opening a file and reading it to its end, and the names of the files.
 use Rattle.std.specs.Prelude.{◌≡◌, ℕ, zero, suc, ◌<◌, ◌≤◌, Bool, true, false, List, length, codes, ⊤, Option, IfSome, Result, Ok, Err}
 use Rattle.audit_io.specs.declared.keeper.LoadError.{LoadError}
 use Rattle.audit_io.specs.declared.keeper.LoadError.TheVariants as load
 
--- what the answer says of the bytes that the reader had, where it tells them, and of the room
+-- the answer's claim about the reader's bytes, if they are observable, and about the buffer
 abbrev pub ReadsWithin : {U : Type 0} → Option (List ℕ) → ℕ → List ℕ → Result U LoadError → Type 0
 ReadsWithin bytes limit room (Ok done) = (length room ≤ limit) × IfSome bytes (λ xs. room ≡ xs)
 ReadsWithin bytes limit room (Err load.Failed) = ⊤
@@ -11,7 +11,8 @@ ReadsWithin bytes limit room (Err load.Taken) = ⊥
 ReadsWithin bytes limit room (Err (load.Long n)) = (n ≡ limit) × IfSome bytes (λ xs. limit < length xs)
 ReadsWithin bytes limit room (Err load.Memory) = ⊤
 
--- what a load answers over a file that was opened, whose bytes these are where it tells them: it is there, whatever its length
+-- the answer of a load from an opened file with these bytes, if they are observable: the slot is there, whatever its
+-- length
 abbrev pub LoadsFile : Option (List ℕ) → ℕ → List ℕ → Result Bool LoadError → Type 0
 LoadsFile bytes limit room (Ok true) = (length room ≤ limit) × IfSome bytes (λ xs. room ≡ xs)
 LoadsFile bytes limit room (Ok false) = ⊥

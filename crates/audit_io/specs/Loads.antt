@@ -1,4 +1,4 @@
--- What the answer of a load says.
+-- The claims of a load's answer.
 use Rattle.std.specs.Prelude.{◌≡◌, ℕ, ◌<◌, ◌≤◌, Bool, true, false, List, [], length, ⊤, Some, None, Result, Ok, Err}
 use Rattle.audit_io.specs.declared.keeper.LoadError.{LoadError}
 use Rattle.audit_io.specs.declared.keeper.LoadError.TheVariants as load
@@ -6,7 +6,7 @@ use Rattle.audit_model.specs.Faults.{Counts, Rose}
 use Rattle.audit_model.specs.Pair.{Stored}
 use Rattle.audit_model.specs.State.{LoadFaults}
 
--- what a load's answer says of the slot and of the room
+-- the claim of a load's answer about the slot and the buffer
 abbrev pub Loads : Stored → ℕ → List ℕ → Result Bool LoadError → Type 0
 Loads slot limit room (Ok true) = slot ≡ Some room
 Loads slot limit room (Ok false) = slot ≡ None
@@ -15,7 +15,8 @@ Loads slot limit room (Err load.Taken) = ⊤
 Loads slot limit room (Err (load.Long n)) = (bytes : List ℕ) × (slot ≡ Some bytes) × (limit < length bytes)
 Loads slot limit room (Err load.Memory) = ⊤
 
--- what a load's answer says whatever the keeper tells: the room was cleared, and only a slot's bytes were put there
+-- the claim of a load's answer if the slots are not observable: the buffer was cleared, and only a slot's bytes were
+-- put there
 abbrev pub LoadsWithin : ℕ → List ℕ → Result Bool LoadError → Type 0
 LoadsWithin limit room (Ok true) = length room ≤ limit
 LoadsWithin limit room (Ok false) = room ≡ []
@@ -32,7 +33,7 @@ IsFaultless (Err load.Taken) = ⊥
 IsFaultless (Err (load.Long n)) = ⊤
 IsFaultless (Err load.Memory) = ⊤
 
--- what a load's answer says of its counts
+-- the effect of a load's answer on its counts
 abbrev pub LoadCause : LoadFaults → LoadFaults → Result Bool LoadError → Type 0
 LoadCause before now (Ok found) = now ≡ before
 LoadCause before now (Err load.Failed) = Rose before.all now.all × (now.taken ≡ before.taken)
@@ -40,7 +41,8 @@ LoadCause before now (Err load.Taken) = Rose before.all now.all × Rose before.t
 LoadCause before now (Err (load.Long limit)) = now ≡ before
 LoadCause before now (Err load.Memory) = now ≡ before
 
--- the load failed only where the count rose, and since another process holds the slots exactly where it answers so; any other answer leaves both counts
+-- the load failed only if the count rose, and because of a lock exactly if it says so. Any other answer leaves both
+-- counts unchanged.
 pub record HasLoadCause (before now : LoadFaults) (result : Result Bool LoadError) : Type 0 where
   pub counts : Counts before.all now.all
   pub takings : Counts before.taken now.taken

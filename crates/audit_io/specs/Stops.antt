@@ -1,4 +1,4 @@
--- What a keeper that stops does.
+-- The effect of a keeper that stops within a save.
 use Rattle.std.specs.Prelude.{◌≡◌, ℕ, zero, suc, ◌+◌, ◌-◌, ◌^◌, ◌/◌, ◌↔◌, min, Bool, true, false, List, [], ◌∷◌, ◌++◌, length, take, Some, Result, OnOk, OnErr, IsErr, is_ok}
 use Rattle.std.specs.List.{Contains}
 use Rattle.audit_model.specs.Faults.{HasCause}
@@ -11,15 +11,15 @@ abbrev pub with_bytes : Pair → ℕ → List ℕ → Pair
 with_bytes p zero bytes = record p { zero_slot = Some bytes }
 with_bytes p (suc n) bytes = record p { one_slot = Some bytes }
 
--- the save was tried, and failed
+-- the save was attempted and failed
 abbrev pub with_try : MemorySlots → ℕ → List ℕ → MemorySlots
 with_try k slot bytes = record k { tried = k.tried ++ try_of slot bytes false ∷ [] }
 
--- the save was tried, and failed, and left its first bytes
+-- the save was attempted and failed, and left its first bytes
 abbrev pub with_part : MemorySlots → ℕ → List ℕ → ℕ → MemorySlots
 with_part k slot bytes kept = record k { slots = with_bytes k.slots slot (take kept bytes); tried = k.tried ++ try_of slot bytes false ∷ [] }
 
--- what a save does to a keeper in memory
+-- the effect of a save on a keeper in memory
 pub record HasSaved {E : Type 0} (before now : MemorySlots) (slot : ℕ) (bytes : List ℕ) (result : Result (Unit {0}) E) : Type 0 where
   pub saved : OnOk result (HoldsBytes (Some now.slots) slot bytes)
   pub half : OnErr result (stored now.slots slot ≡ Some (take (length bytes / 2) bytes))
@@ -33,7 +33,8 @@ pub record HasSaved {E : Type 0} (before now : MemorySlots) (slot : ℕ) (bytes 
   pub load_fails : now.load_fails ≡ before.load_fails
   pub save_fails : now.save_fails ≡ before.save_fails
 
--- the keeper that is stopped, how many saves it passes on yet, whether it has stopped, how many bytes its stop leaves, and how many saves it failed
+-- the wrapped keeper, the number of saves still passed on, the stop, the number of bytes that the stop leaves, and the
+-- number of failed saves
 pub record Stopping : Type 0 where
   pub inner : MemorySlots
   pub passes : ℕ
@@ -41,20 +42,20 @@ pub record Stopping : Type 0 where
   pub kept : ℕ
   pub faults : ℕ
 
--- one fault more
+-- one more fault
 abbrev pub one_more : ℕ → ℕ
 one_more faults = min (faults + 1) (2 ^ 64 - 1)
 
--- at its stop it leaves the first bytes, and later nothing
+-- the stop leaves the first bytes, and later saves leave nothing
 abbrev pub stopped_inner : Bool → Stopping → ℕ → List ℕ → MemorySlots
 stopped_inner false k slot bytes = with_part k.inner slot bytes k.kept
 stopped_inner true k slot bytes = with_try k.inner slot bytes
 
--- what a save does that is not passed on
+-- the effect of a save that is not passed on
 abbrev pub after_refused : Stopping → ℕ → List ℕ → Stopping
 after_refused k slot bytes = record k { inner = stopped_inner k.stopped k slot bytes; stopped = true; faults = one_more k.faults }
 
--- a save that is passed on
+-- the effect of a save that is passed on
 pub record HasPassed {E : Type 0} (before now : Stopping) (slot : ℕ) (bytes : List ℕ) (result : Result (Unit {0}) E) : Type 0 where
   pub inner : HasSaved before.inner now.inner slot bytes result
   pub passes : now.passes + 1 ≡ before.passes

@@ -1,8 +1,8 @@
-//! Bytes handed out of a list.
+//! Copying bytes out of a list.
 
 ghost use Rattle.std.specs.Prelude.{◌≡◌, ◌+◌, ◌-◌, ◌<◌, ◌≤◌, [], min, ◌++◌, length, take, drop};
 
-// Puts some of the bytes from `at` on at the front of `into`, at most so many.
+// Copies up to `most` bytes from `at` on to the front of `into`.
 pub(crate) fn give(bytes: &[u8], at: usize, most: usize, into: &mut [u8]) -> usize
     requires at { at ≤ length bytes.now }
     requires most { 0 < most }

@@ -1,4 +1,4 @@
-//! A keeper over two files.
+//! The checkpoint store of a run: two files.
 
 ghost use Rattle.std.specs.Prelude.{◌≡◌, ◌⊎◌, ◌↔◌, ◌<◌, false, true, [], None, Ok, Err, IsOk, IfOk, OnOk, IsErrAnd};
 ghost use Rattle.std.specs.IoError.{error_kind};
@@ -18,21 +18,21 @@ use std::io;
 use std::io::{ErrorKind, Read};
 use std::rt::Files;
 
-// The most bytes of one read.
+// The largest number of bytes of one read.
 const PIECE: usize = 4096;
 
-/// Two slots as the files `audit-0.ckpt` and `audit-1.ckpt` of the working folder.
+/// A keeper with two slots, the files `audit-0.ckpt` and `audit-1.ckpt` of the working folder.
 ///
-/// A save answers `Ok` only after the system has answered that the file's bytes and its length are stored and, since the last file was made
-/// anew, that the folder is. It is trusted that the file system keeps what it has stored, gives it back, and leaves the other file alone: this keeper
-/// tells nothing of what its slots hold.
+/// A save returns `Ok` only after the system has stored the file's bytes and its length. The folder, too, is then
+/// stored since its last new file. We trust the file system to keep what it has stored, to return it, and to leave the
+/// other file alone. The contents of the slots are thus not observable.
 ///
-/// Its first call takes the lock of the working folder, where the system has such locks, and holds it as long as the keeper lives. Where another
-/// keeper holds it the call fails, and touches no file.
+/// The first call takes the lock of the working folder, if the system has such locks, and the keeper holds it as long
+/// as it lives. If another keeper holds the lock, the call fails and touches no file.
 ///
-/// A slot has to be a plain file, or a link to one, and the two slots two files: a folder, a pipe, a device, a link to nothing or to the other slot is
-/// not opened, and the call fails. Before its first save it waits until the system has stored the other slot's file and the folder, since another
-/// process may have ended before they were.
+/// A slot has to be a plain file or a link to one, and the two slots have to be different files. A folder, a pipe, a
+/// device, a dangling link or a link to the other slot is not opened, and the call fails. The first save waits until
+/// the system has stored the other slot's file and the folder. An earlier process may have ended before they were.
 #[derive(Drop)]
 pub struct FileKeeper<R: Files<File = File> + Drop> {
     files: R,
@@ -42,17 +42,17 @@ pub struct FileKeeper<R: Files<File = File> + Drop> {
     save_faults: u64,
 }
 
-/// Whether the working folder is the keeper's own.
+/// The lock state of the working folder.
 #[derive(Drop)]
 enum Folder {
-    /// No call has taken it.
+    /// No call has taken the lock yet.
     Untaken,
-    /// The opened folder holds the lock, where the system has such locks.
+    /// The opened folder holds the lock, if the system has such locks.
     Own(Option<File>),
 }
 
 impl<R: Files<File = File> + Drop> FileKeeper<R> {
-    /// A keeper over the files that this part of the runtime opens, of which no call has failed. It tells nothing.
+    /// Makes a keeper over the files that `files` opens. No call has failed yet, and its slots are not observable.
     pub fn new(files: R) -> FileKeeper<R>
         ensures slots { (⟦<FileKeeper<R> as Keeper>⟧.state result).slots ≡ None }
         ensures tried { (⟦<FileKeeper<R> as Keeper>⟧.state result).tried ≡ None }
@@ -72,8 +72,9 @@ impl<R: Files<File = File> + Drop> FileKeeper<R> {
 impl<R: Files<File = File> + Drop> Keeper for FileKeeper<R> {
     ghost state = { λ k. record { slots = None; tried = None; load_faults = k.load_faults; save_faults = k.save_faults } };
 
-    /// Where another keeper holds the folder, the answer is `Taken`. Else a slot is absent exactly where opening its file answers that there is
-    /// none; a file that was read is there, whatever its length. Want of memory, the system's too, is `Memory`.
+    /// Returns `Taken` if another keeper holds the folder. Otherwise a slot is empty exactly if opening its file
+    /// reports that there is none. A file that was read is a slot, whatever its length. Out of memory, also the
+    /// system's, is `Memory`.
     fn load(&mut self, slot: u8, limit: u64, room: &mut Bytes) -> Result<bool, LoadError> {
         let loaded = match take_folder(&self.files, &mut self.folder) {
             Ok(()) => load_opened(open_slot(&self.files, slot), limit, room),
@@ -82,7 +83,7 @@ impl<R: Files<File = File> + Drop> Keeper for FileKeeper<R> {
         self.load_faults.count(loaded)
     }
 
-    /// Makes the file where there is none, and touches no other. Want of memory is `Failed`.
+    /// Creates the file if there is none, and touches no other. Out of memory is `Failed`.
     fn save(&mut self, slot: u8, bytes: &[u8]) -> Result<(), Failed> {
         let saved = match take_folder(&self.files, &mut self.folder) {
             Ok(()) => save_slot(&self.files, slot, bytes, &mut self.known).is_ok(),
@@ -96,7 +97,7 @@ impl<R: Files<File = File> + Drop> Keeper for FileKeeper<R> {
     }
 }
 
-// Takes the working folder, unless it is the keeper's already.
+// Locks the working folder, unless the keeper holds the lock already.
 fn take_folder<R: Files<File = File>>(files: &R, folder: &mut Folder) -> Result<(), Taken> {
     match folder {
         Folder::Own(_) => Ok(()),
@@ -107,7 +108,7 @@ fn take_folder<R: Files<File = File>>(files: &R, folder: &mut Folder) -> Result<
     }
 }
 
-// What a load answers where another keeper holds the folder.
+// Returns the answer of a load if another keeper holds the folder.
 fn refuse(room: &mut Bytes) -> Result<bool, LoadError>
     ensures room { room.new.items ≡ [] }
     ensures taken { result ≡ Err LoadError.Taken }
@@ -116,7 +117,7 @@ fn refuse(room: &mut Bytes) -> Result<bool, LoadError>
     Err(LoadError::Taken)
 }
 
-// What an error of the file system is for a load.
+// Maps `io::Error` to `LoadError`.
 fn cause_of(error: &io::Error) -> LoadError
     ensures cause { (result ≡ LoadError.Memory) ⊎ (result ≡ LoadError.Failed) }
     ensures memory { (result ≡ LoadError.Memory) ↔ (error_kind error.now ≡ ErrorKind.OutOfMemory) }
@@ -127,7 +128,7 @@ fn cause_of(error: &io::Error) -> LoadError
     LoadError::Failed
 }
 
-// Appends all bytes of a reader to the empty room, and takes at most one more than the limit.
+// Appends all bytes of a reader to the empty buffer, but at most one more than the limit.
 fn read_within<T: Read>(from: &mut T, limit: u64, room: &mut Bytes) -> Result<(), LoadError>
     requires { room.old.items ≡ [] }
     ensures { ReadsWithin (T.remaining from.old) limit room.new.items result }
@@ -152,7 +153,8 @@ fn read_within<T: Read>(from: &mut T, limit: u64, room: &mut Bytes) -> Result<()
     Err(LoadError::Long(limit))
 }
 
-/// What a load answers over what opening the file answered. Absent exactly where there is no such file; a file that was read is there.
+/// Returns the answer of a load from the result of opening the file: empty exactly if there is no such file. A file
+/// that was read is a slot.
 pub fn load_opened<F: Read + Drop>(
     opened: io::Result<F>,
     limit: u64,

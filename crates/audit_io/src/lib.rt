@@ -1,4 +1,4 @@
-//! The outside of an audit: where it reads, writes and keeps checkpoints, with counts of faults.
+//! The I/O of an audit: sources, sinks, checkpoint stores and gates, with counts of faults.
 #![tactic(auto)]
 
 mod again;

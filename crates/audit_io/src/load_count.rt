@@ -1,4 +1,4 @@
-//! How often loads have failed.
+//! Counts of failed loads.
 
 ghost use Rattle.std.specs.Prelude.{◌≡◌};
 ghost use Rattle.audit_io.specs.Loads.{HasLoadCause};
@@ -6,7 +6,7 @@ ghost use Rattle.audit_io.specs.Loads.{HasLoadCause};
 use crate::keeper::LoadError;
 use std::marker::Model;
 
-/// How often a load has failed, and how often of these since another process holds the slots.
+/// The number of failed loads, and the number of those because another process had locked the slots.
 #[derive(Drop)]
 pub struct LoadCount {
     failed: u64,
@@ -22,7 +22,7 @@ impl Model for LoadCount {
 }
 
 impl LoadCount {
-    /// None has failed.
+    /// Makes counts of 0.
     pub fn new() -> LoadCount
         ensures { result ≡ record { all = 0; taken = 0 } }
     {
@@ -32,7 +32,7 @@ impl LoadCount {
         }
     }
 
-    /// Counts what a load answered, and hands it on.
+    /// Counts the answer of a load and returns it.
     pub fn count(&mut self, loaded: Result<bool, LoadError>) -> Result<bool, LoadError>
         ensures counted { HasLoadCause self.old self.new loaded }
         ensures same { result ≡ loaded }

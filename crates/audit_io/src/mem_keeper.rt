@@ -1,4 +1,4 @@
-//! A keeper in memory, of which some calls fail.
+//! A keeper in memory with injected faults.
 
 ghost use Rattle.std.specs.Prelude.{◌≡◌, ◌<◌, ◌≤◌, ◌+◌, ◌-◌, ◌^◌, ◌/◌, ◌↔◌, ◌∷◌, [], ◌++◌, IfOk, OnOk, OnErr, IsErr, Err, Some, option_map, Contains, min, take, length, is_ok};
 ghost use Rattle.audit_model.specs.Faults.{HasCause};
@@ -50,7 +50,7 @@ impl Model for MemKeeper {
 }
 
 impl MemKeeper {
-    /// Takes what the slots hold at first, and the numbers of the loads and of the saves that fail, counted from 1.
+    /// Makes a keeper from the initial slots and the numbers of the loads and saves that fail, counted from 1.
     pub fn new(
         alloc: Global,
         zero: Option<Bytes>,
@@ -92,7 +92,7 @@ impl MemKeeper {
         }
     }
 
-    /// What a slot holds.
+    /// Returns the contents of a slot.
     pub fn slot(&self, slot: u8) -> Option<&[u8]>
         requires { slot < 2 }
         ensures { option_map (λ b. b.now) result ≡ stored self.now.slots slot }
@@ -100,7 +100,7 @@ impl MemKeeper {
         self.at(slot).bytes()
     }
 
-    // Leaves the first bytes of a save, or all where there are fewer, and counts nothing.
+    // Writes the first `kept` bytes of a save, or all if there are fewer, and counts nothing.
     pub(crate) fn leave_part(&mut self, slot: u8, bytes: &[u8], kept: u32)
         requires slot { slot < 2 }
         requires few { length bytes.now ≤ most_saved_bytes }
@@ -118,7 +118,7 @@ impl MemKeeper {
         }
     }
 
-    // A save of which nothing comes here.
+    // Records a save attempt that wrote nothing.
     pub(crate) fn leave_none(&mut self, slot: u8, bytes: &[u8])
         ensures { self.new ≡ with_try self.old slot bytes.now }
     {

@@ -1,4 +1,4 @@
-//! A sink in memory.
+//! A sink in memory with injected faults.
 
 ghost use Rattle.std.specs.Prelude.{◌≡◌, ◌+◌, ◌-◌, ◌^◌, ◌≤◌, ◌<◌, ◌⊎◌, ◌↔◌, [], min, IsErr, IfOk, OnErr, Some, Contains, length};
 ghost use Rattle.std.specs.Io.KnownBytes.{WriteAppends};
@@ -12,7 +12,7 @@ use audit_model::memory::Memory;
 use std::alloc::Global;
 use std::marker::Model;
 
-/// Takes bytes into memory, at most so many a call, until its room is full, over calls of which some fail.
+/// A sink that takes up to `most` bytes in each call until its capacity is used up. Some calls fail.
 #[derive(Drop)]
 pub struct MemSink {
     bytes: Bytes,
@@ -35,7 +35,8 @@ impl Model for MemSink {
 }
 
 impl MemSink {
-    /// Takes its room in bytes, the most bytes of a call, and the numbers of the calls that fail, counted from 1.
+    /// Makes a sink from its capacity in bytes, the most bytes of a call, and the numbers of the calls that fail,
+    /// counted from 1.
     pub fn new(alloc: Global, room: usize, most: usize, fails: NumList) -> Result<MemSink, Memory>
         requires { 1 ≤ most }
         ensures { IfOk result (λ s. s ≡ record { bytes = []; room = room; most = most; fails = fails; calls = 0; faults = 0 }) }
@@ -50,7 +51,7 @@ impl MemSink {
         })
     }
 
-    /// What it took.
+    /// Returns the bytes taken so far.
     pub fn bytes(&self) -> &[u8]
         ensures { result.now ≡ self.now.bytes }
     {

@@ -10,10 +10,10 @@ use audit_model::memory::Memory;
 use std::alloc::Global;
 use std::marker::Model;
 
-/// The most bytes of a save.
+/// The largest number of bytes of a save.
 pub const MOST_SAVED: usize = 8_000_084;
 
-/// A slot, absent or a list of bytes, with room for every save.
+/// A slot in memory, empty or a list of bytes, with capacity for every save.
 #[derive(Drop)]
 pub struct MemSlot {
     there: bool,
@@ -33,7 +33,7 @@ impl Model for MemSlot {
 }
 
 impl MemSlot {
-    /// Takes what the slot holds at first.
+    /// Makes a slot with the given contents.
     pub fn new(alloc: Global, given: Option<Bytes>) -> Result<MemSlot, Memory>
         ensures { IfOk result (λ s. s ≡ option_map (λ b. b.items) given) }
     {
@@ -50,7 +50,7 @@ impl MemSlot {
         }
     }
 
-    /// What the slot holds.
+    /// Returns the contents of the slot.
     pub fn bytes(&self) -> Option<&[u8]>
         ensures { option_map (λ b. b.now) result ≡ self.now }
     {
@@ -61,7 +61,7 @@ impl MemSlot {
         }
     }
 
-    /// Clears the room and puts the slot's bytes there.
+    /// Clears the buffer and copies the slot's bytes into it.
     pub fn load(&self, limit: u64, room: &mut Bytes) -> Result<bool, LoadError>
         ensures found { Loads self.now limit room.new.items result }
         ensures within { LoadsWithin limit room.new.items result }
@@ -81,7 +81,7 @@ impl MemSlot {
         }
     }
 
-    /// Makes the slot hold these bytes.
+    /// Replaces the contents of the slot with these bytes.
     pub fn save(&mut self, bytes: &[u8])
         requires { length bytes.now ≤ most_saved_bytes }
         ensures { self.new ≡ Some bytes.now }

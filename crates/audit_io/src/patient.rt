@@ -1,4 +1,4 @@
-//! Readers and writers that wait a little where they would have to wait, and try again.
+//! Readers and writers that retry on `WouldBlock`.
 
 ghost use Rattle.std.specs.Prelude.{◌≡◌, ◌≢◌, IfErr};
 ghost use Rattle.std.specs.Io.{ReadsAtMost, WritesAtMost};
@@ -9,10 +9,11 @@ use std::io::{ErrorKind, Read, Write};
 use std::time::{Clock, Duration};
 use std::{io, thread};
 
-// How many milliseconds it waits before it tries again.
+// The pause in milliseconds before a retry.
 const PAUSE: u64 = 1;
 
-/// A reader or a writer, as of a pipe that does not wait, and a clock. Where a call answers that it would have to wait, it is made again after a millisecond.
+/// A reader or a writer and a clock. A call that would block, as of a non-blocking pipe, is made again after a
+/// millisecond.
 #[derive(Drop)]
 pub struct Patient<T: Drop, C: Clock + Drop> {
     inner: T,
@@ -20,7 +21,7 @@ pub struct Patient<T: Drop, C: Clock + Drop> {
 }
 
 impl<T: Read + Drop, C: Clock + Drop> Patient<T, C> {
-    /// This reader, with patience. It tells what the reader tells.
+    /// Wraps a reader. The wrapper is as observable as the reader.
     pub fn of_reader(inner: T, clock: C) -> Patient<T, C>
         ensures left { ⟦<Patient<T, C> as Read>⟧.remaining result ≡ T.remaining inner }
     {
@@ -29,7 +30,7 @@ impl<T: Read + Drop, C: Clock + Drop> Patient<T, C> {
 }
 
 impl<T: Write + Drop, C: Clock + Drop> Patient<T, C> {
-    /// This writer, with patience. It tells what the writer tells.
+    /// Wraps a writer. The wrapper is as observable as the writer.
     pub fn of_writer(inner: T, clock: C) -> Patient<T, C>
         ensures taken { ⟦<Patient<T, C> as Write>⟧.contents result ≡ T.contents inner }
     {
@@ -37,7 +38,7 @@ impl<T: Write + Drop, C: Clock + Drop> Patient<T, C> {
     }
 }
 
-// Waits a little.
+// Sleeps for one pause.
 fn pause<C: Clock>(clock: &C) {
     thread::sleep(clock, Duration::from_millis(PAUSE));
 }
@@ -62,7 +63,7 @@ impl<T: Write + Drop, C: Clock + Drop> Write for Patient<T, C> {
     }
 }
 
-// One read, again where it would have to wait. Its error is never that it would have to.
+// Reads once, and retries on `WouldBlock`. The returned error is never `WouldBlock`.
 fn read_patiently<T: Read, C: Clock>(from: &mut T, clock: &C, into: &mut [u8]) -> io::Result<usize>
     ensures amount { ReadsAtMost result into.new }
     ensures bytes { ReadConsumes (T.remaining from.old) (T.remaining from.new) result into.new }
@@ -82,7 +83,7 @@ fn read_patiently<T: Read, C: Clock>(from: &mut T, clock: &C, into: &mut [u8]) -
     Err(io::Error::from(ErrorKind::TimedOut))
 }
 
-// One write, again where it would have to wait. Its error is never that it would have to.
+// Writes once, and retries on `WouldBlock`. The returned error is never `WouldBlock`.
 fn write_patiently<T: Write, C: Clock>(to: &mut T, clock: &C, bytes: &[u8]) -> io::Result<usize>
     ensures amount { WritesAtMost result bytes.now }
     ensures bytes { WriteAppends (T.contents to.old) (T.contents to.new) result bytes.now }

@@ -10,17 +10,17 @@ use std::os::unix::fs::MetadataExt;
 use std::rt::Files;
 use std::{fs, io};
 
-/// What is known to be stored of what was there before this process.
+/// The knowledge of what the system has stored from earlier processes.
 #[derive(Drop)]
 pub struct Known {
-    // The file that was there when this process saved for the first time.
+    // The file found at the first save of this process is stored.
     newest: bool,
-    // The folder, with the names of all files that this process has made.
+    // The folder is stored, with the names of all files that this process has made.
     names: bool,
 }
 
 impl Known {
-    /// Nothing is known to be stored.
+    /// Makes the state of a process that knows nothing to be stored.
     pub fn new() -> Known {
         Known {
             newest: false,
@@ -29,7 +29,7 @@ impl Known {
     }
 }
 
-// The file of a slot.
+// Returns the file name of a slot.
 pub(crate) fn name_of(slot: u8) -> &'static str
     requires { slot < 2 }
     ensures { result.now ≡ file_name slot }
@@ -40,7 +40,8 @@ pub(crate) fn name_of(slot: u8) -> &'static str
     }
 }
 
-// What is in the place of a name, where it is a plain file, or a link to one. A link to nothing is there, and is none.
+// Returns the metadata of a name that is a plain file or a link to one. A dangling link exists, but is not a plain
+// file.
 fn plain_file<R: Files>(files: &R, name: &str) -> io::Result<Metadata> {
     match fs::metadata(files, name) {
         Ok(found) => {
@@ -57,14 +58,14 @@ fn plain_file<R: Files>(files: &R, name: &str) -> io::Result<Metadata> {
     Err(io::Error::from(ErrorKind::InvalidInput))
 }
 
-/// The plain file of this name, opened to be read. What is no plain file is not opened: to open a pipe may take for ever, and a folder, a device or a link
-/// to nothing is no slot.
+/// Opens a plain file for reading. Other kinds are not opened: opening a pipe may block forever, and a folder, a device
+/// or a dangling link is no slot.
 pub fn open_plain<R: Files>(files: &R, name: &str) -> io::Result<R::File> {
     plain_file(files, name)?;
     fs::open(files, name)
 }
 
-// Whether both slots are one file.
+// Returns true if both slots are the same file.
 fn are_one<R: Files>(files: &R) -> bool {
     match (plain_file(files, name_of(0)), plain_file(files, name_of(1))) {
         (Ok(first), Ok(second)) => first.dev() == second.dev() && first.ino() == second.ino(),
@@ -72,7 +73,7 @@ fn are_one<R: Files>(files: &R) -> bool {
     }
 }
 
-/// The file of a slot, opened to be read.
+/// Opens the file of a slot for reading.
 pub(crate) fn open_slot<R: Files>(files: &R, slot: u8) -> io::Result<R::File>
     requires { slot < 2 }
 {
@@ -82,7 +83,7 @@ pub(crate) fn open_slot<R: Files>(files: &R, slot: u8) -> io::Result<R::File>
     open_plain(files, name_of(slot))
 }
 
-// Whether a slot's file may be written: nothing is in its place, or a plain file that is not the other slot's.
+// Checks that a slot's file may be written: there is none yet, or a plain file that is not the other slot's.
 fn check_place<R: Files>(files: &R, slot: u8) -> io::Result<()>
     requires { slot < 2 }
 {
@@ -100,7 +101,8 @@ fn check_place<R: Files>(files: &R, slot: u8) -> io::Result<()>
     Ok(())
 }
 
-// Waits until the system has stored the folder, with the names in it. A system that stores no folders says so, and then there is nothing to wait for.
+// Waits until the system has stored the folder, with the names in it. A system that cannot store folders says so, and
+// there is nothing to wait for.
 fn store_folder<R: Files>(files: &R) -> io::Result<()> {
     match fs::open(files, ".")?.sync_all() {
         Ok(()) => Ok(()),
@@ -112,7 +114,7 @@ fn store_folder<R: Files>(files: &R) -> io::Result<()> {
     }
 }
 
-// Waits until the system has stored the file of a slot and its name, where there is one.
+// Waits until the system has stored the file of a slot and its name, if the file exists.
 fn store_found<R: Files>(files: &R, slot: u8) -> io::Result<()>
     requires { slot < 2 }
 {
@@ -138,7 +140,7 @@ fn store<F: Write + OpenFile>(file: &mut F, bytes: &[u8]) -> io::Result<()>
     file.sync_all()
 }
 
-// Opens the file to write it from its start, and answers whether it is new.
+// Opens the file for writing from its start. The flag is true if the file is new.
 fn make_file<R: Files>(files: &R, name: &str) -> io::Result<(R::File, bool)> {
     match File::create_new(files, name) {
         Ok(file) => Ok((file, true)),
@@ -151,8 +153,8 @@ fn make_file<R: Files>(files: &R, name: &str) -> io::Result<(R::File, bool)> {
     }
 }
 
-// Makes the file hold exactly these bytes, and waits until the system has stored them. Where the folder is not known to be stored with all
-// files that were made in it, it waits for that, too.
+// Replaces the contents of the file with these bytes, and waits until the system has stored them. Also waits for the
+// folder, unless it is known to be stored with all files made in it.
 fn save_file<R: Files>(files: &R, name: &str, bytes: &[u8], names: &mut bool) -> io::Result<()>
     ensures { OnOk result (names.new ≡ true) }
 {
@@ -168,8 +170,9 @@ fn save_file<R: Files>(files: &R, name: &str, bytes: &[u8], names: &mut bool) ->
     Ok(())
 }
 
-/// Makes a slot's file hold exactly these bytes, and waits until the system has stored them. Before the first save of a process it waits until the
-/// other slot's file is stored, which may be the newest and may have been read though it was not stored.
+/// Replaces the contents of a slot's file with these bytes, and waits until the system has stored them. Before the
+/// first save of a process, it waits until the other slot's file is stored. That file may be the newest, and may have
+/// been read before it was stored.
 pub fn save_slot<R: Files>(files: &R, slot: u8, bytes: &[u8], known: &mut Known) -> io::Result<()>
     requires { slot < 2 }
     ensures { OnOk result ((known.new.newest ≡ true) × (known.new.names ≡ true)) }

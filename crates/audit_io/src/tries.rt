@@ -1,4 +1,4 @@
-//! The saves that were tried. They exist only in proofs.
+//! The history of save attempts, which exists only in proofs.
 
 ghost use Rattle.std.specs.Prelude.{◌≡◌, List, [], ◌∷◌, ◌++◌};
 ghost use Rattle.std.specs.Borrow.{ftrue};
@@ -6,7 +6,7 @@ ghost use Rattle.audit_model.specs.Tries.{Try, try_of};
 
 use std::marker::Model;
 
-/// A list that takes no bytes, and whose methods do nothing when they run.
+/// A list without run-time data, whose methods do nothing at run time.
 #[derive(Drop)]
 pub(crate) struct Tries {
     pub(crate) ghost items: { List Try },
@@ -16,10 +16,10 @@ impl Model for Tries {
     ghost also_owns = { λ _. ftrue };
 }
 
-// It owns nothing.
+// A list of attempts owns nothing, so it may cross threads.
 unsafe impl Send for Tries {}
 
-/// A save: its slot, its bytes, and whether it succeeded.
+/// A save attempt: its slot, its bytes, and its success.
 #[derive(Clone, Copy)]
 pub(crate) struct Save<'a> {
     pub(crate) slot: u8,

@@ -1,4 +1,4 @@
--- A list of tries owns nothing, so it may go to another thread.
+-- A list of attempts owns nothing, so it may cross threads.
 use denote.Param.Send.{IsSend, owning_send}
 use Rattle.audit_io.specs.contracts.tries.Tries.{the_row, the_type}
 

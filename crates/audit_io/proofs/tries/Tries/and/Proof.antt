@@ -1,4 +1,4 @@
--- `and` makes the struct without fields, with the items that its clause names. Assumes `Logic`.
+-- `and` makes the struct without fields, with the ghost items that its clause names. Assumes `Logic`.
 use Rattle.std.proofs.Common.{List, [], ◌∷◌, ◌++◌, refl}
 use seplogic.Ra.Ura.{Ura}
 use mir.Syntax.{Fn}

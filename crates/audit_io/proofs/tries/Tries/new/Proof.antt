@@ -1,4 +1,4 @@
--- `new` makes the struct without fields, with no items. Assumes `Logic`.
+-- `new` makes the struct without fields, with no ghost items. Assumes `Logic`.
 use Rattle.std.proofs.Common.{[], ◌∷◌, refl}
 use seplogic.Ra.Ura.{Ura}
 use mir.Syntax.{Fn}
