@@ -1,4 +1,4 @@
--- What a call leaves as it was, from the reason of its ending.
+-- The parts of the state that a call leaves unchanged, by the reason of its ending.
 use Rattle.std.proofs.Common.{◌≡◌, ◌≢◌, ℕ, Bool, true, false, List, Option, Some, None, Result, Ok, Err, IsErr, IsFalse, refl, sym, subst}
 use Rattle.std.proofs.lemmas.Bool.{and_right}
 use Rattle.audit_model.specs.declared.fault.WordFault.{WordFault}
@@ -12,17 +12,17 @@ use Rattle.audit_model.specs.State.{Stream}
 use Rattle.audit_statement.specs.World.{World}
 use Rattle.audit_laws.proofs.Telling.{same_setting}
 
--- a value that changes only where a test passes is the same where it fails
+-- a value that changes only if a test passes is unchanged if it fails
 same_at : {A : Type 0} (b : Bool) (x y : A) → b ≡ false → SameUnless b x y → y ≡ x
 same_at true x y e s = cc
 same_at false x y e s = s
 
--- refused words pass no test, and accepted ones pass it where their setting does
+-- refused arguments pass no test
 passes_none : (test : Setting → Bool) (r : Result Setting WordFault) → IsErr r → passes test r ≡ false
 passes_none test (Ok s) h = cc
 passes_none test (Err f) h = refl
 
--- where a test of the setting fails, the words that give the setting do not pass it
+-- if a test of the setting fails, the arguments of the setting do not pass it
 passes_not : (test : Setting → Bool) (words : List (List ℕ)) (s : Setting) → setting_of words ≡ Ok s → IsFalse (test s) → passes test (setting_of words) ≡ false
 passes_not test words s e off = subst (λ (r : Result Setting WordFault). passes test r ≡ false) (sym e) off
 
@@ -78,7 +78,7 @@ module _ (words : List (List ℕ)) (before after : World) where
     not_loading = unloaded r c u;
   }
 
--- a call that ends in one of the ways leaves alone what its words do not ask for
+-- a call with a correct ending leaves unchanged what its arguments do not ask for
 pub leaves_alone : (words : List (List ℕ)) (before after : World) (n m : Stream) (status : ℕ) → EndsFor words before after n m status → LeavesAlone words before after status
 leaves_alone words before after n m status e =
     subst (λ (s : ℕ). LeavesAlone words before after s) (sym e.status_is) (alone_at words before after e.reason e.cause e.untouched)

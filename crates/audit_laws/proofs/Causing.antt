@@ -1,4 +1,4 @@
--- From the reason of an ending to what the statuses say.
+-- From the reason of an ending to the claims of the statuses.
 use Rattle.std.proofs.Common.{◌≡◌, ◌⊎◌, inl, inr, ℕ, ◌&&◌, Bool, true, false, IsTrue, List, Option, Some, None, Ok, Err, refl, sym, subst, ap, ◌∙◌}
 use Rattle.audit_model.specs.declared.setting.Setting.{Setting}
 use Rattle.audit_model.specs.Job.{Job}
@@ -14,7 +14,7 @@ use Rattle.audit_laws.proofs.Telling.{known_at, same_setting}
 use Rattle.audit_laws.proofs.Starting.{opening_known, undefined_known}
 use Rattle.audit_model.specs.Pair.{Pair}
 
--- a refusal of what is told is a refusal of the told bytes
+-- a refusal of the known input is a refusal of its bytes
 pub refused_at : (words : List (List ℕ)) (before : World) (setting : Setting) (bytes : List ℕ) (ending : Ending)
     → IsTold words before setting bytes → IsRefused words before.source.bytes ending → judged setting bytes ≡ Err ending
 refused_at words before setting bytes ending told refused =
@@ -24,7 +24,7 @@ refused_at words before setting bytes ending told refused =
     let err : judged refused.setting bytes ≡ Err ending = subst (λ (b : List ℕ). judged refused.setting b ≡ Err ending) (sym read) refused.judged_so in
     subst (λ (s : Setting). judged s bytes ≡ Err ending) same err
 
--- the job of what is told is that of the told bytes
+-- the job of the known input is that of its bytes
 pub accepted_at : (words : List (List ℕ)) (before : World) (setting : Setting) (bytes : List ℕ) (job : Job)
     → IsTold words before setting bytes → IsAccepted words before.source.bytes job → judged setting bytes ≡ Ok job
 accepted_at words before setting bytes job told accepted =
@@ -34,26 +34,26 @@ accepted_at words before setting bytes job told accepted =
     let ok : judged job.setting bytes ≡ Ok job = subst (λ (b : List ℕ). judged job.setting b ≡ Ok job) (sym read) accepted.judged_so in
     subst (λ (s : Setting). judged s bytes ≡ Ok job) same ok
 
--- what is told and accepted is not refused
+-- a known and accepted input is not refused
 pub not_refused : (words : List (List ℕ)) (before : World) (job : Job) (bytes : List ℕ) (ending : Ending)
     → IsTold words before job.setting bytes → judged job.setting bytes ≡ Ok job → IsRefused words before.source.bytes ending → ⊥
 not_refused words before job bytes ending told ok refused =
     let err : judged job.setting bytes ≡ Err ending = refused_at words before job.setting bytes ending told refused in
     cc
 
--- what is told and accepted is the job of the call
+-- the job of the known and accepted input is the job of the call
 pub same_job : (words : List (List ℕ)) (before : World) (job other : Job) (bytes : List ℕ)
     → IsTold words before job.setting bytes → judged job.setting bytes ≡ Ok job → IsAccepted words before.source.bytes other → other ≡ job
 same_job words before job other bytes told ok accepted =
     let ok' : judged job.setting bytes ≡ Ok other = accepted_at words before job.setting bytes other told accepted in
     cc
 
--- where an 'and' is true, its first part is
+-- if an 'and' is true, its first operand is
 pub both_left : (a b : Bool) → IsTrue (a && b) → a ≡ true
 both_left true b h = refl
 both_left false b h = cc
 
--- no work is left of the told opening, so the call did not stop early
+-- nothing is pending after the known initial outcomes, so the call did not stop early
 pub not_stopped : (words : List (List ℕ)) (before after : World) (done all : ℕ) → MayEndWell words before after → IsStopped words before after done all → ⊥
 not_stopped words before after done all m s =
     let same : s.job ≡ m.job = same_job words before m.job s.job m.bytes m.told m.accepted s.prepared.accepted in
@@ -65,7 +65,7 @@ not_stopped words before after done all m s =
     let enough : leaves_work m.job has.0 ≡ false = has.2 in
     cc
 
--- a call that may end well has no fault of a slot
+-- a call that can end well has no fault of a slot
 pub not_undefined : (words : List (List ℕ)) (before after : World) (found : Job → Pair → Type 0) → MayEndWell words before after
     → IsSlotsFault words before after found → ⊥
 not_undefined words before after found m s =
@@ -76,7 +76,7 @@ not_undefined words before after found m s =
     let none : Some has.0 ≡ None = undefined_known s.job before.keeper.slots (Some has.0) (found s.job) told s.seen in
     cc
 
--- a cause of a call that may end well gives status 0 or 3
+-- a cause of a call that can end well gives status 0 or 3
 pub completes : (words : List (List ℕ)) (before after : World) (reason : Option Ending) → Cause words before after reason
     → MayEndWell words before after → (status_of reason ≡ 0) ⊎ (status_of reason ≡ 3)
 completes words before after None c m = inl refl
@@ -97,6 +97,6 @@ completes words before after (Some (damaged zero one)) c m = absurd (not_undefin
 completes words before after (Some (other_job found wanted)) c m = absurd (not_undefined words before after _ m c)
 completes words before after (Some save_fault) c m = absurd (m.saves c.rose)
 
--- a call that ends in one of the ways and may end well has done all, or memory was wanting
+-- a call with a correct ending that can end well did all its work, or ran out of memory
 pub is_complete : (words : List (List ℕ)) (before after : World) (n m : Stream) (status : ℕ) → EndsFor words before after n m status → IsComplete words before after status
 is_complete words before after n m status e = λ well. subst (λ (s : ℕ). (s ≡ 0) ⊎ (s ≡ 3)) (sym e.status_is) (completes words before after e.reason e.cause well)

@@ -1,4 +1,4 @@
--- From honest slots to the report of one thread, and to honest slots again.
+-- From consistent slots to the report of one thread, and to consistent slots again.
 use Rattle.std.proofs.Common.{◌≡◌, ◌⊎◌, inl, inr, ℕ, zero, suc, ◌+◌, ◌-◌, ◌*◌, ◌/◌, ◌%◌, ◌^◌, ◌<◌, ◌≤◌, ◌||◌, ◌&&◌, not, Bool, true, false, cond, List, [], ◌∷◌, length, map, min, get_or, Option, Some, None, refl, sym, ap, ◌∙◌, subst, All, div-add-mod', arith}
 use Rattle.std.specs.Prelude.{◌==◌, find, IsTrue, ⊤}
 use Rattle.std.proofs.lemmas.Bool.{cases_order, eqb-true, ne_eqb, true≢false}
@@ -37,9 +37,9 @@ use Rattle.audit_laws.proofs.Starting.{none_right, opening_known, opening_told}
 use Rattle.audit_laws.proofs.Running.{kept_id, rising_apart}
 use Rattle.audit_laws.proofs.Statuses.{job_is}
 
--- ---- all outcomes of a run are right where those of its opening are
+-- ---- all outcomes of a run are correct if the initial ones are
 
--- what holds of all outcomes holds of the one that is found
+-- a property of all outcomes holds for the one found
 find_all : (P : Outcome → Type 0) (test : Outcome → Bool) (os : List Outcome) (o : Outcome) → All P os → find test os ≡ Some o → P o
 find_all P test [] o all e = cc
 find_all P test (x ∷ xs) o all e = by (test x) refl (find_all P test xs o (λ k d inside. all (suc k) d (omega arith)))
@@ -86,7 +86,7 @@ module _ (job : Job) (kept : List Outcome) (right : IsRight job (draw job.settin
   unfolding full
   full_right = mapped_right (λ id. has_id kept id || has (run_ids job kept job.setting.budget) id)
 
--- ---- with what a run starts
+-- ---- the initial outcomes of a run
 
 module _ (law : HonestSlotsOpenRight) (job : Job) where
   told_right : (p : Pair) (outcomes : List Outcome) → AreHonestOf job p → opening true job.setting (slot_of job (job_digest job) p.zero_slot) (slot_of job (job_digest job) p.one_slot) ≡ Some outcomes
@@ -106,7 +106,7 @@ module _ (law : HonestSlotsOpenRight) (job : Job) where
   opening_right : (p : Pair) (outcomes : List Outcome) → IsOpening job (Some p) outcomes → AreHonestOf job p → IsRight job (draw job.setting.key) outcomes
   opening_right p outcomes opened honest = start_right (Some p) outcomes (opening_told job (Some p) p outcomes refl opened) (λ _. honest)
 
--- ---- what a run leaves
+-- ---- the slots that a run leaves
 
 -- a count rose or did not
 pub rises_or_not : (before now : ℕ) → Rose before now ⊎ (Rose before now → ⊥)
@@ -117,7 +117,7 @@ rises_or_not before now = by (cases_order (min (before + 1) (2 ^ 64 - 1)) now)
     by (inr (inl l)) = inl (omega arith)
     by (inr (inr l)) = inr (λ r. absurd (omega arith))
 
--- what holds where two values are told holds of the two
+-- a relation between values that may be known holds if both are known
 both_known : {A : Type 0} (a b : Option A) (p q : A) (P : A → A → Type 0) → a ≡ Some p → b ≡ Some q → IfBothTold a b P → P p q
 both_known a b p q P e f h = subst (λ x. IfBothTold x (Some q) P) e (subst (λ y. IfBothTold a y P) f h)
 
@@ -126,7 +126,7 @@ either_way : (n : ℕ) → ((n == 0) || not (n == 0)) ≡ true
 either_way zero = refl
 either_way (suc n) = ap (λ (b : Bool). b || not b) (ne_eqb (suc n) 0 (λ e. absurd (omega (arith, e))))
 
--- whatever the number of posts, at least one save is tried
+-- whatever the number of posts, at least one save is attempted
 some_save : (posts every : ℕ) → 1 ≤ saves_of posts every
 some_save posts every = by (posts / every) refl
   where
@@ -145,7 +145,7 @@ module _ (honestly : RightIsHonest) (job : Job) (p q : Pair) (honest : AreHonest
   abbrev IsHonestHere : Option (List ℕ) → Type 0
   IsHonestHere s = IsHonestSlot job (draw job.setting.key) (slot_of job (job_digest job) s)
 
-  -- both slots, each named
+  -- two slots named one by one are both consistent
   both_honest : (n : ℕ) → IsHonestHere (stored q n) → IsHonestHere (stored q (1 - n)) → AreHonestOf job q
   both_honest zero here beside = record { zero_slot = here; one_slot = beside }
   both_honest (suc n) here beside = let other : 1 - suc n ≡ 0 = omega arith in record { zero_slot = subst (λ (k : ℕ). IsHonestHere (stored q k)) other beside; one_slot = here }
@@ -154,7 +154,7 @@ module _ (honestly : RightIsHonest) (job : Job) (p q : Pair) (honest : AreHonest
   was_honest zero = honest.zero_slot
   was_honest (suc n) = honest.one_slot
 
-  -- what holds of the opening's outcomes and of what is found holds of a part
+  -- a property of the initial outcomes and of those found holds for a part
   part_all : (opening : List Outcome) (P : Outcome → Type 0) → All P opening
       → ((o : Outcome) → o.id < total job → o ≡ outcome job (draw job.setting.key) o.id → P o) → (o : Outcome) → IsOpeningOrFound job opening o → P o
   part_all opening P all found o (inl has) = All-contains P opening o all has
@@ -179,7 +179,7 @@ module _ (honestly : RightIsHonest) (job : Job) (p q : Pair) (honest : AreHonest
       (beside_honest opening (last_place job opening p) (count_of_saves job opening) (some_save (length (run_ids job opening job.setting.budget)) job.setting.save_every) right s)
 
 module _ (law : HonestSlotsOpenRight) (honestly : RightIsHonest) (words : List (List ℕ)) (before after : World) (p q : Pair) (was : before.keeper.slots ≡ Some p) (is : after.keeper.slots ≡ Some q) where
-  -- what is to be shown of a job
+  -- the claim to show for a job
   abbrev Stays : Job → Type 0
   Stays job = AreHonestOf job p → NoSaveFailed before after → AreHonestOf job q
 
@@ -208,7 +208,7 @@ module _ (law : HonestSlotsOpenRight) (honestly : RightIsHonest) (words : List (
   stays_at job t (Some save_fault) c u = λ honest calm. absurd (calm c.rose)
   stays_at job t r c u = unchanged job u.slots
 
--- a call that ends in one of the ways, from honest slots, leaves honest slots
+-- a call with a correct ending leaves consistent slots if it starts from consistent ones
 pub stays_honest : HonestSlotsOpenRight → RightIsHonest → (words : List (List ℕ)) (before after : World) (n m : Stream) (status : ℕ) → EndsFor words before after n m status
     → WritesWhole words before after status → StaysHonest words before after status
 stays_honest law honestly words before after n m status e w = record {
@@ -217,13 +217,13 @@ stays_honest law honestly words before after n m status e w = record {
   stays = λ job p q t was is honest calm. stays_at law honestly words before after p q was is job t e.reason e.cause e.untouched honest calm;
 }
 
--- ---- what it tried
+-- ---- the save attempts
 
 module _ (law : HonestSlotsOpenRight) (words : List (List ℕ)) (before after : World) (p : Pair) (status : ℕ) (was : before.keeper.slots ≡ Some p) where
   abbrev Tried : Job → Type 0
   Tried job = IfBothTold before.keeper.tried after.keeper.tried (TriesOver job before after p status)
 
-  -- nothing was tried
+  -- no save was attempted
   tried_none : (job : Job) → (saves job.setting && has_walked status) ≡ false → after.keeper.tried ≡ before.keeper.tried → after.keeper.save_faults ≡ before.keeper.save_faults → Tried job
   tried_none job idle same calm = subst (λ (x : Option (List Try)). IfBothTold before.keeper.tried x (TriesOver job before after p status)) (sym same) (by before.keeper.tried)
     where
@@ -311,6 +311,6 @@ module _ (law : HonestSlotsOpenRight) (words : List (List ℕ)) (before after : 
   tried_at job t (Some save_fault) e c u = subst Tried (job_is words before after job c.job t c.prepared) (tried_all_of c.job c.outcomes c.saving (ap has_walked e) c.opened c.tried)
   tried_at job t r e c u = tried_none job (idle_at (saves job.setting) (ap has_walked e)) u.tried u.save_faults
 
--- each save that such a call tried is of right outcomes
+-- each save attempt of such a call has correct outcomes
 pub tried_rightly : HonestSlotsOpenRight → (words : List (List ℕ)) (before after : World) (n m : Stream) (status : ℕ) → EndsFor words before after n m status → TriedRightly words before after status
 tried_rightly law words before after n m status e job p t was = tried_at law words before after p status was job t e.reason e.status_is e.cause e.untouched

@@ -1,4 +1,4 @@
--- How many outcomes a run has, and how many it lacks.
+-- The numbers of a run's outcomes and of its pending trajectories.
 use Rattle.std.proofs.Common.{◌≡◌, ◌⊎◌, inl, inr, ℕ, zero, suc, ◌+◌, ◌<◌, ◌≤◌, ◌&&◌, ◌||◌, not, Bool, true, false, cond, List, [], ◌∷◌, length, min, take, refl, sym, ap, subst, ◌∙◌, length-append, All, arith}
 use Rattle.std.specs.Prelude.{◌==◌}
 use Rattle.std.proofs.lemmas.Bool.{and_parts, cases_order, eq-eqb, ne_eqb, eqb-true}
@@ -14,7 +14,7 @@ use Rattle.audit_model.proofs.Parts.{only_part}
 use Rattle.outcome_book.specs.Booked.{AreApart}
 use Rattle.audit_statement.specs.Endings.{lacking}
 
--- ---- how many numbers below a bound pass a test
+-- ---- the count of numbers below a bound that pass a test
 
 abbrev pub count : ℕ → (ℕ → Bool) → ℕ
 count n test = length (filter_below n test)
@@ -22,12 +22,12 @@ count n test = length (filter_below n test)
 abbrev one_if : Bool → ℕ
 one_if b = cond {A = ℕ} b 1 0
 
--- a list of one item that hangs on a test is as long as the test counts
+-- a list of one conditional member has the length of the condition's count
 length_if : (b : Bool) (x : ℕ) → length (cond b (x ∷ []) []) ≡ one_if b
 length_if true x = refl
 length_if false x = refl
 
--- one number more counts where it passes
+-- one more number counts if it passes
 count_more : (n : ℕ) (test : ℕ → Bool) → count (suc n) test ≡ count n test + one_if (test n)
 count_more n test = omega (arith, length-append (filter_below n test) (cond (test n) (n ∷ []) []), length_if (test n) n)
 
@@ -41,12 +41,12 @@ pub count-not : (n : ℕ) (test : ℕ → Bool) → count n test + count n (λ k
 count-not zero test = refl
 count-not (suc n) test = omega (arith, count_more n test, count_more n (λ k. not (test k)), count-not n test, one_or_none (test n))
 
--- two tests of which only one can pass count together as each
+-- two tests that exclude each other count as their sum
 one_of_both : (a b : Bool) → (a ≡ true → b ≡ false) → one_if (a || b) ≡ one_if a + one_if b
 one_of_both true b f = rw (f refl) refl
 one_of_both false b f = omega arith
 
--- no number passes both tests
+-- two tests that no number passes both count as their sum
 count-or : (n : ℕ) (first second : ℕ → Bool) → ((k : ℕ) → first k ≡ true → second k ≡ false)
     → count n (λ k. first k || second k) ≡ count n first + count n second
 count-or zero first second apart = refl
@@ -85,12 +85,12 @@ count-none : (n : ℕ) → count n (λ k. false) ≡ 0
 count-none zero = refl
 count-none (suc n) = omega (arith, count_more n (λ k. false), count-none n)
 
--- where no outcome has the id, the list has none of it
+-- if no outcome has the id, the list has none of it
 no_id : (os : List Outcome) (k : ℕ) → All (λ o. o.id ≡ k → ⊥) os → has_id os k ≡ false
 no_id [] k differ = refl
 no_id (o ∷ os) k differ = rw (ne_eqb o.id k (differ 0 o (omega arith))) (no_id os k (λ j d inside. differ (suc j) d (omega arith)))
 
--- as many numbers are ids of the outcomes as there are outcomes, where the ids differ and are below the bound
+-- the number of ids below the bound that have an outcome is the number of outcomes
 pub count-ids : (n : ℕ) (outcomes : List Outcome) → AreApart outcomes → All (λ o. o.id < n) outcomes → count n (has_id outcomes) ≡ length outcomes
 count-ids n [] apart below = count-none n
 count-ids n (x ∷ xs) apart below =
@@ -105,31 +105,31 @@ count-ids n (x ∷ xs) apart below =
     lacks : (k : ℕ) → x.id ≡ k → has_id xs k ≡ false
     lacks k same = no_id xs k (λ j d inside e. apart 0 (suc j) d (omega arith) (omega arith) (same ∙ sym e))
 
--- what a run lacks and what it starts with are all
+-- the pending and the initial outcomes are all outcomes
 pub lacking_rest : (job : Job) (outcomes : List Outcome) → AreApart outcomes → All (λ o. o.id < total job) outcomes → lacking job outcomes + length outcomes ≡ total job
 lacking_rest job outcomes apart below =
     omega (arith, count-not (total job) (has_id outcomes), count-ids (total job) outcomes apart below)
 
--- ---- tests of which one passes no more than the other
+-- ---- a stricter test
 
--- a test that asks more counts no more
+-- a stricter test counts at most as much for one number
 one_fewer : (a b : Bool) → (a ≡ true → b ≡ true) → one_if a ≤ one_if b
 one_fewer true b f = subst (λ (c : Bool). 1 ≤ one_if c) (sym (f refl)) (omega arith)
 one_fewer false b f = omega arith
 
--- a test that counts no less than one that passes, passes
+-- if a test counts at least as much as one that passes, it passes
 one_back : (a b : Bool) → one_if b ≤ one_if a → b ≡ true → a ≡ true
 one_back true b few e = refl
 one_back false true few e = absurd (omega (arith, few))
 one_back false false few e = e
 
--- a test that asks more counts no more numbers
+-- a stricter test counts at most as many numbers
 count-fewer : (n : ℕ) (first second : ℕ → Bool) → ((k : ℕ) → first k ≡ true → second k ≡ true) → count n first ≤ count n second
 count-fewer zero first second each = omega arith
 count-fewer (suc n) first second each =
     omega (arith, count_more n first, count_more n second, count-fewer n first second each, one_fewer (first n) (second n) (each n))
 
--- where as many numbers pass the first test as the second, each that passes the second passes the first
+-- if a stricter test counts at least as many numbers, each that passes the other passes it
 count-all : (n : ℕ) (first second : ℕ → Bool) → ((k : ℕ) → first k ≡ true → second k ≡ true) → count n second ≤ count n first
     → (k : ℕ) → k < n → second k ≡ true → first k ≡ true
 count-all zero first second each few k inside passes = absurd (omega (arith, inside))
@@ -148,7 +148,7 @@ count-all (suc n) first second each few k inside passes = by (cases_order k n) (
     by (inr (inl before)) rec = rec counted.0 before
     by (inr (inr after)) rec = absurd (omega (arith, inside, after))
 
--- ---- what a run lacks, and what of it lies in its part
+-- ---- the pending ids, and those in the run's part
 
 module _ (job : Job) (outcomes : List Outcome) where
   abbrev pub lacks : ℕ → Bool
@@ -157,18 +157,18 @@ module _ (job : Job) (outcomes : List Outcome) where
   abbrev pub lies : ℕ → Bool
   lies id = lacks id && is_in_part job.setting.parts job.setting.part id
 
-  -- what lies in the part is lacking
+  -- an id of the part that is to be walked is pending
   pub lies_lacks : (k : ℕ) → lies k ≡ true → lacks k ≡ true
   lies_lacks k e = (and_parts (lacks k) (is_in_part job.setting.parts job.setting.part k) e).0
 
   length-run_ids : (budget : ℕ) → length (run_ids job outcomes budget) ≡ min budget (count (total job) lies)
   length-run_ids budget = length-take budget (filter_below (total job) lies)
 
-  -- no more ids are walked than are lacking
+  -- the ids walked are at most the pending ones
   pub few_run_ids : (budget : ℕ) → length (run_ids job outcomes budget) ≤ lacking job outcomes
   few_run_ids budget = omega (arith, length-run_ids budget, count-fewer (total job) lies lacks lies_lacks)
 
-  -- where as many are walked as are lacking, each lacking id is walked
+  -- if the number of ids walked is that of the pending ones, each pending id is walked
   pub walks_each : (budget : ℕ) → lacking job outcomes ≤ length (run_ids job outcomes budget)
       → (id : ℕ) → id < total job → has_id outcomes id ≡ false → has (run_ids job outcomes budget) id ≡ true
   walks_each budget all id below absent =
@@ -179,14 +179,14 @@ module _ (job : Job) (outcomes : List Outcome) where
       subst (λ (ids : List ℕ). has ids id ≡ true) (sym whole)
       (filter_below-has (total job) lies id below (count-all (total job) lies lacks lies_lacks (omega (arith, all, many)) id below (ap not absent)))
 
-  -- with one part the first of what is lacking is walked
+  -- with one part, the first pending ids are walked
   whole_part : (budget : ℕ) → job.setting.parts ≡ 1 → job.setting.part ≡ 0 → run_ids job outcomes budget ≡ take budget (lacking_ids job outcomes)
   whole_part budget one first =
       ap (λ n. part_ids n job.setting.part job outcomes budget) one
       ∙ ap (λ k. part_ids 1 k job outcomes budget) first
       ∙ only_part job outcomes budget
 
-  -- with one part and a budget for all ids, as many are walked as are lacking
+  -- with one part and a budget for all ids, all pending ids are walked
   pub walks_all : (budget : ℕ) → job.setting.parts ≡ 1 → job.setting.part ≡ 0 → total job ≤ budget → lacking job outcomes ≤ length (run_ids job outcomes budget)
   walks_all budget one first enough =
       omega (arith, enough, ap length (whole_part budget one first), length-take budget (lacking_ids job outcomes), length-filter_below (total job) lacks)

@@ -1,4 +1,4 @@
--- What JSON gives is one thing.
+-- JSON gives one graph.
 use Rattle.std.proofs.Common.{◌≡◌, ◌≢◌, ◌⊎◌, ℕ, ◌<◌, Bool, true, List, [], ◌∷◌, length, map, Option, Some, refl, sym, ap, ◌∙◌, subst, arith}
 use Rattle.std.specs.Prelude.{slice_index, codes, option_and_then, unwrap_or}
 use Rattle.std.specs.List.{slice_index_or}
@@ -19,27 +19,27 @@ use Rattle.audit_laws.specs.Determined.{AreOfOneGraph, GivenJobsAreOfOneGraph, R
 use Rattle.audit_statement.specs.Given.{IsGiven, Names, count, label_under, list}
 use Rattle.audit_statement.specs.Valid.{IsValid}
 
--- a function that can be undone makes different lists of different ones
+-- mapping a function and then its inverse gives the list back
 pub undone : {X Y : Type 0} (f : X → Y) (g : Y → X) → ((x : X) → g (f x) ≡ x) → (xs : List X) → map g (map f xs) ≡ xs
 undone f g back [] = refl
 undone {X} f g back (x ∷ xs) = ap (λ (y : X). y ∷ map g (map f xs)) (back x) ∙ ap (λ (ys : List X). x ∷ ys) (undone f g back xs)
 
--- lists that a function with a way back maps to the same list are the same
+-- lists that a function with an inverse maps to the same list are equal
 pub same_lists : {X Y : Type 0} (f : X → Y) (g : Y → X) → ((x : X) → g (f x) ≡ x) → (xs ys : List X) → map f xs ≡ map f ys → xs ≡ ys
 same_lists f g back xs ys e = sym (undone f g back xs) ∙ ap (map g) e ∙ undone f g back ys
 
--- a value that is two arrays is one
+-- a value read as two lists has equal lists
 pub same_arrays : (o : Option Data) (xs ys : List Data) → o ≡ Some (list xs) → o ≡ Some (list ys) → xs ≡ ys
 same_arrays o xs ys p q =
     let both : Some (list xs) ≡ Some (list ys) = sym p ∙ q in
     sym (elements-items_of xs) ∙ ap (λ (t : Option Data). unwrap_or (option_and_then list_of t) []) both ∙ elements-items_of ys
 
--- the districts of a plan, none of which is left out
+-- a numbering of the districts without gaps
 pub record IsNumbered (a : Job) : Type 0 where
   pub complete : length a.start ≡ a.graph.units
   pub onto : IsOnto a.graph.units a.districts (slice_index a.start)
 
--- the districts of a valid plan are numbered below their count
+-- the districts of a valid plan are numbered without gaps
 pub valid_is_numbered : (a : Job) → IsValid a a.start → IsNumbered a
 valid_is_numbered a valid = record {
   complete = valid.complete;
@@ -122,6 +122,6 @@ module _ (root : Data) (a b : Job) (columns : ReadAlike a.setting.columns b.sett
             (λ u l. at u (omega (arith, l, valid.complete)));
       }
 
--- two jobs with valid start plans that one JSON gives are of one graph
+-- two jobs with valid start plans that one JSON gives have one graph
 pub given_jobs_are_of_one_graph : GivenJobsAreOfOneGraph
 given_jobs_are_of_one_graph root a b columns g h valid other = one_graph root a b columns g h (valid_is_numbered a valid) (valid_is_numbered b other)

@@ -1,4 +1,4 @@
--- Where the words and the graph of a plain run are fit and nothing failed, the promise says that the call ends well.
+-- A call on valid arguments and a valid graph of a plain run ends well if nothing failed.
 use Rattle.std.proofs.Common.{◌≡◌, ℕ, ◌≤◌, Bool, false, not, List, [], ◌∷◌, length, Some, Ok, refl, sym, ap, ◌∙◌, subst, arith}
 use Rattle.std.specs.Prelude.{codes, take}
 use Rattle.std.proofs.lemmas.Bool.{le-ltb}
@@ -29,7 +29,7 @@ use Rattle.audit_statement.specs.PlainlyEnded.{EndsPlainly}
 use Rattle.audit_laws.specs.Promised.{PromisedCallsEndPlainly}
 use Rattle.audit_statement.specs.Words.{setting_of}
 
--- what is read and accepted, and is not too long, is judged so
+-- input that is read and accepted and is not too long gives this job
 judged_from : (setting : Setting) (bytes : List ℕ) (p : Parsed) → setting.region ≡ [] → setting.source ≡ false → length bytes ≤ most_bytes
     → reading bytes setting.columns ≡ Ok p → job_of p setting [] ≡ Ok (job_from p setting []) → judged setting bytes ≡ Ok (job_from p setting [])
 unfolding judged
@@ -40,7 +40,7 @@ judged_from setting bytes p none untold few is made =
     ∙ ap (from_job (origin_of setting bytes)) made
     ∙ ap (λ (b : Bool). Ok (with_origin (origin_if b bytes) (job_from p setting []))) untold
 
--- a budget for all ids leaves nothing of one part
+-- a budget for all ids leaves nothing pending in a run of one part
 nothing_left : (job : Job) (outcomes : List Outcome) → (job.setting.parts ≡ 1) × (job.setting.part ≡ 0) → total job ≤ job.setting.budget
     → leaves_work job outcomes ≡ false
 nothing_left job outcomes whole enough =
@@ -57,7 +57,7 @@ nothing_left job outcomes whole enough =
       length-filter_below (total job) (λ id. not (has_id outcomes id)),
     ))
 
--- a run that does not resume starts with nothing
+-- a run that does not resume starts without outcomes, so its budget covers all
 has_budget : (job : Job) (before : World) → IsPlain job.setting → (job.setting.parts ≡ 1) × (job.setting.part ≡ 0) → total job ≤ job.setting.budget
     → HasBudget (is_walking job.setting.command) job before
 has_budget job before plain whole enough =
@@ -67,7 +67,7 @@ has_budget job before plain whole enough =
       nothing_left job [] whole enough,
     )
 
--- a call that keeps its promise ends with status 0 or 3, where its input fits and nothing failed
+-- a call that meets its contract ends with status 0 or 3, if its input is valid and nothing failed
 plain_ends : (words : List (List ℕ)) (before after : World) (n m : Stream) (status : ℕ) → KeepsItsPromise words before after n m status
     → EndsPlainly words before after status
 plain_ends words before after n m status k rest bytes run silent told fit none =
@@ -96,7 +96,7 @@ plain_ends words before after n m status k rest bytes run silent told fit none =
       saves = none.saves;
     })
 
--- so ends each call that keeps its promise
+-- the law on each call that meets its contract
 pub promised_calls_end_plainly : PromisedCallsEndPlainly
 promised_calls_end_plainly words before after n m status k rest bytes run silent told fit none =
     plain_ends words before after n m status (k.one (ap names_plans run)) rest bytes run silent told fit none

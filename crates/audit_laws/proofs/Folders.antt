@@ -1,4 +1,4 @@
--- What one call gathers of folders that were reached leaves slots that were reached.
+-- The slots after one gathering of reached folders are reached.
 use Rattle.std.proofs.Common.{◌≡◌, ◌∙◌, ℕ, zero, suc, ◌<◌, Bool, true, false, List, [], ◌∷◌, Option, Some, None, refl, sym, subst, arith}
 use Rattle.std.proofs.lemmas.List.Elements.{All-head, All-tail}
 use Rattle.audit_model.specs.Pair.{HoldsBytes, KeepsOther, Pair, other_stored, stored}
@@ -17,16 +17,16 @@ use Rattle.ckpt_store.specs.Gives.{Gives, damaged, gives, has_broken, nothing, o
 use Rattle.ckpt_store.specs.Whole.{HasBegun, IsSavedIf, IsSavedUnion}
 use Rattle.audit_laws.specs.Gathered.{AreAllReached, AreGathered, AreReached, CutGatheringsReach, GatheringsReach, Hold, IsSavedOver, after_gathering, begun, held, united}
 
--- ---- what slots give and what they hold
+-- ---- the offer and the contents of slots
 
--- a slot that gives outcomes holds them
+-- a slot that offers outcomes holds them
 slot_holds : (slot : Slot) (os : List Outcome) → slot_gives slot ≡ outcomes os → outcomes_of_slot slot ≡ Some os
 slot_holds absent os e = cc
 slot_holds (broken f) os e = cc
 slot_holds (other d g) os e = cc
 slot_holds (ours g kept) os e = cc
 
--- slots that give outcomes open with them
+-- slots that offer outcomes start a run with them
 slots_hold : (first second : Slot) (n : Option ℕ) (os : List Outcome) → slots_give first second n ≡ outcomes os → opening_of first second n ≡ Some os
 slots_hold first second (Some zero) os e = slot_holds first os e
 slots_hold first second (Some (suc n)) os e = slot_holds second os e
@@ -45,15 +45,15 @@ module _ (job : Job) where
   given_is_held : (p : Pair) (os : List Outcome) → gives job digest p ≡ outcomes os → Hold job p os
   given_is_held p os e = slots_hold (slot_of job digest p.zero_slot) (slot_of job digest p.one_slot) (newest (slot_of job digest p.zero_slot) (slot_of job digest p.one_slot)) os e
 
-  -- nothing was gathered at first
+  -- the empty list is gathered
   nothing_gathered : AreGathered job []
   nothing_gathered =
       let none : Pair = record { zero_slot = None; one_slot = None } in
       held none [] (begun none (record { zero_slot = tt; one_slot = tt })) refl
 
-  -- ---- what is found in one folder
+  -- ---- the finding in one folder
 
-  -- what was gathered is the same after a folder that added nothing
+  -- a folder that added nothing leaves the collection unchanged
   same_gathered : (before after : Collected) → AreGathered job before.outcomes → after ≡ passed_over before → AreGathered job after.outcomes
   same_gathered before after b same = subst (λ (c : Collected). AreGathered job c.outcomes) (sym same) b
 
@@ -85,7 +85,7 @@ module _ (job : Job) where
   from_found folder folder_now p finding.Taken before after is reached b f = same_gathered before after b f.0
   from_found folder folder_now p what before after is reached b f = from_seen folder.slots p what before after is reached b f
 
-  -- ---- what is found in all
+  -- ---- the findings in all folders
 
   from_all : (folders folders_now : List Kept) (found : List Finding) (before after : Collected) → AreAllReached job folders → AreGathered job before.outcomes
       → AreFound job digest folders folders_now before found after → AreGathered job after.outcomes
@@ -141,7 +141,7 @@ module _ (job : Job) where
       let same : p ≡ q = cc in
       subst (AreReached job) same reached
 
--- what a gathering leaves of folders that were reached was reached
+-- the slots after a gathering of reached folders are reached
 pub gatherings_reach : GatheringsReach
 gatherings_reach job saves before after folders folders_now told p q g was is reached all =
     let below : g.place.0 < 2 =
@@ -152,7 +152,7 @@ gatherings_reach job saves before after folders folders_now told p q g was is re
     (from_all job folders folders_now told.folders g.start g.all all (from_begun job before.slots p g.place told.own g.start was reached g.own) g.each)
     g.saved
 
--- and what one leaves whose save failed, or was cut off
+-- the slots after a gathering whose save failed or was cut off are reached
 pub cut_gatherings_reach : CutGatheringsReach
 cut_gatherings_reach job told folders folders_now place all p q may sound is carried reached all_reached =
     after_gathering p q all reached

@@ -1,4 +1,4 @@
--- What follows from how a call ended.
+-- Consequences of the ending of a call.
 use Rattle.std.proofs.Common.{ℕ, List}
 use Rattle.audit_statement.specs.Causes.{HasCauses, IsComplete}
 use Rattle.audit_statement.specs.Early.{EndsEarly}
@@ -20,7 +20,7 @@ pub record Follows (words : List (List ℕ)) (before after : World) (status : �
   pub left_alone : LeavesAlone words before after status
   pub early : EndsEarly words before after status
 
--- how a call ended follows from what it read and what failed
+-- the ending of a call follows from its input and its faults
 pub follows : (words : List (List ℕ)) (before after : World) (n m : Stream) (status : ℕ) → EndsFor words before after n m status → Follows words before after status
 follows words before after n m status e = record {
   written = writes_whole words before after n m status e;

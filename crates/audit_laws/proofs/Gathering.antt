@@ -1,4 +1,4 @@
--- Slots that were reached by runs and gatherings, in whatever folders, are honest.
+-- Slots reached by runs and gatherings, in any folders, are consistent.
 use Rattle.std.proofs.Common.{◌≡◌, ◌⊎◌, inl, inr, ◌∙◌, ℕ, Bool, true, false, List, length, take, Option, Some, None, refl, sym, ap, subst}
 use Rattle.std.proofs.lemmas.Bool.{cases_lt}
 use Rattle.std.proofs.lemmas.List.{take_all}
@@ -27,7 +27,7 @@ use Rattle.audit_laws.specs.Gathered.{AreGathered, AreReached, GatheredRunsWrite
 use Rattle.audit_laws.proofs.Halted.{ended_leave}
 use Rattle.audit_laws.proofs.Reruns.{chains_write_one_report, event_stays}
 
--- a gathering of honest outcomes leaves honest slots
+-- a gathering of consistent outcomes leaves consistent slots
 gathering_stays : StopsLeaveHonestSlots → (job : Job) (outcomes : List Outcome) (p q : Pair) → IsHonest job (draw job.setting.key) outcomes → IsSavedOver job outcomes p q
     → AreHonestOf job p → AreHonestOf job q
 gathering_stays law job outcomes p q honest s slots =

@@ -1,4 +1,4 @@
--- A run that was stopped, or that never ended, leaves honest slots.
+-- A run that was stopped, or that never ended, leaves consistent slots.
 use Rattle.std.proofs.Common.{◌≡◌, ◌⊎◌, inl, inr, ◌∙◌, ℕ, suc, ◌*◌, ◌<◌, Bool, true, false, List, [], ◌∷◌, ◌++◌, length, map, take, Option, Some, None, refl, sym, ap, subst, All, arith}
 use Rattle.std.proofs.lemmas.Bool.{cases_lt}
 use Rattle.std.proofs.lemmas.List.{take_all}
@@ -33,7 +33,7 @@ use Rattle.ckpt_store.proofs.Prefixes.{cut_is_broken}
 use Rattle.outcome_book.proofs.ById.{by_id-below, by_id-rising}
 use Rattle.audit_laws.proofs.Starting.{none_right}
 
--- ---- a save of honest outcomes
+-- ---- a save of consistent outcomes
 
 module _ (job : Job) (draws : Draws) (digest : List ℕ) (generation : ℕ) (outcomes : List Outcome) (honest : IsHonest job draws outcomes) where
   abbrev IsHonestHere : Stored → Type 0
@@ -53,7 +53,7 @@ module _ (job : Job) (draws : Draws) (digest : List ℕ) (generation : ℕ) (out
       subst (IsHonestSlot job draws) (sym (ap (slot_judged_digest job kept) ((bytes_eq-Decides digest digest).1 refl)) ∙ read)
       (judged_honest (first_below (length outcomes) (is_unfit job outcomes)))
 
-  -- what a save of them may leave in its slot
+  -- the contents that a save of these outcomes may leave in its slot
   abbrev Leaves : Stored → Stored → Type 0
   Leaves before after = (after ≡ before) ⊎ IsNotOurs (slot_of job digest after) ⊎ IsHonestHere after
 
@@ -72,7 +72,7 @@ module _ (job : Job) (draws : Draws) (digest : List ℕ) (generation : ℕ) (out
   ended_leave false bytes before after sound (inr (inl first)) = first_leave bytes before after first.0 sound first.1
   ended_leave false bytes before after sound (inr (inr none)) = inr (inl none)
 
--- ---- a run over a right opening
+-- ---- a run with correct initial outcomes
 
 module _ (job : Job) (opening : List Outcome) (right : IsRight job (draw job.setting.key) opening) where
   abbrev draws : Draws
@@ -81,7 +81,7 @@ module _ (job : Job) (opening : List Outcome) (right : IsRight job (draw job.set
   abbrev Found : Outcome → Type 0
   Found o = o ≡ outcome job draws o.id
 
-  -- what a save holds of the opening and of what trajectories find is right
+  -- the outcomes of a save, initial or found by trajectories, are correct
   saved_right : (place : Place) (ids : List ℕ) (t : Try) → IsSaveOfIds job opening place ids t → IsRight job draws (taken_in job opening ids)
   saved_right place ids t s =
       let os = opening ++ map (outcome job draws) ids in
@@ -93,7 +93,7 @@ module _ (job : Job) (opening : List Outcome) (right : IsRight job (draw job.set
         found = All-permutation Found os (taken_in job opening ids) s.all found;
       }
 
-  -- so the saves so far leave honest slots, wherever each of them failed or was cut off
+  -- the saves so far leave consistent slots, wherever each failed or was cut off
   saves_stay : RightIsHonest → StopsLeaveHonestSlots → (every : ℕ) (walked : List ℕ) (n : ℕ) (place : Place) (tries : List Try) (p q : Pair)
       → AreSavesFrom job opening every walked n place tries → AreCarriedOut IsNotOurs job (job_digest job) p tries q → AreHonestOf job p → AreHonestOf job q
   saves_stay honest_law law every walked n place [] p q saves out honest = subst (AreHonestOf job) (sym out) honest
@@ -104,14 +104,14 @@ module _ (job : Job) (opening : List Outcome) (right : IsRight job (draw job.set
       saves_stay honest_law law every walked (suc n) (place_after place t) rest out.0 q saves.1 out.2
       (law job draws (job_digest job) p out.0 t.slot out.1.beside left honest)
 
--- what honest slots give to start with is right
+-- the initial outcomes from consistent slots are correct
 opening_right : HonestSlotsOpenRight → (resumes : Bool) (job : Job) (p : Pair) (outcomes : List Outcome) → opening_from resumes job p ≡ Some outcomes → AreHonestOf job p
     → IsRight job (draw job.setting.key) outcomes
 opening_right law false job p outcomes e honest = subst (IsRight job (draw job.setting.key)) (same_Some [] outcomes e) (none_right job (draw job.setting.key))
 opening_right law true job p outcomes e honest =
     law job (draw job.setting.key) (slot_of job (job_digest job) p.zero_slot) (slot_of job (job_digest job) p.one_slot) outcomes honest.zero_slot honest.one_slot e
 
--- whatever was tried by the time that a run was stopped leaves honest slots
+-- the attempts up to a stop leave consistent slots
 pub stop_stays : HonestSlotsOpenRight → RightIsHonest → StopsLeaveHonestSlots → (job : Job) (p q : Pair) (tries : List Try) → AreTriesSoFar job p tries
     → AreCarriedOut IsNotOurs job (job_digest job) p tries q → AreHonestOf job p → AreHonestOf job q
 stop_stays opens honest_law law job p q tries (inl none) out honest =

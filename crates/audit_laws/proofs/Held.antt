@@ -1,4 +1,4 @@
--- Each later save of a run holds all that the earlier ones hold, and how many saves there are where none failed.
+-- Each later save of a run contains the earlier ones, and the number of saves if none failed.
 use Rattle.std.proofs.Common.{◌≡◌, ℕ, zero, suc, ◌+◌, ◌*◌, ◌/◌, ◌%◌, ◌<◌, ◌≤◌, ◌==◌, ◌&&◌, ◌||◌, not, Bool, true, false, cond, List, [], ◌∷◌, ◌++◌, take, length, length-append, map, refl, sym, ap, ◌∙◌, subst, append_assoc, All, AllPairs, Contains, IsPermutation, suc-mul, div-add-mod', arith}
 use Rattle.std.proofs.lemmas.Bool.{ne_eqb}
 use Rattle.std.proofs.lemmas.List.{length-map, length-take, map-append}
@@ -18,21 +18,21 @@ use Rattle.audit_statement.specs.Endings.{AreRunSaves, count_of_saves, first_pla
 
 -- ---- lists
 
--- an item that is related to all others, before items that are related by pairs, leaves all related by pairs
+-- a member related to all others, before members related in pairs, gives members related in pairs
 pairs_cons : {A : Type 0} (R : A → A → Type 0) (x : A) (xs : List A) → All (R x) xs → AllPairs R xs → AllPairs R (x ∷ xs)
 pairs_cons R x xs first rest zero zero d before inside = absurd (omega arith)
 pairs_cons R x xs first rest zero (suc j) d before inside = first j d (omega arith)
 pairs_cons R x xs first rest (suc i) zero d before inside = absurd (omega arith)
 pairs_cons R x xs first rest (suc i) (suc j) d before inside = rest i j d (omega arith) (omega arith)
 
--- more of the first ones are some of them and others
+-- a longer prefix is a shorter one and more
 take_more : {A : Type 0} (a b : ℕ) (l : List A) → a ≤ b → (rest : List A) × (take b l ≡ take a l ++ rest)
 take_more zero b l le = (take b l, refl)
 take_more (suc a) zero l le = absurd (omega arith)
 take_more (suc a) (suc b) [] le = ([], refl)
 take_more (suc a) (suc b) (x ∷ l) le = let more = take_more a b l (omega arith) in (more.0, ap (λ xs. x ∷ xs) more.1)
 
--- more groups of a size have no fewer members
+-- a larger number of groups has at least as many members
 more_groups : (every n m : ℕ) → n ≤ m → n * every ≤ m * every
 more_groups every zero m le = (let none : 0 * every ≡ 0 = omega arith in omega (arith, none))
 more_groups every (suc n) zero le = absurd (omega arith)
@@ -86,7 +86,7 @@ module _ (job : Job) (opening : List Outcome) (every : ℕ) (walked : List ℕ) 
       All-cons (IsHeldBy job t) u rest (held_by n m place at t u less first goes.0 (λ done. strict done (omega arith)))
       (each_later n (suc m) place (place_after at u) t rest (omega arith) first (λ done some_left. strict done (omega arith)) goes.1)
 
-  -- so many saves are due from the n-th on, and one more but where the last of them is of all and succeeded
+  -- the number of saves due from the n-th on, with one more unless the last one saved everything
   abbrev Counted : ℕ → Bool → List Try → Type 0
   Counted k c ts = length ts ≡ k + cond {A = ℕ} ((length walked % every == 0) && last_succeeded_from c (take k ts)) 0 1
 
@@ -94,7 +94,7 @@ module _ (job : Job) (opening : List Outcome) (every : ℕ) (walked : List ℕ) 
   at_most_one true = omega arith
   at_most_one false = omega arith
 
-  -- the last that was due succeeded and is not the last: then more was walked
+  -- if the last due save succeeded and is not the last save, more was walked
   last_left : (succeeded : Bool) (rest : ℕ) → succeeded ≡ true → rest ≡ cond {A = ℕ} ((length walked % every == 0) && succeeded) 0 1 → 0 < rest → length walked / every * every < length walked
   last_left succeeded rest done is some_left = by (length walked % every) refl
     where
@@ -127,7 +127,7 @@ module _ (job : Job) (opening : List Outcome) (every : ℕ) (walked : List ℕ) 
           let grows = more_groups every (suc n) (length walked / every) (omega (arith, here)) in
           omega (arith, grows, suc-mul n every, div-add-mod' (length walked) every, some_every)
 
-  -- ---- how many there are
+  -- ---- the number of saves
 
   abbrev Done : Try → Type 0
   Done t = t.succeeded ≡ true
@@ -181,7 +181,7 @@ module _ (job : Job) (opening : List Outcome) (every : ℕ) (walked : List ℕ) 
           ∙ ap (λ (n : ℕ). length walked / every + n) (swapped (length walked % every == 0))
           ∙ ap (λ (b : Bool). length walked / every + cond {A = ℕ} (b || not (length walked % every == 0)) 1 0) (sym some_walked)
 
--- ---- of a run
+-- ---- the saves of a run
 
 module _ (job : Job) (outcomes : List Outcome) (p : Pair) (tries : List Try) (some_every : 1 ≤ job.setting.save_every) (s : AreRunSaves job outcomes p tries) where
   pub later_hold_more : AllPairs (IsHeldBy job) tries

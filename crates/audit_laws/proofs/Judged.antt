@@ -1,4 +1,4 @@
--- Where the bytes of a run without regions, which does not tell its origin, are accepted, no test of theirs has refused them.
+-- If the bytes of a run without regions and without origin are accepted, no test has refused them.
 use Rattle.std.proofs.Common.{◌≡◌, ℕ, Bool, true, false, List, [], length, Option, Some, None, Result, Ok, Err, refl, sym, ap, ◌∙◌, subst}
 use Rattle.std.specs.Prelude.{nat_lt}
 use Rattle.audit_model.specs.declared.fault.GraphFault.{GraphFault}
@@ -13,29 +13,29 @@ use Rattle.audit_statement.specs.Accepted.{from_job, from_regions, from_parsed, 
 use Rattle.audit_statement.specs.Origin.{origin_if, origin_of, with_origin}
 use Rattle.audit_statement.specs.Regions.{regions_by}
 
--- the job of such a text
+-- the job of such bytes
 pub record IsJudged (setting : Setting) (bytes : List ℕ) (job : Job) : Type 0 where
   pub parsed : Parsed
   pub read_so : reading bytes setting.columns ≡ Ok parsed
   pub made : job_from parsed setting [] ≡ job
 
--- a job that is made and has no fault is the one that is made
+-- a job without a fault is the one that was made
 made_is : (made job : Job) (fault : Option PlanFault) → job_or made fault ≡ Ok job → made ≡ job
 made_is made job None e = cc
 made_is made job (Some f) e = cc
 
--- a job that is judged is one that was made, with this origin
+-- an accepted job is the one that was made, with this origin
 pub from_job_is : (origin : Option Origin) (r : Result Job PlanFault) (job : Job) → from_job origin r ≡ Ok job
     → (made : Job) × (r ≡ Ok made) × (with_origin origin made ≡ job)
 from_job_is origin (Ok made) job e = (made, refl, cc)
 from_job_is origin (Err f) job e = cc
 
--- the job of what is parsed, with no regions, is the one that is made of it
+-- the job of a parsed graph without regions is the one made of it
 job_is : (p : Parsed) (setting : Setting) (job : Job) → job_of p setting [] ≡ Ok job → job_from p setting [] ≡ job
 unfolding job_of
 job_is p setting job e = made_is (job_from p setting []) job (plan_fault (job_from p setting [])) e
 
--- a job that is judged of what is read is the job of these bytes
+-- an accepted job of a reading is the job of these bytes
 from_parsed_is : (setting : Setting) (bytes : List ℕ) (r : Result Parsed GraphFault) (job : Job) → setting.region ≡ [] → setting.source ≡ false → reading bytes setting.columns ≡ r
     → from_parsed setting bytes r ≡ Ok job → IsJudged setting bytes job
 from_parsed_is setting bytes (Ok p) job none untold is e =
@@ -50,13 +50,13 @@ from_parsed_is setting bytes (Ok p) job none untold is e =
     }
 from_parsed_is setting bytes (Err f) job none untold is e = cc
 
--- a job that is judged of bytes is the job of these bytes
+-- an accepted job of bytes is the job of these bytes
 from_bytes_is : (setting : Setting) (bytes : List ℕ) (many : Bool) (job : Job) → setting.region ≡ [] → setting.source ≡ false → from_bytes setting bytes many ≡ Ok job
     → IsJudged setting bytes job
 from_bytes_is setting bytes true job none untold e = cc
 from_bytes_is setting bytes false job none untold e = from_parsed_is setting bytes (reading bytes setting.columns) job none untold refl e
 
--- a job that is judged of a setting and bytes is the job of these bytes
+-- an accepted job of a setting and bytes is the job of these bytes
 pub judged_is : (setting : Setting) (bytes : List ℕ) (job : Job) → setting.region ≡ [] → setting.source ≡ false → judged setting bytes ≡ Ok job → IsJudged setting bytes job
 unfolding judged
 judged_is setting bytes job none untold e = from_bytes_is setting bytes (nat_lt most_bytes (length bytes)) job none untold e

@@ -1,4 +1,4 @@
--- The districts of what is read are numbered with none left out.
+-- The districts of a parsed graph are numbered without gaps.
 use Rattle.std.proofs.Common.{◌≡◌, ℕ, zero, suc, ◌<◌, ◌≤◌, true, false, not, ◌&&◌, refl, sym, ap, ◌∙◌, inl, inr, arith, Bool}
 use Rattle.std.specs.Prelude.{◌==◌}
 use Rattle.std.proofs.lemmas.Bool.{and_parts, both_ways, cases_Bool, cases_lt, eqb-true, false_from_ne_true, not-true, not_from_false}
@@ -13,7 +13,7 @@ use Rattle.audit_model.proofs.Labels.{equal_same}
 use Rattle.audit_laws.proofs.Numbering.{IsOnto}
 use Rattle.audit_laws.proofs.Reading.{first_with, not_before_itself, rises, three_ways}
 
--- a test that all pass counts all numbers below the bound
+-- a test that all numbers pass counts all numbers below the bound
 counted_all : (n : ℕ) → count_below n (λ _. true) ≡ n
 unfolding count_below
 counted_all zero = refl
@@ -37,7 +37,7 @@ module _ (d : Document) (columns : Columns) where
             (and_parts (new first.0) (before first.0 u) (all.1 first.0 (omega (arith, first.1, l)) first.2)).1)
       ]
 
-  -- two nodes with one label are not both the first
+  -- of two nodes with one label, the later is not the first
   no_twins : (u v : ℕ) → u < v → label_at d columns u ≡ label_at d columns v → new v ≡ true → ⊥
   no_twins u v l same first =
       both_ways (any_below v (λ j. same_label (label_at d columns j) (label_at d columns v)))
@@ -58,7 +58,7 @@ module _ (d : Document) (columns : Columns) where
     | inr (inr more) ↦ absurd (omega (arith, e, rises d columns v u m more))
   ]
 
-  -- were a number left out, the others were too few
+  -- each number below the count of labels is a district
   each : (k : ℕ) → k < label_count d columns → (u : ℕ) × (u < node_count d) × (district_at d columns u ≡ k)
   each k l = elim (cases_Bool (any_below (node_count d) (λ u. district_at d columns u == k))) [
     | inl some ↦

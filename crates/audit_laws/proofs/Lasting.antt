@@ -1,4 +1,4 @@
--- What was saved is in the newest slot, wherever a run is stopped.
+-- Saved outcomes are in the newest slot, wherever a run is stopped.
 use Rattle.std.proofs.Common.{◌≡◌, ◌⊎◌, inl, inr, ℕ, zero, suc, ◌<◌, ◌≤◌, true, List, [], ◌∷◌, ◌++◌, get_or, length, refl, sym, ◌∙◌, subst, All, AllPairs, Contains, arith}
 use Rattle.std.proofs.lemmas.Bool.{true≢false}
 use Rattle.std.proofs.lemmas.List.Elements.{All-cons, All-head, All-nil, All-tail}
@@ -15,13 +15,13 @@ use Rattle.audit_laws.specs.Lost.{AreHeldIn, IsKeptIn, KeepsOpening, StopsLoseNo
 
 -- ---- a run that was stopped
 
--- a run that is stopped has tried no more saves than one that is not
+-- a stopped run has made at most as many attempts as a complete one
 stopped_length : (n : ℕ) (tries : List Try) → length (stopped_in n tries) ≤ length tries
 stopped_length n [] = omega arith
 stopped_length zero (t ∷ tries) = omega arith
 stopped_length (suc n) (t ∷ tries) = let rest = stopped_length n tries in omega (arith, rest)
 
--- each save of a run that is stopped has the bytes of that of one that is not
+-- each attempt of a stopped run has the bytes of the complete run's attempt
 stopped_bytes : (n : ℕ) (tries : List Try) (k : ℕ) (d : Try) → k < length (stopped_in n tries) → (get_or (stopped_in n tries) k d).bytes ≡ (get_or tries k d).bytes
 stopped_bytes n [] k d inside = absurd (omega arith)
 stopped_bytes zero (t ∷ tries) zero d inside = refl
@@ -30,7 +30,7 @@ stopped_bytes (suc n) (t ∷ tries) zero d inside = refl
 stopped_bytes (suc n) (t ∷ tries) (suc k) d inside = stopped_bytes n tries k d (omega arith)
 
 module _ (job : Job) where
-  -- the earlier save is the later one, or is held in it
+  -- the earlier save is the later one, or is contained in it
   abbrev IsIn : List ℕ → List ℕ → Type 0
   IsIn first second = (first ≡ second) ⊎ AreHeldIn job (record { slot = 0; bytes = first; succeeded = true }) second
 
@@ -95,9 +95,9 @@ module _ (job : Job) where
         held = h.held;
       })
 
-  -- ---- the opening
+  -- ---- the initial outcomes
 
-  -- a save's bytes are a checkpoint of the job that holds each of these outcomes
+  -- the bytes are a checkpoint of the job that contains each of these outcomes
   abbrev HoldThese : List Outcome → List ℕ → Type 0
   HoldThese opening bytes = (generation : ℕ) × ((saved : List Outcome) × IsCheckpoint bytes 2 (job_digest job) generation saved × All (Contains saved) opening)
 
@@ -122,7 +122,7 @@ module _ (job : Job) where
         held = of.1.2;
       })
 
--- no stop loses what was saved before
+-- no stop loses saved outcomes
 pub stops_lose_nothing : SavesKeepTheNewest → StopsLoseNothing
 stops_lose_nothing law job before after p status told now t n q out =
     let keeps = law job (job_digest job) p q (place_of job p).0 (place_of job p).1 t.tries n refl t.in_turn out in

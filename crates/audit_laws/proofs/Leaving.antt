@@ -1,4 +1,4 @@
--- What a run leaves as it was, and how one ends that does not start.
+-- The parts of the state that a run leaves unchanged, and the endings of a run that does not start.
 use Rattle.std.proofs.Common.{◌≡◌, ℕ, ◌&&◌, Bool, true, false, List, Result, refl, sym, subst, ap}
 use Rattle.std.specs.Prelude.{IsTrue}
 use Rattle.audit_model.specs.Faults.{Rose}
@@ -12,24 +12,24 @@ use Rattle.audit_laws.specs.Calls.{Finishes}
 use Rattle.audit_model.specs.State.{Kept, Stream}
 use Rattle.audit_statement.specs.World.{world}
 
--- ---- what the reading left
+-- ---- the effect of reading
 
--- a value that is as before is so whether a test passes or not
+-- an unchanged value is unchanged whether a test passes or not
 same_always : {A : Type 0} (b : Bool) (x : A) → SameUnless b x x
 same_always true x = tt
 same_always false x = refl
 
--- a value that is as before is so unless a test passes
+-- an unchanged value is unchanged unless a test passes
 same_if : {A : Type 0} (b : Bool) (x y : A) → y ≡ x → SameUnless b x y
 same_if true x y e = tt
 same_if false x y e = e
 
--- what is read only where a test passes is as before unless it passes
+-- a stream read only if a test passes is unchanged unless it passes
 read_same : (b : Bool) (before after : Stream) → IsReadBy b before after → SameUnless b before after
 read_same true before after r = tt
 read_same false before after r = r
 
--- a reading that may have been made leaves the count of faults
+-- a reading, made or not, leaves the count of faults unchanged
 read_count : (b : Bool) (before after : Stream) → IsReadBy b before after → after.faults ≡ before.faults
 read_count true before after r = r.1
 read_count false before after r = ap (λ (s : Stream). s.faults) r
@@ -40,11 +40,11 @@ module _ (words : List (List ℕ)) (before after : Stream) (job : Job) (p : IsPr
       subst (λ (r : Result Setting WordFault). SameUnless (passes (λ s. is_reading s.command) r) before after) (sym p.accepted.words_are)
       (read_same (is_reading job.setting.command) before after p.read)
 
-  -- what only a run that saves may change
+  -- a value that only a run that saves may change
   pub saved_left : {A : Type 0} (x y : A) → SameUnless (saves job.setting) x y → SameUnless (passes saves (setting_of words)) x y
   saved_left x y same = subst (λ (r : Result Setting WordFault). SameUnless (passes saves r) x y) (sym p.accepted.words_are) same
 
-  -- nothing of the rest was touched but the marked
+  -- the rest of the call changed only the marked parts
   pub left : (out out' : Stream) (k l : Kept) (marks : EndingMarks) → SameUnless marks.wrote out.bytes out'.bytes
       → SameUnless (marks.saved && passes saves (setting_of words)) k.slots l.slots
       → SameUnless (marks.saved && passes saves (setting_of words)) k.tried l.tried → marks.read_failed ≡ false → SameUnless marks.write_failed out.faults out'.faults
@@ -63,7 +63,7 @@ module _ (words : List (List ℕ)) (before after : Stream) (job : Job) (p : IsPr
 
 -- ---- runs that do not start
 
--- a load that failed, with all else as before, is an end of the call
+-- a failed load that changes nothing else is an ending of the call
 pub load_fault_ends : (job : Job) (out : Stream) (k l : Kept) → IsTrue (loads job.setting) → l.slots ≡ k.slots → l.tried ≡ k.tried → l.save_faults ≡ k.save_faults
     → Rose k.load_faults.all l.load_faults.all → l.load_faults.taken ≡ k.load_faults.taken → Finishes job out out k l ended.LoadFault
 load_fault_ends job out k l loading slots tried saved rose untaken = λ words before after p. record {
@@ -72,7 +72,7 @@ load_fault_ends job out k l loading slots tried saved rose untaken = λ words be
   line_is = refl;
 }
 
--- and so is one that failed since another process holds the slots
+-- a load that failed because of a lock is an ending of the call
 pub folder_taken_ends : (job : Job) (out : Stream) (k l : Kept) → IsTrue (loads job.setting) → l.slots ≡ k.slots → l.tried ≡ k.tried → l.save_faults ≡ k.save_faults
     → Rose k.load_faults.all l.load_faults.all → Rose k.load_faults.taken l.load_faults.taken → Finishes job out out k l ended.FolderTaken
 folder_taken_ends job out k l loading slots tried saved rose taken = λ words before after p. record {
@@ -81,7 +81,7 @@ folder_taken_ends job out k l loading slots tried saved rose taken = λ words be
   line_is = refl;
 }
 
--- want of memory, with all as before, is an end of the call
+-- out of memory without any change is an ending of the call
 pub no_memory_ends : (job : Job) (out : Stream) (k l : Kept) → l.slots ≡ k.slots → l.tried ≡ k.tried → l.save_faults ≡ k.save_faults → l.load_faults ≡ k.load_faults
     → Finishes job out out k l ended.NoMemory
 no_memory_ends job out k l slots tried saved loaded = λ words before after p. record {

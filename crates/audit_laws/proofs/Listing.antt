@@ -24,7 +24,7 @@ module _ {A : Type 0} (n : ℕ) (xs : List A) where
       subst (R (get_or (take n xs) i d)) (sym (get_or-take n xs j d bound))
       (subst (λ x. R x (get_or xs j d)) (sym (get_or-take n xs i d (omega arith))) (all i j d before within.1))
 
--- what a run takes is fit to be walked
+-- the ids of a run meet the requirements on ids to walk
 pub run_ids_fit : (job : Job) (kept : List Outcome) (budget : ℕ) → IsTodo job kept (run_ids job kept budget)
 run_ids_fit job kept budget = record {
   apart = λ i j d before inside same.

@@ -1,4 +1,4 @@
--- Which nodes are joined, by their ids.
+-- The joined nodes, by their ids.
 use Rattle.std.proofs.Common.{◌≡◌, ◌≢◌, ◌⊎◌, inl, inr, ℕ, ◌<◌, true, not, ◌||◌, List, [], length, Option, Some, None, sym, ap, ◌∙◌, subst}
 use Rattle.std.specs.Prelude.{◌==◌}
 use Rattle.std.specs.List.{slice_index_or}
@@ -13,13 +13,13 @@ use Rattle.audit_model.proofs.Connected.{has-filter_below, filter_below-has}
 use Rattle.audit_model.proofs.Labels.{same_equal, same_itself}
 use Rattle.audit_statement.specs.Given.{Names}
 
--- what is the same as an id that is there is this id
+-- an id that tests as equal to an existing id is that id
 pub id_is : (a b : Option Label) (l : Label) → b ≡ Some l → same_id a b ≡ true → a ≡ Some l
 id_is None b l e h = absurd (false≢true h)
 id_is (Some a) None l e h = cc
 id_is (Some a) (Some b) l e h = let same : b ≡ l = cc in ap Some (same_equal a b h ∙ same)
 
--- two ids that are there and equal are the same
+-- two existing equal ids test as equal
 pub id_from : (a b : Option Label) (l : Label) → b ≡ Some l → a ≡ Some l → same_id a b ≡ true
 id_from a b l e h = ap (λ (o : Option Label). same_id o b) h ∙ ap (same_id (Some l)) e ∙ same_itself l
 

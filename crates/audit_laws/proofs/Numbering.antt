@@ -1,12 +1,12 @@
--- Two numberings of the same things in the same order are one, where neither leaves a number out.
+-- Two numberings of the same things in the same order are equal if neither has gaps.
 use Rattle.std.proofs.Common.{◌≡◌, ℕ, zero, suc, ◌<◌, ◌≤◌, refl, sym, arith}
 
--- numbers below the bound, of which none is left out
+-- a numbering below the bound without gaps
 pub record IsOnto (n bound : ℕ) (s : ℕ → ℕ) : Type 0 where
   pub within : (u : ℕ) → u < n → s u < bound
   pub each : (d : ℕ) → d < bound → (u : ℕ) × (u < n) × (s u ≡ d)
 
--- they are no greater than others in this order
+-- a numbering is at most another one in the same order
 no_greater : (n k : ℕ) (s t : ℕ → ℕ) → IsOnto n k s → ((u v : ℕ) → u < n → v < n → s u < s v → t u < t v)
     → (m u : ℕ) → u < n → s u ≡ m → m ≤ t u
 no_greater n k s t onto order zero u l e = omega arith
@@ -16,7 +16,7 @@ no_greater n k s t onto order (suc m) u l e =
     let so_far = no_greater n k s t onto order m below.0 below.1 below.2 in
     omega (arith, less, so_far)
 
--- as many at most, where each number is the same
+-- of two equal numberings without gaps, the bounds are equal
 as_many : (n k m : ℕ) (s t : ℕ → ℕ) → IsOnto n k s → IsOnto n m t → ((u : ℕ) → u < n → s u ≡ t u) → (j : ℕ) → k ≡ j → j ≤ m
 as_many n k m s t a b same zero e = omega arith
 as_many n k m s t a b same (suc j) e =

@@ -1,4 +1,4 @@
--- Words and JSON say one report.
+-- Arguments and JSON determine one report.
 use Rattle.std.proofs.Common.{◌≡◌, ℕ, zero, suc, ◌+◌, ◌-◌, ◌*◌, ◌<◌, ◌≤◌, Bool, true, cond, not, ◌&&◌, List, [], ◌∷◌, ◌++◌, Result, Ok, refl, sym, ap, ◌∙◌, subst, arith}
 use Rattle.std.specs.Prelude.{◌==◌, ◌/◌, ◌%◌, ◌^◌, nat_lt, slice_index, slice_set, flat_map, ℤ, decimal, codes, bytes_eq, sum, unwrap_or}
 use Rattle.std.proofs.Math.Path.{fun_ext}
@@ -34,13 +34,13 @@ use Rattle.audit_statement.specs.Names.{score_name, tail_name}
 use Rattle.audit_statement.specs.Report.{billionths, fraction, line}
 use Rattle.audit_statement.specs.Words.{ask_of, ask_text}
 
--- ---- words say one setting
+-- ---- arguments determine one setting
 
 -- digits spell one number
 same_number : (text : List ℕ) (m n : ℕ) → IsSpelled text m → IsSpelled text n → m ≡ n
 same_number text m n p q = decimal_injective m n p.1 q.1 (p.0 ∙ sym q.0)
 
--- an ask that is spelled is read back as it was
+-- the text of an ask has one reading
 spelled_back : (score : Score) (tail : Tail)
     → unwrap_or (ask_of (ask_text (record { score = score; tail = tail }))) (record { score = Seats; tail = Low }) ≡ record { score = score; tail = tail }
 spelled_back Seats Low = refl
@@ -73,9 +73,9 @@ module _ (words : List (List ℕ)) (a b : Setting) (s : AreSaid words a) (t : Ar
   same_asks = same_lists ask_text (λ (text : List ℕ). unwrap_or (ask_of text) (record { score = Seats; tail = Low })) ask_back a.asks b.asks
       (s.asks ∙ sym t.asks)
 
--- ---- what the report is made of
+-- ---- the inputs of the report
 
--- the plans that are visited, for each draws, start and step
+-- the visited plan, by draws, start plan and step
 abbrev Visits : Type 0
 Visits = (ℕ → ℕ) → List ℕ → ℕ → List ℕ
 
@@ -115,7 +115,7 @@ module _ (edges units districts : ℕ) (counts : Counts) (slack : ℕ) (key : Li
       ∷ codes "p" ∷ billionths (p_value (rank ask) (ends + 1)) ∷ [])) asks)
       ++ line (codes "end" ∷ [])
 
--- the plain report of a job is the same function of its graph, its counts and its setting
+-- the plain report of a job is a function of its graph, its counts and its setting
 report_is : (job : Job) (valid : List ℕ → Bool) (draws : Draws) → plain_report job valid draws
     ≡ whole (count_edges job.graph (λ u v. true)) job.graph.units job.districts job.counts job.setting.slack job.setting.key job.setting.walks job.setting.steps
     job.setting.ends job.setting.hub_steps job.setting.asks job.start (plan_value job) (plan_after job valid) draws
@@ -124,20 +124,20 @@ report_is job valid draws = refl
 
 -- ---- one graph and one setting
 
--- what a step does, by what it comes to
+-- a step as a function of its inputs
 abbrev step_by : ℕ → ℕ → (List ℕ → Bool) → List ℕ → ℕ → List ℕ
 step_by units districts valid plan n =
     let pairs = units * districts in
     let moved = slice_set plan (n % pairs / districts) (n % pairs % districts) in
     cond (nat_lt n (2 ^ 64 / pairs * pairs) && valid moved) moved plan
 
--- a district is within the bounds, by what they come to
+-- the bounds on a district as a function of their inputs
 abbrev WithinBounds : ℕ → ℕ → Counts → List ℕ → ℕ → Type 0
 WithinBounds slack districts counts plan d =
     ((10000 - slack) * sum counts.population ≤ 10000 * districts * district_sum counts.population plan d)
     × (10000 * districts * district_sum counts.population plan d ≤ (10000 + slack) * sum counts.population)
 
--- a plan that is valid for a job is valid for another of one graph and one slack
+-- a plan that is valid for a job is valid for another with the same graph and slack
 valid_there : (a b : Job) → AreOfOneGraph a b → a.setting.slack ≡ b.setting.slack → (plan : List ℕ) → IsValid a plan → IsValid b plan
 valid_there a b one slack plan h =
     let fewer : (d : ℕ) → d < b.districts → d < a.districts = λ d l. omega (arith, l, one.districts) in
@@ -151,7 +151,7 @@ valid_there a b one slack plan h =
           (subst (λ (c : Counts). WithinBounds a.setting.slack a.districts c plan d) one.counts (h.balanced d (fewer d l))));
     }
 
--- that two jobs are of one graph does not hang on their order
+-- having one graph is symmetric
 back : (a b : Job) → AreOfOneGraph a b → AreOfOneGraph b a
 back a b one = record {
   units = sym one.units;

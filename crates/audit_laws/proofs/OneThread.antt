@@ -1,4 +1,4 @@
--- From how a call ended to the report of one thread.
+-- From the ending of a call to the report of one thread.
 use Rattle.std.proofs.Common.{◌≡◌, ℕ, Bool, true, false, List, Option, Some, sym, subst, arith}
 use Rattle.std.specs.Io.KnownBytes.{Appends}
 use Rattle.audit_model.specs.declared.outcome.Outcome.{Outcome}
@@ -76,7 +76,7 @@ module _ (words : List (List ℕ)) (before after : World) where
       whole_report c.whole job c.job outcomes s (job_is words before after job c.job s.the_job c.prepared) none c.written
   nine_report job outcomes s none r c z = absurd (omega arith)
 
--- a call that ends in one of the ways has written its text whole where its status says so
+-- a call with a correct ending has written its whole text if its status says so
 pub writes_whole : (words : List (List ℕ)) (before after : World) (n m : Stream) (status : ℕ) → EndsFor words before after n m status → WritesWhole words before after status
 writes_whole words before after n m status e =
     subst (λ (s : ℕ). WritesWhole words before after s) (sym e.status_is) (record {

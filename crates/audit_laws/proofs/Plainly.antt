@@ -1,4 +1,4 @@
--- From the promise of the top call to what a plain run has done.
+-- From the contract of the top call to the effect of a plain run.
 use Rattle.std.proofs.Common.{◌≡◌, ℕ, ◌++◌, Bool, List, [], ◌∷◌, Option, Some, None, Ok, refl, sym, ap, ◌∙◌, subst, arith}
 use Rattle.std.specs.Prelude.{codes}
 use Rattle.std.specs.Io.KnownBytes.{Appends}
@@ -39,13 +39,13 @@ use Rattle.audit_laws.proofs.Reported.{AsksPlainly, HasNoRules, Visits, legal_is
 run_asks : (command : Command) (setting : Setting) → command ≡ Run → IsSettingOf command setting → IsRunSetting setting
 run_asks command setting run within = subst (λ (c : Command). IsSettingOf c setting) run within
 
--- a text that was appended to what was told is what is told behind it
+-- the known bytes after a text was appended
 grown : (old : List ℕ) (before new : Option (List ℕ)) (text : List ℕ) → before ≡ Some old → Appends before new text → new ≡ Some (old ++ text)
 grown old None new text e h = cc
 grown old (Some xs) None text e h = absurd h
 grown old (Some xs) (Some ys) text e h = let same : xs ≡ old = cc in ap Some h ∙ ap (λ (zs : List ℕ). Some (zs ++ text)) same
 
--- status 0 comes only where all is done
+-- status 0 comes only if all work was done
 done_only : (words : List (List ℕ)) (before after : World) (r : Option Ending) → Cause words before after r → status_of r ≡ 0 → IsDone words before after
 done_only words before after None c z = c
 done_only words before after (Some (bad_words f)) c z = absurd (omega arith)
@@ -65,11 +65,11 @@ done_only words before after (Some (damaged a b)) c z = absurd (omega arith)
 done_only words before after (Some (other_job a b)) c z = absurd (omega arith)
 done_only words before after (Some save_fault) c z = absurd (omega arith)
 
--- the input of a run is what its source gives
+-- the input of a run is that of its source
 pub input_is : (command : Command) (setting : Setting) (bytes : List ℕ) → command ≡ Run → input_by command setting (Some bytes) ≡ Some bytes
 input_is command setting bytes run = ap (λ (c : Command). input_by c setting (Some bytes)) run
 
--- what is known of a call that did all, on the words of a plain run
+-- the facts about a complete call on the arguments of a plain run
 module _ (words : List (List ℕ)) (before after : World) (done : IsDone words before after) (setting : Setting) (bytes : List ℕ)
     (words_are : setting_of words ≡ Ok setting) (plain : IsPlain setting) (told : before.source.bytes ≡ Some bytes) where
   abbrev job : Job
@@ -133,7 +133,7 @@ module _ (words : List (List ℕ)) (before after : World) (done : IsDone words b
   decides : Decides job (is_legal job)
   decides plan = (λ h. legal_is_valid job plan (passes_legal job plan h), λ h. legal_passes job plan (valid_is_legal job plan no_rules h))
 
--- a call that keeps its promise has done what the plain statement says
+-- a call that meets its contract has done what the plain statement says
 pub plain_calls : (words : List (List ℕ)) (before after : World) (n m : Stream) (status : ℕ) → KeepsItsPromise words before after n m status
     → AuditsPlainly words before.source.bytes before.out.bytes after.out.bytes status
 plain_calls words before after n m status k rest bytes old run silent told kept zero =
@@ -172,7 +172,7 @@ plain_calls words before after n m status k rest bytes old run silent told kept 
           (plain_report_is j free (asks words before after done setting bytes words_are plain told) (is_legal j) decided (draw j.setting.key)) wrote);
     }
 
--- so does each call that keeps its promise
+-- the law on each call that meets its contract
 pub promised_calls_audit_plainly : PromisedCallsAuditPlainly
 promised_calls_audit_plainly words before after n m status k rest bytes old run silent told kept zero =
     plain_calls words before after n m status (k.one (ap names_plans run)) rest bytes old run silent told kept zero

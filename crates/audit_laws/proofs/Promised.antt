@@ -1,4 +1,4 @@
--- What the words promise that ask for tests that stop early.
+-- The promise of arguments that ask for tests with an early stop.
 use Rattle.std.proofs.Common.{◌≡◌, ℕ, ◌<◌, ◌&&◌, Bool, true, false, List, [], Option, Some, Ok, refl, sym, subst, arith}
 use Rattle.std.proofs.lemmas.Bool.{and_right, both_ways}
 use Rattle.audit_model.specs.declared.setting.Setting.{Setting}
@@ -29,7 +29,7 @@ module _ (setting : Setting) (alone : StopsAlone setting) where
   resumes_nothing : (is_walking setting.command && setting.resume) ≡ false
   resumes_nothing = rw alone.fresh (and_right (is_walking setting.command) false refl)
 
--- it starts with nothing
+-- such a run starts without outcomes
 starts_empty : (words : List (List ℕ)) (before : World) (job : Job) → IsTheJob words before job → StopsAlone job.setting → StartsWith words before job []
 starts_empty words before job t alone = record {
   the_job = t;
@@ -54,7 +54,7 @@ module _ (words : List (List ℕ)) (before after : World) (setting : Setting) (e
   below_six (Some save_fault) c = absurd (here c.job.setting saves c.prepared.accepted.words_are (saves_nothing setting alone) c.saving)
   below_six r c = omega arith
 
--- a call whose tests stop early has written when each of them stops
+-- a call whose tests stop early has written the stopping place of each
 pub ends_early : (words : List (List ℕ)) (before after : World) (n m : Stream) (status : ℕ) → EndsFor words before after n m status
     → WritesWhole words before after status → LeavesAlone words before after status → EndsEarly words before after status
 ends_early words before after n m status ends whole left = record {

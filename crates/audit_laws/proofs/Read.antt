@@ -1,4 +1,4 @@
--- Where bytes are read, no test of theirs has refused them, and they give the job.
+-- If bytes are read, no test has refused them, and they give the job.
 use Rattle.std.proofs.Common.{◌≡◌, ℕ, Bool, true, false, not, List, [], length, Option, Some, None, Ok, refl, sym, ap, ◌∙◌, subst, cond}
 use Rattle.std.specs.Prelude.{◌==◌}
 use Rattle.std.specs.Str.{is_utf8}
@@ -16,7 +16,7 @@ use Rattle.audit_statement.specs.Given.{IsGiven}
 use Rattle.audit_laws.specs.Taken.{ReadJobsAreGiven}
 use Rattle.audit_laws.proofs.Reading.{given_is}
 
--- what is read of a text that is a graph
+-- the result of reading bytes that are a graph
 pub record IsReadFrom (bytes : List ℕ) (columns : Columns) (p : Parsed) : Type 0 where
   pub root : Data
   pub is_text : is_utf8 bytes ≡ true
@@ -25,23 +25,23 @@ pub record IsReadFrom (bytes : List ℕ) (columns : Columns) (p : Parsed) : Type
   pub sound : refusal (document root) columns ≡ None
   pub same : parsed (document root) columns ≡ p
 
--- what is accepted has no fault, and is what was read
+-- an accepted graph has no fault and is the parsed one
 accepted_is : (p q : Parsed) (fault : Option GraphFault) → accepted_or p fault ≡ Ok q → (fault ≡ None) × (p ≡ q)
 accepted_is p q None e = (refl, cc)
 accepted_is p q (Some f) e = cc
 
--- what is read of a root has no part of a wrong shape and no refusal
+-- a graph read from a root has no part of a wrong shape and no refusal
 of_root_is : (columns : Columns) (root : Data) (part : Option Part) (p : Parsed) → of_root columns root part ≡ Ok p
     → (part ≡ None) × (refusal (document root) columns ≡ None) × (parsed (document root) columns ≡ p)
 of_root_is columns root None p e = let is = accepted_is _ p (refusal (document root) columns) e in (refl, is.0, is.1)
 of_root_is columns root (Some f) p e = cc
 
--- what is read of bytes is read of text that is JSON
+-- a root that was read came from valid UTF-8 that is JSON
 text_is : (b : Bool) (r : Option Data) (root : Data) → cond b r None ≡ Some root → (b ≡ true) × (r ≡ Some root)
 text_is true r root e = (refl, e)
 text_is false r root e = cc
 
--- what is accepted of JSON is read from its bytes
+-- a graph accepted from JSON is read from its bytes
 of_json_is : (bytes : List ℕ) (columns : Columns) (o : Option Data) (p : Parsed) → cond (is_utf8 bytes) (read bytes) None ≡ o → of_json columns o ≡ Ok p
     → IsReadFrom bytes columns p
 of_json_is bytes columns None p is e = cc
@@ -50,12 +50,12 @@ of_json_is bytes columns (Some root) p is e =
     let parts = of_root_is columns root (bad_part root) p e in
     record { root = root; is_text = text.0; is_json = text.1; shape = parts.0; sound = parts.1; same = parts.2 }
 
--- what a reading accepts is read from its bytes
+-- an accepted graph is read from its bytes
 pub read_is : (bytes : List ℕ) (columns : Columns) (p : Parsed) → reading bytes columns ≡ Ok p → IsReadFrom bytes columns p
 unfolding reading
 read_is bytes columns p e = of_json_is bytes columns (cond (is_utf8 bytes) (read bytes) None) p refl e
 
--- where no group is named, none is read
+-- if no group is named, none is read
 pub no_group_read : (bytes : List ℕ) (columns : Columns) (p : Parsed) → columns.group ≡ [] → reading bytes columns ≡ Ok p → p.group.members ≡ []
 no_group_read bytes columns p none e =
     let is = read_is bytes columns p e in
@@ -63,7 +63,7 @@ no_group_read bytes columns p none e =
     ap (λ (q : Parsed). q.group.members) (sym is.same)
     ∙ ap (λ (key : List ℕ). cond (not (length key == 0)) (map_below (node_count d) (count_at d columns column.Group)) []) none
 
--- whatever is read is given by the JSON of the bytes
+-- the JSON of the bytes gives whatever is read from them
 pub read_jobs_are_given : ReadJobsAreGiven
 read_jobs_are_given bytes setting p e =
     let is = read_is bytes setting.columns p e in

@@ -1,4 +1,4 @@
--- What is read of a text that is not refused is what the text gives.
+-- A text that is not refused gives the parsed graph.
 use Rattle.std.proofs.Common.{◌≡◌, ◌⊎◌, inl, inr, ℕ, zero, suc, ◌<◌, ◌≤◌, Bool, true, false, not, ◌&&◌, ◌||◌, List, [], ◌∷◌, length, map, Option, Some, None, Ordering, Less, Equal, Greater, refl, sym, ap, ◌∙◌, cond, arith, get_or}
 use Rattle.std.specs.Prelude.{◌==◌, nat_le, nat_lt, codes, is_some, is_none, unwrap_or, option_map, option_and_then}
 use Rattle.std.specs.List.{slice_index_or, list_all}
@@ -34,9 +34,9 @@ use Rattle.audit_model.proofs.Options.{cond_some_none, option_map_none, option_o
 use Rattle.audit_laws.proofs.Naming.{edge_from, from_edge, id_from, id_is}
 use Rattle.audit_statement.specs.Given.{IsGiven, count, items_of, label_under, list}
 
--- ---- the first of several, where there is none
+-- ---- a list of options without values
 
--- where none of a list of options has a value, each is empty
+-- if none of a list of options has a value, each is empty
 none_at : {A : Type 0} (xs : List (Option A)) → first_some xs ≡ None → (i : ℕ) → get_or xs i None ≡ None
 none_at [] e i = refl
 none_at (x ∷ xs) e zero = (option_or_none x (first_some xs) e).0
@@ -59,7 +59,7 @@ by_place xs f g h d each =
 
 -- ---- arrays
 
--- items are those of their elements
+-- items are made of their elements
 items_back : (ds : Items) → items_of (elements ds) ≡ ds
 items_back no_items = refl
 items_back (item d ds) = ap (item d) (items_back ds)
@@ -81,7 +81,7 @@ some_at : {A : Type 0} (o : Option A) (d : A) → is_none o ≡ false → o ≡ 
 some_at None d e = cc
 some_at (Some x) d e = refl
 
--- a value that passes as a list is one
+-- a value that tests as a list is one
 array_back : (d : Data) → is_some (list_of d) ≡ true → d ≡ list (unwrap_or (list_of d) [])
 array_back null e = cc
 array_back (boolean b) e = cc
@@ -90,14 +90,14 @@ array_back (string s) e = cc
 array_back (array ds) e = ap array (sym (items_back ds))
 array_back (object ms) e = cc
 
--- values that pass as lists are lists
+-- values that test as lists are lists
 arrays_back : (ds : List Data) → list_all (λ d. is_some (list_of d)) ds ≡ true → ds ≡ map list (map (λ d. unwrap_or (list_of d) []) ds)
 arrays_back [] e = refl
 arrays_back (d ∷ ds) e =
     let parts = and_parts (is_some (list_of d)) (list_all (λ d. is_some (list_of d)) ds) e in
     ap (λ (x : Data). x ∷ ds) (array_back d parts.0) ∙ ap (λ (xs : List Data). list (unwrap_or (list_of d) []) ∷ xs) (arrays_back ds parts.1)
 
--- a value whose elements pass as lists is a list of lists
+-- a value whose elements test as lists is a list of lists
 lists_back : (o : Option (List Data)) → list_all (λ d. is_some (list_of d)) (unwrap_or o (null ∷ [])) ≡ true
     → o ≡ Some (map list (map (λ d. unwrap_or (list_of d) []) (unwrap_or o [])))
 lists_back None e = absurd (false≢true e)
@@ -130,7 +130,7 @@ less_is Less e = refl
 less_is Equal e = cc
 less_is Greater e = cc
 
--- what is equal is not less
+-- an order that tests as equal does not test as less
 eq_is_not_lt : (o : Ordering) → is_eq o ≡ true → is_lt o ≡ false
 eq_is_not_lt Less e = cc
 eq_is_not_lt Equal e = refl
@@ -145,7 +145,7 @@ not_before_itself (Word s) = eq_is_not_lt (slice_cmp nat_cmp s s) (same_itself (
 pub before_through : (a b c : Label) → label_before a b ≡ true → label_before b c ≡ true → label_before a c ≡ true
 before_through a b c x y = ap is_lt (label_total.trans a b c (less_is (label_cmp a b) x) (less_is (label_cmp b c) y))
 
--- of two labels one is before the other, or they are the same
+-- of two labels one is before the other, or they are equal
 pub three_ways : (a b : Label) → (label_before a b ≡ true) ⊎ ((a ≡ b) ⊎ (label_before b a ≡ true))
 three_ways a b = by (label_cmp a b) refl
   where
@@ -187,7 +187,7 @@ module _ (d : Document) (columns : Columns) where
             (and_from (is_new_label d columns first.0) (label_before (label_at d columns first.0) (label_at d columns v)) first.2 into))).1)
       ]
 
-  -- and the other way round
+  -- a lower number belongs to an earlier label
   pub falls : (u v : ℕ) → u < node_count d → v < node_count d → district_at d columns u < district_at d columns v
       → label_before (label_at d columns u) (label_at d columns v) ≡ true
   falls u v l m h = elim (three_ways (label_at d columns u) (label_at d columns v)) [
@@ -199,7 +199,7 @@ module _ (d : Document) (columns : Columns) where
     | inr (inr after) ↦ let e = rises v u m after in absurd (omega (arith, h, e))
   ]
 
--- ---- all of it
+-- ---- the whole reading
 
 module _ (setting : Setting) (root : Data) (shape : bad_part root ≡ None) (sound : refusal (document root) setting.columns ≡ None) where
   abbrev columns : Columns

@@ -31,19 +31,19 @@ use Rattle.audit_statement.specs.Report.{ask_words, billionths, ends_line, ends_
 use Rattle.audit_statement.specs.Valid.{IsValid}
 use Rattle.audit_statement.specs.Plain.{Decides, after_step, plan_after, each_below, is_extreme, end, start_rank, outlier_line, parallel_line, plain_report}
 
--- a job with no rules beside legality: no fewer edges may be cut than there are, there are no regions, and no majority of a group is due
+-- a job without rules beyond legality: all edges may be cut, there are no regions, and no majorities are required
 pub record HasNoRules (job : Job) : Type 0 where
   pub enough : count_edges job.graph (λ u v. true) ≤ job.setting.max_cut
   pub none : job.regions ≡ []
   pub none_due : job.setting.group_districts ≡ 0
 
--- ---- valid plans are the legal ones
+-- ---- valid plans are legal
 
--- a legal plan is a valid one
+-- a legal plan is valid
 pub legal_is_valid : (job : Job) (plan : List ℕ) → IsLegal job plan → IsValid job plan
 legal_is_valid job plan h = record { complete = h.complete; in_range = h.in_range; connected = h.connected; balanced = h.balanced }
 
--- where a job has no rules, a valid plan is a legal one
+-- for a job without rules, a valid plan is legal
 pub valid_is_legal : (job : Job) (plan : List ℕ) → HasNoRules job → IsValid job plan → IsLegal job plan
 valid_is_legal job plan free h = record {
   complete = h.complete;
@@ -55,19 +55,19 @@ valid_is_legal job plan free h = record {
 
 -- ---- the same plans are visited
 
--- a choice between a plan and itself is the plan
+-- a choice between a plan and itself is that plan
 unmoved : (b : Bool) (plan : List ℕ) → cond b plan plan ≡ plan
 unmoved true plan = refl
 unmoved false plan = refl
 
--- a step keeps the plan that it proposes where there is a proposal and it passes
+-- a step moves to the proposed plan if there is a proposal and it passes
 step_by : (test : List ℕ → Bool) (plan : List ℕ) (b : Bool) (u d : ℕ)
     → cond (test (changed plan (if b then Some (u, d) else None))) (changed plan (if b then Some (u, d) else None)) plan
     ≡ cond (b && test (slice_set plan u d)) (slice_set plan u d) plan
 step_by test plan true u d = refl
 step_by test plan false u d = unmoved (test plan) plan
 
--- the plans that are visited, for each draws, start and step
+-- the visited plan, by draws, start plan and step
 abbrev pub Visits : Type 0
 Visits = (ℕ → ℕ) → List ℕ → ℕ → List ℕ
 
@@ -103,13 +103,13 @@ each_below_same zero f g same = refl
 each_below_same (suc n) f g same =
     ap (λ xs. xs ++ f n) (each_below_same n f g (λ k l. same k (omega (arith, l)))) ∙ ap (λ xs. each_below n g ++ xs) (same n (omega arith))
 
--- one outcome more counts where it passes
+-- one more outcome counts if it passes
 count_more : (test : Outcome → Bool) (os : List Outcome) (o : Outcome) → count_by test (os ++ o ∷ []) ≡ count_by test os + cond (test o) 1 0
 count_more test os o =
     let last = sum_by-cons (λ x. cond {A = ℕ} (test x) 1 0) o [] in
     omega (arith, sum_by-append (λ x. cond {A = ℕ} (test x) 1 0) os (o ∷ []), last)
 
--- what is made of a number below the bound comes before, and the rest is left out
+-- the texts of the outcomes with ids below a bound are those of the first numbers, and the rest is dropped
 module _ (most : ℕ) (found : ℕ → Outcome) (ids : (n : ℕ) → (found n).id ≡ n) where
   front : (n : ℕ) (text : Outcome → List ℕ) → n ≤ most
       → flat_map text (filter (λ o. nat_lt o.id most) (map_below n found)) ≡ each_below n (λ id. text (found id))
@@ -168,11 +168,11 @@ module _ (most : ℕ) (found : ℕ → Outcome) (ids : (n : ℕ) → (found n).i
 
 -- ---- asks by their places
 
--- of four values, one for each ask, that at the place is the ask's
+-- the value at a place is that of the ask at the place
 IsAt : List Ask → ℕ → Ask → Type 0
 IsAt asks place ask = (values : Ask → ℤ) → slice_index_or (four_values (map values asks)) place (pos 0) ≡ values ask
 
--- what is written by place is what is written by ask
+-- a text by places is the text by asks
 over_asks : (asks : List Ask) (by_place : ℕ × Ask → List ℕ) (text : Ask → List ℕ) → length asks ≤ 4
     → ((place : ℕ) (ask : Ask) → IsAt asks place ask → by_place (place, ask) ≡ text ask)
     → flat_map by_place (enumerate_from 0 asks) ≡ flat_map text asks
@@ -200,7 +200,7 @@ over_asks (a ∷ b ∷ c ∷ d ∷ e ∷ rest) by_place text few same = absurd (
 
 -- ---- the lines
 
--- what a job asks for that has none of the features that may be left out
+-- the settings of a job without optional features
 pub record AsksPlainly (job : Job) : Type 0 where
   pub no_stop : job.setting.stop ≡ 0
   pub no_serial : job.setting.serial ≡ false
@@ -210,7 +210,7 @@ pub record AsksPlainly (job : Job) : Type 0 where
   pub no_origin : job.origin ≡ None
   pub few_asks : length job.setting.asks ≤ 4
 
--- the line of an outlier trajectory by its numbers
+-- the line of an outlier walk, by its numbers
 abbrev walk_line_by : Job → ℕ → Ask → ℕ → ℤ → List ℕ
 walk_line_by job n ask moved count = line (
     (codes "walk" ∷ decimal n ∷ codes "moved" ∷ decimal moved ∷ []) ++ ask_words job ask
@@ -223,7 +223,7 @@ ends_line_by job ask place = line (
     ++ codes "rank" ∷ decimal place ∷ codes "of" ∷ decimal (job.setting.ends + 1)
     ∷ codes "p" ∷ billionths (p_value place (job.setting.ends + 1)) ∷ [])
 
--- what is counted along the plans that are visited
+-- the number of moves along the visited plans
 abbrev moved_by : Visits → Job → (ℕ → ℕ) → ℕ
 moved_by v job draws = count_below job.setting.steps (λ i. not (bytes_eq (v draws job.start i) (v draws job.start (suc i))))
 
@@ -237,7 +237,7 @@ end_by v job draws n = v (draws (2 * n + 3)) (v (draws 1) job.start job.setting.
 abbrev end_is_extreme : Visits → Job → Draws → Ask → ℕ → Bool
 end_is_extreme v job draws ask n = in_tail ask.tail (plan_value job (end_by v job draws n) ask.score) (plan_value job job.start ask.score)
 
--- the report on the job's outcomes, by the parts that may be left out
+-- the report on the job's outcomes, by its optional parts
 abbrev report_by : Job → Draws → Bool → List ℕ → List ℕ → ℕ → List ℕ → List (List ℕ) → Bool → List ℕ
 report_by job draws shift origin rules stop walks stops serial =
     title_line shift

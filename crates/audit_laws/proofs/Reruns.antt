@@ -1,4 +1,4 @@
--- How a job is run changes nothing of what it finds; chains of its runs.
+-- The manner of a run does not change the outcomes, and the chains of a job's runs.
 use Rattle.std.proofs.Common.{◌≡◌, ℕ, zero, suc, ◌+◌, ◌-◌, ◌*◌, ◌==◌, ◌⊎◌, inl, inr, ◌&&◌, ◌||◌, not, Bool, true, false, List, [], ◌∷◌, ◌++◌, length, map, drop, take, replicate, get_or, Option, Some, None, refl, sym, ap, ◌∙◌, subst}
 use Rattle.std.specs.Prelude.{bytes_eq, codes, int_le, nat_le, nat_lt, pos, slice_range}
 use Rattle.std.specs.List.{list_all}
@@ -39,7 +39,7 @@ use Rattle.audit_laws.proofs.Starting.{opening_told}
 use Rattle.audit_laws.proofs.Chained.{rises_or_not}
 use Rattle.audit_laws.proofs.Statuses.{job_is, report_of}
 
--- ---- outcomes, by whatever visits a plan
+-- ---- outcomes as a function of the visited plans
 
 abbrev Visits : Type 0
 Visits = (ℕ → ℕ) → List ℕ → ℕ → List ℕ
@@ -97,7 +97,7 @@ end_by v job draws id = record {
   bins = no_bins;
 }
 
--- ---- the same for the tests and the lines that are made by cases
+-- ---- tests and lines that are defined by cases
 
 abbrev fits_by : ℕ → Bool → Job → Outcome → Bool
 fits_by steps binned job o =
@@ -206,7 +206,7 @@ module _ (job : Job) (manner : Manner) where
   stops_same : (outcomes : List Outcome) → stops_of again outcomes ≡ stops_of job outcomes
   stops_same outcomes = stops_by_same job.setting.stop outcomes
 
-  -- the whole report: with the lines of the serial test exactly where this run asks for it
+  -- the whole report, with the lines of the serial test exactly if this run requests them
   thread_report_is : manner.shift ≡ job.setting.shift → manner.origin ≡ job.origin → (draws : Draws)
       → thread_report again draws ≡ report job (sequence job draws) (stops_of job (sequence job draws)) (serial_by manner.serial job draws)
   unfolding thread_report
@@ -273,7 +273,7 @@ module _ (job : Job) (manner : Manner) where
     one_slot = subst (IsHonestSlot again (draw job.setting.key)) (sym (slot_same p.one_slot)) (honest_slot (draw job.setting.key) _ h.one_slot);
   }
 
--- how a job is run changes nothing of what it finds
+-- the law that the manner of a run does not change the outcomes
 pub reruns_are_alike : RerunsAreAlike
 reruns_are_alike job manner = record {
   same_digest = digest_same job manner;
@@ -287,7 +287,7 @@ reruns_are_alike job manner = record {
   same_report = report_same job manner;
 }
 
--- how the job itself is run, but that it asks for bins and for the serial test or does not, and tells this origin
+-- the job's own manner, with these choices of histogram, serial test and origin
 abbrev own : Job → Bool → Bool → Option Origin → Manner
 own job shift serial origin = record {
   command = job.setting.command;
@@ -306,7 +306,7 @@ own job shift serial origin = record {
   origin = origin;
 }
 
--- how a job is run changes nothing of the report
+-- the manner of a run does not change the report
 thread_report_same : (job : Job) (manner : Manner) → manner.shift ≡ job.setting.shift → manner.origin ≡ job.origin → (draws : Draws)
     → thread_report (rerun job manner) draws ≡ thread_report (asking job manner.shift manner.serial manner.origin) draws
 thread_report_same job manner same from draws =
@@ -314,7 +314,7 @@ thread_report_same job manner same from draws =
 
 -- ---- a stop
 
--- a stop keeps the newest slot, or leaves a newer one
+-- a stop keeps the newest slot or leaves a newer one
 pub stops_keep_the_newest : SavesKeepTheNewest → StopsKeepTheNewest
 stops_keep_the_newest law job before after p status told now t n q out =
     law job (job_digest job) p q (place_of job p).0 (place_of job p).1 t.tries n refl t.in_turn out
@@ -328,7 +328,7 @@ back_from job manner = reruns_are_alike (rerun job manner) (own job job.setting.
 back_again : (job : Job) (l : Link) → FindTheSame (job_in job l) job
 back_again job l = reruns_are_alike (job_in job l) (own job job.setting.shift job.setting.serial job.origin)
 
--- all that was tried, as it ended
+-- all attempts as they ended
 stopped_after : (tries : List Try) → stopped_in (length tries) tries ≡ tries
 stopped_after [] = refl
 stopped_after (t ∷ tries) = ap (λ (ts : List Try). t ∷ ts) (stopped_after tries)
@@ -363,7 +363,7 @@ module _ (law : SavesLeaveHonestSlots) (job : Job) (p : Pair) (l : Link) (honest
       by (inr calm) =
           (back_again job l).same_honest l.slots (link.promised.chain.stays (job_in job l) p l.slots link.over.the_job link.over.found link.left honest_here calm)
 
-  -- with status 0 it was told with what the run started
+  -- a link with status 0 has known initial outcomes
   link_started : IsLink job p l → l.status ≡ 0 → (outcomes : List Outcome) × StartsWith l.words l.before (job_in job l) outcomes
   link_started link z =
       let d = link.promised.causes.zero_only z in
@@ -390,19 +390,19 @@ module _ (law : SavesLeaveHonestSlots) (job : Job) (p : Pair) (l : Link) (honest
         asked_alike link (link.promised.written.save_failed (job_in job l) outcomes s (link.promised.chain.opens_right (job_in job l) outcomes s (resumes link.over)) z none);
   }
 
--- each event leaves honest slots honest
+-- each event leaves consistent slots consistent
 pub event_stays : HonestSlotsOpenRight → RightIsHonest → StopsLeaveHonestSlots → SavesLeaveHonestSlots → (job : Job) (p : Pair) (e : Event) → AreHonestOf job p → IsEvent job p e
     → AreHonestOf job (slots_after e)
 event_stays opens rights stops law job p (ran l) honest is = link_stays law job p l honest is
 event_stays opens rights stops law job p (stopped manner tries q) honest is =
     (back_from job manner).same_honest q (stop_stays opens rights stops (rerun job manner) p q tries is.so_far is.carried (honest_same job manner p honest))
 
--- a run that ends well, from honest slots, has written one thread's report
+-- a run from consistent slots that ends well has written one thread's report
 pub event_wrote : SavesLeaveHonestSlots → (job : Job) (p : Pair) (e : Event) → AreHonestOf job p → IsEvent job p e → HasWritten job e
 event_wrote law job p (ran l) honest is = link_wrote law job p l honest is
 event_wrote law job p (stopped manner tries q) honest is = tt
 
--- so has each run of any chain
+-- each run of any chain has written one thread's report
 pub chains_write_one_report : HonestSlotsOpenRight → RightIsHonest → StopsLeaveHonestSlots → SavesLeaveHonestSlots → ChainsWriteOneReport
 chains_write_one_report opens rights stops law job p [] honest chain = tt
 chains_write_one_report opens rights stops law job p (e ∷ events) honest chain = (

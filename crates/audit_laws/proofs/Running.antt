@@ -1,4 +1,4 @@
--- What is known of a run.
+-- Facts about runs.
 use Rattle.std.proofs.Common.{◌≡◌, ◌⊎◌, inl, inr, ℕ, zero, suc, ◌+◌, ◌<◌, ◌≤◌, ◌||◌, not, Bool, true, false, List, [], ◌∷◌, ◌++◌, length, map, refl, sym, subst, ap, ◌∙◌, cond, length-append, get_or, Option, Some, None, All, AllPairs, arith}
 use Rattle.std.specs.Prelude.{IsTrue, IsPermutation, ◌==◌, find}
 use Rattle.std.specs.List.{list_all}
@@ -31,9 +31,9 @@ use Rattle.audit_laws.proofs.Counting.{few_run_ids, lacking_rest, walks_all}
 use Rattle.audit_laws.proofs.Starting.{every_id}
 use Rattle.audit_laws.proofs.Words.{accepted_words_are_even, accepted_words_cover, accepted_words_stop_alone}
 
--- ---- what is known of the job
+-- ---- facts about the job
 
--- a setting of a command that walks is that of a run
+-- the setting of a command that walks is that of a run
 run_setting_by : (command : Command) (setting : Setting) → is_walking command ≡ true → IsSettingOf command setting → IsRunSetting setting
 run_setting_by Check setting walking within = cc
 run_setting_by Run setting walking within = within
@@ -45,7 +45,7 @@ run_setting_by Trace setting walking within = cc
 pub run_setting : (job : Job) → IsRunJob job → IsRunSetting job.setting
 run_setting job run = run_setting_by job.setting.command job.setting run.walking run.sound.within.setting.command
 
--- a job of accepted words that is walked is a run
+-- a job of accepted arguments that is walked is a run
 pub accepted_jobs_are_runs : AcceptedJobsAreRuns
 accepted_jobs_are_runs words job words_are sound walking =
     record {
@@ -60,11 +60,11 @@ accepted_jobs_are_runs words job words_are sound walking =
 pub no_stops : (job : Job) → job.setting.stop ≡ 0 → AreStopsOf job []
 no_stops job plain = subst (λ (n : ℕ). AreStopsBy n job []) (sym plain) refl
 
--- so the report is on all trajectories
+-- without early stops, the report covers all trajectories
 pub reports_all : (job : Job) → job.setting.stop ≡ 0 → reported job ≡ total job
 reports_all job plain = ap (λ (n : ℕ). reported_by n job) plain
 
--- no more ids are walked than there are
+-- the ids walked are at most the trajectories
 pub few_ids : (job : Job) (outcomes : List Outcome) (budget : ℕ) → length (run_ids job outcomes budget) ≤ total job
 few_ids job outcomes budget = omega (arith, few_run_ids job outcomes budget, length-filter_below (total job) (λ id. not (has_id outcomes id)))
 
@@ -81,38 +81,38 @@ one_part job run none = by (cases_order job.setting.parts 1)
     by (inr (inl fewer)) = absurd (omega (arith, fewer, run.sound.within.setting.part.some))
     by (inr (inr more)) = absurd (omega (arith, none, run.sound.within.setting.part.saves (omega (arith, more))))
 
--- so it leaves no work
+-- a run that saves nothing leaves nothing pending
 pub leaves_none : (job : Job) (outcomes : List Outcome) → IsRunJob job → job.setting.save_every ≡ 0 → leaves_work job outcomes ≡ false
 leaves_none job outcomes run none =
     let whole = one_part job run none in
     le-ltb (to_walk job outcomes) (lacking job outcomes) (walks_all job outcomes job.setting.budget whole.0 whole.1 (run.covered none))
 
--- ---- outcomes that fit
+-- ---- plausible outcomes
 
--- ids that rise differ
+-- in a rising list, all later numbers are above the first
 pub rising_above : (x : ℕ) (ids : List ℕ) → AreRising (x ∷ ids) → All (λ y. x < y) ids
 rising_above x [] rising k d inside = absurd (omega arith)
 rising_above x (y ∷ ids) rising zero d inside = rising.0
 rising_above x (y ∷ ids) rising (suc k) d inside = let above = rising_above y ids rising.1 k d (omega arith) in let first = rising.0 in omega arith
 
--- a rising list rises without its first number
+-- a rising list still rises after the first number is removed
 pub rising_rest : (x : ℕ) (ids : List ℕ) → AreRising (x ∷ ids) → AreRising ids
 rising_rest x [] rising = tt
 rising_rest x (y ∷ ids) rising = rising.1
 
--- a list whose numbers are all above a number does not have it
+-- a list of numbers above a number does not contain it
 has_none : (x : ℕ) (ids : List ℕ) → All (λ y. x < y) ids → has ids x ≡ false
 has_none x [] above = refl
 has_none x (y ∷ ids) above =
     let first = above 0 y (omega arith) in
     rw (ne_eqb y x (λ (e : y ≡ x). absurd (omega (arith, e, first)))) (has_none x ids (λ k d inside. above (suc k) d (omega arith)))
 
--- ids that rise stand once each
+-- rising ids occur once each
 pub rising_once : (ids : List ℕ) → AreRising ids → AllApart ids
 rising_once [] rising = tt
 rising_once (x ∷ ids) rising = (has_none x ids (rising_above x ids rising), rising_once ids (rising_rest x ids rising))
 
--- outcomes with ids that rise have different ids
+-- outcomes with rising ids have different ids
 pub rising_apart : (outcomes : List Outcome) → AreRising (map (λ o. o.id) outcomes) → AreApart outcomes
 rising_apart [] rising i j d before inside same = absurd (omega arith)
 rising_apart (x ∷ xs) rising zero zero d before inside same = absurd (omega arith)
@@ -124,22 +124,22 @@ rising_apart (x ∷ xs) rising (suc i) zero d before inside same = absurd (omega
 rising_apart (x ∷ xs) rising (suc i) (suc j) d before inside same =
     rising_apart xs (rising_rest x.id (map (λ o. o.id) xs) rising) i j d (omega arith) (omega arith) same
 
--- an outcome that fits has an id of the job's
+-- a plausible outcome has an id of the job
 pub fit_below : (job : Job) (o : Outcome) → fits job o ≡ true → o.id < total job
 fit_below job o fit = ltb-true o.id (total job) (and_parts _ _ (and_parts _ _ (and_parts _ _ (and_parts _ _ fit).0).0).0).0
 
--- outcomes that fit have ids below the total
+-- plausible outcomes have ids below the total
 pub all_below_total : (job : Job) (outcomes : List Outcome) → All (λ o. IsTrue (fits job o)) outcomes → All (λ o. o.id < total job) outcomes
 all_below_total job outcomes fit k d inside = fit_below job (get_or outcomes k d) (fit k d inside)
 
--- each fits, in both forms
+-- all outcomes are plausible, in both forms
 pub fit_list : (job : Job) (outcomes : List Outcome) → All (λ o. IsTrue (fits job o)) outcomes → list_all (fits job) outcomes ≡ true
 fit_list job [] fit = refl
 fit_list job (x ∷ xs) fit = and_from (fits job x) (list_all (fits job) xs) (fit 0 x (omega arith)) (fit_list job xs (λ k d inside. fit (suc k) d (omega arith)))
 
 -- ---- all outcomes
 
--- the outcomes of the opening and what was found fit, whatever their order
+-- the initial outcomes and those found are plausible, in any order
 pub found_fit : (job : Job) → IsRunJob job → (opening : List Outcome) (todo : List ℕ) (outcomes : List Outcome) → AreFit job opening → All (λ id. id < total job) todo
     → IsPermutation outcomes (opening ++ map (found job) todo) → All (λ o. IsTrue (fits job o)) outcomes
 unfolding found
@@ -150,14 +150,14 @@ found_fit job run opening todo outcomes fit within moved =
     (All-map (λ (o : Outcome). IsTrue (fits job o)) (found job) todo
     (λ k d inside. fitting.found_fits job (draw job.setting.key) job.setting.shift (run_setting job run).few_asks (get_or todo k d) (within k d inside))))
 
--- outcomes by rising id have ids that rise
+-- outcomes by rising id have rising ids
 pairs_rise : (outcomes : List Outcome) → AllPairs (λ a b. a.id < b.id) outcomes → AreRising (map (λ o. o.id) outcomes)
 pairs_rise [] rising = tt
 pairs_rise (x ∷ []) rising = tt
 pairs_rise (x ∷ y ∷ xs) rising =
     (rising 0 1 x (omega arith) (omega arith), pairs_rise (y ∷ xs) (λ i j d before inside. rising (suc i) (suc j) d (omega arith) (omega arith)))
 
--- what was walked, by rising id, with what the run started with
+-- the outcomes of a run by rising id are the initial and the walked ones
 pub are_all : (job : Job) → IsRunJob job → (opening kept : List Outcome) (todo : List ℕ) (sorted : List Outcome) → kept ≡ opening → AreFit job opening
     → todo ≡ run_ids job opening job.setting.budget → All (λ id. id < total job) todo
     → ((budget : ℕ) → todo ≡ run_ids job kept budget → sorted ≡ full job (draw job.setting.key) kept budget)
@@ -182,19 +182,19 @@ are_all job run opening kept todo sorted same start ids within fullness moved ri
     }
 
 module _ (job : Job) (opening outcomes : List Outcome) (all : AreAll job opening outcomes) where
-  -- what is left when the run started, and what it started with
+  -- the pending and the initial outcomes add up to the total
   rest_is : lacking job opening + length opening ≡ total job
   rest_is = lacking_rest job opening (rising_apart opening all.start.rising) (all_below_total job opening all.start.fit)
 
-  -- fewer outcomes than trajectories: not all that is lacking was walked
+  -- with fewer outcomes than trajectories, some pending id was not walked
   pub short_leaves : length outcomes < total job → leaves_work job opening ≡ true
   short_leaves short = lt-ltb (to_walk job opening) (lacking job opening) (omega (arith, short, all.count, rest_is))
 
-  -- an outcome for each trajectory: all that is lacking was walked
+  -- with an outcome for each trajectory, all pending ids were walked
   pub whole_leaves : total job ≤ length outcomes → leaves_work job opening ≡ false
   whole_leaves whole = le-ltb (to_walk job opening) (lacking job opening) (omega (arith, whole, all.count, rest_is))
 
--- the outcome of an id, kept or found, has this id
+-- the outcome of an id, initial or found, has this id
 pub kept_id : (job : Job) (opening : List Outcome) (id : ℕ) → (outcome_from job (draw job.setting.key) opening id).id ≡ id
 kept_id job opening id = by (find (λ o. o.id == id) opening) refl
   where
@@ -202,7 +202,7 @@ kept_id job opening id = by (find (λ o. o.id == id) opening) refl
     by None e = fitting.found_id job (draw job.setting.key) job.setting.shift id
     by (Some o) e = eqb-true o.id id (find_passes (λ o. o.id == id) opening o e)
 
--- where each number passes, the outcomes of those that pass are those of all
+-- if each number passes, the outcomes of those that pass are all outcomes
 all_ids : (n : ℕ) (test : ℕ → Bool) (f : ℕ → Outcome) → ((k : ℕ) → k < n → test k ≡ true) → ((k : ℕ) → (f k).id ≡ k)
     → map (λ o. o.id) (map f (filter_below n test)) ≡ map_below n (λ id. id)
 all_ids zero test f each same = refl
@@ -213,14 +213,14 @@ all_ids (suc n) test f each same =
     ∙ ap (λ b. map_below n (λ id. id) ++ map (λ o. o.id) (map f (cond b (n ∷ []) []))) (each n (omega arith))
     ∙ ap (λ id. map_below n (λ id. id) ++ id ∷ []) (same n)
 
--- where no work is left, the outcomes have all ids
+-- if nothing is pending, the outcomes have all ids
 full_ids : (job : Job) (opening : List Outcome) → leaves_work job opening ≡ false → map (λ o. o.id) (full_of job opening) ≡ map_below (total job) (λ id. id)
 unfolding full
 full_ids job opening none =
     all_ids (total job) (λ id. has_id opening id || has (run_ids job opening job.setting.budget) id) (outcome_from job (draw job.setting.key) opening)
     (every_id job opening none) (kept_id job opening)
 
--- as many outcomes as trajectories are one of each
+-- as many outcomes as trajectories are one outcome of each
 pub whole_outcomes : (job : Job) → job.setting.stop ≡ 0 → (opening outcomes : List Outcome) → AreAll job opening outcomes → total job ≤ length outcomes → AreOutcomesOf job outcomes
 whole_outcomes job plain opening outcomes all whole = record {
   ids = ap (λ os. map (λ o. o.id) os) all.full ∙ full_ids job opening (whole_leaves job opening outcomes all whole)

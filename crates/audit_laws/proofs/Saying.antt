@@ -1,4 +1,4 @@
--- Accepted words of a run say its setting.
+-- Accepted arguments of a run determine its setting.
 use Rattle.std.proofs.Common.{◌≡◌, ℕ, Bool, true, false, ◌&&◌, not, List, [], ◌∷◌, length, map, Option, Some, None, Result, Ok, Err, ◌<◌, refl, sym, ap, ◌∙◌, subst, cond, inl, inr, arith}
 use Rattle.std.specs.Prelude.{◌^◌, ◌==◌, nat_lt, bytes_eq, codes, decimal, find, is_some, nat_le, option_and_then, option_map, unwrap_or}
 use Rattle.std.specs.Fmt.{digits}
@@ -19,20 +19,20 @@ use Rattle.audit_statement.specs.Words.{NameAndValue, all_asks, as_run, ask_of, 
 use Rattle.audit_laws.proofs.Words.{good}
 use Rattle.audit_statement.specs.Said.{ArePlain, AreSaid, IsSilent, IsSpelled, said}
 
--- ---- the words
+-- ---- the arguments
 
--- words of a run that give a setting have no fault, and the setting is theirs
+-- arguments of a run that give a setting have no fault, and the setting is made of them
 run_or : (words : List NameAndValue) (f : Option WordFault) (setting : Setting) → setting_or Run words f ≡ Ok setting → (f ≡ None) × (as_run Run words ≡ setting)
 run_or words None setting e = (refl, cc)
 run_or words (Some f) setting e = cc
 
--- accepted words of a run have no fault, and the setting is theirs
+-- accepted arguments of a run have no fault, and the setting is made of them
 pub run_words : (rest : List (List ℕ)) (setting : Setting) → setting_of (codes "run" ∷ rest) ≡ Ok setting
     → (fault_of Run (pairs rest) ≡ None) × (as_run Run (pairs rest) ≡ setting)
 unfolding setting_of
 run_words rest setting e = run_or (pairs rest) (fault_of Run (pairs rest)) setting e
 
--- the value of a pair that is found, or another
+-- the value of a named argument, or a default
 value_or : (name : List ℕ) (other : Option (List ℕ)) (words : List (List ℕ))
     → unwrap_or (option_or (option_and_then (λ (pair : NameAndValue). pair.1) (find (λ (pair : NameAndValue). bytes_eq pair.0 name) (pairs words))) other) []
     ≡ said words name (unwrap_or other [])
@@ -54,7 +54,7 @@ value_or name other (word ∷ value ∷ rest) = by (bytes_eq word name) (value_o
 
 -- ---- numbers
 
--- a text that is a number within bounds is the digits of the number
+-- a text that is a number within bounds consists of the number's digits
 printed : (text : List ℕ) (low high : ℕ) → high < 2 ^ 64 → is_number low high text ≡ true → IsSpelled text (unwrap_or (number_of text) 0)
 printed text low high small h = by (bytes_eq (decimal (digits_value text)) text) refl h
   where
@@ -68,7 +68,7 @@ printed text low high small h = by (bytes_eq (decimal (digits_value text)) text)
 
 -- ---- asks
 
--- the ask that is found by its text has this text
+-- the ask found by a text has this text
 ask_spelled : (text : List ℕ) (asks : List AskOf) (ask : AskOf) → find (λ a. bytes_eq (ask_text a) text) asks ≡ Some ask → ask_text ask ≡ text
 ask_spelled text [] ask e = cc
 ask_spelled text (a ∷ asks) ask e = by (bytes_eq (ask_text a) text) refl e (λ f. ask_spelled text asks ask f)
@@ -78,7 +78,7 @@ ask_spelled text (a ∷ asks) ask e = by (bytes_eq (ask_text a) text) refl e (λ
     by true is f later = let same : a ≡ ask = cc in subst (λ (x : AskOf). ask_text x ≡ text) same ((bytes_eq-Decides (ask_text a) text).0 is)
     by false is f later = later f
 
--- asks that are read have the texts that they were read of
+-- asks that are read have the texts that they were read from
 asks_spelled : (parts : List (List ℕ)) → is_some (asks_of parts) ≡ true → map ask_text (unwrap_or (asks_of parts) []) ≡ parts
 asks_spelled [] e = refl
 asks_spelled (part ∷ parts) e = by (ask_of part) (asks_of parts) refl refl e (λ f. asks_spelled parts f)
@@ -106,7 +106,7 @@ ok_back : {E : Type 0} (r : Result (List ℕ) E) → is_some (result_ok r) ≡ t
 ok_back (Ok x) e = refl
 ok_back (Err f) e = cc
 
--- the setting of a run with none of the features that may be left out
+-- the setting of a plain run
 pub record IsPlain (setting : Setting) : Type 0 where
   pub run : setting.command ≡ Run
   pub no_saves : setting.save_every ≡ 0
@@ -120,7 +120,7 @@ pub record IsPlain (setting : Setting) : Type 0 where
   pub none_due : setting.group_districts ≡ 0
   pub untold : setting.source ≡ false
 
--- ---- all of it
+-- ---- the whole setting
 
 module _ (rest : List (List ℕ)) (faultless : fault_of Run (pairs rest) ≡ None) where
   abbrev words : List NameAndValue
@@ -152,7 +152,7 @@ module _ (rest : List (List ℕ)) (faultless : fault_of Run (pairs rest) ≡ Non
         ∙ ap (parts_between 44) (text Ask);
   }
 
--- what saves nothing has one part
+-- a run that saves nothing has one part
 pub one_part : (rest : List (List ℕ)) → fault_of Run (pairs rest) ≡ None → number_named Run (pairs rest) Save ≡ 0
     → (number_named Run (pairs rest) Parts ≡ 1) × (number_named Run (pairs rest) Part ≡ 0)
 one_part rest faultless none =
@@ -166,11 +166,11 @@ one_part rest faultless none =
     ] in
     (one, omega (arith, one, ltb-true (number_named Run words Part) (number_named Run words Parts) below))
 
--- where a name is not named, its text is its default
+-- an argument that is not given has its default
 silent_text : (rest : List (List ℕ)) (name : Name) → IsSilent rest (name_text name) → text_of Run (pairs rest) name ≡ unwrap_or (default_of name) []
 silent_text rest name silent = value_or (name_text name) (default_of name) rest ∙ silent (unwrap_or (default_of name) [])
 
--- where no group is named, no majority of one is due
+-- if no group is named, no majorities are required
 none_due : (rest : List (List ℕ)) → fault_of Run (pairs rest) ≡ None → text_of Run (pairs rest) Group ≡ [] → number_named Run (pairs rest) GroupDistricts ≡ 0
 none_due rest faultless none =
     let words = pairs rest in
@@ -181,7 +181,7 @@ none_due rest faultless none =
       | inr e ↦ let there : false ≡ true = sym (ap (λ (t : List ℕ). not (length t == 0)) none) ∙ e in cc
     ]
 
--- accepted words without the special ones give a plain setting
+-- accepted arguments without optional features give a plain setting
 pub silent_is_plain : (rest : List (List ℕ)) → fault_of Run (pairs rest) ≡ None → ArePlain rest → IsPlain (as_run Run (pairs rest))
 unfolding digits
 silent_is_plain rest faultless h = record {

@@ -1,4 +1,4 @@
--- What JSON gives, within the limits, no test refuses.
+-- No test refuses a graph that JSON gives within the limits.
 use Rattle.std.proofs.Common.{◌≡◌, ◌≢◌, ◌⊎◌, ℕ, ◌<◌, ◌≤◌, Bool, true, false, not, ◌&&◌, List, [], ◌∷◌, length, map, get_or, Option, Some, None, Ok, refl, sym, ap, ◌∙◌, subst, cond, arith}
 use Rattle.std.specs.Prelude.{◌==◌, codes, is_some, is_none, unwrap_or, option_map, option_and_then, slice_index}
 use Rattle.std.specs.List.{All, slice_index_or, list_all}
@@ -47,7 +47,7 @@ at_place f h xs zs x z e i l =
     sym (get_or-map f xs i x (f x) l) ∙ ap (λ ys. get_or ys i (f x)) e
     ∙ get_or-map h zs i z (f x) (omega (arith, l, long, length-map xs f, length-map zs h))
 
--- as many edges pass a test, where the same units are adjacent
+-- graphs with the same adjacent units have equal counts of edges that pass a test
 pub count_edges_same : (a b : Graph) (test : ℕ → ℕ → Bool) → a.units ≡ b.units
     → ((u v : ℕ) → u < a.units → v < a.units → adjacent a u v ≡ adjacent b u v) → count_edges a test ≡ count_edges b test
 count_edges_same a b test units same =
@@ -56,7 +56,7 @@ count_edges_same a b test units same =
     (λ u l. ap (λ (x : Bool). x && test u v) (same u v (omega (arith, l, m)) m)))
     ∙ ap (λ (n : ℕ). sum_below n (λ v. count_below v (λ u. adjacent b u v && test u v))) units
 
--- as many of the one as of the other
+-- lists that are mapped to the same list have equal lengths
 as_long : {X Y Z : Type 0} (f : X → Y) (h : Z → Y) (xs : List X) (zs : List Z) → map f xs ≡ map h zs → length xs ≡ length zs
 as_long f h xs zs e =
     let long : length (map f xs) ≡ length (map h zs) = ap length e in
@@ -73,17 +73,17 @@ is_object key (string s) value e = cc
 is_object key (array ds) value e = cc
 is_object key (object ms) value e = refl
 
--- lists of values pass as lists
+-- lists of values test as lists
 all_lists : (lists : List (List Data)) → list_all (λ d. is_some (list_of d)) (map list lists) ≡ true
 all_lists [] = refl
 all_lists (one ∷ lists) = and_from true (list_all (λ d. is_some (list_of d)) (map list lists)) refl (all_lists lists)
 
--- where a flag that is there is a truth value, it is no wrong one
+-- a flag that is a boolean is no wrong flag
 is_flag : (o : Option Data) → ((value : Data) → o ≡ Some value → (b : Bool) × (value ≡ boolean b)) → unwrap_or (option_map (λ d. is_none (as_bool d)) o) false ≡ false
 is_flag None flag = refl
 is_flag (Some value) flag = let is = flag value refl in ap (λ d. is_none (as_bool d)) is.1
 
--- a flag that is no 'true' reads as false
+-- a flag that is not true reads as false
 not_directed : (o : Option Data) → ((value : Data) → o ≡ Some value → (b : Bool) × (value ≡ boolean b)) → o ≢ Some (boolean true)
     → unwrap_or (option_and_then as_bool o) false ≡ false
 not_directed None flag none = refl
@@ -93,7 +93,7 @@ not_directed (Some value) flag none = let is = flag value refl in by is.0 is.1
     by true e = absurd (none (ap Some e))
     by false e = ap (λ d. unwrap_or (as_bool d) false) e
 
--- an option of which something is made is not empty
+-- an option with an image is not empty
 there : {A B : Type 0} (f : A → Option B) (o : Option A) (x : B) → option_and_then f o ≡ Some x → is_none o ≡ false
 there f None x e = cc
 there f (Some a) x e = refl
@@ -234,7 +234,7 @@ module _ (root : Data) (job : Job) (g : IsGiven root job) (fit : IsAllowed root 
       (λ u v l m less. (g.order u v (omega (arith, l, count_is)) (omega (arith, m, count_is))).1 (sym (before_same u v l m) ∙ falls d columns u v l m less))
       (λ u v l m less. rises d columns u v l (before_same u v l m ∙ (g.order u v (omega (arith, l, count_is)) (omega (arith, m, count_is))).0 less))
 
-  -- ---- all of it
+  -- ---- the whole graph
 
   pub sound : refusal d columns ≡ None
   sound =

@@ -1,4 +1,4 @@
--- With what a run starts, and whether it saves.
+-- The initial outcomes of a run, and the condition on which it saves.
 use Rattle.std.proofs.Common.{◌≡◌, ℕ, zero, suc, ◌<◌, ◌&&◌, not, Bool, true, false, List, [], Option, Some, refl, sym, subst, ap, ◌∙◌, arith, ◌||◌, None}
 use Rattle.std.specs.Prelude.{◌==◌}
 use Rattle.std.proofs.lemmas.Bool.{ne_eqb, ltb-false}
@@ -14,9 +14,9 @@ use Rattle.audit_model.specs.Run.{total, has_id, run_ids, IsRight}
 use Rattle.audit_laws.proofs.Counting.{walks_each}
 use Rattle.audit_model.specs.Trajectory.{Draws}
 
--- ---- whether it saves
+-- ---- the condition on which it saves
 
--- a job whose multiple is 0 saves nothing
+-- a job with a save interval of 0 saves nothing
 pub saves_not : (job : Job) → job.setting.save_every ≡ 0 → saves job.setting ≡ false
 saves_not job none = rw none (and_false _)
   where
@@ -24,56 +24,56 @@ saves_not job none = rw none (and_false _)
     and_false true = refl
     and_false false = refl
 
--- a number that is not 0 tests so
+-- a number other than 0 tests as such
 not_zero : (n : ℕ) → (n ≡ 0 → ⊥) → not (n == 0) ≡ true
 not_zero zero some = absurd (some refl)
 not_zero (suc n) some = ap not (ne_eqb (suc n) 0 (λ e. absurd (omega (arith, e))))
 
--- a run whose multiple is not 0 saves
+-- a run with a save interval other than 0 saves
 pub saves_some : (job : Job) → IsRunJob job → (job.setting.save_every ≡ 0 → ⊥) → saves job.setting ≡ true
 saves_some job run some = rw (run.walking, not_zero job.setting.save_every some) refl
 
--- ---- with what it starts
+-- ---- the initial outcomes
 
--- no outcomes fit any job
+-- an empty list of outcomes is plausible for any job
 pub none_fit : (job : Job) → AreFit job []
 none_fit job = record { few = omega arith; rising = tt; fit = λ k d inside. absurd (omega arith) }
 
--- of any slots this was seen where it holds of each
+-- a property of all slots holds for those that were seen
 saw_any : (slots : Option Pair) (P : Pair → Type 0) → ((p : Pair) → P p) → Saw slots P
 saw_any None P each = record { pair = record { zero_slot = None; one_slot = None }; same = tt; holds = each (record { zero_slot = None; one_slot = None }) }
 saw_any (Some p) P each = record { pair = p; same = refl; holds = each p }
 
--- with what a run starts by the slots that are told, it starts by those that were seen
+-- initial outcomes by the known slots are those by the slots that were seen
 by_seen : (resumes : Bool) (job : Job) (slots : Option Pair) (told seen : Option (List Outcome)) → StartsFrom resumes job slots told
     → Saw slots (λ p. opening_from resumes job p ≡ seen) → told ≡ seen
 by_seen false job slots told seen e saw = sym e ∙ saw.holds
 by_seen true job None told seen e saw = absurd e
 by_seen true job (Some p) told seen e saw = sym e ∙ subst (λ q. opening_from true job q ≡ seen) saw.same saw.holds
 
--- the opening is the told one
+-- the initial outcomes are the known ones
 pub opening_known : (job : Job) (slots : Option Pair) (told : Option (List Outcome)) (outcomes : List Outcome) → TellsOpening job slots told → IsOpening job slots outcomes
     → told ≡ Some outcomes
 opening_known job slots told outcomes e o = by_seen job.setting.resume job slots told (Some outcomes) e o.seen
 
--- slots that do not say how a run may start are told as such
+-- slots without valid initial outcomes are known as such
 pub undefined_known : (job : Job) (slots : Option Pair) (told : Option (List Outcome)) (P : Pair → Type 0) → TellsOpening job slots told
     → Saw slots (λ p. (opening_from job.setting.resume job p ≡ None) × P p) → told ≡ None
 undefined_known job slots told P e saw = by_seen job.setting.resume job slots told None e (record { pair = saw.pair; same = saw.same; holds = saw.holds.0 })
 
--- where the slots are told, so is with what a run starts by those that were seen
+-- if the slots are known, so are the initial outcomes from the slots that were seen
 by_told : (resumes : Bool) (job : Job) (slots : Option Pair) (p : Pair) (o : Option (List Outcome)) → slots ≡ Some p
     → Saw slots (λ p. opening_from resumes job p ≡ o) → StartsFrom resumes job slots o
 by_told false job slots p o was saw = saw.holds
 by_told true job None p o was saw = cc
 by_told true job (Some q) p o was saw = subst (λ r. opening_from true job r ≡ o) saw.same saw.holds
 
--- where the slots are told, the opening is
+-- if the slots are known, the initial outcomes are
 pub opening_told : (job : Job) (slots : Option Pair) (p : Pair) (outcomes : List Outcome) → slots ≡ Some p → IsOpening job slots outcomes
     → TellsOpening job slots (Some outcomes)
 opening_told job slots p outcomes was o = by_told job.setting.resume job slots p (Some outcomes) was o.seen
 
--- a run that does not resume starts with nothing
+-- a run that does not resume starts without outcomes
 pub fresh_opening : (job : Job) (slots : Option Pair) → job.setting.resume ≡ false → IsOpening job slots []
 fresh_opening job slots fresh = record {
   seen = saw_any slots (λ p. opening_from job.setting.resume job p ≡ Some []) (λ p. subst (λ (b : Bool). opening_from b job p ≡ Some []) (sym fresh) refl);
@@ -81,7 +81,7 @@ fresh_opening job slots fresh = record {
   fitting = refl;
 }
 
--- nothing is right
+-- an empty list of outcomes is correct
 pub none_right : (job : Job) (draws : Draws) → IsRight job draws []
 none_right job draws = record {
   apart = λ i j d before inside. absurd (omega (arith, inside));
@@ -89,18 +89,18 @@ none_right job draws = record {
   found = λ k d inside. absurd (omega (arith, inside));
 }
 
--- an 'or' is true where the second part is, whenever the first is not
+-- an 'or' is true if its second operand is whenever the first is not
 pub or_else : (a b : Bool) → (a ≡ false → b ≡ true) → (a || b) ≡ true
 or_else true b f = refl
 or_else false b f = f refl
 
--- where no work is left, each id is of the opening or is taken by the run
+-- if nothing is pending, each id has an initial outcome or is walked
 pub every_id : (job : Job) (outcomes : List Outcome) → leaves_work job outcomes ≡ false → (id : ℕ) → id < total job
     → (has_id outcomes id || has (run_ids job outcomes job.setting.budget) id) ≡ true
 every_id job outcomes none id below =
     or_else (has_id outcomes id) (has (run_ids job outcomes job.setting.budget) id)
     (walks_each job outcomes job.setting.budget (ltb-false (to_walk job outcomes) (lacking job outcomes) none) id below)
 
--- keepers that agree in all four parts are the same
+-- keepers with four equal parts are equal
 pub same_kept : (k l : Kept) → l.slots ≡ k.slots → l.tried ≡ k.tried → l.load_faults ≡ k.load_faults → l.save_faults ≡ k.save_faults → l ≡ k
 same_kept k l slots tried loads saves i = record { slots = slots i; tried = tried i; load_faults = loads i; save_faults = saves i }

@@ -1,4 +1,4 @@
--- What each status says, from the reason of an ending.
+-- The claims of each status, from the reason of an ending.
 use Rattle.std.proofs.Common.{◌≡◌, ◌⊎◌, inl, inr, ◌≢◌, ℕ, ◌<◌, Bool, true, false, IsTrue, List, Option, Some, None, Err, IsErr, refl, sym, subst, ap, arith}
 use Rattle.std.specs.Prelude.{⊤}
 use Rattle.audit_model.specs.declared.fault.WordFault.{WordFault}
@@ -20,12 +20,12 @@ use Rattle.audit_statement.specs.World.{World}
 use Rattle.audit_laws.proofs.Causing.{same_job, not_refused, refused_at, accepted_at}
 use Rattle.audit_laws.proofs.Starting.{opening_known, undefined_known}
 
--- an input that is refused has no job
+-- a refused input has no job
 pub refused_is_err : (words : List (List ℕ)) (before : World) (setting : Setting) (bytes : List ℕ) (ending : Ending)
     → IsTold words before setting bytes → IsRefused words before.source.bytes ending → IsErr (judged setting bytes)
 refused_is_err words before setting bytes ending told refused = err_is_err _ ending (refused_at words before setting bytes ending told refused)
 
--- an input that is accepted has a job
+-- an accepted input has a job
 pub accepted_is_no_err : (words : List (List ℕ)) (before : World) (setting : Setting) (bytes : List ℕ) (job : Job)
     → IsTold words before setting bytes → IsAccepted words before.source.bytes job → IsErr (judged setting bytes) → ⊥
 accepted_is_no_err words before setting bytes job told accepted = ok_is_no_err _ job (accepted_at words before setting bytes job told accepted)
@@ -150,7 +150,7 @@ module _ (words : List (List ℕ)) (before after : World) where
   eight_only (Some (other_job a b)) c s = slots_fault _ c
   eight_only r c s = absurd (omega arith)
 
-  -- the call's job is the one that is told
+  -- the call's job is the known one
   pub job_is : (job other : Job) → IsTheJob words before job → IsPrepared words before.source after.source other → other ≡ job
   job_is job other t p = same_job words before job other t.bytes t.told t.accepted p.accepted
 
@@ -211,7 +211,7 @@ module _ (words : List (List ℕ)) (before after : World) where
   seven (Some (other_job a b)) c l h3 h4 h6 h9 = absurd (slots_fault_opens l.job l.outcomes _ c (job_is l.job c.job l.the_job c.prepared) l.opened)
   seven (Some save_fault) c l h3 h4 h6 h9 = absurd (h9 refl)
 
-  -- the outcomes with which a run of this job started
+  -- the initial outcomes of a run of this job
   pub opening_at : (job other : Job) (outcomes : List Outcome) → other ≡ job → IsOpening other before.keeper.slots outcomes → IsOpening job before.keeper.slots outcomes
   opening_at job other outcomes same o = subst (λ (j : Job). IsOpening j before.keeper.slots outcomes) same o
 
@@ -262,7 +262,7 @@ module _ (words : List (List ℕ)) (before after : World) where
     eight = eight r c;
   }
 
--- each status of a call that ends in one of the ways has its cause
+-- each status of a call with a correct ending has its cause
 pub has_causes : (words : List (List ℕ)) (before after : World) (n m : Stream) (status : ℕ) → EndsFor words before after n m status → HasCauses words before after status
 has_causes words before after n m status e =
     subst (λ (s : ℕ). HasCauses words before after s) (sym e.status_is) (causes_at words before after e.reason e.cause e.untouched)

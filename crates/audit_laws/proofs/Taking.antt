@@ -1,4 +1,4 @@
--- JSON that gives a graph with a valid start plan, within the limits, is taken.
+-- JSON that gives a graph with a valid start plan within the limits is accepted.
 use Rattle.std.proofs.Common.{◌≡◌, ℕ, ◌<◌, Bool, List, [], ◌∷◌, Ok, None, refl, sym, ap, ◌∙◌, subst, arith}
 use Rattle.std.specs.Prelude.{slice_index}
 use Rattle.serde_json.specs.Data.{Data}
@@ -23,7 +23,7 @@ use Rattle.audit_laws.specs.Taken.{GivenJobsAreTaken, LimitsNothing}
 use Rattle.audit_statement.specs.PlainlyEnded.{IsAllowed}
 use Rattle.audit_statement.specs.Valid.{IsValid}
 
--- ---- a path of one graph is one of another with the same edges
+-- ---- a path of a graph is a path of another with the same edges
 
 module _ (a b : Graph) (inside : ℕ → Bool) (units : a.units ≡ b.units)
     (same : (u v : ℕ) → u < a.units → v < a.units → adjacent a u v ≡ adjacent b u v) where
@@ -80,7 +80,7 @@ module _ (root : Data) (job : Job) (g : IsGiven root job) (fit : IsAllowed root 
   same = one_graph root made job (record { population = refl; first = refl; second = refl; district = refl })
       (given_is job.setting root (shape root job g fit valid free.no_group) (sound root job g fit valid free.no_group)) g numbered (valid_is_numbered job valid)
 
-  -- the job with the graph that is read
+  -- the job with the parsed graph
   abbrev with : Counts → List ℕ → ℕ → Job
   with counts start districts = record {
     graph = graph d;
@@ -117,7 +117,7 @@ module _ (root : Data) (job : Job) (g : IsGiven root job) (fit : IsAllowed root 
   accepted = ap (job_or made) (subst (λ (j : Job). plan_fault j ≡ None) (sym made_is)
       (legal_is_accepted (with job.counts job.start job.districts) fit.votes legal))
 
--- bytes that give a job with a valid start plan, within the limits, are taken
+-- the law that bytes of a job with a valid start plan within the limits are accepted
 pub given_jobs_are_taken : GivenJobsAreTaken
 given_jobs_are_taken bytes root job text json g valid fit free = record {
   parsed = parsed (document root) job.setting.columns;

@@ -1,4 +1,4 @@
--- The plans of a trajectory give what the report tells of it.
+-- The plans of a trajectory determine its outcome.
 use Rattle.std.proofs.Common.{◌≡◌, ℕ, ◌+◌, ◌<◌, ◌≤◌, map, pos, Bool, true, false, refl, sym, subst}
 use Rattle.std.proofs.lemmas.Bool.{le-ltb, lt-ltb}
 use Rattle.audit_model.specs.Below.{count_below}
@@ -32,6 +32,6 @@ module _ (job : Job) (draws : Draws) (id : ℕ) where
   ends_as_found : EndsAsFound job draws id
   ends_as_found = record { moved = moved_by (is_walk job id); counts = counts_by; values = values_by }
 
--- for every trajectory of every job
+-- the law for every trajectory of every job
 pub traces_end_as_found : TracesEndAsFound
 traces_end_as_found = ends_as_found

@@ -1,4 +1,4 @@
--- The start plan of an accepted job is legal, and so is each plan that is visited.
+-- The start plan of an accepted job is legal, and so is each visited plan.
 use Rattle.std.proofs.Common.{◌≡◌, ℕ, zero, suc, ◌<◌, ◌≤◌, ◌&&◌, Bool, true, false, List, length, Option, Some, None, Result, Ok, Err, refl, sym, ap, ◌∙◌, subst, inl, inr, cond, arith}
 use Rattle.std.specs.Prelude.{nat_lt, slice_index}
 use Rattle.std.specs.Str.{is_utf8}
@@ -38,12 +38,12 @@ use Rattle.audit_statement.specs.Visits.{VisitsLegal}
 
 -- ---- the districts of the start plan
 
--- a place below the bound is one of the list of values
+-- a place below the bound is a place of the table
 below_length : (x n : ℕ) (f : ℕ → Label) → x < n → x < length (map_below n f)
 below_length x n f l = omega (arith, l, length-map_below n f)
 
 module _ (d : Document) (columns : Columns) where
-  -- the first node with a node's label
+  -- each node has a first node with its label
   first_with : (most i : ℕ) → i < most → (j : ℕ) × (j ≤ i) × (is_new_label d columns j ≡ true) × (label_at d columns j ≡ label_at d columns i)
   first_with zero i l = absurd (omega arith)
   first_with (suc most) i l = elim (cases_Bool (any_below i (λ j. same_label (label_at d columns j) (label_at d columns i)))) [
@@ -54,7 +54,7 @@ module _ (d : Document) (columns : Columns) where
     | inr none ↦ (i, omega arith, not_from_false _ none, refl)
   ]
 
-  -- each node's district is one of those that are counted
+  -- each node's district is below the count of labels
   district_in_range : (i : ℕ) → i < node_count d → district_at d columns i < label_count d columns
   district_in_range i l =
       let first = first_with (suc i) i (omega arith) in
@@ -74,43 +74,43 @@ module _ (d : Document) (columns : Columns) where
       let place : slice_index (parsed d columns).start u ≡ district_at d columns u = get_or-map_below (node_count d) (district_at d columns) u 0 l in
       below_length (slice_index (parsed d columns).start u) (label_count d columns) _ (subst (λ (x : ℕ). x < label_count d columns) (sym place) (district_in_range u l))
 
-  -- the start plan of what is read is legal, where it has no fault
+  -- the start plan of a parsed graph is legal if it has no fault
   read_start_is_legal : (setting : Setting) (regions : List ℕ) → plan_fault (job_from (parsed d columns) setting regions) ≡ None → IsLegal (job_from (parsed d columns) setting regions) (parsed d columns).start
   read_start_is_legal setting regions none = (accepted_is_legal (job_from (parsed d columns) setting regions) start_is_complete start_in_range none).1
 
--- what is read is a document's
+-- a parsed graph comes from a document
 pub record IsReadOf (p : Parsed) (columns : Columns) : Type 0 where
   pub of : Document
   pub same : parsed of columns ≡ p
 
--- what is accepted is what was read
+-- an accepted graph is the parsed one
 accepted_is : (p q : Parsed) (fault : Option GraphFault) → accepted_or p fault ≡ Ok q → p ≡ q
 accepted_is p q None e = cc
 accepted_is p q (Some f) e = cc
 
--- what is read of a root is read of these columns
+-- a graph read from a root is read by these columns
 of_root_is : (columns : Columns) (root : Data) (part : Option Part) (p : Parsed) → of_root columns root part ≡ Ok p → IsReadOf p columns
 of_root_is columns root None p e = record { of = document root; same = accepted_is _ p (refusal (document root) columns) e }
 of_root_is columns root (Some f) p e = cc
 
--- what is read of JSON is read of these columns
+-- a graph read from JSON is read by these columns
 of_json_is : (columns : Columns) (root : Option Data) (p : Parsed) → of_json columns root ≡ Ok p → IsReadOf p columns
 of_json_is columns None p e = cc
 of_json_is columns (Some root) p e = of_root_is columns root (bad_part root) p e
 
--- what a reading accepts is read of these columns
+-- an accepted graph is read by these columns
 read_is : (bytes : List ℕ) (columns : Columns) (p : Parsed) → reading bytes columns ≡ Ok p → IsReadOf p columns
 unfolding reading
 read_is bytes columns p e = of_json_is columns (cond (is_utf8 bytes) (read bytes) None) p e
 
 -- ---- the job
 
--- a job that is made and has no fault is the one that is made
+-- a job without a fault is the one that was made
 made_is : (made job : Job) (fault : Option PlanFault) → job_or made fault ≡ Ok job → (fault ≡ None) × (made ≡ job)
 made_is made job None e = (refl, cc)
 made_is made job (Some f) e = cc
 
--- the start plan of a job that is made of what is read is legal
+-- the start plan of a job made from a parsed graph is legal
 job_is_legal : (p : Parsed) (setting : Setting) (regions : List ℕ) (job : Job) → IsReadOf p setting.columns → job_of p setting regions ≡ Ok job → IsLegal job job.start
 unfolding job_of
 job_is_legal p setting regions job r e =
@@ -119,7 +119,7 @@ job_is_legal p setting regions job r e =
     subst (λ (j : Job). IsLegal j j.start) made.1
     (subst (λ (q : Parsed). IsLegal (job_from q setting regions) q.start) r.same (read_start_is_legal r.of setting.columns setting regions none))
 
--- whatever a job's origin, the same plans are legal
+-- the legal plans do not depend on a job's origin
 legal_from : (job : Job) (origin : Option Origin) (plan : List ℕ) → IsLegal job plan → IsLegal (with_origin origin job) plan
 legal_from job origin plan h = record {
   complete = h.complete;
@@ -129,7 +129,7 @@ legal_from job origin plan h = record {
   meeting = h.meeting;
 }
 
--- the start plan of a job that is judged with its regions is legal
+-- the start plan of an accepted job with regions is legal
 from_regions_is : (setting : Setting) (origin : Option Origin) (p : Parsed) (r : Result (List ℕ) RegionFault) (job : Job) → IsReadOf p setting.columns
     → from_regions setting origin p r ≡ Ok job → IsLegal job job.start
 from_regions_is setting origin p (Ok regions) job read e =
@@ -137,23 +137,23 @@ from_regions_is setting origin p (Ok regions) job read e =
     subst (λ (j : Job). IsLegal j j.start) kept.2 (legal_from kept.0 origin kept.0.start (job_is_legal p setting regions kept.0 read kept.1))
 from_regions_is setting origin p (Err f) job read e = cc
 
--- the start plan of a job that is judged of what is read is legal
+-- the start plan of an accepted job of a reading is legal
 from_parsed_is : (setting : Setting) (bytes : List ℕ) (r : Result Parsed GraphFault) (job : Job) → reading bytes setting.columns ≡ r → from_parsed setting bytes r ≡ Ok job
     → IsLegal job job.start
 from_parsed_is setting bytes (Ok p) job is e = from_regions_is setting (origin_of setting bytes) p (regions_by setting.region bytes) job (read_is bytes setting.columns p is) e
 from_parsed_is setting bytes (Err f) job is e = cc
 
--- the start plan of a job that is judged of bytes is legal
+-- the start plan of an accepted job of bytes is legal
 from_bytes_is : (setting : Setting) (bytes : List ℕ) (many : Bool) (job : Job) → from_bytes setting bytes many ≡ Ok job → IsLegal job job.start
 from_bytes_is setting bytes true job e = cc
 from_bytes_is setting bytes false job e = from_parsed_is setting bytes (reading bytes setting.columns) job refl e
 
--- the start plan of each job that is accepted is legal
+-- the start plan of each accepted job is legal
 accepted_start_is_legal : (setting : Setting) (bytes : List ℕ) (job : Job) → judged setting bytes ≡ Ok job → IsLegal job job.start
 unfolding judged
 accepted_start_is_legal setting bytes job e = from_bytes_is setting bytes (nat_lt most_bytes (length bytes)) job e
 
--- each plan that an accepted job's trajectories visit is legal
+-- each plan visited by an accepted job's trajectories is legal
 pub visits_legal : (words : List (List ℕ)) (left : Option (List ℕ)) → VisitsLegal words left
 visits_legal words left = record {
   from_start = λ job a stream step. visit_stays_legal job (draw job.setting.key stream) job.start step (start job a);

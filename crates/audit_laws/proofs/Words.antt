@@ -1,4 +1,4 @@
--- What accepted words say of their setting.
+-- The settings of accepted arguments.
 use Rattle.std.proofs.Common.{◌≡◌, ℕ, zero, suc, ◌+◌, ◌≤◌, ◌&&◌, ◌||◌, not, Bool, true, false, cond, List, [], ◌∷◌, Option, Some, None, Ok, refl, sym, subst, ap, ◌∙◌, arith}
 use Rattle.std.specs.Prelude.{◌==◌, bytes_eq, codes, ⊤, find, nat_le, slice_get, unwrap_or, option_map}
 use Rattle.std.specs.List.{list_any}
@@ -21,7 +21,7 @@ use Rattle.audit_laws.specs.Runs.{StopsAlone}
 
 -- ---- the command
 
--- the words of the command are built
+-- the arguments of the command are defined
 abbrev pub IsBuilt : Command → Type 0
 IsBuilt Check = ⊤
 IsBuilt Run = ⊤
@@ -29,7 +29,7 @@ IsBuilt Make = ⊤
 IsBuilt Plans = ⊤
 IsBuilt Trace = ⊤
 
--- accepted words are a command and pairs with no fault, of which the setting is made
+-- accepted arguments are a command and pairs without a fault, and the setting is made of them
 pub record IsSpoken (setting : Setting) : Type 0 where
   pub command : Command
   pub built : IsBuilt command
@@ -37,7 +37,7 @@ pub record IsSpoken (setting : Setting) : Type 0 where
   pub faultless : fault_of command words ≡ None
   pub same : setting_for command words ≡ setting
 
--- words that give a setting give one that words can give
+-- arguments that give a setting give one of an accepted form
 spoken_or : (command : Command) (words : List NameAndValue) (fault : Option WordFault) (setting : Setting) → IsBuilt command
     → fault_of command words ≡ fault → setting_or command words fault ≡ Ok setting → IsSpoken setting
 spoken_or command words None setting built faultless e = record { command = command; built = built; words = words; faultless = faultless; same = cc }
@@ -47,7 +47,7 @@ abbrev pub IsBuiltCommand : Option Command → Type 0
 IsBuiltCommand None = ⊤
 IsBuiltCommand (Some command) = IsBuilt command
 
--- each command that a word spells is built
+-- each command that a word spells is defined
 spelled_is_built : (word : List ℕ) → IsBuiltCommand (command_of word)
 spelled_is_built word =
     by (bytes_eq word (codes "check")) (bytes_eq word (codes "run")) (bytes_eq word (codes "make")) (bytes_eq word (codes "plans")) (bytes_eq word (codes "trace"))
@@ -61,20 +61,20 @@ spelled_is_built word =
     by false false false false true = tt
     by false false false false false = tt
 
--- words of a command that give a setting give one that words can give
+-- arguments of a command that give a setting give one of an accepted form
 spoken_by : (word : List ℕ) (words : List NameAndValue) (command : Option Command) (setting : Setting) → IsBuiltCommand command → of_command word words command ≡ Ok setting → IsSpoken setting
 spoken_by word words (Some command) setting built e = spoken_or command words (fault_of command words) setting built refl e
 spoken_by word words None setting built e = cc
 
--- accepted words give a setting that words can give
+-- accepted arguments give a setting of an accepted form
 pub accepted_words : (words : List (List ℕ)) (setting : Setting) → setting_of words ≡ Ok setting → IsSpoken setting
 unfolding setting_of
 accepted_words [] setting e = cc
 accepted_words (word ∷ rest) setting e = spoken_by word (pairs rest) (command_of word) setting (spelled_is_built word) e
 
--- ---- what the values say
+-- ---- the values
 
--- where nothing is found, no element passes the test
+-- if a search finds nothing, no element passes the test
 find_none : {A : Type 0} (test : A → Bool) (xs : List A) (k : ℕ) (x : A) → find test xs ≡ None → slice_get xs k ≡ Some x → test x ≡ false
 find_none test [] k x none at = cc
 find_none test (y ∷ ys) zero x none at = subst (λ (z : _). test z ≡ false) (same at) (first (test y) none)
@@ -92,7 +92,7 @@ find_none test (y ∷ ys) (suc k) x none at = find_none test ys k x (rest (test 
     rest false e = e
 
 module _ (command : Command) (words : List NameAndValue) where
-  -- the value of each name of the command is good
+  -- the value of each name of the command is valid
   pub good : (k : ℕ) (name : Name) → fault_of command words ≡ None → slice_get (names_of command) k ≡ Some name → is_good command words name ≡ true
   good k name faultless at =
       let first = option_or_none _ _ faultless in
@@ -110,14 +110,14 @@ module _ (command : Command) (words : List NameAndValue) where
   covered true covers h e = h
   covered false covers h e = cc
 
-  -- where nothing is saved, the budget is enough for all trajectories
+  -- if nothing is saved, a valid budget covers all trajectories
   covers_all : is_good command words Budget ≡ true → is_good command words Save ≡ true → number_named command words Save ≡ 0
       → number_named command words Walks + number_named command words Ends ≤ number_named command words Budget
   covers_all budget save none =
       let covers = (and_parts (is_number 0 100000 (text_of command words Budget)) (covers_walks command words) budget).1 in
       leb-true _ _ (covered (is_number 0 0 (text_of command words Save)) _ covers (zero_number (number_of (text_of command words Save)) save none))
 
--- where nothing is saved, the budget covers all trajectories
+-- if nothing is saved, the budget of the setting covers all trajectories
 covers_by : (command : Command) (words : List NameAndValue) (setting : Setting) → IsBuilt command → fault_of command words ≡ None → setting_for command words ≡ setting
     → is_walking setting.command ≡ true → setting.save_every ≡ 0 → setting.walks + setting.ends ≤ setting.budget
 covers_by Check words setting built faultless same walking none =
@@ -147,7 +147,7 @@ abbrev is_serial : Name → Bool
 is_serial Serial = true
 is_serial _ = false
 
--- the name that tests as that of the serial test is that of the serial test
+-- a name that tests as that of the serial test is that name
 is_serial-Serial : (name : Name) → is_serial name ≡ true → name ≡ Serial
 is_serial-Serial Serial e = refl
 is_serial-Serial _ e = cc
@@ -156,22 +156,22 @@ abbrev is_stop : Name → Bool
 is_stop Stop = true
 is_stop _ = false
 
--- the name that tests as that of early stopping is that of early stopping
+-- a name that tests as that of early stopping is that name
 is_stop-Stop : (name : Name) → is_stop name ≡ true → name ≡ Stop
 is_stop-Stop Stop e = refl
 is_stop-Stop _ e = cc
 
--- where no name is found to fail, the first does not
+-- if no name fails, the first does not
 first_passes : (fails : Bool) (name : Name) (rest : Option Name) → cond fails (Some name) rest ≡ None → fails ≡ false
 first_passes true name rest e = cc
 first_passes false name rest e = refl
 
--- where no name is found to fail, none of the later ones does
+-- if no name fails, none of the later ones does
 none_after : (fails : Bool) (name : Name) (rest : Option Name) → cond fails (Some name) rest ≡ None → rest ≡ None
 none_after true name rest e = cc
 none_after false name rest e = e
 
--- a name among those of which none fails passes
+-- a name among those without a failure passes
 passes_among : (is : Name → Bool) (wanted : Name) → ((name : Name) → is name ≡ true → name ≡ wanted) → (good : Name → Bool) (names : List Name)
     → find (λ name. not (good name)) names ≡ None → list_any is names ≡ true → good wanted ≡ true
 passes_among is wanted one good [] none some = cc
@@ -184,7 +184,7 @@ passes_among is wanted one good (name ∷ names) none some =
         (not-false (good name) (first_passes (not (good name)) name (find (λ name. not (good name)) names) none))
     by false other rest = rest (subst (λ (b : Bool). (b || list_any is names) ≡ true) other some)
 
--- a power of two that is asked for is one
+-- a required power of two is one
 asked_power : (asked power : Bool) → (not asked || power) ≡ true → asked ≡ true → power ≡ true
 asked_power true power h e = h
 asked_power false power h e = cc
@@ -208,7 +208,7 @@ module _ (command : Command) (words : List NameAndValue) (faultless : fault_of c
       let divides = (and_parts (is_yes_or_no command words Serial) (divides_draws command words) (good_serial has)).1 in
       asked_power (is_yes command words Serial) (is_power_of_two (number_named command words Steps + 1)) divides asked
 
--- a setting with the serial test has as many plans as a power of two
+-- a setting with the serial test has a power of two of plans
 even_by : (command : Command) (words : List NameAndValue) (setting : Setting) → IsBuilt command → fault_of command words ≡ None → setting_for command words ≡ setting
     → setting.serial ≡ true → is_power_of_two (setting.steps + 1) ≡ true
 even_by Check words setting built faultless same asked =
@@ -224,18 +224,18 @@ even_by Run words setting built faultless same asked =
 even_by Make words setting built faultless same asked =
     subst (λ (s : Setting). is_power_of_two (s.steps + 1) ≡ true) same (even_words Make words faultless refl (ap (λ (s : Setting). s.serial) same ∙ asked))
 
--- a run with the serial test visits as many plans in it as a power of two
+-- a run with the serial test visits a power of two of plans in it
 pub accepted_words_are_even : (words : List (List ℕ)) (setting : Setting) → setting_of words ≡ Ok setting → setting.serial ≡ true → is_power_of_two (setting.steps + 1) ≡ true
 accepted_words_are_even words setting e asked = let s = accepted_words words setting e in even_by s.command s.words setting s.built s.faultless s.same asked
 
 -- ---- tests that stop early
 
--- where a number is asked for, the rest holds
+-- if a number is requested, the rest of the condition holds
 asked_alone : (n : ℕ) (alone : Bool) → ((n == 0) || alone) ≡ true → 1 ≤ n → alone ≡ true
 asked_alone zero alone h some = absurd (omega (arith, some))
 asked_alone (suc n) alone h some = subst (λ (b : Bool). (b || alone) ≡ true) (ne_eqb (suc n) 0 (λ e. absurd (omega (arith, e)))) h
 
--- good words with early stopping give a setting that stops alone
+-- valid arguments with early stopping give a setting that runs alone
 alone_words : (command : Command) (words : List NameAndValue) → is_walking command ≡ true → is_good command words Stop ≡ true → 1 ≤ number_named command words Stop → StopsAlone (as_run command words)
 alone_words command words walking good some =
     let ends = nat_le 1 (number_named command words Ends) in
@@ -256,7 +256,7 @@ no_stop : (words : List NameAndValue) → fault_of_pairs Trace words ≡ None �
 unfolding digits
 no_stop words faultless = ap (λ (t : List ℕ). unwrap_or (number_of t) 0) (stop_is Trace words faultless (trace_lacks_tests words))
 
--- accepted words with early stopping give a setting that stops alone
+-- accepted arguments with early stopping give a setting that runs alone
 alone_by : (command : Command) (words : List NameAndValue) (setting : Setting) → IsBuilt command → fault_of command words ≡ None → setting_for command words ≡ setting
     → 1 ≤ setting.stop → StopsAlone setting
 alone_by Check words setting built faultless same some =
@@ -272,6 +272,6 @@ alone_by Make words setting built faultless same some =
     let alone = alone_words Make words refl (good_stop Make words faultless refl) (subst (λ (n : ℕ). 1 ≤ n) (sym (ap (λ (s : Setting). s.stop) same)) some) in
     subst StopsAlone same (record { walking = refl; some_ends = alone.some_ends; no_saves = alone.no_saves; fresh = alone.fresh })
 
--- a run whose tests stop early has ends to test, and neither saves nor resumes
+-- a run whose tests stop early has endpoints to test, and neither saves nor resumes
 pub accepted_words_stop_alone : (words : List (List ℕ)) (setting : Setting) → setting_of words ≡ Ok setting → 1 ≤ setting.stop → StopsAlone setting
 accepted_words_stop_alone words setting e some = let s = accepted_words words setting e in alone_by s.command s.words setting s.built s.faultless s.same some

@@ -1,4 +1,4 @@
--- What JSON gives is one thing.
+-- JSON gives one graph.
 use Rattle.std.specs.Prelude.{◌≡◌, ℕ, ◌<◌}
 use Rattle.serde_json.specs.Data.{Data}
 use Rattle.audit_model.specs.declared.setting.Columns.{Columns}
@@ -14,7 +14,7 @@ pub record ReadAlike (a b : Columns) : Type 0 where
   pub second : a.second ≡ b.second
   pub district : a.district ≡ b.district
 
--- they have the same units, edges, counts, districts and start plan
+-- the jobs have the same units, edges, counts, districts and start plan
 pub record AreOfOneGraph (a b : Job) : Type 0 where
   pub units : a.graph.units ≡ b.graph.units
   pub edges : (u v : ℕ) → u < a.graph.units → v < a.graph.units → adjacent a.graph u v ≡ adjacent b.graph u v
@@ -22,7 +22,8 @@ pub record AreOfOneGraph (a b : Job) : Type 0 where
   pub districts : a.districts ≡ b.districts
   pub start : a.start ≡ b.start
 
--- two jobs with valid start plans that one JSON gives, by the same columns of population, votes and districts
+-- the law that two jobs with valid start plans have one graph, if one JSON gives both by the same columns of
+-- population, votes and districts
 abbrev pub GivenJobsAreOfOneGraph : Type 0
 GivenJobsAreOfOneGraph = (root : Data) (a b : Job) → ReadAlike a.setting.columns b.setting.columns → IsGiven root a → IsGiven root b
     → IsValid a a.start → IsValid b b.start → AreOfOneGraph a b

@@ -1,4 +1,4 @@
--- Small jobs, for examples that compute.
+-- Small jobs, for computed examples.
 use Rattle.std.specs.Prelude.{ℕ, List, [], ◌∷◌, slice_index, replicate, true, false, pos, Some, None}
 use Rattle.audit_model.specs.declared.outcome.Counts.{Counts}
 use Rattle.audit_model.specs.declared.outcome.Outcome.{Outcome}
@@ -12,7 +12,7 @@ use Rattle.audit_model.specs.Graph.{Graph}
 use Rattle.audit_model.specs.Job.{Job}
 use Rattle.audit_model.specs.Trajectory.{no_bins}
 
--- a run with these numbers
+-- the setting of a run with these numbers
 abbrev pub run_of : ℕ → ℕ → ℕ → ℕ → ℕ → List Ask → Setting
 run_of slack walks steps ends hub_steps asks = record {
   command = Run;
@@ -62,7 +62,7 @@ no_rules = record {
   group_districts = 0;
 }
 
--- a group in four units: in the second two it has three of four people, in the first two one of two
+-- a group in four units with three of four people in the last two and one of two in the first two
 abbrev pub group_of_four : Group
 group_of_four = record { members = 1 ∷ 0 ∷ 2 ∷ 1 ∷ []; whole = 1 ∷ 1 ∷ 2 ∷ 2 ∷ [] }
 
@@ -70,7 +70,7 @@ group_of_four = record { members = 1 ∷ 0 ∷ 2 ∷ 1 ∷ []; whole = 1 ∷ 1 �
 abbrev pub path_of_four : Graph
 path_of_four = record { units = 4; neighbours = (1 ∷ []) ∷ (0 ∷ 2 ∷ []) ∷ (1 ∷ 3 ∷ []) ∷ (2 ∷ []) ∷ [] }
 
--- four units round a square
+-- four units around a square
 abbrev pub cycle_of_four : Graph
 cycle_of_four = record { units = 4; neighbours = (1 ∷ 3 ∷ []) ∷ (0 ∷ 2 ∷ []) ∷ (1 ∷ 3 ∷ []) ∷ (0 ∷ 2 ∷ []) ∷ [] }
 
@@ -95,8 +95,8 @@ job_of_four graph setting = record {
   origin = None;
 }
 
--- the job of four units in a row with two regions, both in both districts, and a group with one majority, under limits of splits in all, of split
--- regions and of majorities
+-- the job of four units in a row with two regions, each in both districts, and a group with one majority, under these
+-- limits on splits in all, split regions and majorities
 abbrev pub limited_job : ℕ → ℕ → ℕ → Job
 limited_job max_splits max_split_regions group_districts = record (job_of_four path_of_four (record (run_of 5000 1 8 0 1000 []) {
   max_splits = max_splits;
@@ -104,7 +104,7 @@ limited_job max_splits max_split_regions group_districts = record (job_of_four p
   group_districts = group_districts;
 })) { regions = 0 ∷ 1 ∷ 1 ∷ 0 ∷ []; group = group_of_four }
 
--- the first draws of the stream 0 under the key of zeros
+-- the first draws of stream 0 under the all-zero key
 abbrev pub first_draws : List ℕ
 first_draws =
     0x903df1a0ade0b876 ∷ 0x28bd8653e56a5d40 ∷ 0x1aed8da0b819d2bd ∷ 0xc70d778bccef36a8
@@ -152,13 +152,13 @@ job_of_two setting = record {
   origin = None;
 }
 
--- this job read by these columns, with this column of regions, that tells some origin
+-- the job of two units, read by these columns and this column of regions, with an origin
 abbrev pub told_job : Columns → List ℕ → Job
 told_job columns region = record (job_of_two (record (run_of 5000 1 8 0 1000 []) { columns = columns; region = region; source = true })) {
   origin = Some (record { sha256 = replicate 32 171; bytes = 7 });
 }
 
--- six units round a ring, and a unit beside the first
+-- six units around a ring, and a unit beside the first
 abbrev pub ring_of_six : Graph
 ring_of_six = record {
   units = 7;
@@ -175,14 +175,14 @@ grid_of_nine = record {
       ∷ (3 ∷ 7 ∷ []) ∷ (4 ∷ 6 ∷ 8 ∷ []) ∷ (5 ∷ 7 ∷ []) ∷ [];
 }
 
--- a triangle, and a unit beside its first
+-- a triangle, and a unit beside its first unit
 abbrev pub triangle : Graph
 triangle = record { units = 4; neighbours = (1 ∷ 2 ∷ 3 ∷ []) ∷ (0 ∷ 2 ∷ []) ∷ (0 ∷ 1 ∷ []) ∷ (0 ∷ []) ∷ [] }
 
--- four units round a square, and an edge across
+-- four units around a square, and a diagonal edge
 abbrev pub square_with_diagonal : Graph
 square_with_diagonal = record { units = 4; neighbours = (1 ∷ 2 ∷ 3 ∷ []) ∷ (0 ∷ 2 ∷ []) ∷ (0 ∷ 1 ∷ 3 ∷ []) ∷ (0 ∷ 2 ∷ []) ∷ [] }
 
--- what some trajectory found, without bins
+-- the outcome of some trajectory, without a histogram
 abbrev pub found_once : Outcome
 found_once = record { id = 0; moved = 3; values = pos 4 ∷ pos 8 ∷ pos 0 ∷ pos 0 ∷ []; bins = no_bins }

@@ -1,4 +1,4 @@
--- Nothing that was saved is lost.
+-- No saved outcome is lost.
 use Rattle.std.specs.Prelude.{◌≡◌, ◌⊎◌, ℕ, true, List, Some}
 use Rattle.std.specs.List.{All, Contains}
 use Rattle.audit_model.specs.Pair.{Pair}
@@ -11,7 +11,7 @@ use Rattle.audit_statement.specs.Chain.{TriesOver}
 use Rattle.audit_statement.specs.Endings.{TellsOpening}
 use Rattle.audit_statement.specs.World.{World}
 
--- these bytes are a checkpoint of the job too, and hold each outcome of the save
+-- these bytes are a checkpoint of the job too, and contain each outcome of the save
 pub record AreHeldIn (job : Job) (save : Try) (bytes : List ℕ) : Type 0 where
   pub first : List Outcome
   pub first_generation : ℕ
@@ -21,12 +21,12 @@ pub record AreHeldIn (job : Job) (save : Try) (bytes : List ℕ) : Type 0 where
   pub second_is : IsCheckpoint bytes 2 (job_digest job) second_generation second
   pub held : All (Contains second) first
 
--- the newest slot is this save, or holds all that it held
+-- the newest slot is this save or contains it
 abbrev pub IsKeptIn : Job → Pair → Try → Type 0
 IsKeptIn job q save =
     (bytes : List ℕ) × (newest_bytes job (job_digest job) q ≡ Some bytes) × ((save.bytes ≡ bytes) ⊎ AreHeldIn job save bytes)
 
--- the newest slot is a checkpoint of the job that holds each of these outcomes
+-- the newest slot is a checkpoint of the job that contains each of these outcomes
 pub record HoldsAll (job : Job) (q : Pair) (outcomes : List Outcome) : Type 0 where
   pub bytes : List ℕ
   pub is_newest : newest_bytes job (job_digest job) q ≡ Some bytes
@@ -35,19 +35,19 @@ pub record HoldsAll (job : Job) (q : Pair) (outcomes : List Outcome) : Type 0 wh
   pub sound : IsCheckpoint bytes 2 (job_digest job) generation saved
   pub held : All (Contains saved) outcomes
 
--- the newest slot is the one with which the run opened, or holds each outcome of the opening
+-- the newest slot is the one from which the run started, or contains each initial outcome
 abbrev pub KeepsOpening : Job → Pair → Pair → List Outcome → Type 0
 KeepsOpening job p q opening = (newest_bytes job (job_digest job) q ≡ newest_bytes job (job_digest job) p) ⊎ HoldsAll job q opening
 
--- what is still there when so many saves were carried out over these slots: in the newest slot, all that each of them held that succeeded, and the
--- outcomes with which the run started
+-- the state after `carried` was made over these slots: the newest slot contains each save that succeeded, and the
+-- initial outcomes
 pub record LosesNothing (job : Job) (before : World) (p q : Pair) (carried : List Try) : Type 0 where
   pub saved : All (λ save. save.succeeded ≡ true → IsKeptIn job q save) carried
   pub opened : (outcomes : List Outcome) → TellsOpening job before.keeper.slots (Some outcomes) → KeepsOpening job p q outcomes
 
--- Wherever a run is stopped, between two saves or within one, at any byte, and whichever saves failed before, the newest slot keeps what each save
--- held that succeeded before, and what the run opened with. What failed or was cut off is asked to be no intact checkpoint, where it is neither what
--- was there before nor the first bytes of the save or all of them.
+-- Wherever a run is stopped, between two saves or within one at any byte, and whichever saves failed before, the newest
+-- slot contains each earlier successful save and the initial outcomes. The contents after a failed or cut-off save are
+-- the former contents, the first bytes of the save or all of them, or no valid checkpoint.
 abbrev pub StopsLoseNothing : Type 0
 StopsLoseNothing = (job : Job) (before after : World) (p : Pair) (status : ℕ) (told now : List Try) (t : TriesOver job before after p status told now) (n : ℕ) (q : Pair)
     → AreCarriedOut IsNotIntact job (job_digest job) p (stopped_in n t.tries) q → LosesNothing job before p q (stopped_in n t.tries)

@@ -1,4 +1,4 @@
--- Words and JSON say one report.
+-- Arguments and JSON determine one report.
 use Rattle.std.specs.Prelude.{◌≡◌, ℕ, Bool, List}
 use Rattle.serde_json.specs.Data.{Data}
 use Rattle.audit_model.specs.Job.{Job}
@@ -8,14 +8,15 @@ use Rattle.audit_statement.specs.Valid.{IsValid}
 use Rattle.audit_statement.specs.Plain.{Decides, plain_report}
 use Rattle.audit_statement.specs.Said.{AreSaid}
 
--- a job's setting is what the words say, the JSON gives it, its start plan is valid, and the test passes exactly its valid plans
+-- the arguments say the job's setting, the JSON gives the job, its start plan is valid, and the test passes exactly its
+-- valid plans
 pub record IsSuch (words : List (List ℕ)) (root : Data) (job : Job) (valid : List ℕ → Bool) : Type 0 where
   pub set : AreSaid words job.setting
   pub given : IsGiven root job
   pub start : IsValid job job.start
   pub decides : Decides job valid
 
--- two such jobs have the same report
+-- the law that two such jobs have the same report
 abbrev pub ReportsAreOne : Type 0
 ReportsAreOne = (words : List (List ℕ)) (root : Data) (a b : Job) (p q : List ℕ → Bool) → IsSuch words root a p → IsSuch words root b q
     → plain_report a p (draw a.setting.key) ≡ plain_report b q (draw b.setting.key)

@@ -15,19 +15,19 @@ columns = record { population = codes "pop"; first = codes "a"; second = codes "
 abbrev pub path_text : List ℕ
 path_text = codes "{\"directed\":false,\"multigraph\":false,\"graph\":[],\"nodes\":[{\"pop\":1,\"a\":3,\"b\":1,\"d\":1,\"id\":0},{\"pop\":1,\"a\":1,\"b\":2,\"d\":1,\"id\":1},{\"pop\":1,\"a\":1,\"b\":2,\"d\":2,\"id\":2},{\"pop\":1,\"a\":2,\"b\":1,\"d\":2,\"id\":3}],\"adjacency\":[[{\"id\":1}],[{\"id\":0},{\"id\":2}],[{\"id\":1},{\"id\":3}],[{\"id\":2}]]}"
 
--- the same, and a table with one plan
+-- the path of four units, and a table with one plan
 abbrev pub path_and_plans : List ℕ
 path_and_plans = path_text ++ 10 ∷ codes "id,p" ++ 10 ∷ codes "0,A" ++ 10 ∷ codes "1,A" ++ 10 ∷ codes "2,A" ++ 10 ∷ codes "3,B"
 
--- the same, with an edge in one list alone, written twice, and an edge from a unit to itself
+-- the path of four units, with an edge in one list only, written twice, and an edge from a unit to itself
 abbrev pub other_path_text : List ℕ
 other_path_text = codes "{\"directed\":false,\"multigraph\":false,\"graph\":[],\"nodes\":[{\"pop\":1,\"a\":3,\"b\":1,\"d\":1,\"id\":0},{\"pop\":1,\"a\":1,\"b\":2,\"d\":1,\"id\":1},{\"pop\":1,\"a\":1,\"b\":2,\"d\":2,\"id\":2},{\"pop\":1,\"a\":2,\"b\":1,\"d\":2,\"id\":3}],\"adjacency\":[[{\"id\":1},{\"id\":1}],[{\"id\":2}],[{\"id\":1},{\"id\":3},{\"id\":2}],[{\"id\":2}]]}"
 
--- four units round a square, with texts as ids and labels, and attributes that are passed over
+-- four units around a square, with texts as ids and labels, and attributes that are ignored
 abbrev pub cycle_text : List ℕ
 cycle_text = codes "{\"directed\": false, \"multigraph\": false, \"graph\": [], \"nodes\": [{\"boundary_node\": true, \"area\": 1.0, \"pop\": 1, \"a\": 3, \"b\": 1, \"d\": \"01\", \"id\": \"w\"}, {\"boundary_node\": true, \"area\": 1.5, \"pop\": 1, \"a\": 1, \"b\": 2, \"d\": \"01\", \"id\": \"x\"}, {\"boundary_node\": true, \"area\": 1.0, \"pop\": 1, \"a\": 1, \"b\": 2, \"d\": \"02\", \"id\": \"y\"}, {\"boundary_node\": true, \"area\": 2.25, \"pop\": 1, \"a\": 2, \"b\": 1, \"d\": \"02\", \"id\": \"z\"}], \"adjacency\": [[{\"shared_perim\": 1.0, \"id\": \"x\"}, {\"shared_perim\": 0.5, \"id\": \"z\"}], [{\"shared_perim\": 1.0, \"id\": \"w\"}, {\"shared_perim\": 1.0, \"id\": \"y\"}], [{\"shared_perim\": 1.0, \"id\": \"x\"}, {\"shared_perim\": 2.0, \"id\": \"z\"}], [{\"shared_perim\": 0.5, \"id\": \"w\"}, {\"shared_perim\": 2.0, \"id\": \"y\"}]]}"
 
--- what is read of these
+-- the graph and labels read from these texts
 abbrev pub parsed_four : Graph → List Label → Parsed
 parsed_four graph labels = record {
   graph = graph;
@@ -37,11 +37,11 @@ parsed_four graph labels = record {
   labels = labels;
 }
 
--- units with a region each, and with a column in which the first holds no label
+-- units with a region each, and a second column whose first value is no label
 abbrev pub region_text : List ℕ
 region_text = codes "{\"nodes\":[{\"r\":1,\"s\":1.5,\"id\":0},{\"r\":2,\"s\":1,\"id\":1},{\"r\":2,\"s\":1,\"id\":2},{\"r\":1,\"s\":1,\"id\":3}],\"adjacency\":[[],[],[],[]]}"
 
--- the same without the last unit's region
+-- the units without the last one's region
 abbrev pub short_region_text : List ℕ
 short_region_text = codes "{\"nodes\":[{\"r\":1,\"id\":0},{\"r\":2,\"id\":1},{\"r\":2,\"id\":2},{\"id\":3}],\"adjacency\":[[],[],[],[]]}"
 

@@ -1,4 +1,4 @@
-//! Examples that the definitions compute, so that each definition was tried on cases small enough to work out by hand.
+//! Computed examples, so that each definition was tried on cases small enough to work out by hand.
 
 pub mod formats;
 pub mod further;

@@ -1,4 +1,4 @@
-//! Laws of calls that ended and of the runs of one job, each the contract of a function that does nothing.
+//! Laws of the endings of calls and of the runs of one job, each the contract of an empty function.
 
 ghost use Rattle.audit_laws.specs.Ended.{EndedCallsKeepTheirPromise};
 ghost use Rattle.audit_laws.specs.Lost.{StopsLoseNothing};
@@ -13,7 +13,7 @@ use ckpt_store::laws::{
 };
 use outcome_book::union_laws::unions_are_right;
 
-/// A call that ended for a reason, and left what that reason leaves, has kept all that the top call promises.
+/// A call that ended for a reason, with the effects of that reason, meets the contract of the top call.
 pub fn ended_calls_keep_their_promise()
     ensures { EndedCallsKeepTheirPromise }
 {
@@ -21,32 +21,34 @@ pub fn ended_calls_keep_their_promise()
     right_outcomes_are_honest();
 }
 
-/// How a job is run, by which command, how many workers, with what budget, what is saved and resumed and which of how many parts is walked, changes
-/// nothing of its digest, of what its trajectories find, and of its report: so the report of one of several plans is the one that `run` gives for this
-/// plan alone. Whether it asks for bins changes nothing of its digest, of what its trajectories find with all their bins, and of which slots are honest;
-/// nor does its origin, told or not, of which the report alone has lines.
+/// The manner of a run does not change the job's digest, the outcomes of its trajectories or its report. The manner is
+/// the command, the number of workers, the budget, saving, resuming and the part. The report of one of several plans is
+/// thus the one that `run` gives for this plan alone. A histogram does not change the digest, the full outcomes or the
+/// consistency of slots. Neither does the origin, which only adds lines to the report.
 pub fn reruns_are_alike()
     ensures { RerunsAreAlike }
 {}
 
-/// A stop anywhere in a run, within a save or between two, keeps the newest slot of before or leaves a newer one.
+/// A stop anywhere in a run, within a save or between two, keeps the newest slot from before or leaves a newer one.
 pub fn stops_keep_the_newest()
     ensures { StopsKeepTheNewest }
 {
     saves_keep_the_newest();
 }
 
-/// Wherever a run is stopped, also within a save, at any byte, and whichever saves failed before, the newest slot is, or holds all of, each save
-/// that succeeded before, and it is the one with which the run opened, or holds all that it opened with: nothing that was saved is lost.
+/// Nothing that was saved is lost, wherever a run is stopped, within a save at any byte, and whichever saves failed
+/// before. The newest slot is each earlier successful save or contains it. It also is the slot from which the run
+/// started, or contains its outcomes.
 pub fn stops_lose_nothing()
     ensures { StopsLoseNothing }
 {
     saves_keep_the_newest();
 }
 
-/// From honest slots, and so from absent ones, each run of any chain of halted, stopped and resumed runs of a job that ends with status 0 has
-/// written the report of one thread for the job that asks for bins and tells its origin as this run did, whatever the runs before it asked for and
-/// whichever version of the format the slots had at first.
+/// Each run of any chain of halted, stopped and resumed runs that ends with status 0 has written the report of one
+/// thread, if the chain starts from consistent slots, such as empty ones. The report is that of the job with this run's
+/// choice of histogram and origin. Neither the choices of earlier runs nor the format version of the first slots
+/// matter.
 pub fn chains_write_one_report()
     ensures { ChainsWriteOneReport }
 {
@@ -56,9 +58,9 @@ pub fn chains_write_one_report()
     saves_leave_honest_slots();
 }
 
-/// Over any number of machines and folders, each of which has the slots that runs of the job, of any of its parts, have left there, ended or
-/// stopped, or into which others were gathered, to the end or not: the slots are honest, and each run from them that ends with status 0 has written the
-/// report of one thread.
+/// Over any number of machines and folders, the slots are consistent, and each run from them that ends with status 0
+/// has written the report of one thread. A folder may hold the slots left by runs of any part of the job, ended or
+/// stopped, and by gatherings of other folders, complete or not.
 pub fn gathered_runs_write_one_report()
     ensures { GatheredRunsWriteOneReport }
 {
@@ -70,17 +72,17 @@ pub fn gathered_runs_write_one_report()
     a_stop_in_a_save_leaves_honest_slots();
 }
 
-/// What one call of `ckpt_store::whole::gather` leaves in slots that were reached, of folders that were, was reached.
+/// The slots after one call of `ckpt_store::whole::gather` are reached, if its slots and those of its folders were.
 pub fn gatherings_reach()
     ensures { GatheringsReach }
 {}
 
-/// What one gathering leaves whose save failed or was cut off was reached.
+/// The slots after a gathering whose save failed or was cut off are reached.
 pub fn cut_gatherings_reach()
     ensures { CutGatheringsReach }
 {}
 
-/// The plans of a trajectory give what the report tells of it: its moves, the counts of a walk, and the scores of an endpoint trajectory.
+/// The plans of a trajectory determine its outcome: its moves, the counts of a walk, and the scores of an endpoint.
 pub fn traces_end_as_found()
     ensures { TracesEndAsFound }
 {}

@@ -1,5 +1,5 @@
-//! What follows from how calls ended: laws of the definitions of the top call's contract, up to the plain statement of what a call does, and
-//! below `examples` small cases of all definitions. No function here does anything: each is a contract.
+//! Consequences of the definitions in the top call's contract, up to the plain statement of what a call does.
+//! `examples` has small cases of all definitions. Every function here is empty and exists for its contract.
 #![tactic(auto)]
 
 pub mod examples;

@@ -1,20 +1,21 @@
-//! The headline for a run with none of the features that may be left out, as laws of the top call's contract.
+//! The headline for a plain run, as laws of the top call's contract.
 
 ghost use Rattle.audit_laws.specs.One.{ReportsAreOne};
 ghost use Rattle.audit_laws.specs.Promised.{PromisedCallsAuditPlainly, PromisedCallsEndPlainly};
 
-/// A call that keeps what the top call promises, on words of such a run, and that ended with status 0, has read JSON that gives its job, has visited
-/// valid plans alone, and has written the plain report.
+/// A call on the arguments of a plain run that meets the top call's contract and ends with status 0 has read JSON that
+/// gives its job, visited only valid plans, and written the plain report.
 pub fn promised_calls_audit_plainly()
     ensures { PromisedCallsAuditPlainly }
 {}
 
-/// And where its words and its graph are as they have to be and nothing failed, it ended with status 0, or for want of memory.
+/// If the arguments and the graph are valid and nothing failed, the call ended with status 0 or ran out of memory.
 pub fn promised_calls_end_plainly()
     ensures { PromisedCallsEndPlainly }
 {}
 
-/// The report is a function of the words and of the JSON: two jobs that they say have the same one, whatever else their settings have.
+/// The report is a function of the arguments and the JSON: two jobs that they describe have the same report, whatever
+/// else their settings contain.
 pub fn reports_are_one()
     ensures { ReportsAreOne }
 {}

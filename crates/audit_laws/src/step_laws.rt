@@ -1,9 +1,9 @@
-//! Laws of runs, each the contract of a function that does nothing.
+//! Laws of runs, each the contract of an empty function.
 
 ghost use Rattle.audit_laws.specs.Runs.{AcceptedJobsAreRuns};
 
-/// A job of accepted words whose command walks is a run: where it saves nothing its budget is enough for every trajectory, where its tests stop
-/// early it runs alone, and the run of its serial test has as many plans as a power of two.
+/// A job of accepted arguments whose command walks is a run. If it saves nothing, its budget covers every trajectory.
+/// If its tests stop early, it runs alone. The run of its serial test has a power of two of plans.
 pub fn accepted_jobs_are_runs()
     ensures { AcceptedJobsAreRuns }
 {}

@@ -1,4 +1,4 @@
-//! Examples of the rules beside population and connectedness, computed by the definitions.
+//! Computed examples of the rules beyond population and contiguity.
 
 ghost use Rattle.std.specs.Prelude.{◌≡◌, [], ◌∷◌, ◌++◌, codes, drop, length, take, Some, None, true, false, pos};
 ghost use Rattle.audit_model.specs.declared.fault.PlanFault.TheVariants.{TooManyCut, TooManySplit};
@@ -12,7 +12,7 @@ ghost use Rattle.audit_statement.specs.Checkpoint.{job_bytes};
 ghost use Rattle.audit_statement.specs.Report.{check_text};
 ghost use Rattle.audit_laws.specs.Jobs.{run_of, no_rules, path_of_four, square_with_diagonal, job_of_four, first_draws_alone};
 
-/// How many edges a plan cuts, and among how many districts it splits regions.
+/// The number of cut edges of a plan, and the number of districts of a split region.
 pub fn small_splits()
     ensures cut { cut_edges square_with_diagonal (0 ∷ 0 ∷ 1 ∷ 1 ∷ []) ≡ 3 }
     ensures regions { region_count (0 ∷ 0 ∷ 1 ∷ 1 ∷ []) ≡ 2 }
@@ -32,7 +32,7 @@ pub fn refused_by_rules()
     ensures split { plan_fault (record (job_of_four path_of_four (record (run_of 5000 1 8 0 1000 []) { max_split = 1 })) { regions = 0 ∷ 1 ∷ 1 ∷ 0 ∷ [] }) ≡ Some (TooManySplit 0 2 1) }
 {}
 
-/// What the trajectory on the square with a diagonal finds, with and without a limit on cut edges.
+/// The outcome of the trajectory on the square with a diagonal, with and without a limit on cut edges.
 pub fn limited_cut_edges()
     ensures free { outcome (record (job_of_four square_with_diagonal (run_of 5000 1 8 0 1000 (record { score = CutEdges; tail = Low } ∷ []))) { start = 0 ∷ 1 ∷ 0 ∷ 0 ∷ [] }) first_draws_alone 0
         ≡ record { id = 0; moved = 4; values = pos 3 ∷ pos 0 ∷ pos 0 ∷ pos 0 ∷ []; bins = no_bins } }
@@ -40,7 +40,7 @@ pub fn limited_cut_edges()
         ≡ record { id = 0; moved = 0; values = pos 9 ∷ pos 0 ∷ pos 0 ∷ pos 0 ∷ []; bins = no_bins } }
 {}
 
-/// What the trajectory on the path finds where no region may be split, and where each may be split among two districts.
+/// The outcome of the trajectory on the path if no region may be split, and if each may lie in two districts.
 pub fn whole_regions()
     ensures whole { outcome (record (job_of_four path_of_four (record (run_of 5000 1 8 0 1000 (record { score = Seats; tail = Low } ∷ [])) { max_split = 1 })) { regions = 0 ∷ 0 ∷ 1 ∷ 1 ∷ [] }) first_draws_alone 0
         ≡ record { id = 0; moved = 0; values = pos 9 ∷ pos 0 ∷ pos 0 ∷ pos 0 ∷ []; bins = no_bins } }
@@ -55,7 +55,8 @@ pub fn check_text_with_rules()
         codes "max-cut 2" ++ 10 ∷ codes "max-split 1 regions 2" ++ 10 ∷ codes "end" ++ 10 ∷ [] }
 {}
 
-/// What the digest of a job is of: without rules as before, and behind that the limit of cut edges, the limit of the regions and the regions.
+/// The bytes that a job's digest is computed from: those without rules, then the limit on cut edges, the limit of the
+/// regions and the regions.
 pub fn bytes_of_rules()
     ensures plain { take 14 (job_bytes (job_of_four path_of_four (run_of 5000 1 8 0 1000 []))) ≡ codes "district-job 1" }
     ensures length { length (job_bytes (job_of_four path_of_four (run_of 5000 1 8 0 1000 []))) ≡ 218 }
