@@ -1,4 +1,4 @@
--- The setting of good values is within the limits.
+-- The setting of valid values is within the limits.
 use Rattle.std.proofs.Common.{◌≡◌, ◌≢◌, ◌∙◌, ℕ, ◌+◌, ◌≤◌, true, List, [], length, ap, arith, refl, subst, sym, Result, Ok, Err, inl, inr}
 use Rattle.std.proofs.lemmas.Bool.{and_parts, false≢true, leb-true, ltb-true, eqb-true, or_cases}
 use Rattle.std.specs.Prelude.{◌==◌, nat_le, nat_lt, is_some, unwrap_or}
@@ -38,7 +38,7 @@ record AreAsked (asks : List AskOf) : Type 0 where
   few : length asks ≤ 4
   apart : AllPairs (λ a b. a ≢ b) asks
 
--- asks in a good text are at most four, and differ
+-- asks in a valid text are at most four and differ
 AreAsked-good : (text : List ℕ) → are_asks text ≡ true → AreAsked (unwrap_or (asks_of (parts_between 44 text)) [])
 AreAsked-good text h =
     let asked = asks_of-some text h in
@@ -49,7 +49,7 @@ AreAsked-good text h =
       apart = AllPairs-asks_of (parts_between 44 text) asked.0 asked.1 asked.3;
     })
 
--- good words give a run a setting within its limits
+-- valid arguments give a run a setting within its limits
 pub IsRunSetting-good : (command : Command) (words : List NameAndValue) → AreGood words → IsRunSetting (as_run command words)
 IsRunSetting-good command words good =
     let ends = and_parts (is_number 0 100000 (text_of Check words Ends)) (has_walks Check words) good.ends in
@@ -72,7 +72,7 @@ IsRunSetting-good command words good =
       few_workers = workers.1;
     }
 
--- the setting of a made grid is within the limits where that of a run is
+-- the setting of a generated grid is within the limits if that of a run is
 IsRunSetting-made : (words : List NameAndValue) → IsRunSetting (as_run Make words) → IsRunSetting (setting_for Make words)
 IsRunSetting-made words run = record {
   some = run.some;
@@ -88,11 +88,11 @@ IsRunSetting-made words run = record {
   few_workers = run.few_workers;
 }
 
--- the part is one of the parts for a made grid as for a run
+-- the part is one of the parts for a generated grid as for a run
 HasPart-made : (words : List NameAndValue) → HasPart (as_run Make words) → HasPart (setting_for Make words)
 HasPart-made words p = record { some = p.some; few = p.few; one_of = p.one_of; saves = p.saves }
 
--- of good words, the part is one of the parts
+-- with valid arguments, the part is one of the parts
 HasPart-good : (command : Command) (words : List NameAndValue) → AreGood words → HasPart (as_run command words)
 HasPart-good command words good =
     let parts = and_parts (is_number 1 100000 (text_of Check words Parts)) (saves_parts Check words) good.parts in
@@ -108,7 +108,7 @@ HasPart-good command words good =
       ];
     }
 
--- good words give a command a setting within all limits
+-- valid arguments give a command a setting within all limits
 IsSetting-run : (command : Command) (words : List NameAndValue) → AreGood words → AreBounded words → IsSettingOf command (as_run command words) → IsSetting (as_run command words)
 IsSetting-run command words good limits is = record {
   slack = (number-bounds 0 10000 (text_of Check words Slack) good.slack).1;
@@ -123,7 +123,7 @@ IsSetting-run command words good limits is = record {
   command = is;
 }
 
--- words whose values are good give a setting within all limits
+-- arguments with valid values give a setting within all limits
 pub IsSetting-good : (command : Command) (words : List NameAndValue) → AreReadable command words → IsSetting (setting_for command words)
 IsSetting-good Check words good = record {
   slack = (number-bounds 0 10000 (text_of Check words Slack) good.0).1;

@@ -21,7 +21,7 @@ with_ask-parts None others asks h = absurd (cc)
 with_ask-parts (Some ask) None asks h = absurd (cc)
 with_ask-parts (Some ask) (Some rest) asks h = (ask, rest, refl, refl, cc)
 
--- one for each part
+-- there is one ask for each part
 pub length-asks_of : (parts : List (List ℕ)) (asks : List Ask) → asks_of parts ≡ Some asks → length asks ≡ length parts
 length-asks_of [] asks h = let none : asks ≡ [] = cc in ap length none
 length-asks_of (part ∷ parts) asks h =
@@ -29,14 +29,14 @@ length-asks_of (part ∷ parts) asks h =
     let same = length-asks_of parts split.1 split.3 in
     rw split.4 (omega arith)
 
--- they are what the parts spell
+-- the asks are those that the parts spell
 pub filter_map-ask_of : (parts : List (List ℕ)) (asks : List Ask) → asks_of parts ≡ Some asks → filter_map ask_of parts ≡ asks
 filter_map-ask_of [] asks h = cc
 filter_map-ask_of (part ∷ parts) asks h =
     let split = with_ask-parts (ask_of part) (asks_of parts) asks h in
     ap (λ first. cons_option first (filter_map ask_of parts)) split.2 ∙ ap (λ rest. split.0 ∷ rest) (filter_map-ask_of parts split.1 split.3) ∙ sym split.4
 
--- an ask whose word is none of the parts is none of theirs
+-- an ask whose word is none of the parts is none of their asks
 apart_from : (word : List ℕ) (ask : Ask) → ask_of word ≡ Some ask → (parts : List (List ℕ)) (asks : List Ask) → asks_of parts ≡ Some asks
     → list_any (λ part. bytes_eq part word) parts ≡ false → All (λ other. ask ≢ other) asks
 apart_from word ask is [] asks h alone = let none : [] ≡ asks = cc in subst (All (λ other. ask ≢ other)) none (All-nil (λ other. ask ≢ other))

@@ -1,4 +1,4 @@
--- What good values are, and the setting that they give.
+-- Valid values and the setting that they give.
 use Rattle.std.proofs.Common.{◌≡◌, ◌∙◌, ℕ, zero, suc, ◌<◌, ◌≤◌, get_or, drop, arith, Bool, true, false, not, cond, List, [], ◌∷◌, length, find, ap, refl, sym, Option, Some, None, option_map}
 use Rattle.std.proofs.lemmas.Bool.{and_parts, false≢true, leb-true}
 use Rattle.std.specs.Prelude.{◌&&◌, nat_le, is_some, unwrap_or}
@@ -24,7 +24,7 @@ bounded (Some n) low high h = let both = and_parts (nat_le low n) (nat_le n high
 pub number-bounds : (low high : ℕ) (text : List ℕ) → is_number low high text ≡ true → (low ≤ unwrap_or (number_of text) 0) × (unwrap_or (number_of text) 0 ≤ high)
 number-bounds low high text h = bounded (number_of text) low high h
 
--- a limit that is judged by its number first lies within the bounds
+-- a limit tested for its number first lies within the bounds
 limit-bounds : (low high : ℕ) (words : List NameAndValue) (name : Name) (named : Bool) → (is_number low high (text_of Check words name) && named) ≡ true
     → (low ≤ number_named Check words name) × (number_named Check words name ≤ high)
 limit-bounds low high words name named good =
@@ -37,7 +37,7 @@ pub record AreBounded (words : List NameAndValue) : Type 0 where
   pub max_split_regions : number_named Check words MaxSplitRegions ≤ 5000
   pub group_districts : number_named Check words GroupDistricts ≤ 200
 
--- good limits are such numbers
+-- valid limits are numbers within their bounds
 pub AreBounded-good : (words : List NameAndValue) → AreGoodLimits words → AreBounded words
 AreBounded-good words good = record {
   max_split = limit-bounds 1 200 words MaxSplit (has_split Check words) good.max_split;
@@ -46,7 +46,7 @@ AreBounded-good words good = record {
   group_districts = (limit-bounds 0 200 words GroupDistricts (has_majority_group Check words) good.group_districts).1;
 }
 
--- the asks of a text that is asks
+-- a valid text of asks has asks
 pub asks_of-some : (text : List ℕ) → are_asks text ≡ true
     → (asks : List AskOf) × (asks_of (parts_between 44 text) ≡ Some asks) × (length (parts_between 44 text) ≤ 4) × (all_different (parts_between 44 text) ≡ true)
 asks_of-some text h =
@@ -56,33 +56,33 @@ asks_of-some text h =
     let asks = some_from (asks_of parts) some.0 in
     (asks.0, asks.1, leb-true (length parts) 4 some.1, both.1)
 
--- the asks that are read from a good text are all of them
+-- the asks read from a valid text are all of them
 pub asks_of-good : (text : List ℕ) → are_asks text ≡ true → filter_map ask_of (parts_between 44 text) ≡ unwrap_or (asks_of (parts_between 44 text)) []
 asks_of-good text h =
     let some = asks_of-some text h in
     filter_map-ask_of (parts_between 44 text) some.0 some.1 ∙ sym (ap (λ asks. unwrap_or asks []) some.1)
 
--- no value is bad
+-- if no value is invalid, the first is valid
 passed : (good : Bool) (name : Name) (o : Option Name) → option_map BadValue (cond (not good) (Some name) o) ≡ None → (good ≡ true) × (option_map BadValue o ≡ None)
 passed true name o h = (refl, h)
 passed false name o h = absurd (cc)
 
--- where no name is bad, the first is good and none of the others is bad
+-- if no name has an invalid value, the first is valid and none of the others is invalid
 find-last : (good : Name → Bool) (name : Name) (names : List Name) → option_map BadValue (find (λ n. not (good n)) (name ∷ names)) ≡ None
     → (good name ≡ true) × (option_map BadValue (find (λ n. not (good n)) names) ≡ None)
 find-last good name names h = passed (good name) name (find (λ n. not (good n)) names) h
 
--- each of the names has a good value
+-- each of the names has a valid value
 find-all : (good : Name → Bool) (names : List Name) → option_map BadValue (find (λ n. not (good n)) names) ≡ None → (k : ℕ) → k < length names → good (get_or names k Pop) ≡ true
 find-all good [] h k l = absurd (omega arith)
 find-all good (name ∷ names) h zero l = (find-last good name names h).0
 find-all good (name ∷ names) h (suc k) l = find-all good names (find-last good name names h).1 k (omega arith)
 
--- the names that a run on any graph takes, beside the columns, with others behind them
+-- the names of a run on any graph, without the columns, followed by others
 abbrev names_before : List Name → List Name
 names_before more = Slack ∷ Key ∷ Walks ∷ Steps ∷ Ends ∷ HubSteps ∷ Ask ∷ Workers ∷ Budget ∷ Save ∷ Resume ∷ MaxCut ∷ Shift ∷ Stop ∷ Serial ∷ more
 
--- where no name of a run is bad, and the parts are good, all values are good
+-- if no name of a run has an invalid value, and the part is valid, all values are valid
 AreGood-values : (words : List NameAndValue) (more : List Name) → option_map BadValue (find (λ name. not (is_good Check words name)) (names_before more)) ≡ None
     → is_good Check words Parts ≡ true → is_good Check words Part ≡ true → AreGood words
 AreGood-values words more h parts part =
@@ -107,11 +107,11 @@ AreGood-values words more h parts part =
       part = part;
     }
 
--- what a run on a graph that is read takes behind those
+-- the further names of a run on a graph that is read
 abbrev names_behind : List Name
 names_behind = Region ∷ MaxSplit ∷ Parts ∷ Part ∷ MaxSplits ∷ MaxSplitRegions ∷ Group ∷ GroupOf ∷ GroupDistricts ∷ Source ∷ []
 
--- where no value of a command that a word spells is bad, those of its setting are good
+-- if no value of a spelled command is invalid, those of its setting are valid
 pub AreReadable-good : (word : List ℕ) (command : Command) (words : List NameAndValue) → Some command ≡ command_of word → fault_of_pairs command words ≡ None → fault_of_values command words ≡ None
     → AreReadable command words
 AreReadable-good word Check words spells faultless h =

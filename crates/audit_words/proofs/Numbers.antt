@@ -1,4 +1,4 @@
--- When a text is a number as it is printed.
+-- The test for a printed number.
 use Rattle.std.proofs.Common.{◌≡◌, ℕ, ◌+◌, ◌-◌, ◌*◌, ◌^◌, ◌<◌, ◌≤◌, Bool, true, false, cond, List, refl, sym, subst, ap, ◌∙◌, arith, Option, Some, None, Result, Ok, inl, inr, rules}
 use Rattle.std.specs.Prelude.{nat_le, ◌&&◌, unwrap_or, option_map, fold, decimal, bytes_eq}
 use Rattle.std.specs.Result.{result_ok}
@@ -10,11 +10,11 @@ use Rattle.std.proofs.lemmas.Slice.Eq.{bytes_eq-Decides}
 use Rattle.std.proofs.lemmas.Str.Parse.{IsNumeralModel, numerals_by_fold}
 use Rattle.audit_statement.specs.Words.{digits_value, number_of, is_number}
 
--- the digits' value, from the left
+-- the value of digits, from the left
 own : IsNumeralModel (λ ds. all_ascii_digits ds ≡ true) digits_value
 own = numerals_by_fold _ (search rules) (λ n text. fold (λ m c. 10 * m + (c - 48)) n text) (search rules)
 
--- what the test of a text that is printed, with this value, says
+-- the consequences of the test for a printed number with this value
 tested : (b : Bool) (n low high : ℕ) → unwrap_or (option_map (λ m. nat_le low m && nat_le m high) (cond b (Some n) None)) false ≡ true
     → (b ≡ true) × (low ≤ n) × (n ≤ high)
 tested true n low high h = let parts = and_parts (nat_le low n) (nat_le n high) h in (refl, leb-true low n parts.0, leb-true n high parts.1)
@@ -34,7 +34,7 @@ is_number-parsed low high text r small h p =
     let below : digits_value text < 2 ^ 32 = omega (arith, facts.2) in
     (parse-decimal 32 (digits_value text) text r below (omega (arith, below)) (sym same) p, same)
 
--- what is no number within the bounds gives none
+-- a text that is no number within the bounds gives none
 pub number-refused : (low high : ℕ) (text : List ℕ) → (is_number low high text ≡ true → ⊥) → cond (is_number low high text) (number_of text) None ≡ None
 number-refused low high text not = elim (cases_Bool (is_number low high text)) [
   | inl is ↦ absurd (not is)
@@ -50,7 +50,7 @@ number-taken low high n text small same l u =
     passed (bytes_eq (decimal (digits_value text)) text) (digits_value text) low high ((bytes_eq-Decides (decimal (digits_value text)) text).1 printed) (omega arith) (omega arith) in
     subst (λ m. cond (is_number low high text) (number_of text) None ≡ Some m) value found
 
--- a text that is read as a number which is printed otherwise, or lies outside the bounds, gives none
+-- a text read as a number that is printed differently, or lies outside the bounds, gives none
 pub number-other : {E : Type 0} (low high n : ℕ) (text : List ℕ) (r : Result ℕ E) → high < 2 ^ 32 → ParsesUnsigned 32 10 text r → Some n ≡ result_ok r
     → (decimal n ≡ text → low ≤ n → n ≤ high → ⊥) → cond (is_number low high text) (number_of text) None ≡ None
 number-other low high n text r small p read other = number-refused low high text (λ is.

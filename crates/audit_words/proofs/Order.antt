@@ -1,4 +1,4 @@
--- What stands earlier in the table of names.
+-- The order of names in the table.
 use Rattle.std.proofs.Common.{◌≡◌, ℕ, zero, suc, ◌<◌, Bool, true, false, not, List, [], ◌∷◌, length, get_or, ap, arith, refl, subst, inl, inr, None}
 use Rattle.std.proofs.lemmas.Bool.{and_parts, both_ways, false≢true, not-true, or_cases}
 use Rattle.std.specs.Prelude.{◌&&◌, ◌||◌}
@@ -15,7 +15,7 @@ abbrev leads : (Name → Bool) → (Name → Bool) → List Name → Bool
 leads first second [] = true
 leads first second (name ∷ names) = not (second name) && (first name || leads first second names)
 
--- before the second of two names stands the first
+-- the first of two names stands before the second
 leader : (first second : Name → Bool) (names : List Name) (k : ℕ) → leads first second names ≡ true → k < length names → second (get_or names k Pop) ≡ true
     → (j : ℕ) × (j < k) × (first (get_or names j Pop) ≡ true)
 leader first second [] k h inside is = absurd (omega arith)
@@ -29,7 +29,7 @@ leader first second (name ∷ names) (suc k) h inside is =
       | inr later ↦ let found = leader first second names k later (omega arith) is in (suc found.0, omega (arith, found.1), found.2)
     ]
 
--- the names on which others rest, and those
+-- the names that others depend on, and those others
 abbrev is_walks : Name → Bool
 is_walks Walks = true
 is_walks _ = false
@@ -90,7 +90,7 @@ is_steps-Steps : (name : Name) → is_steps name ≡ true → name ≡ Steps
 is_steps-Steps Steps h = refl
 is_steps-Steps _ h = absurd (false≢true h)
 
--- the name that tests as that of the ends is that of the ends
+-- the name that tests as that of the endpoints is that of the endpoints
 is_ends-Ends : (name : Name) → is_ends name ≡ true → name ≡ Ends
 is_ends-Ends Ends h = refl
 is_ends-Ends _ h = absurd (false≢true h)
@@ -100,7 +100,7 @@ is_save-Save : (name : Name) → is_save name ≡ true → name ≡ Save
 is_save-Save Save h = refl
 is_save-Save _ h = absurd (false≢true h)
 
--- each name stands behind those on which it rests
+-- each name stands after those that it depends on
 record IsOrdered (names : List Name) : Type 0 where
   walks : leads is_walks on_walks names ≡ true
   steps : leads is_steps on_steps names ≡ true
@@ -138,7 +138,7 @@ module _ (command : Command) (words : List NameAndValue) (names : List Name) (k 
   rests saved Ids is = (good_walks (ap on_walks is), good_ends (ap on_ends is))
   rests saved _ is = tt
 
--- among the names of each command, each stands behind those that its value rests on
+-- in the names of each command, each stands after those that its value depends on
 is_ordered : (command : Command) → IsOrdered (names_of command)
 is_ordered Check = record { walks = refl; steps = refl; ends = refl; parts = refl }
 is_ordered Run = record { walks = refl; steps = refl; ends = refl; parts = refl }
@@ -146,7 +146,7 @@ is_ordered Make = record { walks = refl; steps = refl; ends = refl; parts = refl
 is_ordered Plans = record { walks = refl; steps = refl; ends = refl; parts = refl }
 is_ordered Trace = record { walks = refl; steps = refl; ends = refl; parts = refl }
 
--- where a name rests on how often a run saves, that stands before it, or the command does not take it
+-- a name that depends on the save interval stands after it, or the command has no save interval
 saved_by : (command : Command) (words : List NameAndValue) (k : ℕ) → k < length (names_of command) → fault_of_pairs command words ≡ None
     → ((j : ℕ) → j < k → is_good command words (get_or (names_of command) j Pop) ≡ true) → on_save (get_or (names_of command) k Pop) ≡ true → is_good Check words Save ≡ true
 saved_by Check words k inside faultless below on = saved_before Check words (names_of Check) k inside below (is_ordered Check) refl on
@@ -155,7 +155,7 @@ saved_by Make words k inside faultless below on = saved_before Make words (names
 saved_by Plans words k inside faultless below on = good_save Plans words faultless (plans_lack words)
 saved_by Trace words k inside faultless below on = good_save Trace words faultless (trace_lacks words)
 
--- behind good values a name rests on good ones
+-- after valid values, a name depends on valid ones
 pub RestsOnGood-behind : (command : Command) (words : List NameAndValue) (k : ℕ) → k < length (names_of command) → fault_of_pairs command words ≡ None
     → ((j : ℕ) → j < k → is_good command words (get_or (names_of command) j Pop) ≡ true) → RestsOnGood words (get_or (names_of command) k Pop)
 RestsOnGood-behind command words k inside faultless below =

@@ -1,8 +1,8 @@
--- Where the words of a pair stand among the words.
+-- The places of a pair's words among the arguments.
 use Rattle.std.proofs.Common.{◌≡◌, ℕ, zero, suc, ◌+◌, ◌*◌, ◌<◌, ◌≤◌, List, [], ◌∷◌, length, get_or, refl, arith, Some, None}
 use Rattle.audit_statement.specs.Words.{pairs}
 
--- half as many pairs as words, rounded up
+-- the pairs are at least half of the words
 pub pairs-lower : (words : List (List ℕ)) → length words ≤ 2 * length (pairs words)
 pairs-lower [] = omega arith
 pairs-lower (name ∷ []) = omega arith
@@ -37,7 +37,7 @@ second_at (name ∷ value ∷ rest) (suc k) zero e h = absurd (omega arith)
 second_at (name ∷ value ∷ rest) (suc k) (suc zero) e h = absurd (omega arith)
 second_at (name ∷ value ∷ rest) (suc k) (suc (suc i)) e h = second_at rest k i (omega arith) (omega arith)
 
--- the last pair may have none
+-- the last pair may have no second word
 pub no_second_at : (words : List (List ℕ)) (k i : ℕ) → i ≡ 2 * k + 1 → length words ≤ i → (get_or (pairs words) k ([], None)).1 ≡ None
 no_second_at [] k i e h = refl
 no_second_at (name ∷ []) zero i e h = refl

@@ -41,7 +41,7 @@ power_of_one (suc m) n small one =
           (0, omega arith, omega (arith, none, last))
     ]
 
--- std's test of one digit is the definition's search
+-- std's test of a power of two is the definition's search
 pub powers_agree : (n : ℕ) → n < 2 ^ 64 → is_power_of_two n ≡ definition.is_power_of_two n
 powers_agree n small =
     let test : ℕ → Bool = λ k. 2 ^ k == n in

@@ -13,7 +13,7 @@ outside_by : (b found : Bool) (place more : ℕ) → (place ≡ more → found �
 outside_by true found place more h l = absurd (omega (arith, l))
 outside_by false found place more h l = h (omega (arith, l))
 
--- a text lacks a byte if no place in it is the byte's first
+-- a text does not contain a byte if the byte has no first place in it
 outside : (c : ℕ) (text : List ℕ) → position_or_len (λ b. b == c) text ≡ length text → has text c ≡ false
 outside c [] h = refl
 outside c (x ∷ rest) h = outside_by (x == c) (has rest c) (position_or_len (λ b. b == c) rest) (length rest) (outside c rest) h
@@ -22,7 +22,7 @@ outside c (x ∷ rest) h = outside_by (x == c) (has rest c) (position_or_len (λ
 pub last_alone : (text : List ℕ) → position_or_len (λ b. b == 45) text ≡ length text → text ≡ last_of_range text
 last_alone text none = sym (ap (λ b. cond b (after_first (λ c. c == 45) text) text) (outside 45 text none))
 
--- the ids of a good range are numbers in order, below the count of trajectories
+-- the ids of a valid range are numbers in order, below the count of trajectories
 pub record IsGoodRange (words : List NameAndValue) : Type 0 where
   pub few_first : first_id Check words ≤ 100000
   pub few_last : last_id Check words ≤ 100000

@@ -1,4 +1,4 @@
--- The setting of words, by the places where a fault is looked for.
+-- The setting of arguments, by the order of the tests for faults.
 use Rattle.std.proofs.Common.{◌≡◌, ◌∙◌, ℕ, arith, List, [], ◌∷◌, length, refl, ap, sym, String, Option, Some, None, Ok, Err}
 use Rattle.audit_model.specs.First.{first_some}
 use Rattle.audit_model.specs.declared.fault.WordFault.{WordFault}
@@ -8,25 +8,25 @@ use Rattle.audit_words.specs.Judged.{fault_of_pairs, fault_of_names, fault_of_va
 use Rattle.audit_words.specs.Spoken.{spoken}
 use Rattle.audit_statement.specs.Words.{NameAndValue, pairs, command_of, fault_of, of_command, setting_for, setting_or, setting_of}
 
--- which of three is the first that is there
+-- the first of three options has a value
 first_of : {A : Type 0} (a b c : Option A) (x : A) → a ≡ Some x → first_some (a ∷ b ∷ c ∷ []) ≡ Some x
 first_of a b c x h = rw h refl
 
--- where the first of three options is empty, the second is the first that has a value
+-- if the first of three options is empty, the second is the first with a value
 second_of : {A : Type 0} (a b c : Option A) (x : A) → a ≡ None → b ≡ Some x → first_some (a ∷ b ∷ c ∷ []) ≡ Some x
 second_of a b c x none h = rw (none, h) refl
 
--- where the first two of three options are empty, the answer is the third
+-- if the first two of three options are empty, the answer is the third
 third_of : {A : Type 0} (a b c : Option A) (o : Option A) → a ≡ None → b ≡ None → c ≡ o → first_some (a ∷ b ∷ c ∷ []) ≡ o
 third_of a b c None none nor h = rw (none, nor, h) refl
 third_of a b c (Some x) none nor h = rw (none, nor, h) refl
 
--- no words have no bytes
+-- without words there are no bytes
 pub spoken-empty : {A : Type 0} (words : List (String A)) → length words ≡ 0 → spoken words ≡ []
 spoken-empty [] h = refl
 spoken-empty (word ∷ words) h = absurd (omega arith)
 
--- where there is no word, there is no command
+-- without words there is no command
 pub setting_of-no_words : (words : List (List ℕ)) → words ≡ [] → setting_of words ≡ Err NoCommand
 unfolding setting_of
 setting_of-no_words words h = ap setting_of h
@@ -36,7 +36,7 @@ pub setting_of-other_word : (words : List (List ℕ)) (word : List ℕ) (rest : 
 unfolding setting_of
 setting_of-other_word words word rest h e = ap setting_of h ∙ ap (of_command word (pairs rest)) (sym e)
 
--- the words of a command
+-- the arguments of a command
 pub setting_of-command : (words : List (List ℕ)) (word : List ℕ) (rest : List (List ℕ)) (command : Command) → words ≡ word ∷ rest → Some command ≡ command_of word
     → setting_of words ≡ setting_or command (pairs rest) (fault_of command (pairs rest))
 unfolding setting_of

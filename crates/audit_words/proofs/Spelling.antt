@@ -1,4 +1,4 @@
--- Words that spell none of the things that are looked for.
+-- Words that are none of the known spellings.
 use Rattle.std.proofs.Common.{◌≡◌, ℕ, List, None, refl, sym}
 use Rattle.std.specs.Prelude.{codes}
 use Rattle.audit_model.proofs.ListFacts.{bytes_other}

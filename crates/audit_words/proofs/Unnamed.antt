@@ -1,5 +1,5 @@
--- Names that a command does not take have their defaults: those of saving, which the command on several plans and a trace do not take, and those of
--- workers and of other tests, which a trace does not take.
+-- Names that a command does not take have their defaults. The command on several plans and a trace do not take the
+-- names of saving, and a trace does not take those of workers and of other tests.
 use Rattle.std.proofs.Common.{◌≡◌, ◌∙◌, ℕ, suc, ◌+◌, ◌<◌, arith, Bool, true, false, not, cond, List, [], ◌∷◌, length, find, ap, refl, subst, sym, Option, Some, None}
 use Rattle.std.proofs.lemmas.Bool.{and_parts, false≢true}
 use Rattle.std.proofs.lemmas.Slice.Eq.{bytes_eq-Decides}
@@ -17,7 +17,7 @@ use Rattle.audit_model.proofs.First.{first_some_below_none}
 use Rattle.audit_statement.specs.Words.{NameAndValue, default_of, has_walks, is_good, is_number, is_yes, known_fault, name_of, number_named, number_of, word_pair, pair_fault, text_of}
 use Rattle.audit_words.specs.Judged.{fault_of_pairs}
 
--- where no pair has the name, none is found
+-- if no pair has the name, none is found
 no_such : (text : List ℕ) (words : List NameAndValue) → ((k : ℕ) → k < length words → bytes_eq (slice_index_or words k ([], None)).0 text ≡ false)
     → find (λ (pair : NameAndValue). bytes_eq pair.0 text) words ≡ None
 no_such text [] h = refl
@@ -33,7 +33,7 @@ of_saving Parts = true
 of_saving Part = true
 of_saving _ = false
 
--- those of workers and of other tests
+-- the names of workers and of other tests
 abbrev pub of_tests : Name → Bool
 of_tests Workers = true
 of_tests Shift = true
@@ -134,7 +134,7 @@ module _ (command : Command) (words : List NameAndValue) (faultless : fault_of_p
           subst (λ (budget : List ℕ). (is_number 0 100000 budget && (not (is_number 0 0 (text_of Check words Save)) || nat_le n (unwrap_or (number_of budget) 0))) ≡ true) (sym budget_is)
           (subst (λ (save : List ℕ). (is_number 0 100000 (codes "100000") && (not (is_number 0 0 save) || nat_le n (unwrap_or (number_of (codes "100000")) 0))) ≡ true) (sym save_is) few)
 
--- so it is with the workers and other tests of a trace
+-- the workers and other tests of a trace have their defaults
 module _ (command : Command) (words : List NameAndValue) (faultless : fault_of_pairs command words ≡ None) (lacks : Lacks command words of_tests) where
   pub good_workers : is_good Check words Workers ≡ true
   unfolding digits

@@ -1,4 +1,4 @@
--- The places where the words of a command have a fault, and what the judgement of a value rests on.
+-- The faults of a command's arguments, and the values that the validity of another depends on.
 use Rattle.std.specs.Prelude.{◌≡◌, true, not, is_none, find, List, length, Option, option_map}
 use Rattle.audit_model.specs.First.{first_some_below}
 use Rattle.audit_model.specs.declared.fault.Name.{Name}
@@ -17,11 +17,11 @@ fault_of_pairs command words = first_some_below (length words) (pair_fault comma
 abbrev pub fault_of_names : Command → List NameAndValue → Option WordFault
 fault_of_names command words = option_map MissingName (find (λ name. is_none (given_or_default command words name)) (names_of command))
 
--- the first name whose value is bad
+-- the first name with an invalid value
 abbrev pub fault_of_values : Command → List NameAndValue → Option WordFault
 fault_of_values command words = option_map BadValue (find (λ name. not (is_good command words name)) (names_of command))
 
--- The values of other names that are looked at for that of a name are good: behind a bad one the name is not judged.
+-- The values that the validity of this name depends on are valid. After an invalid one, the name is not tested.
 abbrev pub RestsOnGood : List NameAndValue → Name → Type 0
 RestsOnGood words Ends = is_good Check words Walks ≡ true
 RestsOnGood words Budget = (is_good Check words Walks ≡ true) × (is_good Check words Ends ≡ true)
@@ -32,7 +32,7 @@ RestsOnGood words Part = is_good Check words Parts ≡ true
 RestsOnGood words Ids = (is_good Check words Walks ≡ true) × (is_good Check words Ends ≡ true)
 RestsOnGood words _ = Unit {0}
 
--- each value that a run on any graph takes, beside the columns, is good
+-- each value of a run on any graph, without the columns, is valid
 pub record AreGood (words : List NameAndValue) : Type 0 where
   pub slack : is_good Check words Slack ≡ true
   pub key : is_good Check words Key ≡ true
@@ -52,14 +52,14 @@ pub record AreGood (words : List NameAndValue) : Type 0 where
   pub parts : is_good Check words Parts ≡ true
   pub part : is_good Check words Part ≡ true
 
--- each limit on regions and on a group is good
+-- each limit on regions and on a group is valid
 pub record AreGoodLimits (words : List NameAndValue) : Type 0 where
   pub max_split : is_good Check words MaxSplit ≡ true
   pub max_splits : is_good Check words MaxSplits ≡ true
   pub max_split_regions : is_good Check words MaxSplitRegions ≡ true
   pub group_districts : is_good Check words GroupDistricts ≡ true
 
--- the values from which the setting of a command is made are good
+-- the values from which the setting of a command is made are valid
 abbrev pub AreReadable : Command → List NameAndValue → Type 0
 AreReadable Check words = (is_good Check words Slack ≡ true) × (is_good Check words MaxCut ≡ true) × AreGoodLimits words
 AreReadable Run words = AreGood words × AreGoodLimits words

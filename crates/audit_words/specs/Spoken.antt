@@ -1,18 +1,18 @@
--- The words of a command line as lists of bytes, and what a look at them for faults answers.
+-- The arguments of a command line as lists of bytes, and the answer of a test for faults.
 use Rattle.std.specs.Prelude.{◌≡◌, ◌⊎◌, ℕ, List, String, map, string_bytes, Option, Some, None, Result}
 use Rattle.std.specs.Result.{MatchResult}
 use Rattle.audit_model.specs.declared.fault.WordFault.{WordFault}
 use Rattle.audit_model.specs.declared.fault.WordFault.TheVariants.{Memory}
 use Rattle.audit_statement.specs.Words.{NameAndValue, pairs}
 
--- the bytes of each word
+-- the bytes of each argument
 abbrev pub spoken : {A : Type 0} → List (String A) → List (List ℕ)
 spoken words = map string_bytes words
 
--- the pairs that the words after the command make
+-- the pairs of the arguments after the command
 abbrev pub pairs_in : {A : Type 0} → List (String A) → List NameAndValue
 pairs_in words = pairs (spoken words)
 
--- the answer is the fault, where there is one, or want of memory
+-- the answer is the fault, if there is one, or out of memory
 abbrev pub Tells : {A : Type 0} → Result A WordFault → Option WordFault → Type 0
 Tells result fault = MatchResult result (λ _. fault ≡ None) (λ f. (f ≡ Memory) ⊎ (fault ≡ Some f))

@@ -1,4 +1,4 @@
-//! The asks of a text, joined by commas.
+//! The asks of a text, separated by commas.
 
 ghost use Rattle.std.specs.Prelude.{◌≡◌, IfOk, bytes_eq};
 ghost use Rattle.std.specs.List.{list_any, filter_map};
@@ -10,10 +10,10 @@ use audit_model::memory::Memory;
 use audit_model::setting::{Ask, Score, Tail};
 use std::alloc::Global;
 
-/// At most so many asks are joined.
+/// The largest number of asks in a text.
 const MOST: usize = 4;
 
-/// The ask that the word spells.
+/// Returns the ask that the word spells.
 fn ask_of(word: &str) -> Option<Ask>
     ensures { result ≡ definition.ask_of word.now }
 {
@@ -31,14 +31,14 @@ fn ask_of(word: &str) -> Option<Ask>
     Some(Ask { score, tail })
 }
 
-/// Whether a part of the text is the word.
+/// Returns true if a part of the text is the word.
 fn has_part(text: &str, word: &str) -> bool
     ensures { result ≡ list_any (λ part. bytes_eq part word.now) (parts_between 44 text.now) }
 {
     text.split(',').any(|part| part == word)
 }
 
-/// Whether the text is one to four asks joined by commas, none of them twice.
+/// Returns true if the text is one to four different asks, separated by commas.
 pub fn are_asks(text: &str) -> bool
     ensures { result ≡ definition.are_asks text.now }
 {
@@ -57,7 +57,7 @@ pub fn are_asks(text: &str) -> bool
     false
 }
 
-/// The asks among the parts of the text.
+/// Returns the asks among the parts of the text. The only error is out of memory.
 pub fn asks_of(alloc: Global, text: &str) -> Result<AskList, Memory>
     ensures { IfOk result (λ asks. asks ≡ filter_map definition.ask_of (parts_between 44 text.now)) }
 {

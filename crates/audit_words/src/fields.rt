@@ -1,4 +1,4 @@
-//! What the words give for each name, and whether it may be.
+//! The validity of each argument's value.
 
 ghost use Rattle.std.specs.Prelude.{◌≡◌, ◌+◌, ◌^◌, ◌<◌, ◌==◌, ◌&&◌, ◌||◌, not, nat_le, nat_lt, unwrap_or};
 ghost use Rattle.audit_model.specs.Limits.{most_trajectories};
@@ -15,14 +15,14 @@ use crate::values::{is_answer, is_number, is_one_line, key_of, number_in, range_
 use audit_model::fault::Name;
 use audit_model::setting::Command;
 
-/// The number that the value of a name is, or 0 where it is none that fits.
+/// Returns the number that a name's value spells, or 0 if it is no number of 32 bits.
 pub fn number_at(words: &[String], name: Name) -> u32
     ensures { definition.number_named command.Check (pairs_in words.now) name < 2 ^ 32 → result ≡ definition.number_named command.Check (pairs_in words.now) name }
 {
     number_in(text_of(words, name))
 }
 
-/// Whether some trajectory is asked for, and not too many.
+/// Returns true if there is at least one trajectory, and not too many.
 fn has_walks(walks: u32, ends: u32) -> bool
     ensures { result ≡ (nat_le 1 (walks + ends) && nat_le (walks + ends) most_trajectories) }
 {
@@ -30,7 +30,7 @@ fn has_walks(walks: u32, ends: u32) -> bool
     1 <= count && count <= 100_000
 }
 
-/// Whether the budget is enough for every trajectory, where nothing is saved.
+/// Returns true if something is saved or the budget covers every trajectory.
 fn covers_walks(words: &[String], walks: u32, ends: u32, budget: u32) -> bool
     ensures { result ≡ (not (definition.is_number 0 0 (definition.text_of command.Check (pairs_in words.now) name.Save)) || nat_le (walks + ends) budget) }
 {
@@ -38,56 +38,56 @@ fn covers_walks(words: &[String], walks: u32, ends: u32, budget: u32) -> bool
         || u64::from(walks) + u64::from(ends) <= u64::from(budget)
 }
 
-/// Whether a test that stops early has ends to test, and neither saves nor resumes.
+/// Returns true if a test that stops early has endpoints to test, and the run neither saves nor resumes.
 fn stops_alone(words: &[String], stop: u32, ends: u32, save: u32) -> bool
     ensures { result ≡ ((stop == 0) || (nat_le 1 ends && (save == 0) && not (definition.is_yes command.Check (pairs_in words.now) name.Resume))) }
 {
     stop == 0 || (1 <= ends && save == 0 && text_of(words, Name::Resume) != "yes")
 }
 
-/// Whether the serial test has as many plans as a power of two.
+/// Returns true if the serial test is not requested or has a power of two of plans.
 fn divides_draws(words: &[String], steps: u32) -> bool
     ensures { result ≡ (not (definition.is_yes command.Check (pairs_in words.now) name.Serial) || is_power_of_two (steps + 1)) }
 {
     text_of(words, Name::Serial) != "yes" || has_power_of_two_plans(steps)
 }
 
-/// Whether a run of so many steps visits as many plans as a power of two.
+/// Returns true if a run of this many steps visits a power of two of plans.
 fn has_power_of_two_plans(steps: u32) -> bool
     ensures { result ≡ is_power_of_two (steps + 1) }
 {
     (u64::from(steps) + 1).is_power_of_two()
 }
 
-/// Whether the limit that a name sets is the one by default, or the column is named that it is about.
+/// Returns true if a limit has its default or its column is named.
 fn is_set_for(words: &[String], name: Name, default: u32, column: Name) -> bool
     ensures { definition.number_named command.Check (pairs_in words.now) name < 2 ^ 32 → result ≡ ((definition.number_named command.Check (pairs_in words.now) name == default) || not (definition.is_empty command.Check (pairs_in words.now) column)) }
 {
     number_at(words, name) == default || !text_of(words, column).is_empty()
 }
 
-/// Whether a group is named, where the column is named of which it is a part.
+/// Returns true if no base population is named or its group is.
 fn has_group_of(words: &[String]) -> bool
     ensures { result ≡ definition.has_group_of command.Check (pairs_in words.now) }
 {
     text_of(words, Name::GroupOf).is_empty() || !text_of(words, Name::Group).is_empty()
 }
 
-/// Whether what is walked of one of several parts is saved.
+/// Returns true if there is one part or the run saves.
 fn saves_parts(parts: u32, save: u32) -> bool
     ensures { result ≡ ((parts == 1) || nat_le 1 save) }
 {
     parts == 1 || 1 <= save
 }
 
-/// Whether the first id is not above the last, and the last is the id of a trajectory.
+/// Returns true if the first id is not above the last, and the last is the id of a trajectory.
 fn are_ids(first: u32, last: u32, walks: u32, ends: u32) -> bool
     ensures { result ≡ (nat_le first last && nat_lt last (walks + ends)) }
 {
     first <= last && u64::from(last) < u64::from(walks) + u64::from(ends)
 }
 
-/// Whether the text is an id or a range of ids of the trajectories.
+/// Returns true if the text is an id or a range of ids of the trajectories.
 fn is_range(text: &str, walks: u32, ends: u32) -> bool
     ensures { result ≡ (definition.is_number 0 100000 (definition.first_of_range text.now) && definition.is_number 0 100000 (definition.last_of_range text.now)
         && nat_le (unwrap_or (definition.number_of (definition.first_of_range text.now)) 0) (unwrap_or (definition.number_of (definition.last_of_range text.now)) 0)
@@ -99,7 +99,8 @@ fn is_range(text: &str, walks: u32, ends: u32) -> bool
         && are_ids(number_in(first), number_in(last), walks, ends)
 }
 
-/// Whether the value of a name, given or by default, is one that it may have.
+/// Returns true if the value of a name, given or default, is valid. The precondition holds once the values of earlier
+/// names are valid.
 pub fn is_good(command: Command, words: &[String], name: Name) -> bool
     requires { RestsOnGood (pairs_in words.now) name }
     ensures { result ≡ definition.is_good command (pairs_in words.now) name }

@@ -1,4 +1,4 @@
-//! Reads the words of a command line: a command, and after it pairs of a name and a value.
+//! Reads the arguments of a command line: a command, followed by pairs of a name and a value.
 #![tactic(auto)]
 
 pub mod asks;

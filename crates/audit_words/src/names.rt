@@ -1,4 +1,4 @@
-//! The table of names.
+//! The table of argument names.
 
 ghost use Rattle.std.specs.Prelude.{◌≡◌, [], option_map};
 ghost use Rattle.audit_statement.specs.Words as definition;
@@ -128,7 +128,7 @@ const OF_TRACE: [Name; 22] = [
     Name::Thin,
 ];
 
-/// The value of a name that is not given, where the name may be left out.
+/// Returns the default value of a name, if the name may be omitted.
 pub fn default_of(name: Name) -> Option<&'static str>
     ensures { option_map (λ s. s.now) result ≡ definition.default_of name }
 {
@@ -150,7 +150,7 @@ pub fn default_of(name: Name) -> Option<&'static str>
     }
 }
 
-/// The names that a command takes, in the order of the table.
+/// Returns the names of a command, in the order of the table.
 pub fn names_of(command: Command) -> &'static [Name]
     ensures { result.now ≡ definition.names_of command }
 {
@@ -163,7 +163,7 @@ pub fn names_of(command: Command) -> &'static [Name]
     }
 }
 
-/// The command that the word spells.
+/// Returns the command that the word spells.
 pub fn command_of(word: &str) -> Option<Command>
     ensures { result ≡ definition.command_of word.now }
 {
@@ -182,7 +182,7 @@ pub fn command_of(word: &str) -> Option<Command>
     }
 }
 
-/// The name of the command that the word spells.
+/// Returns the name of the command that the word spells.
 pub fn name_of(command: Command, word: &str) -> Option<Name>
     ensures { result ≡ definition.name_of command [] word.now }
 {

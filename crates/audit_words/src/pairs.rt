@@ -1,4 +1,4 @@
-//! The words after the command, in pairs of a name and a value.
+//! The arguments after the command, in pairs of a name and a value.
 
 ghost use Rattle.std.specs.Prelude.{◌≡◌, ◌<◌, [], None, length, option_map, find, bytes_eq};
 ghost use Rattle.std.specs.List.{slice_index_or};
@@ -10,14 +10,14 @@ ghost use Rattle.audit_statement.specs.Words as definition;
 use crate::names::default_of;
 use audit_model::fault::Name;
 
-/// How many pairs there are. The last may lack its value.
+/// Returns the number of pairs. The last may have no value.
 pub fn count(words: &[String]) -> usize
     ensures { result ≡ length (pairs_in words.now) }
 {
     words.len().div_ceil(2)
 }
 
-/// The first word of the pair at a place.
+/// Returns the first word of the pair at a place.
 pub fn name_at(words: &[String], place: usize) -> &str
     requires { place < length (pairs_in words.now) }
     ensures { result.now ≡ (slice_index_or (pairs_in words.now) place ([], None)).0 }
@@ -25,7 +25,7 @@ pub fn name_at(words: &[String], place: usize) -> &str
     words[2 * place].as_str()
 }
 
-/// The second word of the pair at a place, which the last may lack.
+/// Returns the second word of the pair at a place, or `None` for a last pair without one.
 pub fn value_at(words: &[String], place: usize) -> Option<&str>
     requires { place < length (pairs_in words.now) }
     ensures { option_map (λ s. s.now) result ≡ (slice_index_or (pairs_in words.now) place ([], None)).1 }
@@ -37,7 +37,7 @@ pub fn value_at(words: &[String], place: usize) -> Option<&str>
     }
 }
 
-/// Whether the first word of the pair at a place is that of an earlier pair.
+/// Returns true if the first word of the pair at a place is that of an earlier pair.
 pub fn is_repeated(words: &[String], place: usize) -> bool
     requires { place < length (pairs_in words.now) }
     ensures { result ≡ definition.is_repeated command.Check (pairs_in words.now) place }
@@ -50,7 +50,7 @@ pub fn is_repeated(words: &[String], place: usize) -> bool
     false
 }
 
-/// The value of the name in the first pair that has it.
+/// Returns the value of the first pair with this name.
 pub fn given(words: &[String], name: Name) -> Option<&str>
     ensures { option_map (λ s. s.now) result ≡ definition.given command.Check (pairs_in words.now) name }
 {
@@ -62,7 +62,7 @@ pub fn given(words: &[String], name: Name) -> Option<&str>
     None
 }
 
-/// The value given for the name, or its default.
+/// Returns the value of the name, or its default.
 pub fn value_of(words: &[String], name: Name) -> Option<&str>
     ensures { option_map (λ s. s.now) result ≡ definition.given_or_default command.Check (pairs_in words.now) name }
 {
@@ -72,7 +72,7 @@ pub fn value_of(words: &[String], name: Name) -> Option<&str>
     }
 }
 
-/// The value given for the name, or its default, or the empty text where it has none.
+/// Returns the value of the name, or its default, or the empty text.
 pub fn text_of(words: &[String], name: Name) -> &str
     ensures { result.now ≡ definition.text_of command.Check (pairs_in words.now) name }
 {

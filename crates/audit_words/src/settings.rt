@@ -1,4 +1,4 @@
-//! The setting that good values give.
+//! The setting that valid values give.
 
 ghost use Rattle.std.specs.Prelude.{◌≡◌, [], true, IfOk, codes};
 ghost use Rattle.audit_model.specs.declared.fault.Name.TheVariants as name;
@@ -18,7 +18,7 @@ use audit_model::setting::{Columns, Command, Setting};
 use audit_model::text::Text;
 use std::alloc::Global;
 
-/// The word as a text.
+/// Copies the word to a text. The only error is out of memory.
 pub fn copied(alloc: Global, word: &str) -> Result<Text, Memory>
     ensures { IfOk result (λ text. text ≡ word.now) }
 {
@@ -27,8 +27,8 @@ pub fn copied(alloc: Global, word: &str) -> Result<Text, Memory>
     Ok(text)
 }
 
-/// The name of the column of those among whom a group may be a majority: that which is named, or the population's; and the empty text where
-/// there is no group.
+/// Returns the column of a group's base population: the named one, or that of the population, or the empty text without
+/// a group.
 fn whole_column(words: &[String]) -> &str
     ensures { result.now ≡ definition.whole_column (definition.text_of command.Check (pairs_in words.now) name.Group) (definition.text_of command.Check (pairs_in words.now) name.GroupOf) (definition.text_of command.Check (pairs_in words.now) name.Pop) }
 {
@@ -41,7 +41,7 @@ fn whole_column(words: &[String]) -> &str
     }
 }
 
-/// The columns that the words name.
+/// Returns the columns that the arguments name.
 fn columns_of(alloc: Global, words: &[String]) -> Result<Columns, Memory>
     ensures { IfOk result (λ columns. columns ≡ definition.columns_named command.Check (pairs_in words.now)) }
 {
@@ -55,7 +55,7 @@ fn columns_of(alloc: Global, words: &[String]) -> Result<Columns, Memory>
     })
 }
 
-/// The columns of a grid that is made.
+/// Returns the columns of a generated grid.
 fn columns_of_grid(alloc: Global) -> Result<Columns, Memory>
     ensures { IfOk result (λ columns. columns ≡ record { population = codes "pop"; first = codes "a"; second = codes "b"; district = codes "district"; group = []; whole = [] }) }
 {
@@ -69,7 +69,7 @@ fn columns_of_grid(alloc: Global) -> Result<Columns, Memory>
     })
 }
 
-/// The limits on the splits of regions, and on the districts in which a group has a majority.
+/// The limits on the splits of regions and on the majority districts of a group.
 #[derive(Clone, Copy)]
 struct Limits {
     max_split: u32,
@@ -78,7 +78,7 @@ struct Limits {
     group_districts: u32,
 }
 
-/// The limits that the words set.
+/// Returns the limits that the arguments set.
 fn limits_of(words: &[String]) -> Limits
     requires { AreGoodLimits (pairs_in words.now) }
     ensures max_split { result.max_split ≡ definition.number_named command.Check (pairs_in words.now) name.MaxSplit }
@@ -94,7 +94,7 @@ fn limits_of(words: &[String]) -> Limits
     }
 }
 
-/// The setting of a check.
+/// Returns the setting of a check.
 fn check_setting(alloc: Global, words: &[String]) -> Result<Setting, Memory>
     requires slack { definition.is_good command.Check (pairs_in words.now) name.Slack ≡ true }
     requires max_cut { definition.is_good command.Check (pairs_in words.now) name.MaxCut ≡ true }
@@ -135,8 +135,8 @@ fn check_setting(alloc: Global, words: &[String]) -> Result<Setting, Memory>
     })
 }
 
-/// The graph of a run: its columns, its regions, their limits and whether its bytes are to be told where it is read, and its size where it
-/// is made.
+/// The graph of a run. A graph that is read has columns, regions with their limits, and the request for its origin. A
+/// generated grid has a size.
 #[derive(Drop)]
 struct Ground {
     columns: Columns,
@@ -146,7 +146,7 @@ struct Ground {
     source: bool,
 }
 
-/// The setting of a run, on a graph that is read or made.
+/// Returns the setting of a run on this graph.
 fn run_setting(
     alloc: Global,
     command: Command,
@@ -189,7 +189,7 @@ fn run_setting(
     })
 }
 
-/// The setting of a run on a graph that is read.
+/// Returns the setting of a run on a graph that is read.
 fn read_setting(alloc: Global, command: Command, words: &[String]) -> Result<Setting, Memory>
     requires run { AreGood (pairs_in words.now) }
     requires limits { AreGoodLimits (pairs_in words.now) }
@@ -205,7 +205,7 @@ fn read_setting(alloc: Global, command: Command, words: &[String]) -> Result<Set
     run_setting(alloc, command, words, ground)
 }
 
-/// The setting of a trace.
+/// Returns the setting of a trace.
 fn trace_setting(alloc: Global, words: &[String]) -> Result<Setting, Memory>
     requires run { AreGood (pairs_in words.now) }
     requires limits { AreGoodLimits (pairs_in words.now) }
@@ -226,7 +226,7 @@ fn trace_setting(alloc: Global, words: &[String]) -> Result<Setting, Memory>
     })
 }
 
-/// The setting of a run on a grid that is made, which has no regions, no group and no source.
+/// Returns the setting of a run on a generated grid, which has no regions, no group and no origin.
 fn made_setting(alloc: Global, words: &[String]) -> Result<Setting, Memory>
     requires run { AreGood (pairs_in words.now) }
     requires size { definition.is_good command.Make (pairs_in words.now) name.Size ≡ true }
@@ -247,7 +247,7 @@ fn made_setting(alloc: Global, words: &[String]) -> Result<Setting, Memory>
     run_setting(alloc, Command::Make, words, ground)
 }
 
-/// The setting that the values give.
+/// Returns the setting that the values give. The only error is out of memory.
 pub fn setting_for(alloc: Global, command: Command, words: &[String]) -> Result<Setting, Memory>
     requires { AreReadable command (pairs_in words.now) }
     ensures { IfOk result (λ setting. setting ≡ definition.setting_for command (pairs_in words.now)) }

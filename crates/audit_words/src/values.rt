@@ -1,4 +1,4 @@
-//! The values that a name may have.
+//! The forms of values.
 
 ghost use Rattle.std.specs.Prelude.{◌≡◌, ◌||◌, ◌<◌, ◌^◌, None, cond, codes, bytes_eq, unwrap_or};
 ghost use Rattle.std.specs.Result.{result_ok};
@@ -9,7 +9,7 @@ use audit_model::setting::Command;
 use hex::FromHex;
 use itoa::Buffer;
 
-/// The number, where the text is one as it is printed and lies within the bounds.
+/// Returns the number if the text spells one within the bounds, without leading zeros.
 pub fn number_within(low: u32, high: u32, text: &str) -> Option<u32>
     ensures { result ≡ cond (definition.is_number low high text.now) (definition.number_of text.now) None }
 {
@@ -22,21 +22,21 @@ pub fn number_within(low: u32, high: u32, text: &str) -> Option<u32>
     }
 }
 
-/// Whether the text is a number as it is printed and lies within the bounds.
+/// Returns true if the text spells a number within the bounds, without leading zeros.
 pub fn is_number(low: u32, high: u32, text: &str) -> bool
     ensures { result ≡ definition.is_number low high text.now }
 {
     number_within(low, high, text).is_some()
 }
 
-/// The number that the text is, or 0 if it is none that fits.
+/// Returns the number that the text spells, or 0 if it is no number of 32 bits.
 pub fn number_in(text: &str) -> u32
     ensures { unwrap_or (definition.number_of text.now) 0 < 2 ^ 32 → result ≡ unwrap_or (definition.number_of text.now) 0 }
 {
     number_within(0, u32::MAX, text).unwrap_or(0)
 }
 
-/// Splits a range `A-B` into its two texts. A text without a dash is both.
+/// Splits a range `A-B` into its two texts. A text without a dash is both ends.
 pub fn range_of(text: &str) -> (&str, &str)
     ensures first { result.0.now ≡ definition.first_of_range text.now }
     ensures last { result.1.now ≡ definition.last_of_range text.now }
@@ -47,21 +47,21 @@ pub fn range_of(text: &str) -> (&str, &str)
     }
 }
 
-/// The key, where the text is 64 hexadecimal digits.
+/// Returns the key if the text is 64 hexadecimal digits.
 pub fn key_of(text: &str) -> Option<[u8; 32]>
     ensures { result ≡ result_ok (decode_sized text.now 32) }
 {
     <[u8; 32] as FromHex>::from_hex(text).ok()
 }
 
-/// Whether the text is one of the two answers.
+/// Returns true if the text is `yes` or `no`.
 pub fn is_answer(text: &str) -> bool
     ensures { result ≡ (bytes_eq text.now (codes "yes") || bytes_eq text.now (codes "no")) }
 {
     text == "yes" || text == "no"
 }
 
-/// Whether the text is one line, where the command wants one.
+/// Returns true if the text is one line, or the command does not require one.
 pub fn is_one_line(command: Command, text: &str) -> bool
     ensures { result ≡ definition.is_one_line command text.now }
 {

@@ -1,4 +1,4 @@
-//! From the words to the setting.
+//! From the arguments to the setting.
 
 ghost use Rattle.std.specs.Prelude.{◌≡◌, ◌⊎◌, ◌<◌, length, None, Ok, Err, IfOk, MatchResult};
 ghost use Rattle.audit_model.specs.Limits.{IsSetting};
@@ -17,8 +17,12 @@ use audit_model::memory::Memory;
 use audit_model::setting::{Command, Setting};
 use std::alloc::Global;
 
-/// The setting that the words give: the command, then pairs of a name and a value. The refusals come in this order: no word,
-/// an unknown command, the first pair with a fault, the first name of the table that is missing, and the first whose value is bad.
+/// Returns the setting that the arguments give: the command, then pairs of a name and a value.
+///
+/// # Errors
+///
+/// The first of these faults: no word, an unknown command, the first faulty pair, the first missing name of the table,
+/// and the first name with an invalid value. Or out of memory.
 pub fn read(alloc: Global, words: &[String]) -> Result<Setting, WordFault>
     ensures exact { MatchResult result (λ setting. setting_of (spoken words.now) ≡ Ok setting) (λ f. (f ≡ fault.Memory) ⊎ (setting_of (spoken words.now) ≡ Err f)) }
     ensures within { IfOk result (λ setting. IsSetting setting) }
@@ -38,7 +42,7 @@ pub fn read(alloc: Global, words: &[String]) -> Result<Setting, WordFault>
     }
 }
 
-/// The refusal of a word that is no command.
+/// Returns the refusal of a word that is no command.
 fn unknown_command(alloc: Global, word: &str) -> WordFault
     ensures { (result ≡ fault.Memory) ⊎ (result ≡ fault.UnknownCommand word.now) }
 {
@@ -48,7 +52,7 @@ fn unknown_command(alloc: Global, word: &str) -> WordFault
     }
 }
 
-/// The refusal of a word that is no name of the command.
+/// Returns the refusal of a word that is no name of the command.
 fn unknown_name(alloc: Global, word: &str) -> WordFault
     ensures { (result ≡ fault.Memory) ⊎ (result ≡ fault.UnknownName word.now) }
 {
@@ -58,7 +62,7 @@ fn unknown_name(alloc: Global, word: &str) -> WordFault
     }
 }
 
-/// Refuses the pair at a place where its first word is no name or an earlier one, or where it has no value.
+/// Refuses the pair at a place if its first word is no name or a repeated one, or if it has no value.
 fn judge_pair(
     alloc: Global,
     command: Command,
@@ -81,7 +85,7 @@ fn judge_pair(
     Ok(())
 }
 
-/// Refuses the first pair that has a fault.
+/// Refuses the first faulty pair.
 fn judge_pairs(alloc: Global, command: Command, words: &[String]) -> Result<(), WordFault>
     ensures { Tells result (fault_of_pairs command (pairs_in words.now)) }
 {
@@ -103,7 +107,7 @@ fn judge_missing(command: Command, words: &[String]) -> Result<(), WordFault>
     Ok(())
 }
 
-/// Refuses the first name of the table whose value is bad.
+/// Refuses the first name of the table with an invalid value.
 fn judge_values(command: Command, words: &[String]) -> Result<(), WordFault>
     requires { fault_of_pairs command (pairs_in words.now) ≡ None }
     ensures { Tells result (fault_of_values command (pairs_in words.now)) }

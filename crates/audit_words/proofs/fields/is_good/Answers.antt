@@ -64,7 +64,7 @@ returns-then-is_number-6 c =
     ∙ sym (ap (λ b. b && nat_lt (number_named command.Check words name.Part) (number_named command.Check words name.Parts)) passes)
     ∙ sym (ap (is_good c.args.command words) at)
 
--- the test of a range of a text, for this many trajectories
+-- the test of a range for this number of trajectories
 is_range : List ℕ → ℕ → Bool
 is_range text count =
     is_number 0 100000 (first_of_range text) && is_number 0 100000 (last_of_range text)

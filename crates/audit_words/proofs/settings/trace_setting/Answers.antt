@@ -10,11 +10,11 @@ use Rattle.audit_words.proofs.Goodness.{number-bounds}
 use Rattle.audit_words.proofs.Ranges.{good_range}
 use Rattle.audit_words.proofs.settings.trace_setting.Goals as goal
 
--- a setting that shows this range at every N-th step
+-- a setting with this range and this number of steps between plans
 showing : Setting → ℕ → ℕ → ℕ → Setting
 showing s first last thin = record s { first_id = first; last_id = last; thin = thin }
 
--- the number of a text
+-- the number that a text spells
 number : List ℕ → ℕ
 number text = unwrap_or (definition.number_of text) 0
 
