@@ -1,4 +1,4 @@
--- What is judged of bytes, refusal by refusal.
+-- The job of bytes, refusal by refusal.
 use Rattle.std.proofs.Common.{◌≡◌, ◌⊎◌, inl, inr, ℕ, ◌<◌, ◌≤◌, Bool, false, List, [], length, Option, Some, None, Ok, Err, refl, sym, ap, ◌∙◌, subst, arith}
 use Rattle.audit_model.specs.declared.fault.GraphFault.TheVariants as graph
 use Rattle.audit_model.specs.declared.fault.PlanFault.TheVariants as plan
@@ -44,35 +44,35 @@ pub judged_plan : (setting : Setting) (bytes : List ℕ) (p : Parsed) (regions :
 unfolding judged
 judged_plan setting bytes p regions f few r q j = rw (le-ltb most_bytes (length bytes) few, r, q, j)
 
--- what is accepted of the bytes is the job, with its origin
+-- bytes that are accepted give the job, with its origin
 pub judged_job : (setting : Setting) (bytes : List ℕ) (p : Parsed) (regions : List ℕ) (job : Job) → length bytes ≤ most_bytes
     → reading bytes setting.columns ≡ Ok p → regions_by setting.region bytes ≡ Ok regions → job_of p setting regions ≡ Ok job
     → judged setting bytes ≡ Ok (with_origin (origin_of setting bytes) job)
 unfolding judged
 judged_job setting bytes p regions job few r q j = rw (le-ltb most_bytes (length bytes) few, r, q, j)
 
--- how a refused plan ends the call, or want of memory for it
+-- the ending of a refused plan, or of out of memory
 pub judged_plan_end : (setting : Setting) (bytes : List ℕ) (p : Parsed) (regions : List ℕ) (f : PlanFault) → length bytes ≤ most_bytes
     → reading bytes setting.columns ≡ Ok p → regions_by setting.region bytes ≡ Ok regions → (f ≡ plan.Memory) ⊎ (job_of p setting regions ≡ Err f) → JudgedSo setting bytes (plan_ended f)
 judged_plan_end setting bytes p regions plan.Memory few r q j = tt
 judged_plan_end setting bytes p regions f few r q (inl e) = cc
 judged_plan_end setting bytes p regions f few r q (inr j) = judged_plan setting bytes p regions f few r q j
 
--- how refused regions end the call, or want of memory for them
+-- the ending of refused regions, or of out of memory
 pub judged_regions_end : (setting : Setting) (bytes : List ℕ) (p : Parsed) (f : RegionFault) → length bytes ≤ most_bytes
     → reading bytes setting.columns ≡ Ok p → (f ≡ region.Memory) ⊎ (regions_by setting.region bytes ≡ Err f) → JudgedSo setting bytes (region_ended setting.region f)
 judged_regions_end setting bytes p region.Memory few r q = tt
 judged_regions_end setting bytes p f few r (inl e) = cc
 judged_regions_end setting bytes p f few r (inr q) = judged_regions setting bytes p f few r q
 
--- how a refused graph ends the call, or want of memory for it
+-- the ending of a refused graph, or of out of memory
 pub judged_graph_end : (setting : Setting) (bytes : List ℕ) (f : GraphFault) → length bytes ≤ most_bytes
     → (f ≡ graph.Memory) ⊎ (reading bytes setting.columns ≡ Err f) → JudgedSo setting bytes (graph_ended setting.columns f)
 judged_graph_end setting bytes graph.Memory few r = tt
 judged_graph_end setting bytes f few (inl e) = cc
 judged_graph_end setting bytes f few (inr r) = (judged_graph setting bytes f few r, refl)
 
--- a job that is made is what was read, with the setting and the regions
+-- a job without a fault is the parsed graph with the setting and the regions
 job_made : (p : Parsed) (setting : Setting) (regions : List ℕ) (job : Job) → job_of p setting regions ≡ Ok job → job_from p setting regions ≡ job
 unfolding job_of
 job_made p setting regions job e = by (plan_fault (job_from p setting regions)) e
@@ -81,16 +81,16 @@ job_made p setting regions job e = by (plan_fault (job_from p setting regions)) 
     by None e = cc
     by (Some f) e = cc
 
--- no regions are regions of any graph
+-- an empty list is a list of regions of any graph
 pub no_regions : (units : ℕ) → AreRegions units []
 no_regions units = record { width = inl refl; few = λ k d inside. absurd (omega arith) }
 
--- what was read, a setting and regions are within the limits
+-- the parsed graph, the setting and the regions are within the limits
 pub within_limits : (p : Parsed) (setting : Setting) (regions : List ℕ) → AreWithin p.graph p.counts p.start (length p.labels) → IsSetting setting → AreRegions p.graph.units regions
     → IsGroup p.graph.units p.group → IsWithinLimits (job_from p setting regions)
 within_limits p setting regions input within are group = record { input = input; setting = within; regions = are; group = group }
 
--- a job that was made, with the origin for which its setting asks, is the one that the bytes give
+-- the job with the requested origin is the one that the bytes give
 pub is_judged : (setting : Setting) (bytes : List ℕ) (p : Parsed) (regions : List ℕ) (job sourced : Job) → length bytes ≤ most_bytes
     → reading bytes setting.columns ≡ Ok p → regions_by setting.region bytes ≡ Ok regions → job_of p setting regions ≡ Ok job
     → sourced ≡ with_origin (origin_of job.setting bytes) job → IsJob sourced → IsJudged setting bytes sourced
@@ -103,7 +103,7 @@ is_judged setting bytes p regions job sourced few r q j is sound =
       sound = sound;
     }
 
--- where no origin is asked for, a job that was made is the one with it
+-- if no origin is requested, the job without one is the one that the bytes give
 pub is_sourced : (p : Parsed) (setting : Setting) (regions : List ℕ) (job : Job) (bytes : List ℕ) → setting.source ≡ false → job_of p setting regions ≡ Ok job
     → job ≡ with_origin (origin_of job.setting bytes) job
 is_sourced p setting regions job bytes none j =

@@ -1,4 +1,4 @@
--- What accepted words say of the grid that they ask for.
+-- The grid that accepted arguments ask for.
 use Rattle.std.proofs.Common.{◌≡◌, ℕ, ◌≤◌, ◌&&◌, true, false, List, [], Option, Some, None, Ok, refl, sym, subst, ap}
 use Rattle.std.specs.Prelude.{nat_le, unwrap_or, option_map}
 use Rattle.std.proofs.lemmas.Bool.{and_parts, leb-true}
@@ -11,12 +11,12 @@ use Rattle.grid_maker.specs.Columns.{grid_columns}
 use Rattle.audit_input.specs.Steps.{IsMaking}
 use Rattle.audit_laws.proofs.Words.{accepted_words, good}
 
--- a number that was tested is from 1 to 30
+-- a number that passed the test is from 1 to 30
 bounded : (o : Option ℕ) → unwrap_or (option_map (λ n. nat_le 1 n && nat_le n 30) o) false ≡ true → (1 ≤ unwrap_or o 0) × (unwrap_or o 0 ≤ 30)
 bounded None h = cc
 bounded (Some n) h = let p = and_parts (nat_le 1 n) (nat_le n 30) h in (leb-true 1 n p.0, leb-true n 30 p.1)
 
--- the words of a grid are accepted only with a size from 1 to 30
+-- the arguments of a grid are accepted only with a size from 1 to 30
 sized_by : (command : Command) (words : List NameAndValue) (setting : Setting) → fault_of command words ≡ None
     → setting_for command words ≡ setting → setting.command ≡ Make → (1 ≤ setting.size) × (setting.size ≤ 30)
 sized_by Check words setting faultless same make =
@@ -44,7 +44,7 @@ made_by Run words setting same make =
 made_by Make words setting same make =
     (sym (ap (λ (s : Setting). s.columns) same), sym (ap (λ (s : Setting). s.region) same), sym (ap (λ (s : Setting). s.source) same))
 
--- the grid that accepted words ask for has a size from 1 to 30, its own columns, no regions and no origin
+-- the grid that accepted arguments ask for has a size from 1 to 30, its own columns, no regions and no origin
 pub accepted_grid : (words : List (List ℕ)) (setting : Setting) → setting_of words ≡ Ok setting → setting.command ≡ Make → IsMaking setting
 accepted_grid words setting e make =
     let s = accepted_words words setting e in

@@ -1,4 +1,4 @@
--- From what the words and the source gave to how the call goes on.
+-- From the arguments and the source to the next step of the call.
 use Rattle.std.proofs.Common.{◌≡◌, ℕ, Bool, true, List, Option, Result, Ok, refl, sym, subst}
 use Rattle.audit_model.specs.declared.fault.WordFault.{WordFault}
 use Rattle.audit_model.specs.declared.setting.Command.{Command}
@@ -15,7 +15,7 @@ use Rattle.audit_model.specs.Told.{IfTold}
 use Rattle.audit_statement.specs.World.{world}
 use Rattle.audit_input.proofs.Judging.{judged_many}
 
--- the source may have been read, as the words ask
+-- the source is read only if the arguments ask for it
 pub source_by : (words : List (List ℕ)) (setting : Setting) (before after : Stream) → setting_of words ≡ Ok setting → SameUnless (is_reading setting.command) before after
     → SameUnless (passes (λ s. is_reading s.command) (setting_of words)) before after
 source_by words setting before after e same =
@@ -35,7 +35,7 @@ reads_source Plans setting left bytes reads given = given
 reads_source Trace setting left bytes reads given = given
 
 module _ (words : List (List ℕ)) (setting : Setting) (before after : Stream) (accepted : setting_of words ≡ Ok setting) (out : Stream) (keeper : Kept) where
-  -- nothing but the source was touched
+  -- only the source was changed
   pub only_source : SameUnless (is_reading setting.command) before after → after.faults ≡ before.faults
       → LeavesUntouched words (world before out keeper) (world after out keeper) no_marks
   only_source same count = record {

@@ -1,4 +1,4 @@
--- How a run ends that cannot resume.
+-- The ending of a run that cannot resume.
 use Rattle.std.proofs.Common.{◌≡◌, ℕ, Bool, true, List, None, refl, sym, subst, ◌∙◌}
 use Rattle.audit_model.specs.Pair.{Pair}
 use Rattle.audit_model.specs.Job.{Job}

@@ -1,4 +1,4 @@
--- With what a run starts.
+-- The start of a run.
 use Rattle.std.proofs.Common.{◌≡◌, ℕ, zero, suc, ◌<◌, ◌&&◌, not, Bool, true, false, cond, List, [], ◌∷◌, map, get_or, Option, Some, None, Result, Ok, Err, refl, sym, subst, ap, ◌∙◌, arith}
 use Rattle.std.specs.Prelude.{IsTrue, filter, nat_lt, option_map}
 use Rattle.std.specs.List.{All}
@@ -35,9 +35,9 @@ use Rattle.audit_laws.specs.Runs.{IsRunJob}
 use Rattle.audit_laws.proofs.Starting.{saves_not, saves_some}
 use Rattle.audit_laws.proofs.Running.{fit_list, rising_above, rising_once, rising_rest}
 
--- ---- what was looked at, in the words of the slots that are told
+-- ---- the slots that were looked at, in terms of the known slots
 
--- the outcomes with which a run that resumes starts, where it may start
+-- the initial outcomes of a run that resumes, if it may start
 abbrev pub opening_seen : Setting → Slots → Option (List Outcome)
 opening_seen setting slots = opening true setting (slot_view slots.zero) (slot_view slots.one)
 
@@ -63,40 +63,40 @@ module _ (job : Job) (digest : List ℕ) (p : Pair) (slots : Slots) (is : digest
   pub slot_told : (n : ℕ) → slot_at (slot_view slots.zero) (slot_view slots.one) n ≡ slot_at (slot_of job (job_digest job) p.zero_slot) (slot_of job (job_digest job) p.one_slot) n
   slot_told n = both_told (λ a b. slot_at a b n)
 
--- what holds of the pair that was seen, of the slots that the keeper tells or of two that were there
+-- a property of the pair that was seen, which is the known one or one that was there
 pub saw_pair : (job : Job) (digest : List ℕ) (told : Option Pair) (slots : Slots) (P : Pair → Type 0) (saw : SawSlots job digest told slots) → P saw.pair → Saw told P
 saw_pair job digest told slots P saw holds = record { pair = saw.pair; same = saw.same; holds = holds }
 
--- the slots that were seen are those that are told
+-- the slots that were seen are the known ones
 pub saw_told : (job : Job) (digest : List ℕ) (told : Option Pair) (slots : Slots) → SawSlots job digest told slots → IfTold told (λ p. AreSlots job digest p slots)
 saw_told job digest None slots saw = tt
 saw_told job digest (Some p) slots saw = subst (λ q. AreSlots job digest q slots) saw.same saw.are
 
--- ---- where it saves
+-- ---- the place of the first save
 
 -- a run that saves nothing has no place to save
 pub no_target : (job : Job) (slots : Option Pair) → job.setting.save_every ≡ 0 → IsTarget (saves job.setting) job slots None
 no_target job slots none = subst (λ b. IsTarget b job slots None) (sym (saves_not job none)) tt
 
--- a run that saves has one
+-- a run that saves has a place to save
 pub some_target : (job : Job) (slots : Option Pair) (t : Target) → IsRunJob job → (job.setting.save_every ≡ 0 → ⊥) → IsTargetFor job slots t → IsTarget (saves job.setting) job slots (Some t)
 some_target job slots t run some placed = subst (λ b. IsTarget b job slots (Some t)) (sym (saves_some job run some)) placed
 
--- the place that was seen is the one that the keeper tells
+-- the place that was seen is that of the known slots
 place_by : (job : Job) (told : Option Pair) (slots : Slots) (t : Target) → t.digest ≡ job_digest job → (t.place.slot, t.place.generation) ≡ place_seen slots
     → IfTold told (λ p. AreSlots job t.digest p slots) → IfTold told (λ p. (t.place.slot, t.place.generation) ≡ place_of job p)
 place_by job None slots t is at seen = tt
 place_by job (Some p) slots t is at seen = at ∙ place_told job t.digest p slots is seen
 
--- so it is where the run saves
+-- the run saves at the place that was seen
 pub placed_at : (job : Job) (told : Option Pair) (slots : Slots) (t : Target) → t.digest ≡ job_digest job → t.place.slot < 2 → t.place.generation < 3
     → (t.place.slot, t.place.generation) ≡ place_seen slots → IfTold told (λ p. AreSlots job t.digest p slots) → IsTargetFor job told t
 placed_at job told slots t is slot generation at seen =
     record { digest_is = is; slot_below = slot; generation_below = generation; told = place_by job told slots t is at seen }
 
--- ---- the outcomes with which it starts
+-- ---- the initial outcomes
 
--- a run that resumes starts with what the newest slot that was seen holds
+-- a run that resumes starts with the outcomes of the newest slot that was seen
 pub resumed_opening : (job : Job) (digest : List ℕ) (told : Option Pair) (slots : Slots) (outcomes : List Outcome) → digest ≡ job_digest job → job.setting.resume ≡ true
     → SawSlots job digest told slots → opening_seen job.setting slots ≡ Some outcomes → AreFit job outcomes → IsOpening job told outcomes
 resumed_opening job digest told slots outcomes is resumes saw found fit = record {
@@ -106,21 +106,21 @@ resumed_opening job digest told slots outcomes is resumes saw found fit = record
   fitting = fit_list job outcomes fit.fit;
 }
 
--- what it goes on from, of what the newest slot holds
+-- the outcomes that it resumes from, given those of the newest slot
 pub taken_some : (job : Job) (slots : Slots) (held : List Outcome) → held_seen slots ≡ Some held
     → opening_seen job.setting slots ≡ Some (taken_up job.setting.shift job.setting.walks held)
 taken_some job slots held e = ap (λ (o : Option (List Outcome)). option_map (taken_up job.setting.shift job.setting.walks) o) e
 
--- where nothing can be taken from the slots, no opening is told
+-- if nothing can be taken from the slots, there are no initial outcomes
 pub taken_none : (job : Job) (slots : Slots) → held_seen slots ≡ None → opening_seen job.setting slots ≡ None
 taken_none job slots e = ap (λ (o : Option (List Outcome)). option_map (taken_up job.setting.shift job.setting.walks) o) e
 
--- without its bins an outcome has the same id
+-- an outcome without its histogram has the same id
 same_ids : (outcomes : List Outcome) → map (λ o. o.id) (map bare outcomes) ≡ map (λ o. o.id) outcomes
 same_ids [] = refl
 same_ids (x ∷ xs) = ap (λ (ids : List ℕ). x.id ∷ ids) (same_ids xs)
 
--- without their bins outcomes fit as before
+-- outcomes without their histograms are still plausible
 bare_fit : (job : Job) (outcomes : List Outcome) → AreFit job outcomes → AreFit job (map bare outcomes)
 bare_fit job outcomes fit = record {
   few = omega (arith, fit.few, length-map outcomes bare);
@@ -128,12 +128,12 @@ bare_fit job outcomes fit = record {
   fit = All-map (λ (o : Outcome). IsTrue (fits job o)) bare outcomes (λ k d inside. bare_fits job (get_or outcomes k d) (fit.fit k d inside));
 }
 
--- an id below all others can stand before them
+-- an id below all others may stand before them
 rising_cons : (x : ℕ) (ids : List ℕ) → All (λ y. x < y) ids → AreRising ids → AreRising (x ∷ ids)
 rising_cons x [] above rising = tt
 rising_cons x (y ∷ ids) above rising = (above 0 y (omega arith), rising)
 
--- what stands above each of a list stands above each that is kept of it
+-- a lower bound of a list's ids is one of each kept part
 above_kept : (x : ℕ) (test : Outcome → Bool) (os : List Outcome) → All (λ y. x < y) (map (λ o. o.id) os) → All (λ y. x < y) (map (λ o. o.id) (filter test os))
 above_kept x test [] above = above
 above_kept x test (o ∷ os) above = by (test o) (above_kept x test os (All-tail (λ (y : ℕ). x < y) o.id (map (λ o. o.id) os) above))
@@ -142,7 +142,7 @@ above_kept x test (o ∷ os) above = by (test o) (above_kept x test os (All-tail
     by true rest = All-cons (λ (y : ℕ). x < y) o.id (map (λ o. o.id) (filter test os)) (All-head (λ (y : ℕ). x < y) o.id (map (λ o. o.id) os) above) rest
     by false rest = rest
 
--- of ids that rise, those that are kept rise
+-- a kept part of rising ids rises
 rising_kept : (test : Outcome → Bool) (os : List Outcome) → AreRising (map (λ o. o.id) os) → AreRising (map (λ o. o.id) (filter test os))
 rising_kept test [] rising = tt
 rising_kept test (o ∷ os) rising =
@@ -154,7 +154,7 @@ rising_kept test (o ∷ os) rising =
     by true rest above = rising_cons o.id (map (λ o. o.id) (filter test os)) above rest
     by false rest above = rest
 
--- some of what fits still fits
+-- a kept part of plausible outcomes is plausible
 kept_fit : (job : Job) (test : Outcome → Bool) (outcomes : List Outcome) → AreFit job outcomes → AreFit job (filter test outcomes)
 kept_fit job test outcomes fit = record {
   few = omega (arith, fit.few, length-filter test outcomes, count_by-le-length test outcomes);
@@ -162,7 +162,7 @@ kept_fit job test outcomes fit = record {
   fit = All-filter test (λ o. IsTrue (fits job o)) outcomes fit.fit;
 }
 
--- what it goes on from fits
+-- the outcomes that a run resumes from are plausible
 pub taken_fit : (job : Job) (outcomes : List Outcome) → AreFit job outcomes → AreFit job (taken_up job.setting.shift job.setting.walks outcomes)
 taken_fit job outcomes fit = by job.setting.shift
   where
@@ -170,7 +170,7 @@ taken_fit job outcomes fit = by job.setting.shift
     by true = kept_fit job (λ o. not (nat_lt o.id job.setting.walks && is_bare o)) outcomes fit
     by false = bare_fit job outcomes fit
 
--- so it starts with what it goes on from of the outcomes that were held
+-- the run starts with the part of the newest slot's outcomes that it resumes from
 pub opens_taken : (job : Job) → IsRunJob job → (digest : List ℕ) (k : Kept) (slots : Slots) (held outcomes : List Outcome) (target : Option Target)
     → digest ≡ job_digest job → job.setting.resume ≡ true → SawSlots job digest k.slots slots → held_seen slots ≡ Some held → AreFit job held
     → outcomes ≡ taken_up job.setting.shift job.setting.walks held → (o : Opening) → o.outcomes.items ≡ outcomes → o.target ≡ target
@@ -189,7 +189,7 @@ opens_taken job run digest k slots held outcomes target is resumes told seen fit
     here : o.outcomes.items ≡ taken_up job.setting.shift job.setting.walks held
     here = items ∙ taken
 
--- the outcomes of a checkpoint that was read fit the job
+-- the outcomes of a decoded checkpoint are plausible for the job
 opened_fit : (job : Job) (wanted : List ℕ) (s : Looked) (c : Checkpoint) → HasFitOutcomes job s → opened s wanted ≡ Ok (Some c) → AreFit job c.outcomes.items
 opened_fit job wanted looked.Absent c fit e = cc
 opened_fit job wanted (looked.Broken fault) c fit e = cc
@@ -197,7 +197,7 @@ opened_fit job wanted (looked.Other found generation) c fit e = cc
 opened_fit job wanted (looked.Ours checkpoint) c fit e =
     let same : checkpoint ≡ c = cc in subst (λ (k : Checkpoint). AreFit job k.outcomes.items) same fit
 
--- the checkpoint of the newest slot is one of a slot that was looked at
+-- the checkpoint of the newest slot is that of a slot that was looked at
 pub newest_fit : (job : Job) (slots : Slots) (wanted : List ℕ) (c : Checkpoint) → HasFitOutcomes job slots.zero → HasFitOutcomes job slots.one
     → newest_answer slots wanted ≡ Ok (Some c) → AreFit job c.outcomes.items
 newest_fit job slots wanted c zero_fit one_fit e = by (newest_seen slots) e
@@ -211,16 +211,16 @@ newest_fit job slots wanted c zero_fit one_fit e = by (newest_seen slots) e
     by (Some zero) h = opened_fit job wanted slots.zero c zero_fit h
     by (Some (suc n)) h = opened_fit job wanted slots.one c one_fit h
 
--- ---- why it does not start
+-- ---- the reason why it does not start
 
--- one slot alone is never called damaged
+-- a single slot is never reported as damaged
 opened_damaged : (wanted : List ℕ) (s : Looked) (seen : Slots) → opened s wanted ≡ Err (Damaged seen) → ⊥
 opened_damaged wanted looked.Absent seen e = cc
 opened_damaged wanted (looked.Broken fault) seen e = cc
 opened_damaged wanted (looked.Other found generation) seen e = cc
 opened_damaged wanted (looked.Ours checkpoint) seen e = cc
 
--- slots that are called damaged are those that were seen, and have no newest
+-- slots reported as damaged are those that were seen, and none is the newest
 damaged_seen : (slots : Slots) (wanted : List ℕ) (seen : Slots) → newest_answer slots wanted ≡ Err (Damaged seen) → RefusesSlots slots wanted (ended.Damaged seen)
 damaged_seen slots wanted seen e = by (newest_seen slots) refl e
   where
@@ -233,7 +233,7 @@ damaged_seen slots wanted seen e = by (newest_seen slots) refl e
     by (Some zero) is h = absurd (opened_damaged wanted slots.zero seen h)
     by (Some (suc n)) is h = absurd (opened_damaged wanted slots.one seen h)
 
--- the slot is another job's
+-- the slot belongs to another job
 record IsOtherSlot (s : Looked) (found : List ℕ) : Type 0 where
   pub generation : ℕ
   pub is : slot_view s ≡ other found generation
@@ -248,7 +248,7 @@ opened_other wanted (looked.Other had generation) found digest e =
     (sym same, record { generation = generation; is = ap (λ d. other d generation) have })
 opened_other wanted (looked.Ours checkpoint) found digest e = cc
 
--- a newest slot of another job was seen as that
+-- a newest slot of another job was seen as such
 other_seen : (slots : Slots) (wanted found digest : List ℕ) → newest_answer slots wanted ≡ Err (OtherJob found digest) → RefusesSlots slots wanted (ended.OtherJob found digest)
 other_seen slots wanted found digest e = by (newest_seen slots) refl e
   where
@@ -265,13 +265,13 @@ other_seen slots wanted found digest e = by (newest_seen slots) refl e
         let o = opened_other wanted slots.one found digest h in
         (o.0, record { generation = o.1.generation; number = suc n; newest_is = is; other_is = o.1.is })
 
--- why a run does not resume, by what was looked at
+-- the reason why a run does not resume, by the slots that were looked at
 pub refused_seen : (slots : Slots) (wanted : List ℕ) (f : StoreFault) → newest_answer slots wanted ≡ Err f → RefusesSlots slots wanted (refused_by f)
 refused_seen slots wanted (Damaged seen) e = damaged_seen slots wanted seen e
 refused_seen slots wanted (OtherJob found digest) e = other_seen slots wanted found digest e
 
--- ---- the keeper as it was
+-- ---- the keeper is unchanged
 
--- after a look that changed nothing, the run starts or ends as from the keeper as it was
+-- after a look that changed nothing, the run starts or ends as from the keeper before
 pub opens_later : (job : Job) (k l : Kept) (result : Result Opening Ended) → l ≡ k → Opens job k k result → Opens job k l result
 opens_later job k l result same o = subst (λ (x : Kept). Opens job k x result) (sym same) o

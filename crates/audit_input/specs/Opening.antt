@@ -1,4 +1,4 @@
--- With what a run starts.
+-- The start of a run: its initial outcomes and the place of its first save.
 use Rattle.std.specs.Prelude.{◌≡◌, ℕ, ◌<◌, Bool, true, false, List, ⊤, Option, Some, None, Result, Ok, Err}
 use Rattle.audit_model.specs.Pair.{Pair}
 use Rattle.audit_model.specs.Job.{Job}
@@ -19,46 +19,46 @@ use Rattle.audit_laws.specs.Runs.{IsRunJob}
 use Rattle.audit_model.specs.State.{Kept, Stream}
 use Rattle.audit_model.specs.Told.{IfTold}
 
--- the place where the job saves, by what the keeper tells
+-- the place of the job's first save, by the known slots
 pub record IsTargetFor (job : Job) (slots : Option Pair) (t : Target) : Type 0 where
   pub digest_is : t.digest ≡ job_digest job
   pub slot_below : t.place.slot < 2
   pub generation_below : t.place.generation < 3
   pub told : IfTold slots (λ p. (t.place.slot, t.place.generation) ≡ place_of job p)
 
--- there is a place exactly where the run saves
+-- there is a place exactly if the run saves
 abbrev pub IsTarget : Bool → Job → Option Pair → Option Target → Type 0
 IsTarget false job slots None = ⊤
 IsTarget false job slots (Some t) = ⊥
 IsTarget true job slots None = ⊥
 IsTarget true job slots (Some t) = IsTargetFor job slots t
 
--- of a run, the outcomes with which it starts, each of which could be its trajectory's, and where it saves
+-- the initial outcomes of a run, each plausible for the job, and the place of its first save
 pub record IsOpened (job : Job) (slots : Option Pair) (o : Opening) : Type 0 where
   pub run : IsRunJob job
   pub opened : IsOpening job slots o.outcomes.items
   pub fit : AreFit job o.outcomes.items
   pub target : IsTarget (saves job.setting) job slots o.target
 
--- why a run does not resume
+-- the reason why a run does not resume
 abbrev pub refused_by : StoreFault → Ended
 refused_by (fault.Damaged slots) = ended.Damaged slots
 refused_by (fault.OtherJob found wanted) = ended.OtherJob found wanted
 
--- the newest of the slots that were looked at is another job's, with this digest
+-- the newest of the slots that were looked at belongs to another job, with this digest
 pub record IsOtherSeen (slots : Slots) (digest : List ℕ) : Type 0 where
   pub generation : ℕ
   pub number : ℕ
   pub newest_is : newest_seen slots ≡ Some number
   pub other_is : slot_at (slot_view slots.zero) (slot_view slots.one) number ≡ other digest generation
 
--- why a run does not resume from the slots that were looked at
+-- the reason why a run does not resume from the slots that were looked at
 abbrev pub RefusesSlots : Slots → List ℕ → Ended → Type 0
 RefusesSlots slots wanted (ended.Damaged seen) = (seen ≡ slots) × (newest_seen slots ≡ None)
 RefusesSlots slots wanted (ended.OtherJob found digest) = (digest ≡ wanted) × IsOtherSeen slots found
 RefusesSlots slots wanted why = ⊥
 
--- the keeper is as before, and the run may start
+-- the keeper is unchanged, and the run may start
 pub record OpensWith (job : Job) (before after : Kept) (o : Opening) : Type 0 where
   pub same : after ≡ before
   pub opened : IsOpened job before.slots o

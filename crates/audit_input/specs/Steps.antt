@@ -1,4 +1,4 @@
--- From the words and the source to a job: what its steps say to each other.
+-- From the arguments and the source to a job: the results that the steps pass on.
 use Rattle.std.specs.Prelude.{◌≡◌, ℕ, ◌<◌, ◌≤◌, true, false, List, [], length, ⊤, Result, Ok, Err}
 use Rattle.std.specs.Io.KnownBytes.{IsAtEnd}
 use Rattle.audit_model.specs.Job.{Job}
@@ -20,14 +20,14 @@ use Rattle.audit_model.specs.State.{Kept, Stream}
 use Rattle.audit_model.specs.Told.{IfTold}
 use Rattle.audit_statement.specs.World.{world}
 
--- all that was left, and nothing is left now
+-- all remaining bytes were read
 pub record ReadsAll (before after : Stream) (bytes : List ℕ) : Type 0 where
   pub given : IfTold before.bytes (λ left. left ≡ bytes)
   pub at_end : IsAtEnd after.bytes
   pub few : length bytes ≤ most_bytes
   pub faults : after.faults ≡ before.faults
 
--- there was more than the limit, of which one byte more than the limit was taken
+-- there were more bytes than the limit, and one more than the limit was read
 pub record ReadsTooMany (before after : Stream) : Type 0 where
   pub bytes : List ℕ
   pub given : IfTold before.bytes (λ left. left ≡ bytes)
@@ -41,12 +41,12 @@ ReadsSource before after (Err read.Failed) = Rose before.faults after.faults
 ReadsSource before after (Err read.TooMany) = ReadsTooMany before after
 ReadsSource before after (Err read.Memory) = after.faults ≡ before.faults
 
--- the job was prepared, or the call ends, whatever the rest of the outside
+-- the job was prepared, or the call ends, whatever the rest of the state
 abbrev pub Prepares : List (List ℕ) → Stream → Stream → Result Job Ended → Type 0
 Prepares words before after (Ok job) = IsPrepared words before after job
 Prepares words before after (Err why) = (out : Stream) (keeper : Kept) → RunsTo words (world before out keeper) (world after out keeper) why
 
--- why there is no job of these bytes
+-- the reason why these bytes have no job
 abbrev pub JudgedSo : Setting → List ℕ → Ended → Type 0
 JudgedSo setting bytes ended.NoMemory = ⊤
 JudgedSo setting bytes (ended.BadGraph f columns) = (judged setting bytes ≡ Err (bad_graph f)) × (columns ≡ setting.columns)
@@ -64,7 +64,7 @@ abbrev pub Judges : Setting → List ℕ → Result Job Ended → Type 0
 Judges setting bytes (Ok job) = IsJudged setting bytes job
 Judges setting bytes (Err why) = JudgedSo setting bytes why
 
--- a grid of a size that there is, with its own columns, no regions and no origin
+-- a grid of a possible size, with its own columns, no regions and no origin
 pub record IsMaking (setting : Setting) : Type 0 where
   pub size : (1 ≤ setting.size) × (setting.size ≤ 30)
   pub columns : setting.columns ≡ grid_columns

@@ -1,7 +1,8 @@
-//! From the words and the source to a job, and from the slots to with what its run starts.
+//! From the arguments and the source to a job, and from the slots to the initial outcomes of its run.
 //!
-//! `reading` reads the source to its end, and `prepare` makes of it and of the words a job, or says why there is none. `opening` looks at the slots of a run
-//! that saves or resumes: with which outcomes it starts, and where it saves next.
+//! `reading` reads the source to its end, and `prepare` makes a job from its bytes and the arguments, or gives the
+//! reason why there is none. `opening` looks at the slots of a run that saves or resumes, and returns the initial
+//! outcomes and the place of the first save.
 #![tactic(auto)]
 
 pub mod opening;

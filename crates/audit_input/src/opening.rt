@@ -1,4 +1,4 @@
-//! With what a run starts.
+//! The start of a run: its initial outcomes and the place of its first save.
 
 ghost use Rattle.std.specs.Prelude.{◌≡◌, ◌∷◌, [], ◌++◌, map, true, IfErr, IfOk, IsTrue, MatchResult, None, OnOk, Option, Some};
 ghost use Rattle.audit_model.specs.State.{Kept};
@@ -27,21 +27,21 @@ use plan_core::job::Job;
 use report::ended::Ended;
 use std::alloc::Global;
 
-/// Where a run saves, and the digest of its job.
+/// The place of a run's first save, and the digest of its job.
 #[derive(Clone, Copy)]
 pub struct Target {
     pub digest: [u8; 32],
     pub place: Place,
 }
 
-/// With what a run starts: the outcomes that are kept of earlier runs and, where it saves, where to.
+/// The initial outcomes of a run, taken from earlier runs, and the place of its first save if it saves.
 #[derive(Drop)]
 pub struct Opening {
     pub outcomes: OutcomeList,
     pub target: Option<Target>,
 }
 
-// Where the run saves, by what the slots are.
+// Returns the place of the first save, by the slots.
 fn target_of(job: &Job, slots: &Slots, digest: [u8; 32]) -> Option<Target>
     requires run { IsRunJob job.now }
     requires digest { digest ≡ definition.job_digest job.now }
@@ -56,7 +56,7 @@ fn target_of(job: &Job, slots: &Slots, digest: [u8; 32]) -> Option<Target>
     })
 }
 
-// The outcomes of the newest slot, or why the run cannot resume.
+// Returns the outcomes of the newest slot, or the reason why the run cannot resume.
 fn resume(alloc: Global, slots: Slots, digest: &[u8; 32]) -> Result<OutcomeList, Ended>
     ensures held { MatchResult result (λ l. held_seen slots ≡ Some l.items) (λ _. held_seen slots ≡ None) }
     ensures fit { (job : model.Job) → HasFitOutcomes job slots.zero → HasFitOutcomes job slots.one → IfOk result (λ l. AreFit job l.items) }
@@ -69,7 +69,7 @@ fn resume(alloc: Global, slots: Slots, digest: &[u8; 32]) -> Result<OutcomeList,
     }
 }
 
-// The outcomes without their bins. The only error is want of memory.
+// Copies the outcomes without their histograms. The only error is out of memory.
 fn without_bins(alloc: Global, outcomes: &[Outcome]) -> Result<OutcomeList, Memory>
     ensures { IfOk result (λ l. l.items ≡ map bare outcomes.now) }
 {
@@ -83,14 +83,14 @@ fn without_bins(alloc: Global, outcomes: &[Outcome]) -> Result<OutcomeList, Memo
     Ok(bare)
 }
 
-// Whether all bins are 0.
+// Returns true if the histogram is all 0.
 fn is_bare(outcome: &Outcome) -> bool
     ensures { result ≡ is_bare outcome.now }
 {
     outcome.bins.iter().all(|bin| *bin == 0)
 }
 
-// Appends the outcome, unless it is a walk's and has no bins.
+// Appends the outcome, unless it is a walk's and has no histogram.
 fn take_in(kept: &mut OutcomeList, walks: u32, outcome: &Outcome) -> Result<(), Memory>
     ensures { OnOk result (kept.new.items ≡ kept.old.items ++ taken_up true walks (outcome.now ∷ [])) }
 {
@@ -100,7 +100,7 @@ fn take_in(kept: &mut OutcomeList, walks: u32, outcome: &Outcome) -> Result<(), 
     kept.push(*outcome)
 }
 
-// The outcomes but those of walks that have no bins. The only error is want of memory.
+// Copies the outcomes, without those of walks that have no histogram. The only error is out of memory.
 fn with_bins(alloc: Global, walks: u32, outcomes: &[Outcome]) -> Result<OutcomeList, Memory>
     ensures { IfOk result (λ l. l.items ≡ taken_up true walks outcomes.now) }
 {
@@ -111,8 +111,8 @@ fn with_bins(alloc: Global, walks: u32, outcomes: &[Outcome]) -> Result<OutcomeL
     Ok(kept)
 }
 
-// The outcomes that the job goes on from: those that have the bins for which it asks, and where it asks for none all, without theirs. The
-// only error is want of memory.
+// Returns the outcomes that the job resumes from. A job with a histogram drops the walks without one, and a job without
+// drops all histograms. The only error is out of memory.
 fn take_up(alloc: Global, job: &Job, outcomes: &[Outcome]) -> Result<OutcomeList, Memory>
     ensures { IfOk result (λ l. l.items ≡ taken_up job.now.setting.shift job.now.setting.walks outcomes.now) }
 {
@@ -124,7 +124,7 @@ fn take_up(alloc: Global, job: &Job, outcomes: &[Outcome]) -> Result<OutcomeList
     }
 }
 
-// Why the run does not resume.
+// Returns the reason why the run does not resume.
 fn refusal(fault: StoreFault) -> Ended
     ensures { result ≡ refused_by fault }
 {
@@ -134,7 +134,7 @@ fn refusal(fault: StoreFault) -> Ended
     }
 }
 
-// With what a run starts that has looked at the slots.
+// Returns the start of a run that has looked at the slots.
 fn open_found(alloc: Global, job: &Job, slots: Slots, digest: [u8; 32]) -> Result<Opening, Ended>
     requires run { IsRunJob job.now }
     requires digest { digest ≡ definition.job_digest job.now }
@@ -157,7 +157,7 @@ fn open_found(alloc: Global, job: &Job, slots: Slots, digest: [u8; 32]) -> Resul
     }
 }
 
-// Looks at the slots. None is changed.
+// Looks at the slots and returns the start of the run. Changes no slot.
 fn look_and_open<C: Keeper>(alloc: Global, job: &Job, keeper: &mut C) -> Result<Opening, Ended>
     requires run { IsRunJob job.now }
     requires loading { IsTrue (loads job.now.setting) }
@@ -173,8 +173,8 @@ fn look_and_open<C: Keeper>(alloc: Global, job: &Job, keeper: &mut C) -> Result<
     }
 }
 
-/// With what the run starts: nothing, unless it resumes; else the outcomes of the newest slot that it goes on from. The slots are looked at only where the run
-/// saves or resumes, and none is changed.
+/// Returns the start of the run: without outcomes unless it resumes, else with those of the newest slot that it resumes
+/// from. The slots are looked at only if the run saves or resumes, and none is changed.
 pub fn open<C: Keeper>(alloc: Global, job: &Job, keeper: &mut C) -> Result<Opening, Ended>
     requires { IsRunJob job.now }
     ensures { Opens job.now (C.state keeper.old) (C.state keeper.new) result }

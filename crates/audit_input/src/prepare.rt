@@ -1,4 +1,4 @@
-//! From the words and the source to a job.
+//! From the arguments and the source to a job.
 
 ghost use Rattle.std.specs.Prelude.{◌≡◌, ◌≤◌, ◌⊎◌, IfOk, IsTrue, MatchResult, Ok, Err, length};
 ghost use Rattle.audit_model.specs.declared.fault.RegionFault.TheVariants as region;
@@ -36,7 +36,7 @@ use plan_core::job::Job;
 use report::ended::Ended;
 use std::alloc::Global;
 
-/// How refused words end a call, and want of memory for them.
+/// Returns the ending of refused arguments, or of out of memory.
 pub fn word_end(fault: WordFault) -> Ended
     ensures { result ≡ word_ended fault }
 {
@@ -73,7 +73,7 @@ fn plan_end(fault: PlanFault) -> Ended
     }
 }
 
-// The regions of a text that is a graph, and none where no column is named.
+// Returns the regions of a graph's text, or none if no column is named.
 fn regions_of(alloc: Global, bytes: &[u8], column: &Text) -> Result<UnitList, RegionFault>
     requires graph { IsGraphText bytes.now }
     ensures read { MatchResult result (λ regions. regions_by column.now bytes.now ≡ Ok regions)
@@ -86,7 +86,7 @@ fn regions_of(alloc: Global, bytes: &[u8], column: &Text) -> Result<UnitList, Re
     read_regions(alloc, bytes, column)
 }
 
-// The job with these bytes as its origin, where its setting asks for it.
+// Adds these bytes as the job's origin, if its setting requests it.
 fn with_source(job: Job, bytes: &[u8]) -> Job
     ensures job { result ≡ definition.with_origin (definition.origin_of job.setting bytes.now) job }
     ensures sound { IsJob result }
@@ -95,7 +95,7 @@ fn with_source(job: Job, bytes: &[u8]) -> Job
     job.with_origin(origin)
 }
 
-// The job of what was read of these bytes, or why there is none.
+// Makes the job of a parsed graph, or returns the reason why there is none.
 fn judge_read(
     alloc: Global,
     setting: Setting,
@@ -118,7 +118,7 @@ fn judge_read(
     }
 }
 
-// The job of these bytes, or why there is none.
+// Makes the job of these bytes, or returns the reason why there is none.
 fn judge(alloc: Global, setting: Setting, bytes: &[u8]) -> Result<Job, Ended>
     requires few { length bytes.now ≤ most_bytes }
     requires within { IsSetting setting }
@@ -130,7 +130,7 @@ fn judge(alloc: Global, setting: Setting, bytes: &[u8]) -> Result<Job, Ended>
     }
 }
 
-// The job of what is read of the grid, which has no regions and no origin, or why there is none.
+// Makes the job of a parsed grid, which has no regions and no origin, or returns the reason why there is none.
 fn judge_made(alloc: Global, setting: Setting, parsed: ReadParsed) -> Result<Job, Ended>
     requires made { IsMaking setting }
     requires setting { IsSetting setting }
@@ -139,7 +139,7 @@ fn judge_made(alloc: Global, setting: Setting, parsed: ReadParsed) -> Result<Job
     requires group { IsGroup parsed.graph.units parsed.group }
     ensures { Judges setting (grid setting.size setting.key) result }
 {
-    // A law, called for what its contract says: the text of each grid is no longer than a graph's may be.
+    // Called for its contract: the text of each grid is within the limit on a graph's bytes.
     grids_are_short();
     match Job::new(alloc, parsed, setting) {
         Ok(job) => Ok(job),
@@ -147,8 +147,8 @@ fn judge_made(alloc: Global, setting: Setting, parsed: ReadParsed) -> Result<Job
     }
 }
 
-// The job of the grid that the setting asks for, or why there is none. No source is read, and the grid's text is not made:
-// what is read of it is known.
+// Makes the job of the grid that the setting requests, or returns the reason why there is none. Reads no source and
+// makes no text of the grid, since the result of parsing the text is known.
 fn prepare_grid(alloc: Global, setting: Setting) -> Result<Job, Ended>
     requires makes { setting.command ≡ command.Make }
     requires within { IsSetting setting }
@@ -161,7 +161,7 @@ fn prepare_grid(alloc: Global, setting: Setting) -> Result<Job, Ended>
     }
 }
 
-// The job of what the source has, or why there is none.
+// Makes the job of the source's bytes, or returns the reason why there is none.
 fn prepare_read<S: Source>(alloc: Global, setting: Setting, source: &mut S) -> Result<Job, Ended>
     requires reads { IsTrue (is_reading setting.command) }
     requires within { IsSetting setting }
@@ -175,7 +175,8 @@ fn prepare_read<S: Source>(alloc: Global, setting: Setting, source: &mut S) -> R
     }
 }
 
-/// The job that the words and the source give, or why there is none. The graph of `make` is a grid, and the source is left alone.
+/// Makes the job of the arguments and the source, or returns the reason why there is none. The graph of `make` is a
+/// grid, and the source is not read.
 pub fn prepare<S: Source>(alloc: Global, words: &[String], source: &mut S) -> Result<Job, Ended>
     ensures { Prepares (spoken words.now) (S.state source.old) (S.state source.new) result }
 {

@@ -1,4 +1,4 @@
-//! The source, read to its end.
+//! Reading the source to its end.
 
 ghost use Rattle.std.specs.Prelude.{◌≡◌};
 ghost use Rattle.audit_input.specs.declared.reading.ReadEnd.TheVariants as ends;
@@ -9,13 +9,13 @@ use audit_model::buffers::Bytes;
 use audit_model::memory::Memory;
 use std::alloc::Global;
 
-/// The most bytes of a graph.
+/// The largest number of bytes of a graph.
 pub const MOST_BYTES: usize = 67_108_864;
 
-// The most bytes of one read.
+// The largest number of bytes of one read.
 const TURN: usize = 4096;
 
-/// Why the source was not read to its end.
+/// The reason why the source was not read to its end.
 #[derive(Clone, Copy)]
 pub enum ReadEnd {
     Failed,
@@ -31,7 +31,7 @@ impl From<Memory> for ReadEnd {
     }
 }
 
-/// All bytes of the source, of which it takes at most one more than the limit.
+/// Reads all bytes of the source, but at most one more than the limit.
 pub fn read_source<S: Source>(alloc: Global, source: &mut S) -> Result<Bytes, ReadEnd>
     ensures { ReadsSource (S.state source.old) (S.state source.new) result }
 {
