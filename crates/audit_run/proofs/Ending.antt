@@ -1,4 +1,4 @@
--- From how the steps ended to how the call ends.
+-- From the result of the steps to the ending of the call.
 use Rattle.std.proofs.Common.{◌≡◌, ℕ, List, Option, Some, None, sym, subst}
 use Rattle.audit_model.specs.declared.setting.Columns.{Columns}
 use Rattle.audit_statement.specs.Note.{Ending}
@@ -10,12 +10,12 @@ use Rattle.audit_laws.specs.Calls.{RunsTo}
 use Rattle.audit_model.specs.State.{Stream}
 use Rattle.audit_statement.specs.World.{World}
 
--- a line told with the columns that the body kept is the line of the words' columns
+-- the diagnostic with the columns that the code kept is that of the columns of the arguments
 tells_same : (a b : Columns) (n m : Stream) (reason : Option Ending) → line_of a reason ≡ line_of b reason → TellsWhy b n m reason → TellsWhy a n m reason
 tells_same a b n m None e t = t
 tells_same a b n m (Some ending) e t = subst (λ (line : List ℕ). AddsLine n m line) (sym e) t
 
--- a call that ran to an end, and told it, ends so
+-- a call that ran to an end and wrote its diagnostic has a correct ending
 pub ends_for : (words : List (List ℕ)) (before after : World) (n m : Stream) (status : ℕ) (why : Ended)
     → RunsTo words before after why → status ≡ status_of (ending_of why) → TellsWhy (columns_kept why) n m (ending_of why)
     → EndsFor words before after n m status

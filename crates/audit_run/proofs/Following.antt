@@ -1,4 +1,4 @@
--- From the reason why a call on several plans ended to what follows by statuses.
+-- From the reason why a call on several plans ended to the claims of its status.
 use Rattle.std.proofs.Common.{◌≡◌, ◌∙◌, ℕ, ◌<◌, List, Option, Some, None, Result, Ok, Err, refl, sym, subst, ap, inl, inr, arith, true, false}
 use Rattle.std.specs.Prelude.{IsErr}
 use Rattle.std.specs.Io.KnownBytes.{Appends}
@@ -17,18 +17,18 @@ use Rattle.audit_model.specs.Told.{IfTold}
 use Rattle.audit_statement.specs.World.{World}
 use Rattle.audit_laws.proofs.Telling.{known_at, same_setting}
 
--- what is accepted is no error
+-- an accepted input is no error
 is_no_error : {A E : Type 0} (r : Result A E) (x : A) → r ≡ Ok x → IsErr r → ⊥
 is_no_error (Ok y) x e bad = cc
 is_no_error (Err y) x e bad = cc
 
--- what is refused is one
+-- a refused input is an error
 is_error : {A E : Type 0} (r : Result A E) (x : E) → r ≡ Err x → IsErr r
 is_error (Ok y) x e = cc
 is_error (Err y) x e = refl
 
 module _ (words : List (List ℕ)) (before after : World) where
-  -- what is told is what was read
+  -- the known bytes are those that were read
   told_judged : (setting : Setting) (bytes : List ℕ) → AreToldPlans words before setting bytes → (other : Setting) (read : List ℕ) → setting_of words ≡ Ok other
       → IfTold before.source.bytes (λ input. input ≡ read) → plans_judged setting bytes ≡ plans_judged other read
   told_judged setting bytes told other read accepted given =
@@ -43,7 +43,7 @@ module _ (words : List (List ℕ)) (before after : World) where
   same_faults : (x y : ℕ) → y ≡ x → x < y → ⊥
   same_faults x y e l = absurd (omega (arith, e, l))
 
-  -- something was refused
+  -- the cause of a refusal
   refused_causes : (ending : Ending) → ArePlansRefused words before.source.bytes ending
       → PlansLeave before after (record { read = true; read_failed = false; wrote = false; write_failed = false }) → PlansCauses words before after 2
   refused_causes ending r left = record {
@@ -131,7 +131,7 @@ module _ (words : List (List ℕ)) (before after : World) where
     kept = left.keeper;
   }
 
-  -- the told jobs are those that were accepted
+  -- the known jobs are those that were accepted
   same_jobs : (s : Setting) (jobs : Jobs) (read : List ℕ) → setting_of words ≡ Ok s → IfTold before.source.bytes (λ input. input ≡ read) → plans_judged s read ≡ Ok jobs
       → (setting : Setting) (others : Jobs) → AreTheJobs words before setting others → (s ≡ setting) × (jobs ≡ others)
   same_jobs s jobs read accepted given judged setting others are =
@@ -213,7 +213,7 @@ module _ (words : List (List ℕ)) (before after : World) where
   causes_for (Some (other_job found wanted)) c left = absurd c
   causes_for (Some save_fault) c left = absurd c
 
--- what ends as it is to keeps its promise
+-- a call with a correct ending meets its contract
 pub keeps_promise : (words : List (List ℕ)) (before after : World) (n m : Stream) (status : ℕ) → PlansEnd words before after n m status → KeepsPlansPromise words before after n m status
 keeps_promise words before after n m status e = record {
   causes = subst (PlansCauses words before after) (sym e.status_is) (causes_for words before after e.reason e.cause e.untouched);

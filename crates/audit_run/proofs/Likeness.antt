@@ -1,4 +1,4 @@
--- Plans of one graph and one setting are alike in all that their judges are made of.
+-- Plans of one graph and one setting agree in everything that their constraints are made of.
 use Rattle.std.proofs.Common.{◌≡◌, ◌∙◌, ℕ, ◌<◌, List, length, sym, subst}
 use Rattle.std.specs.List.{All, slice_index_or}
 use Rattle.audit_model.specs.JobOf.{IsJob}
@@ -12,11 +12,11 @@ pub record IsLike (first n : Named) : Type 0 where
   pub set : n.job.setting ≡ first.job.setting
   pub regioned : n.job.regions ≡ first.job.regions
 
--- what holds of each holds of the first
+-- a property of each plan holds for the first
 pub of_first : (P : Named → Type 0) (named : List Named) (first : Named) → first ≡ slice_index_or named 0 first → 0 < length named → All P named → P first
 of_first P named first is some all = subst P (sym is) (all 0 first some)
 
--- each is like the first
+-- each plan agrees with the first
 pub all_like : (named : List Named) (first : Named) → first ≡ slice_index_or named 0 first → MayRunTogether named → All (IsLike first) named
 all_like named first is alike = λ k d inside.
     let here = alike.shared.each k d inside in

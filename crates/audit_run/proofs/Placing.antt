@@ -1,4 +1,4 @@
--- Whether a run saves, by what it starts with.
+-- The saves of a run, by its start.
 use Rattle.std.proofs.Common.{◌≡◌, ◌≤◌, List, [], Bool, true, false, Option, Some, None, refl, subst}
 use Rattle.audit_model.specs.Pair.{Pair}
 use Rattle.audit_model.specs.Job.{Job}
@@ -13,23 +13,23 @@ use Rattle.audit_walks.specs.Ready.{IsStartOf}
 use Rattle.audit_laws.specs.Calls.{Finishes}
 use Rattle.audit_model.specs.State.{Kept, Stream}
 
--- where there is no place, the run saves nothing
+-- without a place to save, the run saves nothing
 pub no_target_told : (b : Bool) (job : Job) (slots : Option Pair) (o : Option Target) → o ≡ None → IsTarget b job slots o → b ≡ false
 no_target_told false job slots o e is = refl
 no_target_told true job slots None e is = absurd is
 no_target_told true job slots (Some t) e is = cc
 
--- where there is a place, the run saves there
+-- with a place to save, the run saves there
 pub target_told : (b : Bool) (job : Job) (slots : Option Pair) (o : Option Target) (t : Target) → o ≡ Some t → IsTarget b job slots o → (b ≡ true) × IsTargetFor job slots t
 target_told b job slots None t e is = cc
 target_told false job slots (Some x) t e is = absurd is
 target_told true job slots (Some x) t e is = let same : x ≡ t = cc in (refl, subst (λ (y : Target). IsTargetFor job slots y) same is)
 
--- a run from the keeper as it was goes on from the keeper after a look that changed nothing
+-- a run from the keeper before a look is one from the keeper after it, if the look changed nothing
 pub goes_on : (job : Job) (out later : Stream) (k l m : Kept) (why : Ended) → l ≡ k → Finishes job out later l m why → Finishes job out later k m why
 goes_on job out later k l m why same f = subst (λ (x : Kept). Finishes job out later x m why) same f
 
--- a run whose tests stop early does not resume, so it starts with nothing
+-- a run whose tests stop early does not resume, so it starts without outcomes
 opens_with_none : (job : Job) → IsRunJob job → 1 ≤ job.setting.stop → (slots : Option Pair) (outcomes : List Outcome) → IsOpening job slots outcomes → outcomes ≡ []
 opens_with_none job run early slots outcomes opened =
     none_of outcomes (subst (λ b. opening_from b job opened.seen.pair ≡ Some outcomes) (run.alone early).fresh opened.seen.holds)
@@ -37,6 +37,6 @@ opens_with_none job run early slots outcomes opened =
     none_of : (os : List Outcome) → ◌≡◌ {A = Option (List Outcome)} (Some []) (Some os) → os ≡ []
     none_of os e = cc
 
--- what a run is opened with is a start of it
+-- the initial outcomes that were found are valid ones
 pub starts_so : (job : Job) (slots : Option Pair) (o : Opening) → IsOpened job slots o → IsStartOf job o.outcomes.items
 starts_so job slots o is = record { run = is.run; fit = is.fit; fresh = λ early. opens_with_none job is.run early slots o.outcomes.items is.opened }

@@ -1,4 +1,4 @@
--- From what the words and the source gave to how a call on several plans goes on.
+-- From the arguments and the source to the next step of a call on several plans.
 use Rattle.std.proofs.Common.{◌≡◌, ◌∙◌, ℕ, ◌<◌, ◌≤◌, true, false, List, length, Option, Some, None, Result, Ok, Err, refl, sym, subst, ap, inl, inr}
 use Rattle.std.specs.Prelude.{◌⊎◌, MatchResult, Vec}
 use Rattle.std.specs.Io.KnownBytes.{IsAtEnd}
@@ -32,14 +32,14 @@ use Rattle.audit_run.specs.Stages.{AreReadyFor, ArePlansReady, IsRefusedSo, Plan
 use Rattle.audit_saving.specs.Plans.{ReportsPlans}
 use Rattle.audit_run.proofs.Visiting.{visit_legally}
 
--- ---- what is judged of bytes
+-- ---- the jobs of bytes
 
--- few enough bytes are judged by what their reading gives
+-- bytes within the limit give the result of their reading
 judged_few : (setting : Setting) (bytes : List ℕ) (r : Result Jobs PlansFault) → length bytes ≤ most_bytes → jobs_reading setting bytes ≡ r → plans_judged setting bytes ≡ from_jobs setting r
 unfolding plans_judged
 judged_few setting bytes r few e = rw (le-ltb most_bytes (length bytes) few, e) refl
 
--- too many are refused
+-- too many bytes are refused
 judged_many : (setting : Setting) (bytes : List ℕ) → most_bytes < length bytes → plans_judged setting bytes ≡ Err too_many_bytes
 unfolding plans_judged
 judged_many setting bytes many = rw (lt-ltb most_bytes (length bytes) many) refl
@@ -71,7 +71,7 @@ module _ (setting : Setting) (before after : Stream) (bytes : List ℕ) (given :
   jobs_refused (fault.Other name f) (inl e) = cc e
   jobs_refused (fault.Other name f) (inr e) = refused_so (fault.Other name f) (bad_plan_named name f) refl e
 
--- what was not read to its end is refused so
+-- a source that was not read to its end is refused with that reason
 pub read_refused : (setting : Setting) (before after : Stream) (e : ReadEnd) → ReadsSource before after (Err e) → PlansRefused setting before after (read_ended e)
 read_refused setting before after read.Failed r = r
 read_refused setting before after read.TooMany r = r
@@ -84,9 +84,9 @@ pub at_its_end : {A : Type 0} (setting : Setting) (before after : Stream) (r : R
 at_its_end setting before after (Ok plans) ended h = h ended
 at_its_end setting before after (Err why) ended h = h
 
--- ---- how the call goes on
+-- ---- the next step of the call
 
--- refused words, or no memory for them
+-- refused arguments, or out of memory
 pub words_run : (words : List (List ℕ)) (source : Stream) (f : WordFault) (out : Stream) (keeper : Kept) → (f ≡ word.Memory) ⊎ (setting_of words ≡ Err f)
     → PlansRunTo words (world source out keeper) (world source out keeper) (word_ended f)
 words_run words source word.Memory out keeper e = record {
@@ -148,13 +148,13 @@ module _ (words : List (List ℕ)) (setting : Setting) (accepted : setting_of wo
     refused_run (ended.BadPlanNamed name f) r = record { cause = are_refused (bad_plan_named name f) r; untouched = only_read r.faults; line_is = refl }
     refused_run _ r = absurd r
 
-  -- so the call goes on, or it ends
+  -- the call goes on or ends
   pub prepared : {A : Type 0} (r : Result (Vec Named A) Ended) → MatchResult r (λ plans. AreReadyFor setting before after plans.items) (λ why. PlansRefused setting before after why)
       → MatchResult r (λ plans. ArePlansReady words before after plans.items) (λ why. (out : Stream) (keeper : Kept) → PlansRunTo words (world before out keeper) (world after out keeper) why)
   prepared (Ok plans) h = ready plans.items h
   prepared (Err why) h = λ out keeper. refused_run out keeper why h
 
--- the reports were written, whole or in part, or there was no memory
+-- the reports were written, in full or in part, or memory ran out
 pub reported_run : (words : List (List ℕ)) (before after : Stream) (named : List Named) (by : ArePlansReady words before after named) (out out' : Stream) (keeper : Kept) (why : Ended)
     → ReportsPlans by.setting.key (jobs_of named) out out' why → PlansRunTo words (world before out keeper) (world after out' keeper) why
 reported_run words before after named by out out' keeper ended.Done r = record {
@@ -174,14 +174,14 @@ reported_run words before after named by out out' keeper ended.NoMemory r = reco
 }
 reported_run words before after named by out out' keeper _ r = absurd r
 
--- ---- how it ends
+-- ---- the ending of the call
 
--- a line told with the columns that the body kept is the line of the words' columns
+-- the diagnostic with the columns that the code kept is that of the columns of the arguments
 tells_same : (a b : Columns) (n m : Stream) (reason : Option Ending) → line_of a reason ≡ line_of b reason → TellsWhy b n m reason → TellsWhy a n m reason
 tells_same a b n m None e t = t
 tells_same a b n m (Some ending) e t = subst (λ (line : List ℕ). AddsLine n m line) (sym e) t
 
--- a call on several plans that ran to an end, and told it, ends so
+-- a call on several plans that ran to an end and wrote its diagnostic has a correct ending
 pub plans_end : (words : List (List ℕ)) (before after : World) (n m : Stream) (status : ℕ) (why : Ended) → PlansRunTo words before after why → status ≡ status_of (ending_of why)
     → TellsWhy (columns_kept why) n m (ending_of why) → PlansEnd words before after n m status
 plans_end words before after n m status why r s t =

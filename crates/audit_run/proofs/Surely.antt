@@ -1,4 +1,4 @@
--- Where no count rises, whatever may begin ends well.
+-- If no count of faults rises, a call that can end well does.
 use Rattle.std.proofs.Common.{ℕ, List, arith}
 use Rattle.audit_model.specs.Faults.{Rose}
 use Rattle.audit_model.specs.State.{SureSlots, Stream}
@@ -9,7 +9,7 @@ use Rattle.audit_statement.specs.Whole.{KeepsEachPromise}
 never : Rose 0 0 → ⊥
 never h = absurd (omega arith)
 
--- a call over a world that never fails ends surely where it may
+-- a call with I/O that never fails ends well if it can
 pub surely : (words : List (List ℕ)) (graph graph' : List ℕ) (keeper keeper' : SureSlots) (n m : Stream) (status : ℕ)
     → KeepsEachPromise words (sure_world graph keeper) (sure_world graph' keeper') n m status → EachEndsSurely words (sure_world graph keeper) status
 surely words graph graph' keeper keeper' n m status kept = record {

@@ -1,4 +1,4 @@
--- How a trace ends.
+-- The ending of a trace.
 use Rattle.std.proofs.Common.{◌≡◌, ◌<◌, ◌≤◌, arith, ◌&&◌, not, Bool, true, false, ℕ, List, refl, sym, ap, subst}
 use Rattle.std.specs.Prelude.{◌==◌, ⊤}
 use Rattle.std.specs.Io.KnownBytes.{Appends}
@@ -20,7 +20,7 @@ use Rattle.plan_trace.specs.Tracers.{TracesJob}
 use Rattle.report.specs.declared.ended.Ended.{Ended}
 use Rattle.report.specs.declared.ended.Ended.TheVariants as ended
 
--- a value that is as before is so whether a test passes or not
+-- an unchanged value is unchanged whether a test passes or not
 same_always : {A : Type 0} (b : Bool) (x : A) → SameUnless b x x
 same_always true x = tt
 same_always false x = refl
@@ -34,15 +34,15 @@ module _ (job : Job) (trace : job.setting.command ≡ Trace) (out out' : Stream)
   unsaved : saves job.setting ≡ false
   unsaved = ap (λ (c : Command). is_walking c && not (job.setting.save_every == 0)) trace
 
-  -- so its slots are left alone
+  -- the slots are unchanged, since a trace saves nothing
   left_alone : (made : Type 0) (before after : World) → after.keeper ≡ before.keeper → SavesWhere (saves job.setting) made job before after
   left_alone made before after same = subst (λ (b : Bool). SavesWhere b made job before after) (sym unsaved) (ap (λ (kept : Kept). kept.slots) same)
 
-  -- what is written
+  -- the text that is written
   written : (whole : Bool) (before after : World) → WritesText Trace whole job before after → WritesText job.setting.command whole job before after
   written whole before after text = subst (λ (c : Command). WritesText c whole job before after) (sym trace) text
 
-  -- it is done
+  -- the ending of a complete trace
   pub done_ends : Appends out.bytes out'.bytes (text_of job) → out'.faults ≡ out.faults → Finishes job out out' k k ended.Done
   done_ends text faults = λ words before after p. record {
     cause = record {
@@ -57,7 +57,7 @@ module _ (job : Job) (trace : job.setting.command ≡ Trace) (out out' : Stream)
     line_is = refl;
   }
 
-  -- a write failed
+  -- the ending after a failed write
   pub fault_ends : AppendsPart out.bytes out'.bytes (text_of job) → Rose out.faults out'.faults → Finishes job out out' k k ended.WriteFault
   fault_ends text rose = λ words before after p. record {
     cause = record {
@@ -74,15 +74,15 @@ module _ (job : Job) (trace : job.setting.command ≡ Trace) (out out' : Stream)
     line_is = refl;
   }
 
--- there was no memory
+-- the ending if memory ran out
 pub no_memory_ends : (job : Job) (out : Stream) (k : Kept) → Finishes job out out k k ended.NoMemory
 no_memory_ends job out k = λ words before after p. record { cause = tt; untouched = left words before after job p out out k k _ refl refl refl refl refl refl refl; line_is = refl }
 
--- the range that the words name
+-- the range that the arguments name
 abbrev pub range_of : Job → TraceRange
 range_of job = record { first = job.setting.first_id; last = job.setting.last_id; thin = job.setting.thin }
 
--- however it ended
+-- the ending of a trace in all cases
 pub traced_ends : (job : Job) → job.setting.command ≡ Trace → (range : TraceRange) → range ≡ range_of job
     → (out out' : Stream) (k : Kept) (why : Ended) → TracesJob job range out out' why → Finishes job out out' k k why
 traced_ends job trace range is out out' k why how = by why (subst (λ (r : TraceRange). TracesJob job r out out' why) is how)

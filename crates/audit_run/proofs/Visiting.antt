@@ -1,4 +1,4 @@
--- Every plan that a trajectory of an accepted plan visits is legal.
+-- Every plan visited by a trajectory of an accepted plan is legal.
 use Rattle.std.proofs.Common.{ℕ, List}
 use Rattle.std.specs.List.{All}
 use Rattle.std.proofs.lemmas.List.Elements.{All-map}
@@ -21,7 +21,7 @@ visits_legally job start = record {
       (visit_stays_legal job (draw job.setting.key 1) job.start job.setting.hub_steps start);
 }
 
--- so it is for each of several plans
+-- the plans visited from each of several plans are legal
 pub visit_legally : (setting : Setting) (regions : List ℕ) (group : Group) (named : List Named) → All (IsOneOf setting regions group) named → VisitLegally (jobs_of named)
 visit_legally setting regions group named each =
     All-map (λ (plan : List ℕ × Job). VisitsLegally plan.1) pair_of named

@@ -1,4 +1,4 @@
--- What accepted words say of the setting of several plans, and so of their jobs.
+-- The setting of several plans, from their accepted arguments, and the consequences for their jobs.
 use Rattle.std.proofs.Common.{◌≡◌, ◌∙◌, ℕ, true, false, List, [], ◌∷◌, Option, Some, None, Ok, refl, sym, subst, ap}
 use Rattle.std.proofs.lemmas.Slice.Eq.{bytes_eq-Decides}
 use Rattle.std.specs.Prelude.{bytes_eq, codes, unwrap_or}
@@ -18,18 +18,18 @@ use Rattle.audit_laws.specs.Runs.{AcceptedJobsAreRuns}
 use Rattle.audit_run.specs.Stages.{ArePlansReady}
 use Rattle.audit_saving.specs.Plans.{RunsAlone}
 
--- it is of the command on several plans, nothing is saved, and nothing resumed
+-- the command is the one on several plans, and nothing is saved or resumed
 pub record IsPlansSetting (setting : Setting) : Type 0 where
   pub command : setting.command ≡ Plans
   pub unsaved : setting.save_every ≡ 0
   pub fresh : setting.resume ≡ false
 
--- where neither of two is there, the first is not
+-- if neither of two options has a value, the first is empty
 first_none : {A : Type 0} (a b : Option A) → option_or a b ≡ None → a ≡ None
 first_none None b h = refl
 first_none (Some x) b h = cc
 
--- accepted words of the command have its setting
+-- accepted arguments of the command have its setting
 with_fault : (words : List NameAndValue) (fault : Option WordFault) (setting : Setting) → fault_of Plans words ≡ fault → setting_or Plans words fault ≡ Ok setting → IsPlansSetting setting
 unfolding digits
 with_fault words None setting faultless e =
@@ -42,7 +42,7 @@ with_fault words None setting faultless e =
     })
 with_fault words (Some f) setting faultless e = cc
 
--- words that are accepted and are of the command on several plans have its setting
+-- accepted arguments of the command on several plans have its setting
 pub plans_setting : (words : List (List ℕ)) (setting : Setting) → names_plans words ≡ true → setting_of words ≡ Ok setting → IsPlansSetting setting
 unfolding setting_of
 plans_setting [] setting named e = cc
@@ -51,7 +51,7 @@ plans_setting (word ∷ rest) setting named e =
     let spelled : command_of word ≡ Some Plans = ap command_of is in
     with_fault (pairs rest) (fault_of Plans (pairs rest)) setting refl (sym (ap (of_command word (pairs rest)) spelled) ∙ e)
 
--- so each of the jobs is a run that saves nothing and does not resume
+-- each of the jobs is a run that saves nothing and does not resume
 pub run_alone : AcceptedJobsAreRuns → (words : List (List ℕ)) (before after : Stream) (named : List Named) → names_plans words ≡ true → ArePlansReady words before after named
     → All (λ (n : Named). RunsAlone n.job) named
 run_alone accepted_jobs_are_runs words before after named spoken by = λ k d inside.

@@ -1,4 +1,4 @@
--- The judges of several plans.
+-- The constraints of several plans.
 use Rattle.std.specs.Prelude.{◌≡◌, ℕ, List, [], Vec, vec_len}
 use Rattle.audit_model.specs.declared.rules.Rules.{Rules}
 use Rattle.audit_model.specs.Job.{rules}
@@ -10,7 +10,7 @@ use Rattle.region_guard.specs.Guards.{AreRegionGuards}
 use Rattle.audit_saving.specs.Paired.{ArePaired}
 use Rattle.audit_walks.specs.Guards.{AreGuards}
 
--- so many judges of a plan by one test of the cut edges
+-- `count` constraints of a plan, made from one test of the cut edges
 pub record IsCutBench {F A : Type 0} (test : F) (count : ℕ) (n : Named) (judges : Vec (Guard F) A) : Type 0 where
   pub each : AreGuards test (rules n.job) judges.items
   pub count_is : vec_len judges ≡ count
@@ -18,13 +18,13 @@ pub record IsCutBench {F A : Type 0} (test : F) (count : ℕ) (n : Named) (judge
 abbrev pub AreCutBenches : {F A : Type 0} → F → ℕ → List Named → List (Vec (Guard F) A) → Type 0
 AreCutBenches test count named benches = ArePaired (IsCutBench test count) named benches
 
--- a job with the limit of these rules on cut edges, without regions and without a majority to be kept
+-- a job with the limit of these rules on cut edges, without regions and without required majorities
 pub record IsCutBy (by : Rules) (n : Named) : Type 0 where
   pub cut_is : n.job.setting.max_cut ≡ by.max_cut
   pub no_regions : n.job.regions ≡ []
   pub no_group : n.job.setting.group_districts ≡ 0
 
--- so many judges of all rules of a plan
+-- `count` constraints of all rules of a plan
 pub record IsRuledBench {F T A : Type 0} (cut : F) (test : T) (count : ℕ) (n : Named) (judges : Vec (RegionGuard F T) A) : Type 0 where
   pub each : AreRegionGuards cut test (rules n.job) n.job.districts judges.items
   pub count_is : vec_len judges ≡ count

@@ -1,4 +1,4 @@
--- What the steps of a call on several plans say to each other.
+-- The results that the steps of a call on several plans pass on.
 use Rattle.std.specs.Prelude.{◌≡◌, ℕ, List, Ok, Err}
 use Rattle.std.specs.Io.KnownBytes.{IsAtEnd}
 use Rattle.audit_model.specs.Faults.{Rose}
@@ -22,7 +22,7 @@ use Rattle.audit_model.specs.State.{Stream}
 use Rattle.audit_model.specs.Told.{IfTold}
 use Rattle.audit_statement.specs.World.{World}
 
--- how a refusal ends a call with this setting
+-- the ending of a call with this setting after a refusal
 abbrev pub plans_ended : Setting → PlansFault → Ended
 plans_ended setting (fault.Graph f) = ended.BadGraph f setting.columns
 plans_ended setting (fault.Regions f) = ended.BadRegions f setting.region
@@ -31,13 +31,13 @@ plans_ended setting (fault.Own f) = ended.BadPlan f
 plans_ended setting (fault.Other name f) = ended.BadPlanNamed name f
 plans_ended setting fault.Memory = ended.NoMemory
 
--- how a source ends a call that was not read to its end
+-- the ending of a call whose source was not read to its end
 abbrev pub read_ended : ReadEnd → Ended
 read_ended read.Failed = ended.ReadFault
 read_ended read.TooMany = ended.TooManyBytes
 read_ended read.Memory = ended.NoMemory
 
--- all was read and accepted as the jobs of these plans
+-- all bytes were read and accepted as the jobs of these plans
 pub record AreReadyFor (setting : Setting) (before after : Stream) (named : List Named) : Type 0 where
   pub bytes : List ℕ
   pub given : IfTold before.bytes (λ left. left ≡ bytes)
@@ -46,14 +46,14 @@ pub record AreReadyFor (setting : Setting) (before after : Stream) (named : List
   pub at_end : IsAtEnd after.bytes
   pub faults : after.faults ≡ before.faults
 
--- all was read and is refused for this reason
+-- all bytes were read and are refused for this reason
 pub record IsRefusedSo (setting : Setting) (before after : Stream) (ending : Ending) : Type 0 where
   pub bytes : List ℕ
   pub given : IfTold before.bytes (λ left. left ≡ bytes)
   pub judged_so : plans_judged setting bytes ≡ Err ending
   pub faults : after.faults ≡ before.faults
 
--- why there are no jobs
+-- the reason why there are no jobs
 abbrev pub PlansRefused : Setting → Stream → Stream → Ended → Type 0
 PlansRefused setting before after ended.NoMemory = after.faults ≡ before.faults
 PlansRefused setting before after ended.ReadFault = Rose before.faults after.faults
@@ -65,13 +65,13 @@ PlansRefused setting before after (ended.BadPlan f) = IsRefusedSo setting before
 PlansRefused setting before after (ended.BadPlanNamed name f) = IsRefusedSo setting before after (bad_plan_named name f)
 PlansRefused setting before after _ = ⊥
 
--- a call on several plans that ended so, but for its note
+-- a call on several plans that ended for this reason, before its diagnostic
 pub record PlansRunTo (words : List (List ℕ)) (before after : World) (why : Ended) : Type 0 where
   pub cause : PlansCause words before after (ending_of why)
   pub untouched : PlansLeave before after (plans_marks (ending_of why))
   pub line_is : line_of (columns_of words) (ending_of why) ≡ line_of (columns_kept why) (ending_of why)
 
--- the jobs were prepared from the words and the source
+-- the jobs were made from the arguments and the source
 pub record ArePlansReady (words : List (List ℕ)) (before after : Stream) (named : List Named) : Type 0 where
   pub setting : Setting
   pub prepared : ArePrepared words before after setting (jobs_of named)

@@ -1,4 +1,4 @@
-//! The call that does all that the program does.
+//! The call that does everything that the program does.
 
 ghost use Rattle.std.specs.Prelude.{◌≡◌};
 ghost use Rattle.audit_statement.specs.Due.{LetsDueSaves};
@@ -17,7 +17,7 @@ use claim_counter::runtime::Runtime;
 use std::sync::Wait;
 use std::thread::Threads;
 
-// Whether the words are those of the command on several plans.
+// Returns true if the arguments are those of the command on several plans.
 fn names_plans(words: &[String]) -> bool
     ensures { result ≡ are_of_plans (spoken words.now) }
 {
@@ -27,14 +27,23 @@ fn names_plans(words: &[String]) -> bool
     word.as_str() == "plans"
 }
 
-/// Does what the words ask for, and answers the status and the keeper.
+/// Runs the command of the arguments. Returns the exit status and the keeper.
 ///
-/// The graph is read to its end, or to one byte more than 67,108,864; with several plans a table stands behind its first line feed. The text of a check,
-/// the report of a run, or one for each of several plans goes to `out`, and the reason of each status but 0 to `note`: 1 for refused words, 2 for a
-/// refused graph, table or plan, 3 for want of memory, 4 for a failed read, 5 for a failed write, 6 for a failed load of a checkpoint, 7 where
-/// trajectories are left to another run, 8 for slots from which a run cannot go on, 9 for a failed save.
+/// The graph is read to its end, or to one byte more than 67,108,864. With several plans, a table follows its first
+/// line feed. `out` gets the text of a check, the report of a run, or one report for each of several plans. `note` gets
+/// the reason of each status but 0:
 ///
-/// `rt` lends the threads, the memory and the gate, which is told of each trajectory before it is walked.
+/// - 1: refused arguments
+/// - 2: a refused graph, table or plan
+/// - 3: out of memory
+/// - 4: a failed read
+/// - 5: a failed write
+/// - 6: a failed load of a checkpoint
+/// - 7: trajectories are left to another run
+/// - 8: slots from which a run cannot resume
+/// - 9: a failed save
+///
+/// `rt` lends the threads, the allocator and the gate, which learns each trajectory before its walk.
 pub fn audit<
     R: Threads + Wait + Sync,
     S: Source,

@@ -1,4 +1,4 @@
-//! The judges of several plans.
+//! The constraints of several plans.
 
 ghost use Rattle.std.specs.Prelude.{◌≡◌, ◌<◌, ◌^◌, ℕ, nat_le, All, Bool, IfOk};
 ghost use Rattle.std.specs.Fn.{FnReturnsAt};
@@ -15,8 +15,8 @@ use region_guard::guard::RegionGuard;
 use region_guard::judges::region_guards;
 use std::alloc::Global;
 
-/// For each plan, so many judges by one test of the cut edges. The plans have no regions, and no majority is asked for. The only error is want of
-/// memory.
+/// Makes `count` constraints for each plan from one test of the cut edges. The plans must have no regions and require
+/// no majorities. The only error is out of memory.
 pub fn cut_benches<F: Fn(&SumsView) -> bool + Copy + Drop>(
     alloc: Global,
     test: F,
@@ -37,8 +37,8 @@ pub fn cut_benches<F: Fn(&SumsView) -> bool + Copy + Drop>(
     Ok(benches)
 }
 
-/// For each plan, so many judges of all rules by one test of the cut edges and one of the number of districts of a region. The only error is want
-/// of memory.
+/// Makes `count` constraints of all rules for each plan, from one test of the cut edges and one of the number of
+/// districts of a region. The only error is out of memory.
 pub fn ruled_benches<F: Fn(&SumsView) -> bool + Copy + Drop, T: Fn(u32) -> bool + Copy + Drop>(
     alloc: Global,
     cut: F,

@@ -1,8 +1,9 @@
 //! The audit as one call.
 //!
-//! `audit` hands the command on several plans to `several`, and every other to `single`. Of one plan: `single` makes the job, writes the text of a check or does
-//! the rest of a run (`run`), and tells why it ended. Of several: `plan_jobs` makes the jobs, `benches` the judges of each, and `plan_reports` takes all
-//! memory, and walks and tells one plan after the other. `plain` and `sure` are the same call with more said of it.
+//! `audit` passes the command on several plans to `several`, and every other to `single`. For one plan, `single` makes
+//! the job, writes the text of a check or does the rest of a run (`run`), and writes the diagnostic. For several,
+//! `plan_jobs` makes the jobs, `benches` their constraints, and `plan_reports` allocates all memory, then walks and
+//! reports one plan after the other. `plain` and `sure` are the same call with stronger contracts for special cases.
 #![tactic(auto)]
 
 pub mod audit;

@@ -1,4 +1,4 @@
-//! The audit, and what a run with none of the features that may be left out has done.
+//! The audit, with a contract on plain runs.
 
 ghost use Rattle.audit_statement.specs.Due.{LetsDueSaves};
 ghost use Rattle.audit_statement.specs.Whole.{KeepsEachPromise};
@@ -17,8 +17,8 @@ use claim_counter::runtime::Runtime;
 use std::sync::Wait;
 use std::thread::Threads;
 
-/// Does what the words ask for, and answers the status and the keeper. It is what `audit` does; its first clause says for a run with none of the features that may
-/// be left out, all at once, what status 0 means, and its second that status 0 comes where nothing stands in the way.
+/// Runs the command of the arguments, as `audit` does. Returns the exit status and the keeper. For a plain run, the
+/// first clause states all that status 0 means. The second states when status 0 is certain.
 pub fn audit_plainly<
     R: Threads + Wait + Sync,
     S: Source,

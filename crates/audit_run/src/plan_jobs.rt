@@ -1,4 +1,4 @@
-//! From the words and the source to the jobs of several plans.
+//! From the arguments and the source to the jobs of several plans.
 
 ghost use Rattle.std.specs.Prelude.{◌≡◌, ◌≤◌, MatchResult, length};
 ghost use Rattle.std.specs.Io.KnownBytes.{IsAtEnd};
@@ -59,7 +59,7 @@ fn plans_end(fault: PlansFault, setting: Setting) -> Ended
     }
 }
 
-// How a call ends whose source was not read to its end.
+// Returns the ending of a call whose source was not read to its end.
 fn read_end(end: ReadEnd) -> Ended
     ensures { result ≡ read_ended end }
 {
@@ -70,7 +70,7 @@ fn read_end(end: ReadEnd) -> Ended
     }
 }
 
-// The jobs of the bytes that a source had, or why there are none.
+// Makes the jobs of the source's bytes, or returns the reason why there are none.
 fn judge_plans(alloc: Global, setting: Setting, bytes: &[u8]) -> Result<Vec<Named>, Ended>
     requires few { length bytes.now ≤ most_bytes }
     requires within { IsSetting setting }
@@ -86,7 +86,7 @@ fn judge_plans(alloc: Global, setting: Setting, bytes: &[u8]) -> Result<Vec<Name
     }
 }
 
-// The jobs of what the source has, or why there are none.
+// Makes the jobs of the source, or returns the reason why there are none.
 fn prepare_jobs<S: Source>(
     alloc: Global,
     setting: Setting,
@@ -105,7 +105,7 @@ fn prepare_jobs<S: Source>(
     }
 }
 
-/// The jobs that the words and the source give, or why there are none.
+/// Makes the jobs of the arguments and the source, or returns the reason why there are none.
 pub fn prepare_plans<S: Source>(
     alloc: Global,
     words: &[String],

@@ -1,4 +1,4 @@
-//! The rest of a call on several plans: all memory is taken, then one plan after the other is walked and told.
+//! The rest of a call on several plans: all memory is allocated, then one plan after the other is walked and reported.
 
 ghost use Rattle.std.specs.Prelude.{◌≡◌, ◌<◌, ℕ, [], List, length, All, slice_index_or};
 ghost use Rattle.plan_csv.specs.declared.named.Named.{Named as NamedOf};
@@ -17,7 +17,7 @@ use plan_csv::named::Named;
 use report::ended::Ended;
 use std::thread::Threads;
 
-// The job of the first plan.
+// Returns the job of the first plan.
 fn first_of(plans: &[Named]) -> &Job
     requires { 0 < length plans.now }
     ensures { (n : NamedOf) × (n ≡ slice_index_or plans.now 0 n) × (result.now ≡ n.job) }
@@ -25,7 +25,7 @@ fn first_of(plans: &[Named]) -> &Job
     &plans[0].job
 }
 
-// Reports on plans of a graph without regions, where no majority is asked for.
+// Reports on plans of a graph without regions and without required majorities.
 fn report_cut<R: Threads + Sync, K: Sink, G: Gate + Sync>(
     rt: &Runtime<'_, R, G>,
     plans: Vec<Named>,
@@ -52,7 +52,7 @@ fn report_cut<R: Threads + Sync, K: Sink, G: Gate + Sync>(
     }
 }
 
-// Reports on plans by all rules.
+// Reports on plans with the constraint of all rules.
 fn report_ruled<R: Threads + Sync, K: Sink, G: Gate + Sync>(
     rt: &Runtime<'_, R, G>,
     plans: Vec<Named>,
@@ -79,7 +79,7 @@ fn report_ruled<R: Threads + Sync, K: Sink, G: Gate + Sync>(
     }
 }
 
-/// Takes all memory that the plans need, walks one after the other, and writes their names and reports.
+/// Allocates all memory of the plans, walks one after the other, and writes their names and reports.
 pub fn report_all<R: Threads + Sync, K: Sink, G: Gate + Sync>(
     rt: &Runtime<'_, R, G>,
     plans: Vec<Named>,

@@ -1,4 +1,4 @@
-//! The rest of a run of one plan: with what it starts, its judges, and whether it saves.
+//! The rest of a run of one plan: its start, its constraints, and its saves.
 
 ghost use Rattle.std.specs.Prelude.{◌≡◌, [], false};
 ghost use Rattle.audit_model.specs.State.{Kept};
@@ -27,7 +27,7 @@ use report::ended::Ended;
 use std::sync::Wait;
 use std::thread::Threads;
 
-// Does the rest of a run that starts with these outcomes and saves nothing.
+// Finishes a run that starts with these outcomes and saves nothing.
 fn run_unsaved<R: Threads + Sync, K: Sink, J: Judge + Send, G: Gate + Sync>(
     rt: &Runtime<'_, R, G>,
     job: &Job,
@@ -46,7 +46,7 @@ fn run_unsaved<R: Threads + Sync, K: Sink, J: Judge + Send, G: Gate + Sync>(
     }
 }
 
-// Does the rest of a run that starts so, with a judge for each worker and one for the serial test.
+// Finishes a run from this start, with a constraint for each worker and one for the serial test.
 fn finish_judged<
     R: Threads + Wait + Sync,
     K: Sink,
@@ -80,7 +80,7 @@ fn finish_judged<
     }
 }
 
-// Does the rest of a run that starts so, of a job without regions and without a majority to be kept.
+// Finishes a run from this start, for a job without regions and without required majorities.
 fn finish_cut<R: Threads + Wait + Sync, K: Sink, C: Keeper + Send, G: Gate + Sync>(
     rt: &Runtime<'_, R, G>,
     job: &Job,
@@ -109,7 +109,7 @@ fn finish_cut<R: Threads + Wait + Sync, K: Sink, C: Keeper + Send, G: Gate + Syn
     }
 }
 
-// Does the rest of a run that starts so, by all rules of the job.
+// Finishes a run from this start, with the constraint of all rules of the job.
 fn finish_ruled<R: Threads + Wait + Sync, K: Sink, C: Keeper + Send, G: Gate + Sync>(
     rt: &Runtime<'_, R, G>,
     job: &Job,
@@ -139,8 +139,8 @@ fn finish_ruled<R: Threads + Wait + Sync, K: Sink, C: Keeper + Send, G: Gate + S
     }
 }
 
-/// Looks with what the run starts, takes all its memory, walks as many trajectories of its part as the budget allows, saves now and then and at the end where
-/// the setting asks for it, and writes the report where all are done.
+/// Finds the start of the run, allocates all its memory, and walks its part within the budget. Saves at intervals and
+/// at the end if the setting asks for it, and writes the report if nothing is pending.
 pub fn finish_run<R: Threads + Wait + Sync, K: Sink, C: Keeper + Send, G: Gate + Sync>(
     rt: &Runtime<'_, R, G>,
     job: &Job,

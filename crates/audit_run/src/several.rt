@@ -18,7 +18,7 @@ use report::ended::Ended;
 use report::note::tell;
 use std::thread::Threads;
 
-// Does what such words ask for, but for the note.
+// Runs the command on several plans, up to the diagnostic.
 fn run_plans<R: Threads + Sync, S: Source, K: Sink, G: Gate + Sync>(
     rt: &Runtime<'_, R, G>,
     words: &[String],
@@ -37,11 +37,16 @@ fn run_plans<R: Threads + Sync, S: Source, K: Sink, G: Gate + Sync>(
     }
 }
 
-/// Does what words ask for that are those of the command on several plans, and answers the status. No slot is looked at.
+/// Runs the command on several plans and returns the exit status. Looks at no slot.
 ///
-/// The source is read to its end, or to one byte more than 67,108,864: the graph up to its first line feed, and behind it the table. The name and the
-/// report of each plan go to `out`, and the reason of each status but 0 to `note`: 1 for refused words, 2 for a refused graph, table or plan, 3 for want
-/// of memory, 4 for a failed read, 5 for a failed write.
+/// The source is read to its end, or to one byte more than 67,108,864: the graph up to its first line feed, and the
+/// table after it. `out` gets the name and the report of each plan. `note` gets the reason of each status but 0:
+///
+/// - 1: refused arguments
+/// - 2: a refused graph, table or plan
+/// - 3: out of memory
+/// - 4: a failed read
+/// - 5: a failed write
 pub fn audit_plans<R: Threads + Sync, S: Source, K: Sink, N: Sink, G: Gate + Sync>(
     rt: &Runtime<'_, R, G>,
     words: &[String],

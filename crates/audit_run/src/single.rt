@@ -1,4 +1,4 @@
-//! The call that does all that the program does with one plan.
+//! The call on one plan.
 
 ghost use Rattle.std.specs.Prelude.{◌≡◌, IsTrue};
 ghost use Rattle.audit_model.specs.declared.setting.Command.TheVariants.{Check};
@@ -47,7 +47,7 @@ fn finish_check<K: Sink>(alloc: Global, job: &Job, out: &mut K) -> Ended
     }
 }
 
-// Does what the command asks for, with this job.
+// Runs the command with this job.
 fn finish<R: Threads + Wait + Sync, K: Sink, C: Keeper + Send, G: Gate + Sync>(
     rt: &Runtime<'_, R, G>,
     job: &Job,
@@ -66,11 +66,20 @@ fn finish<R: Threads + Wait + Sync, K: Sink, C: Keeper + Send, G: Gate + Sync>(
     }
 }
 
-/// Does what the words ask for, and answers the status and the keeper.
+/// Runs the command of the arguments on one plan. Returns the exit status and the keeper.
 ///
-/// The graph is read to its end, or to one byte more than 67,108,864. The text of a check or the report of a run goes to `out`, and the
-/// reason of each status but 0 to `note`: 1 for refused words, 2 for a refused graph or plan, 3 for want of memory, 4 for a failed read, 5 for a failed write,
-/// 6 for a failed load of a checkpoint, 7 where trajectories are left to another run, 8 for slots from which a run cannot go on, 9 for a failed save.
+/// The graph is read to its end, or to one byte more than 67,108,864. `out` gets the text of a check or the report of a
+/// run. `note` gets the reason of each status but 0:
+///
+/// - 1: refused arguments
+/// - 2: a refused graph or plan
+/// - 3: out of memory
+/// - 4: a failed read
+/// - 5: a failed write
+/// - 6: a failed load of a checkpoint
+/// - 7: trajectories are left to another run
+/// - 8: slots from which a run cannot resume
+/// - 9: a failed save
 pub fn audit_single<
     R: Threads + Wait + Sync,
     S: Source,
@@ -91,7 +100,8 @@ pub fn audit_single<
         let after = world (S.state graph.new) (K.state out.new) (C.state result.1) in
         KeepsItsPromise (spoken words.now) before after (N.state note.old) (N.state note.new) result.0 }
 {
-    // Laws, called for what their contracts say: an accepted job is within its limits, and a call that ends for a reason keeps its promise.
+    // Called for their contracts: an accepted job is within its limits, and a call with a correct ending meets the top
+    // contract.
     accepted_jobs_are_runs();
     ended_calls_keep_their_promise();
     match prepare(rt.alloc, words, graph) {

@@ -1,4 +1,4 @@
-//! An audit over a source, an output and a keeper that never fail.
+//! The audit over a source, an output and a keeper that never fail.
 
 ghost use Rattle.audit_statement.specs.Sure.{EachEndsSurely, sure_world};
 ghost use Rattle.audit_statement.specs.Whole.{KeepsEachPromise};
@@ -13,10 +13,11 @@ use claim_counter::runtime::Runtime;
 use std::sync::Wait;
 use std::thread::Threads;
 
-/// Does what the words ask for where nothing outside fails, and answers the status and the keeper.
+/// Runs the command of the arguments with I/O that never fails. Returns the exit status and the keeper.
 ///
-/// Where words, graph and plan are accepted, the slots say how a run that resumes is to start, and its part and its budget have all that they lack,
-/// the status is 0 or, for want of memory, 3, and no other. So it is where words, graph, regions, table and several plans are accepted.
+/// The status is 0 under three conditions, or 3 if out of memory. The arguments, the graph and the plan are accepted.
+/// The slots have valid initial outcomes for a run that resumes. Its part and its budget cover everything pending. For
+/// several plans the condition is that arguments, graph, regions, table and plans are accepted.
 pub fn audit_surely<R: Threads + Wait + Sync, N: Sink, G: Gate + Sync>(
     rt: &Runtime<'_, R, G>,
     words: &[String],

@@ -16,7 +16,7 @@ use region_guard::judges::region_guards;
 use report::ended::Ended;
 use std::alloc::Global;
 
-// Returns the range that the words name.
+// Returns the range that the arguments name.
 fn range_of(job: &Job) -> TraceRange
     ensures { result ≡ record { first = job.now.setting.first_id; last = job.now.setting.last_id; thin = job.now.setting.thin } }
 {
@@ -28,7 +28,7 @@ fn range_of(job: &Job) -> TraceRange
     }
 }
 
-// Writes the trace of a job without regions and without a majority to be kept.
+// Writes the trace of a job without regions and without required majorities.
 fn trace_cut<K: Sink>(alloc: Global, job: &Job, range: TraceRange, out: &mut K) -> Ended
     requires thin { 0 < range.thin }
     requires order { range.first ≤ range.last }
@@ -45,14 +45,14 @@ fn trace_cut<K: Sink>(alloc: Global, job: &Job, range: TraceRange, out: &mut K) 
     }
 }
 
-// Writes the trace of a job by all its rules.
+// Writes the trace of a job with the constraint of all rules.
 fn trace_ruled<K: Sink>(alloc: Global, job: &Job, range: TraceRange, out: &mut K) -> Ended
     requires thin { 0 < range.thin }
     requires order { range.first ≤ range.last }
     requires few { range.last < most_trajectories }
     ensures { TracesJob job.now range (K.state out.old) (K.state out.new) result }
 {
-    // Called for what its contract says: the job is within its limits.
+    // Called for its contract: the job is within its limits.
     let _units = job.units();
     let rules = job.rules();
     let cut_limit = rules.max_cut;
@@ -70,7 +70,7 @@ fn trace_ruled<K: Sink>(alloc: Global, job: &Job, range: TraceRange, out: &mut K
     }
 }
 
-// Allocates all memory of a trace, walks its range, and writes the plans while it walks.
+// Allocates all memory of a trace, walks this range, and writes the plans while walking.
 fn trace_job<K: Sink>(alloc: Global, job: &Job, range: TraceRange, out: &mut K) -> Ended
     requires thin { 0 < range.thin }
     requires order { range.first ≤ range.last }
@@ -84,12 +84,12 @@ fn trace_job<K: Sink>(alloc: Global, job: &Job, range: TraceRange, out: &mut K) 
     }
 }
 
-/// Allocates all memory of a trace, walks the range that the words name, and writes the plans while it walks.
+/// Allocates all memory of a trace, walks the range that the arguments name, and writes the plans while walking.
 pub fn finish_trace<K: Sink>(alloc: Global, job: &Job, out: &mut K) -> Ended
     requires { job.now.setting.command ≡ Trace }
     ensures { (keeper : Kept) → Finishes job.now (K.state out.old) (K.state out.new) keeper keeper result }
 {
-    // Called for what its contract says: the job is within its limits.
+    // Called for its contract: the job is within its limits.
     let _units = job.units();
     trace_job(alloc, job, range_of(job), out)
 }
