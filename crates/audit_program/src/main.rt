@@ -1,5 +1,5 @@
-//! The auditor as a program: the words are its arguments, the graph is on standard input, the text goes to standard output, the
-//! reason of each status but 0 to standard error, and checkpoints to two files of the working folder.
+//! The auditor as a program. The graph is on standard input, and the text goes to standard output. The reason of each
+//! status but 0 goes to standard error, and checkpoints go to two files of the working folder.
 #![tactic(auto)]
 
 use audit_io::file_keeper::FileKeeper;
@@ -12,7 +12,7 @@ use std::process::ExitCode;
 use std::rt::Env;
 use std::{env, io};
 
-// The words after the program's own name.
+// Returns the arguments after the program's own name.
 fn words_of<R: Env + AllocGlobal>(rt: &R) -> io::Result<Vec<String>> {
     let mut words = Vec::new(rt.alloc());
     for word in env::args(rt)?.skip(1) {
@@ -21,7 +21,7 @@ fn words_of<R: Env + AllocGlobal>(rt: &R) -> io::Result<Vec<String>> {
     Ok(words)
 }
 
-// Ends with a note that no call wrote.
+// Prints a diagnostic that no call wrote, and returns the exit status.
 fn end_with<R: Eprint>(rt: &R, note: &str, status: u8) -> ExitCode {
     match rt.eprintln(note) {
         Ok(()) => {}
