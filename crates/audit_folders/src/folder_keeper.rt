@@ -1,4 +1,4 @@
-//! The slots of a folder that is only read.
+//! The read-only slots of a folder.
 
 ghost use Rattle.std.specs.Prelude.{◌≡◌, [], None, Err};
 ghost use Rattle.audit_io.specs.Loads.{LoadsWithin};
@@ -14,7 +14,8 @@ use std::alloc::Global;
 use std::fs;
 use std::os::unix::fs::MetadataExt;
 
-/// The two slots of a folder, as its files `audit-0.ckpt` and `audit-1.ckpt`. It tells nothing, and never saves.
+/// The two slots of a folder, as its files `audit-0.ckpt` and `audit-1.ckpt`. They are not observable in proofs, and it
+/// never saves.
 #[derive(Drop)]
 pub struct FolderKeeper<'a> {
     rt: &'a HostRuntime,
@@ -26,7 +27,8 @@ pub struct FolderKeeper<'a> {
 }
 
 impl<'a> FolderKeeper<'a> {
-    /// The slots of the folder with this name. Where `locks` is set, it is read only while no run holds it, but that it may be the working folder.
+    /// Makes a keeper of the folder with this name. With `locks`, a folder other than the working folder is read only
+    /// while no run holds its lock.
     pub fn new(
         rt: &'a HostRuntime,
         alloc: Global,
@@ -43,7 +45,7 @@ impl<'a> FolderKeeper<'a> {
         }
     }
 
-    // Reads a slot, while no run holds the folder.
+    // Reads a slot, while no run holds the folder's lock.
     fn read(&self, slot: u8, limit: u64, room: &mut Bytes) -> Result<bool, LoadError>
         ensures within { LoadsWithin limit room.new.items result }
     {
@@ -68,14 +70,14 @@ impl Keeper for FolderKeeper<'_> {
         self.load_faults.count(loaded)
     }
 
-    /// Fails. Who looks at a folder requires nothing of what its keeper permits, and so cannot call it.
+    /// Fails. The contract of a look at a folder gives no permission to save, so no caller can reach this function.
     fn save(&mut self, _slot: u8, _bytes: &[u8]) -> Result<(), Failed> {
         self.save_faults = self.save_faults.saturating_add(1);
         Err(Failed)
     }
 }
 
-// Whether the folder is the working folder, which this program may hold itself.
+// Returns true if the folder is the working folder, whose lock this program may hold itself.
 fn is_working_folder(rt: &HostRuntime, folder: &str) -> bool {
     match (fs::metadata(rt, folder), fs::metadata(rt, ".")) {
         (Ok(one), Ok(other)) => one.dev() == other.dev() && one.ino() == other.ino(),
@@ -83,7 +85,7 @@ fn is_working_folder(rt: &HostRuntime, folder: &str) -> bool {
     }
 }
 
-// What the file of a slot holds.
+// Reads the file of a slot.
 fn read_slot(
     rt: &HostRuntime,
     alloc: Global,
@@ -100,7 +102,7 @@ fn read_slot(
     }
 }
 
-// Answers why nothing was read.
+// Clears the buffer and returns the error.
 fn refuse(why: LoadError, room: &mut Bytes) -> Result<bool, LoadError>
     ensures room { room.new.items ≡ [] }
     ensures why { result ≡ Err why }

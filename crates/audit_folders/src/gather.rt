@@ -1,10 +1,12 @@
-//! Puts together what runs of one job have saved in several folders, as those of its parts on several machines.
+//! Merges the outcomes that runs of one job have saved in several folders, such as those of its parts on several
+//! machines.
 //!
-//! The first words are the folders; from the first command on they are the words of a run of the job, and its graph is on standard input.
-//! What the newest slot of each folder holds of the job goes into the slots of the working folder, beside what these hold of it. Nothing is
-//! saved where a folder holds no checkpoint of the job, or where two folders say something else of one trajectory. A run that resumes in the
-//! working folder then walks what is still lacking. With the words `--look yes` before the folders it tells how far each folder and the job
-//! are, takes no lock and saves nothing.
+//! The first arguments are the folders. From the first command on, they are the arguments of a run of the job, whose
+//! graph is on standard input. The outcomes of the job in the newest slot of each folder are added to those in the
+//! slots of the working folder. Nothing is saved if a folder holds no checkpoint of the job, or if two folders have
+//! different outcomes of one trajectory. A run that resumes in the working folder then walks the pending trajectories.
+//! With `--look yes` before the folders, it reports the progress of each folder and of the job, takes no lock and saves
+//! nothing.
 
 ghost use Rattle.std.specs.Prelude.{◌≡◌, ◌≤◌, IfOk, IfSome, length, true};
 ghost use Rattle.audit_model.specs.Limits.{most_trajectories};
@@ -22,7 +24,7 @@ use report::ended::Ended;
 use std::alloc::AllocError;
 use std::process::ExitCode;
 
-// The folders' keepers.
+// Makes a keeper for each folder.
 fn keepers_of<'a>(
     rt: &'a HostRuntime,
     folders: &'a [String],
@@ -37,7 +39,7 @@ fn keepers_of<'a>(
     Ok(keepers)
 }
 
-// Looks at the folders, and saves nothing.
+// Looks at the folders and saves nothing.
 fn look(rt: &HostRuntime, job: &Job, folders: &[String], keepers: &mut [FolderKeeper<'_>]) -> u8
     requires few { total job.now ≤ most_trajectories }
     requires names { length folders.now ≡ length keepers.old }
@@ -54,7 +56,7 @@ fn look(rt: &HostRuntime, job: &Job, folders: &[String], keepers: &mut [FolderKe
     )
 }
 
-// Gathers into the slots of the working folder.
+// Gathers the folders into the slots of the working folder.
 fn gather_here(
     rt: &HostRuntime,
     job: &Job,
@@ -96,7 +98,7 @@ fn look_or_gather(
 /// Looks at the folders of the job, or gathers them.
 pub fn gather_job(rt: &HostRuntime, job: &Job, folders: &[String], looks: bool) -> ExitCode {
     if job.total() > 100_000 {
-        // No job has so many.
+        // Unreachable: no job has more than 100,000 trajectories.
         return end_told(rt, Ended::NoMemory);
     }
     match keepers_of(rt, folders, !looks) {
@@ -109,7 +111,7 @@ pub fn gather_job(rt: &HostRuntime, job: &Job, folders: &[String], looks: bool) 
     }
 }
 
-// Goes on with the words of a run, which has to have a folder, unless it looks only.
+// Runs the task with the arguments of a run. There has to be a folder, unless the task is only to look.
 fn run(rt: &HostRuntime, folders: &[String], words: &[String], looks: bool) -> ExitCode {
     if folders.is_empty() && !looks {
         return end_with(rt, "words: no folder", 1);
@@ -117,7 +119,7 @@ fn run(rt: &HostRuntime, folders: &[String], words: &[String], looks: bool) -> E
     run_words(rt, words, Task::Gather(folders, looks))
 }
 
-// The words before the folders say whether to look only: as they say, or bad words.
+// Returns the value of `--look`, or `None` if it is neither `yes` nor `no`.
 fn looks_by(words: &[String]) -> Option<bool>
     ensures { IfSome result (λ _. 1 ≤ length words.now) }
 {
@@ -131,7 +133,7 @@ fn looks_by(words: &[String]) -> Option<bool>
     }
 }
 
-// Goes on with the words that stand behind `--look`.
+// Runs with the arguments after `--look`.
 fn run_looking(rt: &HostRuntime, rest: &[String]) -> ExitCode {
     match looks_by(rest) {
         Some(looks) => run_split(rt, &rest[1..], looks),
@@ -139,13 +141,13 @@ fn run_looking(rt: &HostRuntime, rest: &[String]) -> ExitCode {
     }
 }
 
-// Goes on with the folders, and the words of a run behind them.
+// Splits the folders from the arguments of a run, and runs the task.
 fn run_split(rt: &HostRuntime, words: &[String], looks: bool) -> ExitCode {
     let (folders, words) = words.split_at(count_folders(words));
     run(rt, folders, words, looks)
 }
 
-// How many of the first words are folders: those before the first command.
+// Returns the number of folders, which stand before the first command.
 fn count_folders(words: &[String]) -> usize
     ensures { result ≤ length words.now }
 {
@@ -159,7 +161,7 @@ fn count_folders(words: &[String]) -> usize
     count
 }
 
-// Whether the first word is `--look`.
+// Returns true if the first argument is `--look`.
 fn begins_with_look(words: &[String]) -> bool
     ensures { result ≡ true → 1 ≤ length words.now }
 {
@@ -169,7 +171,7 @@ fn begins_with_look(words: &[String]) -> bool
     }
 }
 
-/// Gathers as the words say, or only looks.
+/// Gathers the folders of the arguments, or only looks at them.
 pub fn gather_by(rt: &HostRuntime, words: &[String]) -> ExitCode {
     if begins_with_look(words) {
         return run_looking(rt, &words[1..]);

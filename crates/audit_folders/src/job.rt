@@ -1,4 +1,4 @@
-//! The job of the words of a run and of the graph on standard input.
+//! The job of a run's arguments and of the graph on standard input.
 
 use crate::gather::gather_job;
 use crate::slots::show_folder;
@@ -12,12 +12,12 @@ use report::ended::Ended;
 use std::alloc::Global;
 use std::process::ExitCode;
 
-/// What is done with the job.
+/// A task on a job.
 #[derive(Clone, Copy)]
 pub enum Task<'a> {
-    /// To tell of the slots in a folder.
+    /// A report on the slots of a folder.
     Slots(&'a str),
-    /// To gather the slots of folders, or only to look at them.
+    /// Gathering the slots of folders, or only looking at them if the flag is set.
     Gather(&'a [String], bool),
 }
 
@@ -28,7 +28,7 @@ fn run_task(rt: &HostRuntime, job: &Job, task: Task<'_>) -> ExitCode {
     }
 }
 
-// The job of the words and of what stands on standard input.
+// Makes the job of the arguments and of the bytes on standard input.
 fn read_job(rt: &HostRuntime, words: &[String]) -> Result<Job, Ended> {
     prepare(rt.alloc(), words, &mut ReadSource::new(rt.stdin()))
 }
@@ -44,7 +44,7 @@ fn run_read(rt: &HostRuntime, words: &[String], task: Task<'_>) -> ExitCode {
     }
 }
 
-// The refusal of a command that saves nothing.
+// Returns the refusal of a command that saves nothing.
 fn no_run(alloc: Global, command: &str) -> Ended {
     let mut word = Text::new(alloc);
     match word.push_str(command) {
@@ -53,7 +53,7 @@ fn no_run(alloc: Global, command: &str) -> Ended {
     }
 }
 
-// The command of the words, where it is one that saves nothing.
+// Returns the command of the arguments if it is one that saves nothing.
 fn idle_command(words: &[String]) -> Option<&str> {
     match words {
         [word, ..] => match word.as_str() {
@@ -66,7 +66,7 @@ fn idle_command(words: &[String]) -> Option<&str> {
     }
 }
 
-/// Does the task with the job of these words and of the graph on standard input.
+/// Runs the task with the job of these arguments and of the graph on standard input.
 pub fn run_words(rt: &HostRuntime, words: &[String], task: Task<'_>) -> ExitCode {
     match idle_command(words) {
         Some(command) => end_told(rt, no_run(rt.alloc(), command)),

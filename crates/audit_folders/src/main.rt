@@ -1,8 +1,8 @@
 //! Looks at folders with checkpoints of runs: one program under two names.
 //!
-//! As `audit_slots`, or with the first word `slots`, it tells what the two files of a folder hold, which is the newest, and how many
-//! trajectories of a run are done (`slots`). As `audit_gather`, or with the first word `gather`, it puts together what runs of one job have
-//! saved in several folders (`gather`).
+//! As `audit_slots`, or with the first argument `slots`, it reports the contents of a folder's two files, the newest of
+//! them, and the number of finished trajectories of a run (`slots`). As `audit_gather`, or with the first argument
+//! `gather`, it merges the outcomes that runs of one job have saved in several folders (`gather`).
 #![tactic(auto)]
 
 mod folder_keeper;
@@ -17,7 +17,7 @@ use crate::told::end_with;
 use std::process::ExitCode;
 use std::{env, io};
 
-// The name by which the program was called, and the words after it.
+// Returns the name by which the program was called, followed by its arguments.
 fn words_of(rt: &HostRuntime) -> io::Result<Vec<String>> {
     let mut words = Vec::new(rt.alloc());
     for word in env::args(rt)? {
@@ -26,7 +26,7 @@ fn words_of(rt: &HostRuntime) -> io::Result<Vec<String>> {
     Ok(words)
 }
 
-// Does what the first word says, with those behind it.
+// Runs the program that the first argument names, with the arguments after it.
 fn run_named(rt: &HostRuntime, words: &[String]) -> ExitCode {
     match words.split_first() {
         Some((first, rest)) => match first.as_str() {
@@ -38,7 +38,7 @@ fn run_named(rt: &HostRuntime, words: &[String]) -> ExitCode {
     }
 }
 
-// Does what the name says by which the program was called, or else the first word.
+// Runs the program that the called name stands for, or else the one that the first argument names.
 fn run_called(rt: &HostRuntime, name: &str, words: &[String]) -> ExitCode {
     if name.ends_with("audit_slots") {
         return show_by(rt, words);
@@ -56,7 +56,7 @@ fn run(rt: &HostRuntime, words: &[String]) -> ExitCode {
     }
 }
 
-// Ends where the words could not be had.
+// Ends the program if its arguments are not available.
 fn end_without(rt: &HostRuntime, error: &io::Error) -> ExitCode {
     match error.kind() {
         io::ErrorKind::OutOfMemory => end_with(rt, "memory", 3),

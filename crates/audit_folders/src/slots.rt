@@ -1,8 +1,9 @@
-//! Tells what the two checkpoint files of a folder hold, which is the newest, and, with the words and the graph of a run, how many of
-//! its trajectories are done.
+//! Reports the contents of a folder's two checkpoint files and the newest of them. With the arguments and the graph of
+//! a run, it also reports the number of finished trajectories.
 //!
-//! The first word is the folder, where it is no command; else the files are those of the working folder. After it come the words of
-//! the run, if any, and then its graph is on standard input. No file is changed, and nothing is told of what the trajectories found.
+//! The first argument is the folder, unless it is a command. Otherwise the files are those of the working folder. The
+//! arguments of the run follow, if any, and its graph is then on standard input. No file is changed, and the outcomes
+//! themselves are not shown.
 
 use crate::folder_keeper::FolderKeeper;
 use crate::job::{Task, run_words};
@@ -12,7 +13,7 @@ use folder_report::slots::tell_slots;
 use plan_core::job::Job;
 use std::process::ExitCode;
 
-/// Tells of the slots in the folder, and how far the job is, where there is one.
+/// Reports the slots of the folder, and the progress of the job if there is one.
 pub fn show_folder(rt: &HostRuntime, folder: &str, job: Option<&Job>) -> ExitCode {
     let status = tell_slots(
         rt.alloc(),
@@ -24,7 +25,7 @@ pub fn show_folder(rt: &HostRuntime, folder: &str, job: Option<&Job>) -> ExitCod
     ExitCode::from(status)
 }
 
-// Tells of the slots in the folder, and of the job of the words, where there are any.
+// Reports the slots of the folder, and the progress of the arguments' job if there are any.
 fn show_words(rt: &HostRuntime, folder: &str, words: &[String]) -> ExitCode {
     if words.is_empty() {
         return show_folder(rt, folder, None);
@@ -32,7 +33,7 @@ fn show_words(rt: &HostRuntime, folder: &str, words: &[String]) -> ExitCode {
     run_words(rt, words, Task::Slots(folder))
 }
 
-/// Tells all that the words ask for, of which the first may be a folder.
+/// Reports as the arguments ask. The first may be a folder.
 pub fn show_by(rt: &HostRuntime, words: &[String]) -> ExitCode {
     if let Some((first, rest)) = words.split_first() {
         if command_of(first.as_str()).is_none() {

@@ -1,11 +1,11 @@
-//! How the program ends where it did nothing.
+//! The endings of the program when it did nothing.
 
 use audit_io::std_adapters::WriteSink;
 use report::ended::Ended;
 use report::note::tell;
 use std::process::ExitCode;
 
-/// Ends with a note that no call wrote.
+/// Prints a diagnostic that no call wrote, and returns the exit status.
 pub fn end_with(rt: &HostRuntime, note: &str, status: u8) -> ExitCode {
     match rt.eprintln(note) {
         Ok(()) => {}
@@ -14,12 +14,12 @@ pub fn end_with(rt: &HostRuntime, note: &str, status: u8) -> ExitCode {
     ExitCode::from(status)
 }
 
-// The status of a call that ended so, of which it tells.
+// Writes the diagnostic of an ending and returns its status.
 fn status_of(rt: &HostRuntime, why: &Ended) -> u8 {
     tell(why, &mut WriteSink::new(rt.stderr()))
 }
 
-/// Tells why a call ended.
+/// Writes the diagnostic of an ending and returns the exit code.
 pub fn end_told(rt: &HostRuntime, why: Ended) -> ExitCode {
     let status = status_of(rt, &why);
     drop(why);
