@@ -39,7 +39,6 @@ impl<J: Judge> Worker<J> {
 
 ghost use Rattle.std.specs.Prelude.{◌≡◌, ◌≤◌, ◌+◌, ◌++◌, [], ◌∷◌};
 
-// Appends an outcome within the capacity.
 fn append(share: &mut OutcomeList, outcome: Outcome)
     requires { 1 ≤ share.old.spare }
     ensures items { share.new.items ≡ share.old.items ++ outcome ∷ [] }
