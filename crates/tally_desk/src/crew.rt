@@ -142,7 +142,6 @@ pub(crate) fn seat<C: Keeper, J: Judge>(
     workers
 }
 
-// Removes and returns the last buffer.
 fn take_last(lists: &mut Vec<Vec<Outcome>>) -> Vec<Outcome>
     requires { 0 < vec_len lists.old }
     ensures items { lists.old.items ≡ lists.new.items ++ result ∷ [] }
