@@ -61,7 +61,6 @@ fn read(alloc: Global, bytes: &[u8]) -> Result<Checkpoint, CkptFault>
     })
 }
 
-/// Reads the first `count` outcomes.
 fn outcomes_in(alloc: Global, bytes: &[u8], count: u32) -> Result<OutcomeList, Memory>
     requires { outcome_start bytes.now count ≤ length bytes.now }
     ensures { IfOk result (λ l. l.items ≡ map_below count (outcome_in bytes.now)) }

@@ -53,7 +53,6 @@ fn limits_splits(rules: &Rules) -> bool
     (rules.max_splits < 995_000 || rules.max_split_regions < 5_000) && rules.regions.len() != 0
 }
 
-/// Returns true if there is a group.
 fn has_group(rules: &Rules) -> bool
     ensures { result ≡ has_group rules.now }
 {
@@ -73,7 +72,6 @@ fn hash_name(hasher: &mut Sha256, limited: bool, further: bool)
     }
 }
 
-/// Hashes the numbers of units, edges and districts.
 fn hash_counts(hasher: &mut Sha256, job: &Job)
     ensures bytes { Hashes hasher.old hasher.new (counts_bytes job.now.graph.units (count_edges job.now.graph (λ u v. true)) job.now.districts) }
     ensures sound { IsJob job.now }
@@ -92,7 +90,6 @@ fn hash_edges(hasher: &mut Sha256, graph: &Graph)
     }
 }
 
-/// Hashes the edges from a unit to greater ones.
 fn hash_edges_from(hasher: &mut Sha256, graph: &Graph, unit: u32)
     requires unit { unit < graph.now.units }
     requires sound { IsGraph graph.now }
@@ -115,7 +112,6 @@ fn hash_units(hasher: &mut Sha256, job: &Job)
     }
 }
 
-/// Hashes the counts of a unit and its district in the start plan.
 fn hash_unit(hasher: &mut Sha256, job: &Job, unit: usize)
     requires { unit < job.now.graph.units }
     ensures { Hashes hasher.old hasher.new (unit_bytes job.now unit) }
@@ -200,7 +196,6 @@ fn hash_members(hasher: &mut Sha256, units: u32, group: &Group)
     }
 }
 
-/// Hashes numbers of four bytes each.
 fn hash_numbers(hasher: &mut Sha256, numbers: &[u32])
     ensures { Hashes hasher.old hasher.new (flat_map (to_be_bytes w32) numbers.now) }
 {
@@ -209,7 +204,6 @@ fn hash_numbers(hasher: &mut Sha256, numbers: &[u32])
     }
 }
 
-/// Hashes the score and the tail of each ask.
 fn hash_asks(hasher: &mut Sha256, asks: &[Ask])
     ensures { Hashes hasher.old hasher.new (flat_map ask_bytes asks.now) }
 {
@@ -218,7 +212,6 @@ fn hash_asks(hasher: &mut Sha256, asks: &[Ask])
     }
 }
 
-/// Hashes a score and a tail.
 fn hash_ask(hasher: &mut Sha256, ask: Ask)
     ensures { Hashes hasher.old hasher.new (ask_bytes ask) }
 {
@@ -246,14 +239,12 @@ fn tail_code(tail: Tail) -> u32
     }
 }
 
-/// Hashes a number as four bytes, big-endian.
 fn hash_u32(hasher: &mut Sha256, number: u32)
     ensures { Hashes hasher.old hasher.new (to_be_bytes w32 number) }
 {
     hasher.update(number.to_be_bytes());
 }
 
-/// Hashes a number as eight bytes, big-endian.
 fn hash_u64(hasher: &mut Sha256, number: u64)
     ensures { Hashes hasher.old hasher.new (to_be_bytes w64 number) }
 {

@@ -114,7 +114,6 @@ pub(crate) fn append_head(
     append(out, piece.as_slice());
 }
 
-/// Appends the outcomes.
 fn append_outcomes(out: &mut Bytes, version: u32, outcomes: &[Outcome])
     requires { outcome_size version * length outcomes.now ≤ out.old.spare }
     ensures bytes { AppendsBytes out.old out.new (flat_map (outcome_bytes version) outcomes.now) }
@@ -139,7 +138,6 @@ pub(crate) fn append_outcome(out: &mut Bytes, with_bins: bool, outcome: &Outcome
     append(out, piece.as_slice());
 }
 
-/// Appends a histogram if the version has one.
 fn append_bins(piece: &mut Piece, with_bins: bool, bins: &[u32; 9])
     requires { IsTrue with_bins → 36 ≤ piece.old.spare }
     ensures bytes { AppendsBytes piece.old piece.new (bin_bytes with_bins bins.now) }
@@ -150,7 +148,6 @@ fn append_bins(piece: &mut Piece, with_bins: bool, bins: &[u32; 9])
     }
 }
 
-/// Appends numbers.
 fn append_numbers(piece: &mut Piece, numbers: &[u32])
     requires { 4 * length numbers.now ≤ piece.old.spare }
     ensures { AppendsBytes piece.old piece.new (flat_map (to_be_bytes w32) numbers.now) }
@@ -160,7 +157,6 @@ fn append_numbers(piece: &mut Piece, numbers: &[u32])
     }
 }
 
-/// Appends values.
 fn append_values(piece: &mut Piece, values: &[i64])
     requires { 8 * length values.now ≤ piece.old.spare }
     ensures bytes { AppendsBytes piece.old piece.new (flat_map (λ v. to_be_bytes w64 (cast_unsigned w64 v)) values.now) }
@@ -171,7 +167,6 @@ fn append_values(piece: &mut Piece, values: &[i64])
     }
 }
 
-/// Appends a number as four bytes, big-endian.
 fn append_u32(piece: &mut Piece, number: u32)
     requires { 4 ≤ piece.old.spare }
     ensures { AppendsBytes piece.old piece.new (to_be_bytes w32 number) }
@@ -179,7 +174,6 @@ fn append_u32(piece: &mut Piece, number: u32)
     piece.append(&number.to_be_bytes());
 }
 
-/// Appends a number as eight bytes, big-endian.
 fn append_u64(piece: &mut Piece, number: u64)
     requires { 8 ≤ piece.old.spare }
     ensures { AppendsBytes piece.old piece.new (to_be_bytes w64 number) }
@@ -187,7 +181,6 @@ fn append_u64(piece: &mut Piece, number: u64)
     piece.append(&number.to_be_bytes());
 }
 
-/// Appends a signed number as eight bytes, big-endian, in two's complement.
 fn append_i64(piece: &mut Piece, number: i64)
     requires { 8 ≤ piece.old.spare }
     ensures { AppendsBytes piece.old piece.new (to_be_bytes w64 (cast_unsigned w64 number)) }
@@ -195,7 +188,6 @@ fn append_i64(piece: &mut Piece, number: i64)
     piece.append(&number.to_be_bytes());
 }
 
-/// Appends the digest of all bytes so far.
 fn append_digest(out: &mut Bytes, ahead: Option<&mut Ahead>)
     requires { 32 ≤ out.old.spare }
     ensures { AppendsBytes out.old out.new (sha256 out.old.items) }
@@ -207,7 +199,6 @@ fn append_digest(out: &mut Bytes, ahead: Option<&mut Ahead>)
     append(out, &digest);
 }
 
-/// Appends bytes within the capacity.
 fn append(out: &mut Bytes, bytes: &[u8])
     requires { length bytes.now ≤ out.old.spare }
     ensures { AppendsBytes out.old out.new bytes.now }

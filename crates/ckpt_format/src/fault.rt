@@ -56,7 +56,6 @@ fn count_fault(version: u32, count: u32, length: u64) -> Option<CkptFault>
     }
 }
 
-/// Returns the fault of the least place whose id is not above the one before it.
 fn order_fault(bytes: &[u8], count: u32) -> Option<CkptFault>
     requires { outcome_start bytes.now count ≤ length bytes.now }
     ensures { result ≡ order_fault bytes.now count }
@@ -77,7 +76,6 @@ fn first_unordered(bytes: &[u8], count: u32) -> Option<u32>
     None
 }
 
-/// Returns the id of the outcome at a place.
 fn id_at(bytes: &[u8], place: u32) -> u32
     requires { outcome_start bytes.now (place + 1) ≤ length bytes.now }
     ensures { result ≡ stated_id bytes.now place }

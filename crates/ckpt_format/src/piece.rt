@@ -27,7 +27,6 @@ impl Model for Piece {
 }
 
 impl Piece {
-    /// Makes an empty buffer.
     pub fn new() -> Piece
         ensures { result ≡ record { items = []; spare = 80 } }
     {
@@ -37,7 +36,6 @@ impl Piece {
         }
     }
 
-    /// Returns the bytes.
     pub fn as_slice(&self) -> &[u8]
         ensures { result.now ≡ self.now.items }
     {

@@ -81,7 +81,6 @@ fn i64_at(bytes: &[u8], at: usize) -> i64
     u64_at(bytes, at).cast_signed()
 }
 
-/// Returns the outcome at an offset.
 fn outcome_at(bytes: &[u8], at: usize) -> Outcome
     requires version { digest_place ≤ length bytes.now }
     requires room { at + outcome_size (stated_version bytes.now) ≤ length bytes.now }
